@@ -1,0 +1,163 @@
+-- How far a run has come, a byte at a time.
+use Rattle.std.proofs.Common.{◌≡◌, ℕ, ◌+◌, ◌<◌, Bool, true, false, List, [], ◌∷◌, ◌++◌, ◌||◌, length, refl, sym, ◌∙◌, ap, subst, arith, append_assoc, Option, Some}
+use Rattle.std.proofs.lemmas.List.{append-nil, length_push}
+use Rattle.std.proofs.lemmas.Bool.{true≢false}
+use Rattle.std.proofs.lemmas.List.Elements.{All-nil, All-push}
+use Rattle.std.specs.Prelude.{All, ◌==◌}
+use Rattle.std.specs.Str.Lines.{lines, strip_carriage_return}
+use Rattle.console.specs.declared.serving.Progress.{Progress}
+use Rattle.console.specs.Answer.{Said, text, texts, is_trouble}
+use Rattle.console.specs.Dialogue.{Rules, Answers, Dialogue, RunsWell, RunsShort}
+use Rattle.console.specs.Feed.{Holds, IsGoing}
+use Rattle.console.proofs.Lines.{is_feed, lines_step, lines_last}
+use Rattle.console.proofs.Talk.{texts_more, trouble_more, dialogue_more}
+
+holds_none : (kept : List ℕ) (long : Bool) → kept ≡ [] → long ≡ false → Holds kept long []
+holds_none kept false empty short = (empty, omega arith)
+holds_none kept true empty short = absurd (true≢false short)
+
+-- at the start nothing was taken
+pub going_start : {B W : Type 0} (rules : Rules W) (station : ℕ) (s : W) (before : List ℕ) (p : Progress B) (held : Option (List ℕ)) →
+    held ≡ Some before → p.troubled ≡ false → p.lines ≡ 0 → p.kept.items ≡ [] → p.long ≡ false → IsGoing rules station s before [] p held s
+going_start rules station s before p held known calm none empty short = record {
+  done = [];
+  answers = [];
+  line = [];
+  split = λ rest. refl;
+  no_end = All-nil (λ b. (b == 10) ≡ false);
+  each = refl;
+  written = known ∙ ap Some (sym (append-nil before));
+  trouble = calm;
+  counted = none;
+  holds = holds_none p.kept.items p.long empty short;
+}
+
+-- a byte that ends no line
+pub going_byte : {B W : Type 0} (rules : Rules W) (station : ℕ) (s : W) (before taken : List ℕ) (p q : Progress B) (held : Option (List ℕ)) (t : W) (byte : ℕ) →
+    (byte == 10) ≡ false → q.lines ≡ p.lines → q.troubled ≡ p.troubled →
+    ((line : List ℕ) → Holds p.kept.items p.long line → Holds q.kept.items q.long (line ++ byte ∷ [])) →
+    IsGoing rules station s before taken p held t → IsGoing rules station s before (taken ++ byte ∷ []) q held t
+going_byte rules station s before taken p q held t byte other same calm holds i = record {
+  done = i.done;
+  answers = i.answers;
+  line = i.line ++ byte ∷ [];
+  split = λ rest. ap lines (append_assoc taken (byte ∷ []) rest) ∙ i.split (byte ∷ rest) ∙ ap (λ l. i.done ++ lines l) (sym (append_assoc i.line (byte ∷ []) rest));
+  no_end = All-push (λ b. (b == 10) ≡ false) i.line byte i.no_end other;
+  each = i.each;
+  written = i.written;
+  trouble = calm ∙ i.trouble;
+  counted = same ∙ i.counted;
+  holds = holds i.line i.holds;
+}
+
+-- a line feed, once its line is answered
+pub going_line : {B W : Type 0} (rules : Rules W) (station : ℕ) (s : W) (before taken : List ℕ) (p q : Progress B) (held new : Option (List ℕ)) (mid t : W) (a : Said)
+    (i : IsGoing rules station s before taken p held mid) → q.lines ≡ p.lines + 1 → q.troubled ≡ (p.troubled || is_trouble a) → q.kept.items ≡ [] → q.long ≡ false →
+    Answers rules station (p.lines + 1) mid (strip_carriage_return i.line) a t → new ≡ Some ((before ++ texts i.answers) ++ text a) →
+    IsGoing rules station s before (taken ++ 10 ∷ []) q new t
+going_line rules station s before taken p q held new mid t a i more worse empty short answers written = record {
+  done = i.done ++ strip_carriage_return i.line ∷ [];
+  answers = i.answers ++ a ∷ [];
+  line = [];
+  split = λ rest. ap lines (append_assoc taken (10 ∷ []) rest) ∙ i.split (10 ∷ rest) ∙ ap (λ ls. i.done ++ ls) (lines_step i.line rest i.no_end)
+      ∙ sym (append_assoc i.done (strip_carriage_return i.line ∷ []) (lines rest));
+  no_end = All-nil (λ b. (b == 10) ≡ false);
+  each = dialogue_more rules station 0 (p.lines + 1) s i.done i.answers mid (strip_carriage_return i.line) a t (omega (arith, i.counted)) i.each answers;
+  written = written ∙ ap Some (append_assoc before (texts i.answers) (text a) ∙ ap (λ ts. before ++ ts) (sym (texts_more i.answers a)));
+  trouble = worse ∙ ap (λ b. b || is_trouble a) i.trouble ∙ sym (trouble_more i.answers a);
+  counted = more ∙ ap (λ n. n + 1) i.counted ∙ sym (length_push i.done (strip_carriage_return i.line));
+  holds = holds_none q.kept.items q.long empty short;
+}
+
+-- cut off between two lines
+pub short_between : {B W : Type 0} (rules : Rules W) (station : ℕ) (s : W) (before taken rest : List ℕ) (p : Progress B) (held : Option (List ℕ)) (t : W) →
+    IsGoing rules station s before taken p held t → RunsShort rules station s (taken ++ rest) before held t
+short_between rules station s before taken rest p held t i = (
+  texts i.answers,
+  i.written,
+  record {
+    done = i.done;
+    left = lines (i.line ++ rest);
+    answered = i.answers;
+    last = [];
+    part = [];
+    missing = [];
+    all = i.split rest;
+    each = subst (λ (given : List Said). Dialogue rules station 0 s i.done given t) (sym (append-nil i.answers)) i.each;
+    one = omega arith;
+    front = refl;
+    written = sym (append-nil (texts i.answers));
+  },
+)
+
+-- cut off within the answer to a line, of which part was written
+pub short_within : {B W : Type 0} (rules : Rules W) (station : ℕ) (s : W) (before taken all : List ℕ) (p : Progress B) (held new : Option (List ℕ)) (mid t : W)
+    (line : List ℕ) (left : List (List ℕ)) (a : Said) (part missing : List ℕ)
+    (i : IsGoing rules station s before taken p held mid) → lines all ≡ i.done ++ line ∷ left →
+    Answers rules station (p.lines + 1) mid line a t → text a ≡ part ++ missing → new ≡ Some ((before ++ texts i.answers) ++ part) →
+    RunsShort rules station s all before new t
+short_within rules station s before taken all p held new mid t line left a part missing i split answers front written = (
+  texts i.answers ++ part,
+  written ∙ ap Some (append_assoc before (texts i.answers) part),
+  record {
+    done = i.done ++ line ∷ [];
+    left = left;
+    answered = i.answers;
+    last = a ∷ [];
+    part = part;
+    missing = missing;
+    all = split ∙ sym (append_assoc i.done (line ∷ []) left);
+    each = dialogue_more rules station 0 (p.lines + 1) s i.done i.answers mid line a t (omega (arith, i.counted)) i.each answers;
+    one = omega arith;
+    front = append-nil (text a) ∙ front;
+    written = refl;
+  },
+)
+
+-- the same, of the byte as it came
+pub going_feed : {B W : Type 0} (rules : Rules W) (station : ℕ) (s : W) (before taken : List ℕ) (p q : Progress B) (held new : Option (List ℕ)) (mid t : W) (a : Said) (byte : ℕ)
+    (i : IsGoing rules station s before taken p held mid) → byte ≡ 10 → q.lines ≡ p.lines + 1 → q.troubled ≡ (p.troubled || is_trouble a) → q.kept.items ≡ [] → q.long ≡ false →
+    Answers rules station (p.lines + 1) mid (strip_carriage_return i.line) a t → new ≡ Some ((before ++ texts i.answers) ++ text a) →
+    IsGoing rules station s before (taken ++ byte ∷ []) q new t
+going_feed rules station s before taken p q held new mid t a byte i feed more worse empty short answers written =
+    subst (λ (b : ℕ). IsGoing rules station s before (taken ++ b ∷ []) q new t) (sym feed) (going_line rules station s before taken p q held new mid t a i more worse empty short answers written)
+
+-- the end of the text, where no line is at hand
+pub ends_between : {B W : Type 0} (rules : Rules W) (station : ℕ) (s : W) (before taken : List ℕ) (p : Progress B) (held : Option (List ℕ)) (t : W)
+    (i : IsGoing rules station s before taken p held t) → i.line ≡ [] → RunsWell rules station s taken before p.lines p.troubled held t
+ends_between rules station s before taken p held t i none =
+    let all : lines taken ≡ i.done = ap lines (sym (append-nil taken)) ∙ i.split [] ∙ ap (λ line. i.done ++ lines (line ++ [])) none ∙ append-nil i.done in (
+      texts i.answers,
+      i.written,
+      record {
+        answers = i.answers;
+        each = subst (λ (ls : List (List ℕ)). Dialogue rules station 0 s ls i.answers t) (sym all) i.each;
+        written = refl;
+        trouble = i.trouble;
+      },
+      i.counted ∙ ap length (sym all),
+    )
+
+-- the lines of a text that doesn't end in a line feed
+pub last_split : (taken line : List ℕ) (done : List (List ℕ)) → 0 < length line → All (λ b. is_feed b ≡ false) line → lines (taken ++ []) ≡ done ++ lines (line ++ []) → lines taken ≡ done ++ line ∷ []
+last_split taken [] done some none split = absurd (omega (arith, some))
+last_split taken (b ∷ line) done some none split = ap lines (sym (append-nil taken)) ∙ split ∙ ap (λ l. done ++ lines l) (append-nil (b ∷ line)) ∙ ap (λ ls. done ++ ls) (lines_last b line none)
+
+-- the end of the text, once its last line is answered
+pub ends_within : {B W : Type 0} (rules : Rules W) (station : ℕ) (s : W) (before taken : List ℕ) (p : Progress B) (held new : Option (List ℕ)) (mid t : W) (a : Said) (worse : Bool)
+    (i : IsGoing rules station s before taken p held mid) → 0 < length i.line → worse ≡ is_trouble a →
+    Answers rules station (p.lines + 1) mid i.line a t → new ≡ Some ((before ++ texts i.answers) ++ text a) →
+    RunsWell rules station s taken before (p.lines + 1) (p.troubled || worse) new t
+ends_within rules station s before taken p held new mid t a worse i some trouble answers written =
+    let all : lines taken ≡ i.done ++ i.line ∷ [] = last_split taken i.line i.done some i.no_end (i.split []) in (
+      texts i.answers ++ text a,
+      written ∙ ap Some (append_assoc before (texts i.answers) (text a)),
+      record {
+        answers = i.answers ++ a ∷ [];
+        each = subst (λ (ls : List (List ℕ)). Dialogue rules station 0 s ls (i.answers ++ a ∷ []) t) (sym all)
+            (dialogue_more rules station 0 (p.lines + 1) s i.done i.answers mid i.line a t (omega (arith, i.counted)) i.each answers);
+        written = sym (texts_more i.answers a);
+        trouble = ap (λ b. p.troubled || b) trouble ∙ ap (λ b. b || is_trouble a) i.trouble ∙ sym (trouble_more i.answers a);
+      },
+      ap (λ n. n + 1) i.counted ∙ sym (length_push i.done i.line) ∙ ap length (sym all),
+    )

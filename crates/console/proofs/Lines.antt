@@ -1,0 +1,41 @@
+-- Lines, a part at a time.
+use Rattle.std.proofs.Common.{◌≡◌, ℕ, Bool, true, false, cond, List, [], ◌∷◌, ◌++◌, refl, ◌∙◌, ap, arith}
+use Rattle.std.proofs.lemmas.List.Splits.{slice_split_none, slice_split_at}
+use Rattle.std.specs.List.{slice_split, onto_first, All}
+use Rattle.std.specs.Prelude.{◌==◌}
+use Rattle.std.specs.Str.Lines.{lines, lines_of_parts, strip_carriage_return}
+
+abbrev pub is_feed : ℕ → Bool
+is_feed b = b == 10
+
+-- a list has a first part, however it is split
+abbrev pub IsNonempty : List (List ℕ) → Type 0
+IsNonempty parts = (x : List ℕ) × (more : List (List ℕ)) × (parts ≡ x ∷ more)
+
+pub onto_nonempty : (b : ℕ) (parts : List (List ℕ)) → IsNonempty (onto_first b parts)
+onto_nonempty b [] = (b ∷ [], [], refl)
+onto_nonempty b (part ∷ parts) = (b ∷ part, parts, refl)
+
+pub split_nonempty : (p : ℕ → Bool) (xs : List ℕ) → IsNonempty (slice_split p xs)
+split_nonempty p [] = ([], [], refl)
+split_nonempty p (x ∷ xs) = elim (p x) as (λ v. IsNonempty (cond v ([] ∷ slice_split p xs) (onto_first x (slice_split p xs)))) [
+  | true ↦ ([], slice_split p xs, refl)
+  | false ↦ onto_nonempty x (slice_split p xs)
+]
+
+pub parts_step : (line : List ℕ) (parts : List (List ℕ)) → IsNonempty parts → lines_of_parts (line ∷ parts) ≡ strip_carriage_return line ∷ lines_of_parts parts
+parts_step line parts some = rw some.2 refl
+
+-- a line that a line feed ends
+pub lines_step : (line rest : List ℕ) → All (λ b. is_feed b ≡ false) line → lines (line ++ 10 ∷ rest) ≡ strip_carriage_return line ∷ lines rest
+lines_step line rest none = ap lines_of_parts (slice_split_at is_feed line 10 rest none refl) ∙ parts_step line (slice_split is_feed rest) (split_nonempty is_feed rest)
+
+-- a last line without one
+pub lines_last : (b : ℕ) (line : List ℕ) → All (λ b. is_feed b ≡ false) (b ∷ line) → lines (b ∷ line) ≡ (b ∷ line) ∷ []
+lines_last b line none = ap lines_of_parts (slice_split_none is_feed (b ∷ line) none) ∙ grind arith
+
+-- what a line feed ends, wherever it stands
+pub line_ended : (taken line rest : List ℕ) (done : List (List ℕ)) (byte : ℕ) → byte ≡ 10 → All (λ b. is_feed b ≡ false) line →
+    lines (taken ++ byte ∷ rest) ≡ done ++ lines (line ++ byte ∷ rest) → lines (taken ++ byte ∷ rest) ≡ done ++ strip_carriage_return line ∷ lines rest
+line_ended taken line rest done byte feed none split =
+    split ∙ ap (λ b. done ++ lines (line ++ b ∷ rest)) feed ∙ ap (λ ls. done ++ ls) (lines_step line rest none)
