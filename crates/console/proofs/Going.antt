@@ -2,13 +2,14 @@
 use Rattle.std.proofs.Common.{◌≡◌, ℕ, ◌+◌, ◌<◌, Bool, true, false, List, [], ◌∷◌, ◌++◌, ◌||◌, length, refl, sym, ◌∙◌, ap, subst, arith, append_assoc, Option, Some}
 use Rattle.std.proofs.lemmas.List.{append-nil, length_push}
 use Rattle.std.proofs.lemmas.Bool.{true≢false}
-use Rattle.std.proofs.lemmas.List.Elements.{All-nil, All-push}
+use Rattle.std.proofs.lemmas.List.Elements.{All-nil, All-append}
 use Rattle.std.specs.Prelude.{All, ◌==◌}
 use Rattle.std.specs.Str.Lines.{lines, strip_carriage_return}
-use Rattle.console.specs.declared.serving.Progress.{Progress}
-use Rattle.console.specs.Answer.{Said, text, texts, is_trouble}
+use Rattle.console.specs.declared.progress.Progress.{Progress}
+use Rattle.console.specs.declared.answer.Answer.{Answer}
+use Rattle.console.specs.Answer.{text, texts, is_trouble}
 use Rattle.console.specs.Dialogue.{Rules, Answers, Dialogue, RunsWell, RunsShort}
-use Rattle.console.specs.Feed.{Holds, IsGoing}
+use Rattle.console.specs.Feed.{HasNoEnd, Holds, IsGoing}
 use Rattle.console.proofs.Lines.{is_feed, lines_step, lines_last}
 use Rattle.console.proofs.Talk.{texts_more, trouble_more, dialogue_more}
 
@@ -17,8 +18,8 @@ holds_none kept false empty short = (empty, omega arith)
 holds_none kept true empty short = absurd (true≢false short)
 
 -- at the start nothing was taken
-pub going_start : {B W : Type 0} (rules : Rules W) (station : ℕ) (s : W) (before : List ℕ) (p : Progress B) (held : Option (List ℕ)) →
-    held ≡ Some before → p.troubled ≡ false → p.lines ≡ 0 → p.kept.items ≡ [] → p.long ≡ false → IsGoing rules station s before [] p held s
+pub going_start : {A W : Type 0} (rules : Rules W) (station : ℕ) (s : W) (before : List ℕ) (p : Progress A) (held : Option (List ℕ)) →
+    held ≡ Some before → p.troubled ≡ false → p.lines ≡ 0 → p.hand.kept.items ≡ [] → p.hand.long ≡ false → IsGoing rules station s before [] p held s
 going_start rules station s before p held known calm none empty short = record {
   done = [];
   answers = [];
@@ -29,20 +30,20 @@ going_start rules station s before p held known calm none empty short = record {
   written = known ∙ ap Some (sym (append-nil before));
   trouble = calm;
   counted = none;
-  holds = holds_none p.kept.items p.long empty short;
+  holds = holds_none p.hand.kept.items p.hand.long empty short;
 }
 
--- a byte that ends no line
-pub going_byte : {B W : Type 0} (rules : Rules W) (station : ℕ) (s : W) (before taken : List ℕ) (p q : Progress B) (held : Option (List ℕ)) (t : W) (byte : ℕ) →
-    (byte == 10) ≡ false → q.lines ≡ p.lines → q.troubled ≡ p.troubled →
-    ((line : List ℕ) → Holds p.kept.items p.long line → Holds q.kept.items q.long (line ++ byte ∷ [])) →
-    IsGoing rules station s before taken p held t → IsGoing rules station s before (taken ++ byte ∷ []) q held t
-going_byte rules station s before taken p q held t byte other same calm holds i = record {
+-- bytes that end no line
+pub going_run : {A W : Type 0} (rules : Rules W) (station : ℕ) (s : W) (before taken : List ℕ) (p q : Progress A) (held : Option (List ℕ)) (t : W) (run : List ℕ) →
+    HasNoEnd run → q.lines ≡ p.lines → q.troubled ≡ p.troubled →
+    ((line : List ℕ) → Holds p.hand.kept.items p.hand.long line → Holds q.hand.kept.items q.hand.long (line ++ run)) →
+    IsGoing rules station s before taken p held t → IsGoing rules station s before (taken ++ run) q held t
+going_run rules station s before taken p q held t run plain same calm holds i = record {
   done = i.done;
   answers = i.answers;
-  line = i.line ++ byte ∷ [];
-  split = λ rest. ap lines (append_assoc taken (byte ∷ []) rest) ∙ i.split (byte ∷ rest) ∙ ap (λ l. i.done ++ lines l) (sym (append_assoc i.line (byte ∷ []) rest));
-  no_end = All-push (λ b. (b == 10) ≡ false) i.line byte i.no_end other;
+  line = i.line ++ run;
+  split = λ rest. ap lines (append_assoc taken run rest) ∙ i.split (run ++ rest) ∙ ap (λ l. i.done ++ lines l) (sym (append_assoc i.line run rest));
+  no_end = All-append (λ b. (b == 10) ≡ false) i.line run i.no_end plain;
   each = i.each;
   written = i.written;
   trouble = calm ∙ i.trouble;
@@ -51,11 +52,11 @@ going_byte rules station s before taken p q held t byte other same calm holds i 
 }
 
 -- a line feed, once its line is answered
-pub going_line : {B W : Type 0} (rules : Rules W) (station : ℕ) (s : W) (before taken : List ℕ) (p q : Progress B) (held new : Option (List ℕ)) (mid t : W) (a : Said)
-    (i : IsGoing rules station s before taken p held mid) → q.lines ≡ p.lines + 1 → q.troubled ≡ (p.troubled || is_trouble a) → q.kept.items ≡ [] → q.long ≡ false →
+pub going_line : {A W : Type 0} (rules : Rules W) (station : ℕ) (s : W) (before taken : List ℕ) (p q : Progress A) (held new : Option (List ℕ)) (mid t : W) (a : Answer A)
+    (i : IsGoing rules station s before taken p held mid) → q.lines ≡ p.lines + 1 → q.troubled ≡ (p.troubled || is_trouble a) → Holds q.hand.kept.items q.hand.long [] →
     Answers rules station (p.lines + 1) mid (strip_carriage_return i.line) a t → new ≡ Some ((before ++ texts i.answers) ++ text a) →
     IsGoing rules station s before (taken ++ 10 ∷ []) q new t
-going_line rules station s before taken p q held new mid t a i more worse empty short answers written = record {
+going_line rules station s before taken p q held new mid t a i more worse clear answers written = record {
   done = i.done ++ strip_carriage_return i.line ∷ [];
   answers = i.answers ++ a ∷ [];
   line = [];
@@ -66,13 +67,13 @@ going_line rules station s before taken p q held new mid t a i more worse empty 
   written = written ∙ ap Some (append_assoc before (texts i.answers) (text a) ∙ ap (λ ts. before ++ ts) (sym (texts_more i.answers a)));
   trouble = worse ∙ ap (λ b. b || is_trouble a) i.trouble ∙ sym (trouble_more i.answers a);
   counted = more ∙ ap (λ n. n + 1) i.counted ∙ sym (length_push i.done (strip_carriage_return i.line));
-  holds = holds_none q.kept.items q.long empty short;
+  holds = clear;
 }
 
 -- cut off between two lines
-pub short_between : {B W : Type 0} (rules : Rules W) (station : ℕ) (s : W) (before taken rest : List ℕ) (p : Progress B) (held : Option (List ℕ)) (t : W) →
-    IsGoing rules station s before taken p held t → RunsShort rules station s (taken ++ rest) before held t
-short_between rules station s before taken rest p held t i = (
+pub short_between : {A W : Type 0} (rules : Rules W) (station : ℕ) (s : W) (before taken rest : List ℕ) (p : Progress A) (held : Option (List ℕ)) (t : W) →
+    IsGoing rules station s before taken p held t → RunsShort A rules station s (taken ++ rest) before held t
+short_between {A = A} rules station s before taken rest p held t i = (
   texts i.answers,
   i.written,
   record {
@@ -83,7 +84,7 @@ short_between rules station s before taken rest p held t i = (
     part = [];
     missing = [];
     all = i.split rest;
-    each = subst (λ (given : List Said). Dialogue rules station 0 s i.done given t) (sym (append-nil i.answers)) i.each;
+    each = subst (λ (given : List (Answer A)). Dialogue rules station 0 s i.done given t) (sym (append-nil i.answers)) i.each;
     one = omega arith;
     front = refl;
     written = sym (append-nil (texts i.answers));
@@ -91,11 +92,11 @@ short_between rules station s before taken rest p held t i = (
 )
 
 -- cut off within the answer to a line, of which part was written
-pub short_within : {B W : Type 0} (rules : Rules W) (station : ℕ) (s : W) (before taken all : List ℕ) (p : Progress B) (held new : Option (List ℕ)) (mid t : W)
-    (line : List ℕ) (left : List (List ℕ)) (a : Said) (part missing : List ℕ)
+pub short_within : {A W : Type 0} (rules : Rules W) (station : ℕ) (s : W) (before taken all : List ℕ) (p : Progress A) (held new : Option (List ℕ)) (mid t : W)
+    (line : List ℕ) (left : List (List ℕ)) (a : Answer A) (part missing : List ℕ)
     (i : IsGoing rules station s before taken p held mid) → lines all ≡ i.done ++ line ∷ left →
     Answers rules station (p.lines + 1) mid line a t → text a ≡ part ++ missing → new ≡ Some ((before ++ texts i.answers) ++ part) →
-    RunsShort rules station s all before new t
+    RunsShort A rules station s all before new t
 short_within rules station s before taken all p held new mid t line left a part missing i split answers front written = (
   texts i.answers ++ part,
   written ∙ ap Some (append_assoc before (texts i.answers) part),
@@ -114,17 +115,9 @@ short_within rules station s before taken all p held new mid t line left a part 
   },
 )
 
--- the same, of the byte as it came
-pub going_feed : {B W : Type 0} (rules : Rules W) (station : ℕ) (s : W) (before taken : List ℕ) (p q : Progress B) (held new : Option (List ℕ)) (mid t : W) (a : Said) (byte : ℕ)
-    (i : IsGoing rules station s before taken p held mid) → byte ≡ 10 → q.lines ≡ p.lines + 1 → q.troubled ≡ (p.troubled || is_trouble a) → q.kept.items ≡ [] → q.long ≡ false →
-    Answers rules station (p.lines + 1) mid (strip_carriage_return i.line) a t → new ≡ Some ((before ++ texts i.answers) ++ text a) →
-    IsGoing rules station s before (taken ++ byte ∷ []) q new t
-going_feed rules station s before taken p q held new mid t a byte i feed more worse empty short answers written =
-    subst (λ (b : ℕ). IsGoing rules station s before (taken ++ b ∷ []) q new t) (sym feed) (going_line rules station s before taken p q held new mid t a i more worse empty short answers written)
-
 -- the end of the text, where no line is at hand
-pub ends_between : {B W : Type 0} (rules : Rules W) (station : ℕ) (s : W) (before taken : List ℕ) (p : Progress B) (held : Option (List ℕ)) (t : W)
-    (i : IsGoing rules station s before taken p held t) → i.line ≡ [] → RunsWell rules station s taken before p.lines p.troubled held t
+pub ends_between : {A W : Type 0} (rules : Rules W) (station : ℕ) (s : W) (before taken : List ℕ) (p : Progress A) (held : Option (List ℕ)) (t : W)
+    (i : IsGoing rules station s before taken p held t) → i.line ≡ [] → RunsWell A rules station s taken before p.lines p.troubled held t
 ends_between rules station s before taken p held t i none =
     let all : lines taken ≡ i.done = ap lines (sym (append-nil taken)) ∙ i.split [] ∙ ap (λ line. i.done ++ lines (line ++ [])) none ∙ append-nil i.done in (
       texts i.answers,
@@ -144,10 +137,10 @@ last_split taken [] done some none split = absurd (omega (arith, some))
 last_split taken (b ∷ line) done some none split = ap lines (sym (append-nil taken)) ∙ split ∙ ap (λ l. done ++ lines l) (append-nil (b ∷ line)) ∙ ap (λ ls. done ++ ls) (lines_last b line none)
 
 -- the end of the text, once its last line is answered
-pub ends_within : {B W : Type 0} (rules : Rules W) (station : ℕ) (s : W) (before taken : List ℕ) (p : Progress B) (held new : Option (List ℕ)) (mid t : W) (a : Said) (worse : Bool)
+pub ends_within : {A W : Type 0} (rules : Rules W) (station : ℕ) (s : W) (before taken : List ℕ) (p : Progress A) (held new : Option (List ℕ)) (mid t : W) (a : Answer A) (worse : Bool)
     (i : IsGoing rules station s before taken p held mid) → 0 < length i.line → worse ≡ is_trouble a →
     Answers rules station (p.lines + 1) mid i.line a t → new ≡ Some ((before ++ texts i.answers) ++ text a) →
-    RunsWell rules station s taken before (p.lines + 1) (p.troubled || worse) new t
+    RunsWell A rules station s taken before (p.lines + 1) (p.troubled || worse) new t
 ends_within rules station s before taken p held new mid t a worse i some trouble answers written =
     let all : lines taken ≡ i.done ++ i.line ∷ [] = last_split taken i.line i.done some i.no_end (i.split []) in (
       texts i.answers ++ text a,
@@ -161,3 +154,30 @@ ends_within rules station s before taken p held new mid t a worse i some trouble
       },
       ap (λ n. n + 1) i.counted ∙ sym (length_push i.done i.line) ∙ ap length (sym all),
     )
+
+-- the same, of a text that is put together otherwise
+pub short_of : {A W : Type 0} (rules : Rules W) (station : ℕ) (s : W) (before taken rest all : List ℕ) (p : Progress A) (held : Option (List ℕ)) (t : W) →
+    taken ++ rest ≡ all → IsGoing rules station s before taken p held t → RunsShort A rules station s all before held t
+short_of {A = A} rules station s before taken rest all p held t same i =
+    subst (λ (text : List ℕ). RunsShort A rules station s text before held t) same (short_between rules station s before taken rest p held t i)
+
+pub short_same : {A W : Type 0} (rules : Rules W) (station : ℕ) (s : W) (before all other : List ℕ) (held : Option (List ℕ)) (t : W) →
+    all ≡ other → RunsShort A rules station s all before held t → RunsShort A rules station s other before held t
+short_same {A = A} rules station s before all other held t same short = subst (λ (text : List ℕ). RunsShort A rules station s text before held t) same short
+
+pub going_same : {A W : Type 0} (rules : Rules W) (station : ℕ) (s : W) (before all other : List ℕ) (p : Progress A) (held : Option (List ℕ)) (t : W) →
+    all ≡ other → IsGoing rules station s before all p held t → IsGoing rules station s before other p held t
+going_same rules station s before all other p held t same i = subst (λ (text : List ℕ). IsGoing rules station s before text p held t) same i
+
+-- cut off before anything was done
+pub short_at_once : {A W : Type 0} (rules : Rules W) (station : ℕ) (s : W) (input before : List ℕ) (held : Option (List ℕ)) →
+    held ≡ Some before → RunsShort A rules station s input before held s
+short_at_once rules station s input before held known = (
+  [],
+  known ∙ ap Some (sym (append-nil before)),
+  record { done = []; left = lines input; answered = []; last = []; part = []; missing = []; all = refl; each = refl; one = omega arith; front = refl; written = refl },
+)
+
+pub well_same : {A W : Type 0} (rules : Rules W) (station : ℕ) (s : W) (before all other : List ℕ) (count : ℕ) (troubled : Bool) (held : Option (List ℕ)) (t : W) →
+    all ≡ other → RunsWell A rules station s all before count troubled held t → RunsWell A rules station s other before count troubled held t
+well_same {A = A} rules station s before all other count troubled held t same well = subst (λ (text : List ℕ). RunsWell A rules station s text before count troubled held t) same well

@@ -1,5 +1,8 @@
 pub mod Lines
-pub mod Sending
+pub mod Forms
+pub mod Parts
 pub mod Talk
 pub mod Going
 pub mod Wholes
+pub mod Spelled
+pub mod Taken

@@ -1,12 +1,18 @@
--- Lines, a part at a time.
-use Rattle.std.proofs.Common.{◌≡◌, ℕ, Bool, true, false, cond, List, [], ◌∷◌, ◌++◌, refl, ◌∙◌, ap, arith}
+-- Lines and words, a part at a time.
+use Rattle.std.proofs.Common.{◌≡◌, ℕ, ◌+◌, ◌<◌, Bool, true, false, cond, List, [], ◌∷◌, ◌++◌, length, take, drop, get_or, add-one, drop-cons, refl, sym, ◌∙◌, ap, arith, Some}
 use Rattle.std.proofs.lemmas.List.Splits.{slice_split_none, slice_split_at}
-use Rattle.std.specs.List.{slice_split, onto_first, All}
+use Rattle.std.specs.List.{slice_split, onto_first, All, slice_get}
+use Rattle.std.proofs.lemmas.List.{take-append-drop}
+use Rattle.std.proofs.lemmas.Option.{get_or_from_slice_get}
 use Rattle.std.specs.Prelude.{◌==◌}
+use Rattle.console.specs.Reading.{Lacks, words}
 use Rattle.std.specs.Str.Lines.{lines, lines_of_parts, strip_carriage_return}
 
 abbrev pub is_feed : ℕ → Bool
 is_feed b = b == 10
+
+abbrev pub is_space : ℕ → Bool
+is_space b = b == 32
 
 -- a list has a first part, however it is split
 abbrev pub IsNonempty : List (List ℕ) → Type 0
@@ -33,6 +39,17 @@ lines_step line rest none = ap lines_of_parts (slice_split_at is_feed line 10 re
 -- a last line without one
 pub lines_last : (b : ℕ) (line : List ℕ) → All (λ b. is_feed b ≡ false) (b ∷ line) → lines (b ∷ line) ≡ (b ∷ line) ∷ []
 lines_last b line none = ap lines_of_parts (slice_split_none is_feed (b ∷ line) none) ∙ grind arith
+
+-- a line has the word before its first space, and the words behind it
+pub words_none : (line : List ℕ) → Lacks 32 line → words line ≡ line ∷ []
+words_none line none = slice_split_none is_space line none
+
+pub words_some : (line : List ℕ) (at : ℕ) → at < length line → Lacks 32 (take at line) → slice_get line at ≡ Some 32 → words line ≡ take at line ∷ words (drop (at + 1) line)
+words_some line at inside none here =
+    let cut : drop at line ≡ get_or line at 0 ∷ drop (at + 1) line = rw add-one (drop-cons line at 0 inside) in
+    let whole : take at line ++ 32 ∷ drop (at + 1) line ≡ line =
+    ap (λ b. take at line ++ b ∷ drop (at + 1) line) (sym (get_or_from_slice_get line at 32 0 here)) ∙ ap (λ end. take at line ++ end) (sym cut) ∙ take-append-drop at line in
+    ap words (sym whole) ∙ slice_split_at is_space (take at line) 32 (drop (at + 1) line) none refl
 
 -- what a line feed ends, wherever it stands
 pub line_ended : (taken line rest : List ℕ) (done : List (List ℕ)) (byte : ℕ) → byte ≡ 10 → All (λ b. is_feed b ≡ false) line →

@@ -4,21 +4,22 @@ use Rattle.std.proofs.lemmas.List.{append-nil}
 use Rattle.std.proofs.lemmas.List.Concat.{flat_map-append}
 use Rattle.std.proofs.lemmas.List.Folds.{list_any-append}
 use Rattle.std.specs.List.{list_any}
-use Rattle.console.specs.Answer.{Said, text, texts, is_trouble}
+use Rattle.console.specs.declared.answer.Answer.{Answer}
+use Rattle.console.specs.Answer.{text, texts, is_trouble}
 use Rattle.console.specs.Dialogue.{Rules, Answers, Dialogue}
 
 or_false : (b : Bool) → (b || false) ≡ b
 or_false true = refl
 or_false false = refl
 
-pub texts_more : (answers : List Said) (a : Said) → texts (answers ++ a ∷ []) ≡ texts answers ++ text a
+pub texts_more : {A : Type 0} (answers : List (Answer A)) (a : Answer A) → texts (answers ++ a ∷ []) ≡ texts answers ++ text a
 texts_more answers a = flat_map-append text answers (a ∷ []) ∙ ap (λ t. texts answers ++ t) (append-nil (text a))
 
-pub trouble_more : (answers : List Said) (a : Said) → list_any is_trouble (answers ++ a ∷ []) ≡ (list_any is_trouble answers || is_trouble a)
+pub trouble_more : {A : Type 0} (answers : List (Answer A)) (a : Answer A) → list_any is_trouble (answers ++ a ∷ []) ≡ (list_any is_trouble answers || is_trouble a)
 trouble_more answers a = list_any-append is_trouble answers (a ∷ []) ∙ ap (λ b. list_any is_trouble answers || b) (or_false (is_trouble a))
 
 -- one more line at the end, the k-th
-pub dialogue_more : {W : Type 0} (rules : Rules W) (station n k : ℕ) (s : W) (done : List (List ℕ)) (answers : List Said) (mid : W) (line : List ℕ) (a : Said) (t : W) →
+pub dialogue_more : {A W : Type 0} (rules : Rules W) (station n k : ℕ) (s : W) (done : List (List ℕ)) (answers : List (Answer A)) (mid : W) (line : List ℕ) (a : Answer A) (t : W) →
     k ≡ n + length done + 1 → Dialogue rules station n s done answers mid → Answers rules station k mid line a t → Dialogue rules station n s (done ++ line ∷ []) (answers ++ a ∷ []) t
 dialogue_more {W = W} rules station n k s [] [] mid line a t at so_far more =
     let here : k ≡ n + 1 = omega (arith, at) in

@@ -1,79 +1,129 @@
--- Each line has one answer.
-use Rattle.std.proofs.Common.{◌≡◌, ℕ, ◌+◌, List, [], ◌∷◌, ◌++◌, length, refl, sym, ◌∙◌, ap, subst, arith, append_assoc}
+-- Each line has an answer, and without words of the service one answer.
+use Rattle.std.proofs.Common.{◌≡◌, ℕ, ◌+◌, Bool, true, false, List, [], ◌∷◌, ◌++◌, ◌||◌, length, refl, sym, ◌∙◌, ap, subst, arith, append_assoc}
+use Rattle.std.proofs.lemmas.Bool.{true≢false}
 use Rattle.std.proofs.lemmas.List.Concat.{flat_map-append}
 use Rattle.std.specs.List.{list_any}
-use Rattle.console.specs.declared.desk.Told.TheVariants.{Total}
+use Rattle.centre_core.specs.State.{State}
+use Rattle.centre_core.specs.Step.{step}
+use Rattle.centre_core.specs.Tell.{tell}
+use Rattle.centre_core.specs.declared.command.Command.{Command}
+use Rattle.centre_core.specs.declared.query.Query.{Query}
+use Rattle.centre_core.specs.declared.reply.Reply.{Reply}
 use Rattle.console.specs.declared.line.Line.{Line}
-use Rattle.console.specs.declared.line.Line.TheVariants.{Silent, Bad, Ask}
-use Rattle.console.specs.Answer.{Said, Quiet, BadLine, Telling, text, texts, is_trouble}
+use Rattle.console.specs.declared.line.Line.TheVariants.{Silent, Bad, Order, Ask}
+use Rattle.console.specs.declared.answer.Answer.{Answer}
+use Rattle.console.specs.declared.answer.Answer.TheVariants as answer
+use Rattle.console.specs.Answer.{text, texts, is_trouble, is_service}
 use Rattle.console.specs.Reading.{reading}
-use Rattle.console.specs.Dialogue.{untouched, AnswersReading, Dialogue, CutOffIsFront, OneText}
+use Rattle.console.specs.Dialogue.{of_register, AnswersReading, AnswersOrder, AnswersQuery, Answers, Dialogue, CutOffIsFront, OneText}
 
-abbrev pub HasAnswer : ℕ → ℕ → Line → Type 0
-HasAnswer n s line = (a : Said) × (t : ℕ) × AnswersReading untouched n s line a t
+or_left : (a b : Bool) → (a || b) ≡ false → a ≡ false
+or_left true b h = h
+or_left false b h = refl
 
-pub has_answer : (n : ℕ) (s : ℕ) (line : Line) → HasAnswer n s line
-has_answer n s Silent = (Quiet, s, (refl, refl))
-has_answer n s (Bad fault) = (BadLine n fault, s, (refl, refl))
-has_answer n s (Ask q) = (Telling (Total s), s, (refl, refl))
+or_right : (a b : Bool) → (a || b) ≡ false → b ≡ false
+or_right true b h = absurd (true≢false h)
+or_right false b h = h
 
-pub has_dialogue : (station n : ℕ) (s : ℕ) (ls : List (List ℕ)) → (answers : List Said) × (t : ℕ) × Dialogue untouched station n s ls answers t
-has_dialogue station n s [] = ([], s, refl)
-has_dialogue station n s (line ∷ ls) =
-    let first = has_answer (n + 1) s (reading station line) in
-    let rest = has_dialogue station (n + 1) first.1 ls in
-    (first.0 ∷ rest.0, rest.1, (first.1, first.2, rest.2))
+module _ {A : Type 0} where
+  abbrev pub HasAnswer : ℕ → State → Line A → Type 0
+  HasAnswer n s line = (a : Answer A) × (t : State) × AnswersReading of_register n s line a t
 
-pub dialogue_append : (station n k : ℕ) (s mid t : ℕ) (done left : List (List ℕ)) (xs ys : List Said) → k ≡ n + length done →
-    Dialogue untouched station n s done xs mid → Dialogue untouched station k mid left ys t → Dialogue untouched station n s (done ++ left) (xs ++ ys) t
-dialogue_append station n k s mid t [] left [] ys at front back =
-    let here : k ≡ n = omega (arith, at) in
-    subst (λ (m : ℕ). Dialogue untouched station n m left ys t) front (subst (λ (i : ℕ). Dialogue untouched station i mid left ys t) here back)
-dialogue_append station n k s mid t [] left (x ∷ xs) ys at front back = absurd front
-dialogue_append station n k s mid t (line ∷ done) left [] ys at front back = absurd front
-dialogue_append station n k s mid t (line ∷ done) left (x ∷ xs) ys at front back =
-    (front.0, front.1, dialogue_append station (n + 1) k front.0 mid t done left xs ys (omega (arith, at)) front.2 back)
+  pub has_answer : (n : ℕ) (s : State) (line : Line A) → HasAnswer n s line
+  has_answer n s Silent = (answer.Quiet, s, (refl, refl))
+  has_answer n s (Bad fault) = (answer.Bad n fault, s, (refl, refl))
+  has_answer n s (Order c) = (answer.Replied c.sequence (step s c).1, (step s c).0, (refl, refl))
+  has_answer n s (Ask q) = (answer.Told (tell s q), s, (refl, refl))
 
-pub cut_off : CutOffIsFront
-cut_off station s t ls out cut =
-    let rest = has_dialogue station (length cut.done) t cut.left in
-    record {
-      missing = cut.missing ++ texts rest.0;
-      troubled = list_any is_trouble ((cut.answered ++ cut.last) ++ rest.0);
-      after = rest.1;
-      dialogue = record {
-        answers = (cut.answered ++ cut.last) ++ rest.0;
-        each = subst (λ (all : List (List ℕ)). Dialogue untouched station 0 s all ((cut.answered ++ cut.last) ++ rest.0) rest.1) (sym cut.all)
-            (dialogue_append station 0 (length cut.done) s t rest.1 cut.done cut.left (cut.answered ++ cut.last) rest.0 (omega arith) cut.each rest.2);
-        written = ap (λ xs. xs ++ (cut.missing ++ texts rest.0)) cut.written
-            ∙ append_assoc (texts cut.answered) cut.part (cut.missing ++ texts rest.0)
-            ∙ ap (λ xs. texts cut.answered ++ xs) (sym (append_assoc cut.part cut.missing (texts rest.0)) ∙ ap (λ xs. xs ++ texts rest.0) (sym cut.front))
-            ∙ sym (append_assoc (texts cut.answered) (texts cut.last) (texts rest.0))
-            ∙ ap (λ xs. xs ++ texts rest.0) (sym (flat_map-append text cut.answered cut.last))
-            ∙ sym (flat_map-append text (cut.answered ++ cut.last) rest.0);
-        trouble = refl;
-      };
-    }
+  pub has_dialogue : (station n : ℕ) (s : State) (given : List (List ℕ)) → (answers : List (Answer A)) × (t : State) × Dialogue of_register station n s given answers t
+  has_dialogue station n s [] = ([], s, refl)
+  has_dialogue station n s (line ∷ given) =
+      let first = has_answer (n + 1) s (reading station line) in
+      let rest = has_dialogue station (n + 1) first.1 given in
+      (first.0 ∷ rest.0, rest.1, (first.1, first.2, rest.2))
 
-abbrev pub Same : Said → Said → ℕ → ℕ → Type 0
-Same a b t u = (a ≡ b) × (t ≡ u)
+  pub dialogue_append : (station n k : ℕ) (s mid t : State) (done left : List (List ℕ)) (xs ys : List (Answer A)) → k ≡ n + length done →
+      Dialogue of_register station n s done xs mid → Dialogue of_register station k mid left ys t → Dialogue of_register station n s (done ++ left) (xs ++ ys) t
+  dialogue_append station n k s mid t [] left [] ys at front back =
+      let here : k ≡ n = omega (arith, at) in
+      subst (λ (m : State). Dialogue of_register station n m left ys t) front (subst (λ (i : ℕ). Dialogue of_register station i mid left ys t) here back)
+  dialogue_append station n k s mid t [] left (x ∷ xs) ys at front back = absurd front
+  dialogue_append station n k s mid t (line ∷ done) left [] ys at front back = absurd front
+  dialogue_append station n k s mid t (line ∷ done) left (x ∷ xs) ys at front back =
+      (front.0, front.1, dialogue_append station (n + 1) k front.0 mid t done left xs ys (omega (arith, at)) front.2 back)
 
-pub one_answer : (n s : ℕ) (line : Line) (a b : Said) (t u : ℕ) → AnswersReading untouched n s line a t → AnswersReading untouched n s line b u → Same a b t u
-one_answer n s Silent a b t u f h = (f.0 ∙ sym h.0, f.1 ∙ sym h.1)
-one_answer n s (Bad e) a b t u f h = (f.0 ∙ sym h.0, f.1 ∙ sym h.1)
-one_answer n s (Ask q) (Telling x) (Telling y) t u f h = (ap Telling (f.1 ∙ sym h.1), f.0 ∙ sym h.0)
-one_answer n s (Ask q) (Telling x) Quiet t u f h = absurd h
-one_answer n s (Ask q) (Telling x) (BadLine m e) t u f h = absurd h
-one_answer n s (Ask q) Quiet b t u f h = absurd f
-one_answer n s (Ask q) (BadLine m e) b t u f h = absurd f
+  pub cut_off : CutOffIsFront A
+  cut_off station s t given out cut =
+      let rest = has_dialogue station (length cut.done) t cut.left in
+      record {
+        missing = cut.missing ++ texts rest.0;
+        troubled = list_any is_trouble ((cut.answered ++ cut.last) ++ rest.0);
+        after = rest.1;
+        dialogue = record {
+          answers = (cut.answered ++ cut.last) ++ rest.0;
+          each = subst (λ (all : List (List ℕ)). Dialogue of_register station 0 s all ((cut.answered ++ cut.last) ++ rest.0) rest.1) (sym cut.all)
+              (dialogue_append station 0 (length cut.done) s t rest.1 cut.done cut.left (cut.answered ++ cut.last) rest.0 (omega arith) cut.each rest.2);
+          written = ap (λ xs. xs ++ (cut.missing ++ texts rest.0)) cut.written
+              ∙ append_assoc (texts cut.answered) cut.part (cut.missing ++ texts rest.0)
+              ∙ ap (λ xs. texts cut.answered ++ xs) (sym (append_assoc cut.part cut.missing (texts rest.0)) ∙ ap (λ xs. xs ++ texts rest.0) (sym cut.front))
+              ∙ sym (append_assoc (texts cut.answered) (texts cut.last) (texts rest.0))
+              ∙ ap (λ xs. xs ++ texts rest.0) (sym (flat_map-append text cut.answered cut.last))
+              ∙ sym (flat_map-append text (cut.answered ++ cut.last) rest.0);
+          trouble = refl;
+        };
+      }
 
-pub one : OneText
-one station n s t u [] [] [] f h = (refl, f ∙ sym h)
-one station n s t u [] [] (y ∷ ys) f h = absurd h
-one station n s t u [] (x ∷ xs) ys f h = absurd f
-one station n s t u (line ∷ ls) [] ys f h = absurd f
-one station n s t u (line ∷ ls) (x ∷ xs) [] f h = absurd h
-one station n s t u (line ∷ ls) (x ∷ xs) (y ∷ ys) f h =
-    let first = one_answer (n + 1) s (reading station line) x y f.0 h.0 f.1 h.1 in
-    let rest = one station (n + 1) f.0 t u ls xs ys f.2 (subst (λ (m : ℕ). Dialogue untouched station (n + 1) m ls ys u) (sym first.1) h.2) in
-    (ap (λ (a : Said). a ∷ xs) first.0 ∙ ap (λ (as' : List Said). y ∷ as') rest.0, rest.1)
+  abbrev pub Same : Answer A → Answer A → State → State → Type 0
+  Same a b t u = (a ≡ b) × (t ≡ u)
+
+  replied_same : (p q : ℕ) (x y : Reply A) → p ≡ q → x ≡ y → answer.Replied p x ≡ answer.Replied q y
+  replied_same p q x y e f = ap (λ (n : ℕ). answer.Replied n x) e ∙ ap (λ (r : Reply A). answer.Replied q r) f
+
+  one_order : (s : State) (c : Command A) (a b : Answer A) (t u : State) → AnswersOrder of_register s c a t → AnswersOrder of_register s c b u → is_service a ≡ false → is_service b ≡ false → Same a b t u
+  one_order s c (answer.Replied p x) (answer.Replied q y) t u f h calm still =
+      let both : (t, x) ≡ (u, y) = f.1 ∙ sym h.1 in
+      (replied_same p q x y (f.0 ∙ sym h.0) (ap (λ (r : State × Reply A). r.1) both), ap (λ (r : State × Reply A). r.0) both)
+  one_order s c (answer.Replied p x) (answer.Unserved q w) t u f h calm still = absurd (true≢false still)
+  one_order s c (answer.Replied p x) answer.Quiet t u f h calm still = absurd h
+  one_order s c (answer.Replied p x) (answer.Bad n e) t u f h calm still = absurd h
+  one_order s c (answer.Replied p x) (answer.Told told) t u f h calm still = absurd h
+  one_order s c (answer.Replied p x) (answer.Untold n w) t u f h calm still = absurd h
+  one_order s c (answer.Unserved q w) b t u f h calm still = absurd (true≢false calm)
+  one_order s c answer.Quiet b t u f h calm still = absurd f
+  one_order s c (answer.Bad n e) b t u f h calm still = absurd f
+  one_order s c (answer.Told told) b t u f h calm still = absurd f
+  one_order s c (answer.Untold n w) b t u f h calm still = absurd f
+
+  one_query : (n : ℕ) (s : State) (q : Query) (a b : Answer A) (t u : State) → AnswersQuery of_register n s q a t → AnswersQuery of_register n s q b u → is_service a ≡ false → is_service b ≡ false → Same a b t u
+  one_query n s q (answer.Told x) (answer.Told y) t u f h calm still = (ap (λ told. answer.Told told) (f.1 ∙ sym h.1), f.0 ∙ sym h.0)
+  one_query n s q (answer.Told x) (answer.Untold m w) t u f h calm still = absurd (true≢false still)
+  one_query n s q (answer.Told x) answer.Quiet t u f h calm still = absurd h
+  one_query n s q (answer.Told x) (answer.Bad m e) t u f h calm still = absurd h
+  one_query n s q (answer.Told x) (answer.Replied p y) t u f h calm still = absurd h
+  one_query n s q (answer.Told x) (answer.Unserved p w) t u f h calm still = absurd h
+  one_query n s q (answer.Untold m w) b t u f h calm still = absurd (true≢false calm)
+  one_query n s q answer.Quiet b t u f h calm still = absurd f
+  one_query n s q (answer.Bad m e) b t u f h calm still = absurd f
+  one_query n s q (answer.Replied p y) b t u f h calm still = absurd f
+  one_query n s q (answer.Unserved p w) b t u f h calm still = absurd f
+
+  one_reading : (n : ℕ) (s : State) (line : Line A) (a b : Answer A) (t u : State) → AnswersReading of_register n s line a t → AnswersReading of_register n s line b u → is_service a ≡ false → is_service b ≡ false → Same a b t u
+  one_reading n s Silent a b t u f h calm still = (f.0 ∙ sym h.0, f.1 ∙ sym h.1)
+  one_reading n s (Bad e) a b t u f h calm still = (f.0 ∙ sym h.0, f.1 ∙ sym h.1)
+  one_reading n s (Order c) a b t u f h calm still = one_order s c a b t u f h calm still
+  one_reading n s (Ask q) a b t u f h calm still = one_query n s q a b t u f h calm still
+
+  pub one_answer : (station n : ℕ) (s : State) (line : List ℕ) (a b : Answer A) (t u : State) → Answers of_register station n s line a t → Answers of_register station n s line b u → is_service a ≡ false → is_service b ≡ false → Same a b t u
+  one_answer station n s line a b t u f h calm still = one_reading n s (reading station line) a b t u f h calm still
+
+  pub one : OneText A
+  one station n s t u [] [] [] f h calm still = (refl, f ∙ sym h)
+  one station n s t u [] [] (y ∷ ys) f h calm still = absurd h
+  one station n s t u [] (x ∷ xs) ys f h calm still = absurd f
+  one station n s t u (line ∷ given) [] ys f h calm still = absurd f
+  one station n s t u (line ∷ given) (x ∷ xs) [] f h calm still = absurd h
+  one station n s t u (line ∷ given) (x ∷ xs) (y ∷ ys) f h calm still =
+      let first = one_answer station (n + 1) s line x y f.0 h.0 f.1 h.1 (or_left (is_service x) (list_any is_service xs) calm) (or_left (is_service y) (list_any is_service ys) still) in
+      let rest = one station (n + 1) f.0 t u given xs ys f.2 (subst (λ (m : State). Dialogue of_register station (n + 1) m given ys u) (sym first.1) h.2)
+      (or_right (is_service x) (list_any is_service xs) calm) (or_right (is_service y) (list_any is_service ys) still) in
+      (ap (λ (a : Answer A). a ∷ xs) first.0 ∙ ap (λ (more : List (Answer A)). y ∷ more) rest.0, rest.1)

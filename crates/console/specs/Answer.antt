@@ -1,33 +1,72 @@
--- Answers, and their texts.
-use Rattle.std.specs.Prelude.{ℕ, Bool, true, false, List, [], ◌++◌, codes, decimal}
+-- How an answer is written. B is the allocator that the bits in it lie under: nothing depends on it.
+use Rattle.std.specs.Prelude.{ℕ, Bool, true, false, List, [], ◌++◌, Option, Some, None, codes, decimal}
 use Rattle.std.specs.List.{flat_map}
-use Rattle.console.specs.declared.desk.Told.{Told}
-use Rattle.console.specs.declared.desk.Told.TheVariants.{Total}
-use Rattle.console.specs.declared.line.LineFault.{LineFault}
-use Rattle.console.specs.declared.line.LineFault.TheVariants.{Syntax, TooLong}
+use Rattle.identity.specs.IdentityText.{identity_text}
+use Rattle.identity.specs.BitsText.{bits_text}
+use Rattle.registration.specs.declared.radio.Radio.{Radio}
+use Rattle.centre_core.specs.declared.reply.Reply.{Reply}
+use Rattle.centre_core.specs.declared.reply.Reply.TheVariants as reply
+use Rattle.centre_core.specs.declared.reply.Refusal.{Refusal}
+use Rattle.centre_core.specs.declared.reply.Refusal.TheVariants as refusal
+use Rattle.centre_core.specs.declared.query.Told.{Told}
+use Rattle.centre_core.specs.declared.query.Told.TheVariants as told
+use Rattle.console.specs.declared.answer.Answer.{Answer}
+use Rattle.console.specs.declared.answer.Answer.TheVariants as answer
+use Rattle.console.specs.Words.{line_word, service_word, mm_word, registration_word}
 
--- an answer, without where it lies in memory
-pub data Said : Type 0 where
-  Quiet : Said
-  BadLine : ℕ → LineFault → Said
-  Telling : Told → Said
+-- the PDU for the radio, if there is one
+abbrev pub pdu_text : Option (List Bool) → List ℕ
+pdu_text None = codes "-"
+pdu_text (Some bits) = bits_text bits
 
-abbrev pub fault_word : LineFault → List ℕ
-fault_word Syntax = codes "syntax"
-fault_word TooLong = codes "too-long"
+abbrev pub presence_text : Bool → List ℕ
+presence_text true = codes " present"
+presence_text false = codes " absent"
+
+abbrev pub whereabouts_text : Option Radio → List ℕ
+whereabouts_text None = codes "unknown"
+whereabouts_text (Some radio) = codes "station " ++ decimal radio.station ++ codes " la " ++ decimal radio.area
+    ++ presence_text radio.present
 
 abbrev pub told_text : Told → List ℕ
-told_text (Total n) = codes "count " ++ decimal n ++ codes "\n"
+told_text (told.Whereabouts itsi radio) = codes "where " ++ identity_text itsi ++ codes " " ++ whereabouts_text radio
+told_text (told.Total count) = codes "count " ++ decimal count
 
-abbrev pub text : Said → List ℕ
-text Quiet = []
-text (BadLine n fault) = codes "line " ++ decimal n ++ codes " bad " ++ fault_word fault ++ codes "\n"
-text (Telling told) = told_text told
+module _ {B : Type 0} where
+  abbrev pub refusal_text : Refusal B → List ℕ
+  refusal_text refusal.UnknownStation = codes "unknown-station"
+  refusal_text (refusal.OldSequence last) = codes "old-sequence " ++ decimal last
+  refusal_text refusal.NumbersUsedUp = codes "numbers-used-up"
+  refusal_text (refusal.Pdu fault) = mm_word fault
+  refusal_text (refusal.Registration fault) = registration_word fault
+  refusal_text (refusal.Location fault reject) = registration_word fault ++ codes " " ++ bits_text reject
 
-abbrev pub texts : List Said → List ℕ
-texts answers = flat_map text answers
+  abbrev pub reply_text : Reply B → List ℕ
+  reply_text (reply.Accepted number pdu) = codes " ok " ++ decimal number ++ codes " " ++ pdu_text pdu
+  reply_text (reply.Kept number pdu) = codes " kept " ++ decimal number ++ codes " " ++ pdu_text pdu
+  reply_text (reply.Refused refusal) = codes " no " ++ refusal_text refusal
 
--- a bad line
-abbrev pub is_trouble : Said → Bool
-is_trouble (BadLine n fault) = true
-is_trouble other = false
+  -- the line that answers, with its end
+  abbrev pub text : Answer B → List ℕ
+  text answer.Quiet = []
+  text (answer.Bad line fault) = codes "line " ++ decimal line ++ codes " bad " ++ line_word fault ++ codes "\n"
+  text (answer.Replied sequence reply) = decimal sequence ++ reply_text reply ++ codes "\n"
+  text (answer.Unserved sequence word) = decimal sequence ++ codes " no " ++ service_word word ++ codes "\n"
+  text (answer.Told told) = told_text told ++ codes "\n"
+  text (answer.Untold line word) = codes "line " ++ decimal line ++ codes " no " ++ service_word word ++ codes "\n"
+
+  abbrev pub texts : List (Answer B) → List ℕ
+  texts answers = flat_map text answers
+
+  -- a word of the service
+  abbrev pub is_service : Answer B → Bool
+  is_service (answer.Unserved sequence word) = true
+  is_service (answer.Untold line word) = true
+  is_service other = false
+
+  -- a bad line, or a word of the service
+  abbrev pub is_trouble : Answer B → Bool
+  is_trouble (answer.Bad line fault) = true
+  is_trouble (answer.Unserved sequence word) = true
+  is_trouble (answer.Untold line word) = true
+  is_trouble other = false

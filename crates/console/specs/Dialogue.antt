@@ -1,84 +1,120 @@
--- Which answers may be given to which lines.
-use Rattle.std.specs.Prelude.{◌≡◌, ℕ, ◌+◌, ◌≤◌, Bool, List, [], ◌∷◌, ◌++◌, length, Option, Some}
+-- Which answers may be given to which lines. A is the allocator that the bits of commands and replies
+-- lie under: nothing depends on it.
+use Rattle.std.specs.Prelude.{◌≡◌, ◌⊎◌, ℕ, ◌+◌, ◌≤◌, Bool, false, List, [], ◌∷◌, ◌++◌, length, Option, Some, Result, Ok, Err}
 use Rattle.std.specs.List.{list_any}
 use Rattle.std.specs.Str.Lines.{lines}
-use Rattle.console.specs.declared.desk.Query.{Query}
-use Rattle.console.specs.declared.desk.Told.{Told}
-use Rattle.console.specs.declared.desk.Told.TheVariants as told
+use Rattle.centre_core.specs.State.{State}
+use Rattle.centre_core.specs.Step.{step}
+use Rattle.centre_core.specs.Tell.{tell}
+use Rattle.centre_core.specs.declared.command.Command.{Command}
+use Rattle.centre_core.specs.declared.reply.Reply.{Reply}
+use Rattle.centre_core.specs.declared.query.Query.{Query}
+use Rattle.centre_core.specs.declared.query.Told.{Told}
+use Rattle.console.specs.declared.desk.Service.{Service}
+use Rattle.console.specs.declared.desk.Service.TheVariants.{Memory}
 use Rattle.console.specs.declared.line.Line.{Line}
-use Rattle.console.specs.declared.line.Line.TheVariants.{Silent, Bad, Ask}
+use Rattle.console.specs.declared.line.Line.TheVariants as line
+use Rattle.console.specs.declared.answer.Answer.{Answer}
+use Rattle.console.specs.declared.answer.Answer.TheVariants as answer
 use Rattle.console.specs.Reading.{reading}
-use Rattle.console.specs.Answer.{Said, Quiet, BadLine, Telling, texts, is_trouble}
+use Rattle.console.specs.Answer.{texts, is_trouble, is_service}
 
--- what a kind of desk, which stands for values of W, may do at a query
+-- what a kind of desk, which stands for values of W, may do at a command and at a query
 pub record Rules (W : Type 0) : Type 1 where
-  pub tells : W → Query → Told → W → Type 0
+  pub applies : {A B : Type 0} → W → Command A → Result (Reply B) Service → W → Type 0
+  pub tells : W → Query → Result Told Service → W → Type 0
 
--- of a number of accepted commands, which stays
-abbrev pub untouched : Rules ℕ
-untouched = record { tells = λ n q answer t. (t ≡ n) × (answer ≡ told.Total n) }
+-- the register does a command as step says, or for want of memory does nothing
+abbrev pub Applies : {A B : Type 0} → State → Command A → Result (Reply B) Service → State → Type 0
+Applies s c (Ok reply) t = (t, reply) ≡ step s c
+Applies s c (Err word) t = t ≡ s
 
--- the answer to the line numbered n, and what the desk stands for after it
-abbrev pub AnswersReading : {W : Type 0} → Rules W → ℕ → W → Line → Said → W → Type 0
-AnswersReading rules n s Silent answer t = (answer ≡ Quiet) × (t ≡ s)
-AnswersReading rules n s (Bad fault) answer t = (answer ≡ BadLine n fault) × (t ≡ s)
-AnswersReading rules n s (Ask q) (Telling told) t = rules.tells s q told t
-AnswersReading rules n s (Ask q) other t = ⊥
+abbrev pub Tells : State → Query → Result Told Service → State → Type 0
+Tells s q (Ok told) t = (t ≡ s) × (told ≡ tell s q)
+Tells s q (Err word) t = t ≡ s
 
-abbrev pub Answers : {W : Type 0} → Rules W → ℕ → ℕ → W → List ℕ → Said → W → Type 0
-Answers rules station n s line answer t = AnswersReading rules n s (reading station line) answer t
+-- a register that nobody else changes
+abbrev pub of_register : Rules State
+of_register = record { applies = Applies; tells = Tells }
 
--- one answer for each line, in order; n lines came before
-abbrev pub Dialogue : {W : Type 0} → Rules W → ℕ → ℕ → W → List (List ℕ) → List Said → W → Type 0
-Dialogue rules station n s [] [] t = t ≡ s
-Dialogue rules station n s [] (answer ∷ answers) t = ⊥
-Dialogue rules station n s (line ∷ ls) [] t = ⊥
-Dialogue {W = W} rules station n s (line ∷ ls) (answer ∷ answers) t =
-    (mid : W) × Answers rules station (n + 1) s line answer mid × Dialogue rules station (n + 1) mid ls answers t
+-- for the PDU of a command there is no memory, and the desk does nothing
+abbrev pub LacksMemory : {W : Type 0} → Service → W → W → Type 0
+LacksMemory word s t = (word ≡ Memory) × (t ≡ s)
+
+module _ {A W : Type 0} where
+  abbrev pub AnswersOrder : Rules W → W → Command A → Answer A → W → Type 0
+  AnswersOrder rules s c (answer.Replied sequence reply) t = (sequence ≡ c.sequence) × rules.applies s c (Ok reply) t
+  AnswersOrder rules s c (answer.Unserved sequence word) t = (sequence ≡ c.sequence) × (rules.applies {A = A} {B = A} s c (Err word) t ⊎ LacksMemory word s t)
+  AnswersOrder rules s c other t = ⊥
+
+  abbrev pub AnswersQuery : Rules W → ℕ → W → Query → Answer A → W → Type 0
+  AnswersQuery rules n s q (answer.Told told) t = rules.tells s q (Ok told) t
+  AnswersQuery rules n s q (answer.Untold number word) t = (number ≡ n) × rules.tells s q (Err word) t
+  AnswersQuery rules n s q other t = ⊥
+
+  -- the answer to what the line numbered n says, and what the desk stands for after it
+  abbrev pub AnswersReading : Rules W → ℕ → W → Line A → Answer A → W → Type 0
+  AnswersReading rules n s line.Silent given t = (given ≡ answer.Quiet) × (t ≡ s)
+  AnswersReading rules n s (line.Bad fault) given t = (given ≡ answer.Bad n fault) × (t ≡ s)
+  AnswersReading rules n s (line.Order c) given t = AnswersOrder rules s c given t
+  AnswersReading rules n s (line.Ask q) given t = AnswersQuery rules n s q given t
+
+  abbrev pub Answers : Rules W → ℕ → ℕ → W → List ℕ → Answer A → W → Type 0
+  Answers rules station n s text given t = AnswersReading rules n s (reading station text) given t
+
+  -- one answer for each line, in order; n lines came before
+  abbrev pub Dialogue : Rules W → ℕ → ℕ → W → List (List ℕ) → List (Answer A) → W → Type 0
+  Dialogue rules station n s [] [] t = t ≡ s
+  Dialogue rules station n s [] (given ∷ answers) t = ⊥
+  Dialogue rules station n s (text ∷ texts) [] t = ⊥
+  Dialogue rules station n s (text ∷ texts) (given ∷ answers) t =
+      (mid : W) × Answers rules station (n + 1) s text given mid × Dialogue rules station (n + 1) mid texts answers t
 
 -- the text out is the answers to the lines, and whether there was trouble in them
-pub record IsDialogue {W : Type 0} (rules : Rules W) (station : ℕ) (s : W) (ls : List (List ℕ)) (out : List ℕ) (troubled : Bool) (t : W) : Type 0 where
-  pub answers : List Said
-  pub each : Dialogue rules station 0 s ls answers t
+pub record IsDialogue (A : Type 0) {W : Type 0} (rules : Rules W) (station : ℕ) (s : W) (given : List (List ℕ)) (out : List ℕ) (troubled : Bool) (t : W) : Type 0 where
+  pub answers : List (Answer A)
+  pub each : Dialogue rules station 0 s given answers t
   pub written : out ≡ texts answers
   pub trouble : troubled ≡ list_any is_trouble answers
 
 -- cut off: some lines were done, their answers were written but perhaps that of the last of them, of
 -- which a front was written
-pub record IsCutOff {W : Type 0} (rules : Rules W) (station : ℕ) (s : W) (ls : List (List ℕ)) (out : List ℕ) (t : W) : Type 0 where
+pub record IsCutOff (A : Type 0) {W : Type 0} (rules : Rules W) (station : ℕ) (s : W) (given : List (List ℕ)) (out : List ℕ) (t : W) : Type 0 where
   pub done : List (List ℕ)
   pub left : List (List ℕ)
-  pub answered : List Said
-  pub last : List Said
+  pub answered : List (Answer A)
+  pub last : List (Answer A)
   pub part : List ℕ
   pub missing : List ℕ
-  pub all : ls ≡ done ++ left
+  pub all : given ≡ done ++ left
   pub each : Dialogue rules station 0 s done (answered ++ last) t
   pub one : length last ≤ 1
   pub front : texts last ≡ part ++ missing
   pub written : out ≡ texts answered ++ part
 
 -- of everything that the reader gives
-abbrev pub RunsWell : {W : Type 0} → Rules W → ℕ → W → List ℕ → List ℕ → ℕ → Bool → Option (List ℕ) → W → Type 0
-RunsWell rules station s input before count troubled held t =
-    (out : List ℕ) × (held ≡ Some (before ++ out)) × IsDialogue rules station s (lines input) out troubled t × (count ≡ length (lines input))
+abbrev pub RunsWell : (A : Type 0) {W : Type 0} → Rules W → ℕ → W → List ℕ → List ℕ → ℕ → Bool → Option (List ℕ) → W → Type 0
+RunsWell A rules station s input before count troubled held t =
+    (out : List ℕ) × (held ≡ Some (before ++ out)) × IsDialogue A rules station s (lines input) out troubled t × (count ≡ length (lines input))
 
-abbrev pub RunsShort : {W : Type 0} → Rules W → ℕ → W → List ℕ → List ℕ → Option (List ℕ) → W → Type 0
-RunsShort rules station s input before held t =
-    (out : List ℕ) × (held ≡ Some (before ++ out)) × IsCutOff rules station s (lines input) out t
+abbrev pub RunsShort : (A : Type 0) {W : Type 0} → Rules W → ℕ → W → List ℕ → List ℕ → Option (List ℕ) → W → Type 0
+RunsShort A rules station s input before held t =
+    (out : List ℕ) × (held ≡ Some (before ++ out)) × IsCutOff A rules station s (lines input) out t
 
 -- the text goes on to one that may be written for the lines
-pub record IsFront {W : Type 0} (rules : Rules W) (station : ℕ) (s : W) (ls : List (List ℕ)) (out : List ℕ) : Type 0 where
+pub record IsFront (A : Type 0) {W : Type 0} (rules : Rules W) (station : ℕ) (s : W) (given : List (List ℕ)) (out : List ℕ) : Type 0 where
   pub missing : List ℕ
   pub troubled : Bool
   pub after : W
-  pub dialogue : IsDialogue rules station s ls (out ++ missing) troubled after
+  pub dialogue : IsDialogue A rules station s given (out ++ missing) troubled after
 
 -- what was cut off is the front of a text that may be written
-abbrev pub CutOffIsFront : Type 0
-CutOffIsFront = (station s t : ℕ) (ls : List (List ℕ)) (out : List ℕ) → IsCutOff untouched station s ls out t → IsFront untouched station s ls out
+abbrev pub CutOffIsFront : Type 0 → Type 0
+CutOffIsFront A = (station : ℕ) (s t : State) (given : List (List ℕ)) (out : List ℕ) →
+    IsCutOff A of_register station s given out t → IsFront A of_register station s given out
 
--- the lines settle the answers, and what the desk stands for
-abbrev pub OneText : Type 0
-OneText = (station n s t u : ℕ) (ls : List (List ℕ)) (xs ys : List Said) →
-    Dialogue untouched station n s ls xs t → Dialogue untouched station n s ls ys u → (xs ≡ ys) × (t ≡ u)
+-- without words of the service the lines settle the answers, and what the register holds
+abbrev pub OneText : Type 0 → Type 0
+OneText A = (station n : ℕ) (s t u : State) (given : List (List ℕ)) (xs ys : List (Answer A)) →
+    Dialogue of_register station n s given xs t → Dialogue of_register station n s given ys u →
+    list_any is_service xs ≡ false → list_any is_service ys ≡ false → (xs ≡ ys) × (t ≡ u)

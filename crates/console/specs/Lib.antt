@@ -1,5 +1,6 @@
+pub mod Words
 pub mod Reading
 pub mod Answer
-pub mod Said
 pub mod Dialogue
 pub mod Feed
+pub mod Spelling

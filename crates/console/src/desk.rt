@@ -1,49 +1,62 @@
-ghost use Rattle.std.specs.Prelude.{◌≡◌, ℕ};
-ghost use Rattle.console.specs.Dialogue.{Rules, untouched};
+ghost use Rattle.std.specs.Prelude.{◌≡◌};
+ghost use Rattle.centre_core.specs.State.{State};
+ghost use Rattle.console.specs.Dialogue.{Rules, of_register};
 
-/// What a line asks for.
+use centre_core::{Command, Query, Register, Reply, Told};
+use std::alloc::Allocator;
+
+/// Why a desk did nothing.
 #[derive(Clone, Copy, Debug, PartialEq, Eq)]
-pub enum Query {
-    /// How many commands were accepted.
-    Total,
+pub enum Service {
+    /// An allocation was refused.
+    Memory,
 }
 
-/// What a query is answered.
-#[derive(Clone, Copy, Debug, PartialEq, Eq)]
-pub enum Told {
-    /// So many commands were accepted.
-    Total(u64),
-}
-
-/// What answers queries.
+/// What carries out commands and answers queries.
 pub trait Desk {
     // What desks of this kind stand for.
     ghost World: { Type 0 };
 
     ghost world: { Self → World };
 
-    // What they may say.
+    // What they may do and say.
     ghost rules: { Rules World };
 
+    /// Carries out a command; the reply's bits lie under `alloc`.
+    fn apply<B: Allocator, C: Allocator + Copy>(
+        &mut self,
+        alloc: C,
+        command: &Command<B>,
+    ) -> Result<Reply<C>, Service>
+        ensures { rules.applies (world self.old) command.now result (world self.new) };
+
     /// Answers a query.
-    fn query(&mut self, query: &Query) -> Told
+    fn query(&mut self, query: &Query) -> Result<Told, Service>
         ensures { rules.tells (world self.old) query.now result (world self.new) };
 }
 
-/// A desk to which no command was ever given.
-#[derive(Clone, Copy, Debug, PartialEq, Eq)]
-pub struct Untouched;
+impl<A: Allocator + Clone> Desk for Register<A> {
+    ghost World = { State };
 
-impl Desk for Untouched {
-    ghost World = { ℕ };
+    ghost world = { λ register. register };
 
-    ghost world = { λ desk. 0 };
+    ghost rules = { of_register };
 
-    ghost rules = { untouched };
+    fn apply<B: Allocator, C: Allocator + Copy>(
+        &mut self,
+        alloc: C,
+        command: &Command<B>,
+    ) -> Result<Reply<C>, Service> {
+        match Register::apply(self, alloc, command) {
+            Ok(reply) => Ok(reply),
+            Err(_) => Err(Service::Memory),
+        }
+    }
 
-    fn query(&mut self, query: &Query) -> Told {
-        match *query {
-            Query::Total => Told::Total(0),
+    fn query(&mut self, query: &Query) -> Result<Told, Service> {
+        match Register::query(self, query) {
+            Ok(told) => Ok(told),
+            Err(_) => Err(Service::Memory),
         }
     }
 }

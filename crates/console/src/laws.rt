@@ -1,13 +1,29 @@
-//! What holds of all dialogues.
+//! What holds of all lines, and of all dialogues with a register. `A` is the allocator that the bits
+//! of commands and replies lie under: nothing depends on it.
 
 ghost use Rattle.console.specs.Dialogue.{CutOffIsFront, OneText};
+ghost use Rattle.console.specs.Spelling.{OnlyCommands, OnlyQueries, AllCommands, AllQueries};
+
+use std::alloc::Allocator;
 
 /// What stands written after a fault is the front of a text that may be written for the lines.
-pub fn cut_off_is_front()
-    ensures { CutOffIsFront }
+pub fn cut_off_is_front<A: Allocator>()
+    ensures { CutOffIsFront A }
 {}
 
-/// There is one text for the lines.
-pub fn one_text()
-    ensures { OneText }
+/// Without words of the service there is one text for the lines.
+pub fn one_text<A: Allocator>()
+    ensures { OneText A }
+{}
+
+/// A line is taken for a command or a query only where it spells it.
+pub fn only_what_is_spelled<A: Allocator>()
+    ensures commands { OnlyCommands A }
+    ensures queries { OnlyQueries A }
+{}
+
+/// A line that spells a command or a query is taken for it.
+pub fn all_that_is_spelled<A: Allocator>()
+    ensures commands { AllCommands A }
+    ensures queries { AllQueries A }
 {}

@@ -1,17 +1,26 @@
-//! The console of a location register: lines in, answers out.
+//! The console of the location register: lines of a station in, answers out.
+//!
+//! [`run`] serves any [`Desk`] with the lines of any reader. Which answers a line may get is said by
+//! `specs/Dialogue.antt`, what a line says by `specs/Reading.antt`, and how an answer is written by
+//! `specs/Answer.antt`.
 #![tactic(auto)]
 
 mod answer;
 mod desk;
 pub mod laws;
 mod line;
+mod order;
+mod progress;
+mod running;
+mod sending;
 mod serving;
-mod steps;
 #[cfg(test)]
 mod tests;
+mod words;
+#[cfg(test)]
+mod worked_rows;
 
 pub use answer::{Answer, print_answer};
-pub use desk::{Desk, Query, Told, Untouched};
+pub use desk::{Desk, Service};
 pub use line::{Line, LineFault, parse_line};
-pub use serving::{Ran, RunFault, run, run_counted};
-pub use steps::Steps;
+pub use running::{Ran, RunFault, run, run_counted};

@@ -1,10 +1,95 @@
-//! What no clause says: that a run can end well, with a reader that gives a byte at a time, with
-//! writers that fail, and that a line is answered before the next one is read.
+//! What no clause says: that a run can end well, with readers that give a byte at a time or fail,
+//! with writers that fail and with little memory, and that a line is answered before the next one is
+//! read.
 
 use super::*;
+use crate::worked_rows::{LIMITS, worked_rows};
+use centre_core::{Body, Query, Register, Told};
+use linked_list_allocator::LocalHeap;
+use std::alloc::Global;
 use std::cell::Cell;
 use std::io;
 use std::io::{ErrorKind, Read, Write};
+use std::test::Fail;
+
+const RULE_ATTACH_COUNT: &str = "1 0 rule 234-14-0/24 1 99 1 3600
+2 10 mm 234-14-2001 7 10:260
+count
+";
+
+#[test]
+fn worked_rows_are_answered(rt: HostRuntime) -> Result<(), Fail> {
+    for row in worked_rows() {
+        let mut desk = Register::new(rt.alloc(), row.limits)?;
+        let mut reader = row.lines.as_bytes();
+        let mut out = Vec::new(rt.alloc());
+        let ran = run(rt.alloc(), &mut reader, &mut out, row.station, 9, &mut desk);
+        let lines = row.lines.lines().count() as u64;
+        let troubled = row.answers.contains(" bad ");
+        assert_eq!(rt; ran, Ok(Ran { lines, troubled }));
+        assert_eq!(rt; out.as_slice(), row.answers.as_bytes());
+    }
+    Ok(())
+}
+
+/// A line of so many bytes, and how it is answered.
+fn answer_to_length(rt: &HostRuntime, length: usize, end: &str) -> Result<Vec<u8>, Fail> {
+    let mut lines = Vec::new(rt.alloc());
+    for _ in 0..length {
+        lines.push(b'#')?;
+    }
+    lines.extend_from_slice(end.as_bytes())?;
+    let mut desk = Register::new(rt.alloc(), LIMITS)?;
+    let mut reader = lines.as_slice();
+    let mut out = Vec::new(rt.alloc());
+    run(rt.alloc(), &mut reader, &mut out, 1, 9, &mut desk)?;
+    Ok(out)
+}
+
+#[test]
+fn lines_have_at_most_1024_bytes(rt: HostRuntime) -> Result<(), Fail> {
+    for (length, end, answer) in [
+        (1024, "\n", ""),
+        (1024, "\r\n", ""),
+        (1024, "", ""),
+        (1024, "\r", "line 1 bad too-long\n"),
+        (1025, "\n", "line 1 bad too-long\n"),
+        (1025, "\r\n", "line 1 bad too-long\n"),
+        (70_000, "\ncount\n", "line 1 bad too-long\ncount 0\n"),
+    ] {
+        let out = answer_to_length(&rt, length, end)?;
+        assert_eq!(rt; out.as_slice(), answer.as_bytes());
+    }
+    Ok(())
+}
+
+#[test]
+fn lines_are_read_and_answers_printed(rt: HostRuntime) -> Result<(), Fail> {
+    let line = b"2 10 mm 234-14-2001 7 10:260".as_slice();
+    let Line::Order(command) = parse_line(rt.alloc(), 3, line)? else {
+        return Err(Fail::from("no command"));
+    };
+    assert!(rt; (command.station, command.sequence, command.moment) == (3, 2, 10));
+    let Body::Mm { itsi, area, pdu } = &command.body else {
+        return Err(Fail::from("no mobility management"));
+    };
+    assert!(rt; (itsi.ssi(), area.number(), pdu.len()) == (2001, 7, 10));
+    let query = parse_line(rt.alloc(), 3, b"where 234-14-2001".as_slice())?;
+    assert!(rt; matches!(query, Line::Ask(Query::Whereabouts(_))));
+    let mut out = Vec::new(rt.alloc());
+    let answer: Answer<Global> = Answer::Told(Told::Total(7));
+    print_answer(&mut out, &answer)?;
+    assert!(rt; !answer.is_trouble());
+    let answer: Answer<Global> = Answer::Untold(9, Service::Memory);
+    print_answer(&mut out, &answer)?;
+    assert!(rt; answer.is_trouble());
+    assert_eq!(rt; out.as_slice(), b"count 7\nline 9 no memory\n".as_slice());
+    laws::cut_off_is_front::<Global>();
+    laws::one_text::<Global>();
+    laws::only_what_is_spelled::<Global>();
+    laws::all_that_is_spelled::<Global>();
+    Ok(())
+}
 
 /// Gives one byte a call, and is interrupted at each other call where it is to be.
 #[derive(Drop)]
@@ -56,7 +141,7 @@ impl Write for Full {
 }
 
 #[test]
-fn turns_bound_the_calls(rt: HostRuntime) -> Result<(), std::alloc::AllocError> {
+fn turns_bound_the_calls(rt: HostRuntime) -> Result<(), Fail> {
     for (turns, interrupts, want) in [
         (3, false, Err(RunFault::Read)),
         (6, false, Err(RunFault::Read)),
@@ -78,13 +163,14 @@ fn turns_bound_the_calls(rt: HostRuntime) -> Result<(), std::alloc::AllocError> 
             }),
         ),
     ] {
+        let mut desk = Register::new(rt.alloc(), LIMITS)?;
         let mut reader = Slow {
             rest: b"count\n",
             interrupts,
             due: false,
         };
         let mut out = Vec::new(rt.alloc());
-        let ran = run(rt.alloc(), &mut reader, &mut out, 1, turns, &mut Untouched);
+        let ran = run(rt.alloc(), &mut reader, &mut out, 1, turns, &mut desk);
         assert!(rt; ran == want, "at {turns}");
         assert!(rt; out.is_empty() == (turns < 6), "text at {turns}");
     }
@@ -92,14 +178,16 @@ fn turns_bound_the_calls(rt: HostRuntime) -> Result<(), std::alloc::AllocError> 
 }
 
 #[test]
-fn a_writer_fails(rt: HostRuntime) {
+fn a_writer_fails(rt: HostRuntime) -> Result<(), Fail> {
     for room in 0..8usize {
+        let mut desk = Register::new(rt.alloc(), LIMITS)?;
         let mut reader = b"count\n".as_slice();
         let mut out = Full { room, taken: 0 };
-        let ran = run(rt.alloc(), &mut reader, &mut out, 1, 9, &mut Untouched);
+        let ran = run(rt.alloc(), &mut reader, &mut out, 1, 9, &mut desk);
         assert!(rt; ran == Err(RunFault::Write), "at {room}");
         assert!(rt; out.taken == room);
     }
+    Ok(())
 }
 
 /// Gives a line a call, once the one before it is answered.
@@ -147,7 +235,8 @@ impl<'a> Write for Counting<'a> {
 }
 
 #[test]
-fn a_line_is_answered_before_the_next(rt: HostRuntime) {
+fn a_line_is_answered_before_the_next(rt: HostRuntime) -> Result<(), Fail> {
+    let mut desk = Register::new(rt.alloc(), LIMITS)?;
     let answered = Cell::new(0);
     let mut reader = Asking {
         calls: 0,
@@ -157,34 +246,134 @@ fn a_line_is_answered_before_the_next(rt: HostRuntime) {
         lines: 0,
         answered: &answered,
     };
-    let ran = run(rt.alloc(), &mut reader, &mut writer, 1, 99, &mut Untouched);
+    let ran = run(rt.alloc(), &mut reader, &mut writer, 1, 99, &mut desk);
     assert!(rt;
         ran == Ok(Ran {
             lines: 5,
             troubled: false
         })
     );
+    Ok(())
+}
+
+/// Gives the rule, then half of the next line, and then fails.
+#[derive(Drop)]
+struct Broken<'a> {
+    parts: &'a [&'a str],
+}
+
+impl<'a> Read for Broken<'a> {
+    fn read(&mut self, buf: &mut [u8]) -> io::Result<usize> {
+        let [part, parts @ ..] = self.parts else {
+            return Err(io::Error::from(ErrorKind::ConnectionReset));
+        };
+        if buf.len() < part.len() {
+            return Ok(0);
+        }
+        self.parts = parts;
+        buf[..part.len()].copy_from_slice(part.as_bytes());
+        Ok(part.len())
+    }
 }
 
 #[test]
-fn lines_are_answered(rt: HostRuntime) -> Result<(), std::alloc::AllocError> {
-    let mut text = Vec::new(rt.alloc());
-    text.extend_from_slice(b"count\r\n# a comment\n\nCount\ncount \n")?;
-    for _ in 0..1025 {
-        text.push(b'#')?;
-    }
-    text.extend_from_slice(b"\ncount\r")?;
-    let mut reader = text.as_slice();
+fn a_reader_fails(rt: HostRuntime) -> Result<(), Fail> {
+    let mut desk = Register::new(rt.alloc(), LIMITS)?;
+    let mut reader = Broken {
+        parts: &["1 0 rule 234-14-0/24 1 99 1 3600\n", "2 10 mm 234-14"],
+    };
     let mut out = Vec::new(rt.alloc());
-    let ran = run(rt.alloc(), &mut reader, &mut out, 1, 99, &mut Untouched);
-    assert!(rt;
-        ran == Ok(Ran {
-            lines: 7,
-            troubled: true
-        })
-    );
-    let wanted =
-        b"count 0\nline 4 bad syntax\nline 5 bad syntax\nline 6 bad too-long\nline 7 bad syntax\n";
-    assert!(rt; out.as_slice() == wanted.as_slice());
+    let ran = run(rt.alloc(), &mut reader, &mut out, 1, 9, &mut desk);
+    assert!(rt; ran == Err(RunFault::Read));
+    assert_eq!(rt; out.as_slice(), b"1 ok 1 -\n".as_slice());
+    assert_eq!(rt; desk.count(), 1);
+    Ok(())
+}
+
+/// How a run goes whose own memory is of so many bytes.
+fn in_little_memory(
+    rt: &HostRuntime,
+    bytes: usize,
+) -> Result<(Result<Ran, RunFault>, Vec<u8>), Fail> {
+    let heap = LocalHeap::new(rt.alloc(), bytes)?;
+    let mut desk = Register::new(rt.alloc(), LIMITS)?;
+    let mut reader = RULE_ATTACH_COUNT.as_bytes();
+    let mut out = Vec::new(rt.alloc());
+    let ran = run(&heap, &mut reader, &mut out, 1, 9, &mut desk);
+    Ok((ran, out))
+}
+
+#[test]
+fn little_memory_is_told(rt: HostRuntime) -> Result<(), Fail> {
+    let (mut none, mut some, mut ample) = (false, false, false);
+    for bytes in 1600..2400usize {
+        let (ran, out) = in_little_memory(&rt, bytes)?;
+        match ran {
+            Err(fault) => {
+                assert!(rt; fault == RunFault::NoMemory && out.is_empty());
+                none = true;
+            }
+            Ok(
+                Ran {
+                    lines,
+                    troubled: true,
+                },
+            ) => {
+                assert_eq!(rt; lines, 3);
+                assert_eq!(rt;
+                    out.as_slice(),
+                    b"1 ok 1 -\n2 no memory\ncount 1\n".as_slice()
+                );
+                some = true;
+            }
+            Ok(
+                Ran {
+                    lines,
+                    troubled: false,
+                },
+            ) => {
+                assert_eq!(rt; lines, 3);
+                assert_eq!(rt;
+                    out.as_slice(),
+                    b"1 ok 1 -\n2 ok 2 8:56\ncount 2\n".as_slice()
+                );
+                ample = true;
+            }
+        }
+    }
+    assert!(rt; none && some && ample);
+    Ok(())
+}
+
+/// How many bytes of a heap a register needs from the start, and what a run over one of `bytes` gives.
+fn over_a_little_register(rt: &HostRuntime, bytes: usize) -> Result<Option<Vec<u8>>, Fail> {
+    let heap = LocalHeap::new(rt.alloc(), bytes)?;
+    let Ok(mut desk) = Register::new(&heap, LIMITS) else {
+        return Ok(None);
+    };
+    let mut reader = RULE_ATTACH_COUNT.as_bytes();
+    let mut out = Vec::new(rt.alloc());
+    run(rt.alloc(), &mut reader, &mut out, 1, 9, &mut desk)?;
+    Ok(Some(out))
+}
+
+#[test]
+fn a_little_register_goes_on(rt: HostRuntime) -> Result<(), Fail> {
+    let (mut first, mut second, mut ample) = (false, false, false);
+    for bytes in 0..4096usize {
+        let Some(out) = over_a_little_register(&rt, bytes)? else {
+            continue;
+        };
+        let out = out.as_slice();
+        if out == b"1 no memory\n2 no unknown-identity 14:7610\ncount 0\n".as_slice() {
+            first = true;
+        } else if out == b"1 ok 1 -\n2 no memory\ncount 1\n".as_slice() {
+            second = true;
+        } else {
+            assert_eq!(rt; out, b"1 ok 1 -\n2 ok 2 8:56\ncount 2\n".as_slice());
+            ample = true;
+        }
+    }
+    assert!(rt; first && second && ample);
     Ok(())
 }

@@ -1,12 +1,26 @@
-use Rattle.std.proofs.Common.{◌+◌, ◌++◌, ◌<◌, List, ℕ, length, take, drop, subst}
-use Rattle.console.specs.Dialogue.{RunsShort}
-use Rattle.console.proofs.Sending.{on_err_true, rejoin}
+use Rattle.std.proofs.Common.{◌++◌, ◌+◌, take, drop, arith}
+use Rattle.console.proofs.Parts.{on_err_true, left_behind, taken_more, taken_before}
+use Rattle.console.proofs.Going.{short_of, short_same, going_same}
 use Rattle.console.proofs.serving.take_piece.Goals as goal
 
-pub returns-in_err-take_byte-clause-err : goal.returns-in_err-take_byte-clause-err
-returns-in_err-take_byte-clause-err g c = on_err_true c.from_residual.result (λ s before taken rest i.
-    let piece = c.args.piece.now in let at = c.loop-byte.byte-index in
-    let inside : at < length piece = c.loop-byte-test.true in
-    subst (λ (all : List ℕ). RunsShort g.D.Desk.rules c.args.station s all before (g.W.Write.contents c.take_byte.new.writer) (g.D.Desk.world c.take_byte.new.desk))
-    (rejoin taken piece rest at inside)
-    (c.in_err-take_byte.ensures.err s before (taken ++ take at piece) (drop (at + 1) piece ++ rest) (c.loop-byte.invariant.1 s before taken i)))
+pub returns-in_err-take_line-clause-err : goal.returns-in_err-take_line-clause-err
+returns-in_err-take_line-clause-err g c = on_err_true c.from_residual.result (λ s before taken rest i.
+    let piece = c.args.piece.now in let at = c.loop-end.at in let end = c.in-Some.end in let there = c.in-Some.ensures in
+    short_same g.D.Desk.rules c.args.station s before _ _ (g.W.Write.contents c.take_line.new.writer) (g.D.Desk.world c.take_line.new.desk)
+    (taken_before taken piece rest at end 10 there.0 there.1 there.3)
+    (c.in_err-take_line.ensures.err s before (taken ++ take at piece) (drop (end + 1) piece ++ rest) (c.loop-end.invariant.2 s before taken i)))
+
+pub loop-end-preserved : goal.loop-end-preserved
+loop-end-preserved g c = let piece = c.args.piece.now in let at = c.loop-end.at in let end = c.in-Some.end in let there = c.in-Some.ensures in (
+  omega (arith, there.1),
+  omega (arith, c.take_line.ensures.lines, c.loop-end.invariant.1, there.0),
+  λ s before taken i. going_same g.D.Desk.rules c.args.station s before _ _ c.take_line.new.progress (g.W.Write.contents c.take_line.new.writer) (g.D.Desk.world c.take_line.new.desk)
+      (taken_more taken piece at end 10 there.0 there.1 there.3)
+      (c.in_ok-take_line.ensures.ok s before (taken ++ take at piece) (c.loop-end.invariant.2 s before taken i)),
+)
+
+pub returns-clause-err : goal.returns-clause-err
+returns-clause-err g c = on_err_true c.keep.result (λ s before taken rest i.
+    let piece = c.args.piece.now in let at = c.loop-end.at in
+    short_of g.D.Desk.rules c.args.station s before (taken ++ take at piece) (drop at piece ++ rest) _ c.loop-end.progress (g.W.Write.contents c.loop-end.writer) (g.D.Desk.world c.loop-end.desk)
+    (left_behind taken piece rest at) (c.loop-end.invariant.2 s before taken i))

@@ -1,0 +1,5 @@
+pub mod RegisteredLaws
+pub mod StepLaws
+pub mod StateLaws
+pub mod ResendLaws
+pub mod UpdateLaws

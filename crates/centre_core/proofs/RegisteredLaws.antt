@@ -1,0 +1,63 @@
+-- Changes of rules and radios keep the limits.
+use Rattle.std.proofs.Common.{◌≡◌, ℕ, ◌+◌, ◌≤◌, Bool, true, false, refl, sym, subst, ap, ◌∙◌, arith, Option, Some, None}
+use Rattle.std.specs.Prelude.{nat_lt, if◌then◌else◌}
+use Rattle.std.specs.Option.{is_some}
+use Rattle.std.specs.FinMap as map
+use Rattle.std.proofs.lemmas.Bool.Decides.{nat_tests}
+use Rattle.identity.specs.Path.{Path, path_cmp, id_path}
+use Rattle.identity.specs.PathLaws.{paths_total}
+use Rattle.prefix_tree.specs.Table.{PathMap}
+use Rattle.mm_pdus.specs.declared.update.LocationUpdateType.{LocationUpdateType}
+use Rattle.registration.specs.declared.limits.Limits.{Limits}
+use Rattle.registration.specs.declared.rule.Rule.{Rule}
+use Rattle.registration.specs.declared.radio.Radio.{Radio}
+use Rattle.registration.specs.declared.fault.RegFault.{RegFault}
+use Rattle.registration.specs.declared.fault.RegFault.TheVariants.{RulesFull, Congestion}
+use Rattle.registration.specs.Registered.{Registered, empty_registered, rule_of, radio_of, set_refusal, with_rule, type_refusal, area_refusal, room_refusal, first_of_three, locate_refusal, located, detached_at, detached, absent}
+use Rattle.centre_core.specs.State.{IsWithin}
+
+room : (known free : Bool) (n limit : ℕ) (full : RegFault) → free ≡ nat_lt n limit → (if known then None else (if free then None else Some full)) ≡ None → n ≤ limit → (if known then n else n + 1) ≤ limit
+room true free n limit full e h fits = fits
+room false true n limit full e h fits = grind (arith, nat_tests)
+room false false n limit full e h fits = cc
+
+-- one more entry fits, or one is replaced
+room_for : {V : Type 0} (m : PathMap V) (k : Path) (v : V) (limit : ℕ) (full : RegFault) → (if is_some (map.get m k) then None else (if nat_lt (map.len m) limit then None else Some full)) ≡ None → map.len m ≤ limit → map.len (map.insert m k v) ≤ limit
+room_for m k v limit full h fits = subst (λ n. n ≤ limit) (sym (map.len-insert paths_total m k v)) (room (is_some (map.get m k)) (nat_lt (map.len m) limit) (map.len m) limit full refl h fits)
+
+pub with_rule_within : (r : Registered) (prefix : Path) (rule : Rule) → set_refusal r prefix ≡ None → IsWithin r → IsWithin (with_rule r prefix rule)
+with_rule_within r prefix rule none h = (room_for r.rules prefix rule r.limits.rules RulesFull none h.0, h.1)
+
+none_of_three : (e f g : Option RegFault) → first_of_three e f g ≡ None → g ≡ None
+none_of_three (Some e) f g h = cc
+none_of_three None (Some f) g h = cc
+none_of_three None None g h = h
+
+pub located_within : (r : Registered) (itsi station area : ℕ) (update : LocationUpdateType) → locate_refusal r itsi area update ≡ None → IsWithin r → IsWithin (located r itsi station area)
+located_within r itsi station area update none h =
+    (h.0, room_for r.radios (id_path itsi) _ r.limits.radios Congestion (none_of_three (type_refusal update) (area_refusal (rule_of r itsi) area) (room_refusal r itsi) none) h.1)
+
+detached_at_within : (r : Registered) (itsi : ℕ) (radio : Option Radio) → radio_of r itsi ≡ radio → IsWithin r → IsWithin (detached_at r itsi radio)
+detached_at_within r itsi None e h = h
+detached_at_within r itsi (Some radio) e h =
+    (h.0, subst (λ n. n ≤ r.limits.radios) (sym (map.len-insert paths_total r.radios (id_path itsi) (absent radio) ∙ ap (λ o. if is_some o then map.len r.radios else (map.len r.radios + 1)) e)) h.1)
+
+pub detached_within : (r : Registered) (itsi : ℕ) → IsWithin r → IsWithin (detached r itsi)
+detached_within r itsi h = detached_at_within r itsi (radio_of r itsi) refl h
+
+detached_at_limits : (r : Registered) (itsi : ℕ) (radio : Option Radio) → (detached_at r itsi radio).limits ≡ r.limits
+detached_at_limits r itsi None = refl
+detached_at_limits r itsi (Some radio) = refl
+
+pub detached_limits : (r : Registered) (itsi : ℕ) → (detached r itsi).limits ≡ r.limits
+detached_limits r itsi = detached_at_limits r itsi (radio_of r itsi)
+
+-- so too of any value that is known to be such a change
+pub set_within : (old new : Registered) (prefix : Path) (rule : Rule) → set_refusal old prefix ≡ None → new ≡ with_rule old prefix rule → IsWithin old → IsWithin new
+set_within old new prefix rule none e h = subst IsWithin (sym e) (with_rule_within old prefix rule none h)
+
+pub detach_within : (old new : Registered) (itsi : ℕ) → new ≡ detached old itsi → IsWithin old → IsWithin new
+detach_within old new itsi e h = subst IsWithin (sym e) (detached_within old itsi h)
+
+pub empty_within : (limits : Limits) → IsWithin (empty_registered limits)
+empty_within limits = (omega (arith, map.len-empty path_cmp Rule), omega (arith, map.len-empty path_cmp Radio))

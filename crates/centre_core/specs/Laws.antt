@@ -1,0 +1,42 @@
+-- What holds of the register over all commands and lists of commands.
+use Rattle.std.specs.Prelude.{◌≡◌, false, List, Some, None}
+use Rattle.mm_pdus.specs.declared.update.LocationUpdateType.{LocationUpdateType}
+use Rattle.mm_pdus.specs.declared.update.AcceptType.{AcceptType}
+use Rattle.mm_pdus.specs.declared.downlink.MmDown.TheVariants as down
+use Rattle.mm_pdus.specs.Values.{update_accepted}
+use Rattle.mm_pdus.specs.Downlink.{canon_down}
+use Rattle.registration.specs.Registered.{type_refusal}
+use Rattle.registration.specs.declared.limits.Limits.{Limits}
+use Rattle.centre_core.specs.declared.command.Command.{Command}
+use Rattle.centre_core.specs.State.{State, IsState, empty}
+use Rattle.centre_core.specs.Step.{step, accept_pdu}
+use Rattle.centre_core.specs.History.{is_acceptance, next, after, fresh}
+
+-- the D-LOCATION UPDATE ACCEPT that answers an update names its type
+pub record IsAnswered (update : LocationUpdateType) : Type 0 where
+  pub accept : AcceptType
+  pub same : update_accepted accept ≡ update
+  pub pdu : accept_pdu update ≡ Some (canon_down (down.Accept accept))
+
+abbrev pub AcceptedAreAnswered : Type 0
+AcceptedAreAnswered = (update : LocationUpdateType) → type_refusal update ≡ None → IsAnswered update
+
+abbrev pub EmptyIsState : Type 0
+EmptyIsState = (limits : Limits) → IsState (empty limits)
+
+module _ (A : Type 0) where
+  abbrev pub StepKeepsState : Type 0
+  StepKeepsState = (s : State) (c : Command A) → IsState s → IsState (next s c)
+
+  -- resends may be left out
+  abbrev pub ResendsAreIdle : Type 0
+  ResendsAreIdle = (s : State) → IsState s → (cs : List (Command A)) → after s cs ≡ after s (fresh s cs)
+
+module _ (A B : Type 0) where
+  -- a command that is refused, and one that comes again, change nothing
+  abbrev pub OnlyAcceptedChange : Type 0
+  OnlyAcceptedChange = (s : State) (c : Command A) → is_acceptance (step {B = B} s c).1 ≡ false → (step {B = B} s c).0 ≡ s
+
+  -- the state after a command is one, wherever its reply is kept
+  abbrev pub StepIsNext : Type 0
+  StepIsNext = (s : State) (c : Command A) → (step {B = B} s c).0 ≡ next s c

@@ -1,0 +1,40 @@
+//! What holds of the register over all commands and lists of commands, by its definitions alone.
+//! These functions do nothing: calling one gives its clauses.
+ghost use Rattle.centre_core.specs.State.{IsState};
+ghost use Rattle.centre_core.specs.Laws.{AcceptedAreAnswered, EmptyIsState, StepKeepsState, OnlyAcceptedChange, StepIsNext, ResendsAreIdle};
+
+use crate::Register;
+use std::alloc::Allocator;
+
+/// What holds of every state holds of the empty one, and a command keeps it.
+pub fn states<A: Allocator>()
+    ensures empty { EmptyIsState }
+    ensures step { StepKeepsState A }
+{}
+
+/// What holds of every state holds of each register.
+pub fn registers<A: Allocator>(register: &Register<A>)
+    ensures { IsState register.now }
+{
+    register.keep_state()
+}
+
+/// A command that is refused, and one that comes again, change nothing.
+pub fn only_accepted_change<A: Allocator, B: Allocator>()
+    ensures { OnlyAcceptedChange A B }
+{}
+
+/// The state after a command does not depend on where its reply is kept.
+pub fn step_is_next<A: Allocator, B: Allocator>()
+    ensures { StepIsNext A B }
+{}
+
+/// A list of commands does the same without its resends.
+pub fn resends<A: Allocator>()
+    ensures { ResendsAreIdle A }
+{}
+
+/// A location update whose type is not refused is accepted by a D-LOCATION UPDATE ACCEPT of that type.
+pub fn accepted_are_answered()
+    ensures { AcceptedAreAnswered }
+{}

@@ -1,0 +1,33 @@
+use identity::Bits;
+use mm_pdus::MmFault;
+use registration::RegFault;
+use std::alloc::Allocator;
+
+/// The answer to a command.
+#[derive(Drop)]
+pub enum Reply<A: Allocator> {
+    /// The command was accepted as the one of this number, counted from 1 over all stations. The
+    /// PDU goes back to the radio.
+    Accepted { number: u64, pdu: Option<Bits<A>> },
+    /// The station's last accepted command came again: its number and PDU, and nothing changed.
+    Kept { number: u64, pdu: Option<Bits<A>> },
+    /// Nothing changed.
+    Refused(Refusal<A>),
+}
+
+/// Why a command is refused.
+#[derive(Drop)]
+pub enum Refusal<A: Allocator> {
+    /// There is no station of that number.
+    UnknownStation,
+    /// The sequence is below that of the station's last accepted command.
+    OldSequence { last: u32 },
+    /// All 2 to the 62nd numbers of accepted commands are given out.
+    NumbersUsedUp,
+    /// The bits are no PDU that is supported.
+    Pdu(MmFault),
+    /// The rules or radios refuse it, and there is no PDU for the radio.
+    Registration(RegFault),
+    /// A location update is refused, with a D-LOCATION UPDATE REJECT for the radio.
+    Location { fault: RegFault, reject: Bits<A> },
+}

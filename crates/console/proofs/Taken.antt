@@ -1,0 +1,211 @@
+-- What spells a command or a query is taken for it.
+use Rattle.std.proofs.Common.{◌≡◌, ℕ, zero, suc, ◌-◌, ◌<◌, ◌≤◌, ◌^◌, Bool, true, false, List, [], ◌∷◌, ◌++◌, length, replicate, refl, sym, ◌∙◌, ap, subst, arith, Option, Some, nat_lt, nat_le}
+use Rattle.std.specs.Prelude.{◌==◌, codes, decimal}
+use Rattle.std.specs.Char.{is_ascii_digit, is_ascii_hexdigit}
+use Rattle.std.specs.List.{list_all}
+use Rattle.std.specs.Option.{option_and_then}
+use Rattle.std.specs.Result.{result_ok}
+use Rattle.std.proofs.lemmas.Grind.{common_steps}
+use Rattle.std.proofs.lemmas.Fmt.{decimal_nonempty}
+use Rattle.std.proofs.lemmas.List.Elements.{All-nil, All-cons, All-append}
+use Rattle.std.proofs.lemmas.List.Splits.{slice_split_at, slice_split_none}
+use Rattle.identity.specs.Number.{number}
+use Rattle.identity.specs.NumberLaws.{number-lt}
+use Rattle.identity.specs.Path.{Path, left_aligned}
+use Rattle.identity.specs.Identity.{mcc_of, mnc_of, ssi_of}
+use Rattle.identity.specs.IdentityText.{identity_text, prefix_text, reading_identity, reading_prefix}
+use Rattle.identity.specs.BitsText.{SpellsBits, reading_bits}
+use Rattle.identity.proofs.NumberText.{and_left, and_right, all_of_number}
+use Rattle.identity.proofs.Texts.{reading_number_again, number_of_decimal}
+use Rattle.identity.proofs.IdentityTexts.{reading_identity_again, reading_prefix_again}
+use Rattle.identity.proofs.BitsTexts.{reading_bits_again}
+use Rattle.mm_pdus.specs.declared.lifetime.Lifetime.{Lifetime}
+use Rattle.mm_pdus.specs.declared.lifetime.Lifetime.TheVariants.{NotNeeded, NextItsiAttach, NotAllowedAtNextItsiAttach, NextLocationUpdate}
+use Rattle.mm_pdus.specs.Values.{lifetime_of, lifetime_number}
+use Rattle.registration.specs.Terms.{Terms}
+use Rattle.centre_core.specs.declared.command.Body.{Body}
+use Rattle.centre_core.specs.declared.command.Body.TheVariants.{RuleSet, Mm}
+use Rattle.centre_core.specs.declared.query.Query.TheVariants.{Whereabouts, Total}
+use Rattle.console.specs.declared.line.Line.{Line}
+use Rattle.console.specs.declared.line.Line.TheVariants.{Order, Ask}
+use Rattle.console.specs.Reading.{Lacks, words, of_words, reading, is_silent, seconds_in, not_zero, sequence_in, area_in, lifetime_in, rule_of, rule_in, rule_order, mm_order, where_query}
+use Rattle.console.specs.Spelling.{spaced, SpellsBody, query_text, BodyInRange, AllCommands, AllQueries}
+use Rattle.console.proofs.Lines.{is_space}
+
+-- ---- no space in a word
+
+digit_is_no_space : (c : ℕ) → is_ascii_digit c ≡ true → (c == 32) ≡ false
+digit_is_no_space c e = grind (arith, e)
+
+hexdigit_is_no_space : (c : ℕ) → is_ascii_hexdigit c ≡ true → (c == 32) ≡ false
+hexdigit_is_no_space c e = grind (arith, e)
+
+digits_lack : (ds : List ℕ) → list_all is_ascii_digit ds ≡ true → Lacks 32 ds
+digits_lack [] e = All-nil (λ b. (b == 32) ≡ false)
+digits_lack (c ∷ ds) e = All-cons (λ b. (b == 32) ≡ false) c ds (digit_is_no_space c (and_left (is_ascii_digit c) (list_all is_ascii_digit ds) e)) (digits_lack ds (and_right (is_ascii_digit c) (list_all is_ascii_digit ds) e))
+
+hexdigits_lack : (ds : List ℕ) → list_all is_ascii_hexdigit ds ≡ true → Lacks 32 ds
+hexdigits_lack [] e = All-nil (λ b. (b == 32) ≡ false)
+hexdigits_lack (c ∷ ds) e = All-cons (λ b. (b == 32) ≡ false) c ds (hexdigit_is_no_space c (and_left (is_ascii_hexdigit c) (list_all is_ascii_hexdigit ds) e)) (hexdigits_lack ds (and_right (is_ascii_hexdigit c) (list_all is_ascii_hexdigit ds) e))
+
+decimal_digits : (n : ℕ) → n < 2 ^ 64 → list_all is_ascii_digit (decimal n) ≡ true
+decimal_digits n small = all_of_number (decimal n) (number_of_decimal n small)
+
+decimal_lacks : (n : ℕ) → n < 2 ^ 64 → Lacks 32 (decimal n)
+decimal_lacks n small = digits_lack (decimal n) (decimal_digits n small)
+
+rule_lacks : Lacks 32 (codes "rule")
+rule_lacks = All-cons (λ b. (b == 32) ≡ false) 114 (codes "ule") refl (All-cons (λ b. (b == 32) ≡ false) 117 (codes "le") refl (All-cons (λ b. (b == 32) ≡ false) 108 (codes "e") refl (All-cons (λ b. (b == 32) ≡ false) 101 [] refl (All-nil (λ b. (b == 32) ≡ false)))))
+
+mm_lacks : Lacks 32 (codes "mm")
+mm_lacks = All-cons (λ b. (b == 32) ≡ false) 109 (codes "m") refl (All-cons (λ b. (b == 32) ≡ false) 109 [] refl (All-nil (λ b. (b == 32) ≡ false)))
+
+where_lacks : Lacks 32 (codes "where")
+where_lacks = All-cons (λ b. (b == 32) ≡ false) 119 (codes "here") refl (All-cons (λ b. (b == 32) ≡ false) 104 (codes "ere") refl (All-cons (λ b. (b == 32) ≡ false) 101 (codes "re") refl (All-cons (λ b. (b == 32) ≡ false) 114 (codes "e") refl (All-cons (λ b. (b == 32) ≡ false) 101 [] refl (All-nil (λ b. (b == 32) ≡ false))))))
+
+count_lacks : Lacks 32 (codes "count")
+count_lacks = All-cons (λ b. (b == 32) ≡ false) 99 (codes "ount") refl (All-cons (λ b. (b == 32) ≡ false) 111 (codes "unt") refl (All-cons (λ b. (b == 32) ≡ false) 117 (codes "nt") refl (All-cons (λ b. (b == 32) ≡ false) 110 (codes "t") refl (All-cons (λ b. (b == 32) ≡ false) 116 [] refl (All-nil (λ b. (b == 32) ≡ false))))))
+
+-- two words around a mark
+marked_lack : (a b : List ℕ) (mark : ℕ) → (mark == 32) ≡ false → Lacks 32 a → Lacks 32 b → Lacks 32 (a ++ mark ∷ b)
+marked_lack a b mark other la lb = All-append (λ b. (b == 32) ≡ false) a (mark ∷ b) la (All-cons (λ b. (b == 32) ≡ false) mark b other lb)
+
+identity_lacks : (n : ℕ) → n < 2 ^ 48 → Lacks 32 (identity_text n)
+unfolding identity_text
+identity_lacks n small = marked_lack (decimal (mcc_of n) ++ 45 ∷ decimal (mnc_of n)) (decimal (ssi_of n)) 45 refl
+    (marked_lack (decimal (mcc_of n)) (decimal (mnc_of n)) 45 refl (decimal_lacks (mcc_of n) (omega (arith, small))) (decimal_lacks (mnc_of n) (omega (arith, small))))
+    (decimal_lacks (ssi_of n) (omega (arith, small)))
+
+aligned_below : (p : Path) → length p ≤ 48 → left_aligned p < 2 ^ 48
+unfolding left_aligned
+aligned_below p few =
+    let whole : length (p ++ replicate (48 - length p) false) ≡ 48 = grind (arith, common_steps, few) in
+    subst (λ (n : ℕ). number (p ++ replicate (48 - length p) false) < 2 ^ n) whole (number-lt (p ++ replicate (48 - length p) false))
+
+prefix_lacks : (p : Path) → length p ≤ 48 → Lacks 32 (prefix_text p)
+unfolding prefix_text
+prefix_lacks p few = marked_lack (identity_text (left_aligned p)) (decimal (length p)) 47 refl (identity_lacks (left_aligned p) (aligned_below p few)) (decimal_lacks (length p) (omega (arith, few)))
+
+bits_lack : (text : List ℕ) (bits : List Bool) → length bits ≤ 2048 → SpellsBits text bits → Lacks 32 text
+bits_lack text bits few spelt =
+    subst (Lacks 32) (sym spelt.spelt) (marked_lack (decimal (length bits)) spelt.digits 58 refl (decimal_lacks (length bits) (omega (arith, few))) (hexdigits_lack spelt.digits spelt.hexadecimal))
+
+-- ---- words with single spaces between them
+
+abbrev pub AllLack : List (List ℕ) → Type 0
+AllLack [] = Unit {0}
+AllLack (w ∷ ws) = Lacks 32 w × AllLack ws
+
+words_back : (w : List ℕ) (ws : List (List ℕ)) → AllLack (w ∷ ws) → words (spaced (w ∷ ws)) ≡ w ∷ ws
+words_back w [] lack = slice_split_none is_space w lack.0
+words_back w (v ∷ vs) lack = slice_split_at is_space w 32 (spaced (v ∷ vs)) lack.0 refl ∙ ap (λ more. w ∷ more) (words_back v vs lack.1)
+
+-- ---- one word
+
+seconds_again : (n : ℕ) → n < 2 ^ 32 → seconds_in (decimal n) ≡ Some n
+seconds_again n small = ap result_ok (reading_number_again 4294967295 n (omega (arith, small)) (omega arith))
+
+not_zero_again : (n : ℕ) → 0 < n → not_zero n ≡ Some n
+not_zero_again zero some = absurd (omega (arith, some))
+not_zero_again (suc n) some = refl
+
+sequence_again : (n : ℕ) → 0 < n → n < 2 ^ 32 → sequence_in (decimal n) ≡ Some n
+sequence_again n some small = ap (λ o. option_and_then not_zero o) (seconds_again n small) ∙ not_zero_again n some
+
+area_again : (n : ℕ) → n < 2 ^ 14 → area_in (decimal n) ≡ Some n
+area_again n small = ap result_ok (reading_number_again 16383 n (omega (arith, small)) (omega arith))
+
+lifetime_small : (life : Lifetime) → lifetime_number life ≤ 3
+lifetime_small NotNeeded = omega arith
+lifetime_small NextItsiAttach = omega arith
+lifetime_small NotAllowedAtNextItsiAttach = omega arith
+lifetime_small NextLocationUpdate = omega arith
+
+lifetime_back : (life : Lifetime) → lifetime_of (lifetime_number life) ≡ Some life
+lifetime_back NotNeeded = refl
+lifetime_back NextItsiAttach = refl
+lifetime_back NotAllowedAtNextItsiAttach = refl
+lifetime_back NextLocationUpdate = refl
+
+lifetime_again : (life : Lifetime) → lifetime_in (decimal (lifetime_number life)) ≡ Some life
+lifetime_again life = ap (λ r. option_and_then lifetime_of (result_ok r)) (reading_number_again 3 (lifetime_number life) (lifetime_small life) (omega arith)) ∙ lifetime_back life
+
+rule_again : (rule : Terms) → rule.low ≤ rule.high → rule_of (Some rule.low) (Some rule.high) (Some rule.lifetime) (Some rule.keep) ≡ Some rule
+rule_again rule order = let le : nat_le rule.low rule.high ≡ true = grind (arith, order) in rw le refl
+
+rules_same : (rule : Terms) (low high : Option ℕ) (life : Option Lifetime) (keep : Option ℕ) → rule.low ≤ rule.high →
+    low ≡ Some rule.low → high ≡ Some rule.high → life ≡ Some rule.lifetime → keep ≡ Some rule.keep → rule_of low high life keep ≡ Some rule
+rules_same rule low high life keep order e f g h = rw (e, f, g, h) (rule_again rule order)
+
+-- ---- lines
+
+first_speaks : (ds rest : List ℕ) → list_all is_ascii_digit ds ≡ true → 0 < length ds → is_silent (ds ++ rest) ≡ false
+first_speaks [] rest all some = absurd (omega (arith, some))
+first_speaks (c ∷ ds) rest all some = let digit = and_left (is_ascii_digit c) (list_all is_ascii_digit ds) all in grind (arith, digit)
+
+module _ {A : Type 0} where
+  passes : (station : ℕ) (line : List ℕ) (said : Line A) → length line ≤ 1024 → is_silent line ≡ false → of_words station (words line) ≡ said → reading station line ≡ said
+  passes station line said short speaks is = let fits : nat_lt 1024 (length line) ≡ false = grind (arith, short) in rw (fits, speaks) is
+
+  mm_same : (station s m i a : ℕ) (p : List Bool) (s' m' i' a' : Option ℕ) (p' : Option (List Bool)) → s' ≡ Some s → m' ≡ Some m → i' ≡ Some i → a' ≡ Some a → p' ≡ Some p →
+      mm_order {A = A} station s' m' i' a' p' ≡ Order (record { station = station; sequence = s; moment = m; body = Mm i a p })
+  mm_same station s m i a p s' m' i' a' p' es em ei ea ep = rw (es, em, ei, ea, ep) refl
+
+  rule_same : (station s m : ℕ) (p : Path) (r : Terms) (s' m' : Option ℕ) (p' : Option Path) (r' : Option Terms) → s' ≡ Some s → m' ≡ Some m → p' ≡ Some p → r' ≡ Some r →
+      rule_order {A = A} station s' m' p' r' ≡ Order (record { station = station; sequence = s; moment = m; body = RuleSet p r })
+  rule_same station s m p r s' m' p' r' es em ep er = rw (es, em, ep, er) refl
+
+  abbrev pub IsTaken : ℕ → ℕ → ℕ → Body A → List (List ℕ) → Type 0
+  IsTaken station s m b body =
+      (of_words station (decimal s ∷ decimal m ∷ body) ≡ Order (record { station = station; sequence = s; moment = m; body = b })) × AllLack body
+
+  body_taken : (station s m : ℕ) (b : Body A) (body : List (List ℕ)) → 0 < s → s < 2 ^ 32 → m < 2 ^ 32 → BodyInRange b → SpellsBody b body → IsTaken station s m b body
+  body_taken station s m (RuleSet prefix rule) body some small_s small_m range spelt =
+      let high_low : rule.low < 2 ^ 14 = omega (arith, range.1, range.2) in
+      subst (λ (ws : List (List ℕ)). IsTaken station s m (RuleSet prefix rule) ws) (sym spelt) (
+        rule_same station s m prefix rule (sequence_in (decimal s)) (seconds_in (decimal m)) (result_ok (reading_prefix (prefix_text prefix)))
+            (rule_in (decimal rule.low) (decimal rule.high) (decimal (lifetime_number rule.lifetime)) (decimal rule.keep))
+            (sequence_again s some small_s) (seconds_again m small_m) (ap result_ok (reading_prefix_again prefix range.0))
+            (rules_same rule (area_in (decimal rule.low)) (area_in (decimal rule.high)) (lifetime_in (decimal (lifetime_number rule.lifetime))) (seconds_in (decimal rule.keep)) range.1
+            (area_again rule.low high_low) (area_again rule.high range.2) (lifetime_again rule.lifetime) (seconds_again rule.keep range.3)),
+        (
+          rule_lacks,
+          (
+            prefix_lacks prefix range.0,
+            (
+              decimal_lacks rule.low (omega (arith, high_low)),
+              (
+                decimal_lacks rule.high (omega (arith, range.2)),
+                (decimal_lacks (lifetime_number rule.lifetime) (omega (arith, lifetime_small rule.lifetime)), (decimal_lacks rule.keep (omega (arith, range.3)), tt)),
+              ),
+            ),
+          ),
+        ),
+      )
+  body_taken station s m (Mm itsi area pdu) body some small_s small_m range spelt =
+      subst (λ (ws : List (List ℕ)). IsTaken station s m (Mm itsi area pdu) ws) (sym spelt.2) (
+        mm_same station s m itsi area pdu (sequence_in (decimal s)) (seconds_in (decimal m)) (result_ok (reading_identity (identity_text itsi))) (area_in (decimal area)) (result_ok (reading_bits spelt.0))
+            (sequence_again s some small_s) (seconds_again m small_m) (ap result_ok (reading_identity_again itsi range.0)) (area_again area range.1) (ap result_ok (reading_bits_again pdu spelt.0 range.2 spelt.1)),
+        (mm_lacks, (identity_lacks itsi range.0, (decimal_lacks area (omega (arith, range.1)), (bits_lack spelt.0 pdu range.2 spelt.1, tt)))),
+      )
+
+  pub all_commands : AllCommands A
+  all_commands line c range spelt short =
+      let s = c.sequence in let m = c.moment in let body = spelt.0 in
+      let small_s : s < 2 ^ 64 = omega (arith, range.1) in
+      let small_m : m < 2 ^ 64 = omega (arith, range.2) in
+      let taken = body_taken c.station s m c.body body range.0 range.1 range.2 range.3 spelt.1 in
+      let split : words line ≡ decimal s ∷ decimal m ∷ body = ap words spelt.2 ∙ words_back (decimal s) (decimal m ∷ body) (decimal_lacks s small_s, (decimal_lacks m small_m, taken.1)) in
+      let speaks : is_silent line ≡ false = ap is_silent spelt.2 ∙ first_speaks (decimal s) (32 ∷ spaced (decimal m ∷ body)) (decimal_digits s small_s) (decimal_nonempty s small_s) in
+      passes c.station line (Order c) short speaks (ap (λ ws. of_words c.station ws) split ∙ taken.0)
+
+  asked : (station : ℕ) (o : Option ℕ) (itsi : ℕ) → o ≡ Some itsi → where_query {A = A} o ≡ Ask (Whereabouts itsi)
+  asked station o itsi e = rw e refl
+
+  pub all_queries : AllQueries A
+  all_queries station (Whereabouts itsi) small short =
+      passes station (query_text (Whereabouts itsi)) (Ask (Whereabouts itsi)) short refl
+      (ap (λ ws. of_words station ws) (words_back (codes "where") (identity_text itsi ∷ []) (where_lacks, (identity_lacks itsi small, tt)))
+      ∙ asked station (result_ok (reading_identity (identity_text itsi))) itsi (ap result_ok (reading_identity_again itsi small)))
+  all_queries station Total small short =
+      passes station (codes "count") (Ask Total) short refl (ap (λ ws. of_words station ws) (words_back (codes "count") [] (count_lacks, tt)))

@@ -1,0 +1,8 @@
+use Rattle.console.proofs.Taken.{all_commands, all_queries}
+use Rattle.console.proofs.laws.all_that_is_spelled.Goals as goal
+
+pub returns-clause-commands : goal.returns-clause-commands
+returns-clause-commands g c = all_commands
+
+pub returns-clause-queries : goal.returns-clause-queries
+returns-clause-queries g c = all_queries

@@ -1,0 +1,8 @@
+use Rattle.console.proofs.Spelled.{only_commands, only_queries}
+use Rattle.console.proofs.laws.only_what_is_spelled.Goals as goal
+
+pub returns-clause-commands : goal.returns-clause-commands
+returns-clause-commands g c = only_commands
+
+pub returns-clause-queries : goal.returns-clause-queries
+returns-clause-queries g c = only_queries

@@ -1,0 +1,100 @@
+-- Hexadecimal digits and the bits that they stand for.
+use Rattle.std.proofs.Common.{◌≡◌, ℕ, zero, suc, ◌+◌, ◌-◌, ◌*◌, ◌/◌, ◌%◌, ◌^◌, ◌<◌, min, Bool, true, List, [], ◌∷◌, ◌++◌, length, take, drop, get_or, nat_eq, refl, sym, ap, ◌∙◌, arith}
+use Rattle.std.specs.Prelude.{◌==◌}
+use Rattle.std.specs.Char.{digit_value, is_ascii_hexdigit}
+use Rattle.std.specs.List.{list_all}
+use Rattle.std.proofs.lemmas.List.{append-nil, take_min, take_all, take_more, drop_at, drop-drop, length-append, length-take}
+use Rattle.std.proofs.lemmas.List.Concat.{flat_map-append}
+use Rattle.std.proofs.lemmas.Nat.{one_shl}
+use Rattle.identity.specs.Number.{num, number}
+use Rattle.identity.specs.NumberLaws.{length-num, number-num_mod, take-num, drop-num}
+use Rattle.identity.specs.BitsText.{digit_bits}
+use Rattle.identity.proofs.NumberText.{and_left, and_right}
+
+pub length-digit_bits : (digits : List ℕ) → length (digit_bits digits) ≡ 4 * length digits
+unfolding digit_bits
+length-digit_bits [] = refl
+length-digit_bits (c ∷ digits) = omega (arith, length-append (num 4 (digit_value c)) (digit_bits digits), length-num 4 (digit_value c), length-digit_bits digits)
+
+pub digit_bits-append : (front back : List ℕ) → digit_bits (front ++ back) ≡ digit_bits front ++ digit_bits back
+unfolding digit_bits
+digit_bits-append front back = flat_map-append (λ c. num 4 (digit_value c)) front back
+
+one_digit : (c : ℕ) → digit_bits (c ∷ []) ≡ num 4 (digit_value c)
+unfolding digit_bits
+one_digit c = append-nil (num 4 (digit_value c))
+
+pub digit_bits_more : (digits : List ℕ) (i : ℕ) → i < length digits → digit_bits (take (i + 1) digits) ≡ digit_bits (take i digits) ++ num 4 (digit_value (get_or digits i 0))
+digit_bits_more digits i inside =
+    ap digit_bits (take_more digits i 0 inside) ∙ digit_bits-append (take i digits) (get_or digits i 0 ∷ []) ∙ ap (λ (l : List Bool). digit_bits (take i digits) ++ l) (one_digit (get_or digits i 0))
+
+-- past a first part
+drop_past : (front back : List Bool) (n : ℕ) → drop (length front + n) (front ++ back) ≡ drop n back
+drop_past front back n = sym (drop-drop n (length front) (front ++ back)) ∙ ap (drop n) (drop_at front back (length front) refl)
+
+take_past : (front back : List Bool) (n : ℕ) → take (length front + n) (front ++ back) ≡ front ++ take n back
+take_past [] back n = let e : 0 + n ≡ n = omega arith in ap (λ (m : ℕ). take m back) e
+take_past (b ∷ front) back n = let e : suc (length front) + n ≡ suc (length front + n) = omega arith in ap (λ (m : ℕ). take m (b ∷ front ++ back)) e ∙ ap (λ (l : List Bool). b ∷ l) (take_past front back n)
+
+-- the bits that fill the last digit
+pub last_bits : (digits : List ℕ) (fill : ℕ) → 0 < length digits → fill < 4
+    → drop (4 * length digits - fill) (digit_bits digits) ≡ num fill (digit_value (get_or digits (length digits - 1) 0))
+last_bits digits fill some few =
+    let i = length digits - 1 in
+    let c = get_or digits i 0 in
+    let whole : digit_bits digits ≡ digit_bits (take i digits) ++ num 4 (digit_value c) = ap digit_bits (sym (take_all (i + 1) digits (omega arith))) ∙ digit_bits_more digits i (omega arith) in
+    let place : 4 * length digits - fill ≡ length (digit_bits (take i digits)) + (4 - fill) = omega (arith, length-digit_bits (take i digits), length-take i digits) in
+    let rest : 4 - (4 - fill) ≡ fill = omega arith in
+    ap (λ (n : ℕ). drop n (digit_bits digits)) place
+    ∙ ap (drop (length (digit_bits (take i digits)) + (4 - fill))) whole
+    ∙ drop_past (digit_bits (take i digits)) (num 4 (digit_value c)) (4 - fill)
+    ∙ drop-num (4 - fill) 4 (digit_value c) (omega arith)
+    ∙ ap (λ (n : ℕ). num n (digit_value c)) rest
+
+-- the test of the last digit
+pub zeros_at_end : (digits : List ℕ) (fill v : ℕ) → 0 < length digits → fill < 4 → v ≡ digit_value (get_or digits (length digits - 1) 0)
+    → nat_eq (v % (1 * 2 ^ fill % 2 ^ 64)) 0 ≡ (number (drop (4 * length digits - fill) (digit_bits digits)) == 0)
+zeros_at_end digits fill v some few is =
+    let bits : drop (4 * length digits - fill) (digit_bits digits) ≡ num fill v = last_bits digits fill some few ∙ ap (num fill) (sym is) in
+    let unit : 1 * 2 ^ fill % 2 ^ 64 ≡ 2 ^ fill = one_shl fill 64 (omega arith) in
+    ap (λ (n : ℕ). nat_eq (v % n) 0) unit ∙ sym (ap (λ (n : ℕ). n == 0) (ap number bits ∙ number-num_mod fill v))
+
+none_at_all : List ℕ
+none_at_all = []
+
+pub zeros_of_none : (digits : List ℕ) (fill : ℕ) → length digits ≡ 0 → true ≡ (number (drop (4 * length digits - fill) (digit_bits digits)) == 0)
+unfolding digit_bits number none_at_all
+zeros_of_none [] fill none = let place : 0 ≡ 4 * length none_at_all - fill = omega arith in ap (λ (n : ℕ). number (drop n (digit_bits none_at_all)) == 0) place
+zeros_of_none (c ∷ digits) fill none = absurd (omega (arith, none))
+
+-- a digit's bits at the end, up to `len`
+pub pushed : (bits : List Bool) (len d w : ℕ) → length bits < len → w ≡ min (len - length bits) 4 → bits ++ num w (d / 2 ^ (4 - w)) ≡ take len (bits ++ num 4 d)
+pushed bits len d w room is =
+    let place : len ≡ length bits + (len - length bits) = omega arith in
+    let some : take w (num 4 d) ≡ take (len - length bits) (num 4 d) = ap (λ (n : ℕ). take n (num 4 d)) is ∙ few (len - length bits) in
+    ap (λ (l : List Bool). bits ++ l) (sym (take-num w 4 d (omega arith)) ∙ some)
+    ∙ sym (take_past bits (num 4 d) (len - length bits))
+    ∙ ap (λ (n : ℕ). take n (bits ++ num 4 d)) (sym place)
+  where
+    few : (n : ℕ) → take (min n 4) (num 4 d) ≡ take n (num 4 d)
+    few n = ap (λ (m : ℕ). take (min n m) (num 4 d)) (sym (length-num 4 d)) ∙ take_min n (num 4 d)
+
+-- one turn of the loop
+pub bits_on : (digits : List ℕ) (i len : ℕ) (bits new : List Bool) → i < length digits → 4 * length digits < len + 4 → bits ≡ take len (digit_bits (take i digits))
+    → new ≡ take len (bits ++ num 4 (digit_value (get_or digits i 0))) → new ≡ take len (digit_bits (take (i + 1) digits))
+bits_on digits i len bits new inside needed is pushed =
+    let all : take len (digit_bits (take i digits)) ≡ digit_bits (take i digits) = take_all len (digit_bits (take i digits)) (omega (arith, length-digit_bits (take i digits), length-take i digits)) in
+    pushed ∙ ap (λ (l : List Bool). take len (l ++ num 4 (digit_value (get_or digits i 0)))) (is ∙ all) ∙ ap (take len) (sym (digit_bits_more digits i inside))
+
+pub bits_room : (digits : List ℕ) (i len : ℕ) (bits : List Bool) → i < length digits → 4 * length digits < len + 4 → bits ≡ take len (digit_bits (take i digits)) → length bits < len
+bits_room digits i len bits inside needed is = omega (arith, ap length is, length-take len (digit_bits (take i digits)), length-digit_bits (take i digits), length-take i digits)
+
+-- each byte of hexadecimal digits is one
+pub hexadecimal_at : (digits : List ℕ) (i : ℕ) → list_all is_ascii_hexdigit digits ≡ true → i < length digits → is_ascii_hexdigit (get_or digits i 0) ≡ true
+hexadecimal_at [] i all inside = absurd (omega (arith, inside))
+hexadecimal_at (c ∷ digits) zero all inside = and_left (is_ascii_hexdigit c) (list_all is_ascii_hexdigit digits) all
+hexadecimal_at (c ∷ digits) (suc i) all inside = hexadecimal_at digits i (and_right (is_ascii_hexdigit c) (list_all is_ascii_hexdigit digits) all) (omega (arith, inside))
+
+pub bits_start : (digits : List ℕ) (len : ℕ) → [] ≡ take len (digit_bits (take 0 digits))
+unfolding digit_bits
+bits_start digits len = let nothing : List Bool = [] in sym (take_all len nothing (omega arith))

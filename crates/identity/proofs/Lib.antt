@@ -1,0 +1,10 @@
+pub mod Numbers
+pub mod Bytes
+pub mod Reading
+pub mod Prefixes
+pub mod NumberText
+pub mod BitsText
+pub mod HexSteps
+pub mod Texts
+pub mod IdentityTexts
+pub mod BitsTexts

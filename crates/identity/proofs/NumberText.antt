@@ -1,0 +1,100 @@
+-- The form of a number, and parts of a text.
+use Rattle.std.proofs.Common.{◌≡◌, ◌≢◌, ℕ, zero, suc, ◌+◌, ◌-◌, ◌*◌, ◌<◌, ◌≤◌, Bool, true, false, not, ◌&&◌, List, [], ◌∷◌, length, take, drop, get_or, refl, sym, ap, ◌∙◌, arith, Some, None, nat_le}
+use Rattle.std.specs.Prelude.{◌==◌, if◌then◌else◌}
+use mathlib.Core.Bool.{false≢true}
+use Rattle.std.specs.Char.{is_ascii_digit}
+use Rattle.std.specs.Int.{IsInRange}
+use Rattle.std.specs.List.{list_all, position}
+use Rattle.std.proofs.lemmas.List.{take_all}
+use Rattle.std.proofs.lemmas.List.Quantifiers.{position-Some}
+use Rattle.std.proofs.lemmas.List.Sums.{fails_before_first}
+use Rattle.std.proofs.lemmas.Int.Digits.{digits_value_more}
+use Rattle.std.proofs.lemmas.Str.{digit_value_digit}
+use Rattle.std.proofs.lemmas.Str.Parse.{digits_value-take-le}
+use Rattle.identity.specs.NumberText.{is_number, value, cut}
+
+and_true : (b : Bool) → (b && true) ≡ b
+and_true true = refl
+and_true false = refl
+
+pub and_left : (a b : Bool) → (a && b) ≡ true → a ≡ true
+and_left true b h = refl
+and_left false b h = absurd (false≢true h)
+
+pub and_right : (a b : Bool) → (a && b) ≡ true → b ≡ true
+and_right true b h = h
+and_right false b h = absurd (false≢true h)
+
+pub number_empty : (text : List ℕ) → length text ≡ 0 → is_number text ≡ false
+unfolding is_number
+number_empty [] none = refl
+number_empty (c ∷ text) none = absurd (omega (arith, none))
+
+-- a zero at the front is the whole number
+pub number_zero : (text : List ℕ) → 0 < length text → get_or text 0 0 ≡ 48 → is_number text ≡ (length text == 1)
+unfolding is_number
+number_zero [] some head = absurd (omega (arith, some))
+number_zero (c ∷ []) some head = rw head refl
+number_zero (c ∷ d ∷ text) some head = let more : (length (c ∷ d ∷ text) == 1) ≡ false = grind arith in rw (head, more) refl
+
+pub number_form : (text : List ℕ) → 0 < length text → get_or text 0 0 ≢ 48 → is_number text ≡ list_all is_ascii_digit text
+unfolding is_number
+number_form [] some head = absurd (omega (arith, some))
+number_form (c ∷ []) some head = sym (and_true (is_ascii_digit c))
+number_form (c ∷ d ∷ text) some head = let other : (c == 48) ≡ false = grind (arith, head) in rw other refl
+
+-- each byte of a number is a digit
+digit_in : (text : List ℕ) (i : ℕ) → list_all is_ascii_digit text ≡ true → i < length text → IsInRange 48 57 (get_or text i 0)
+digit_in [] i all inside = absurd (omega (arith, inside))
+digit_in (c ∷ text) zero all inside = grind (arith, all)
+digit_in (c ∷ text) (suc i) all inside = digit_in text i (and_right (is_ascii_digit c) (list_all is_ascii_digit text) all) (omega (arith, inside))
+
+pub all_of_number : (text : List ℕ) → is_number text ≡ true → list_all is_ascii_digit text ≡ true
+unfolding is_number
+all_of_number [] form = absurd (false≢true form)
+all_of_number (c ∷ []) form = and_true (is_ascii_digit c) ∙ form
+all_of_number (c ∷ d ∷ text) form = and_right (not (c == 48)) (list_all is_ascii_digit (c ∷ d ∷ text)) form
+
+pub number_digit : (text : List ℕ) (i : ℕ) → is_number text ≡ true → i < length text → IsInRange 48 57 (get_or text i 0)
+number_digit text i form inside = digit_in text i (all_of_number text form) inside
+
+-- one digit more
+pub value_more : (text : List ℕ) (i : ℕ) → is_number text ≡ true → i < length text → value (take (i + 1) text) ≡ 10 * value (take i text) + (get_or text i 0 - 48)
+value_more text i form inside = let digit = number_digit text i form inside in omega (arith, digits_value_more 10 text i inside, digit_value_digit (get_or text i 0) digit)
+
+pub value_large : (text : List ℕ) (i most : ℕ) → most < value (take i text) → (if nat_le (value text) most then Some (value text) else None) ≡ None
+value_large text i most large =
+    let whole : most < value text = omega (arith, large, digits_value-take-le 10 text i (omega arith)) in
+    let over : nat_le (value text) most ≡ false = grind (arith, whole) in
+    rw over refl
+
+pub value_small : (text : List ℕ) (i most v : ℕ) → length text ≤ i → v ≡ value (take i text) → v ≤ most → Some v ≡ (if nat_le (value text) most then Some (value text) else None)
+value_small text i most v all is small =
+    let whole : v ≡ value text = is ∙ ap value (take_all i text all) in
+    let under : nat_le (value text) most ≡ true = grind (arith, whole, small) in
+    rw under (ap Some whole)
+
+-- the parts of a text
+absent : (mark : ℕ) (text : List ℕ) → ((k : ℕ) → k < length text → (get_or text k 0 == mark) ≡ false) → cut mark text ≡ None
+unfolding cut
+absent mark [] none = refl
+absent mark (b ∷ text) none =
+    let first : (b == mark) ≡ false = none 0 (omega arith) in
+    let rest : cut mark text ≡ None = absent mark text (λ k inside. none (suc k) (omega (arith, inside))) in
+    rw (first, rest) refl
+
+here : (mark : ℕ) (text : List ℕ) (at : ℕ) → at < length text → (get_or text at 0 == mark) ≡ true → ((k : ℕ) → k < at → (get_or text k 0 == mark) ≡ false) → cut mark text ≡ Some (take at text, drop (at + 1) text)
+unfolding cut
+here mark [] at inside found before = absurd (omega (arith, inside))
+here mark (b ∷ text) zero inside found before = rw found refl
+here mark (b ∷ text) (suc at) inside found before =
+    let first : (b == mark) ≡ false = before 0 (omega arith) in
+    let rest : cut mark text ≡ Some (take at text, drop (at + 1) text) = here mark text at (omega (arith, inside)) found (λ k lt. before (suc k) (omega (arith, lt))) in
+    let one : suc (at + 1) ≡ suc at + 1 = omega arith in
+    rw (first, rest) (ap (λ (n : ℕ). Some (b ∷ take at text, drop n (b ∷ text))) one)
+
+pub cut_none : (mark : ℕ) (text : List ℕ) → position (λ b. b == mark) text ≡ None → cut mark text ≡ None
+cut_none mark text none = absent mark text (λ k inside. fails_before_first (λ b. b == mark) text k 0 (grind (arith, none, inside)))
+
+pub cut_some : (mark : ℕ) (text : List ℕ) (at : ℕ) → position (λ b. b == mark) text ≡ Some at → cut mark text ≡ Some (take at text, drop (at + 1) text)
+cut_some mark text at some = let h = position-Some (λ b. b == mark) text at 0 some in here mark text at h.0 h.1 h.2

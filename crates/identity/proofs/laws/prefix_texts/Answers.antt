@@ -1,0 +1,11 @@
+use Rattle.identity.proofs.IdentityTexts.{reading_prefix_again, reading_prefix_only, reading_prefix_form}
+use Rattle.identity.proofs.laws.prefix_texts.Goals as goal
+
+pub returns-clause-again : goal.returns-clause-again
+returns-clause-again c = reading_prefix_again
+
+pub returns-clause-only : goal.returns-clause-only
+returns-clause-only c = reading_prefix_only
+
+pub returns-clause-form : goal.returns-clause-form
+returns-clause-form c = reading_prefix_form

@@ -1,0 +1,31 @@
+-- Identities and prefixes as lists of bits, and the order of such lists.
+use Rattle.std.specs.Prelude.{ℕ, ◌-◌, Bool, true, false, List, [], ◌∷◌, ◌++◌, length, replicate}
+use Rattle.std.specs.Ordering.{bool_cmp}
+use Rattle.std.specs.declared.cmp.Ordering.{Ordering}
+use Rattle.std.specs.Cmp.Lexicographic.{slice_cmp}
+use Rattle.identity.specs.Number.{num, number}
+
+-- the bits of an identity, or the first of them
+abbrev pub Path : Type 0
+Path = List Bool
+
+-- a prefix before its extensions, and else by the first bit that differs
+abbrev pub path_cmp : Path → Path → Ordering
+path_cmp = slice_cmp bool_cmp
+
+-- the 48 bits of an identity
+unfoldable pub id_path : ℕ → Path
+id_path v = num 48 v
+
+-- the identity that begins with a prefix and has only zeros behind it
+unfoldable pub left_aligned : Path → ℕ
+left_aligned p = number (p ++ replicate (48 - length p) false)
+
+-- the first list begins the second
+abbrev pub begins : Path → Path → Bool
+begins [] q = true
+begins (b ∷ p) [] = false
+begins (true ∷ p) (true ∷ q) = begins p q
+begins (true ∷ p) (false ∷ q) = false
+begins (false ∷ p) (true ∷ q) = false
+begins (false ∷ p) (false ∷ q) = begins p q

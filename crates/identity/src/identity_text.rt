@@ -1,0 +1,159 @@
+//! Identities and prefixes as text.
+
+ghost use Rattle.std.specs.Prelude.{◌≡◌, ◌<◌, ◌≤◌, ◌^◌, ◌++◌, OnOk, OnErr, IfOk, IfSome, IsTrue, option_map, length, take};
+ghost use Rattle.identity.specs.NumberText.{is_number, value, Keeps};
+ghost use Rattle.identity.specs.IdentityText.{identity_text, prefix_text, three_numbers, identity_of, reading_identity, prefix_of, reading_prefix};
+
+use crate::number_text::{cut, is_number, print_number, value_of};
+use crate::{Fault, Gtsi, Itsi, Prefix, fields};
+use std::alloc::{AllocError, Allocator};
+
+/// The texts of the three numbers of an identity, where each has the form of a number.
+#[tactic(auto, unfolding(crate::specs::IdentityText::three_numbers))]
+fn three_numbers(text: &[u8]) -> Option<(&[u8], &[u8], &[u8])>
+    ensures value { option_map (λ parts. (parts.0.now, parts.1.now, parts.2.now)) result ≡ three_numbers text.now }
+    ensures form { IfSome result (λ parts. IsTrue (is_number parts.0.now) × IsTrue (is_number parts.1.now) × IsTrue (is_number parts.2.now)) }
+{
+    let Some((mcc, rest)) = cut(text, b'-') else {
+        return None;
+    };
+    let Some((mnc, ssi)) = cut(rest, b'-') else {
+        return None;
+    };
+    if is_number(mcc) && is_number(mnc) && is_number(ssi) {
+        Some((mcc, mnc, ssi))
+    } else {
+        None
+    }
+}
+
+/// The identity of three numbers, where each is in its range.
+#[tactic(auto, unfolding(crate::specs::IdentityText::identity_of))]
+fn identity_of(mcc: &[u8], mnc: &[u8], ssi: &[u8]) -> Result<u64, Fault>
+    requires mcc { IsTrue (is_number mcc.now) }
+    requires mnc { IsTrue (is_number mnc.now) }
+    requires ssi { IsTrue (is_number ssi.now) }
+    ensures value { result ≡ identity_of mcc.now mnc.now ssi.now }
+    ensures below { IfOk result (λ n. n < 2 ^ 48) }
+{
+    let Some(mcc) = value_of(mcc, 1023) else {
+        return Err(Fault::OutOfRange);
+    };
+    let Some(mnc) = value_of(mnc, 16_383) else {
+        return Err(Fault::OutOfRange);
+    };
+    let Some(ssi) = value_of(ssi, 16_777_215) else {
+        return Err(Fault::OutOfRange);
+    };
+    Ok(fields::number_of(mcc as u32, mnc as u32, ssi as u32))
+}
+
+#[tactic(auto, unfolding(crate::specs::IdentityText::reading_identity))]
+fn reading_identity(text: &[u8]) -> Result<u64, Fault>
+    ensures value { result ≡ reading_identity text.now }
+    ensures below { IfOk result (λ n. n < 2 ^ 48) }
+{
+    match three_numbers(text) {
+        None => Err(Fault::BadText),
+        Some((mcc, mnc, ssi)) => identity_of(mcc, mnc, ssi),
+    }
+}
+
+/// The radio that a text `mcc-mnc-ssi` names; `Fault::BadText` where the text is no three numbers, and else
+/// `Fault::OutOfRange` where one of them is too great.
+pub fn parse_itsi(text: &[u8]) -> Result<Itsi, Fault>
+    ensures { result ≡ reading_identity text.now }
+{
+    match reading_identity(text) {
+        Ok(number) => Ok(Itsi::of(number)),
+        Err(fault) => Err(fault),
+    }
+}
+
+/// The group that a text `mcc-mnc-ssi` names; faults as for a radio.
+pub fn parse_gtsi(text: &[u8]) -> Result<Gtsi, Fault>
+    ensures { result ≡ reading_identity text.now }
+{
+    match reading_identity(text) {
+        Ok(number) => Ok(Gtsi::of(number)),
+        Err(fault) => Err(fault),
+    }
+}
+
+/// The first `len` bits of an identity, where those past them are 0.
+#[tactic(auto, unfolding(crate::specs::IdentityText::prefix_of))]
+fn prefix_of(identity: u64, len: &[u8]) -> Result<Prefix, Fault>
+    requires form { IsTrue (is_number len.now) }
+    requires identity { identity < 2 ^ 48 }
+    ensures { result ≡ prefix_of identity (value len.now) }
+{
+    let Some(len) = value_of(len, 48) else {
+        return Err(Fault::OutOfRange);
+    };
+    match Prefix::new(identity, len as u32) {
+        Some(prefix) => Ok(prefix),
+        None => Err(Fault::OutOfRange),
+    }
+}
+
+/// The prefix that a text `mcc-mnc-ssi/len` names; `Fault::BadText` where the text is no four numbers, and
+/// else `Fault::OutOfRange` where one of them is too great or a bit past `len` is 1.
+#[tactic(auto, unfolding(crate::specs::IdentityText::reading_prefix, crate::specs::IdentityText::prefix_form))]
+pub fn parse_prefix(text: &[u8]) -> Result<Prefix, Fault>
+    ensures { result ≡ reading_prefix text.now }
+{
+    let Some((identity, len)) = cut(text, b'/') else {
+        return Err(Fault::BadText);
+    };
+    let Some((mcc, mnc, ssi)) = three_numbers(identity) else {
+        return Err(Fault::BadText);
+    };
+    if !is_number(len) {
+        return Err(Fault::BadText);
+    }
+    match identity_of(mcc, mnc, ssi) {
+        Ok(identity) => prefix_of(identity, len),
+        Err(fault) => Err(fault),
+    }
+}
+
+/// Appends the text of an identity's number.
+#[tactic(auto, unfolding(crate::specs::IdentityText::identity_text), using(std::proofs::Common::append_assoc))]
+fn print_identity<A: Allocator>(out: &mut Vec<u8, A>, number: u64) -> Result<(), AllocError>
+    requires { number < 2 ^ 48 }
+    ensures ok { OnOk result (out.new.items ≡ out.old.items ++ identity_text number) }
+    ensures err { OnErr result (Keeps out.old.items out.new.items) }
+{
+    print_number(out, u64::from(fields::mcc(number)))?;
+    out.push(b'-')?;
+    print_number(out, u64::from(fields::mnc(number)))?;
+    out.push(b'-')?;
+    print_number(out, u64::from(fields::ssi(number)))
+}
+
+/// Appends the text `mcc-mnc-ssi` of a radio's identity. On an error `out` may have a front of it.
+pub fn print_itsi<A: Allocator>(out: &mut Vec<u8, A>, itsi: Itsi) -> Result<(), AllocError>
+    ensures ok { OnOk result (out.new.items ≡ out.old.items ++ identity_text itsi) }
+    ensures err { OnErr result (Keeps out.old.items out.new.items) }
+{
+    print_identity(out, itsi.number())
+}
+
+/// Appends the text `mcc-mnc-ssi` of a group's identity. On an error `out` may have a front of it.
+pub fn print_gtsi<A: Allocator>(out: &mut Vec<u8, A>, gtsi: Gtsi) -> Result<(), AllocError>
+    ensures ok { OnOk result (out.new.items ≡ out.old.items ++ identity_text gtsi) }
+    ensures err { OnErr result (Keeps out.old.items out.new.items) }
+{
+    print_identity(out, gtsi.number())
+}
+
+/// Appends the text `mcc-mnc-ssi/len` of a prefix. On an error `out` may have a front of it.
+#[tactic(auto, unfolding(crate::specs::IdentityText::prefix_text), using(std::proofs::Common::append_assoc))]
+pub fn print_prefix<A: Allocator>(out: &mut Vec<u8, A>, prefix: Prefix) -> Result<(), AllocError>
+    ensures ok { OnOk result (out.new.items ≡ out.old.items ++ prefix_text prefix) }
+    ensures err { OnErr result (Keeps out.old.items out.new.items) }
+{
+    print_identity(out, prefix.bits())?;
+    out.push(b'/')?;
+    print_number(out, u64::from(prefix.len()))
+}

@@ -1,0 +1,32 @@
+//! Identities of radios and groups, prefixes of identities, and strings of bits.
+#![tactic(auto)]
+
+mod bits;
+mod bits_text;
+mod fault;
+mod fields;
+mod gtsi;
+mod identity_text;
+mod itsi;
+pub mod laws;
+mod number_text;
+mod packed;
+mod prefix;
+mod reader;
+mod writer;
+
+pub use bits::Bits;
+pub use bits_text::{parse_bits, print_bits};
+pub use fault::Fault;
+pub use gtsi::Gtsi;
+pub use identity_text::{
+    parse_gtsi, parse_itsi, parse_prefix, print_gtsi, print_itsi, print_prefix,
+};
+pub use itsi::Itsi;
+pub use number_text::{parse_number, print_number};
+pub use prefix::Prefix;
+pub use reader::BitReader;
+pub use writer::BitWriter;
+
+#[cfg(test)]
+mod tests;

@@ -1,0 +1,85 @@
+//! Numbers as text: decimal digits without leading zeros.
+
+ghost use Rattle.std.specs.Prelude.{◌≡◌, ◌<◌, ◌≤◌, ◌^◌, ◌++◌, ◌==◌, Some, None, OnOk, OnErr, IsTrue, decimal, nat_le, option_map, position, if◌then◌else◌};
+ghost use Rattle.std.specs.Char.{is_ascii_digit};
+ghost use Rattle.std.specs.List.{list_all};
+ghost use Rattle.identity.specs.NumberText.{is_number, value, reading_number, cut};
+
+use crate::Fault;
+use itoa::Buffer;
+use std::alloc::{AllocError, Allocator};
+
+fn first(text: &[u8], mark: u8) -> Option<usize>
+    ensures { result ≡ position (λ b. b == mark) text.now }
+{
+    text.iter().position(|byte| *byte == mark)
+}
+
+/// What stands before the first byte `mark`, and what stands behind it.
+pub(crate) fn cut(text: &[u8], mark: u8) -> Option<(&[u8], &[u8])>
+    ensures { option_map (λ parts. (parts.0.now, parts.1.now)) result ≡ cut mark text.now }
+{
+    match first(text, mark) {
+        None => None,
+        Some(at) => Some((&text[..at], &text[at + 1..])),
+    }
+}
+
+fn all_digits(text: &[u8]) -> bool
+    ensures { result ≡ list_all is_ascii_digit text.now }
+{
+    text.iter().all(|byte| byte.is_ascii_digit())
+}
+
+/// Whether the text has the form of a number, of any size.
+#[tactic(auto, using(crate::proofs::NumberText::number_empty, crate::proofs::NumberText::number_zero, crate::proofs::NumberText::number_form))]
+pub(crate) fn is_number(text: &[u8]) -> bool
+    ensures { result ≡ is_number text.now }
+{
+    if text.is_empty() {
+        return false;
+    }
+    if text[0] == b'0' {
+        return text.len() == 1;
+    }
+    all_digits(text)
+}
+
+/// The number that digits are, where it is at most `most`.
+pub(crate) fn value_of(digits: &[u8], most: u128) -> Option<u128>
+    requires form { IsTrue (is_number digits.now) }
+    requires room { most < 2 ^ 120 }
+    ensures { result ≡ (if nat_le (value digits.now) most then Some (value digits.now) else None) }
+{
+    let mut value = 0u128;
+    for digit in digits {
+        value = 10 * value + u128::from(*digit - b'0');
+        if value > most {
+            return None;
+        }
+    }
+    Some(value)
+}
+
+/// The number of at most `most` that a text says, in decimal without leading zeros; `Fault::BadText` where
+/// the text is none, and else `Fault::OutOfRange` where the number is greater.
+#[tactic(auto, unfolding(crate::specs::NumberText::reading_number))]
+pub fn parse_number(text: &[u8], most: u64) -> Result<u64, Fault>
+    ensures { result ≡ reading_number most text.now }
+{
+    if !is_number(text) {
+        return Err(Fault::BadText);
+    }
+    match value_of(text, u128::from(most)) {
+        Some(value) => Ok(value as u64),
+        None => Err(Fault::OutOfRange),
+    }
+}
+
+/// Appends a number in decimal.
+pub fn print_number<A: Allocator>(out: &mut Vec<u8, A>, number: u64) -> Result<(), AllocError>
+    ensures ok { OnOk result (out.new.items ≡ out.old.items ++ decimal number) }
+    ensures err { OnErr result (out.new.items ≡ out.old.items) }
+{
+    out.extend_from_slice(Buffer::new().format(number).as_bytes())
+}

@@ -1,0 +1,113 @@
+ghost use Rattle.std.specs.Prelude.{◌≡◌, ◌<◌, ◌≤◌, ◌^◌, ◌-◌, ◌++◌, ◌↔◌, length, take, drop, replicate, false, IsSome, IfSome, IsTrue};
+ghost use Rattle.std.specs.Ordering.{eq_by_cmp};
+ghost use Rattle.identity.specs.Number.{num};
+ghost use Rattle.identity.specs.Path.{id_path, path_cmp, left_aligned, begins};
+
+use std::marker::Model;
+
+/// How many numbers 48 bits have.
+const IDENTITIES: u64 = 1 << 48;
+
+/// The first bits of an identity, 0 to 48 of them.
+#[derive(Clone, Copy, Debug)]
+pub struct Prefix {
+    bits: u64,
+    len: u32,
+}
+
+impl Model for Prefix {
+    ghost use Rattle.std.specs.Prelude.{List, Bool, length, ◌≤◌, ◌<◌, ◌^◌};
+
+    ghost Value = { List Bool };
+
+    ghost use Rattle.identity.specs.Number.{num, number};
+    ghost use Rattle.identity.specs.PrefixInside.{inverse_of_num};
+
+    ghost view = { λ p. num p.len p.bits };
+
+    ghost invariant = { λ p. (p.len ≤ 48) × (p.bits < 2 ^ p.len) };
+
+    ghost inverse = { λ q. record { bits = number q; len = length q } };
+
+    ghost inverse_ok = { inverse_of_num };
+}
+
+impl Prefix {
+    /// The first `len` of the 48 bits of `bits`, the greatest first; `None` where `bits` has more than 48
+    /// bits, `len` is above 48 or a bit past `len` is 1.
+    pub fn new(bits: u64, len: u32) -> Option<Prefix>
+        ensures fits { IsSome result ↔ ((len ≤ 48) × (bits < 2 ^ 48) × (drop len (id_path bits) ≡ replicate (48 - len) false)) }
+        ensures value { IfSome result (λ p. p ≡ take len (id_path bits)) }
+    {
+        if len <= 48 && bits < IDENTITIES && bits % (1 << (48 - len)) == 0 {
+            Some(Prefix::of(bits, len))
+        } else {
+            None
+        }
+    }
+
+    /// The first `len` bits of an identity's number.
+    pub fn of(number: u64, len: u32) -> Prefix
+        requires { len ≤ 48 }
+        ensures { result ≡ take len (id_path number) }
+    {
+        Prefix {
+            bits: (number % IDENTITIES) >> (48 - len),
+            len,
+        }
+    }
+
+    /// All 48 bits of an identity's number.
+    pub fn whole(number: u64) -> Prefix
+        ensures { result ≡ id_path number }
+    {
+        Prefix::of(number, 48)
+    }
+
+    /// Its bits at the left of 48, with zeros behind them.
+    pub fn bits(&self) -> u64
+        ensures value { result ≡ left_aligned self.now }
+        ensures bits { id_path result ≡ self.now ++ replicate (48 - length self.now) false }
+        ensures below { result < 2 ^ 48 }
+    {
+        self.bits << (48 - self.len)
+    }
+
+    /// How many bits it has.
+    pub fn len(&self) -> u32
+        ensures value { result ≡ length self.now }
+        ensures at_most_48 { result ≤ 48 }
+    {
+        self.len
+    }
+
+    /// Whether it has no bits, and so begins each identity.
+    pub fn is_empty(&self) -> bool
+        ensures { IsTrue result ↔ (length self.now ≡ 0) }
+    {
+        self.len == 0
+    }
+
+    /// The number that its bits alone are.
+    pub fn number(&self) -> u64
+        ensures fits { result < 2 ^ length self.now }
+        ensures value { num (length self.now) result ≡ self.now }
+    {
+        self.bits
+    }
+
+    /// Whether an identity's 48 bits begin with it; greater bits of `identity` do not matter.
+    pub fn begins(&self, identity: u64) -> bool
+        ensures { result ≡ begins self.now (id_path identity) }
+    {
+        (identity % IDENTITIES) >> (48 - self.len) == self.bits
+    }
+
+    /// Whether the two are one prefix.
+    pub fn same(&self, other: &Prefix) -> bool
+        ensures equal { IsTrue result ↔ (self.now ≡ other.now) }
+        ensures test { result ≡ eq_by_cmp path_cmp self.now other.now }
+    {
+        self.len == other.len && self.bits == other.bits
+    }
+}

@@ -1,0 +1,92 @@
+ghost use Rattle.std.specs.Prelude.{◌≡◌, ◌≤◌, ◌<◌, ◌+◌, ◌*◌, ◌^◌, Bool, List, length, take, drop, nat_lt, if◌then◌else◌, Ok, Err, IfOk};
+ghost use Rattle.identity.specs.Packed.{bits_of};
+ghost use Rattle.identity.specs.Number.{number};
+ghost use Rattle.identity.specs.declared.fault.Fault.TheVariants.{Short};
+
+use crate::packed::bit_in;
+use crate::{Bits, Fault};
+use std::alloc::Allocator;
+use std::marker::Model;
+
+/// The bits that are still to be read, from left to right.
+#[derive(Drop)]
+pub struct BitReader<'a> {
+    bytes: &'a [u8],
+    at: usize,
+    end: usize,
+}
+
+impl<'a> Model for BitReader<'a> {
+    ghost Value = { List Bool };
+
+    ghost view = { λ r. drop r.at (take r.end (bits_of r.bytes.now)) };
+
+    ghost invariant = { λ r. (r.at ≤ r.end) × (r.end ≤ length (bits_of r.bytes.now)) };
+}
+
+/// The number that the `width` bits from place `at` on are.
+fn number_at(bytes: &[u8], at: usize, width: u32) -> u64
+    requires width { width ≤ 48 }
+    requires room { at + width ≤ 8 * length bytes.now }
+    requires total { at + width < 2 ^ 64 }
+    ensures value { result ≡ number (take width (drop at (bits_of bytes.now))) }
+    ensures small { result < 2 ^ width }
+{
+    let mut value = 0;
+    for i in 0..width {
+        value = 2 * value + u64::from(bit_in(bytes, at + i as usize));
+    }
+    value
+}
+
+impl<'a> BitReader<'a> {
+    /// A reader of all the bits.
+    pub fn new<A: Allocator>(bits: &'a Bits<A>) -> BitReader<'a>
+        ensures { result ≡ bits.now }
+    {
+        BitReader {
+            bytes: bits.as_bytes(),
+            at: 0,
+            end: bits.len(),
+        }
+    }
+
+    /// How many bits are left.
+    pub fn left(&self) -> usize
+        ensures { result ≡ length self.now }
+    {
+        self.end - self.at
+    }
+
+    /// The number that the next `width` bits are. `Fault::Short`, and nothing changes, where fewer are left.
+    pub fn take(&mut self, width: u32) -> Result<u64, Fault>
+        requires { width ≤ 48 }
+        ensures value { result ≡ (if nat_lt (length self.old) width then Err Short else Ok (number (take width self.old))) }
+        ensures small { IfOk result (λ v. v < 2 ^ width) }
+        ensures rest { self.new ≡ (if nat_lt (length self.old) width then self.old else drop width self.old) }
+    {
+        if self.left() < width as usize {
+            return Err(Fault::Short);
+        }
+        let value = number_at(self.bytes, self.at, width);
+        self.at += width as usize;
+        Ok(value)
+    }
+
+    /// A reader of the next `len` bits alone, which this one skips. `Fault::Short`, and nothing changes, where fewer are left.
+    pub fn cut(&mut self, len: usize) -> Result<BitReader<'a>, Fault>
+        ensures value { result ≡ (if nat_lt (length self.old) len then Err Short else Ok (take len self.old)) }
+        ensures rest { self.new ≡ (if nat_lt (length self.old) len then self.old else drop len self.old) }
+    {
+        if self.left() < len {
+            return Err(Fault::Short);
+        }
+        let start = self.at;
+        self.at += len;
+        Ok(BitReader {
+            bytes: self.bytes,
+            at: start,
+            end: self.at,
+        })
+    }
+}

@@ -1,0 +1,48 @@
+ghost use Rattle.std.specs.Prelude.{◌≡◌, ◌<◌, ◌≤◌, ◌^◌, ◌++◌, Bool, List, [], IfErr, OnOk};
+ghost use Rattle.identity.specs.Number.{num};
+ghost use Rattle.identity.specs.declared.fault.Fault.TheVariants.{NoMemory};
+
+use crate::{Bits, Fault};
+use std::alloc::{Allocator, Global};
+use std::marker::Model;
+
+/// Bits that are put one number after the other.
+#[derive(Drop)]
+pub struct BitWriter<A: Allocator = Global> {
+    bits: Bits<A>,
+}
+
+impl<A: Allocator> Model for BitWriter<A> {
+    ghost Value = { List Bool };
+
+    ghost view = { λ w. w.bits };
+}
+
+impl<A: Allocator> BitWriter<A> {
+    /// A writer that has no bits yet.
+    pub fn new(alloc: A) -> BitWriter<A>
+        ensures { result ≡ [] }
+    {
+        BitWriter {
+            bits: Bits::new(alloc),
+        }
+    }
+
+    /// Puts `value` at the end, the greatest of its `width` bits first. On an error nothing has changed.
+    pub fn put(&mut self, value: u64, width: u32) -> Result<(), Fault>
+        requires width { width ≤ 48 }
+        requires fits { value < 2 ^ width }
+        ensures ok { OnOk result (self.new ≡ self.old ++ num width value) }
+        ensures err { IfErr result (λ e. (e ≡ NoMemory) × (self.new ≡ self.old)) }
+    {
+        self.bits.append(value, width)
+    }
+
+    /// The bits that were put; this takes no memory.
+    pub fn finish(self) -> Bits<A>
+        ensures { result ≡ self }
+    {
+        let BitWriter { bits } = self;
+        bits
+    }
+}

@@ -1,0 +1,7 @@
+pub mod Values
+pub mod Syntax
+pub mod Uplink
+pub mod Downlink
+pub mod Reading
+pub mod UplinkReading
+pub mod DownlinkReading

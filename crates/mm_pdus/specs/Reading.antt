@@ -1,0 +1,87 @@
+-- Reading the parts of a PDU from left to right: the value, or the first fault that is met.
+use Rattle.std.specs.Prelude.{ℕ, zero, suc, Bool, true, false, List, [], ◌∷◌, length, take, drop, Option, Some, None, Result, Ok, Err, nat_lt, ◌==◌, if◌then◌else◌}
+use Rattle.identity.specs.Number.{number}
+use Rattle.mm_pdus.specs.declared.fault.MmFault.{MmFault}
+use Rattle.mm_pdus.specs.declared.fault.MmFault.TheVariants.{Short, Trailing, BadElement}
+use Rattle.mm_pdus.specs.Syntax.{Element}
+
+infixl 10 ◌>>=◌
+abbrev pub ◌>>=◌ : {A B : Type 0} → Result A MmFault → (A → Result B MmFault) → Result B MmFault
+(Ok x) >>= f = f x
+(Err e) >>= f = Err e
+
+-- what a function answered, with the bits that it left
+abbrev pub with_rest : {A : Type 0} → Result A MmFault → List Bool → Result (A × List Bool) MmFault
+with_rest (Ok x) rest = Ok (x, rest)
+with_rest (Err f) rest = Err f
+
+-- the bits that a function left which answers nothing else
+abbrev pub giving : {A : Type 0} → Result (Unit {0}) MmFault → A → Result A MmFault
+giving (Ok u) x = Ok x
+giving (Err f) x = Err f
+
+-- one bit
+abbrev pub bit_at : List Bool → Result (Bool × List Bool) MmFault
+bit_at [] = Err Short
+bit_at (b ∷ rest) = Ok (b, rest)
+
+-- one bit that must be 0
+abbrev pub clear_at : List Bool → Result (List Bool) MmFault
+clear_at [] = Err Short
+clear_at (true ∷ rest) = Err BadElement
+clear_at (false ∷ rest) = Ok rest
+
+-- a number of w bits
+abbrev pub field_at : ℕ → List Bool → Result (ℕ × List Bool) MmFault
+field_at w bits = if nat_lt (length bits) w then Err Short else Ok (number (take w bits), drop w bits)
+
+-- w bits
+abbrev pub piece_at : ℕ → List Bool → Result (List Bool × List Bool) MmFault
+piece_at w bits = if nat_lt (length bits) w then Err Short else Ok (take w bits, drop w bits)
+
+-- a part that may be left out is ignored
+unfoldable pub optional_at : ℕ → List Bool → Result (List Bool) MmFault
+optional_at w bits = do
+  there ← bit_at bits
+  if there.0 then (piece_at w there.1 >>= λ part. Ok part.1) else Ok there.1
+
+unfoldable pub optionals_at : List ℕ → List Bool → Result (List Bool) MmFault
+optionals_at [] bits = Ok bits
+optionals_at (w ∷ ws) bits = do
+  rest ← optional_at w bits
+  optionals_at ws rest
+
+-- the next element, or none behind the last
+unfoldable pub element_at : List Bool → Result (Option Element × List Bool) MmFault
+element_at bits = do
+  more ← bit_at bits
+  if more.0
+      then (field_at 4 more.1 >>= λ identifier. field_at 11 identifier.1 >>= λ len. piece_at len.0 len.1 >>= λ body. Ok (Some (record { identifier = identifier.0; body = body.0 }), body.1))
+      else Ok (None, more.1)
+
+-- an element, as a function answers it
+abbrev pub seen : Result (Option (ℕ × List Bool)) MmFault → Result (Option Element) MmFault
+seen (Ok None) = Ok None
+seen (Ok (Some e)) = Ok (Some (record { identifier = e.0; body = e.1 }))
+seen (Err f) = Err f
+
+-- Elements, each of which is taken into what the ones before gave. There are no more of them than bits.
+unfoldable pub elements_at : {S : Type 0} → (S → Element → Result S MmFault) → ℕ → S → List Bool → Result (S × List Bool) MmFault
+elements_at into zero s bits = Err Short
+elements_at into (suc n) s bits = do
+  next ← element_at bits
+  elim next.0 [ Some e ↦ into s e >>= λ t. elements_at into n t next.1 | None ↦ Ok (s, next.1) ]
+
+-- an element that is read past
+abbrev pub ignore : Unit {0} → Element → Result (Unit {0}) MmFault
+ignore s e = Ok s
+
+-- what follows the fixed fields is ignored
+unfoldable pub extension_at : List ℕ → List Bool → Result (List Bool) MmFault
+extension_at widths bits = do
+  more ← bit_at bits
+  if more.0 then (optionals_at widths more.1 >>= λ rest. elements_at ignore (length rest) tt rest >>= λ ended. Ok ended.1) else Ok more.1
+
+-- a PDU that takes all of the bits
+abbrev pub whole : {A : Type 0} → Result (A × List Bool) MmFault → Result A MmFault
+whole read = read >>= λ p. if length p.1 == 0 then Ok p.0 else Err Trailing

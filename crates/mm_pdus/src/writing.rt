@@ -1,0 +1,27 @@
+//! Fields of a PDU, written one after the other.
+
+ghost use Rattle.std.specs.Prelude.{◌≡◌, ◌<◌, ◌≤◌, ◌^◌, ◌++◌, ◌∷◌, [], OnOk, IfErr};
+ghost use Rattle.identity.specs.Number.{num};
+ghost use Rattle.mm_pdus.specs.declared.fault.MmFault.TheVariants.{NoMemory};
+
+use crate::MmFault;
+use identity::BitWriter;
+use std::alloc::Allocator;
+
+/// Puts `value` at the end, the greatest of its `width` bits first.
+pub fn put<A: Allocator>(writer: &mut BitWriter<A>, value: u64, width: u32) -> Result<(), MmFault>
+    requires width { width ≤ 48 }
+    requires fits { value < 2 ^ width }
+    ensures ok { OnOk result (writer.new ≡ writer.old ++ num width value) }
+    ensures err { IfErr result (λ e. e ≡ NoMemory) }
+{
+    writer.put(value, width).or(Err(MmFault::NoMemory))
+}
+
+/// Puts one bit at the end.
+pub fn put_bit<A: Allocator>(writer: &mut BitWriter<A>, bit: bool) -> Result<(), MmFault>
+    ensures ok { OnOk result (writer.new ≡ writer.old ++ bit ∷ []) }
+    ensures err { IfErr result (λ e. e ≡ NoMemory) }
+{
+    put(writer, u64::from(bit), 1)
+}

@@ -1,0 +1,97 @@
+-- The rules and the radios of a register, and what each call makes of them.
+use Rattle.std.specs.Prelude.{ℕ, nat_le, nat_lt, Bool, true, false, ◌&&◌, Option, Some, None, if◌then◌else◌, refl}
+use Rattle.std.specs.Option.{option_map, is_some}
+use Rattle.std.specs.Coded.{Coded, code_by, coded×}
+use Rattle.std.specs.FinMap as map
+use Rattle.identity.specs.Path.{Path, id_path}
+use Rattle.mm_pdus.specs.declared.update.LocationUpdateType.{LocationUpdateType}
+use Rattle.mm_pdus.specs.declared.update.LocationUpdateType.TheVariants.{Roaming, Migrating, Periodic, ItsiAttach, ServiceRestorationRoaming, ServiceRestorationMigrating, Demand, DisabledMs}
+use Rattle.prefix_tree.specs.Table.{PathMap, coded_table, longest}
+use Rattle.registration.specs.declared.limits.Limits.{Limits}
+use Rattle.registration.specs.declared.rule.Rule.{Rule}
+use Rattle.registration.specs.declared.radio.Radio.{Radio}
+use Rattle.registration.specs.declared.fault.RegFault.{RegFault}
+use Rattle.registration.specs.declared.fault.RegFault.TheVariants.{UnknownIdentity, LaNotAllowed, Congestion, Migration, UnsupportedType, NotAttached, RulesFull}
+use Rattle.registration.specs.contracts.limits.Limits as limits
+use Rattle.registration.specs.contracts.rule.Rule as rule
+use Rattle.registration.specs.contracts.radio.Radio as radio
+
+-- the limits, the rules under their prefixes, and the radios under the 48 bits of their identities
+pub record Registered : Type 0 where
+  pub limits : Limits
+  pub rules : PathMap Rule
+  pub radios : PathMap Radio
+
+-- how it is stored, for proofs
+abbrev pub coded_registered : Coded Registered
+coded_registered =
+    code_by (Limits × (PathMap Rule × PathMap Radio)) (coded× (limits.the_row).coded (coded× (coded_table (rule.the_row).coded) (coded_table (radio.the_row).coded)))
+    (λ s. (s.limits, (s.rules, s.radios))) (λ p. record { limits = p.0; rules = p.1.0; radios = p.1.1 }) (λ _. refl)
+
+-- no rule and no radio
+abbrev pub empty_registered : Limits → Registered
+empty_registered limits = record { limits = limits; rules = map.empty; radios = map.empty }
+
+-- the rule that serves an identity: the one under the longest prefix that begins it
+abbrev pub rule_of : Registered → ℕ → Option Rule
+rule_of s identity = option_map (λ e. e.1) (longest s.rules (id_path identity))
+
+-- where a radio is, or was
+abbrev pub radio_of : Registered → ℕ → Option Radio
+radio_of s itsi = map.get s.radios (id_path itsi)
+
+-- why a rule is not set: its prefix is new and the table is full
+abbrev pub set_refusal : Registered → Path → Option RegFault
+set_refusal s prefix = if is_some (map.get s.rules prefix) then None else (if nat_lt (map.len s.rules) s.limits.rules then None else Some RulesFull)
+
+abbrev pub with_rule : Registered → Path → Rule → Registered
+with_rule s prefix rule = record s { rules = map.insert s.rules prefix rule }
+
+-- why a location update is refused: by its type, then by the identity's rule and the location area, then for want of room
+abbrev pub type_refusal : LocationUpdateType → Option RegFault
+type_refusal Roaming = None
+type_refusal Migrating = Some Migration
+type_refusal Periodic = None
+type_refusal ItsiAttach = None
+type_refusal ServiceRestorationRoaming = None
+type_refusal ServiceRestorationMigrating = Some Migration
+type_refusal Demand = None
+type_refusal DisabledMs = Some UnsupportedType
+
+abbrev pub area_refusal : Option Rule → ℕ → Option RegFault
+area_refusal None area = Some UnknownIdentity
+area_refusal (Some rule) area = if nat_le rule.low area && nat_le area rule.high then None else Some LaNotAllowed
+
+abbrev pub room_refusal : Registered → ℕ → Option RegFault
+room_refusal s itsi = if is_some (radio_of s itsi) then None else (if nat_lt (map.len s.radios) s.limits.radios then None else Some Congestion)
+
+abbrev pub first_of_three : Option RegFault → Option RegFault → Option RegFault → Option RegFault
+first_of_three (Some fault) second third = Some fault
+first_of_three None (Some fault) third = Some fault
+first_of_three None None third = third
+
+abbrev pub locate_refusal : Registered → ℕ → ℕ → LocationUpdateType → Option RegFault
+locate_refusal s itsi area update = first_of_three (type_refusal update) (area_refusal (rule_of s itsi) area) (room_refusal s itsi)
+
+-- the radio is present at this station and location area
+abbrev pub located : Registered → ℕ → ℕ → ℕ → Registered
+located s itsi station area = record s { radios = map.insert s.radios (id_path itsi) (record { station = station; area = area; present = true }) }
+
+-- why a detach is refused: the radio is not present
+abbrev pub is_present : Option Radio → Bool
+is_present None = false
+is_present (Some radio) = radio.present
+
+abbrev pub detach_refusal : Registered → ℕ → Option RegFault
+detach_refusal s itsi = if is_present (radio_of s itsi) then None else Some NotAttached
+
+-- the radio is not present; its station and location area stay
+abbrev pub absent : Radio → Radio
+absent radio = record { station = radio.station; area = radio.area; present = false }
+
+abbrev pub detached_at : Registered → ℕ → Option Radio → Registered
+detached_at s itsi None = s
+detached_at s itsi (Some radio) = record s { radios = map.insert s.radios (id_path itsi) (absent radio) }
+
+abbrev pub detached : Registered → ℕ → Registered
+detached s itsi = detached_at s itsi (radio_of s itsi)

@@ -1,0 +1,20 @@
+//! The location register of a TETRA switch: which rule serves an identity, and where each radio is
+//! (ETSI EN 300 392-2, clause 16, the network's side of location updating and detach).
+#![tactic(auto)]
+
+mod area;
+mod fault;
+mod limits;
+mod radio;
+mod registry;
+mod rule;
+
+pub use area::LocationArea;
+pub use fault::RegFault;
+pub use limits::Limits;
+pub use radio::Radio;
+pub use registry::Registry;
+pub use rule::Rule;
+
+#[cfg(test)]
+mod tests;

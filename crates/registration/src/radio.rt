@@ -1,0 +1,22 @@
+ghost use Rattle.std.specs.Prelude.{◌≡◌, IfOk};
+
+use crate::LocationArea;
+use prefix_tree::TryCopy;
+use std::alloc::AllocError;
+
+/// Where a radio is, or was when it left.
+#[derive(Clone, Copy, Debug, PartialEq, Eq)]
+pub struct Radio {
+    /// The number of the station that its last location update came by.
+    pub station: u16,
+    /// The location area of that update.
+    pub area: LocationArea,
+    /// Whether it has not left since.
+    pub present: bool,
+}
+
+impl TryCopy for Radio {
+    fn try_copy(&self) -> Result<Radio, AllocError> {
+        Ok(*self)
+    }
+}

@@ -1,0 +1,231 @@
+ghost use Rattle.std.specs.Prelude.{◌≡◌, ◌⊎◌, None, Some, OnOk, IfOk, IfErr};
+ghost use Rattle.std.specs.FinMap as map;
+ghost use Rattle.registration.specs.Registered.{rule_of, radio_of, type_refusal, area_refusal, room_refusal, locate_refusal, located, detach_refusal, detached, set_refusal, with_rule, empty_registered};
+ghost use Rattle.registration.specs.declared.fault.RegFault.TheVariants.{NoMemory};
+
+use crate::{Limits, LocationArea, Radio, RegFault, Rule};
+use identity::{Itsi, Prefix};
+use mm_pdus::LocationUpdateType;
+use prefix_tree::{PrefixList, TryCopy};
+use std::alloc::{AllocError, Allocator};
+use std::marker::Model;
+
+/// The rules under their prefixes, and where each radio is.
+#[derive(Drop)]
+pub struct Registry<A: Allocator> {
+    limits: Limits,
+    rules: PrefixList<Rule, A>,
+    radios: PrefixList<Radio, A>,
+}
+
+impl<A: Allocator> Model for Registry<A> {
+    ghost use Rattle.registration.specs.Registered.{Registered, coded_registered};
+
+    ghost Value = { Registered };
+
+    ghost coded = { coded_registered };
+
+    ghost view = { λ r. record { limits = r.limits; rules = r.rules; radios = r.radios } };
+}
+
+impl<A: Allocator + Clone> Registry<A> {
+    /// A register without rules and radios. It fails only where the allocator can't be cloned.
+    pub fn new(alloc: A, limits: Limits) -> Result<Self, AllocError>
+        ensures { IfOk result (λ registry. registry ≡ empty_registered limits) }
+    {
+        let rules = PrefixList::new_in(alloc.clone()?);
+        Ok(Registry {
+            limits,
+            rules,
+            radios: PrefixList::new_in(alloc),
+        })
+    }
+
+    /// How much it holds at most.
+    pub fn limits(&self) -> Limits
+        ensures { result ≡ self.now.limits }
+    {
+        self.limits
+    }
+
+    /// The rule that serves an identity, of a radio or of a group, given by its number: the one under
+    /// the longest prefix that begins its 48 bits.
+    pub fn rule_of(&self, identity: u64) -> Option<Rule>
+        ensures { result ≡ rule_of self.now identity }
+    {
+        match self.rules.longest(identity) {
+            Some((_, rule)) => Some(*rule),
+            None => None,
+        }
+    }
+
+    /// Where the radio is, or was when it left; `None` if it never came.
+    pub fn where_is(&self, itsi: Itsi) -> Option<Radio>
+        ensures { result ≡ radio_of self.now itsi }
+    {
+        self.radios.get(&itsi.path()).copied()
+    }
+
+    /// All rules, each under its prefix: a prefix before its extensions, and else by the first bit
+    /// that differs.
+    pub fn rules<B: Allocator>(&self, alloc: B) -> Result<Vec<(Prefix, Rule), B>, AllocError>
+        ensures { IfOk result (λ list. list.items ≡ map.entries self.now.rules) }
+    {
+        self.rules.entries(alloc)
+    }
+
+    /// All radios, each under the 48 bits of its identity, in order of these.
+    pub fn radios<B: Allocator>(&self, alloc: B) -> Result<Vec<(Prefix, Radio), B>, AllocError>
+        ensures { IfOk result (λ list. list.items ≡ map.entries self.now.radios) }
+    {
+        self.radios.entries(alloc)
+    }
+
+    /// Why `set_rule` would refuse a rule under this prefix, memory aside.
+    pub fn set_refusal(&self, prefix: &Prefix) -> Option<RegFault>
+        ensures { result ≡ set_refusal self.now prefix.now }
+    {
+        if self.rules.get(prefix).is_some() {
+            return None;
+        }
+        if self.rules.len() < self.limits.rules as usize {
+            None
+        } else {
+            Some(RegFault::RulesFull)
+        }
+    }
+
+    /// Sets the rule under a prefix, or replaces the one that is there. `RulesFull` where the prefix
+    /// is new and there are `limits.rules` rules; a refusal changes nothing.
+    pub fn set_rule(&mut self, prefix: Prefix, rule: Rule) -> Result<(), RegFault>
+        ensures ok { OnOk result ((set_refusal self.old prefix ≡ None) × (self.new ≡ with_rule self.old prefix rule)) }
+        ensures err { IfErr result (λ e. ((set_refusal self.old prefix ≡ Some e) ⊎ (e ≡ NoMemory)) × (self.new ≡ self.old)) }
+    {
+        if let Some(fault) = self.set_refusal(&prefix) {
+            return Err(fault);
+        }
+        if self.rules.insert(prefix, rule).is_err() {
+            return Err(RegFault::NoMemory);
+        }
+        Ok(())
+    }
+
+    /// Why `locate` would refuse this location update, memory aside: `UnsupportedType`, `Migration`,
+    /// `UnknownIdentity`, `LaNotAllowed` and `Congestion`, in this order.
+    pub fn locate_refusal(
+        &self,
+        itsi: Itsi,
+        area: LocationArea,
+        update: LocationUpdateType,
+    ) -> Option<RegFault>
+        ensures { result ≡ locate_refusal self.now itsi area update }
+    {
+        if let Some(fault) = type_refusal(update) {
+            return Some(fault);
+        }
+        if let Some(fault) = area_refusal(self.rule_of(itsi.number()), area) {
+            return Some(fault);
+        }
+        self.room_refusal(itsi)
+    }
+
+    /// The radio is present at this station and location area from now on (clause 16.4, location
+    /// updating). A refusal changes nothing.
+    pub fn locate(
+        &mut self,
+        itsi: Itsi,
+        station: u16,
+        area: LocationArea,
+        update: LocationUpdateType,
+    ) -> Result<(), RegFault>
+        ensures ok { OnOk result ((locate_refusal self.old itsi area update ≡ None) × (self.new ≡ located self.old itsi station area)) }
+        ensures err { IfErr result (λ e. ((locate_refusal self.old itsi area update ≡ Some e) ⊎ (e ≡ NoMemory)) × (self.new ≡ self.old)) }
+    {
+        if let Some(fault) = self.locate_refusal(itsi, area, update) {
+            return Err(fault);
+        }
+        let radio = Radio {
+            station,
+            area,
+            present: true,
+        };
+        if self.radios.insert(itsi.path(), radio).is_err() {
+            return Err(RegFault::NoMemory);
+        }
+        Ok(())
+    }
+
+    /// The radio is no longer present; its station and location area stay. `NotAttached` where it is
+    /// not present, and then nothing changes. It takes no memory.
+    pub fn detach(&mut self, itsi: Itsi) -> Result<(), RegFault>
+        ensures ok { OnOk result ((detach_refusal self.old itsi ≡ None) × (self.new ≡ detached self.old itsi)) }
+        ensures err { IfErr result (λ e. (detach_refusal self.old itsi ≡ Some e) × (self.new ≡ self.old)) }
+    {
+        let Some(radio) = self.where_is(itsi) else {
+            return Err(RegFault::NotAttached);
+        };
+        if !radio.present {
+            return Err(RegFault::NotAttached);
+        }
+        let absent = Radio {
+            present: false,
+            ..radio
+        };
+        let _ = self.radios.replace(&itsi.path(), absent);
+        Ok(())
+    }
+
+    fn room_refusal(&self, itsi: Itsi) -> Option<RegFault>
+        ensures { result ≡ room_refusal self.now itsi }
+    {
+        if self.where_is(itsi).is_some() {
+            return None;
+        }
+        if self.radios.len() < self.limits.radios as usize {
+            None
+        } else {
+            Some(RegFault::Congestion)
+        }
+    }
+}
+
+impl<A: Allocator + Clone> TryCopy for Registry<A> {
+    fn try_copy(&self) -> Result<Self, AllocError> {
+        Ok(Registry {
+            limits: self.limits,
+            rules: self.rules.try_copy()?,
+            radios: self.radios.try_copy()?,
+        })
+    }
+}
+
+fn type_refusal(update: LocationUpdateType) -> Option<RegFault>
+    ensures { result ≡ type_refusal update }
+{
+    match update {
+        LocationUpdateType::DisabledMs => Some(RegFault::UnsupportedType),
+        LocationUpdateType::Migrating | LocationUpdateType::ServiceRestorationMigrating => {
+            Some(RegFault::Migration)
+        }
+        LocationUpdateType::Roaming
+        | LocationUpdateType::Periodic
+        | LocationUpdateType::ItsiAttach
+        | LocationUpdateType::ServiceRestorationRoaming
+        | LocationUpdateType::Demand => None,
+    }
+}
+
+fn area_refusal(rule: Option<Rule>, area: LocationArea) -> Option<RegFault>
+    ensures { result ≡ area_refusal rule area }
+{
+    match rule {
+        None => Some(RegFault::UnknownIdentity),
+        Some(rule) => {
+            if rule.low().number() <= area.number() && area.number() <= rule.high().number() {
+                None
+            } else {
+                Some(RegFault::LaNotAllowed)
+            }
+        }
+    }
+}

@@ -1,0 +1,5 @@
+use Rattle.sds_tl.proofs.Written.{is_spelt}
+use Rattle.sds_tl.proofs.writing.write.Goals as goal
+
+pub returns-clause-spelt : goal.returns-clause-spelt
+returns-clause-spelt g c = is_spelt g.row.B.Denot c.args.sds.now c.written.result c.written.ensures.range c.written.ensures.exact

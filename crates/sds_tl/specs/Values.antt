@@ -1,0 +1,17 @@
+-- The numbers that stand for values.
+use Rattle.std.specs.Prelude.{ℕ, zero, suc}
+use Rattle.sds_tl.specs.declared.pdu.DeliveryReportRequest.{DeliveryReportRequest}
+use Rattle.sds_tl.specs.declared.pdu.DeliveryReportRequest.TheVariants as requests
+
+abbrev pub code_of : DeliveryReportRequest → ℕ
+code_of requests.None = 0
+code_of requests.Received = 1
+code_of requests.Consumed = 2
+code_of requests.Both = 3
+
+-- the request of two bits
+abbrev pub request_of : ℕ → DeliveryReportRequest
+request_of zero = requests.None
+request_of (suc zero) = requests.Received
+request_of (suc (suc zero)) = requests.Consumed
+request_of (suc (suc (suc n))) = requests.Both

@@ -1,0 +1,19 @@
+//! The PDUs of the short data transport layer (ETSI EN 300 392-2, clause 29), as bits.
+#![tactic(auto)]
+
+mod fault;
+pub mod laws;
+mod pdu;
+mod pieces;
+mod reading;
+mod reserved;
+mod writing;
+
+pub use fault::SdsFault;
+pub use pdu::{DeliveryReportRequest, DeliveryStatus, Head, MOST_BITS, ProtocolIdentifier, Sds};
+pub use reading::{head, read};
+pub use reserved::canonical;
+pub use writing::write;
+
+#[cfg(test)]
+mod tests;

@@ -1,0 +1,206 @@
+ghost use Rattle.std.specs.Prelude.{◌≡◌, ◌<◌, ◌≤◌, ◌^◌, ◌==◌, nat_lt, if◌then◌else◌, Some, None};
+ghost use Rattle.sds_tl.specs.Reading.{head_of};
+
+use identity::Bits;
+use std::alloc::Allocator;
+use std::marker::Model;
+
+/// Which application a PDU is for: a number from 128 to 255. 130 is text messaging.
+#[derive(Clone, Copy, Debug, PartialEq, Eq)]
+pub struct ProtocolIdentifier {
+    number: u8,
+}
+
+impl Model for ProtocolIdentifier {
+    ghost use Rattle.std.specs.Prelude.{ℕ, ◌<◌, ◌≤◌, ◌^◌};
+
+    ghost Value = { ℕ };
+
+    ghost view = { λ p. p.number };
+
+    ghost invariant = { λ p. (128 ≤ p.number) × (p.number < 2 ^ 8) };
+
+    ghost inverse = { λ n. record { number = n } };
+}
+
+impl ProtocolIdentifier {
+    /// The identifier of this number; `None` below 128.
+    pub fn new(number: u8) -> Option<ProtocolIdentifier>
+        ensures { result ≡ (if nat_lt number 128 then None else Some number) }
+    {
+        if number < 128 {
+            return None;
+        }
+        Some(ProtocolIdentifier { number })
+    }
+
+    /// Its number.
+    pub fn number(&self) -> u8
+        ensures value { result ≡ self.now }
+        ensures taken { 128 ≤ result }
+    {
+        self.number
+    }
+}
+
+/// Of which events the sender of a message wants to be told.
+#[derive(Clone, Copy, Debug, PartialEq, Eq, Drop)]
+pub enum DeliveryReportRequest {
+    /// Of none.
+    None,
+    /// That the message was received.
+    Received,
+    /// That the message was consumed.
+    Consumed,
+    /// Of both.
+    Both,
+}
+
+/// What became of a message: a number of 8 bits, of which this switch judges two.
+#[derive(Clone, Copy, Debug, PartialEq, Eq)]
+pub struct DeliveryStatus {
+    code: u8,
+}
+
+impl Model for DeliveryStatus {
+    ghost use Rattle.std.specs.Prelude.{ℕ, ◌<◌, ◌^◌};
+
+    ghost Value = { ℕ };
+
+    ghost view = { λ s. s.code };
+
+    ghost invariant = { λ s. s.code < 2 ^ 8 };
+
+    ghost inverse = { λ n. record { code = n } };
+}
+
+impl DeliveryStatus {
+    /// The status of this code.
+    pub fn new(code: u8) -> DeliveryStatus
+        ensures { result ≡ code }
+    {
+        DeliveryStatus { code }
+    }
+
+    /// Its code.
+    pub fn code(&self) -> u8
+        ensures { result ≡ self.now }
+    {
+        self.code
+    }
+
+    /// Whether the destination acknowledged that it received the message.
+    pub fn is_received(&self) -> bool
+        ensures { result ≡ (self.now == 0) }
+    {
+        self.code == 0
+    }
+
+    /// Whether the destination consumed the message.
+    pub fn is_consumed(&self) -> bool
+        ensures { result ≡ (self.now == 2) }
+    {
+        self.code == 2
+    }
+}
+
+/// The most bits that a PDU has.
+pub const MOST_BITS: usize = 2047;
+
+/// A PDU of the short data transport layer. With more user data than `MOST_BITS` leave room for it can't be written.
+#[derive(Drop)]
+pub enum Sds<A: Allocator> {
+    /// A message (SDS-TRANSFER).
+    Transfer {
+        /// Which application it is for.
+        identifier: ProtocolIdentifier,
+        /// Which delivery reports its sender asks for.
+        request: DeliveryReportRequest,
+        /// Service selection or short form report, as it is sent.
+        selection: bool,
+        /// The number, 0 to 255, by which reports name the message.
+        reference: u8,
+        /// The message itself: any bits, into which the switch does not look.
+        user_data: Bits<A>,
+    },
+    /// What became of a message (SDS-REPORT).
+    Report {
+        /// Which application it is for.
+        identifier: ProtocolIdentifier,
+        /// Whether an acknowledgement is required.
+        acknowledge: bool,
+        /// What became of the message.
+        status: DeliveryStatus,
+        /// The reference of the message.
+        reference: u8,
+        /// Any bits, into which the switch does not look.
+        user_data: Bits<A>,
+    },
+    /// That a report came (SDS-ACK).
+    Ack {
+        /// Which application it is for.
+        identifier: ProtocolIdentifier,
+        /// What the report said.
+        status: DeliveryStatus,
+        /// The reference of the message.
+        reference: u8,
+    },
+}
+
+/// What the switch judges of a PDU: all but its user data, its protocol identifier and the service selection.
+/// Each field means what it means in `Sds`.
+#[derive(Clone, Copy, Debug, PartialEq, Eq, Drop)]
+pub enum Head {
+    /// A message.
+    Transfer {
+        request: DeliveryReportRequest,
+        reference: u8,
+    },
+    /// What became of a message.
+    Report {
+        acknowledge: bool,
+        status: DeliveryStatus,
+        reference: u8,
+    },
+    /// That a report came.
+    Ack {
+        status: DeliveryStatus,
+        reference: u8,
+    },
+}
+
+impl<A: Allocator> Sds<A> {
+    /// What the switch judges of it.
+    pub fn head(&self) -> Head
+        ensures { result ≡ head_of self.now }
+    {
+        match self {
+            Sds::Transfer {
+                request,
+                reference,
+                ..
+            } => Head::Transfer {
+                request: *request,
+                reference: *reference,
+            },
+            Sds::Report {
+                acknowledge,
+                status,
+                reference,
+                ..
+            } => Head::Report {
+                acknowledge: *acknowledge,
+                status: *status,
+                reference: *reference,
+            },
+            Sds::Ack {
+                status,
+                reference,
+                ..
+            } => Head::Ack {
+                status: *status,
+                reference: *reference,
+            },
+        }
+    }
+}

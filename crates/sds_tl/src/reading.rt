@@ -1,0 +1,240 @@
+//! Reading bits, each field at its place.
+
+ghost use Rattle.std.specs.Prelude.{◌≡◌, ◌<◌, ◌≤◌, ◌^◌, ◌+◌, length, drop, IfOk, IfErr, Ok, None};
+ghost use Rattle.sds_tl.specs.declared.fault.SdsFault.TheVariants.{NoMemory};
+ghost use Rattle.sds_tl.specs.declared.pdu.Sds.{Sds};
+ghost use Rattle.sds_tl.specs.Values.{request_of};
+ghost use Rattle.sds_tl.specs.Syntax.{Spells};
+ghost use Rattle.sds_tl.specs.Reading.{field, flag, type_of, data_fault, ack_fault, fault, value, transfer, report, ack, head_value, reading, heading, Gives};
+
+use crate::pieces::rest;
+use crate::{
+    DeliveryReportRequest, DeliveryStatus, Head, MOST_BITS, ProtocolIdentifier, Sds, SdsFault,
+};
+use identity::{BitReader, Bits};
+use std::alloc::Allocator;
+
+/// The number that the `width` bits from place `at` on are.
+pub fn field<A: Allocator>(bits: &Bits<A>, at: usize, width: u32) -> u64
+    requires width { width ≤ 48 }
+    requires room { at + width ≤ length bits.now }
+    ensures value { result ≡ field at width bits.now }
+    ensures small { result < 2 ^ width }
+{
+    let mut reader = BitReader::new(bits);
+    let _before = reader.cut(at).unwrap();
+    reader.take(width).unwrap()
+}
+
+/// The bit at place `at`.
+fn flag<A: Allocator>(bits: &Bits<A>, at: usize) -> bool
+    requires { at < length bits.now }
+    ensures { result ≡ flag at bits.now }
+{
+    field(bits, at, 1) == 1
+}
+
+/// The first fault of a message or a report from its storage control on; its user data begin at `begin`.
+#[tactic(auto, unfolding(crate::specs::Reading::data_fault))]
+fn data_fault<A: Allocator>(bits: &Bits<A>, begin: usize) -> Option<SdsFault>
+    requires { 16 ≤ length bits.now }
+    ensures { result ≡ data_fault begin bits.now }
+{
+    if flag(bits, 15) {
+        return Some(SdsFault::StorageControl);
+    }
+    if bits.len() < begin {
+        return Some(SdsFault::Short);
+    }
+    None
+}
+
+/// The first fault of an acknowledgement from its delivery status on.
+#[tactic(auto, unfolding(crate::specs::Reading::ack_fault))]
+fn ack_fault<A: Allocator>(bits: &Bits<A>) -> Option<SdsFault>
+    ensures { result ≡ ack_fault bits.now }
+{
+    if bits.len() < 32 {
+        return Some(SdsFault::Short);
+    }
+    if bits.len() > 32 {
+        return Some(SdsFault::Trailing);
+    }
+    None
+}
+
+/// The first fault from the left, if there is one.
+#[tactic(auto, unfolding(crate::specs::Reading::fault))]
+pub fn fault<A: Allocator>(bits: &Bits<A>) -> Option<SdsFault>
+    ensures { result ≡ fault bits.now }
+{
+    if bits.len() > MOST_BITS {
+        return Some(SdsFault::TooLong);
+    }
+    if bits.len() < 8 {
+        return Some(SdsFault::Short);
+    }
+    if field(bits, 0, 8) < 128 {
+        return Some(SdsFault::NotSdsTl);
+    }
+    if bits.len() < 12 {
+        return Some(SdsFault::Short);
+    }
+    let kind = field(bits, 8, 4);
+    if kind > 2 {
+        return Some(SdsFault::UnknownType);
+    }
+    if bits.len() < 16 {
+        return Some(SdsFault::Short);
+    }
+    match kind {
+        0 => data_fault(bits, 24),
+        1 => data_fault(bits, 32),
+        _ => ack_fault(bits),
+    }
+}
+
+fn identifier<A: Allocator>(bits: &Bits<A>) -> ProtocolIdentifier
+    requires room { 8 ≤ length bits.now }
+    requires layer { 128 ≤ field 0 8 bits.now }
+    ensures { result ≡ field 0 8 bits.now }
+{
+    ProtocolIdentifier::new(field(bits, 0, 8) as u8).unwrap()
+}
+
+fn request<A: Allocator>(bits: &Bits<A>) -> DeliveryReportRequest
+    requires { 14 ≤ length bits.now }
+    ensures { result ≡ request_of (field 12 2 bits.now) }
+{
+    match field(bits, 12, 2) {
+        0 => DeliveryReportRequest::None,
+        1 => DeliveryReportRequest::Received,
+        2 => DeliveryReportRequest::Consumed,
+        _ => DeliveryReportRequest::Both,
+    }
+}
+
+/// The octet at place `at`.
+fn octet<A: Allocator>(bits: &Bits<A>, at: usize) -> u8
+    requires { at + 8 ≤ length bits.now }
+    ensures { result ≡ field at 8 bits.now }
+{
+    field(bits, at, 8) as u8
+}
+
+fn status<A: Allocator>(bits: &Bits<A>) -> DeliveryStatus
+    requires { 24 ≤ length bits.now }
+    ensures { result ≡ field 16 8 bits.now }
+{
+    DeliveryStatus::new(octet(bits, 16))
+}
+
+fn transfer<A: Allocator, B: Allocator>(alloc: A, bits: &Bits<B>) -> Result<Sds<A>, SdsFault>
+    requires room { 24 ≤ length bits.now }
+    requires layer { 128 ≤ field 0 8 bits.now }
+    ensures ok { IfOk result (λ sds. sds ≡ transfer bits.now) }
+    ensures err { IfErr result (λ e. e ≡ NoMemory) }
+{
+    Ok(Sds::Transfer {
+        identifier: identifier(bits),
+        request: request(bits),
+        selection: flag(bits, 14),
+        reference: octet(bits, 16),
+        user_data: rest(alloc, bits, 24)?,
+    })
+}
+
+fn report<A: Allocator, B: Allocator>(alloc: A, bits: &Bits<B>) -> Result<Sds<A>, SdsFault>
+    requires room { 32 ≤ length bits.now }
+    requires layer { 128 ≤ field 0 8 bits.now }
+    ensures ok { IfOk result (λ sds. sds ≡ report bits.now) }
+    ensures err { IfErr result (λ e. e ≡ NoMemory) }
+{
+    Ok(Sds::Report {
+        identifier: identifier(bits),
+        acknowledge: flag(bits, 12),
+        status: status(bits),
+        reference: octet(bits, 24),
+        user_data: rest(alloc, bits, 32)?,
+    })
+}
+
+fn ack<A: Allocator, B: Allocator>(bits: &Bits<B>) -> Sds<A>
+    requires room { 32 ≤ length bits.now }
+    requires layer { 128 ≤ field 0 8 bits.now }
+    ensures { result ≡ ack bits.now }
+{
+    Sds::Ack {
+        identifier: identifier(bits),
+        status: status(bits),
+        reference: octet(bits, 24),
+    }
+}
+
+/// What bits without a fault stand for.
+#[tactic(auto, unfolding(crate::specs::Reading::value), using(crate::proofs::Fitting::layer_of, crate::proofs::Fitting::header_of, crate::proofs::Fitting::transfer_room, crate::proofs::Fitting::report_room, crate::proofs::Fitting::ack_room))]
+fn value<A: Allocator, B: Allocator>(alloc: A, bits: &Bits<B>) -> Result<Sds<A>, SdsFault>
+    requires { fault bits.now ≡ None }
+    ensures ok { IfOk result (λ sds. sds ≡ value bits.now) }
+    ensures err { IfErr result (λ e. e ≡ NoMemory) }
+{
+    match field(bits, 8, 4) {
+        0 => transfer(alloc, bits),
+        1 => report(alloc, bits),
+        _ => Ok(ack(bits)),
+    }
+}
+
+/// The head of what bits without a fault stand for.
+#[tactic(auto, unfolding(crate::specs::Reading::head_value), using(crate::proofs::Fitting::header_of, crate::proofs::Fitting::transfer_room, crate::proofs::Fitting::report_room, crate::proofs::Fitting::ack_room))]
+fn head_value<A: Allocator>(bits: &Bits<A>) -> Head
+    requires { fault bits.now ≡ None }
+    ensures { result ≡ head_value bits.now }
+{
+    match field(bits, 8, 4) {
+        0 => Head::Transfer {
+            request: request(bits),
+            reference: octet(bits, 16),
+        },
+        1 => Head::Report {
+            acknowledge: flag(bits, 12),
+            status: status(bits),
+            reference: octet(bits, 24),
+        },
+        _ => Head::Ack {
+            status: status(bits),
+            reference: octet(bits, 24),
+        },
+    }
+}
+
+fn whole<A: Allocator, B: Allocator>(alloc: A, bits: &Bits<B>) -> Result<Sds<A>, SdsFault>
+    ensures { Gives result (reading bits.now) }
+{
+    match fault(bits) {
+        Some(fault) => Err(fault),
+        None => value(alloc, bits),
+    }
+}
+
+/// The PDU that the bits spell, all of the bits; else the first fault from the left.
+pub fn read<A: Allocator, B: Allocator>(alloc: A, bits: &Bits<B>) -> Result<Sds<A>, SdsFault>
+    // What is read is spelt so.
+    ensures found { IfOk result (λ sds. Spells sds bits.now) }
+    // What is spelt so is read, unless memory runs out.
+    ensures only { (sds : Sds A) → Spells sds bits.now → Gives result (Ok sds) }
+    // Which fault it is.
+    ensures exact { Gives result (reading bits.now) }
+{
+    whole(alloc, bits)
+}
+
+/// The head of the PDU that the bits spell; else the first fault from the left. Takes no memory.
+pub fn head<A: Allocator>(bits: &Bits<A>) -> Result<Head, SdsFault>
+    ensures { result ≡ heading bits.now }
+{
+    match fault(bits) {
+        Some(fault) => Err(fault),
+        None => Ok(head_value(bits)),
+    }
+}

@@ -1,0 +1,7 @@
+pub mod Crash
+pub mod Disk
+pub mod Example
+pub mod Failing
+pub mod Memory
+pub mod Past
+pub mod Run

@@ -1,0 +1,75 @@
+-- What a disk in memory is: the sectors that it began with, after each of its calls.
+use Rattle.std.specs.Prelude.{◌≡◌, ℕ, ◌<◌, ◌≤◌, ◌-◌, Bool, true, false, List, [], ◌∷◌, length, map, replicate, set, take, nat_lt, if◌then◌else◌, Result, Ok, Err}
+use Rattle.sector_disk.specs.Disk.{IsImage, IsSector, View, sector}
+use Rattle.sector_disk.specs.Crash.{is_pending}
+use Rattle.sector_disk.specs.declared.disk.DiskError.{DiskError}
+use Rattle.sector_disk.specs.declared.disk.DiskError.TheVariants.{DiskFault}
+use Rattle.sector_disk.specs.declared.record.Call.{Call}
+use Rattle.sector_disk.specs.declared.record.Call.TheVariants.{Read, Write, Sync}
+use Rattle.sector_disk.specs.declared.memory.MemoryDisk.{MemoryDisk}
+
+-- what stands in it: the sectors, and for each whether it is pending
+pub record Contents : Type 0 where
+  pub reads : List (List ℕ)
+  pub pending : List Bool
+
+-- after one call that did not fail
+abbrev pub called : Call → Contents → Contents
+called (Read at) was = was
+called (Write at bytes) was = record { reads = set was.reads at bytes; pending = set was.pending at true }
+called Sync was = record { reads = was.reads; pending = map (λ mark. false) was.pending }
+
+-- after some calls, the first of them first
+abbrev pub after : List Call → Contents → Contents
+after [] was = was
+after (call ∷ calls) was = after calls (called call was)
+
+-- one of the images after k of the calls, for some k from t on
+abbrev pub left_since : Contents → List Call → ℕ → List (List ℕ) → Type 0
+left_since was calls t image = (k : ℕ) × (t ≤ k) × (k ≤ length calls)
+    × IsImage (after (take k calls) was).reads (is_pending (after (take k calls) was).pending) image
+
+abbrev pub began : {A : Type 0} → MemoryDisk A → Contents
+began disk = record { reads = disk.base.items; pending = map (λ bytes. false) disk.base.items }
+
+-- what stands in it is what its calls made of what it began with
+pub record IsReplayed {A : Type 0} (disk : MemoryDisk A) : Type 0 where
+  pub reads : disk.sectors.items ≡ (after disk.record.calls.items (began disk)).reads
+  pub pending : disk.pending.items ≡ (after disk.record.calls.items (began disk)).pending
+  pub bytes : (k : ℕ) → k < length disk.sectors.items → IsSector (sector disk.sectors.items k)
+
+abbrev pub memory_view : {A : Type 0} → MemoryDisk A → View
+memory_view disk = record {
+  sectors = length disk.sectors.items;
+  reads = disk.sectors.items;
+  pending = is_pending disk.pending.items;
+  moment = length disk.record.calls.items;
+  since = left_since (began disk) disk.record.calls.items;
+  failures = disk.record.failures;
+  honest = IsReplayed disk;
+}
+
+-- how many more calls its record has room for
+abbrev pub room_left : {A : Type 0} → MemoryDisk A → ℕ
+room_left disk = disk.record.room - length disk.record.calls.items
+
+-- A call succeeds as long as the record has room, and then fills it by one.
+pub record HasRecorded {A : Type 0} (old new : MemoryDisk A) (result : Result Unit DiskError) : Type 0 where
+  pub answer : result ≡ (if nat_lt 0 (room_left old) then Ok tt else Err DiskFault)
+  pub room : room_left new ≡ room_left old - 1
+
+-- a new disk: zeros, nothing pending, no call recorded
+pub record IsBlank {A : Type 0} (disk : MemoryDisk A) (sectors calls : ℕ) : Type 0 where
+  pub honest : (memory_view disk).honest
+  pub reads : disk.sectors.items ≡ replicate sectors (replicate 512 0)
+  pub durable : (k : ℕ) → is_pending disk.pending.items k ≡ false
+  pub room : room_left disk ≡ calls
+  pub failures : disk.record.failures ≡ 0
+
+-- a disk after a stop: nothing pending, an empty record with all its room
+pub record IsRestarted {A : Type 0} (old new : MemoryDisk A) : Type 0 where
+  pub honest : (memory_view old).honest → (memory_view new).honest
+  pub durable : (k : ℕ) → is_pending new.pending.items k ≡ false
+  pub moment : (memory_view new).moment ≡ 0
+  pub room : room_left new ≡ old.record.room
+  pub failures : new.record.failures ≡ old.record.failures

@@ -1,0 +1,19 @@
+-- What a stop may leave at some moment of a run of calls.
+use Rattle.std.specs.Prelude.{◌≡◌, ◌⊎◌, ℕ, ◌<◌, ◌≤◌, ◌+◌, List, length}
+use Rattle.sector_disk.specs.Disk.{View, IsImageOf, sector}
+
+-- A stop at any moment from old to new leaves an image with P.
+pub record LeavesOnly (old new : View) (P : List (List ℕ) → Type 0) : Type 0 where
+  pub later : old.moment ≤ new.moment
+  pub each : (image : List (List ℕ)) → new.since old.moment image → P image
+  -- for a run that began earlier
+  pub before : (t : ℕ) (image : List (List ℕ)) → t ≤ old.moment → new.since t image → old.since t image ⊎ P image
+
+-- new is old with any sectors in the place of n of them, from at on
+pub record IsTorn (at n : ℕ) (old new : List (List ℕ)) : Type 0 where
+  pub count : length new ≡ length old
+  pub others : (k : ℕ) → (k < at) ⊎ (at + n ≤ k) → sector new k ≡ sector old k
+
+-- an image of the disk with any sectors in the place of n of them, from at on
+abbrev pub IsTornImage : View → ℕ → ℕ → List (List ℕ) → Type 0
+IsTornImage disk at n image = (was : List (List ℕ)) × IsImageOf disk was × IsTorn at n was image

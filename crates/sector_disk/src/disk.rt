@@ -1,0 +1,66 @@
+// A disk as its users see it.
+ghost use Rattle.std.specs.Prelude.{◌≡◌, ◌<◌, ◌≤◌, ℕ, Err, IsErrOf};
+ghost use Rattle.sector_disk.specs.Disk.{View, IsSound, HasRead, HasWritten, HasSynced, HasCause};
+ghost use Rattle.sector_disk.specs.declared.disk.DiskError.TheVariants.{OutOfRange};
+
+use thiserror::Error;
+
+/// Why a call of a disk is refused.
+#[derive(Clone, Copy, Debug, PartialEq, Eq, Drop, Error)]
+pub enum DiskError {
+    /// The device failed. What the call did is not known.
+    #[error("the disk has failed")]
+    DiskFault,
+    /// The disk has no sector of that number. Nothing was done.
+    #[error("the disk has no such sector")]
+    OutOfRange,
+}
+
+/// Sectors of 512 bytes, numbered from 0. No call takes memory.
+///
+/// What is said of an honest disk holds under the premise that the device keeps it, which each call passes on.
+pub trait Disk {
+    /// What contracts see of it.
+    ghost view: { Self → View };
+
+    /// How many sectors it has.
+    fn sectors(&self) -> u64
+        ensures { result ≡ (view self.now).sectors };
+
+    /// Reads one sector.
+    ///
+    /// After a `DiskFault` the bytes may hold anything.
+    fn read(&mut self, at: u64, bytes: &mut [u8; 512]) -> Result<(), DiskError>
+        ensures effect { at < (view self.old).sectors → (view self.old).honest
+            → HasRead (view self.old) (view self.new) at bytes.new result }
+        ensures cause { HasCause (view self.old) (view self.new) result }
+        ensures out_of_range { (view self.old).sectors ≤ at
+            → (result ≡ Err OutOfRange) × (self.new ≡ self.old) }
+        ensures in_range { IsErrOf result OutOfRange → (view self.old).sectors ≤ at };
+
+    /// Writes one sector. Until the next sync that succeeds, a stop may leave any bytes in it.
+    ///
+    /// After a `DiskFault` it may read as anything.
+    fn write(&mut self, at: u64, bytes: &[u8; 512]) -> Result<(), DiskError>
+        ensures effect { at < (view self.old).sectors → (view self.old).honest
+            → HasWritten (view self.old) (view self.new) at bytes.now result }
+        ensures cause { HasCause (view self.old) (view self.new) result }
+        ensures out_of_range { (view self.old).sectors ≤ at
+            → (result ≡ Err OutOfRange) × (self.new ≡ self.old) }
+        ensures in_range { IsErrOf result OutOfRange → (view self.old).sectors ≤ at };
+
+    /// Makes what was written last. Once it has answered `Ok`, a stop leaves what reading gives.
+    ///
+    /// After a `DiskFault` nothing is safer than before.
+    fn sync(&mut self) -> Result<(), DiskError>
+        ensures effect { (view self.old).honest → HasSynced (view self.old) (view self.new) result }
+        ensures cause { HasCause (view self.old) (view self.new) result }
+        ensures in_range { IsErrOf result OutOfRange → ⊥ };
+
+    /// How often the device has failed, up to the greatest `u64`.
+    fn failures(&self) -> u64
+        ensures { result ≡ (view self.now).failures };
+
+    /// An honest disk is sound.
+    ghost sound: { (disk : Self) → (view disk).honest → IsSound (view disk) };
+}

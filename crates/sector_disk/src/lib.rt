@@ -1,0 +1,15 @@
+//! A disk of sectors of 512 bytes, and what a stop may leave of it.
+#![tactic(auto)]
+
+mod disk;
+pub mod example;
+mod failing;
+mod memory;
+mod record;
+
+pub use disk::{Disk, DiskError};
+pub use failing::{Failing, FailingDisk};
+pub use memory::MemoryDisk;
+
+#[cfg(test)]
+mod tests;
