@@ -3,3 +3,4 @@ pub mod StepLaws
 pub mod StateLaws
 pub mod ResendLaws
 pub mod UpdateLaws
+pub mod ReplyLaws

@@ -8,6 +8,7 @@ use Rattle.std.proofs.lemmas.Bool.{cases_eq}
 use mathlib.Core.Bool.{false≢true}
 use Rattle.centre_core.specs.declared.command.Command.{Command}
 use Rattle.centre_core.specs.declared.reply.Reply.{Reply}
+use Rattle.centre_core.specs.declared.reply.Reply.TheVariants.{Accepted, Kept, Refused}
 use Rattle.centre_core.specs.State.{State, Served}
 use Rattle.centre_core.specs.Step.{step, step_after, is_station, accepted}
 use Rattle.centre_core.specs.History.{is_acceptance, accepts, next, after, kept_of, is_at_least, is_no_later, is_resend, fresh_from}
@@ -84,13 +85,14 @@ module _ {A : Type 0} where
   is_new s c false e ok = refl
   is_new s c true e ok = absurd (false≢true (sym (idle s c e).1 ∙ ok))
 
-  outcome_by : (s t : State) (c : Command A) (b : Bool) → Outcome s c t b → ((b ≡ true) × Advanced s t c) ⊎ ((t ≡ s) × (b ≡ false))
-  outcome_by s t c true h = inl (refl, h)
-  outcome_by s t c false h = inr (h, refl)
+  outcome_by : (s t : State) (c : Command A) (reply : Reply A) → Outcome s c t reply → ((is_acceptance reply ≡ true) × Advanced s t c) ⊎ ((t ≡ s) × (is_acceptance reply ≡ false))
+  outcome_by s t c (Accepted number pdu) h = inl (refl, h.0)
+  outcome_by s t c (Kept number pdu) h = inr (h, refl)
+  outcome_by s t c (Refused refusal) h = inr (h, refl)
 
   -- a command is accepted, or it changes nothing
   outcome : (s : State) (c : Command A) → ((accepts s c ≡ true) × Advanced s (next s c) c) ⊎ ((next s c ≡ s) × (accepts s c ≡ false))
-  outcome s c = outcome_by s (next s c) c (accepts s c) (says A s c)
+  outcome s c = outcome_by s (next s c) c (step s c).1 (says A s c)
 
 by_kept : (kept : Option Served) (q sequence : ℕ) → is_at_least q kept ≡ true → is_at_least sequence kept ≡ false → nat_le q sequence ≡ true
 by_kept None q sequence h k = absurd (false≢true h)

@@ -18,9 +18,10 @@ use Rattle.centre_core.specs.declared.command.Command.{Command}
 use Rattle.centre_core.specs.declared.command.Body.{Body}
 use Rattle.centre_core.specs.declared.command.Body.TheVariants.{RuleSet, Mm}
 use Rattle.centre_core.specs.declared.reply.Reply.{Reply}
+use Rattle.centre_core.specs.declared.reply.Reply.TheVariants.{Accepted, Kept, Refused}
 use Rattle.centre_core.specs.State.{State, Served, last_number, IsState, IsNumbered}
 use Rattle.centre_core.specs.Step.{step, step_new, step_after, step_body, step_plain, step_update, step_mm, kept_at, is_station}
-use Rattle.centre_core.specs.History.{is_acceptance, next}
+use Rattle.centre_core.specs.History.{next}
 use Rattle.centre_core.specs.Laws.{EmptyIsState, StepKeepsState, StepIsNext}
 use Rattle.centre_core.proofs.RegisteredLaws.{empty_within, located_within}
 use Rattle.centre_core.proofs.StepLaws.{Advanced, Outcome, says}
@@ -40,12 +41,13 @@ module _ {A : Type 0} where
         All-set (IsNumbered (s.count + 1)) s.served (c.station - 1) _ (omega arith, omega arith) (All-weaker (IsNumbered s.count) (IsNumbered (s.count + 1)) (one_more s.count) s.served h.3),
       )
 
-  state_by : (s t : State) (c : Command A) (b : Bool) → Outcome s c t b → IsState s → IsState t
-  state_by s t c true a h = advanced_state s t c a h
-  state_by s t c false e h = subst IsState (sym e) h
+  state_by : (s t : State) (c : Command A) (reply : Reply A) → Outcome s c t reply → IsState s → IsState t
+  state_by s t c (Accepted number pdu) a h = advanced_state s t c a.0 h
+  state_by s t c (Kept number pdu) e h = subst IsState (sym e) h
+  state_by s t c (Refused refusal) e h = subst IsState (sym e) h
 
 pub step_keeps_state : {A : Type 0} → StepKeepsState A
-step_keeps_state {A} s c h = state_by s (next s c) c (is_acceptance (step {B = A} s c).1) (says A s c) h
+step_keeps_state {A} s c h = state_by s (next s c) c (step {B = A} s c).1 (says A s c) h
 
 pub empty_is_state : EmptyIsState
 empty_is_state limits =

@@ -1,5 +1,5 @@
 -- What one command makes of a state.
-use Rattle.std.proofs.Common.{◌≡◌, ℕ, ◌<◌, Bool, true, false, List, refl, Option, Some, None, Result, Ok, Err, arith}
+use Rattle.std.proofs.Common.{◌≡◌, ℕ, ◌+◌, ◌<◌, Bool, true, false, List, refl, Option, Some, None, Result, Ok, Err, arith}
 use Rattle.std.specs.Prelude.{◌==◌, nat_lt, if◌then◌else◌}
 use Rattle.std.proofs.lemmas.Bool.Decides.{nat_tests}
 use Rattle.mm_pdus.specs.declared.update.LocationUpdateType.{LocationUpdateType}
@@ -13,6 +13,7 @@ use Rattle.centre_core.specs.declared.command.Command.{Command}
 use Rattle.centre_core.specs.declared.command.Body.{Body}
 use Rattle.centre_core.specs.declared.command.Body.TheVariants.{RuleSet, Mm}
 use Rattle.centre_core.specs.declared.reply.Reply.{Reply}
+use Rattle.centre_core.specs.declared.reply.Reply.TheVariants.{Accepted, Kept, Refused}
 use Rattle.centre_core.specs.State.{State, Served, IsWithin, last_number}
 use Rattle.centre_core.specs.Step.{step, step_new, step_after, step_body, step_plain, step_update, step_mm, accepted, kept_at, is_station, accept_pdu}
 use Rattle.centre_core.specs.History.{is_acceptance}
@@ -35,22 +36,24 @@ module _ {A : Type 0} where
     pub change : IsChange s.registered registered
     pub numbers_left : s.count < last_number
 
-  -- it is accepted, or nothing changes
-  abbrev pub Outcome : State → Command A → State → Bool → Type 0
-  Outcome s c t true = Advanced s t c
-  Outcome s c t false = t ≡ s
+module _ {A B : Type 0} where
+  -- it is accepted, and the reply has the number and the PDU that are kept, or nothing changes
+  abbrev pub Outcome : State → Command A → State → Reply B → Type 0
+  Outcome s c t (Accepted number pdu) = (a : Advanced s t c) × (number ≡ s.count + 1) × (pdu ≡ a.pdu)
+  Outcome s c t (Kept number pdu) = t ≡ s
+  Outcome s c t (Refused refusal) = t ≡ s
 
 module _ {A : Type 0} (B : Type 0) where
   abbrev pub Says : State → Command A → State × Reply B → Type 0
-  Says s c r = Outcome s c r.0 (is_acceptance r.1)
+  Says s c r = Outcome s c r.0 r.1
 
   says_plain : (s : State) (c : Command A) (new : Registered) (f : Option RegFault) → s.count < last_number → (f ≡ None → IsChange s.registered new) → Says s c (step_plain s c new f)
   says_plain s c new (Some fault) left change = refl
-  says_plain s c new None left change = record { registered = new; pdu = None; is = refl; change = change refl; numbers_left = left }
+  says_plain s c new None left change = (record { registered = new; pdu = None; is = refl; change = change refl; numbers_left = left }, refl, refl)
 
   says_update : (s : State) (c : Command A) (update : LocationUpdateType) (new : Registered) (f : Option RegFault) → s.count < last_number → (f ≡ None → IsChange s.registered new) → Says s c (step_update s c update new f)
   says_update s c update new (Some fault) left change = refl
-  says_update s c update new None left change = record { registered = new; pdu = accept_pdu update; is = refl; change = change refl; numbers_left = left }
+  says_update s c update new None left change = (record { registered = new; pdu = accept_pdu update; is = refl; change = change refl; numbers_left = left }, refl, refl)
 
   says_mm : (s : State) (c : Command A) (itsi area : ℕ) (read : Result MmUp MmFault) → s.count < last_number → Says s c (step_mm s c itsi area read)
   says_mm s c itsi area (Err fault) left = refl
@@ -83,9 +86,10 @@ module _ {A : Type 0} (B : Type 0) where
   unfolding step
   says s c = says_if s c (is_station s c.station) _ _ (λ _. says_after s c (kept_at s c.station)) (λ _. refl)
 
-  idle_by : (s : State) (c : Command A) (t : State) (b : Bool) → Outcome s c t b → b ≡ false → t ≡ s
-  idle_by s c t true h e = cc
-  idle_by s c t false h e = h
+  idle_by : (s : State) (c : Command A) (t : State) (reply : Reply B) → Outcome s c t reply → is_acceptance reply ≡ false → t ≡ s
+  idle_by s c t (Accepted number pdu) h e = cc
+  idle_by s c t (Kept number pdu) h e = h
+  idle_by s c t (Refused refusal) h e = h
 
   pub only_accepted_change : (s : State) (c : Command A) → is_acceptance (step {B = B} s c).1 ≡ false → (step {B = B} s c).0 ≡ s
-  only_accepted_change s c e = idle_by s c (step s c).0 (is_acceptance (step s c).1) (says s c) e
+  only_accepted_change s c e = idle_by s c (step s c).0 (step s c).1 (says s c) e

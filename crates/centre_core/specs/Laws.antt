@@ -1,5 +1,5 @@
 -- What holds of the register over all commands and lists of commands.
-use Rattle.std.specs.Prelude.{◌≡◌, false, List, Some, None}
+use Rattle.std.specs.Prelude.{◌≡◌, ℕ, ◌+◌, Bool, false, List, Option, Some, None}
 use Rattle.mm_pdus.specs.declared.update.LocationUpdateType.{LocationUpdateType}
 use Rattle.mm_pdus.specs.declared.update.AcceptType.{AcceptType}
 use Rattle.mm_pdus.specs.declared.downlink.MmDown.TheVariants as down
@@ -8,6 +8,7 @@ use Rattle.mm_pdus.specs.Downlink.{canon_down}
 use Rattle.registration.specs.Registered.{type_refusal}
 use Rattle.registration.specs.declared.limits.Limits.{Limits}
 use Rattle.centre_core.specs.declared.command.Command.{Command}
+use Rattle.centre_core.specs.declared.reply.Reply.TheVariants.{Accepted, Kept}
 use Rattle.centre_core.specs.State.{State, IsState, empty}
 use Rattle.centre_core.specs.Step.{step, accept_pdu}
 use Rattle.centre_core.specs.History.{is_acceptance, next, after, fresh}
@@ -40,3 +41,13 @@ module _ (A B : Type 0) where
   -- the state after a command is one, wherever its reply is kept
   abbrev pub StepIsNext : Type 0
   StepIsNext = (s : State) (c : Command A) → (step {B = B} s c).0 ≡ next s c
+
+  -- an accepted command gets the next number, from 1
+  abbrev pub AcceptedAreNumbered : Type 0
+  AcceptedAreNumbered = (s : State) (c : Command A) (number : ℕ) (pdu : Option (List Bool)) → (step {B = B} s c).1 ≡ Accepted number pdu → (number ≡ s.count + 1) × ((next s c).count ≡ number)
+
+  -- once more, and whatever its body is then, it gets the same number and PDU, and changes nothing
+  abbrev pub ResendsAreAnswered : Type 0
+  ResendsAreAnswered =
+      (s : State) → IsState s → (c again : Command A) (number : ℕ) (pdu : Option (List Bool)) → (step {B = B} s c).1 ≡ Accepted number pdu
+      → again.station ≡ c.station → again.sequence ≡ c.sequence → step {B = B} (next s c) again ≡ (next s c, Kept number pdu)

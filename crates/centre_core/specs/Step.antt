@@ -68,6 +68,10 @@ module _ {A : Type 0} where
   abbrev pub IsOfStation : State → Command A → Type 0
   IsOfStation s c = (0 < c.station) × (c.station ≤ s.registered.limits.stations)
 
+  -- there is a place for its reply, and a number for it
+  abbrev pub CanBeAccepted : State → Command A → Type 0
+  CanBeAccepted s c = IsOfStation s c × (s.count < last_number)
+
 module _ {A B : Type 0} where
   -- a change of rules or radios is refused, or made with no PDU
   abbrev pub step_plain : State → Command A → Registered → Option RegFault → State × Reply B

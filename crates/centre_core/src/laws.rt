@@ -1,7 +1,7 @@
 //! What holds of the register over all commands and lists of commands, by its definitions alone.
 //! These functions do nothing: calling one gives its clauses.
 ghost use Rattle.centre_core.specs.State.{IsState};
-ghost use Rattle.centre_core.specs.Laws.{AcceptedAreAnswered, EmptyIsState, StepKeepsState, OnlyAcceptedChange, StepIsNext, ResendsAreIdle};
+ghost use Rattle.centre_core.specs.Laws.{AcceptedAreAnswered, AcceptedAreNumbered, EmptyIsState, StepKeepsState, OnlyAcceptedChange, StepIsNext, ResendsAreAnswered, ResendsAreIdle};
 
 use crate::Register;
 use std::alloc::Allocator;
@@ -27,6 +27,13 @@ pub fn only_accepted_change<A: Allocator, B: Allocator>()
 /// The state after a command does not depend on where its reply is kept.
 pub fn step_is_next<A: Allocator, B: Allocator>()
     ensures { StepIsNext A B }
+{}
+
+/// An accepted command gets the next number. Coming again, whatever its body is then, it is answered
+/// with that number and its PDU, and nothing changes.
+pub fn replies<A: Allocator, B: Allocator>()
+    ensures numbered { AcceptedAreNumbered A B }
+    ensures again { ResendsAreAnswered A B }
 {}
 
 /// A list of commands does the same without its resends.

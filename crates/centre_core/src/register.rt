@@ -1,8 +1,8 @@
 //! The register and its calls.
 ghost use Rattle.std.specs.Prelude.{◌≡◌, ◌<◌, ◌≤◌, ◌+◌, IfOk, OnErr, None};
 ghost use Rattle.mm_pdus.specs.UplinkReading.{reading_up};
-ghost use Rattle.centre_core.specs.State.{empty, last_number, IsState};
-ghost use Rattle.centre_core.specs.Step.{step, step_new, step_mm, step_rule, step_locate, step_detach, accept_pdu, accepted, IsOfStation};
+ghost use Rattle.centre_core.specs.State.{empty, IsState};
+ghost use Rattle.centre_core.specs.Step.{step, step_new, step_mm, step_rule, step_locate, step_detach, accept_pdu, accepted, IsOfStation, CanBeAccepted};
 ghost use Rattle.centre_core.specs.Tell.{tell};
 
 use crate::last_accepted::{LastAccepted, copied, none_accepted};
@@ -143,8 +143,7 @@ impl<A: Allocator + Clone> Register<A> {
         prefix: Prefix,
         rule: Rule,
     ) -> Result<Reply<C>, AllocError>
-        requires known { IsOfStation self.old command.now }
-        requires numbers_left { self.old.count < last_number }
+        requires { CanBeAccepted self.old command.now }
         ensures ok { IfOk result (λ reply. (self.new, reply) ≡ step_rule self.old command.now prefix rule) }
         ensures err { OnErr result (self.new ≡ self.old) }
     {
@@ -166,8 +165,7 @@ impl<A: Allocator + Clone> Register<A> {
         area: LocationArea,
         pdu: &Bits<B>,
     ) -> Result<Reply<C>, AllocError>
-        requires known { IsOfStation self.old command.now }
-        requires numbers_left { self.old.count < last_number }
+        requires { CanBeAccepted self.old command.now }
         ensures ok { IfOk result (λ reply. (self.new, reply) ≡ step_mm self.old command.now itsi area (reading_up pdu.now)) }
         ensures err { OnErr result (self.new ≡ self.old) }
     {
@@ -186,8 +184,7 @@ impl<A: Allocator + Clone> Register<A> {
         area: LocationArea,
         update: LocationUpdateType,
     ) -> Result<Reply<C>, AllocError>
-        requires known { IsOfStation self.old command.now }
-        requires numbers_left { self.old.count < last_number }
+        requires { CanBeAccepted self.old command.now }
         ensures ok { IfOk result (λ reply. (self.new, reply) ≡ step_locate self.old command.now itsi area update) }
         ensures err { OnErr result (self.new ≡ self.old) }
     {
@@ -222,8 +219,7 @@ impl<A: Allocator + Clone> Register<A> {
     // It takes no memory.
     #[tactic(auto, using(crate::proofs::RegisteredLaws::detach_within))]
     fn detach<B: Allocator, C: Allocator>(&mut self, command: &Command<B>, itsi: Itsi) -> Reply<C>
-        requires known { IsOfStation self.old command.now }
-        requires numbers_left { self.old.count < last_number }
+        requires { CanBeAccepted self.old command.now }
         ensures { (self.new, result) ≡ step_detach self.old command.now itsi }
     {
         if let Err(fault) = self.registry.detach(itsi) {
@@ -235,8 +231,7 @@ impl<A: Allocator + Clone> Register<A> {
 
     // Counts an accepted command and keeps its reply, without memory. The number is its own.
     fn accept<B: Allocator>(&mut self, command: &Command<B>, pdu: Option<Bits<A>>) -> u64
-        requires known { IsOfStation self.old command.now }
-        requires numbers_left { self.old.count < last_number }
+        requires { CanBeAccepted self.old command.now }
         ensures number { result ≡ self.old.count + 1 }
         ensures kept { self.new ≡ accepted self.old command.now self.old.registered pdu }
     {

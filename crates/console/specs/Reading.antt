@@ -11,6 +11,7 @@ use Rattle.identity.specs.BitsText.{reading_bits}
 use Rattle.mm_pdus.specs.declared.lifetime.Lifetime.{Lifetime}
 use Rattle.mm_pdus.specs.Values.{lifetime_of}
 use Rattle.registration.specs.Terms.{Terms}
+use Rattle.centre_core.specs.declared.command.Body.{Body}
 use Rattle.centre_core.specs.declared.command.Body.TheVariants.{RuleSet, Mm}
 use Rattle.centre_core.specs.declared.query.Query.TheVariants.{Whereabouts, Total}
 use Rattle.console.specs.declared.line.LineFault.TheVariants.{Syntax, Value, TooLong}
@@ -99,7 +100,11 @@ module _ {A : Type 0} where
   reading station line = if nat_lt 1024 (length line) then Bad TooLong
       else (if is_silent line then Silent else of_words station (words line))
 
-  -- the sequence of a command
+  -- the sequence of a command, where a PDU comes with it
+  abbrev pub with_pdu : ℕ → Body A → Option ℕ
+  with_pdu sequence (RuleSet prefix rule) = None
+  with_pdu sequence (Mm itsi area pdu) = Some sequence
+
   abbrev pub sequence_of : Line A → Option ℕ
-  sequence_of (Order c) = Some c.sequence
+  sequence_of (Order c) = with_pdu c.sequence c.body
   sequence_of other = None

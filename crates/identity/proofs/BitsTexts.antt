@@ -1,6 +1,6 @@
 -- Texts of bits: what is written is what is read.
 use Rattle.std.proofs.Common.{◌≡◌, ℕ, ◌+◌, ◌-◌, ◌*◌, ◌^◌, ◌<◌, ◌≤◌, Bool, true, false, ◌&&◌, List, [], ◌∷◌, ◌++◌, length, take, drop, replicate, refl, sym, ap, subst, ◌∙◌, arith, Option, Some, None, option_map, Ok, Err, nat_le, nat_lt}
-use Rattle.std.specs.Prelude.{◌↔◌, ◌==◌, decimal}
+use Rattle.std.specs.Prelude.{◌↔◌, ◌⊎◌, ◌==◌, decimal}
 use Rattle.std.specs.Char.{digit_value, is_ascii_digit, is_ascii_hexdigit}
 use Rattle.std.specs.Fmt.{digit_glyph}
 use Rattle.std.specs.List.{list_all}
@@ -13,8 +13,9 @@ use Rattle.identity.specs.NumberText.{is_number, value, cut}
 use Rattle.identity.specs.BitsText.{hex_of, bits_text, digit_bits, SpellsBits, IsBitsForm, is_filled, bits_len, bits_form, reading_bits}
 use Rattle.identity.proofs.BitsText.{length-digit_bits}
 use Rattle.identity.proofs.NumberText.{all_of_number}
-use Rattle.identity.specs.declared.fault.Fault.TheVariants.{BadText}
-use Rattle.identity.proofs.Texts.{none_some, some_same, ok_same, chosen_ok, chosen_some, both, le_test, test_le, decimal_all, value-decimal, number_of_decimal, decimal_of_number, cut_again, cut_only, judged_ok, judged_bad_if, judged_bad_then, not_bad, then_some}
+use Rattle.identity.specs.declared.fault.Fault.{Fault}
+use Rattle.identity.specs.declared.fault.Fault.TheVariants.{BadText, OutOfRange}
+use Rattle.identity.proofs.Texts.{none_some, some_same, ok_same, chosen_ok, chosen_some, both, le_test, test_le, decimal_all, value-decimal, number_of_decimal, decimal_of_number, cut_again, cut_only, judged_ok, judged_bad_if, judged_bad_then, not_bad, then_some, chosen_err, judged_err}
 use Rattle.identity.proofs.IdentityTexts.{none_are_zeros, zeros_are_none}
 
 -- ---- what is printed
@@ -160,3 +161,7 @@ reading_bits_only bits text e =
         spelt = form.1 ∙ ap (λ (t : List ℕ). t ++ 58 ∷ digits) count;
       },
     )
+
+pub reading_bits_faults : (text : List ℕ) (f : Fault) → reading_bits text ≡ Err f → (f ≡ BadText) ⊎ (f ≡ OutOfRange)
+unfolding reading_bits
+reading_bits_faults text f e = judged_err _ (bits_form text) f (λ x. chosen_err _ _ f) e

@@ -113,6 +113,11 @@ shows_filled bytes len fill i =
       | inr le ↦ fill i le ∙ sym (get_or_past (take len (bits_of bytes)) i false (omega (arith, length-take len (bits_of bytes))))
     ]
 
+-- no bits need no bytes
+pub none_packed : IsPacked [] 0
+unfolding bits_of
+none_packed = record { room = omega arith; tight = omega arith; fill = λ i le. refl }
+
 pub length_packed : (bytes : List ℕ) (len : ℕ) → IsPacked bytes len → length (take len (bits_of bytes)) ≡ len
 length_packed bytes len packed = let room = packed.room in omega (arith, length-take len (bits_of bytes), length-bits_of bytes)
 

@@ -1,6 +1,6 @@
 -- Texts of identities and prefixes: what is written is what is read.
 use Rattle.std.proofs.Common.{◌≡◌, ℕ, ◌-◌, ◌^◌, ◌<◌, ◌≤◌, Bool, true, false, ◌&&◌, List, [], ◌∷◌, ◌++◌, length, take, drop, replicate, refl, sym, ap, subst, ◌∙◌, arith, append_assoc, Some, Result, Ok, Err, nat_le}
-use Rattle.std.specs.Prelude.{◌↔◌, ◌==◌, ◌||◌, decimal}
+use Rattle.std.specs.Prelude.{◌↔◌, ◌⊎◌, ◌==◌, ◌||◌, decimal}
 use Rattle.std.specs.Char.{is_ascii_digit}
 use Rattle.std.specs.List.{list_all}
 use Rattle.std.proofs.lemmas.Bool.Decides.{nat_tests}
@@ -16,9 +16,9 @@ use Rattle.identity.specs.PathLaws.{length-id_path, number-id_path, id_path-numb
 use Rattle.identity.specs.Identity.{identity_number, mcc_of, mnc_of, ssi_of}
 use Rattle.identity.specs.NumberText.{is_number, value, cut}
 use Rattle.identity.specs.IdentityText.{identity_text, prefix_text, three_numbers, identity_of, reading_identity, prefix_of, prefix_within, prefix_form, IsIdentityForm, IsPrefixForm, reading_prefix}
-use Rattle.identity.proofs.Texts.{err_ok, some_same, ok_same, chosen_ok, chosen_some, both, le_test, test_le, decimal_all, value-decimal, number_of_decimal, decimal_of_number, cut_again, cut_only, judged_ok, judged_bad_if, judged_bad_then, not_bad, err_same, then_some}
+use Rattle.identity.proofs.Texts.{err_ok, some_same, ok_same, chosen_ok, chosen_some, both, le_test, test_le, decimal_all, value-decimal, number_of_decimal, decimal_of_number, cut_again, cut_only, judged_ok, judged_bad_if, judged_bad_then, not_bad, err_same, then_some, chosen_err, judged_err}
 use Rattle.identity.specs.declared.fault.Fault.{Fault}
-use Rattle.identity.specs.declared.fault.Fault.TheVariants.{BadText}
+use Rattle.identity.specs.declared.fault.Fault.TheVariants.{BadText, OutOfRange}
 use Rattle.identity.proofs.NumberText.{all_of_number}
 
 -- ---- the three numbers of an identity
@@ -122,6 +122,14 @@ reading_identity_form text = (
   λ e form. judged_bad_then _ (three_numbers text) (λ x. identity_not_bad x.0 x.1 x.2) e (form.mcc, form.mnc, form.ssi) (found_three text form),
   λ no. judged_bad_if _ (three_numbers text) (λ x found. no (three_form text x found)),
 )
+
+identity_fault : (a b c : List ℕ) (f : Fault) → identity_of a b c ≡ Err f → f ≡ OutOfRange
+unfolding identity_of
+identity_fault a b c f e = chosen_err _ _ f e
+
+pub reading_identity_faults : (text : List ℕ) (f : Fault) → reading_identity text ≡ Err f → (f ≡ BadText) ⊎ (f ≡ OutOfRange)
+unfolding reading_identity
+reading_identity_faults text f e = judged_err _ (three_numbers text) f (λ x. identity_fault x.0 x.1 x.2 f) e
 
 -- ---- prefixes
 
@@ -267,3 +275,12 @@ reading_prefix_form text = (
   λ e form. judged_bad_then _ (prefix_form text) (λ x. within_not_bad (value x.1) (identity_of (x.0).0 (x.0).1 (x.0).2) (identity_not_bad (x.0).0 (x.0).1 (x.0).2)) e _ (found_prefix text form),
   λ no. judged_bad_if _ (prefix_form text) (λ x found. no (form_found text x found)),
 )
+
+within_fault : (len : ℕ) (r : Result ℕ Fault) (f : Fault) → (r ≡ Err f → f ≡ OutOfRange) → prefix_within len r ≡ Err f → f ≡ OutOfRange
+unfolding prefix_of
+within_fault len (Err g) f far e = far (ap Err (err_same g f e))
+within_fault len (Ok n) f far e = chosen_err _ _ f e
+
+pub reading_prefix_faults : (text : List ℕ) (f : Fault) → reading_prefix text ≡ Err f → (f ≡ BadText) ⊎ (f ≡ OutOfRange)
+unfolding reading_prefix
+reading_prefix_faults text f e = judged_err _ (prefix_form text) f (λ x. within_fault (value x.1) (identity_of (x.0).0 (x.0).1 (x.0).2) f (identity_fault (x.0).0 (x.0).1 (x.0).2 f)) e

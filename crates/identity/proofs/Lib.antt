@@ -2,6 +2,7 @@ pub mod Numbers
 pub mod Bytes
 pub mod Reading
 pub mod Prefixes
+pub mod Identities
 pub mod NumberText
 pub mod BitsText
 pub mod HexSteps

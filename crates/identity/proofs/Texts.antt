@@ -1,6 +1,6 @@
 -- Texts of numbers, and parts of texts: what is written is what is read.
 use Rattle.std.proofs.Common.{◌≡◌, ℕ, ◌^◌, ◌<◌, ◌≤◌, Bool, true, false, ◌&&◌, List, [], ◌∷◌, ◌++◌, length, refl, sym, ap, ◌∙◌, arith, Option, Some, None, option_map, Result, Ok, Err, nat_le, inl, inr, rules}
-use Rattle.std.specs.Prelude.{◌↔◌, ◌==◌, if◌then◌else◌, decimal}
+use Rattle.std.specs.Prelude.{◌↔◌, ◌⊎◌, ◌==◌, if◌then◌else◌, decimal}
 use mathlib.Core.Bool.{false≢true}
 use Rattle.std.specs.Char.{is_ascii_digit}
 use Rattle.std.specs.List.{list_all}
@@ -59,6 +59,16 @@ judged_bad_then range (Some y) fine e x is = fine y e
 pub not_bad : {V : Type 0} (b : Bool) (v : V) → (if b then Ok v else Err OutOfRange) ≡ Err BadText → ⊥
 not_bad true v e = cc
 not_bad false v e = cc
+
+-- a choice between a value and `OutOfRange` finds no other fault
+pub chosen_err : {V : Type 0} (b : Bool) (v : V) (f : Fault) → (if b then Ok v else Err OutOfRange) ≡ Err f → f ≡ OutOfRange
+chosen_err true v f e = cc
+chosen_err false v f e = cc
+
+-- no form was found, or its range refused
+pub judged_err : {A B : Type 0} (range : A → Result B Fault) (found : Option A) (f : Fault) → ((x : A) → range x ≡ Err f → f ≡ OutOfRange) → judged range found ≡ Err f → (f ≡ BadText) ⊎ (f ≡ OutOfRange)
+judged_err range None f far e = inl (sym (err_same BadText f e))
+judged_err range (Some x) f far e = inr (far x e)
 
 pub then_some : {A B : Type 0} (f : A → Option B) (found : Option A) (y : B) → option_and_then f found ≡ Some y → (x : A) × (found ≡ Some x) × (f x ≡ Some y)
 then_some f None y e = absurd (none_some y e)
@@ -128,6 +138,14 @@ reading_number_form most text = number_form_of (is_number text)
     number_form_of : (b : Bool) → ((if b then (if nat_le (value text) most then Ok (value text) else Err OutOfRange) else Err BadText) ≡ Err BadText) ↔ (b ≡ false)
     number_form_of true = (λ e. absurd (not_bad (nat_le (value text) most) (value text) e), λ e. absurd (false≢true (sym e)))
     number_form_of false = (λ e. refl, λ e. refl)
+
+pub reading_number_faults : (most : ℕ) (text : List ℕ) (f : Fault) → reading_number most text ≡ Err f → (f ≡ BadText) ⊎ (f ≡ OutOfRange)
+unfolding reading_number
+reading_number_faults most text f = number_fault (is_number text)
+  where
+    number_fault : (b : Bool) → (if b then (if nat_le (value text) most then Ok (value text) else Err OutOfRange) else Err BadText) ≡ Err f → (f ≡ BadText) ⊎ (f ≡ OutOfRange)
+    number_fault true e = inr (chosen_err (nat_le (value text) most) (value text) f e)
+    number_fault false e = inl (sym (err_same BadText f e))
 
 -- ---- parts
 

@@ -3,7 +3,7 @@ use Rattle.std.specs.Prelude.{◌≡◌, ℕ, true, ◌&&◌, ◌==◌, List, �
 use Rattle.std.specs.Option.{option_and_then}
 use Rattle.identity.specs.Number.{number}
 use Rattle.identity.specs.Path.{Path, id_path, left_aligned}
-use Rattle.identity.specs.Identity.{identity_number, mcc_of, mnc_of, ssi_of}
+use Rattle.identity.specs.Identity.{identity_number, most_mcc, most_mnc, most_ssi, mcc_of, mnc_of, ssi_of}
 use Rattle.identity.specs.NumberText.{is_number, value, cut, judged}
 use Rattle.identity.specs.declared.fault.Fault.{Fault}
 use Rattle.identity.specs.declared.fault.Fault.TheVariants.{OutOfRange}
@@ -48,7 +48,7 @@ three_numbers text = option_and_then (λ p. option_and_then (λ q. if_numbers p.
 -- the identity of three numbers, where each is in its range
 unfoldable pub identity_of : List ℕ → List ℕ → List ℕ → Result ℕ Fault
 identity_of mcc mnc ssi =
-    if nat_le (value mcc) 1023 && nat_le (value mnc) 16383 && nat_le (value ssi) 16777215
+    if nat_le (value mcc) most_mcc && nat_le (value mnc) most_mnc && nat_le (value ssi) most_ssi
     then Ok (identity_number (value mcc) (value mnc) (value ssi)) else Err OutOfRange
 
 -- what a text says that is to be an identity

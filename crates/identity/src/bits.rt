@@ -1,3 +1,5 @@
+//! Strings of bits, packed in bytes.
+
 ghost use Rattle.std.specs.Prelude.{◌≡◌, ◌==◌, ◌<◌, ◌≤◌, ◌++◌, ◌*◌, Bool, List, [], length, take, IfOk, IfErr, OnOk, slice_get, Some};
 ghost use Rattle.identity.specs.Number.{num};
 ghost use Rattle.identity.specs.Packed.{bits_of, IsPacked};
@@ -38,7 +40,7 @@ impl<A: Allocator> Bits<A> {
         self.len == 0
     }
 
-    /// The bit at place `at`, from 0.
+    /// The bit at place `at`, from 0 and below the length.
     pub fn get(&self, at: usize) -> bool
         requires { at < length self.now }
         ensures { slice_get self.now at ≡ Some result }
@@ -64,6 +66,17 @@ impl<A: Allocator> Bits<A> {
             bytes: Vec::new(alloc),
             len: 0,
         }
+    }
+
+    /// No bits, with memory for `len` of them.
+    pub(crate) fn with_room(alloc: A, len: usize) -> Result<Bits<A>, Fault>
+        ensures ok { IfOk result (λ bits. bits ≡ []) }
+        ensures err { IfErr result (λ e. e ≡ NoMemory) }
+    {
+        Ok(Bits {
+            bytes: Vec::with_capacity(alloc, len.div_ceil(8))?,
+            len: 0,
+        })
     }
 
     /// The bytes that hold the bits, the greatest bit first.

@@ -88,7 +88,7 @@ fn bits_of<A: Allocator>(alloc: A, digits: &[u8], len: usize) -> Result<Bits<A>,
     ensures ok { IfOk result (λ bits. bits ≡ take len (digit_bits digits.now)) }
     ensures err { IfErr result (λ e. e ≡ NoMemory) }
 {
-    let mut bits = Bits::new(alloc);
+    let mut bits = Bits::with_room(alloc, len)?;
     for digit in digits {
         push_digit(&mut bits, digit_of(*digit), len)?;
     }
@@ -166,7 +166,7 @@ fn push_digits<A: Allocator>(
     Ok(())
 }
 
-/// Appends the text `bits:HEX` of bits. On an error `out` may have a front of it.
+/// Appends the text `bits:HEX` of bits. On an error what `out` had is still there, at its front.
 #[tactic(auto, unfolding(crate::specs::BitsText::bits_text), using(std::proofs::Common::append_assoc))]
 pub fn print_bits<A: Allocator, B: Allocator>(
     out: &mut Vec<u8, A>,

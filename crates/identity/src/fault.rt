@@ -1,3 +1,5 @@
+//! Why bits and texts are refused.
+
 ghost use Rattle.std.specs.Prelude.{◌≡◌};
 ghost use Rattle.identity.specs.declared.fault.Fault.TheVariants.{NoMemory};
 

@@ -3,6 +3,13 @@
 ghost use Rattle.std.specs.Prelude.{◌≡◌, ◌<◌, ◌^◌, ◌↔◌, IsSome, IfSome};
 ghost use Rattle.identity.specs.Identity.{identity_number, AreFields, mcc_of, mnc_of, ssi_of};
 
+/// The greatest country code, of 10 bits.
+pub const MOST_MCC: u32 = 1023;
+/// The greatest network code, of 14 bits.
+pub const MOST_MNC: u32 = 16_383;
+/// The greatest subscriber number, of 24 bits.
+pub const MOST_SSI: u32 = 16_777_215;
+
 /// The identity's number.
 pub fn number_of(mcc: u32, mnc: u32, ssi: u32) -> u64
     requires { AreFields mcc mnc ssi }
@@ -18,7 +25,7 @@ pub fn joined(mcc: u32, mnc: u32, ssi: u32) -> Option<u64>
     ensures value { IfSome result (λ n. n ≡ identity_number mcc mnc ssi) }
     ensures below { IfSome result (λ n. n < 2 ^ 48) }
 {
-    if mcc < 1 << 10 && mnc < 1 << 14 && ssi < 1 << 24 {
+    if mcc <= MOST_MCC && mnc <= MOST_MNC && ssi <= MOST_SSI {
         Some(number_of(mcc, mnc, ssi))
     } else {
         None

@@ -36,13 +36,13 @@ fn identity_of(mcc: &[u8], mnc: &[u8], ssi: &[u8]) -> Result<u64, Fault>
     ensures value { result ≡ identity_of mcc.now mnc.now ssi.now }
     ensures below { IfOk result (λ n. n < 2 ^ 48) }
 {
-    let Some(mcc) = value_of(mcc, 1023) else {
+    let Some(mcc) = value_of(mcc, u128::from(fields::MOST_MCC)) else {
         return Err(Fault::OutOfRange);
     };
-    let Some(mnc) = value_of(mnc, 16_383) else {
+    let Some(mnc) = value_of(mnc, u128::from(fields::MOST_MNC)) else {
         return Err(Fault::OutOfRange);
     };
-    let Some(ssi) = value_of(ssi, 16_777_215) else {
+    let Some(ssi) = value_of(ssi, u128::from(fields::MOST_SSI)) else {
         return Err(Fault::OutOfRange);
     };
     Ok(fields::number_of(mcc as u32, mnc as u32, ssi as u32))
@@ -65,7 +65,7 @@ pub fn parse_itsi(text: &[u8]) -> Result<Itsi, Fault>
     ensures { result ≡ reading_identity text.now }
 {
     match reading_identity(text) {
-        Ok(number) => Ok(Itsi::of(number)),
+        Ok(number) => Itsi::from_number(number).ok_or(Fault::OutOfRange),
         Err(fault) => Err(fault),
     }
 }
@@ -75,7 +75,7 @@ pub fn parse_gtsi(text: &[u8]) -> Result<Gtsi, Fault>
     ensures { result ≡ reading_identity text.now }
 {
     match reading_identity(text) {
-        Ok(number) => Ok(Gtsi::of(number)),
+        Ok(number) => Gtsi::from_number(number).ok_or(Fault::OutOfRange),
         Err(fault) => Err(fault),
     }
 }
@@ -131,7 +131,7 @@ fn print_identity<A: Allocator>(out: &mut Vec<u8, A>, number: u64) -> Result<(),
     print_number(out, u64::from(fields::ssi(number)))
 }
 
-/// Appends the text `mcc-mnc-ssi` of a radio's identity. On an error `out` may have a front of it.
+/// Appends the text `mcc-mnc-ssi` of a radio's identity. On an error what `out` had is still there, at its front.
 pub fn print_itsi<A: Allocator>(out: &mut Vec<u8, A>, itsi: Itsi) -> Result<(), AllocError>
     ensures ok { OnOk result (out.new.items ≡ out.old.items ++ identity_text itsi) }
     ensures err { OnErr result (Keeps out.old.items out.new.items) }
@@ -139,7 +139,7 @@ pub fn print_itsi<A: Allocator>(out: &mut Vec<u8, A>, itsi: Itsi) -> Result<(), 
     print_identity(out, itsi.number())
 }
 
-/// Appends the text `mcc-mnc-ssi` of a group's identity. On an error `out` may have a front of it.
+/// Appends the text `mcc-mnc-ssi` of a group's identity. On an error what `out` had is still there, at its front.
 pub fn print_gtsi<A: Allocator>(out: &mut Vec<u8, A>, gtsi: Gtsi) -> Result<(), AllocError>
     ensures ok { OnOk result (out.new.items ≡ out.old.items ++ identity_text gtsi) }
     ensures err { OnErr result (Keeps out.old.items out.new.items) }
@@ -147,7 +147,7 @@ pub fn print_gtsi<A: Allocator>(out: &mut Vec<u8, A>, gtsi: Gtsi) -> Result<(), 
     print_identity(out, gtsi.number())
 }
 
-/// Appends the text `mcc-mnc-ssi/len` of a prefix. On an error `out` may have a front of it.
+/// Appends the text `mcc-mnc-ssi/len` of a prefix. On an error what `out` had is still there, at its front.
 #[tactic(auto, unfolding(crate::specs::IdentityText::prefix_text), using(std::proofs::Common::append_assoc))]
 pub fn print_prefix<A: Allocator>(out: &mut Vec<u8, A>, prefix: Prefix) -> Result<(), AllocError>
     ensures ok { OnOk result (out.new.items ≡ out.old.items ++ prefix_text prefix) }

@@ -1,3 +1,5 @@
+//! Identities of radios.
+
 ghost use Rattle.std.specs.Prelude.{◌≡◌, ◌<◌, ◌^◌, ◌↔◌, IsSome, IfSome};
 ghost use Rattle.identity.specs.Path.{id_path};
 ghost use Rattle.identity.specs.Identity.{identity_number, AreFields, mcc_of, mnc_of, ssi_of};
@@ -5,7 +7,7 @@ ghost use Rattle.identity.specs.Identity.{identity_number, AreFields, mcc_of, mn
 use crate::{Prefix, fields};
 use std::marker::Model;
 
-/// The identity of a radio.
+/// The identity of a radio: its 48-bit TETRA subscriber identity (ETSI EN 300 392-1, clause 7).
 #[derive(Clone, Copy, Debug, PartialEq, Eq)]
 pub struct Itsi {
     number: u64,
@@ -34,15 +36,19 @@ impl Itsi {
         Some(Itsi { number })
     }
 
-    /// The identity of a number of 48 bits.
-    pub(crate) fn of(number: u64) -> Itsi
-        requires { number < 2 ^ 48 }
-        ensures { result ≡ number }
+    /// The radio of a number of 48 bits; `None` where `number` has more.
+    pub fn from_number(number: u64) -> Option<Itsi>
+        ensures fits { IsSome result ↔ (number < 2 ^ 48) }
+        ensures value { IfSome result (λ itsi. itsi ≡ number) }
     {
-        Itsi { number }
+        if number < 1 << 48 {
+            Some(Itsi { number })
+        } else {
+            None
+        }
     }
 
-    /// Its 48 bits as a number.
+    /// Its 48 bits as a number, the country code greatest.
     pub fn number(&self) -> u64
         ensures value { result ≡ self.now }
         ensures below { result < 2 ^ 48 }
@@ -50,7 +56,7 @@ impl Itsi {
         self.number
     }
 
-    /// Its country code.
+    /// Its country code, 0 to 1,023.
     pub fn mcc(&self) -> u32
         ensures value { result ≡ mcc_of self.now }
         ensures below { result < 2 ^ 10 }
@@ -58,7 +64,7 @@ impl Itsi {
         fields::mcc(self.number)
     }
 
-    /// Its network code.
+    /// Its network code, 0 to 16,383.
     pub fn mnc(&self) -> u32
         ensures value { result ≡ mnc_of self.now }
         ensures below { result < 2 ^ 14 }
@@ -66,7 +72,7 @@ impl Itsi {
         fields::mnc(self.number)
     }
 
-    /// Its number within the network.
+    /// Its number within the network, 0 to 16,777,215.
     pub fn ssi(&self) -> u32
         ensures value { result ≡ ssi_of self.now }
         ensures below { result < 2 ^ 24 }

@@ -1,3 +1,5 @@
+//! The first bits of identities.
+
 ghost use Rattle.std.specs.Prelude.{◌≡◌, ◌<◌, ◌≤◌, ◌^◌, ◌-◌, ◌++◌, ◌↔◌, length, take, drop, replicate, false, IsSome, IfSome, IsTrue};
 ghost use Rattle.std.specs.Ordering.{eq_by_cmp};
 ghost use Rattle.identity.specs.Number.{num};
@@ -46,7 +48,7 @@ impl Prefix {
         }
     }
 
-    /// The first `len` bits of an identity's number.
+    /// The first `len` bits, at most 48, of an identity's number; greater bits of `number` do not matter.
     pub fn of(number: u64, len: u32) -> Prefix
         requires { len ≤ 48 }
         ensures { result ≡ take len (id_path number) }
@@ -57,7 +59,7 @@ impl Prefix {
         }
     }
 
-    /// All 48 bits of an identity's number.
+    /// All 48 bits of an identity's number; greater bits of `number` do not matter.
     pub fn whole(number: u64) -> Prefix
         ensures { result ≡ id_path number }
     {

@@ -1,3 +1,5 @@
+//! Reads numbers from a string of bits.
+
 ghost use Rattle.std.specs.Prelude.{◌≡◌, ◌≤◌, ◌<◌, ◌+◌, ◌*◌, ◌^◌, Bool, List, length, take, drop, nat_lt, if◌then◌else◌, Ok, Err, IfOk};
 ghost use Rattle.identity.specs.Packed.{bits_of};
 ghost use Rattle.identity.specs.Number.{number};
@@ -58,7 +60,7 @@ impl<'a> BitReader<'a> {
         self.end - self.at
     }
 
-    /// The number that the next `width` bits are. `Fault::Short`, and nothing changes, where fewer are left.
+    /// The number that the next `width` bits, at most 48, are. `Fault::Short`, and nothing changes, where fewer are left.
     pub fn take(&mut self, width: u32) -> Result<u64, Fault>
         requires { width ≤ 48 }
         ensures value { result ≡ (if nat_lt (length self.old) width then Err Short else Ok (number (take width self.old))) }

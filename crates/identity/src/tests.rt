@@ -1,3 +1,5 @@
+//! Each call once with ample memory, and texts at the borders of form and range.
+
 use crate::{
     BitReader, BitWriter, Fault, Gtsi, Itsi, Prefix, parse_bits, parse_gtsi, parse_itsi,
     parse_number, parse_prefix, print_bits, print_gtsi, print_itsi, print_number, print_prefix,
@@ -26,6 +28,10 @@ fn identities_hold_three_numbers(rt: HostRuntime) -> Result<(), Fail> {
     assert_eq!(rt; itsi.number(), 64_321_665_107_921);
     let gtsi = Gtsi::new(itsi.mcc(), itsi.mnc(), itsi.ssi()).expect(&rt, "gtsi");
     assert_eq!(rt; gtsi.number(), itsi.number());
+    let again = Itsi::from_number(itsi.number()).expect(&rt, "again");
+    assert_eq!(rt; (again.mcc(), again.mnc(), again.ssi()), (234, 14, 2001));
+    assert!(rt; Itsi::from_number(1 << 48).is_none());
+    assert!(rt; Gtsi::from_number((1 << 48) - 1).is_some() && Gtsi::from_number(1 << 48).is_none());
     Ok(())
 }
 

@@ -1,3 +1,5 @@
+//! Makes a string of bits out of numbers.
+
 ghost use Rattle.std.specs.Prelude.{◌≡◌, ◌<◌, ◌≤◌, ◌^◌, ◌++◌, Bool, List, [], IfErr, OnOk};
 ghost use Rattle.identity.specs.Number.{num};
 ghost use Rattle.identity.specs.declared.fault.Fault.TheVariants.{NoMemory};
@@ -28,7 +30,7 @@ impl<A: Allocator> BitWriter<A> {
         }
     }
 
-    /// Puts `value` at the end, the greatest of its `width` bits first. On an error nothing has changed.
+    /// Puts `value` at the end, the greatest of its `width` bits, at most 48, first. On `Fault::NoMemory` nothing has changed.
     pub fn put(&mut self, value: u64, width: u32) -> Result<(), Fault>
         requires width { width ≤ 48 }
         requires fits { value < 2 ^ width }

@@ -1,12 +1,12 @@
 -- The two laws for PDUs to a radio: what is read is spelt so, and what is spelt so is read.
-use Rattle.std.proofs.Common.{◌≡◌, ℕ, ◌≤◌, Bool, true, false, cond, List, [], ◌∷◌, ◌++◌, length, Option, Some, None, Result, Ok, Err, refl, sym, ap, subst, ◌∙◌, arith, eqb, length-append, append_assoc, inl, inr}
+use Rattle.std.proofs.Common.{◌≡◌, ℕ, ◌<◌, ◌≤◌, Bool, true, false, cond, List, [], ◌∷◌, ◌++◌, length, Option, Some, None, Result, Ok, Err, refl, sym, ap, subst, ◌∙◌, arith, eqb, length-append, append_assoc, inl, inr}
 use Rattle.std.specs.Prelude.{◌↔◌}
-use Rattle.std.proofs.lemmas.Bool.{eqb-true}
+use Rattle.std.proofs.lemmas.Bool.{eqb-true, ne_eqb}
 use Rattle.std.proofs.lemmas.List.{append-nil}
 use Rattle.identity.specs.Number.{num}
 use Rattle.identity.specs.NumberLaws.{length-num}
 use Rattle.mm_pdus.specs.declared.fault.MmFault.{MmFault}
-use Rattle.mm_pdus.specs.declared.fault.MmFault.TheVariants.{UnknownType}
+use Rattle.mm_pdus.specs.declared.fault.MmFault.TheVariants.{Trailing, UnknownType}
 use Rattle.mm_pdus.specs.declared.update.AcceptType.{AcceptType}
 use Rattle.mm_pdus.specs.declared.downlink.MmDown.{MmDown}
 use Rattle.mm_pdus.specs.declared.downlink.MmDown.TheVariants.{Accept, Reject}
@@ -14,7 +14,7 @@ use Rattle.mm_pdus.specs.Values.{update_of, update_number, accept_of, update_acc
 use Rattle.mm_pdus.specs.Downlink.{IsDown, SpellsDown, canon_down}
 use Rattle.mm_pdus.specs.Reading.{◌>>=◌, clear_at, field_at, whole}
 use Rattle.mm_pdus.specs.DownlinkReading.{accepting, accept_at, reject_at, down_at, reading_down}
-use Rattle.mm_pdus.proofs.Steps.{bind_ok, ok_is, chosen, join, err_ok, whole_takes}
+use Rattle.mm_pdus.proofs.Steps.{bind_ok, ok_is, chosen, join, err_ok, whole_takes, whole_behind}
 use Rattle.mm_pdus.proofs.ValueLaws.{update_number-update_of, update_of-update_number, update_number-lt, accept_of-update_accepted, update_accepted-accept_of}
 use Rattle.mm_pdus.proofs.FieldLaws.{clear_takes, field_takes, field_again}
 
@@ -75,7 +75,7 @@ down_takes bits p rest h =
       ]
     ]
 
-down_again : (p : MmDown) (rest : List Bool) → IsDown p → down_at (canon_down p ++ rest) ≡ Ok (p, rest)
+pub down_again : (p : MmDown) (rest : List Bool) → IsDown p → down_at (canon_down p ++ rest) ≡ Ok (p, rest)
 unfolding down_at accept_at reject_at
 down_again (Accept update) rest fits =
     let is = update_accepted update in
@@ -105,6 +105,14 @@ one_value p q bits a b = ok_is p q (sym (reading_again bits p a) ∙ reading_aga
 
 pub read_back : (p : MmDown) → IsDown p → reading_down (canon_down p) ≡ Ok p
 read_back p fits = reading_again (canon_down p) p (fits, refl)
+
+pub trailing : (p : MmDown) (bits rest : List Bool) (b : Bool) → SpellsDown p bits → reading_down (bits ++ b ∷ rest) ≡ Err Trailing
+unfolding reading_down
+trailing p bits rest b spells = ap whole (ap (λ (t : List Bool). down_at (t ++ b ∷ rest)) spells.1 ∙ down_again p (b ∷ rest) spells.0) ∙ whole_behind p b rest
+
+pub other_type : (kind : ℕ) (rest : List Bool) → kind < 16 → (kind ≡ 5 → ⊥) → (kind ≡ 7 → ⊥) → reading_down (num 4 kind ++ rest) ≡ Err UnknownType
+unfolding reading_down down_at
+other_type kind rest small accept reject = rw (field_again 4 kind rest small, ne_eqb kind 5 accept, ne_eqb kind 7 reject) refl
 
 -- no PDU to a radio is long
 pub length-canon_down : (p : MmDown) → length (canon_down p) ≤ 14

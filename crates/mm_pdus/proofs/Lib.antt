@@ -5,3 +5,4 @@ pub mod FieldLaws
 pub mod ExtensionLaws
 pub mod UplinkLaws
 pub mod DownlinkLaws
+pub mod CutLaws

@@ -1,7 +1,7 @@
 -- Steps of reading.
 use Rattle.std.proofs.Common.{◌≡◌, suc, Bool, true, false, cond, List, [], ◌∷◌, ◌++◌, length, Result, Ok, Err, refl, sym, ap, ◌∙◌, arith, eqb, append_assoc, ◌⊎◌, inl, inr}
 use Rattle.std.specs.Prelude.{◌==◌}
-use Rattle.std.proofs.lemmas.Bool.{le-ltb, eqb-true}
+use Rattle.std.proofs.lemmas.Bool.{le-ltb, eqb-true, ne_eqb}
 use Rattle.std.proofs.lemmas.List.{nil_from_length}
 use Rattle.identity.specs.Number.{number}
 use Rattle.mm_pdus.specs.declared.fault.MmFault.{MmFault}
@@ -61,3 +61,7 @@ whole_takes {A} (Ok (y, rest)) x e =
     let g = guard_ended (eqb (length rest) 0) Trailing y x e in
     ap (λ (b : List Bool). Ok (y, b)) (nil_from_length rest (eqb-true _ _ g.0)) ∙ ap (λ (z : A). Ok (z, [])) g.1
 whole_takes (Err d) x e = absurd cc
+
+-- bits are left behind a PDU
+pub whole_behind : {A : Type 0} (x : A) (b : Bool) (rest : List Bool) → whole (Ok (x, b ∷ rest)) ≡ Err Trailing
+whole_behind x b rest = rw (ne_eqb (suc (length rest)) 0 (λ e. absurd (omega (arith, e)))) refl

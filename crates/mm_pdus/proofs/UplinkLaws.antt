@@ -1,11 +1,11 @@
 -- The two laws for PDUs from a radio: what is read is spelt so, and what is spelt so is read.
-use Rattle.std.proofs.Common.{◌≡◌, ℕ, Bool, true, false, cond, List, [], ◌∷◌, ◌++◌, None, Result, Ok, Err, refl, sym, ap, subst, ◌∙◌, arith, eqb, append_assoc, inl, inr}
+use Rattle.std.proofs.Common.{◌≡◌, ℕ, Bool, true, false, cond, List, [], ◌∷◌, ◌++◌, None, Result, Ok, Err, refl, sym, ap, subst, ◌∙◌, arith, eqb, append_assoc, inl, inr, ◌<◌}
 use Rattle.std.specs.Prelude.{◌↔◌}
-use Rattle.std.proofs.lemmas.Bool.{eqb-true}
+use Rattle.std.proofs.lemmas.Bool.{eqb-true, ne_eqb}
 use Rattle.std.proofs.lemmas.List.{append-nil}
 use Rattle.identity.specs.Number.{num}
 use Rattle.mm_pdus.specs.declared.fault.MmFault.{MmFault}
-use Rattle.mm_pdus.specs.declared.fault.MmFault.TheVariants.{UnknownType}
+use Rattle.mm_pdus.specs.declared.fault.MmFault.TheVariants.{Trailing, UnknownType}
 use Rattle.mm_pdus.specs.declared.uplink.MmUp.{MmUp}
 use Rattle.mm_pdus.specs.declared.uplink.MmUp.TheVariants.{Demand, Detach}
 use Rattle.mm_pdus.specs.Values.{update_of, update_number}
@@ -13,7 +13,7 @@ use Rattle.mm_pdus.specs.Syntax.{optional, extension}
 use Rattle.mm_pdus.specs.Uplink.{detach_widths, demand_widths, SpellsUp, canon_up}
 use Rattle.mm_pdus.specs.Reading.{◌>>=◌, bit_at, field_at, optional_at, extension_at, whole}
 use Rattle.mm_pdus.specs.UplinkReading.{detach_at, demand_at, up_at, reading_up}
-use Rattle.mm_pdus.proofs.Steps.{bind_ok, ok_is, chosen, join, err_ok, whole_takes}
+use Rattle.mm_pdus.proofs.Steps.{bind_ok, ok_is, chosen, join, err_ok, whole_takes, whole_behind}
 use Rattle.mm_pdus.proofs.ValueLaws.{update_number-update_of, update_of-update_number, update_number-lt}
 use Rattle.mm_pdus.proofs.FieldLaws.{bit_takes, field_takes, field_again, optional_takes, optional_again}
 use Rattle.mm_pdus.proofs.ExtensionLaws.{extension_takes, extension_again}
@@ -63,7 +63,7 @@ up_takes bits p rest h =
       ]
     ]
 
-up_again : (p : MmUp) (bits rest : List Bool) → SpellsUp p bits → up_at (bits ++ rest) ≡ Ok (p, rest)
+pub up_again : (p : MmUp) (bits rest : List Bool) → SpellsUp p bits → up_at (bits ++ rest) ≡ Ok (p, rest)
 unfolding up_at detach_at demand_at
 up_again Detach bits rest (x, fits, is) =
     ap (λ (t : List Bool). up_at (t ++ rest)) is
@@ -100,3 +100,11 @@ canon_spells (Demand update) =
 
 pub read_back : (p : MmUp) → reading_up (canon_up p) ≡ Ok p
 read_back p = reading_again (canon_up p) p (canon_spells p)
+
+pub trailing : (p : MmUp) (bits rest : List Bool) (b : Bool) → SpellsUp p bits → reading_up (bits ++ b ∷ rest) ≡ Err Trailing
+unfolding reading_up
+trailing p bits rest b spells = ap whole (up_again p bits (b ∷ rest) spells) ∙ whole_behind p b rest
+
+pub other_type : (kind : ℕ) (rest : List Bool) → kind < 16 → (kind ≡ 1 → ⊥) → (kind ≡ 2 → ⊥) → reading_up (num 4 kind ++ rest) ≡ Err UnknownType
+unfolding reading_up up_at
+other_type kind rest small detach demand = rw (field_again 4 kind rest small, ne_eqb kind 1 detach, ne_eqb kind 2 demand) refl

@@ -1,5 +1,6 @@
 -- Values and their numbers: each direction undoes the other.
-use Rattle.std.proofs.Common.{◌≡◌, ℕ, zero, suc, ◌<◌, Option, Some, refl, sym, ap, arith}
+use Rattle.std.proofs.Common.{◌≡◌, ℕ, zero, suc, ◌<◌, Option, Some, refl, sym, ap, ◌∙◌, arith}
+use Rattle.std.specs.Prelude.{◌↔◌}
 use Rattle.mm_pdus.specs.declared.update.LocationUpdateType.{LocationUpdateType}
 use Rattle.mm_pdus.specs.declared.update.LocationUpdateType.TheVariants.{Roaming, Migrating, Periodic, ItsiAttach, ServiceRestorationRoaming, ServiceRestorationMigrating, Demand, DisabledMs}
 use Rattle.mm_pdus.specs.declared.update.AcceptType.{AcceptType}
@@ -60,8 +61,27 @@ update_accepted-accept_of ServiceRestorationMigrating a e = absurd cc
 update_accepted-accept_of Demand a e = ap update_accepted (sym (some_is accept.Demand a e))
 update_accepted-accept_of DisabledMs a e = absurd cc
 
-pub lifetime_of-lifetime_number : (l : Lifetime) → lifetime_of (lifetime_number l) ≡ Some l
+lifetime_of-lifetime_number : (l : Lifetime) → lifetime_of (lifetime_number l) ≡ Some l
 lifetime_of-lifetime_number NotNeeded = refl
 lifetime_of-lifetime_number NextItsiAttach = refl
 lifetime_of-lifetime_number NotAllowedAtNextItsiAttach = refl
 lifetime_of-lifetime_number NextLocationUpdate = refl
+
+pub update_numbered : (n : ℕ) → n < 8 → (u : LocationUpdateType) → (update_of n ≡ u) ↔ (n ≡ update_number u)
+update_numbered n lt u = (λ e. sym (update_number-update_of n lt) ∙ ap update_number e, λ e. ap update_of e ∙ update_of-update_number u)
+
+lifetime_is : (a b : Lifetime) → ◌≡◌ {A = Option Lifetime} (Some a) (Some b) → a ≡ b
+lifetime_is a b e = cc
+
+lifetime_named : (n : ℕ) (l : Lifetime) → lifetime_of n ≡ Some l → n ≡ lifetime_number l
+lifetime_named zero l e = ap lifetime_number (lifetime_is NotNeeded l e)
+lifetime_named (suc zero) l e = ap lifetime_number (lifetime_is NextItsiAttach l e)
+lifetime_named (suc (suc zero)) l e = ap lifetime_number (lifetime_is NotAllowedAtNextItsiAttach l e)
+lifetime_named (suc (suc (suc zero))) l e = ap lifetime_number (lifetime_is NextLocationUpdate l e)
+lifetime_named (suc (suc (suc (suc n)))) l e = absurd cc
+
+pub lifetime_numbered : (n : ℕ) (l : Lifetime) → (lifetime_of n ≡ Some l) ↔ (n ≡ lifetime_number l)
+lifetime_numbered n l = (lifetime_named n l, λ e. ap lifetime_of e ∙ lifetime_of-lifetime_number l)
+
+pub accepted_as_asked : (u : LocationUpdateType) (a : AcceptType) → (accept_of u ≡ Some a) ↔ (u ≡ update_accepted a)
+accepted_as_asked u a = (λ e. sym (update_accepted-accept_of u a e), λ e. ap accept_of e ∙ accept_of-update_accepted a)

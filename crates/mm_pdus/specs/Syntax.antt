@@ -1,4 +1,4 @@
--- How the parts of a PDU are spelt (clause 16.9: type 1, 2, 3 and 4 elements behind their flag bits).
+-- How the parts of a PDU are spelt (clause 16.9, and annex E for the flag bits of type 2, 3 and 4 elements).
 use Rattle.std.specs.Prelude.{◌≡◌, ℕ, ◌<◌, ◌^◌, Bool, true, false, List, [], ◌∷◌, ◌++◌, length, Option, Some, None, IfSome}
 use Rattle.std.specs.List.{flat_map, AllByRecursion}
 use Rattle.identity.specs.Number.{num}

@@ -1,3 +1,5 @@
+//! Why a location update is rejected.
+
 ghost use Rattle.std.specs.Prelude.{◌≡◌, ◌<◌, ℕ};
 
 use std::marker::Model;

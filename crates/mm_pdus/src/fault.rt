@@ -1,3 +1,5 @@
+//! What may be wrong with the bits of a PDU.
+
 use thiserror::Error;
 
 /// Why bits are no PDU, or a PDU was not written.

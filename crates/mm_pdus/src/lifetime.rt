@@ -1,3 +1,5 @@
+//! How long a group stays attached.
+
 ghost use Rattle.std.specs.Prelude.{◌≡◌, ◌<◌};
 ghost use Rattle.mm_pdus.specs.Values.{lifetime_number, lifetime_of};
 

@@ -1,3 +1,5 @@
+//! The types of location updates, asked for and accepted.
+
 ghost use Rattle.std.specs.Prelude.{◌≡◌, ◌<◌};
 ghost use Rattle.mm_pdus.specs.Values.{update_number, update_of, accept_of, update_accepted};
 

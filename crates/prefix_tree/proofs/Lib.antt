@@ -1,3 +1,11 @@
 pub mod Places
 pub mod Order
 pub mod Longest
+pub mod Removal
+pub mod JoinedLaws
+pub mod NodeLaws
+pub mod LongestUnder
+pub mod PrunedLaws
+pub mod LendLaws
+pub mod LendFacts
+pub mod WalkLaws

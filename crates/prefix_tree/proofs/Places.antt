@@ -29,6 +29,10 @@ pub right_of : (a b : Bool) → (a && b) ≡ true → b ≡ true
 right_of true b e = e
 right_of false b e = absurd (false≢true e)
 
+pub both : (a b : Bool) → a ≡ true → b ≡ true → (a && b) ≡ true
+both true b p q = q
+both false b p q = absurd (false≢true p)
+
 pub equal_not_less : Equal ≡ Less → ⊥
 equal_not_less e = cc
 
@@ -113,7 +117,7 @@ module _ {V : Type 0} where
         after = λ j d le lt. (parted rises).1 j d le lt;
       })
 
-  tail_at : {q : Path} {e : Path × V} {es : List (Path × V)} {i : ℕ} → IsAt (e ∷ es) q (suc i) → IsAt es q i
+  pub tail_at : {q : Path} {e : Path × V} {es : List (Path × V)} {i : ℕ} → IsAt (e ∷ es) q (suc i) → IsAt es q i
   tail_at h = record { in_range = omega (arith, h.in_range); here = h.here }
 
   tail_gap : {q : Path} {e : Path × V} {es : List (Path × V)} {i : ℕ} → IsGap (e ∷ es) q (suc i) → IsGap es q i
@@ -131,7 +135,7 @@ module _ {V : Type 0} where
   }
 
   -- the first entry comes before the one at a later place
-  head_before : (e : Path × V) (es : List (Path × V)) (q : Path) (i : ℕ) → IsInOrder (e ∷ es) → IsAt (e ∷ es) q (suc i) → path_cmp q e.0 ≡ Greater
+  pub head_before : (e : Path × V) (es : List (Path × V)) (q : Path) (i : ℕ) → IsInOrder (e ∷ es) → IsAt (e ∷ es) q (suc i) → path_cmp q e.0 ≡ Greater
   head_before e es q i order h = turned e.0 q Less (subst (λ z. path_cmp e.0 z ≡ Less) (h.here e) (rising (e ∷ es) 0 (suc i) e order (omega arith) h.in_range))
 
   find_at : (es : List (Path × V)) (q : Path) (i : ℕ) (d : Path × V) → IsInOrder es → IsAt es q i → find path_cmp q es ≡ Some (get_or es i d).1

@@ -1,4 +1,5 @@
 //! What the definitions say, over all maps and paths.
+
 ghost use Rattle.identity.specs.Path.{Path};
 ghost use Rattle.prefix_tree.specs.Table.{PathMap, NamesLongest, longest};
 

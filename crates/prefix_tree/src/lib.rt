@@ -5,12 +5,18 @@ ghost use Rattle.std.specs.Prelude.{◌≡◌, IfOk};
 
 use std::alloc::AllocError;
 
+mod edit;
 pub mod laws;
+mod lend;
 mod list;
+mod node;
 mod steps;
+mod tree;
+mod walk;
 
 pub use list::PrefixList;
 pub use steps::Steps;
+pub use tree::PrefixTree;
 
 /// What can be copied, memory allowing.
 pub trait TryCopy {
@@ -21,3 +27,5 @@ pub trait TryCopy {
 
 #[cfg(test)]
 mod tests;
+#[cfg(test)]
+mod tree_tests;

@@ -1,3 +1,5 @@
+//! The map as one list in the order of its prefixes.
+
 ghost use Rattle.std.specs.Prelude.{◌≡◌, IfOk, IfErr, IfNone, OnOk, OnSome, IsOk, IsSome, find, length, reverse};
 ghost use Rattle.std.specs.Option.{option_copied, option_map};
 ghost use Rattle.std.specs.List.Sorted.{IsBinarySearchResult, IsSearchInRange};
@@ -97,6 +99,17 @@ impl<V: Drop, A: Allocator> PrefixList<V, A> {
     {
         match place(&self.entries, prefix) {
             Ok(at) => Some(mem::replace(&mut self.entries[at].1, value)),
+            Err(_) => None,
+        }
+    }
+
+    /// Takes the value at a prefix out. It takes no memory.
+    pub fn remove(&mut self, prefix: &Prefix) -> Option<V>
+        ensures before { result ≡ map.get self.old prefix.now }
+        ensures removed { self.new ≡ map.remove self.old prefix.now }
+    {
+        match place(&self.entries, prefix) {
+            Ok(at) => Some(self.entries.remove(at).1),
             Err(_) => None,
         }
     }

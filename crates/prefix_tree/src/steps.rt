@@ -1,3 +1,5 @@
+//! Counting the steps of a call, for proofs alone.
+
 ghost use Rattle.std.specs.Prelude.{◌≡◌, ◌+◌, ◌<◌};
 
 use std::marker::Model;

@@ -1,3 +1,5 @@
+//! Location areas.
+
 ghost use Rattle.std.specs.Prelude.{◌≡◌, ◌<◌, ◌^◌, ◌↔◌, IsSome, IfSome};
 
 use std::marker::Model;

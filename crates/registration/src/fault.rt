@@ -1,3 +1,5 @@
+//! What the register may answer in place of a change.
+
 use thiserror::Error;
 
 /// Why the register refuses a change.

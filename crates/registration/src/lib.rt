@@ -4,6 +4,7 @@
 
 mod area;
 mod fault;
+pub mod laws;
 mod limits;
 mod radio;
 mod registry;

@@ -1,3 +1,5 @@
+//! How much a register holds.
+
 /// How much a register holds at most.
 #[derive(Clone, Copy, Debug, PartialEq, Eq)]
 pub struct Limits {

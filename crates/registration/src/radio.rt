@@ -1,3 +1,5 @@
+//! What is known of a radio.
+
 ghost use Rattle.std.specs.Prelude.{◌≡◌, IfOk};
 
 use crate::LocationArea;

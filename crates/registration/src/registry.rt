@@ -1,4 +1,6 @@
-ghost use Rattle.std.specs.Prelude.{◌≡◌, ◌⊎◌, None, Some, OnOk, IfOk, IfErr};
+//! The register: rules, radios, and the calls that change them.
+
+ghost use Rattle.std.specs.Prelude.{◌≡◌, None, Some, OnOk, IfOk, IfErr, IsOk, IsSome, unwrap_or};
 ghost use Rattle.std.specs.FinMap as map;
 ghost use Rattle.registration.specs.Registered.{rule_of, radio_of, type_refusal, area_refusal, room_refusal, locate_refusal, located, detach_refusal, detached, set_refusal, with_rule, empty_registered};
 ghost use Rattle.registration.specs.declared.fault.RegFault.TheVariants.{NoMemory};
@@ -96,10 +98,12 @@ impl<A: Allocator + Clone> Registry<A> {
     }
 
     /// Sets the rule under a prefix, or replaces the one that is there. `RulesFull` where the prefix
-    /// is new and there are `limits.rules` rules; a refusal changes nothing.
+    /// is new and there are `limits.rules` rules, `NoMemory` only where it is new; a refusal changes
+    /// nothing.
     pub fn set_rule(&mut self, prefix: Prefix, rule: Rule) -> Result<(), RegFault>
         ensures ok { OnOk result ((set_refusal self.old prefix ≡ None) × (self.new ≡ with_rule self.old prefix rule)) }
-        ensures err { IfErr result (λ e. ((set_refusal self.old prefix ≡ Some e) ⊎ (e ≡ NoMemory)) × (self.new ≡ self.old)) }
+        ensures err { IfErr result (λ e. (e ≡ unwrap_or (set_refusal self.old prefix) NoMemory) × (self.new ≡ self.old)) }
+        ensures replaces { IsSome (map.get self.old.rules prefix) → IsOk result }
     {
         if let Some(fault) = self.set_refusal(&prefix) {
             return Err(fault);
@@ -130,7 +134,8 @@ impl<A: Allocator + Clone> Registry<A> {
     }
 
     /// The radio is present at this station and location area from now on (clause 16.4, location
-    /// updating). A refusal changes nothing.
+    /// updating). The refusals are those of `locate_refusal`, and `NoMemory` for a new radio alone; a
+    /// refusal changes nothing.
     pub fn locate(
         &mut self,
         itsi: Itsi,
@@ -139,7 +144,8 @@ impl<A: Allocator + Clone> Registry<A> {
         update: LocationUpdateType,
     ) -> Result<(), RegFault>
         ensures ok { OnOk result ((locate_refusal self.old itsi area update ≡ None) × (self.new ≡ located self.old itsi station area)) }
-        ensures err { IfErr result (λ e. ((locate_refusal self.old itsi area update ≡ Some e) ⊎ (e ≡ NoMemory)) × (self.new ≡ self.old)) }
+        ensures err { IfErr result (λ e. (e ≡ unwrap_or (locate_refusal self.old itsi area update) NoMemory) × (self.new ≡ self.old)) }
+        ensures moves { IsSome (radio_of self.old itsi) → locate_refusal self.old itsi area update ≡ None → IsOk result }
     {
         if let Some(fault) = self.locate_refusal(itsi, area, update) {
             return Err(fault);

@@ -1,3 +1,5 @@
+//! What a rule allows.
+
 ghost use Rattle.std.specs.Prelude.{◌≡◌, ◌≤◌, ◌↔◌, IsSome, IfSome};
 
 use crate::LocationArea;

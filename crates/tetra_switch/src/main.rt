@@ -4,6 +4,7 @@
 use centre_core::Register;
 use console::{Ran, RunFault, run};
 use registration::Limits;
+use std::alloc::AllocError;
 use std::process::ExitCode;
 use std::{env, io};
 
@@ -19,15 +20,24 @@ const LIMITS: Limits = Limits {
 const TURNS: u32 = 1_073_741_824;
 
 fn main(rt: HostRuntime) -> ExitCode {
-    let Ok(words) = env::args(&rt) else {
-        return told(&rt, RunFault::NoMemory);
-    };
-    if words.count() > 1 {
-        return ExitCode::from(2);
+    match is_alone(&rt) {
+        Ok(true) => exit_code(&rt, serve(&rt)),
+        Ok(false) => ExitCode::from(2),
+        Err(AllocError) => exit_code(&rt, Err(RunFault::NoMemory)),
     }
-    match serve(&rt) {
-        Ok(ran) => ExitCode::from(u8::from(ran.troubled)),
-        Err(fault) => told(&rt, fault),
+}
+
+/// Whether the command line has no word behind the program's name.
+fn is_alone(rt: &HostRuntime) -> Result<bool, AllocError> {
+    match env::args(rt) {
+        Ok(words) => Ok(words.count() <= 1),
+        Err(e) => {
+            if e.kind() == io::ErrorKind::OutOfMemory {
+                Err(AllocError)
+            } else {
+                Ok(false)
+            }
+        }
     }
 }
 
@@ -40,14 +50,15 @@ fn serve(rt: &HostRuntime) -> Result<Ran, RunFault> {
     run(rt.alloc(), &mut reader, &mut writer, 1, TURNS, &mut desk)
 }
 
-/// Tells of a fault on standard error, and gives the status for it.
-fn told(rt: &HostRuntime, fault: RunFault) -> ExitCode {
-    match fault {
-        RunFault::Read | RunFault::Write => {
+/// Tells a fault on standard error.
+fn exit_code(rt: &HostRuntime, ended: Result<Ran, RunFault>) -> ExitCode {
+    match ended {
+        Ok(ran) => ExitCode::from(u8::from(ran.troubled)),
+        Err(RunFault::Read) | Err(RunFault::Write) => {
             let _ = eprintln!(rt; "fault: file -");
             ExitCode::from(4)
         }
-        RunFault::NoMemory => {
+        Err(RunFault::NoMemory) => {
             let _ = eprintln!(rt; "fault: memory");
             ExitCode::from(5)
         }

@@ -1,0 +1,9 @@
+use Rattle.mm_pdus.proofs.UplinkLaws as uplink
+use Rattle.mm_pdus.proofs.DownlinkLaws as downlink
+use Rattle.mm_pdus.proofs.laws.other_types.Goals as goal
+
+pub returns-clause-up : goal.returns-clause-up
+returns-clause-up c = uplink.other_type
+
+pub returns-clause-down : goal.returns-clause-down
+returns-clause-down c = downlink.other_type
