@@ -3,22 +3,22 @@
 another road than the program: texts by regular expressions, bits as strings of 0 and 1, the state
 as dictionaries. It answers command lines as `tetra-switch` has to.
 Usage: reading.py [STATION] < lines > answers (exit status 1 where an answer was troubled)"""
+import collections
 import re
 import sys
+
+from reading_pdus import Message, Refused, Report, accept, acknowledgement, read_sds, read_up, reject
 
 LAST_NUMBER = 2 ** 62
 NUMBER = re.compile(rb'(?:0|[1-9][0-9]*)\Z')
 LIMITS = {'rules': 16, 'radios': 16, 'mail': 256, 'stations': 4}
-SUPPORTED = (0, 2, 3, 4, 6)
 CAUSES = {'unknown-identity': 1, 'la-not-allowed': 3, 'congestion': 6, 'migration': 12}
+MOST_GROUPS, MOST_ITEMS = 32, 128
+# The lifetimes of the attachments that an accepted location update of each type ends
+ENDED = {0: (3,), 2: (), 3: (1, 2, 3), 4: (3,), 6: (3,)}
 
-
-class Refused(Exception):
-    """A refusal by its word, with what it carries."""
-
-    def __init__(self, word, carried=None):
-        super().__init__(word)
-        self.word, self.carried = word, carried
+# What waits for a destination: under a key of destination, source, reference and b'm' or b'r'
+Item = collections.namedtuple('Item', 'number deadline pdu')
 
 
 class BadLine(Exception):
@@ -68,69 +68,15 @@ def bit_string(word):
     return bits[:length]
 
 
+def print_identity(bits):
+    return '-'.join(str(int(field, 2)) for field in (bits[:10], bits[10:24], bits[24:]))
+
+
 def print_bits(bits):
     if bits is None:
         return '-'
     filled = bits + '0' * (-len(bits) % 4)
     return f'{len(bits)}:' + ''.join(format(int(filled[k:k + 4], 2), 'X') for k in range(0, len(filled), 4))
-
-
-# PDUs: each reader takes fields from the left; a missing bit is the fault of its place
-
-class Bits:
-    def __init__(self, bits):
-        self.bits = bits
-
-    def take(self, width):
-        if len(self.bits) < width:
-            raise Refused('mm-short')
-        field, self.bits = self.bits[:width], self.bits[width:]
-        return field
-
-    def number(self, width):
-        return int(self.take(width), 2)
-
-    def flag(self):
-        return self.take(1) == '1'
-
-    def extension(self, widths):
-        if not self.flag():
-            return
-        for width in widths:
-            if self.flag():
-                self.take(width)
-        while self.flag():
-            self.take(4)
-            self.take(self.number(11))
-
-
-def read_up(bits):
-    """('detach', None) or ('demand', location update type)."""
-    left = Bits(bits)
-    kind = left.number(4)
-    if kind == 1:
-        left.extension([24])
-        value = 'detach', None
-    elif kind == 2:
-        update = left.number(3)
-        left.take(1)
-        if left.flag():
-            left.take(10)
-        left.extension([24, 3, 15, 24, 24])
-        value = 'demand', update
-    else:
-        raise Refused('mm-unknown-type')
-    if left.bits:
-        raise Refused('mm-trailing')
-    return value
-
-
-def accept(update):
-    return '0101' + format(update, '03b') + '0'
-
-
-def reject(update, cause):
-    return '0111' + format(update, '03b') + format(cause, '05b') + '00'
 
 
 # The register
@@ -139,12 +85,13 @@ class Register:
     def __init__(self, limits=None):
         self.limits = dict(LIMITS, **(limits or {}))
         self.rules, self.radios, self.served, self.count = {}, {}, {}, 0
+        self.groups, self.mail = {}, {}
 
     def rule_of(self, bits):
         under = [p for p in self.rules if bits.startswith(p)]
         return self.rules[max(under, key=len)] if under else None
 
-    def apply(self, station, sequence, body):
+    def apply(self, station, sequence, moment, body):
         """('ok' or 'kept', number, PDU), or Refused."""
         if not 1 <= station <= self.limits['stations']:
             raise Refused('unknown-station')
@@ -156,7 +103,7 @@ class Register:
                 return 'kept', kept, pdu
         if self.count == LAST_NUMBER:
             raise Refused('numbers-used-up')
-        pdu = body(self, station)
+        pdu = body(self, station, moment)
         self.count += 1
         self.served[station] = sequence, self.count, pdu
         return 'ok', self.count, pdu
@@ -166,25 +113,35 @@ class Register:
             raise Refused('rules-full')
         self.rules[under] = rule
 
+    def present(self, itsi):
+        return itsi in self.radios and self.radios[itsi][2]
+
     def mobility(self, station, itsi, area, bits):
-        kind, update = read_up(bits)
-        if kind == 'detach':
-            if itsi not in self.radios or not self.radios[itsi][2]:
-                raise Refused('not-attached')
-            self.radios[itsi] = self.radios[itsi][:2] + (False,)
-            return None
+        kind, value = read_up(bits)
+        if kind == 'demand':
+            return self.locate(station, itsi, area, value)
+        if not self.present(itsi):
+            raise Refused('not-attached')
+        if kind == 'groups':
+            return self.attach(itsi, *value)
+        self.radios[itsi] = self.radios[itsi][:2] + (False,)
+        return None
+
+    def locate(self, station, itsi, area, update):
         refusal = self.locate_refusal(itsi, area, update)
         if refusal == 'unsupported-type':
             raise Refused(refusal)
         if refusal:
             raise Refused(refusal, print_bits(reject(update, CAUSES[refusal])))
         self.radios[itsi] = station, area, True
+        self.groups = {pair: kept for pair, kept in self.groups.items()
+                       if pair[0] != itsi or kept[1] not in ENDED[update]}
         return accept(update)
 
     def locate_refusal(self, itsi, area, update):
         if update == 7:
             return 'unsupported-type'
-        if update not in SUPPORTED:
+        if update not in ENDED:
             return 'migration'
         rule = self.rule_of(itsi)
         if rule is None:
@@ -195,6 +152,84 @@ class Register:
             return 'congestion'
         return None
 
+    def groups_of(self, itsi):
+        return {group: kept for (radio, group), kept in self.groups.items() if radio == itsi}
+
+    def members_of(self, gtsi):
+        return {radio: kept for (radio, group), kept in self.groups.items() if group == gtsi}
+
+    def attach(self, itsi, first, items):
+        """The acknowledgement; `first` detaches all groups before the items come."""
+        after, results = {} if first else self.groups_of(itsi), []
+        for item in items:
+            group = item.group(itsi)
+            rule = self.rule_of(group)
+            if item.detaches:
+                after.pop(group, None)
+                continue
+            if rule:
+                after[group] = int(item.detail, 2), rule[2]
+            results.append((item.address, after[group] if rule else None))
+        if len(after) > MOST_GROUPS:
+            raise Refused('too-many-groups')
+        others = {pair: kept for pair, kept in self.groups.items() if pair[0] != itsi}
+        self.groups = {**others, **{(itsi, group): kept for group, kept in after.items()}}
+        return acknowledgement(results)
+
+    def short_data(self, moment, source, destination, bits):
+        value = read_sds(bits)
+        rule = self.rule_of(destination)
+        if rule is None:
+            raise Refused('unknown-destination')
+        if not self.present(source):
+            raise Refused('not-attached')
+        if isinstance(value, Message):
+            self.post(moment + rule[3], (destination, source, value.reference, b'm'), value)
+        elif isinstance(value, Report):
+            self.report(moment + rule[3], source, destination, value)
+        else:
+            self.delete((source, destination, value.reference, b'r'))
+
+    def post(self, deadline, key, message):
+        if key in self.mail:
+            raise Refused('reference-busy')
+        self.keep_with(self.mail, key, deadline, message)
+
+    def report(self, deadline, reporter, origin, report):
+        """The report, on its way to where the message came from."""
+        key = reporter, origin, report.reference, b'm'
+        if key not in self.mail:
+            raise Refused('no-such-message')
+        ended = report.status == 2 or report.status == 0 and self.mail[key].pdu.request in (0, 1)
+        told = origin, reporter, report.reference, b'r'
+        left = {k: item for k, item in self.mail.items() if k != told and not (ended and k == key)}
+        self.keep_with(left, told, deadline, report)
+
+    def keep_with(self, others, key, deadline, value):
+        """These other items and a new one, where there is room."""
+        if sum(other[0] == key[0] for other in others) >= MOST_ITEMS:
+            raise Refused('mailbox-full')
+        if len(others) >= self.limits['mail']:
+            raise Refused('centre-full')
+        self.mail = {**others, key: Item(self.count + 1, deadline, value)}
+
+    def sent(self, key):
+        if not self.present(key[0]):
+            raise Refused('not-attached')
+        if key not in self.mail:
+            raise Refused('no-such-message')
+        value = self.mail[key].pdu
+        if not (value.request if isinstance(value, Message) else value.answered):
+            del self.mail[key]
+
+    def expire(self, moment):
+        self.mail = {key: item for key, item in self.mail.items() if item.deadline > moment}
+
+    def delete(self, key):
+        if key not in self.mail:
+            raise Refused('no-such-message')
+        del self.mail[key]
+
 
 # Lines
 
@@ -204,15 +239,42 @@ def rule_body(words):
     life, keep = number(words[3], 0, 3), number(words[4], 0, 2 ** 32 - 1)
     if low > high:
         bad_value()
-    return lambda register, station: register.set_rule(under, (low, high, life, keep))
+    return lambda register, station, moment: register.set_rule(under, (low, high, life, keep))
 
 
 def mobility_body(words):
     itsi, area, bits = identity(words[0]), number(words[1], 0, 16383), bit_string(words[2])
-    return lambda register, station: register.mobility(station, itsi, area, bits)
+    return lambda register, station, moment: register.mobility(station, itsi, area, bits)
 
 
-COMMANDS = {(b'rule', 5): rule_body, (b'mm', 3): mobility_body}
+def short_data_body(words):
+    source, destination, bits = identity(words[0]), identity(words[1]), bit_string(words[2])
+    return lambda register, station, moment: register.short_data(moment, source, destination, bits)
+
+
+def key_of(words):
+    key = identity(words[0]), identity(words[1]), number(words[2], 0, 255), words[3]
+    if words[3] not in (b'm', b'r'):
+        bad_value()
+    return key
+
+
+def sent_body(words):
+    key = key_of(words)
+    return lambda register, station, moment: register.sent(key)
+
+
+def expire_body(words):
+    return lambda register, station, moment: register.expire(moment)
+
+
+def delete_body(words):
+    key = key_of(words)
+    return lambda register, station, moment: register.delete(key)
+
+
+COMMANDS = {(b'rule', 5): rule_body, (b'mm', 3): mobility_body, (b'sds', 3): short_data_body, (b'sent', 4): sent_body,
+            (b'expire', 0): expire_body, (b'delete', 4): delete_body}
 
 
 def where(register, words):
@@ -223,19 +285,39 @@ def where(register, words):
     return [f'where {name} station {station} la {area} {"present" if present else "absent"}']
 
 
+def groups(register, words):
+    attached = sorted(register.groups_of(identity(words[0])).items())
+    return [f'groups {words[0].decode()} {len(attached)}'] + [
+        f'group {print_identity(group)} {usage} {life}' for group, (usage, life) in attached]
+
+
+def members(register, words):
+    attached = sorted(register.members_of(identity(words[0])).items())
+    present = [f'member {print_identity(radio)} {usage}' for radio, (usage, _) in attached if register.present(radio)]
+    return [f'members {words[0].decode()} {len(present)}'] + present
+
+
+def mail(register, words):
+    itsi = identity(words[0])
+    waiting = [(item.number, key, item) for key, item in register.mail.items() if key[0] == itsi]
+    return [f'mail {words[0].decode()} {len(waiting)}'] + [
+        f'item {number} {kind.decode()} {print_identity(source)} {reference} {item.deadline} {print_bits(item.pdu.kept)}'
+        for number, (_, source, reference, kind), item in sorted(waiting)]
+
+
 def total(register, words):
     return [f'count {register.count}']
 
 
-QUERIES = {(b'where', 1): where, (b'count', 0): total}
+QUERIES = {(b'where', 1): where, (b'groups', 1): groups, (b'members', 1): members, (b'mail', 1): mail, (b'count', 0): total}
 
 
 def command(register, station, words):
     sequence = number(words[0], 1, 2 ** 32 - 1)
-    number(words[1], 0, 2 ** 32 - 1)
+    moment = number(words[1], 0, 2 ** 32 - 1)
     body = COMMANDS[words[2], len(words) - 3](words[3:])
     try:
-        word, kept, pdu = register.apply(station, sequence, body)
+        word, kept, pdu = register.apply(station, sequence, moment, body)
         return [f'{sequence} {word} {kept} {print_bits(pdu)}']
     except Refused as refused:
         return [' '.join(filter(None, [str(sequence), 'no', refused.word, refused.carried]))]
@@ -262,15 +344,22 @@ def lines_of(data):
     return lines + [last] if last else lines
 
 
-def serve(data, station=1, limits=None):
-    """The text that answers these bytes, and whether the run was troubled."""
-    register, out, troubled = Register(limits), [], False
+def answers(data, station=1, limits=None):
+    """For each line of these bytes the lines of its answer, and whether it is a bad line."""
+    register = Register(limits)
     for place, line in enumerate(lines_of(data), 1):
         try:
-            out += answer(register, station, line)
+            yield answer(register, station, line), False
         except BadLine as fault:
-            out.append(f'line {place} bad {fault}')
-            troubled = True
+            yield [f'line {place} bad {fault}'], True
+
+
+def serve(data, station=1, limits=None):
+    """The text that answers these bytes, and whether the run was troubled."""
+    out, troubled = [], False
+    for told, bad in answers(data, station, limits):
+        out += told
+        troubled |= bad
     return ''.join(line + '\n' for line in out).encode(), troubled
 
 

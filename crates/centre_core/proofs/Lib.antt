@@ -1,6 +1,12 @@
 pub mod RegisteredLaws
+pub mod EffectLaws
+pub mod ReadingLaws
+pub mod SpeltLaws
+pub mod Changed
+pub mod MailEffects
 pub mod StepLaws
 pub mod StateLaws
 pub mod ResendLaws
+pub mod MailLaws
 pub mod UpdateLaws
 pub mod ReplyLaws

@@ -1,6 +1,6 @@
 -- Changes of rules and radios keep the limits.
 use Rattle.std.proofs.Common.{◌≡◌, ℕ, ◌+◌, ◌≤◌, Bool, true, false, refl, sym, subst, ap, ◌∙◌, arith, Option, Some, None}
-use Rattle.std.specs.Prelude.{nat_lt, if◌then◌else◌}
+use Rattle.std.specs.Prelude.{nat_lt, cond, IsSome, if◌then◌else◌}
 use Rattle.std.specs.Option.{is_some}
 use Rattle.std.specs.FinMap as map
 use Rattle.std.proofs.lemmas.Bool.Decides.{nat_tests}
@@ -52,12 +52,24 @@ detached_at_limits r itsi (Some radio) = refl
 pub detached_limits : (r : Registered) (itsi : ℕ) → (detached r itsi).limits ≡ r.limits
 detached_limits r itsi = detached_at_limits r itsi (radio_of r itsi)
 
--- so too of any value that is known to be such a change
-pub set_within : (old new : Registered) (prefix : Path) (rule : Rule) → set_refusal old prefix ≡ None → new ≡ with_rule old prefix rule → IsWithin old → IsWithin new
-set_within old new prefix rule none e h = subst IsWithin (sym e) (with_rule_within old prefix rule none h)
+some_cond : {X : Type 0} (b : Bool) (v : X) (o : Option X) → IsSome o → IsSome (cond b (Some v) o)
+some_cond true v o h = refl
+some_cond false v o h = h
 
-pub detach_within : (old new : Registered) (itsi : ℕ) → new ≡ detached old itsi → IsWithin old → IsWithin new
-detach_within old new itsi e h = subst IsWithin (sym e) (detached_within old itsi h)
+-- an entry stays where another one comes, or takes its place
+there_still : {V : Type 0} (m : PathMap V) (k : Path) (v : V) (q : Path) → IsSome (map.get m q) → IsSome (map.get (map.insert m k v) q)
+there_still m k v q h = subst IsSome (sym (map.get-insert paths_total m k v q)) (some_cond _ v (map.get m q) h)
+
+-- no radio is forgotten
+pub located_keeps : (r : Registered) (itsi station area other : ℕ) → IsSome (radio_of r other) → IsSome (radio_of (located r itsi station area) other)
+located_keeps r itsi station area other h = there_still r.radios (id_path itsi) _ (id_path other) h
+
+detached_at_keeps : (r : Registered) (itsi : ℕ) (radio : Option Radio) (other : ℕ) → IsSome (radio_of r other) → IsSome (radio_of (detached_at r itsi radio) other)
+detached_at_keeps r itsi None other h = h
+detached_at_keeps r itsi (Some radio) other h = there_still r.radios (id_path itsi) _ (id_path other) h
+
+pub detached_keeps : (r : Registered) (itsi other : ℕ) → IsSome (radio_of r other) → IsSome (radio_of (detached r itsi) other)
+detached_keeps r itsi other h = detached_at_keeps r itsi (radio_of r itsi) other h
 
 pub empty_within : (limits : Limits) → IsWithin (empty_registered limits)
 empty_within limits = (omega (arith, map.len-empty path_cmp Rule), omega (arith, map.len-empty path_cmp Radio))

@@ -7,7 +7,7 @@ use Rattle.centre_core.specs.declared.reply.Reply.{Reply}
 use Rattle.centre_core.specs.declared.reply.Reply.TheVariants.{Accepted, Kept, Refused}
 use Rattle.centre_core.specs.declared.reply.Refusal.{Refusal}
 use Rattle.centre_core.specs.declared.reply.Refusal.TheVariants.{UnknownStation}
-use Rattle.centre_core.specs.State.{State, Served, IsState}
+use Rattle.centre_core.specs.State.{State, Served}
 use Rattle.centre_core.specs.Step.{step, step_after, is_station, kept_at}
 use Rattle.centre_core.specs.History.{next}
 use Rattle.centre_core.specs.Laws.{AcceptedAreNumbered, ResendsAreAnswered}
@@ -29,7 +29,7 @@ module _ {A B : Type 0} where
 
 pub accepted_are_numbered : {A : Type 0} (B : Type 0) → AcceptedAreNumbered A B
 accepted_are_numbered B s c number pdu e =
-    let h = kept {B = B} s c number pdu e in (h.1, ap (λ t. t.count) h.0.is ∙ sym h.1)
+    let h = kept {B = B} s c number pdu e in (h.1, ap (λ t. t.count) h.0.is ∙ ap (λ n. n + 1) h.0.change.count ∙ sym h.1)
 
 if_true : {X : Type 0} (b : Bool) (x y : X) → b ≡ true → (if b then x else y) ≡ x
 if_true true x y e = refl
@@ -69,12 +69,13 @@ resends_are_answered B s state c again number pdu e same_station same_sequence =
     let t = next s c in
     let here : is_station s c.station ≡ true = of_station {B = B} s c number pdu e in
     let place : (0 < c.station) × (c.station ≤ s.registered.limits.stations) = above_none _ _ here in
-    let places = state.1 in
-    let within : c.station - 1 < length s.served = omega arith in
+    let places = state.3 in
+    let same : length h.0.made.served ≡ length s.served = ap length h.0.change.served in
+    let within : c.station - 1 < length h.0.made.served = omega arith in
     let limits : t.registered.limits ≡ s.registered.limits = ap (λ u. u.registered.limits) h.0.is ∙ h.0.change.limits in
     let station : is_station t again.station ≡ true =
     ap (λ n. nat_lt 0 n && nat_le n t.registered.limits.stations) same_station ∙ ap (λ l. nat_lt 0 c.station && nat_le c.station l.stations) limits ∙ here in
-    let last : Served = record { sequence = c.sequence; number = s.count + 1; pdu = h.0.pdu } in
+    let last : Served = record { sequence = c.sequence; number = h.0.made.count + 1; pdu = h.0.pdu } in
     let known : kept_at t again.station ≡ Some last =
-    ap (λ n. kept_at t n) same_station ∙ ap (λ u. kept_at u c.station) h.0.is ∙ get_or-set_same s.served (c.station - 1) (Some last) None within in
-    answered t again last station known same_sequence ∙ ap (λ n. (t, Kept n h.0.pdu)) (sym h.1) ∙ ap (λ p. (t, Kept number p)) (sym h.2)
+    ap (λ n. kept_at t n) same_station ∙ ap (λ u. kept_at u c.station) h.0.is ∙ get_or-set_same h.0.made.served (c.station - 1) (Some last) None within in
+    answered t again last station known same_sequence ∙ ap (λ n. (t, Kept (n + 1) h.0.pdu)) h.0.change.count ∙ ap (λ n. (t, Kept n h.0.pdu)) (sym h.1) ∙ ap (λ p. (t, Kept number p)) (sym h.2)

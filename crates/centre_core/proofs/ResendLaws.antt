@@ -10,8 +10,8 @@ use Rattle.centre_core.specs.declared.command.Command.{Command}
 use Rattle.centre_core.specs.declared.reply.Reply.{Reply}
 use Rattle.centre_core.specs.declared.reply.Reply.TheVariants.{Accepted, Kept, Refused}
 use Rattle.centre_core.specs.State.{State, Served}
-use Rattle.centre_core.specs.Step.{step, step_after, is_station, accepted}
-use Rattle.centre_core.specs.History.{is_acceptance, accepts, next, after, kept_of, is_at_least, is_no_later, is_resend, fresh_from}
+use Rattle.centre_core.specs.Step.{step, step_after, is_station, kept_at}
+use Rattle.centre_core.specs.History.{is_acceptance, accepts, next, after, has_reached, is_at_least, is_no_later, is_resend, fresh_from}
 use Rattle.centre_core.specs.Laws.{ResendsAreIdle}
 use Rattle.centre_core.proofs.StepLaws.{Advanced, Outcome, says}
 
@@ -19,32 +19,26 @@ use Rattle.centre_core.proofs.StepLaws.{Advanced, Outcome, says}
 abbrev pub HasPlaces : State → Type 0
 HasPlaces s = length s.served ≡ s.registered.limits.stations
 
-abbrev kept_in : List (Option Served) → ℕ → Option Served
-kept_in served zero = None
-kept_in served (suc k) = get_or served k None
-
-same_kept : (s : State) (n : ℕ) → kept_of s n ≡ kept_in s.served n
-same_kept s zero = refl
-same_kept s (suc k) = refl
-
-kept_above : (s : State) (n : ℕ) → 0 < n → kept_of s n ≡ get_or s.served (n - 1) None
-kept_above s zero above = absurd (omega arith)
-kept_above s (suc k) above = let e : k ≡ suc k - 1 = omega arith in ap (λ i. get_or s.served i None) e
-
 above_none : (n m : ℕ) → (nat_lt 0 n && nat_le n m) ≡ true → (0 < n) × (n ≤ m)
 above_none n m h = grind (arith, nat_tests)
 
-kept_here : (served : List (Option Served)) (n : ℕ) (k : Option Served) → 0 < n → n ≤ length served → kept_in (slice_set served (n - 1) k) n ≡ k
-kept_here served zero k above below = absurd (omega arith)
-kept_here served (suc j) k above below =
-    let within : j < length served = omega arith in
-    let e : suc j - 1 ≡ j = omega arith in
-    subst (λ i. kept_in (slice_set served i k) (suc j) ≡ k) (sym e) (get_or-set_same served j k None within)
+and_both : (a b : Bool) → (a && b) ≡ true → (a ≡ true) × (b ≡ true)
+and_both true b h = (refl, h)
+and_both false b h = absurd (false≢true h)
 
-kept_other : (served : List (Option Served)) (n i : ℕ) (k : Option Served) → 0 < n → i ≢ n → kept_in (slice_set served (n - 1) k) i ≡ kept_in served i
-kept_other served n zero k above other = refl
-kept_other served n (suc j) k above other =
-    let apart : j ≢ n - 1 = λ e. other (omega arith) in get_or-set_other served (n - 1) j k None apart
+both_and : (a b : Bool) → a ≡ true → b ≡ true → (a && b) ≡ true
+both_and true b e h = h
+both_and false b e h = absurd (false≢true e)
+
+second_false : (a b : Bool) → a ≡ true → (a && b) ≡ false → b ≡ false
+second_false true b e h = h
+second_false false b e h = absurd (false≢true e)
+
+-- what is asked of a station stays where another one's entry changes
+same_elsewhere : (served : List (Option Served)) (n i l q : ℕ) (k : Option Served) → 0 < n → i ≢ n → ((nat_lt 0 i && nat_le i l) && is_at_least q (get_or (slice_set served (n - 1) k) (i - 1) None)) ≡ ((nat_lt 0 i && nat_le i l) && is_at_least q (get_or served (i - 1) None))
+same_elsewhere served n zero l q k above other = refl
+same_elsewhere served n (suc j) l q k above other =
+    let apart : suc j - 1 ≢ n - 1 = λ e. other (omega arith) in ap (λ o. (nat_lt 0 (suc j) && nat_le (suc j) l) && is_at_least q o) (get_or-set_other served (n - 1) (suc j - 1) k None apart)
 
 below_or_equal : (q last : ℕ) → nat_le q last ≡ true → (nat_lt q last || (q == last)) ≡ true
 below_or_equal q last h = grind (arith, nat_tests)
@@ -67,11 +61,9 @@ module _ {A : Type 0} where
       idle_if s (nat_lt c.sequence last.sequence) _ _ (λ _. (refl, refl))
       (λ e. idle_if s (c.sequence == last.sequence) _ _ (λ _. (refl, refl)) (λ f. absurd (false≢true (sym f ∙ later (nat_lt c.sequence last.sequence) (c.sequence == last.sequence) (below_or_equal c.sequence last.sequence h) e))))
 
-  idle : (s : State) (c : Command A) → is_at_least c.sequence (kept_of s c.station) ≡ true → Idle s (step s c)
+  idle : (s : State) (c : Command A) → has_reached s c.station c.sequence ≡ true → Idle s (step s c)
   unfolding step
-  idle s c h =
-      idle_if s (is_station s c.station) _ _
-      (λ e. idle_after s c (get_or s.served (c.station - 1) None) (subst (λ k. is_at_least c.sequence k ≡ true) (kept_above s c.station (above_none _ _ e).0) h)) (λ _. (refl, refl))
+  idle s c h = idle_if s (is_station s c.station) _ _ (λ _. idle_after s c (kept_at s c.station) (and_both _ _ h).1) (λ _. (refl, refl))
 
   station_if : (s : State) (b : Bool) (x : State × Reply A) (y : State × Reply A) → is_acceptance y.1 ≡ false → is_acceptance (if b then x else y).1 ≡ true → b ≡ true
   station_if s true x y h e = refl
@@ -81,7 +73,7 @@ module _ {A : Type 0} where
   unfolding step
   of_station s c ok = station_if s (is_station s c.station) _ _ refl ok
 
-  is_new : (s : State) (c : Command A) (b : Bool) → is_at_least c.sequence (kept_of s c.station) ≡ b → accepts s c ≡ true → b ≡ false
+  is_new : (s : State) (c : Command A) (b : Bool) → has_reached s c.station c.sequence ≡ b → accepts s c ≡ true → b ≡ false
   is_new s c false e ok = refl
   is_new s c true e ok = absurd (false≢true (sym (idle s c e).1 ∙ ok))
 
@@ -112,49 +104,58 @@ by_none true h = refl
 by_none false h = h
 
 module _ {A : Type 0} where
-  -- after a command is accepted its station has its sequence, and the others are as they were
-  here_after : (s t : State) (c : Command A) → Advanced s t c → HasPlaces s → accepts s c ≡ true → (q : ℕ) → nat_le q c.sequence ≡ true → is_at_least q (kept_of t c.station) ≡ true
-  here_after s t c h places ok q low =
-      let place : (0 < c.station) × (c.station ≤ s.registered.limits.stations) = above_none _ _ (of_station s c ok) in
-      let within : c.station ≤ length s.served = omega arith in
-      let e : kept_of t c.station ≡ Some (record { sequence = c.sequence; number = s.count + 1; pdu = h.pdu }) = ap (λ u. kept_of u c.station) h.is ∙ same_kept (accepted s c h.registered h.pdu) c.station ∙ kept_here s.served c.station _ place.0 within in
-      subst (λ k. is_at_least q k ≡ true) (sym e) low
+  -- the stations stay
+  same_stations : (s t : State) (c : Command A) → Advanced s t c → (i : ℕ) → is_station t i ≡ is_station s i
+  same_stations s t c h i = ap (λ u. is_station u i) h.is ∙ ap (λ l. nat_lt 0 i && nat_le i l.stations) h.change.limits
 
-  other_after : (s t : State) (c : Command A) → Advanced s t c → accepts s c ≡ true → (i : ℕ) → i ≢ c.station → kept_of t i ≡ kept_of s i
-  other_after s t c h ok i apart =
+  -- after a command is accepted its station has its sequence, and the others are as they were
+  here_after : (s t : State) (c : Command A) → Advanced s t c → HasPlaces s → accepts s c ≡ true → (q : ℕ) → nat_le q c.sequence ≡ true → has_reached t c.station q ≡ true
+  here_after s t c h places ok q low =
+      let here : is_station s c.station ≡ true = of_station s c ok in
+      let place : (0 < c.station) × (c.station ≤ s.registered.limits.stations) = above_none _ _ here in
+      let same : length h.made.served ≡ length s.served = ap length h.change.served in
+      let within : c.station - 1 < length h.made.served = omega arith in
+      let known : kept_at t c.station ≡ Some (record { sequence = c.sequence; number = h.made.count + 1; pdu = h.pdu }) = ap (λ u. kept_at u c.station) h.is ∙ get_or-set_same h.made.served (c.station - 1) _ None within in
+      both_and (is_station t c.station) _ (same_stations s t c h c.station ∙ here) (subst (λ k. is_at_least q k ≡ true) (sym known) low)
+
+  other_after : (s t : State) (c : Command A) → Advanced s t c → accepts s c ≡ true → (i q : ℕ) → i ≢ c.station → has_reached t i q ≡ has_reached s i q
+  other_after s t c h ok i q apart =
+      let last : Option Served = Some (record { sequence = c.sequence; number = h.made.count + 1; pdu = h.pdu }) in
       let place : (0 < c.station) × (c.station ≤ s.registered.limits.stations) = above_none _ _ (of_station s c ok) in
-      ap (λ u. kept_of u i) h.is ∙ same_kept (accepted s c h.registered h.pdu) i ∙ kept_other s.served c.station i _ place.0 apart ∙ sym (same_kept s i)
+      ap (λ u. has_reached u i q) h.is ∙ ap (λ l. (nat_lt 0 i && nat_le i l.stations) && is_at_least q (get_or (slice_set h.made.served (c.station - 1) last) (i - 1) None)) h.change.limits
+      ∙ ap (λ served. (nat_lt 0 i && nat_le i s.registered.limits.stations) && is_at_least q (get_or (slice_set served (c.station - 1) last) (i - 1) None)) h.change.served
+      ∙ same_elsewhere s.served c.station i s.registered.limits.stations q last place.0 apart
 
   places_after : (s t : State) (c : Command A) → Advanced s t c → HasPlaces s → HasPlaces t
   places_after s t c h places =
-      subst HasPlaces (sym h.is) (length-set s.served (c.station - 1) _ ∙ places ∙ ap (λ l. l.stations) (sym h.change.limits))
+      subst HasPlaces (sym h.is) (length-set h.made.served (c.station - 1) _ ∙ ap length h.change.served ∙ places ∙ ap (λ l. l.stations) (sym h.change.limits))
 
   places_next : (s : State) (c : Command A) → HasPlaces s → HasPlaces (next s c)
   places_next s c places = elim (outcome s c) [ inl h ↦ places_after s (next s c) c h.1 places | inr h ↦ subst HasPlaces (sym h.0) places ]
 
   -- a station's last sequence never falls
-  rises : (s : State) (c : Command A) → HasPlaces s → (q i : ℕ) → is_at_least q (kept_of s i) ≡ true → is_at_least q (kept_of (next s c) i) ≡ true
-  rises s c places q i h =
+  rises : (s : State) (c : Command A) → HasPlaces s → (i q : ℕ) → has_reached s i q ≡ true → has_reached (next s c) i q ≡ true
+  rises s c places i q h =
       elim (outcome s c) [
         | inl o ↦ elim (cases_eq i c.station) [
-          | inl e ↦ subst (λ n. is_at_least q (kept_of (next s c) n) ≡ true) (sym e)
-              (here_after s (next s c) c o.1 places o.0 q
-              (by_kept (kept_of s c.station) q c.sequence (subst (λ n. is_at_least q (kept_of s n) ≡ true) e h) (is_new s c _ refl o.0)))
-          | inr apart ↦ subst (λ k. is_at_least q k ≡ true) (sym (other_after s (next s c) c o.1 o.0 i apart)) h
+          | inl e ↦ let there : has_reached s c.station q ≡ true = subst (λ n. has_reached s n q ≡ true) e h in
+              let low : nat_le q c.sequence ≡ true = by_kept (kept_at s c.station) q c.sequence (and_both _ _ there).1 (second_false (is_station s c.station) _ (and_both _ _ there).0 (is_new s c _ refl o.0)) in
+              subst (λ n. has_reached (next s c) n q ≡ true) (sym e) (here_after s (next s c) c o.1 places o.0 q low)
+          | inr apart ↦ other_after s (next s c) c o.1 o.0 i q apart ∙ h
         ]
-        | inr o ↦ subst (λ u. is_at_least q (kept_of u i) ≡ true) (sym o.0) h
+        | inr o ↦ subst (λ u. has_reached u i q ≡ true) (sym o.0) h
       ]
 
   -- the state reached knows of each resend
   abbrev Knows : State → List (Command A) → State → Type 0
-  Knows s done now = (c : Command A) → is_resend s done c ≡ true → is_at_least c.sequence (kept_of now c.station) ≡ true
+  Knows s done now = (c : Command A) → is_resend s done c ≡ true → has_reached now c.station c.sequence ≡ true
 
   knows_more : (s : State) (done : List (Command A)) (now : State) (d : Command A) → HasPlaces now → Knows s done now → accepts now d ≡ true → Advanced now (next now d) d → Knows s (d ∷ done) (next now d)
   knows_more s done now d places knows ok h c again =
-      elim (one_of (is_at_least c.sequence (kept_of s c.station)) (is_no_later c d) (list_any (is_no_later c) done) again) [
-        | inl e ↦ rises now d places c.sequence c.station (knows c e)
+      elim (one_of (has_reached s c.station c.sequence) (is_no_later c d) (list_any (is_no_later c) done) again) [
+        | inl e ↦ rises now d places c.station c.sequence (knows c e)
         | inr e ↦ let f = same_station d.station c.station c.sequence d.sequence e in
-            subst (λ n. is_at_least c.sequence (kept_of (next now d) n) ≡ true) f.0 (here_after now (next now d) d h places ok c.sequence f.1)
+            subst (λ n. has_reached (next now d) n c.sequence ≡ true) f.0 (here_after now (next now d) d h places ok c.sequence f.1)
       ]
 
   knows_next : (s : State) (done : List (Command A)) (now : State) (d : Command A) → HasPlaces now → Knows s done now → Knows s (cond (accepts now d) (d ∷ done) done) (next now d)
@@ -175,7 +176,7 @@ module _ {A : Type 0} where
       (without_resends s (cond (accepts now c) (c ∷ done) done) (next now c) cs (places_next now c places) (knows_next s done now c places knows))
 
   knows_first : (s : State) → Knows s [] s
-  knows_first s c h = by_none (is_at_least c.sequence (kept_of s c.station)) h
+  knows_first s c h = by_none (has_reached s c.station c.sequence) h
 
 pub resends_are_idle : {A : Type 0} → ResendsAreIdle A
-resends_are_idle s state cs = without_resends s [] s cs state.1 (knows_first s)
+resends_are_idle s state cs = without_resends s [] s cs state.3 (knows_first s)

@@ -1,29 +1,45 @@
 -- The step keeps what holds of every state, and does not depend on where replies are kept.
-use Rattle.std.proofs.Common.{◌≡◌, ℕ, ◌+◌, ◌-◌, Bool, true, false, List, refl, sym, subst, ap, ◌∙◌, arith, Option, Some, None, Result, Ok, Err}
-use Rattle.std.specs.Prelude.{◌==◌, OnOk, nat_lt, replicate, if◌then◌else◌}
-use Rattle.std.specs.Result.{is_err}
-use mathlib.Core.Bool.{false≢true}
+use Rattle.std.proofs.Common.{◌≡◌, ◌<◌, ℕ, ◌+◌, ◌-◌, Bool, true, false, List, [], ◌∷◌, length, refl, sym, subst, ap, ◌∙◌, arith, Option, Some, None, Result, Ok, Err}
+use Rattle.std.specs.Prelude.{◌==◌, nat_lt, replicate, slice_set, if◌then◌else◌}
+use Rattle.std.specs.Option.{option_map}
 use Rattle.std.proofs.Math.ListN.{length-set}
 use Rattle.std.proofs.lemmas.List.{length-replicate}
+use Rattle.std.specs.List.{All}
 use Rattle.std.proofs.lemmas.List.Elements.{All-weaker, All-set, All-replicate}
-use Rattle.mm_pdus.specs.declared.update.LocationUpdateType.{LocationUpdateType}
 use Rattle.mm_pdus.specs.declared.fault.MmFault.{MmFault}
 use Rattle.mm_pdus.specs.declared.uplink.MmUp.{MmUp}
 use Rattle.mm_pdus.specs.declared.uplink.MmUp.TheVariants as up
 use Rattle.mm_pdus.specs.UplinkReading.{reading_up}
 use Rattle.registration.specs.declared.limits.Limits.{Limits}
-use Rattle.registration.specs.declared.fault.RegFault.{RegFault}
-use Rattle.registration.specs.Registered.{Registered, empty_registered, set_refusal, locate_refusal, located, detach_refusal}
+use Rattle.registration.specs.Registered.{Registered, empty_registered, set_refusal, locate_refusal, detach_refusal}
+use Rattle.group_attach.specs.Attached.{Attached, no_groups}
+use Rattle.group_attach.specs.Applied.{apply_refusal}
+use Rattle.group_attach.proofs.KeptLaws.{no_groups_fit, no_groups_known}
+use Rattle.sds_tl.specs.declared.fault.SdsFault.{SdsFault}
+use Rattle.sds_tl.specs.declared.pdu.Head.{Head}
+use Rattle.sds_tl.specs.declared.pdu.Head.TheVariants as heads
+use Rattle.sds_tl.specs.Reading.{heading}
+use Rattle.mailbox.specs.Values.{Waiting, Mailed, empty_mailed}
+use Rattle.mailbox.specs.Refusals.{post_refusal, report_refusal, ack_refusal, sent_refusal, delete_refusal}
+use Rattle.mailbox.specs.declared.key.Kind.TheVariants.{Message, Report}
+use Rattle.mailbox.specs.declared.key.Envelope.{Envelope}
+use Rattle.mailbox.specs.Tests.{is_reported}
+use Rattle.mailbox.specs.Mail.{posted, reported}
+use Rattle.mailbox.specs.Kept.{IsMail, is_head_of}
+use Rattle.mailbox.proofs.Kept.{empty_is_mail}
 use Rattle.centre_core.specs.declared.command.Command.{Command}
 use Rattle.centre_core.specs.declared.command.Body.{Body}
-use Rattle.centre_core.specs.declared.command.Body.TheVariants.{RuleSet, Mm}
+use Rattle.centre_core.specs.declared.command.Body.TheVariants.{RuleSet, Mm, Sds, Sent, Expire, Delete}
 use Rattle.centre_core.specs.declared.reply.Reply.{Reply}
 use Rattle.centre_core.specs.declared.reply.Reply.TheVariants.{Accepted, Kept, Refused}
+use Rattle.centre_core.specs.declared.reply.Refusal.{Refusal}
 use Rattle.centre_core.specs.State.{State, Served, last_number, IsState, IsNumbered}
-use Rattle.centre_core.specs.Step.{step, step_new, step_after, step_body, step_plain, step_update, step_mm, kept_at, is_station}
-use Rattle.centre_core.specs.History.{next}
+use Rattle.centre_core.specs.Step.{step, step_new, step_after, step_body, step_made, step_mm, step_sds, accepted, kept_at, is_station, envelope, mail_changed, message_of, report_of}
+use Rattle.centre_core.specs.History.{next, names, made}
 use Rattle.centre_core.specs.Laws.{EmptyIsState, StepKeepsState, StepIsNext}
-use Rattle.centre_core.proofs.RegisteredLaws.{empty_within, located_within}
+use Rattle.centre_core.proofs.ReadingLaws.{moved, reading_moved}
+use Rattle.centre_core.proofs.MailEffects.{IsEffect, message_effect, report_effect}
+use Rattle.centre_core.proofs.RegisteredLaws.{empty_within}
 use Rattle.centre_core.proofs.StepLaws.{Advanced, Outcome, says}
 
 one_more : (n : ℕ) (kept : Option Served) → IsNumbered n kept → IsNumbered (n + 1) kept
@@ -31,15 +47,21 @@ one_more n None h = h
 one_more n (Some last) h = (h.0, omega (arith, h.1))
 
 module _ {A : Type 0} where
-  advanced_state : (s t : State) (c : Command A) → Advanced s t c → IsState s → IsState t
-  advanced_state s t c a h =
-      let left = a.numbers_left in
-      subst IsState (sym a.is) (
-        a.change.within h.0,
-        length-set s.served (c.station - 1) _ ∙ h.1 ∙ ap (λ l. l.stations) (sym a.change.limits),
-        omega (arith, left),
-        All-set (IsNumbered (s.count + 1)) s.served (c.station - 1) _ (omega arith, omega arith) (All-weaker (IsNumbered s.count) (IsNumbered (s.count + 1)) (one_more s.count) s.served h.3),
+  pub accepted_state : (s new : State) (c : Command A) (pdu : Option (List Bool)) (ends : Waiting → Bool) (makes : List Waiting) → s.count < last_number → IsEffect s new ends makes → IsState s → IsState (accepted new c pdu)
+  accepted_state s new c pdu ends makes left change h =
+      let kept = change.made h in
+      let entries : All (IsNumbered (new.count + 1)) new.served =
+      subst (λ served. All (IsNumbered (new.count + 1)) served) (sym change.served) (subst (λ n. All (IsNumbered (n + 1)) s.served) (sym change.count) (All-weaker (IsNumbered s.count) (IsNumbered (s.count + 1)) (one_more s.count) s.served h.5)) in (
+        kept.0,
+        kept.1,
+        (subst (λ n. IsMail (n + 1) new.mail) (sym change.count) kept.2.0, kept.2.1),
+        length-set new.served (c.station - 1) _ ∙ ap length change.served ∙ h.3 ∙ ap (λ l. l.stations) (sym change.limits),
+        omega (arith, left, change.count),
+        All-set (IsNumbered (new.count + 1)) new.served (c.station - 1) _ (omega arith, omega arith) entries,
       )
+
+  advanced_state : (s t : State) (c : Command A) → Advanced s t c → IsState s → IsState t
+  advanced_state s t c a h = subst IsState (sym a.is) (accepted_state s a.made c a.pdu (names c) (made s c) a.numbers_left a.change h)
 
   state_by : (s t : State) (c : Command A) (reply : Reply A) → Outcome s c t reply → IsState s → IsState t
   state_by s t c (Accepted number pdu) a h = advanced_state s t c a.0 h
@@ -50,21 +72,42 @@ pub step_keeps_state : {A : Type 0} → StepKeepsState A
 step_keeps_state {A} s c h = state_by s (next s c) c (step {B = A} s c).1 (says A s c) h
 
 pub empty_is_state : EmptyIsState
-empty_is_state limits =
-    (empty_within limits, length-replicate limits.stations None, omega arith, All-replicate (IsNumbered 0) limits.stations None tt)
+empty_is_state limits = (
+  empty_within limits,
+  (no_groups_fit, no_groups_known (empty_registered limits)),
+  (empty_is_mail limits 0, refl),
+  length-replicate limits.stations None,
+  omega arith,
+  All-replicate (IsNumbered 0) limits.stations None tt,
+)
 
 -- a register that was just made
-pub new_state : (limits : Limits) (r : Registered) (served : List (Option Served)) → r ≡ empty_registered limits → served ≡ replicate limits.stations None → IsState (record { registered = r; served = served; count = 0 })
-new_state limits r served e f = subst (λ x. IsState (record { registered = x; served = served; count = 0 })) (sym e) (subst (λ xs. IsState (record { registered = empty_registered limits; served = xs; count = 0 })) (sym f) (empty_is_state limits))
+pub new_state : (limits : Limits) (r : Registered) (groups : Attached) (mail : Mailed) (served : List (Option Served)) → r ≡ empty_registered limits → groups ≡ no_groups → mail ≡ empty_mailed limits → served ≡ replicate limits.stations None
+    → IsState (record { registered = r; groups = groups; mail = mail; served = served; count = 0 })
+new_state limits r groups mail served e f g k = rw (e, f, g, k) (empty_is_state limits)
 
--- a register in which a radio was located
-pub located_state : (s : State) (new : Registered) (itsi station area : ℕ) (update : LocationUpdateType) → locate_refusal s.registered itsi area update ≡ None → new ≡ located s.registered itsi station area → IsState s → IsState (record s { registered = new })
-located_state s new itsi station area update none e h = subst (λ r. IsState (record s { registered = r })) (sym e) (located_within s.registered itsi station area update none h.0, h.1, h.2, h.3)
+-- the same of a register whose fields are the accepted state's
+module _ {A : Type 0} where
+  counted_state : (s new : State) (c : Command A) (ends : Waiting → Bool) (makes : List Waiting) (mail : Mailed) (served : List (Option Served)) (count : ℕ) → IsEffect s new ends makes → new ≡ mail_changed s mail → s.count < last_number
+      → served ≡ slice_set s.served (c.station - 1) (Some (record { sequence = c.sequence; number = s.count + 1; pdu = None })) → count ≡ s.count + 1 → IsState s → IsState (record { registered = s.registered; groups = s.groups; mail = mail; served = served; count = count })
+  counted_state s new c ends makes mail served count change is left served_is count_is h =
+      rw (served_is, count_is) (accepted_state s (mail_changed s mail) c None ends makes left (subst (λ t. IsEffect s t ends makes) is change) h)
 
--- what holds where a change was made
-pub of_ok : {P : Type 0} (r : Result (Unit {0}) RegFault) → false ≡ is_err r → OnOk r P → P
-of_ok (Ok u) e h = h
-of_ok (Err fault) e h = absurd (false≢true e)
+  pub posted_state : (s : State) (c : Command A) (e : Envelope) (pdu : List Bool) (w : Waiting) (mail : Mailed) (served : List (Option Served)) (count : ℕ) → is_head_of Message e.reference (heading pdu) ≡ true → s.count < last_number
+      → w ≡ message_of s c.moment e pdu → (post_refusal s.registered s.mail w ≡ None) × (mail ≡ posted s.mail w)
+      → served ≡ slice_set s.served (c.station - 1) (Some (record { sequence = c.sequence; number = s.count + 1; pdu = None })) → count ≡ s.count + 1 → IsState s → IsState (record { registered = s.registered; groups = s.groups; mail = mail; served = served; count = count })
+  posted_state s c e pdu w mail served count is left w_is done served_is count_is h =
+      let m : Waiting = message_of s c.moment e pdu in
+      counted_state s (mail_changed s (posted s.mail m)) c (λ _. false) (m ∷ []) mail served count (message_effect s c.moment e pdu is (ap (post_refusal s.registered s.mail) (sym w_is) ∙ done.0))
+      (ap (mail_changed s) (sym (done.1 ∙ ap (posted s.mail) w_is))) left served_is count_is h
+
+  pub reported_state : (s : State) (c : Command A) (e : Envelope) (status : ℕ) (pdu : List Bool) (w : Waiting) (mail : Mailed) (served : List (Option Served)) (count : ℕ) → is_head_of Report e.reference (heading pdu) ≡ true → s.count < last_number
+      → w ≡ report_of s c.moment e pdu → (report_refusal s.registered s.mail e status w ≡ None) × (mail ≡ reported s.mail e status w)
+      → served ≡ slice_set s.served (c.station - 1) (Some (record { sequence = c.sequence; number = s.count + 1; pdu = None })) → count ≡ s.count + 1 → IsState s → IsState (record { registered = s.registered; groups = s.groups; mail = mail; served = served; count = count })
+  reported_state s c e status pdu w mail served count is left w_is done served_is count_is h =
+      let m : Waiting = report_of s c.moment e pdu in
+      counted_state s (mail_changed s (reported s.mail e status m)) c (is_reported e status) [] mail served count (report_effect s c.moment e status pdu is (ap (report_refusal s.registered s.mail e status) (sym w_is) ∙ done.0))
+      (ap (mail_changed s) (sym (done.1 ∙ ap (reported s.mail e status) w_is))) left served_is count_is h
 
 -- two results of a step that differ in the reply alone
 module _ {B C : Type 0} where
@@ -76,22 +119,30 @@ module _ {B C : Type 0} where
   same_if false x y v w h k = k
 
 module _ {A : Type 0} (B C : Type 0) where
-  same_plain : (s : State) (c : Command A) (new : Registered) (f : Option RegFault) → Same {B = B} {C = C} (step_plain s c new f) (step_plain s c new f)
-  same_plain s c new (Some fault) = refl
-  same_plain s c new None = refl
+  same_made : {F : Type 0} (s : State) (c : Command A) (made : State) (pdu : Option (List Bool)) (b : F → Refusal B) (d : F → Refusal C) (f : Option F) → Same (step_made s c made pdu (option_map b f)) (step_made s c made pdu (option_map d f))
+  same_made s c made pdu b d (Some fault) = refl
+  same_made s c made pdu b d None = refl
 
-  same_update : (s : State) (c : Command A) (update : LocationUpdateType) (new : Registered) (f : Option RegFault) → Same {B = B} {C = C} (step_update s c update new f) (step_update s c update new f)
-  same_update s c update new (Some fault) = refl
-  same_update s c update new None = refl
-
-  same_mm : (s : State) (c : Command A) (itsi area : ℕ) (read : Result MmUp MmFault) → Same {B = B} {C = C} (step_mm s c itsi area read) (step_mm s c itsi area read)
+  same_mm : (s : State) (c : Command A) (itsi area : ℕ) (read : Result (MmUp B) MmFault) → Same (step_mm s c itsi area read) (step_mm s c itsi area (moved B C read))
   same_mm s c itsi area (Err fault) = refl
-  same_mm s c itsi area (Ok (up.Demand update)) = same_update s c update _ (locate_refusal s.registered itsi area update)
-  same_mm s c itsi area (Ok up.Detach) = same_plain s c _ (detach_refusal s.registered itsi)
+  same_mm s c itsi area (Ok (up.Demand update)) = same_made s c _ _ _ _ (locate_refusal s.registered itsi area update)
+  same_mm s c itsi area (Ok up.Detach) = same_made s c _ _ _ _ (detach_refusal s.registered itsi)
+  same_mm s c itsi area (Ok (up.Groups mode items)) = same_made s c _ _ _ _ (apply_refusal s.registered s.groups itsi mode items)
+
+  same_sds : (s : State) (c : Command A) (source destination : ℕ) (pdu : List Bool) (head : Result Head SdsFault) → Same {B = B} {C = C} (step_sds s c source destination pdu head) (step_sds s c source destination pdu head)
+  same_sds s c source destination pdu (Err fault) = refl
+  same_sds s c source destination pdu (Ok (heads.Transfer request reference)) = same_made s c _ _ _ _ (post_refusal s.registered s.mail (message_of s c.moment (envelope source destination reference) pdu))
+  same_sds s c source destination pdu (Ok (heads.Report acknowledge status reference)) =
+      let e = envelope source destination reference in same_made s c _ _ _ _ (report_refusal s.registered s.mail e status (report_of s c.moment e pdu))
+  same_sds s c source destination pdu (Ok (heads.Ack status reference)) = same_made s c _ _ _ _ (ack_refusal s.registered s.mail (envelope source destination reference))
 
   same_body : (s : State) (c : Command A) (b : Body A) → Same {B = B} {C = C} (step_body s c b) (step_body s c b)
-  same_body s c (RuleSet prefix rule) = same_plain s c _ (set_refusal s.registered prefix)
-  same_body s c (Mm itsi area pdu) = same_mm s c itsi area (reading_up pdu)
+  same_body s c (RuleSet prefix rule) = same_made s c _ _ _ _ (set_refusal s.registered prefix)
+  same_body s c (Mm itsi area pdu) = same_mm s c itsi area (reading_up pdu) ∙ ap (λ read. (step_mm {B = C} s c itsi area read).0) (sym (reading_moved B C pdu))
+  same_body s c (Sds source destination pdu) = same_sds s c source destination pdu (heading pdu)
+  same_body s c (Sent key) = same_made s c _ _ _ _ (sent_refusal s.registered s.mail key)
+  same_body s c Expire = refl
+  same_body s c (Delete key) = same_made s c _ _ _ _ (delete_refusal s.mail key)
 
   same_new : (s : State) (c : Command A) → Same {B = B} {C = C} (step_new s c) (step_new s c)
   same_new s c = same_if (nat_lt s.count last_number) _ _ _ _ (same_body s c c.body) refl

@@ -1,88 +1,119 @@
 -- What one command makes of a state.
-use Rattle.std.proofs.Common.{◌≡◌, ℕ, ◌+◌, ◌<◌, Bool, true, false, List, refl, Option, Some, None, Result, Ok, Err, arith}
-use Rattle.std.specs.Prelude.{◌==◌, nat_lt, if◌then◌else◌}
+use Rattle.std.proofs.Common.{◌≡◌, ◌≢◌, ℕ, ◌+◌, ◌<◌, Bool, true, false, List, [], refl, ap, sym, Option, Some, None, Result, Ok, Err, arith}
+use Rattle.std.specs.Prelude.{◌==◌, nat_lt, unwrap_or, if◌then◌else◌}
+use Rattle.std.specs.Option.{option_map}
 use Rattle.std.proofs.lemmas.Bool.Decides.{nat_tests}
-use Rattle.mm_pdus.specs.declared.update.LocationUpdateType.{LocationUpdateType}
 use Rattle.mm_pdus.specs.declared.fault.MmFault.{MmFault}
 use Rattle.mm_pdus.specs.declared.uplink.MmUp.{MmUp}
 use Rattle.mm_pdus.specs.declared.uplink.MmUp.TheVariants as up
 use Rattle.mm_pdus.specs.UplinkReading.{reading_up}
-use Rattle.registration.specs.declared.fault.RegFault.{RegFault}
-use Rattle.registration.specs.Registered.{Registered, set_refusal, with_rule, locate_refusal, located, detach_refusal, detached}
+use Rattle.registration.specs.Registered.{set_refusal, locate_refusal, detach_refusal}
+use Rattle.group_attach.specs.Applied.{apply_refusal}
+use Rattle.sds_tl.specs.declared.fault.SdsFault.{SdsFault}
+use Rattle.sds_tl.specs.declared.pdu.Head.{Head}
+use Rattle.sds_tl.specs.declared.pdu.Head.TheVariants as heads
+use Rattle.sds_tl.specs.Reading.{heading}
+use Rattle.mailbox.specs.declared.fault.MailFault.{MailFault}
+use Rattle.mailbox.specs.Values.{Waiting}
+use Rattle.mailbox.specs.Tests.{is_at, is_confirmed, is_expired}
+use Rattle.mailbox.specs.Refusals.{post_refusal, report_refusal, ack_refusal, sent_refusal, delete_refusal}
 use Rattle.centre_core.specs.declared.command.Command.{Command}
 use Rattle.centre_core.specs.declared.command.Body.{Body}
-use Rattle.centre_core.specs.declared.command.Body.TheVariants.{RuleSet, Mm}
+use Rattle.centre_core.specs.declared.command.Body.TheVariants.{RuleSet, Mm, Sds, Sent, Expire, Delete}
 use Rattle.centre_core.specs.declared.reply.Reply.{Reply}
 use Rattle.centre_core.specs.declared.reply.Reply.TheVariants.{Accepted, Kept, Refused}
-use Rattle.centre_core.specs.State.{State, Served, IsWithin, last_number}
-use Rattle.centre_core.specs.Step.{step, step_new, step_after, step_body, step_plain, step_update, step_mm, accepted, kept_at, is_station, accept_pdu}
-use Rattle.centre_core.specs.History.{is_acceptance}
-use Rattle.centre_core.proofs.RegisteredLaws.{with_rule_within, located_within, detached_within, detached_limits}
+use Rattle.centre_core.specs.declared.reply.Refusal.{Refusal}
+use Rattle.centre_core.specs.declared.reply.Refusal.TheVariants.{Mail}
+use Rattle.centre_core.specs.State.{State, Served, last_number}
+use Rattle.centre_core.specs.Step.{step, step_new, step_after, step_body, step_made, step_mm, step_sds, accepted, kept_at, is_station, envelope, message_of, report_of}
+use Rattle.centre_core.specs.History.{is_acceptance, names_by_head, names_in, names, made_by_head, made_in, made}
+use Rattle.centre_core.proofs.EffectLaws.{rule_set_change, radio_located_change, radio_detached_change, groups_changed_change}
+use Rattle.centre_core.proofs.SpeltLaws.{message_headed, report_headed}
+use Rattle.centre_core.proofs.MailEffects.{IsEffect, mail_left, message_effect, report_effect, acknowledge_effect, removal_effect}
 
 below : (n : ℕ) → nat_lt n last_number ≡ true → n < last_number
 below n e = grind (arith, nat_tests)
 
--- the rules and radios after an accepted command
-pub record IsChange (old new : Registered) : Type 0 where
-  pub limits : new.limits ≡ old.limits
-  pub within : IsWithin old → IsWithin new
+-- what a call tells is its refusal, where it is not want of memory
+pub is_refused : {F : Type 0} (none : F) (refusal : Option F) (told : F) → told ≡ unwrap_or refusal none → told ≢ none → refusal ≡ Some told
+is_refused none None told e other = absurd (other e)
+is_refused none (Some fault) told e other = ap Some (sym e)
+
+-- nothing is refused by any name where nothing is refused
+unnamed : {X Y : Type 0} (f : X → Y) (o : Option X) → option_map f o ≡ None → o ≡ None
+unnamed f None e = refl
+unnamed f (Some x) e = cc
 
 module _ {A : Type 0} where
-  -- t is the state after the command was accepted in s
-  pub record Advanced (s t : State) (c : Command A) : Type 0 where
-    pub registered : Registered
+  -- t is the state after the command was accepted in s, where it ends the messages that pass `ends` and makes those in `makes`
+  pub record AdvancedBy (s t : State) (c : Command A) (ends : Waiting → Bool) (makes : List Waiting) : Type 0 where
+    pub made : State
     pub pdu : Option (List Bool)
-    pub is : t ≡ accepted s c registered pdu
-    pub change : IsChange s.registered registered
+    pub is : t ≡ accepted made c pdu
+    pub change : IsEffect s made ends makes
     pub numbers_left : s.count < last_number
+
+  abbrev pub Advanced : State → State → Command A → Type 0
+  Advanced s t c = AdvancedBy s t c (names c) (made s c)
 
 module _ {A B : Type 0} where
   -- it is accepted, and the reply has the number and the PDU that are kept, or nothing changes
+  abbrev pub OutcomeBy : State → Command A → (Waiting → Bool) → List Waiting → State → Reply B → Type 0
+  OutcomeBy s c ends makes t (Accepted number pdu) = (a : AdvancedBy s t c ends makes) × (number ≡ s.count + 1) × (pdu ≡ a.pdu)
+  OutcomeBy s c ends makes t (Kept number pdu) = t ≡ s
+  OutcomeBy s c ends makes t (Refused refusal) = t ≡ s
+
   abbrev pub Outcome : State → Command A → State → Reply B → Type 0
-  Outcome s c t (Accepted number pdu) = (a : Advanced s t c) × (number ≡ s.count + 1) × (pdu ≡ a.pdu)
-  Outcome s c t (Kept number pdu) = t ≡ s
-  Outcome s c t (Refused refusal) = t ≡ s
+  Outcome s c t reply = OutcomeBy s c (names c) (made s c) t reply
 
 module _ {A : Type 0} (B : Type 0) where
-  abbrev pub Says : State → Command A → State × Reply B → Type 0
-  Says s c r = Outcome s c r.0 r.1
+  abbrev pub Says : State → Command A → (Waiting → Bool) → List Waiting → State × Reply B → Type 0
+  Says s c ends makes r = OutcomeBy s c ends makes r.0 r.1
 
-  says_plain : (s : State) (c : Command A) (new : Registered) (f : Option RegFault) → s.count < last_number → (f ≡ None → IsChange s.registered new) → Says s c (step_plain s c new f)
-  says_plain s c new (Some fault) left change = refl
-  says_plain s c new None left change = (record { registered = new; pdu = None; is = refl; change = change refl; numbers_left = left }, refl, refl)
+  says_made : {F : Type 0} (s : State) (c : Command A) (ends : Waiting → Bool) (makes : List Waiting) (new : State) (pdu : Option (List Bool)) (name : F → Refusal B) (f : Option F) → s.count < last_number → (f ≡ None → IsEffect s new ends makes) → Says s c ends makes (step_made s c new pdu (option_map name f))
+  says_made s c ends makes new pdu name (Some fault) left change = refl
+  says_made s c ends makes new pdu name None left change = (record { made = new; pdu = pdu; is = refl; change = change refl; numbers_left = left }, refl, refl)
 
-  says_update : (s : State) (c : Command A) (update : LocationUpdateType) (new : Registered) (f : Option RegFault) → s.count < last_number → (f ≡ None → IsChange s.registered new) → Says s c (step_update s c update new f)
-  says_update s c update new (Some fault) left change = refl
-  says_update s c update new None left change = (record { registered = new; pdu = accept_pdu update; is = refl; change = change refl; numbers_left = left }, refl, refl)
-
-  says_mm : (s : State) (c : Command A) (itsi area : ℕ) (read : Result MmUp MmFault) → s.count < last_number → Says s c (step_mm s c itsi area read)
+  says_mm : (s : State) (c : Command A) (itsi area : ℕ) (read : Result (MmUp B) MmFault) → s.count < last_number → Says s c (λ _. false) [] (step_mm s c itsi area read)
   says_mm s c itsi area (Err fault) left = refl
-  says_mm s c itsi area (Ok (up.Demand update)) left =
-      says_update s c update (located s.registered itsi c.station area) (locate_refusal s.registered itsi area update) left
-      (λ none. record { limits = refl; within = located_within s.registered itsi c.station area update none })
-  says_mm s c itsi area (Ok up.Detach) left =
-      says_plain s c (detached s.registered itsi) (detach_refusal s.registered itsi) left
-      (λ none. record { limits = detached_limits s.registered itsi; within = detached_within s.registered itsi })
+  says_mm s c itsi area (Ok (up.Demand update)) left = says_made s c _ _ _ _ _ (locate_refusal s.registered itsi area update) left (λ none. mail_left s _ refl (radio_located_change s itsi c.station area update none))
+  says_mm s c itsi area (Ok up.Detach) left = says_made s c _ _ _ _ _ (detach_refusal s.registered itsi) left (λ none. mail_left s _ refl (radio_detached_change s itsi))
+  says_mm s c itsi area (Ok (up.Groups mode items)) left = says_made s c _ _ _ _ _ (apply_refusal s.registered s.groups itsi mode items) left (λ none. mail_left s _ refl (groups_changed_change s itsi mode items none))
 
-  says_body : (s : State) (c : Command A) (b : Body A) → s.count < last_number → Says s c (step_body s c b)
-  says_body s c (RuleSet prefix rule) left =
-      says_plain s c (with_rule s.registered prefix rule) (set_refusal s.registered prefix) left
-      (λ none. record { limits = refl; within = with_rule_within s.registered prefix rule none })
+  says_sds : (s : State) (c : Command A) (source destination : ℕ) (pdu : List Bool) (head : Result Head SdsFault) → heading pdu ≡ head → s.count < last_number
+      → Says s c (names_by_head source destination head) (made_by_head s c.moment source destination pdu head) (step_sds s c source destination pdu head)
+  says_sds s c source destination pdu (Err fault) is left = refl
+  says_sds s c source destination pdu (Ok (heads.Transfer request reference)) is left =
+      let e = envelope source destination reference in
+      says_made s c _ _ _ _ _ (post_refusal s.registered s.mail (message_of s c.moment e pdu)) left (message_effect s c.moment e pdu (message_headed pdu request reference is))
+  says_sds s c source destination pdu (Ok (heads.Report acknowledge status reference)) is left =
+      let e = envelope source destination reference in
+      says_made s c _ _ _ _ _ (report_refusal s.registered s.mail e status (report_of s c.moment e pdu)) left (report_effect s c.moment e status pdu (report_headed pdu acknowledge status reference is))
+  says_sds s c source destination pdu (Ok (heads.Ack status reference)) is left =
+      let e = envelope source destination reference in
+      says_made s c _ _ _ _ _ (ack_refusal s.registered s.mail e) left (λ none. acknowledge_effect s e)
+
+  says_body : (s : State) (c : Command A) (b : Body A) → s.count < last_number → Says s c (names_in c.moment b) (made_in s c.moment b) (step_body s c b)
+  says_body s c (RuleSet prefix rule) left = says_made s c _ _ _ _ _ (set_refusal s.registered prefix) left (λ none. mail_left s _ refl (rule_set_change s prefix rule none))
   says_body s c (Mm itsi area pdu) left = says_mm s c itsi area (reading_up pdu) left
+  says_body s c (Sds source destination pdu) left = says_sds s c source destination pdu (heading pdu) refl left
+  says_body s c (Sent key) left = says_made s c _ _ _ _ _ (sent_refusal s.registered s.mail key) left (λ none. removal_effect s (is_confirmed key) (is_confirmed key) (λ m message. refl))
+  says_body s c Expire left = says_made {F = MailFault} s c _ _ _ _ Mail None left (λ none. removal_effect s (is_expired c.moment) (is_expired c.moment) (λ m message. refl))
+  says_body s c (Delete key) left = says_made s c _ _ _ _ _ (delete_refusal s.mail key) left (λ none. removal_effect s (is_at key) (is_at key) (λ m message. refl))
 
-  says_if : (s : State) (c : Command A) (b : Bool) (x y : State × Reply B) → (b ≡ true → Says s c x) → (b ≡ false → Says s c y) → Says s c (if b then x else y)
+  says_if : (s : State) (c : Command A) (b : Bool) (x y : State × Reply B) → (b ≡ true → Says s c (names c) (made s c) x) → (b ≡ false → Says s c (names c) (made s c) y) → Says s c (names c) (made s c) (if b then x else y)
   says_if s c true x y h k = h refl
   says_if s c false x y h k = k refl
 
-  says_new : (s : State) (c : Command A) → Says s c (step_new s c)
+  says_new : (s : State) (c : Command A) → Says s c (names c) (made s c) (step_new s c)
   says_new s c = says_if s c (nat_lt s.count last_number) _ _ (λ e. says_body s c c.body (below s.count e)) (λ _. refl)
 
-  says_after : (s : State) (c : Command A) (kept : Option Served) → Says s c (step_after s c kept)
+  says_after : (s : State) (c : Command A) (kept : Option Served) → Says s c (names c) (made s c) (step_after s c kept)
   says_after s c None = says_new s c
   says_after s c (Some last) = says_if s c (nat_lt c.sequence last.sequence) _ _ (λ _. refl) (λ _. says_if s c (c.sequence == last.sequence) _ _ (λ _. refl) (λ _. says_new s c))
 
   -- a command is accepted, and then this is the state, or it changes nothing
-  pub says : (s : State) (c : Command A) → Says s c (step s c)
+  pub says : (s : State) (c : Command A) → Says s c (names c) (made s c) (step s c)
   unfolding step
   says s c = says_if s c (is_station s c.station) _ _ (λ _. says_after s c (kept_at s c.station)) (λ _. refl)
 

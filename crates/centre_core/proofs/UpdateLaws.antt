@@ -1,15 +1,17 @@
 -- Each update that is accepted is answered by its type.
-use Rattle.std.proofs.Common.{refl}
-use Rattle.mm_pdus.specs.declared.update.LocationUpdateType.TheVariants.{Roaming, Migrating, Periodic, ItsiAttach, ServiceRestorationRoaming, ServiceRestorationMigrating, Demand, DisabledMs}
-use Rattle.mm_pdus.specs.declared.update.AcceptType.TheVariants as accept
-use Rattle.centre_core.specs.Laws.{AcceptedAreAnswered}
+use Rattle.std.proofs.Common.{◌≡◌, refl, ap, Option, Some, None}
+use Rattle.std.specs.Prelude.{IsSome}
+use Rattle.std.specs.Option.{option_map}
+use Rattle.mm_pdus.specs.declared.update.LocationUpdateType.{LocationUpdateType}
+use Rattle.mm_pdus.specs.declared.update.AcceptType.{AcceptType}
+use Rattle.mm_pdus.specs.Values.{accept_of}
+use Rattle.mm_pdus.specs.Downlink.{accept_text}
+use Rattle.mm_pdus.proofs.ValueLaws.{update_accepted-accept_of}
+use Rattle.centre_core.specs.Laws.{IsAnswered}
 
-pub accepted_are_answered : AcceptedAreAnswered
-accepted_are_answered Roaming taken = record { accept = accept.Roaming; same = refl; pdu = refl }
-accepted_are_answered Migrating taken = absurd cc
-accepted_are_answered Periodic taken = record { accept = accept.Periodic; same = refl; pdu = refl }
-accepted_are_answered ItsiAttach taken = record { accept = accept.ItsiAttach; same = refl; pdu = refl }
-accepted_are_answered ServiceRestorationRoaming taken = record { accept = accept.ServiceRestorationRoaming; same = refl; pdu = refl }
-accepted_are_answered ServiceRestorationMigrating taken = absurd cc
-accepted_are_answered Demand taken = record { accept = accept.Demand; same = refl; pdu = refl }
-accepted_are_answered DisabledMs taken = absurd cc
+answered_by : (update : LocationUpdateType) (accept : Option AcceptType) → accept_of update ≡ accept → IsSome accept → IsAnswered update
+answered_by update None is some = absurd cc
+answered_by update (Some accept) is some = record { accept = accept; same = update_accepted-accept_of update accept is; pdu = ap (option_map accept_text) is }
+
+pub is_answered : (update : LocationUpdateType) → IsSome (accept_of update) → IsAnswered update
+is_answered update some = answered_by update (accept_of update) refl some

@@ -1,23 +1,25 @@
 -- What holds of the register over all commands and lists of commands.
-use Rattle.std.specs.Prelude.{◌≡◌, ℕ, ◌+◌, Bool, false, List, Option, Some, None}
+use Rattle.std.specs.Prelude.{◌≡◌, ℕ, ◌+◌, ◌↔◌, ◌⊎◌, IsTrue, Bool, false, List, ◌∷◌, ◌++◌, Option, Some, None}
+use Rattle.std.specs.List.{Contains}
 use Rattle.mm_pdus.specs.declared.update.LocationUpdateType.{LocationUpdateType}
 use Rattle.mm_pdus.specs.declared.update.AcceptType.{AcceptType}
-use Rattle.mm_pdus.specs.declared.downlink.MmDown.TheVariants as down
 use Rattle.mm_pdus.specs.Values.{update_accepted}
-use Rattle.mm_pdus.specs.Downlink.{canon_down}
+use Rattle.mm_pdus.specs.Downlink.{accept_text}
 use Rattle.registration.specs.Registered.{type_refusal}
 use Rattle.registration.specs.declared.limits.Limits.{Limits}
+use Rattle.mailbox.specs.Values.{Waiting, Mailed}
+use Rattle.mailbox.specs.Tests.{is_message}
 use Rattle.centre_core.specs.declared.command.Command.{Command}
 use Rattle.centre_core.specs.declared.reply.Reply.TheVariants.{Accepted, Kept}
 use Rattle.centre_core.specs.State.{State, IsState, empty}
 use Rattle.centre_core.specs.Step.{step, accept_pdu}
-use Rattle.centre_core.specs.History.{is_acceptance, next, after, fresh}
+use Rattle.centre_core.specs.History.{is_acceptance, accepts, next, after, ended, made, fresh}
 
 -- the D-LOCATION UPDATE ACCEPT that answers an update names its type
 pub record IsAnswered (update : LocationUpdateType) : Type 0 where
   pub accept : AcceptType
   pub same : update_accepted accept ≡ update
-  pub pdu : accept_pdu update ≡ Some (canon_down (down.Accept accept))
+  pub pdu : accept_pdu update ≡ Some (accept_text accept)
 
 abbrev pub AcceptedAreAnswered : Type 0
 AcceptedAreAnswered = (update : LocationUpdateType) → type_refusal update ≡ None → IsAnswered update
@@ -25,9 +27,24 @@ AcceptedAreAnswered = (update : LocationUpdateType) → type_refusal update ≡ 
 abbrev pub EmptyIsState : Type 0
 EmptyIsState = (limits : Limits) → IsState (empty limits)
 
+-- a message of the old mail is in the new one, unless the command was accepted and ends it
+abbrev pub KeepsMessages : Mailed → Mailed → Bool → (Waiting → Bool) → Type 0
+KeepsMessages old new accepted ends = (m : Waiting) → IsTrue (is_message m) → Contains old.items m → Contains new.items m ⊎ (IsTrue accepted × IsTrue (ends m))
+
 module _ (A : Type 0) where
   abbrev pub StepKeepsState : Type 0
   StepKeepsState = (s : State) (c : Command A) → IsState s → IsState (next s c)
+
+  -- a message that waits is missing after a list of commands exactly where one of them is accepted and ends it
+  abbrev pub NoneLost : Type 0
+  NoneLost =
+      (s : State) → IsState s → (cs : List (Command A)) (m : Waiting) → IsTrue (is_message m) → Contains s.mail.items m → (¬ Contains (after s cs).mail.items m) ↔ IsTrue (ended s cs m)
+
+  -- so too a message that an accepted command makes: it is missing exactly where a later command is accepted and ends it
+  abbrev pub NoneLostMade : Type 0
+  NoneLostMade =
+      (s : State) → IsState s → (bs : List (Command A)) (c : Command A) (cs : List (Command A)) (m : Waiting) → IsTrue (accepts (after s bs) c) → Contains (made (after s bs) c) m
+      → (¬ Contains (after s (bs ++ c ∷ cs)).mail.items m) ↔ IsTrue (ended (next (after s bs) c) cs m)
 
   -- resends may be left out
   abbrev pub ResendsAreIdle : Type 0

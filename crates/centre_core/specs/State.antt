@@ -5,6 +5,10 @@ use Rattle.std.specs.FinMap as map
 use Rattle.std.specs.List.{All}
 use Rattle.registration.specs.declared.limits.Limits.{Limits}
 use Rattle.registration.specs.Registered.{Registered, coded_registered, empty_registered}
+use Rattle.group_attach.specs.Attached.{Attached, coded_attached, no_groups}
+use Rattle.group_attach.specs.Kept.{AreKept}
+use Rattle.mailbox.specs.Values.{Mailed, coded_mailed, empty_mailed}
+use Rattle.mailbox.specs.Kept.{IsMail}
 
 -- what is kept of a station's last accepted command: its sequence, its number and the PDU of its reply
 pub record Served : Type 0 where
@@ -17,16 +21,20 @@ coded_served =
     code_by (ℕ × (ℕ × Option (List Bool))) (coded× coded_ℕ (coded× coded_ℕ (coded_option (coded_list coded_bool))))
     (λ k. (k.sequence, (k.number, k.pdu))) (λ p. record { sequence = p.0; number = p.1.0; pdu = p.1.1 }) (λ _. refl)
 
--- the limits, rules and radios; of each station in order what is kept of its last accepted command; and how many commands were accepted
+-- the limits, rules and radios; how each radio is attached to its groups; what waits in the mail; of each station in order what is kept of its last accepted command; and how many commands were accepted
 pub record State : Type 0 where
   pub registered : Registered
+  pub groups : Attached
+  pub mail : Mailed
   pub served : List (Option Served)
   pub count : ℕ
 
 abbrev pub coded_state : Coded State
 coded_state =
-    code_by (Registered × (List (Option Served) × ℕ)) (coded× coded_registered (coded× (coded_list (coded_option coded_served)) coded_ℕ))
-    (λ s. (s.registered, (s.served, s.count))) (λ p. record { registered = p.0; served = p.1.0; count = p.1.1 }) (λ _. refl)
+    code_by (Registered × (Attached × (Mailed × (List (Option Served) × ℕ))))
+    (coded× coded_registered (coded× coded_attached (coded× coded_mailed (coded× (coded_list (coded_option coded_served)) coded_ℕ))))
+    (λ s. (s.registered, (s.groups, (s.mail, (s.served, s.count)))))
+    (λ p. record { registered = p.0; groups = p.1.0; mail = p.1.1.0; served = p.1.1.1.0; count = p.1.1.1.1 }) (λ _. refl)
 
 -- what is kept of a station is of one of the commands that were accepted
 abbrev pub IsNumbered : ℕ → Option Served → Type 0
@@ -37,14 +45,20 @@ IsNumbered count (Some last) = (0 < last.number) × (last.number ≤ count)
 abbrev pub IsWithin : Registered → Type 0
 IsWithin r = (map.len r.rules ≤ r.limits.rules) × (map.len r.radios ≤ r.limits.radios)
 
+-- the mail is in order, and has the room that the limits give it
+abbrev pub IsMailOf : Registered → ℕ → Mailed → Type 0
+IsMailOf r count m = IsMail count m × (m.room ≡ r.limits.mail)
+
 -- the greatest number of an accepted command, 2 to the 62nd
 abbrev pub last_number : ℕ
 last_number = 4611686018427387904
 
--- what holds of every state: the limits are kept, each station has its place, and what is kept of it is of a command that was accepted
+-- what holds of every state: the limits are kept, the attachments are of its radios, the mail is in order, each station has its place, and what is kept of it is of a command that was accepted
 abbrev pub IsState : State → Type 0
-IsState s = IsWithin s.registered × (length s.served ≡ s.registered.limits.stations) × (s.count ≤ last_number) × All (IsNumbered s.count) s.served
+IsState s =
+    IsWithin s.registered × AreKept s.registered s.groups × IsMailOf s.registered s.count s.mail × (length s.served ≡ s.registered.limits.stations) × (s.count ≤ last_number)
+    × All (IsNumbered s.count) s.served
 
--- no rule, no radio, and no command accepted from any station
+-- no rule, no radio, no attachment, nothing that waits, and no command accepted from any station
 abbrev pub empty : Limits → State
-empty limits = record { registered = empty_registered limits; served = replicate limits.stations None; count = 0 }
+empty limits = record { registered = empty_registered limits; groups = no_groups; mail = empty_mailed limits; served = replicate limits.stations None; count = 0 }

@@ -1,26 +1,40 @@
 -- The register as a machine: what a command makes of a state, and the reply.
-use Rattle.std.specs.Prelude.{◌<◌, ◌≤◌, ℕ, ◌+◌, ◌-◌, ◌==◌, nat_lt, nat_le, Bool, ◌&&◌, List, slice_index_or, slice_set, Option, Some, None, Result, Ok, Err, if◌then◌else◌}
+use Rattle.std.specs.Prelude.{◌<◌, ◌≤◌, ℕ, ◌+◌, ◌-◌, ◌==◌, nat_lt, nat_le, Bool, false, ◌&&◌, List, slice_index_or, slice_set, Option, Some, None, Result, Ok, Err, if◌then◌else◌}
 use Rattle.std.specs.Option.{option_map}
 use Rattle.identity.specs.Path.{Path}
 use Rattle.mm_pdus.specs.declared.update.LocationUpdateType.{LocationUpdateType}
+use Rattle.mm_pdus.specs.declared.group.GroupMode.{GroupMode}
+use Rattle.mm_pdus.specs.declared.group.GroupUp.{GroupUp}
 use Rattle.mm_pdus.specs.declared.uplink.MmUp.{MmUp}
 use Rattle.mm_pdus.specs.declared.uplink.MmUp.TheVariants as up
-use Rattle.mm_pdus.specs.declared.downlink.MmDown.TheVariants as down
 use Rattle.mm_pdus.specs.declared.fault.MmFault.{MmFault}
 use Rattle.mm_pdus.specs.Values.{accept_of}
 use Rattle.mm_pdus.specs.UplinkReading.{reading_up}
-use Rattle.mm_pdus.specs.Downlink.{canon_down}
+use Rattle.mm_pdus.specs.Downlink.{accept_text, reject_text, acknowledge_text}
 use Rattle.registration.specs.declared.rule.Rule.{Rule}
 use Rattle.registration.specs.declared.fault.RegFault.{RegFault}
 use Rattle.registration.specs.declared.fault.RegFault.TheVariants.{UnknownIdentity, LaNotAllowed, Congestion, Migration, UnsupportedType, NotAttached, RulesFull, NoMemory}
 use Rattle.registration.specs.Registered.{Registered, set_refusal, with_rule, locate_refusal, located, detach_refusal, detached}
+use Rattle.group_attach.specs.Applied.{after_update, applied, answers, apply_refusal}
+use Rattle.sds_tl.specs.declared.fault.SdsFault.{SdsFault}
+use Rattle.sds_tl.specs.declared.pdu.Head.{Head}
+use Rattle.sds_tl.specs.declared.pdu.Head.TheVariants as heads
+use Rattle.sds_tl.specs.Reading.{heading, cleared}
+use Rattle.mailbox.specs.declared.fault.MailFault.{MailFault}
+use Rattle.mailbox.specs.declared.key.Kind.TheVariants as kind
+use Rattle.mailbox.specs.declared.key.Key.{Key}
+use Rattle.mailbox.specs.declared.key.Envelope.{Envelope}
+use Rattle.mailbox.specs.Values.{Waiting, Mailed}
+use Rattle.mailbox.specs.Tests.{key_of}
+use Rattle.mailbox.specs.Mail.{waiting_for, posted, reported, acknowledged, confirmed, expired, deleted}
+use Rattle.mailbox.specs.Refusals.{post_refusal, report_refusal, ack_refusal, sent_refusal, delete_refusal}
 use Rattle.centre_core.specs.declared.command.Command.{Command}
 use Rattle.centre_core.specs.declared.command.Body.{Body}
-use Rattle.centre_core.specs.declared.command.Body.TheVariants.{RuleSet, Mm}
+use Rattle.centre_core.specs.declared.command.Body.TheVariants.{RuleSet, Mm, Sds, Sent, Expire, Delete}
 use Rattle.centre_core.specs.declared.reply.Reply.{Reply}
 use Rattle.centre_core.specs.declared.reply.Reply.TheVariants.{Accepted, Kept, Refused}
 use Rattle.centre_core.specs.declared.reply.Refusal.{Refusal}
-use Rattle.centre_core.specs.declared.reply.Refusal.TheVariants.{UnknownStation, OldSequence, NumbersUsedUp, Pdu, Registration, Location}
+use Rattle.centre_core.specs.declared.reply.Refusal.TheVariants.{UnknownStation, OldSequence, NumbersUsedUp, Pdu, ShortData, Registration, Location, Groups, Mail}
 use Rattle.centre_core.specs.State.{State, Served, last_number}
 
 abbrev pub is_station : State → ℕ → Bool
@@ -43,23 +57,52 @@ cause_of NoMemory = None
 
 -- the D-LOCATION UPDATE ACCEPT of an update that may be accepted
 abbrev pub accept_pdu : LocationUpdateType → Option (List Bool)
-accept_pdu update = option_map (λ accept. canon_down (down.Accept accept)) (accept_of update)
+accept_pdu update = option_map accept_text (accept_of update)
+
+-- the D-ATTACH/DETACH GROUP IDENTITY ACKNOWLEDGEMENT of a radio's group items
+abbrev pub acknowledge_pdu : Registered → ℕ → List GroupUp → List Bool
+acknowledge_pdu r itsi items = acknowledge_text false (answers r itsi items)
+
+-- what the bodies make of a state: a rule is set, a radio is located and loses attachments, it goes, and its groups change
+abbrev pub rule_set : State → Path → Rule → State
+rule_set s prefix rule = record s { registered = with_rule s.registered prefix rule }
+
+abbrev pub radio_located : State → ℕ → ℕ → ℕ → LocationUpdateType → State
+radio_located s itsi station area update = record s { registered = located s.registered itsi station area; groups = after_update s.groups itsi update }
+
+abbrev pub radio_detached : State → ℕ → State
+radio_detached s itsi = record s { registered = detached s.registered itsi }
+
+abbrev pub groups_changed : State → ℕ → GroupMode → List GroupUp → State
+groups_changed s itsi mode items = record s { groups = applied s.registered s.groups itsi mode items }
+
+abbrev pub mail_changed : State → Mailed → State
+mail_changed s mail = record s { mail = mail }
+
+-- the item that the next accepted command makes of a PDU in this envelope: a message, or a report in its written form
+abbrev pub message_of : State → ℕ → Envelope → List Bool → Waiting
+message_of s moment e pdu = waiting_for s.registered (key_of e kind.Message) (record { number = s.count + 1; moment = moment }) pdu
+
+abbrev pub report_of : State → ℕ → Envelope → List Bool → Waiting
+report_of s moment e pdu = waiting_for s.registered (key_of e kind.Report) (record { number = s.count + 1; moment = moment }) (cleared pdu)
+
+abbrev pub envelope : ℕ → ℕ → ℕ → Envelope
+envelope source destination reference = record { source = source; destination = destination; reference = reference }
 
 -- A and B are the allocators that a command's and a reply's bits are kept under. Nothing here depends on them.
 module _ {B : Type 0} where
   abbrev pub rejected : LocationUpdateType → RegFault → Option ℕ → Refusal B
   rejected update fault None = Registration fault
-  rejected update fault (Some cause) = Location fault (canon_down (down.Reject update cause))
+  rejected update fault (Some cause) = Location fault (reject_text update cause)
 
   -- how a location update of this type is refused
   abbrev pub location_refusal : LocationUpdateType → RegFault → Refusal B
   location_refusal update fault = rejected update fault (cause_of fault)
 
 module _ {A : Type 0} where
-  -- the state with this part changed, after one more accepted command, whose reply has this PDU
-  abbrev pub accepted : State → Command A → Registered → Option (List Bool) → State
-  accepted s c registered pdu = record {
-    registered = registered;
+  -- the state after one more accepted command, whose reply has this PDU
+  abbrev pub accepted : State → Command A → Option (List Bool) → State
+  accepted s c pdu = record s {
     served = slice_set s.served (c.station - 1) (Some (record { sequence = c.sequence; number = s.count + 1; pdu = pdu }));
     count = s.count + 1;
   }
@@ -73,34 +116,69 @@ module _ {A : Type 0} where
   CanBeAccepted s c = IsOfStation s c × (s.count < last_number)
 
 module _ {A B : Type 0} where
-  -- a change of rules or radios is refused, or made with no PDU
-  abbrev pub step_plain : State → Command A → Registered → Option RegFault → State × Reply B
-  step_plain s c new (Some fault) = (s, Refused (Registration fault))
-  step_plain s c new None = (accepted s c new None, Accepted (s.count + 1) None)
-
-  -- a location update is rejected, or made and accepted
-  abbrev pub step_update : State → Command A → LocationUpdateType → Registered → Option RegFault → State × Reply B
-  step_update s c update new (Some fault) = (s, Refused (location_refusal update fault))
-  step_update s c update new None = (accepted s c new (accept_pdu update), Accepted (s.count + 1) (accept_pdu update))
+  -- a command is refused, or makes this state and is answered by this PDU
+  abbrev pub step_made : State → Command A → State → Option (List Bool) → Option (Refusal B) → State × Reply B
+  step_made s c made pdu (Some refusal) = (s, Refused refusal)
+  step_made s c made pdu None = (accepted made c pdu, Accepted (s.count + 1) pdu)
 
   abbrev pub step_rule : State → Command A → Path → Rule → State × Reply B
-  step_rule s c prefix rule = step_plain s c (with_rule s.registered prefix rule) (set_refusal s.registered prefix)
+  step_rule s c prefix rule = step_made s c (rule_set s prefix rule) None (option_map Registration (set_refusal s.registered prefix))
 
   abbrev pub step_locate : State → Command A → ℕ → ℕ → LocationUpdateType → State × Reply B
-  step_locate s c itsi area update = step_update s c update (located s.registered itsi c.station area) (locate_refusal s.registered itsi area update)
+  step_locate s c itsi area update =
+      step_made s c (radio_located s itsi c.station area update) (accept_pdu update) (option_map (location_refusal update) (locate_refusal s.registered itsi area update))
 
   abbrev pub step_detach : State → Command A → ℕ → State × Reply B
-  step_detach s c itsi = step_plain s c (detached s.registered itsi) (detach_refusal s.registered itsi)
+  step_detach s c itsi = step_made s c (radio_detached s itsi) None (option_map Registration (detach_refusal s.registered itsi))
+
+  abbrev pub step_groups : State → Command A → ℕ → GroupMode → List GroupUp → State × Reply B
+  step_groups s c itsi mode items =
+      step_made s c (groups_changed s itsi mode items) (Some (acknowledge_pdu s.registered itsi items)) (option_map Groups (apply_refusal s.registered s.groups itsi mode items))
 
   -- a PDU that was read, or its first fault
-  abbrev pub step_mm : State → Command A → ℕ → ℕ → Result MmUp MmFault → State × Reply B
+  abbrev pub step_mm : State → Command A → ℕ → ℕ → Result (MmUp B) MmFault → State × Reply B
   step_mm s c itsi area (Err fault) = (s, Refused (Pdu fault))
   step_mm s c itsi area (Ok (up.Demand update)) = step_locate s c itsi area update
   step_mm s c itsi area (Ok up.Detach) = step_detach s c itsi
+  step_mm s c itsi area (Ok (up.Groups mode items)) = step_groups s c itsi mode items
+
+  -- the mail is changed so, or this refuses it
+  abbrev pub step_mail : State → Command A → Mailed → Option MailFault → State × Reply B
+  step_mail s c mail refusal = step_made s c (mail_changed s mail) None (option_map Mail refusal)
+
+  abbrev pub step_message : State → Command A → Waiting → State × Reply B
+  step_message s c w = step_mail s c (posted s.mail w) (post_refusal s.registered s.mail w)
+
+  abbrev pub step_report : State → Command A → Envelope → ℕ → Waiting → State × Reply B
+  step_report s c e status w = step_mail s c (reported s.mail e status w) (report_refusal s.registered s.mail e status w)
+
+  abbrev pub step_ack : State → Command A → Envelope → State × Reply B
+  step_ack s c e = step_mail s c (acknowledged s.mail e) (ack_refusal s.registered s.mail e)
+
+  -- a short data PDU by its head, or its first fault
+  abbrev pub step_sds : State → Command A → ℕ → ℕ → List Bool → Result Head SdsFault → State × Reply B
+  step_sds s c source destination pdu (Err fault) = (s, Refused (ShortData fault))
+  step_sds s c source destination pdu (Ok (heads.Transfer request reference)) = step_message s c (message_of s c.moment (envelope source destination reference) pdu)
+  step_sds s c source destination pdu (Ok (heads.Report acknowledge status reference)) =
+      step_report s c (envelope source destination reference) status (report_of s c.moment (envelope source destination reference) pdu)
+  step_sds s c source destination pdu (Ok (heads.Ack status reference)) = step_ack s c (envelope source destination reference)
+
+  abbrev pub step_sent : State → Command A → Key → State × Reply B
+  step_sent s c key = step_mail s c (confirmed s.mail key) (sent_refusal s.registered s.mail key)
+
+  abbrev pub step_expire : State → Command A → State × Reply B
+  step_expire s c = step_mail s c (expired s.mail c.moment) None
+
+  abbrev pub step_delete : State → Command A → Key → State × Reply B
+  step_delete s c key = step_mail s c (deleted s.mail key) (delete_refusal s.mail key)
 
   abbrev pub step_body : State → Command A → Body A → State × Reply B
   step_body s c (RuleSet prefix rule) = step_rule s c prefix rule
   step_body s c (Mm itsi area pdu) = step_mm s c itsi area (reading_up pdu)
+  step_body s c (Sds source destination pdu) = step_sds s c source destination pdu (heading pdu)
+  step_body s c (Sent key) = step_sent s c key
+  step_body s c Expire = step_expire s c
+  step_body s c (Delete key) = step_delete s c key
 
   -- a command that is new to its station
   abbrev pub step_new : State → Command A → State × Reply B

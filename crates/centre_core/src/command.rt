@@ -1,4 +1,5 @@
 use identity::{Bits, Itsi, Prefix};
+use mailbox::Key;
 use registration::{LocationArea, Rule};
 use std::alloc::Allocator;
 
@@ -30,4 +31,17 @@ pub enum Body<A: Allocator> {
         area: LocationArea,
         pdu: Bits<A>,
     },
+    /// A short data PDU from a radio for another one (clause 29): a message, a report or an
+    /// acknowledgement.
+    Sds {
+        source: Itsi,
+        destination: Itsi,
+        pdu: Bits<A>,
+    },
+    /// The item of this key was sent to its destination.
+    Sent(Key),
+    /// Removes all that waits and ends at the command's moment or before.
+    Expire,
+    /// Removes the item of this key.
+    Delete(Key),
 }

@@ -1,8 +1,8 @@
 //! What is kept of each station.
-ghost use Rattle.std.specs.Prelude.{◌≡◌, IfOk, replicate, None};
+ghost use Rattle.std.specs.Prelude.{◌≡◌, ◌<◌, ◌≤◌, ◌+◌, ◌-◌, ◌^◌, IfOk, replicate, slice_set, vec_len, None, Some};
 ghost use Rattle.centre_core.specs.declared.reply.Reply.TheVariants.{Kept};
 
-use crate::Reply;
+use crate::{Command, Reply};
 use identity::Bits;
 use std::alloc::{AllocError, Allocator};
 use std::marker::Model;
@@ -61,6 +61,28 @@ pub(crate) fn none_accepted<A: Allocator + Clone>(
     Ok(served)
 }
 
+/// Counts an accepted command, and keeps what it is answered in the place of its station. It takes no
+/// memory.
+pub(crate) fn keep<A: Allocator, B: Allocator>(
+    served: &mut Vec<Option<LastAccepted<A>>, A>,
+    count: &mut u64,
+    command: &Command<B>,
+    pdu: Option<Bits<A>>,
+)
+    requires left { count.old < 2 ^ 62 }
+    requires station { 0 < command.now.station }
+    requires place { command.now.station ≤ vec_len served.old }
+    ensures count { count.new ≡ count.old + 1 }
+    ensures kept { served.new.items ≡ slice_set served.old.items (command.now.station - 1) (Some (record { sequence = command.now.sequence; number = count.old + 1; pdu = pdu })) }
+{
+    *count += 1;
+    served[command.station as usize - 1] = Some(LastAccepted {
+        sequence: command.sequence,
+        number: *count,
+        pdu,
+    });
+}
+
 /// The entries once more.
 pub(crate) fn copied<A: Allocator + Clone>(
     alloc: &A,
@@ -87,17 +109,28 @@ fn copied_entry<A: Allocator, B: Allocator>(
     }
 }
 
-fn copy_of<A: Allocator, B: Allocator>(
+/// A PDU once more, where there is one.
+pub(crate) fn copy_of<A: Allocator, B: Allocator>(
     alloc: B,
     pdu: &Option<Bits<A>>,
 ) -> Result<Option<Bits<B>>, AllocError>
     ensures { IfOk result (λ copy. copy ≡ pdu.now) }
 {
-    let Some(bits) = pdu else {
-        return Ok(None);
-    };
+    match pdu {
+        None => Ok(None),
+        Some(bits) => Ok(Some(bits_copy(alloc, bits)?)),
+    }
+}
+
+/// Bits once more.
+pub(crate) fn bits_copy<A: Allocator, B: Allocator>(
+    alloc: B,
+    bits: &Bits<A>,
+) -> Result<Bits<B>, AllocError>
+    ensures { IfOk result (λ copy. copy ≡ bits.now) }
+{
     match bits.try_copy(alloc) {
-        Ok(copy) => Ok(Some(copy)),
+        Ok(copy) => Ok(copy),
         Err(_) => Err(AllocError),
     }
 }

@@ -1,7 +1,7 @@
 //! What holds of the register over all commands and lists of commands, by its definitions alone.
 //! These functions do nothing: calling one gives its clauses.
 ghost use Rattle.centre_core.specs.State.{IsState};
-ghost use Rattle.centre_core.specs.Laws.{AcceptedAreAnswered, AcceptedAreNumbered, EmptyIsState, StepKeepsState, OnlyAcceptedChange, StepIsNext, ResendsAreAnswered, ResendsAreIdle};
+ghost use Rattle.centre_core.specs.Laws.{AcceptedAreAnswered, AcceptedAreNumbered, EmptyIsState, StepKeepsState, NoneLost, NoneLostMade, OnlyAcceptedChange, StepIsNext, ResendsAreAnswered, ResendsAreIdle};
 
 use crate::Register;
 use std::alloc::Allocator;
@@ -36,6 +36,15 @@ pub fn replies<A: Allocator, B: Allocator>()
     ensures again { ResendsAreAnswered A B }
 {}
 
+/// Over every list of commands, from any state: a message that waits, or that an accepted command
+/// makes, is missing afterwards exactly where a later accepted command ends it - a report from its
+/// destination that says so, `Sent` where it asks for no report, `Expire` at its deadline or later,
+/// or `Delete`.
+pub fn no_lost_message<A: Allocator>()
+    ensures waiting { NoneLost A }
+    ensures made { NoneLostMade A }
+{}
+
 /// A list of commands does the same without its resends.
 pub fn resends<A: Allocator>()
     ensures { ResendsAreIdle A }
@@ -44,4 +53,6 @@ pub fn resends<A: Allocator>()
 /// A location update whose type is not refused is accepted by a D-LOCATION UPDATE ACCEPT of that type.
 pub fn accepted_are_answered()
     ensures { AcceptedAreAnswered }
-{}
+{
+    registration::laws::served_types()
+}

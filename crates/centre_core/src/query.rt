@@ -1,20 +1,90 @@
-use identity::Itsi;
+ghost use Rattle.std.specs.Prelude.{◌≡◌};
+
+use group_attach::Attachment;
+use identity::{Gtsi, Itsi};
+use mailbox::Item;
 use registration::Radio;
+use std::alloc::Allocator;
+use std::marker::Model;
 
 /// A question, which changes nothing.
 #[derive(Clone, Copy, Debug, PartialEq, Eq)]
 pub enum Query {
     /// Where a radio is.
     Whereabouts(Itsi),
+    /// Which groups a radio is attached to.
+    GroupsOf(Itsi),
+    /// Which radios that are present are attached to a group.
+    MembersOf(Gtsi),
+    /// What waits for a radio.
+    Waiting(Itsi),
     /// How many commands were accepted.
     Total,
 }
 
 /// The answer to a query.
-#[derive(Clone, Copy, Debug, PartialEq, Eq)]
-pub enum Told {
+#[derive(Drop)]
+pub enum Told<A: Allocator> {
     /// The radio as the register knows it, if it does.
     Whereabouts { itsi: Itsi, radio: Option<Radio> },
+    /// The attachments of a radio, in order of their groups.
+    Groups { itsi: Itsi, groups: Attachments<A> },
+    /// The attachments to a group, in order of their radios, which are present.
+    Members { gtsi: Gtsi, members: Attachments<A> },
+    /// What waits for a radio, in order of number, then of key.
+    Waiting { itsi: Itsi, items: Items<A> },
     /// The number of accepted commands.
     Total(u64),
+}
+
+/// Attachments in order.
+///
+/// Clauses see the list alone.
+#[derive(Drop)]
+pub struct Attachments<A: Allocator> {
+    pub(crate) items: Vec<Attachment, A>,
+}
+
+impl<A: Allocator> Model for Attachments<A> {
+    ghost use Rattle.std.specs.Prelude.{List};
+    ghost use Rattle.group_attach.specs.declared.attachment.Attachment.{Attachment};
+
+    ghost Value = { List Attachment };
+
+    ghost view = { λ a. a.items.items };
+}
+
+impl<A: Allocator> Attachments<A> {
+    /// All of them.
+    pub fn as_slice(&self) -> &[Attachment]
+        ensures { result.now ≡ self.now }
+    {
+        self.items.as_slice()
+    }
+}
+
+/// Copies of what waits, in order.
+///
+/// Clauses see the list alone.
+#[derive(Drop)]
+pub struct Items<A: Allocator> {
+    pub(crate) items: Vec<Item<A>, A>,
+}
+
+impl<A: Allocator> Model for Items<A> {
+    ghost use Rattle.std.specs.Prelude.{List};
+    ghost use Rattle.mailbox.specs.Values.{Waiting};
+
+    ghost Value = { List Waiting };
+
+    ghost view = { λ i. i.items.items };
+}
+
+impl<A: Allocator> Items<A> {
+    /// All of them.
+    pub fn as_slice(&self) -> &[Item<A>]
+        ensures { result.now ≡ self.now }
+    {
+        self.items.as_slice()
+    }
 }

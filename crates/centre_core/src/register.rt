@@ -1,29 +1,42 @@
 //! The register and its calls.
+
+mod messages;
+
 ghost use Rattle.std.specs.Prelude.{◌≡◌, ◌<◌, ◌≤◌, ◌+◌, IfOk, OnErr, None};
 ghost use Rattle.mm_pdus.specs.UplinkReading.{reading_up};
+ghost use Rattle.registration.specs.Registered.{is_present};
 ghost use Rattle.centre_core.specs.State.{empty, IsState};
-ghost use Rattle.centre_core.specs.Step.{step, step_new, step_mm, step_rule, step_locate, step_detach, accept_pdu, accepted, IsOfStation, CanBeAccepted};
-ghost use Rattle.centre_core.specs.Tell.{tell};
+ghost use Rattle.centre_core.specs.Step.{step, step_new, step_mm, step_rule, step_locate, step_detach, step_groups, accept_pdu, acknowledge_pdu, accepted, IsOfStation, CanBeAccepted};
+ghost use Rattle.centre_core.specs.Tell.{present_members, tell};
+ghost use Rattle.centre_core.specs.History.{is_acceptance, names};
+ghost use Rattle.centre_core.specs.Laws.{KeepsMessages};
 
-use crate::last_accepted::{LastAccepted, copied, none_accepted};
-use crate::location::{accept_pdu, location_refusal};
-use crate::{Body, Command, Query, Refusal, Reply, Told};
-use identity::{Bits, Itsi, Prefix};
-use mm_pdus::{LocationUpdateType, MmUp, read_up};
+use crate::answers::{
+    accept_pdu, acknowledge_pdu, groups_refusal, location_refusal, registration_refusal,
+};
+use crate::last_accepted::{LastAccepted, bits_copy, copied, copy_of, keep, none_accepted};
+use crate::{Attachments, Body, Command, Query, Refusal, Reply, Told};
+use group_attach::{Attachment, Groups};
+use identity::{Bits, Gtsi, Itsi, Prefix};
+use mailbox::Mail;
+use mm_pdus::{GroupItems, GroupMode, GroupUp, LocationUpdateType, MmFault, MmUp, read_up};
 use prefix_tree::TryCopy;
-use registration::{Limits, LocationArea, Registry, Rule};
+use registration::{Limits, LocationArea, Radio, Registry, Rule};
 use std::alloc::{AllocError, Allocator};
 use std::marker::Model;
 
 /// The greatest number of an accepted command, 2 to the 62nd.
 const LAST_NUMBER: u64 = 4_611_686_018_427_387_904;
 
-/// The location register as one value: rules, radios, and of each station what was answered to its
-/// last accepted command. It keeps everything under its own allocator.
+/// The location register and message centre as one value: rules, radios and their groups, what waits
+/// in the mail, and of each station what was answered to its last accepted command. It keeps
+/// everything under its own allocator.
 #[derive(Drop)]
 pub struct Register<A: Allocator> {
     alloc: A,
     registry: Registry<A>,
+    groups: Groups<A>,
+    mail: Mail<A>,
     // The entry of station 1 comes first. There is one for each station from the start, so that an
     // accepted command is written without memory.
     served: Vec<Option<LastAccepted<A>>, A>,
@@ -37,9 +50,9 @@ impl<A: Allocator> Model for Register<A> {
 
     ghost coded = { coded_state };
 
-    ghost view = { λ r. record { registered = r.registry; served = r.served.items; count = r.count } };
+    ghost view = { λ r. record { registered = r.registry; groups = r.groups; mail = r.mail; served = r.served.items; count = r.count } };
 
-    ghost invariant = { λ r. IsState (record { registered = r.registry; served = r.served.items; count = r.count }) };
+    ghost invariant = { λ r. IsState (record { registered = r.registry; groups = r.groups; mail = r.mail; served = r.served.items; count = r.count }) };
 }
 
 impl<A: Allocator> Register<A> {
@@ -52,12 +65,14 @@ impl<A: Allocator> Register<A> {
 }
 
 impl<A: Allocator + Clone> Register<A> {
-    /// A register with no rules, no radios and no command accepted.
+    /// A register with no rules, no radios, no attachments, nothing that waits and no command accepted.
     pub fn new(alloc: A, limits: Limits) -> Result<Self, AllocError>
         ensures { IfOk result (λ register. register ≡ empty limits) }
     {
         Ok(Register {
             registry: Registry::new(alloc.clone()?, limits)?,
+            groups: Groups::new(alloc.clone()?),
+            mail: Mail::new(alloc.clone()?, limits),
             served: none_accepted(&alloc, limits.stations)?,
             count: 0,
             alloc,
@@ -78,8 +93,8 @@ impl<A: Allocator + Clone> Register<A> {
         self.count
     }
 
-    /// The answer to a query.
-    pub fn query(&self, query: &Query) -> Result<Told, AllocError>
+    /// The answer to a query, kept under `alloc`.
+    pub fn query<C: Allocator + Copy>(&self, alloc: C, query: &Query) -> Result<Told<C>, AllocError>
         ensures { IfOk result (λ told. told ≡ tell self.now query.now) }
     {
         match *query {
@@ -87,13 +102,55 @@ impl<A: Allocator + Clone> Register<A> {
                 itsi,
                 radio: self.registry.where_is(itsi),
             }),
+            Query::GroupsOf(itsi) => Ok(Told::Groups {
+                itsi,
+                groups: Attachments {
+                    items: self.groups.groups_of(alloc, itsi)?,
+                },
+            }),
+            Query::MembersOf(gtsi) => Ok(Told::Members {
+                gtsi,
+                members: Attachments {
+                    items: self.present_members(alloc, gtsi)?,
+                },
+            }),
+            Query::Waiting(itsi) => Ok(Told::Waiting {
+                itsi,
+                items: self.waiting(alloc, itsi)?,
+            }),
             Query::Total => Ok(Told::Total(self.count)),
         }
     }
 
+    // The attachments to a group whose radios are present.
+    fn present_members<C: Allocator>(
+        &self,
+        alloc: C,
+        gtsi: Gtsi,
+    ) -> Result<Vec<Attachment, C>, AllocError>
+        ensures { IfOk result (λ list. list.items ≡ present_members self.now gtsi) }
+    {
+        let mut members = self.groups.members_of(alloc, gtsi)?;
+        members.retain(|member| is_present(self.registry.where_is(member.itsi)));
+        Ok(members)
+    }
+
     /// The reply to a command, kept under `alloc`. For want of memory nothing is changed.
-    #[tactic(auto, unfolding(crate::specs::Step::step))]
     pub fn apply<B: Allocator, C: Allocator + Copy>(
+        &mut self,
+        alloc: C,
+        command: &Command<B>,
+    ) -> Result<Reply<C>, AllocError>
+        ensures ok { IfOk result (λ reply. (self.new, reply) ≡ step self.old command.now) }
+        // No message is lost, but for what the command ends.
+        ensures messages { IfOk result (λ reply. KeepsMessages self.old.mail self.new.mail (is_acceptance reply) (names command.now)) }
+        ensures err { OnErr result (self.new ≡ self.old) }
+    {
+        self.step(alloc, command)
+    }
+
+    #[tactic(auto, unfolding(crate::specs::Step::step))]
+    fn step<B: Allocator, C: Allocator + Copy>(
         &mut self,
         alloc: C,
         command: &Command<B>,
@@ -133,10 +190,17 @@ impl<A: Allocator + Clone> Register<A> {
         match &command.body {
             Body::RuleSet { prefix, rule } => self.set_rule(command, *prefix, *rule),
             Body::Mm { itsi, area, pdu } => self.mobility(alloc, command, *itsi, *area, pdu),
+            Body::Sds {
+                source,
+                destination,
+                pdu,
+            } => self.short_data(command, *source, *destination, pdu),
+            Body::Sent(key) => Ok(self.sent(command, key)),
+            Body::Expire => Ok(self.expire(command)),
+            Body::Delete(key) => Ok(self.delete(command, key)),
         }
     }
 
-    #[tactic(auto, using(crate::proofs::RegisteredLaws::set_within))]
     fn set_rule<B: Allocator, C: Allocator>(
         &mut self,
         command: &Command<B>,
@@ -147,11 +211,8 @@ impl<A: Allocator + Clone> Register<A> {
         ensures ok { IfOk result (λ reply. (self.new, reply) ≡ step_rule self.old command.now prefix rule) }
         ensures err { OnErr result (self.new ≡ self.old) }
     {
-        if let Some(fault) = self.registry.set_refusal(&prefix) {
-            return Ok(Reply::Refused(Refusal::Registration(fault)));
-        }
-        if self.registry.set_rule(prefix, rule).is_err() {
-            return Err(AllocError);
+        if let Err(fault) = self.registry.set_rule(prefix, rule) {
+            return Ok(Reply::Refused(registration_refusal(fault)?));
         }
         let number = self.accept(command, None);
         Ok(Reply::Accepted { number, pdu: None })
@@ -169,10 +230,14 @@ impl<A: Allocator + Clone> Register<A> {
         ensures ok { IfOk result (λ reply. (self.new, reply) ≡ step_mm self.old command.now itsi area (reading_up pdu.now)) }
         ensures err { OnErr result (self.new ≡ self.old) }
     {
-        match read_up(pdu) {
+        match read_up(alloc, pdu) {
+            Err(MmFault::NoMemory) => Err(AllocError),
             Err(fault) => Ok(Reply::Refused(Refusal::Pdu(fault))),
             Ok(MmUp::Demand { update }) => self.locate(alloc, command, itsi, area, update),
             Ok(MmUp::Detach) => Ok(self.detach(command, itsi)),
+            Ok(MmUp::Groups { mode, items }) => {
+                self.change_groups(alloc, command, itsi, mode, &items)
+            }
         }
     }
 
@@ -188,17 +253,11 @@ impl<A: Allocator + Clone> Register<A> {
         ensures ok { IfOk result (λ reply. (self.new, reply) ≡ step_locate self.old command.now itsi area update) }
         ensures err { OnErr result (self.new ≡ self.old) }
     {
-        if let Some(fault) = self.registry.locate_refusal(itsi, area, update) {
+        let (kept, pdu) = self.accept_pdus(alloc, update)?;
+        if let Err(fault) = self.registry.locate(itsi, command.station, area, update) {
             return Ok(Reply::Refused(location_refusal(alloc, update, fault)?));
         }
-        let (kept, pdu) = self.accept_pdus(alloc, update)?;
-        if self
-            .registry
-            .locate(itsi, command.station, area, update)
-            .is_err()
-        {
-            return Err(AllocError);
-        }
+        self.groups.on_update(itsi, update);
         let number = self.accept(command, kept);
         Ok(Reply::Accepted { number, pdu })
     }
@@ -212,12 +271,48 @@ impl<A: Allocator + Clone> Register<A> {
         ensures { IfOk result (λ pdus. pdus ≡ (accept_pdu update, accept_pdu update)) }
     {
         let kept = accept_pdu(self.alloc.clone()?, update)?;
-        let pdu = accept_pdu(alloc, update)?;
+        let pdu = copy_of(alloc, &kept)?;
+        Ok((kept, pdu))
+    }
+
+    fn change_groups<B: Allocator, C: Allocator + Copy>(
+        &mut self,
+        alloc: C,
+        command: &Command<B>,
+        itsi: Itsi,
+        mode: GroupMode,
+        items: &GroupItems<GroupUp, C>,
+    ) -> Result<Reply<C>, AllocError>
+        requires { CanBeAccepted self.old command.now }
+        ensures ok { IfOk result (λ reply. (self.new, reply) ≡ step_groups self.old command.now itsi mode items.now) }
+        ensures err { OnErr result (self.new ≡ self.old) }
+    {
+        let (kept, pdu) = self.acknowledge_pdus(alloc, itsi, items)?;
+        if let Err(fault) = self.groups.change(&self.registry, itsi, mode, items) {
+            return Ok(Reply::Refused(groups_refusal(fault)?));
+        }
+        let number = self.accept(command, Some(kept));
+        Ok(Reply::Accepted {
+            number,
+            pdu: Some(pdu),
+        })
+    }
+
+    // An acknowledgement, once to keep and once to answer.
+    fn acknowledge_pdus<C: Allocator + Copy>(
+        &self,
+        alloc: C,
+        itsi: Itsi,
+        items: &GroupItems<GroupUp, C>,
+    ) -> Result<(Bits<A>, Bits<C>), AllocError>
+        ensures { let text = acknowledge_pdu self.now.registered itsi items.now in IfOk result (λ pdus. pdus ≡ (text, text)) }
+    {
+        let kept = acknowledge_pdu(self.alloc.clone()?, alloc, &self.registry, itsi, items)?;
+        let pdu = bits_copy(alloc, &kept)?;
         Ok((kept, pdu))
     }
 
     // It takes no memory.
-    #[tactic(auto, using(crate::proofs::RegisteredLaws::detach_within))]
     fn detach<B: Allocator, C: Allocator>(&mut self, command: &Command<B>, itsi: Itsi) -> Reply<C>
         requires { CanBeAccepted self.old command.now }
         ensures { (self.new, result) ≡ step_detach self.old command.now itsi }
@@ -233,14 +328,9 @@ impl<A: Allocator + Clone> Register<A> {
     fn accept<B: Allocator>(&mut self, command: &Command<B>, pdu: Option<Bits<A>>) -> u64
         requires { CanBeAccepted self.old command.now }
         ensures number { result ≡ self.old.count + 1 }
-        ensures kept { self.new ≡ accepted self.old command.now self.old.registered pdu }
+        ensures kept { self.new ≡ accepted self.old command.now pdu }
     {
-        self.count += 1;
-        self.served[command.station as usize - 1] = Some(LastAccepted {
-            sequence: command.sequence,
-            number: self.count,
-            pdu,
-        });
+        keep(&mut self.served, &mut self.count, command, pdu);
         self.count
     }
 }
@@ -250,8 +340,19 @@ impl<A: Allocator + Clone> TryCopy for Register<A> {
         Ok(Register {
             alloc: self.alloc.clone()?,
             registry: self.registry.try_copy()?,
+            groups: self.groups.try_copy()?,
+            mail: self.mail.try_copy()?,
             served: copied(&self.alloc, &self.served)?,
             count: self.count,
         })
+    }
+}
+
+fn is_present(radio: Option<Radio>) -> bool
+    ensures { result ≡ is_present radio }
+{
+    match radio {
+        None => false,
+        Some(radio) => radio.present,
     }
 }

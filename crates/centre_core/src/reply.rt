@@ -1,6 +1,9 @@
+use group_attach::GroupFault;
 use identity::Bits;
+use mailbox::MailFault;
 use mm_pdus::MmFault;
 use registration::RegFault;
+use sds_tl::SdsFault;
 use std::alloc::Allocator;
 
 /// The answer to a command.
@@ -24,10 +27,16 @@ pub enum Refusal<A: Allocator> {
     OldSequence { last: u32 },
     /// All 2 to the 62nd numbers of accepted commands are given out.
     NumbersUsedUp,
-    /// The bits are no PDU that is supported.
+    /// The bits are no mobility management PDU that is supported.
     Pdu(MmFault),
+    /// The bits are no short data PDU that is supported.
+    ShortData(SdsFault),
     /// The rules or radios refuse it, and there is no PDU for the radio.
     Registration(RegFault),
     /// A location update is refused, with a D-LOCATION UPDATE REJECT for the radio.
     Location { fault: RegFault, reject: Bits<A> },
+    /// The groups of a radio are not changed.
+    Groups(GroupFault),
+    /// The mail is not changed.
+    Mail(MailFault),
 }

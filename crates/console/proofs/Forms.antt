@@ -1,17 +1,43 @@
 -- What words say.
-use Rattle.std.proofs.Common.{◌≡◌, ℕ, Bool, true, false, List, ◌∷◌, take, Option, Some, None, Ok, Err, refl}
+use Rattle.std.proofs.Common.{◌≡◌, ℕ, ◌<◌, Bool, true, false, List, [], ◌∷◌, length, take, Option, Some, None, Result, Ok, Err, refl, arith}
 use Rattle.std.specs.Prelude.{nat_le, if◌then◌else◌}
 use Rattle.identity.specs.NumberText.{judged}
 use Rattle.identity.specs.BitsText.{digit_bits, bits_form, reading_bits}
 use Rattle.identity.specs.declared.fault.Fault.TheVariants.{OutOfRange, NoMemory}
-use Rattle.console.specs.Reading.{words, of_words}
-use Rattle.console.specs.declared.line.LineFault.TheVariants.{Syntax}
+use Rattle.centre_core.specs.declared.command.Body.{Body}
+use Rattle.centre_core.specs.declared.command.Body.TheVariants.{RuleSet, Mm, Sds, Sent, Expire, Delete}
+use Rattle.console.specs.Reading.{of_words, order, sequence_of, HasPdu}
+use Rattle.console.specs.declared.order.Head.{Head}
+use Rattle.console.specs.declared.line.LineFault.{LineFault}
+use Rattle.console.specs.declared.line.LineFault.TheVariants.{Syntax, Value}
 use Rattle.console.specs.declared.line.Line.TheVariants.{Bad}
-use Rattle.console.proofs.Lines.{is_space, split_nonempty}
 
--- nine words or more
-pub nine_words : {A : Type 0} (station : ℕ) (a b c d e f g h rest : List ℕ) → of_words {A = A} station (a ∷ b ∷ c ∷ d ∷ e ∷ f ∷ g ∷ h ∷ words rest) ≡ Bad Syntax
-nine_words station a b c d e f g h rest = let some = split_nonempty is_space rest in rw some.2 refl
+-- more words than any form has
+pub many_words : {A : Type 0} (station : ℕ) (ws : List (List ℕ)) → 8 < length ws → of_words {A = A} station ws ≡ Bad Syntax
+many_words station [] many = absurd (omega (arith, many))
+many_words station (a ∷ []) many = absurd (omega (arith, many))
+many_words station (a ∷ b ∷ []) many = absurd (omega (arith, many))
+many_words station (a ∷ b ∷ c ∷ []) many = absurd (omega (arith, many))
+many_words station (a ∷ b ∷ c ∷ d ∷ []) many = absurd (omega (arith, many))
+many_words station (a ∷ b ∷ c ∷ d ∷ e ∷ []) many = absurd (omega (arith, many))
+many_words station (a ∷ b ∷ c ∷ d ∷ e ∷ f ∷ []) many = absurd (omega (arith, many))
+many_words station (a ∷ b ∷ c ∷ d ∷ e ∷ f ∷ g ∷ []) many = absurd (omega (arith, many))
+many_words station (a ∷ b ∷ c ∷ d ∷ e ∷ f ∷ g ∷ h ∷ []) many = absurd (omega (arith, many))
+many_words station (a ∷ b ∷ c ∷ d ∷ e ∷ f ∷ g ∷ h ∷ i ∷ ws) many = refl
+
+-- a body with a PDU, behind a head and without one
+pub unread : {A : Type 0} (station : ℕ) (head : Head) (body : Result (Body A) LineFault) → HasPdu body → sequence_of (order station (Some head) body) ≡ Some head.sequence
+unread station head (Ok (RuleSet prefix rule)) pdu = absurd pdu
+unread station head (Ok (Mm itsi area bits)) pdu = refl
+unread station head (Ok (Sds source destination bits)) pdu = refl
+unread station head (Ok (Sent key)) pdu = absurd pdu
+unread station head (Ok Expire) pdu = absurd pdu
+unread station head (Ok (Delete key)) pdu = absurd pdu
+unread station head (Err fault) pdu = absurd pdu
+
+pub headless : {A : Type 0} (station : ℕ) (body : Result (Body A) LineFault) → HasPdu body → order station None body ≡ Bad Value
+headless station (Ok body) pdu = refl
+headless station (Err fault) pdu = absurd pdu
 
 within_judged : (within : Bool) (bits : List Bool) → (if within then Ok bits else Err OutOfRange) ≡ Err NoMemory → ⊥
 within_judged true bits refused = cc

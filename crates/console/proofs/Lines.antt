@@ -1,8 +1,8 @@
 -- Lines and words, a part at a time.
-use Rattle.std.proofs.Common.{◌≡◌, ℕ, ◌+◌, ◌<◌, Bool, true, false, cond, List, [], ◌∷◌, ◌++◌, length, take, drop, get_or, add-one, drop-cons, refl, sym, ◌∙◌, ap, arith, Some}
+use Rattle.std.proofs.Common.{◌≡◌, ℕ, ◌+◌, ◌<◌, ◌≤◌, Bool, true, false, cond, List, [], ◌∷◌, ◌++◌, length, take, drop, get_or, add-one, drop-cons, refl, sym, ◌∙◌, ap, arith, Some}
 use Rattle.std.proofs.lemmas.List.Splits.{slice_split_none, slice_split_at}
 use Rattle.std.specs.List.{slice_split, onto_first, All, slice_get}
-use Rattle.std.proofs.lemmas.List.{take-append-drop}
+use Rattle.std.proofs.lemmas.List.{take-append-drop, length-append}
 use Rattle.std.proofs.lemmas.Option.{get_or_from_slice_get}
 use Rattle.std.specs.Prelude.{◌==◌}
 use Rattle.console.specs.Reading.{Lacks, words}
@@ -56,3 +56,11 @@ pub line_ended : (taken line rest : List ℕ) (done : List (List ℕ)) (byte : �
     lines (taken ++ byte ∷ rest) ≡ done ++ lines (line ++ byte ∷ rest) → lines (taken ++ byte ∷ rest) ≡ done ++ strip_carriage_return line ∷ lines rest
 line_ended taken line rest done byte feed none split =
     split ∙ ap (λ b. done ++ lines (line ++ b ∷ rest)) feed ∙ ap (λ ls. done ++ ls) (lines_step line rest none)
+
+-- words before those of a rest
+pub more_words : (line rest : List ℕ) (front : List (List ℕ)) → words line ≡ front ++ words rest → 8 ≤ length front → 8 < length (words line)
+more_words line rest front all many =
+    let some = split_nonempty is_space rest in
+    let count : length (words line) ≡ length front + length (words rest) = ap length all ∙ length-append front (words rest) in
+    let one : length (words rest) ≡ length some.1 + 1 = ap length some.2 ∙ omega arith in
+    omega (arith, count, one, many)

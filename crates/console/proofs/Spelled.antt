@@ -17,15 +17,22 @@ use Rattle.mm_pdus.specs.declared.lifetime.Lifetime.{Lifetime}
 use Rattle.mm_pdus.specs.declared.lifetime.Lifetime.TheVariants.{NotNeeded, NextItsiAttach, NotAllowedAtNextItsiAttach, NextLocationUpdate}
 use Rattle.mm_pdus.specs.Values.{lifetime_of, lifetime_number}
 use Rattle.registration.specs.Terms.{Terms}
+use Rattle.mailbox.specs.declared.key.Key.{Key}
+use Rattle.mailbox.specs.declared.key.Kind.{Kind}
+use Rattle.mailbox.specs.declared.key.Kind.TheVariants.{Message, Report}
 use Rattle.centre_core.specs.declared.command.Command.{Command}
-use Rattle.centre_core.specs.declared.command.Body.TheVariants.{RuleSet, Mm}
+use Rattle.centre_core.specs.declared.command.Body.{Body}
+use Rattle.centre_core.specs.declared.command.Body.TheVariants.{RuleSet, Mm, Sds, Sent, Expire, Delete}
 use Rattle.centre_core.specs.declared.query.Query.{Query}
-use Rattle.centre_core.specs.declared.query.Query.TheVariants.{Whereabouts, Total}
+use Rattle.centre_core.specs.declared.query.Query.TheVariants.{Whereabouts, GroupsOf, MembersOf, Waiting, Total}
+use Rattle.console.specs.declared.order.Head.{Head}
+use Rattle.console.specs.declared.line.LineFault.{LineFault}
 use Rattle.console.specs.declared.line.LineFault.TheVariants.{Syntax, Value, TooLong}
 use Rattle.console.specs.declared.line.Line.{Line}
 use Rattle.console.specs.declared.line.Line.TheVariants.{Silent, Bad, Order, Ask}
-use Rattle.console.specs.Reading.{words, of_words, is_silent, seconds_in, not_zero, sequence_in, area_in, lifetime_in, rule_of, rule_in, rule_order, mm_order, where_query}
-use Rattle.console.specs.Spelling.{spaced, SpellsBody, query_text, OnlyCommands, OnlyQueries}
+use Rattle.console.specs.Reading.{words, of_words, is_silent, seconds_in, not_zero, sequence_in, head_of, head_in, area_in, lifetime_in, rule_of, rule_in, reference_in, kind_in, key_of, key_in, rule_body, mm_body, sds_body, body_in, order, saying, query_in, ask}
+use Rattle.console.specs.Words.{kind_word}
+use Rattle.console.specs.Spelling.{spaced, key_words, SpellsBody, query_text, OnlyCommands, OnlyQueries}
 
 -- ---- one word
 
@@ -67,12 +74,179 @@ rule_of_only (Some low) None life keep rule e = absurd (none_some rule e)
 rule_of_only (Some low) (Some high) None keep rule e = absurd (none_some rule e)
 rule_of_only (Some low) (Some high) (Some life) None rule e = absurd (none_some rule e)
 
-module _ {A : Type 0} where
-  order_same : (c d : Command A) (e : (let l : Line A = Order c in l) ≡ Order d) → c ≡ d
-  order_same c d e = cc
+-- one of two, each of which says the same
+or_else : {T P : Type 0} (b : Bool) (x y : Result T LineFault) (v : T) → (b ≡ true → x ≡ Ok v → P) → (y ≡ Ok v → P) → (if b then x else y) ≡ Ok v → P
+or_else true x y v first second e = first refl e
+or_else false x y v first second e = second e
 
-  -- a line that is no command
-  bad_order : (f : _) (c : Command A) (e : (let l : Line A = Bad f in l) ≡ Order c) → ⊥
+err_ok : {T : Type 0} (f : LineFault) (v : T) (e : (let r : Result T LineFault = Err f in r) ≡ Ok v) → ⊥
+err_ok f v e = cc
+
+ok_same : {T : Type 0} (u v : T) (e : (let r : Result T LineFault = Ok u in r) ≡ Ok v) → u ≡ v
+ok_same u v e = cc
+
+form_only : {T : Type 0} (b : Bool) (x : Result T LineFault) (v : T) → (if b then x else Err Syntax) ≡ Ok v → (b ≡ true) × (x ≡ Ok v)
+form_only true x v e = (refl, e)
+form_only false x v e = absurd (err_ok Syntax v e)
+
+-- ---- queries about an identity
+
+saying_only : {V S : Type 0} (says : V → S) (o : Option V) (s : S) → saying says o ≡ Ok s → (v : V) × (o ≡ Some v) × (says v ≡ s)
+saying_only says (Some v) s e = (v, refl, ok_same (says v) s e)
+saying_only says None s e = absurd (err_ok Value s e)
+
+about_spelled : (about : ℕ → Query) (keyword name identity : List ℕ) (q : Query) → ((n : ℕ) → spaced (keyword ∷ identity_text n ∷ []) ≡ query_text (about n)) →
+    bytes_eq name keyword ≡ true → saying about (result_ok (reading_identity identity)) ≡ Ok q → spaced (name ∷ identity ∷ []) ≡ query_text q
+about_spelled about keyword name identity q text is e =
+    let f = saying_only about (result_ok (reading_identity identity)) q e in
+    let read : identity ≡ identity_text f.0 = (reading_identity_only f.0 identity (ok_of (reading_identity identity) f.0 f.1)).1 in
+    ap (λ w. spaced (w ∷ identity ∷ [])) (named name keyword is) ∙ ap (λ w. spaced (keyword ∷ w ∷ [])) read ∙ text f.0 ∙ ap query_text f.2
+
+query_spelled : (name identity : List ℕ) (q : Query) → query_in name identity ≡ Ok q → spaced (name ∷ identity ∷ []) ≡ query_text q
+query_spelled name identity q e =
+    let o = result_ok (reading_identity identity) in
+    let whereabouts = about_spelled Whereabouts (codes "where") name identity q (λ n. refl) in
+    let groups = about_spelled GroupsOf (codes "groups") name identity q (λ n. refl) in
+    let members = about_spelled MembersOf (codes "members") name identity q (λ n. refl) in
+    let mail = about_spelled Waiting (codes "mail") name identity q (λ n. refl) in
+    or_else (bytes_eq name (codes "where")) (saying Whereabouts o) _ q whereabouts
+    (or_else (bytes_eq name (codes "groups")) (saying GroupsOf o) _ q groups
+    (or_else (bytes_eq name (codes "members")) (saying MembersOf o) _ q members
+    (or_else (bytes_eq name (codes "mail")) (saying Waiting o) (Err Syntax) q mail (λ none. absurd (err_ok Syntax q none))))) e
+
+-- ---- commands
+
+kind_by : (m r : Bool) (word : List ℕ) (kind : Kind) → (m ≡ true → word ≡ codes "m") → (r ≡ true → word ≡ codes "r") →
+    (if m then Some Message else (if r then Some Report else None)) ≡ Some kind → word ≡ kind_word kind
+kind_by true r word kind is_m is_r e = is_m refl ∙ ap kind_word (some_same Message kind e)
+kind_by false true word kind is_m is_r e = is_r refl ∙ ap kind_word (some_same Report kind e)
+kind_by false false word kind is_m is_r e = absurd (none_some kind e)
+
+kind_only : (word : List ℕ) (kind : Kind) → kind_in word ≡ Some kind → word ≡ kind_word kind
+kind_only word kind e = kind_by (bytes_eq word (codes "m")) (bytes_eq word (codes "r")) word kind (named word (codes "m")) (named word (codes "r")) e
+
+key_of_only : (d s r : Option ℕ) (k : Option Kind) (key : Key) → key_of d s r k ≡ Some key →
+    (d ≡ Some key.destination) × (s ≡ Some key.source) × (r ≡ Some key.reference) × (k ≡ Some key.kind)
+key_of_only (Some d) (Some s) (Some r) (Some k) key e =
+    let same = some_same (let w : Key = record { destination = d; source = s; reference = r; kind = k } in w) key e in
+    (ap (λ (w : Key). Some w.destination) same, ap (λ (w : Key). Some w.source) same, ap (λ (w : Key). Some w.reference) same, ap (λ (w : Key). Some w.kind) same)
+key_of_only None s r k key e = absurd (none_some key e)
+key_of_only (Some d) None r k key e = absurd (none_some key e)
+key_of_only (Some d) (Some s) None k key e = absurd (none_some key e)
+key_of_only (Some d) (Some s) (Some r) None key e = absurd (none_some key e)
+
+key_only : (d s r k : List ℕ) (key : Key) → key_in d s r k ≡ Some key → d ∷ s ∷ r ∷ k ∷ [] ≡ key_words key
+key_only d s r k key e =
+    let f = key_of_only (result_ok (reading_identity d)) (result_ok (reading_identity s)) (reference_in r) (kind_in k) key e in
+    let is_d : d ≡ identity_text key.destination = (reading_identity_only key.destination d (ok_of (reading_identity d) key.destination f.0)).1 in
+    let is_s : s ≡ identity_text key.source = (reading_identity_only key.source s (ok_of (reading_identity s) key.source f.1)).1 in
+    let is_r : r ≡ decimal key.reference = number_only 255 key.reference r (omega arith) f.2 in
+    ap (λ w. w ∷ s ∷ r ∷ k ∷ []) is_d ∙ ap (λ w. identity_text key.destination ∷ w ∷ r ∷ k ∷ []) is_s
+    ∙ ap (λ w. identity_text key.destination ∷ identity_text key.source ∷ w ∷ k ∷ []) is_r
+    ∙ ap (λ w. identity_text key.destination ∷ identity_text key.source ∷ decimal key.reference ∷ w ∷ []) (kind_only k key.kind f.3)
+
+head_only : (s m : Option ℕ) (head : Head) → head_of s m ≡ Some head → (s ≡ Some head.sequence) × (m ≡ Some head.moment)
+head_only (Some s) (Some m) head e =
+    let same = some_same (let h : Head = record { sequence = s; moment = m } in h) head e in (ap (λ (h : Head). Some h.sequence) same, ap (λ (h : Head). Some h.moment) same)
+head_only None m head e = absurd (none_some head e)
+head_only (Some s) None head e = absurd (none_some head e)
+
+head_spelled : (sequence moment : List ℕ) (head : Head) → head_in sequence moment ≡ Some head → (0 < head.sequence) × (sequence ≡ decimal head.sequence) × (moment ≡ decimal head.moment)
+head_spelled sequence moment head e =
+    let f = head_only (sequence_in sequence) (seconds_in moment) head e in
+    let some = not_zero_only (seconds_in sequence) head.sequence f.0 in
+    (some.1, number_only 4294967295 head.sequence sequence (omega arith) some.0, number_only 4294967295 head.moment moment (omega arith) f.1)
+
+module _ {A : Type 0} where
+  mm_only : (i a : Option ℕ) (p : Option (List Bool)) (b : Body A) → mm_body i a p ≡ Ok b →
+      (itsi : ℕ) × (area : ℕ) × (pdu : List Bool) × (i ≡ Some itsi) × (a ≡ Some area) × (p ≡ Some pdu) × (Mm itsi area pdu ≡ b)
+  mm_only (Some i) (Some a) (Some p) b e = (i, a, p, refl, refl, refl, ok_same (Mm i a p) b e)
+  mm_only None a p b e = absurd (err_ok Value b e)
+  mm_only (Some i) None p b e = absurd (err_ok Value b e)
+  mm_only (Some i) (Some a) None b e = absurd (err_ok Value b e)
+
+  sds_only : (s d : Option ℕ) (p : Option (List Bool)) (b : Body A) → sds_body s d p ≡ Ok b →
+      (source : ℕ) × (destination : ℕ) × (pdu : List Bool) × (s ≡ Some source) × (d ≡ Some destination) × (p ≡ Some pdu) × (Sds source destination pdu ≡ b)
+  sds_only (Some s) (Some d) (Some p) b e = (s, d, p, refl, refl, refl, ok_same (Sds s d p) b e)
+  sds_only None d p b e = absurd (err_ok Value b e)
+  sds_only (Some s) None p b e = absurd (err_ok Value b e)
+  sds_only (Some s) (Some d) None b e = absurd (err_ok Value b e)
+
+  rule_only : (p : Option Path) (r : Option Terms) (b : Body A) → rule_body p r ≡ Ok b →
+      (prefix : Path) × (rule : Terms) × (p ≡ Some prefix) × (r ≡ Some rule) × (RuleSet prefix rule ≡ b)
+  rule_only (Some p) (Some r) b e = (p, r, refl, refl, ok_same (RuleSet p r) b e)
+  rule_only None r b e = absurd (err_ok Value b e)
+  rule_only (Some p) None b e = absurd (err_ok Value b e)
+
+  mm_spelled : (i a p : List ℕ) (b : Body A) → mm_body (result_ok (reading_identity i)) (area_in a) (result_ok (reading_bits p)) ≡ Ok b → SpellsBody b (codes "mm" ∷ i ∷ a ∷ p ∷ [])
+  mm_spelled i a p b e =
+      let f = mm_only (result_ok (reading_identity i)) (area_in a) (result_ok (reading_bits p)) b e in
+      let is_i : i ≡ identity_text f.0 = (reading_identity_only f.0 i (ok_of (reading_identity i) f.0 f.3)).1 in
+      let is_a : a ≡ decimal f.1 = number_only 16383 f.1 a (omega arith) f.4 in
+      let spelt : SpellsBits p f.2 = (reading_bits_only f.2 p (ok_of (reading_bits p) f.2 f.5)).1 in
+      subst (λ (d : Body A). SpellsBody d (codes "mm" ∷ i ∷ a ∷ p ∷ [])) f.6
+      (p, spelt, ap (λ w. codes "mm" ∷ w ∷ a ∷ p ∷ []) is_i ∙ ap (λ w. codes "mm" ∷ identity_text f.0 ∷ w ∷ p ∷ []) is_a)
+
+  sds_spelled : (s d p : List ℕ) (b : Body A) → sds_body (result_ok (reading_identity s)) (result_ok (reading_identity d)) (result_ok (reading_bits p)) ≡ Ok b → SpellsBody b (codes "sds" ∷ s ∷ d ∷ p ∷ [])
+  sds_spelled s d p b e =
+      let f = sds_only (result_ok (reading_identity s)) (result_ok (reading_identity d)) (result_ok (reading_bits p)) b e in
+      let is_s : s ≡ identity_text f.0 = (reading_identity_only f.0 s (ok_of (reading_identity s) f.0 f.3)).1 in
+      let is_d : d ≡ identity_text f.1 = (reading_identity_only f.1 d (ok_of (reading_identity d) f.1 f.4)).1 in
+      let spelt : SpellsBits p f.2 = (reading_bits_only f.2 p (ok_of (reading_bits p) f.2 f.5)).1 in
+      subst (λ (c : Body A). SpellsBody c (codes "sds" ∷ s ∷ d ∷ p ∷ [])) f.6
+      (p, spelt, ap (λ w. codes "sds" ∷ w ∷ d ∷ p ∷ []) is_s ∙ ap (λ w. codes "sds" ∷ identity_text f.0 ∷ w ∷ p ∷ []) is_d)
+
+  -- sent and delete
+  key_spelled : (about : Key → Body A) (keyword name d s r k : List ℕ) (b : Body A) → ((key : Key) → SpellsBody (about key) (keyword ∷ key_words key)) →
+      bytes_eq name keyword ≡ true → saying about (key_in d s r k) ≡ Ok b → SpellsBody b (name ∷ d ∷ s ∷ r ∷ k ∷ [])
+  key_spelled about keyword name d s r k b spells is e =
+      let f = saying_only about (key_in d s r k) b e in
+      subst (λ (word : List ℕ). SpellsBody b (word ∷ d ∷ s ∷ r ∷ k ∷ [])) (sym (named name keyword is))
+      (subst (λ (ws : List (List ℕ)). SpellsBody b (keyword ∷ ws)) (sym (key_only d s r k f.0 f.1)) (subst (λ (c : Body A). SpellsBody c (keyword ∷ key_words f.0)) f.2 (spells f.0)))
+
+  rule_spelled : (p low high life keep : List ℕ) (b : Body A) → rule_body (result_ok (reading_prefix p)) (rule_in low high life keep) ≡ Ok b → SpellsBody b (codes "rule" ∷ p ∷ low ∷ high ∷ life ∷ keep ∷ [])
+  rule_spelled p low high life keep b e =
+      let f = rule_only (result_ok (reading_prefix p)) (rule_in low high life keep) b e in
+      let rule = rule_of_only (area_in low) (area_in high) (lifetime_in life) (seconds_in keep) f.1 f.3 in
+      let is_p : p ≡ prefix_text f.0 = (reading_prefix_only f.0 p (ok_of (reading_prefix p) f.0 f.2)).1 in
+      let is_low : low ≡ decimal f.1.low = number_only 16383 f.1.low low (omega arith) rule.0 in
+      let is_high : high ≡ decimal f.1.high = number_only 16383 f.1.high high (omega arith) rule.1 in
+      let is_life : life ≡ decimal (lifetime_number f.1.lifetime) =
+      number_only 3 (lifetime_number f.1.lifetime) life (omega arith) (lifetime_found (result_ok (reading_number 3 life)) f.1.lifetime rule.2) in
+      let is_keep : keep ≡ decimal f.1.keep = number_only 4294967295 f.1.keep keep (omega arith) rule.3 in
+      subst (λ (d : Body A). SpellsBody d (codes "rule" ∷ p ∷ low ∷ high ∷ life ∷ keep ∷ [])) f.4 (
+      ap (λ w. codes "rule" ∷ w ∷ low ∷ high ∷ life ∷ keep ∷ []) is_p
+      ∙ ap (λ w. codes "rule" ∷ prefix_text f.0 ∷ w ∷ high ∷ life ∷ keep ∷ []) is_low
+      ∙ ap (λ w. codes "rule" ∷ prefix_text f.0 ∷ decimal f.1.low ∷ w ∷ life ∷ keep ∷ []) is_high
+      ∙ ap (λ w. codes "rule" ∷ prefix_text f.0 ∷ decimal f.1.low ∷ decimal f.1.high ∷ w ∷ keep ∷ []) is_life
+      ∙ ap (λ w. codes "rule" ∷ prefix_text f.0 ∷ decimal f.1.low ∷ decimal f.1.high ∷ decimal (lifetime_number f.1.lifetime) ∷ w ∷ []) is_keep
+      )
+
+  body_spelled : (name : List ℕ) (more : List (List ℕ)) (b : Body A) → body_in name more ≡ Ok b → SpellsBody b (name ∷ more)
+  body_spelled name [] b e =
+      let f = form_only (bytes_eq name (codes "expire")) (Ok Expire) b e in
+      subst (λ (word : List ℕ). SpellsBody b (word ∷ [])) (sym (named name (codes "expire") f.0)) (subst (λ (c : Body A). SpellsBody c (codes "expire" ∷ [])) (ok_same Expire b f.1) refl)
+  body_spelled name (x ∷ []) b e = absurd (err_ok Syntax b e)
+  body_spelled name (x ∷ y ∷ []) b e = absurd (err_ok Syntax b e)
+  body_spelled name (x ∷ y ∷ p ∷ []) b e =
+      or_else (bytes_eq name (codes "mm")) (mm_body (result_ok (reading_identity x)) (area_in y) (result_ok (reading_bits p))) _ b
+      (λ is said. subst (λ (word : List ℕ). SpellsBody b (word ∷ x ∷ y ∷ p ∷ [])) (sym (named name (codes "mm") is)) (mm_spelled x y p b said))
+      (or_else (bytes_eq name (codes "sds")) (sds_body (result_ok (reading_identity x)) (result_ok (reading_identity y)) (result_ok (reading_bits p))) (Err Syntax) b
+      (λ is said. subst (λ (word : List ℕ). SpellsBody b (word ∷ x ∷ y ∷ p ∷ [])) (sym (named name (codes "sds") is)) (sds_spelled x y p b said))
+      (λ none. absurd (err_ok Syntax b none))) e
+  body_spelled name (d ∷ s ∷ r ∷ k ∷ []) b e =
+      or_else (bytes_eq name (codes "sent")) (saying Sent (key_in d s r k)) _ b (key_spelled Sent (codes "sent") name d s r k b (λ key. refl))
+      (or_else (bytes_eq name (codes "delete")) (saying Delete (key_in d s r k)) (Err Syntax) b (key_spelled Delete (codes "delete") name d s r k b (λ key. refl))
+      (λ none. absurd (err_ok Syntax b none))) e
+  body_spelled name (p ∷ low ∷ high ∷ life ∷ keep ∷ []) b e =
+      let f = form_only (bytes_eq name (codes "rule")) (rule_body (result_ok (reading_prefix p)) (rule_in low high life keep)) b e in
+      subst (λ (word : List ℕ). SpellsBody b (word ∷ p ∷ low ∷ high ∷ life ∷ keep ∷ [])) (sym (named name (codes "rule") f.0)) (rule_spelled p low high life keep b f.1)
+  body_spelled name (x ∷ y ∷ z ∷ u ∷ v ∷ w ∷ more) b e = absurd (err_ok Syntax b e)
+
+  -- ---- lines
+
+  -- what is no command, and what is no query
+  bad_order : (f : LineFault) (c : Command A) (e : (let l : Line A = Bad f in l) ≡ Order c) → ⊥
   bad_order f c e = cc
 
   ask_order : (q : Query) (c : Command A) (e : (let l : Line A = Ask q in l) ≡ Order c) → ⊥
@@ -81,119 +255,7 @@ module _ {A : Type 0} where
   silent_order : (c : Command A) (e : (let l : Line A = Silent in l) ≡ Order c) → ⊥
   silent_order c e = cc
 
-  form_order : (b : Bool) (l : Line A) (c : Command A) → (if b then l else Bad Syntax) ≡ Order c → (b ≡ true) × (l ≡ Order c)
-  form_order true l c e = (refl, e)
-  form_order false l c e = absurd (bad_order Syntax c e)
-
-  through_order : (long silent : Bool) (l : Line A) (c : Command A) → (if long then Bad TooLong else (if silent then Silent else l)) ≡ Order c → l ≡ Order c
-  through_order true silent l c e = absurd (bad_order TooLong c e)
-  through_order false true l c e = absurd (silent_order c e)
-  through_order false false l c e = e
-
-  -- what the words of a command are
-  abbrev pub IsSpelled : ℕ → Command A → List (List ℕ) → Type 0
-  IsSpelled station c words = (c.station ≡ station) × (0 < c.sequence) × ((body : List (List ℕ)) × SpellsBody c.body body × (words ≡ decimal c.sequence ∷ decimal c.moment ∷ body))
-
-  mm_only : (station : ℕ) (s m i a : Option ℕ) (p : Option (List Bool)) (c : Command A) → mm_order station s m i a p ≡ Order c →
-      (sequence : ℕ) × (moment : ℕ) × (itsi : ℕ) × (area : ℕ) × (pdu : List Bool)
-      × (s ≡ Some sequence) × (m ≡ Some moment) × (i ≡ Some itsi) × (a ≡ Some area) × (p ≡ Some pdu)
-      × ((let d : Command A = record { station = station; sequence = sequence; moment = moment; body = Mm itsi area pdu } in d) ≡ c)
-  mm_only station (Some s) (Some m) (Some i) (Some a) (Some p) c e = (s, m, i, a, p, refl, refl, refl, refl, refl, order_same _ c e)
-  mm_only station None m i a p c e = absurd (bad_order Value c e)
-  mm_only station (Some s) None i a p c e = absurd (bad_order Value c e)
-  mm_only station (Some s) (Some m) None a p c e = absurd (bad_order Value c e)
-  mm_only station (Some s) (Some m) (Some i) None p c e = absurd (bad_order Value c e)
-  mm_only station (Some s) (Some m) (Some i) (Some a) None c e = absurd (bad_order Value c e)
-
-  rule_only : (station : ℕ) (s m : Option ℕ) (p : Option Path) (r : Option Terms) (c : Command A) → rule_order station s m p r ≡ Order c →
-      (sequence : ℕ) × (moment : ℕ) × (prefix : Path) × (rule : Terms)
-      × (s ≡ Some sequence) × (m ≡ Some moment) × (p ≡ Some prefix) × (r ≡ Some rule)
-      × ((let d : Command A = record { station = station; sequence = sequence; moment = moment; body = RuleSet prefix rule } in d) ≡ c)
-  rule_only station (Some s) (Some m) (Some p) (Some r) c e = (s, m, p, r, refl, refl, refl, refl, order_same _ c e)
-  rule_only station None m p r c e = absurd (bad_order Value c e)
-  rule_only station (Some s) None p r c e = absurd (bad_order Value c e)
-  rule_only station (Some s) (Some m) None r c e = absurd (bad_order Value c e)
-  rule_only station (Some s) (Some m) (Some p) None c e = absurd (bad_order Value c e)
-
-  mm_spelled : (station : ℕ) (s m i a p : List ℕ) (c : Command A) →
-      mm_order station (sequence_in s) (seconds_in m) (result_ok (reading_identity i)) (area_in a) (result_ok (reading_bits p)) ≡ Order c → IsSpelled station c (s ∷ m ∷ codes "mm" ∷ i ∷ a ∷ p ∷ [])
-  mm_spelled station s m i a p c e =
-      let f = mm_only station (sequence_in s) (seconds_in m) (result_ok (reading_identity i)) (area_in a) (result_ok (reading_bits p)) c e in
-      let sequence = not_zero_only (seconds_in s) f.0 f.5 in
-      let is_s : s ≡ decimal f.0 = number_only 4294967295 f.0 s (omega arith) sequence.0 in
-      let is_m : m ≡ decimal f.1 = number_only 4294967295 f.1 m (omega arith) f.6 in
-      let is_i : i ≡ identity_text f.2 = (reading_identity_only f.2 i (ok_of (reading_identity i) f.2 f.7)).1 in
-      let is_a : a ≡ decimal f.3 = number_only 16383 f.3 a (omega arith) f.8 in
-      let spelt : SpellsBits p f.4 = (reading_bits_only f.4 p (ok_of (reading_bits p) f.4 f.9)).1 in
-      subst (λ (d : Command A). IsSpelled station d (s ∷ m ∷ codes "mm" ∷ i ∷ a ∷ p ∷ [])) f.10 (
-        refl,
-        sequence.1,
-        (
-          codes "mm" ∷ i ∷ a ∷ p ∷ [],
-          (p, spelt, ap (λ w. codes "mm" ∷ w ∷ a ∷ p ∷ []) is_i ∙ ap (λ w. codes "mm" ∷ identity_text f.2 ∷ w ∷ p ∷ []) is_a),
-          ap (λ w. w ∷ m ∷ codes "mm" ∷ i ∷ a ∷ p ∷ []) is_s ∙ ap (λ w. decimal f.0 ∷ w ∷ codes "mm" ∷ i ∷ a ∷ p ∷ []) is_m,
-        ),
-      )
-
-  rule_spelled : (station : ℕ) (s m p low high life keep : List ℕ) (c : Command A) →
-      rule_order station (sequence_in s) (seconds_in m) (result_ok (reading_prefix p)) (rule_in low high life keep) ≡ Order c → IsSpelled station c (s ∷ m ∷ codes "rule" ∷ p ∷ low ∷ high ∷ life ∷ keep ∷ [])
-  rule_spelled station s m p low high life keep c e =
-      let f = rule_only station (sequence_in s) (seconds_in m) (result_ok (reading_prefix p)) (rule_in low high life keep) c e in
-      let rule = rule_of_only (area_in low) (area_in high) (lifetime_in life) (seconds_in keep) f.3 f.7 in
-      let sequence = not_zero_only (seconds_in s) f.0 f.4 in
-      let is_s : s ≡ decimal f.0 = number_only 4294967295 f.0 s (omega arith) sequence.0 in
-      let is_m : m ≡ decimal f.1 = number_only 4294967295 f.1 m (omega arith) f.5 in
-      let is_p : p ≡ prefix_text f.2 = (reading_prefix_only f.2 p (ok_of (reading_prefix p) f.2 f.6)).1 in
-      let is_low : low ≡ decimal f.3.low = number_only 16383 f.3.low low (omega arith) rule.0 in
-      let is_high : high ≡ decimal f.3.high = number_only 16383 f.3.high high (omega arith) rule.1 in
-      let is_life : life ≡ decimal (lifetime_number f.3.lifetime) =
-      number_only 3 (lifetime_number f.3.lifetime) life (omega arith) (lifetime_found (result_ok (reading_number 3 life)) f.3.lifetime rule.2) in
-      let is_keep : keep ≡ decimal f.3.keep = number_only 4294967295 f.3.keep keep (omega arith) rule.3 in
-      subst (λ (d : Command A). IsSpelled station d (s ∷ m ∷ codes "rule" ∷ p ∷ low ∷ high ∷ life ∷ keep ∷ [])) f.8 (
-        refl,
-        sequence.1,
-        (
-          codes "rule" ∷ p ∷ low ∷ high ∷ life ∷ keep ∷ [],
-          ap (λ w. codes "rule" ∷ w ∷ low ∷ high ∷ life ∷ keep ∷ []) is_p
-              ∙ ap (λ w. codes "rule" ∷ prefix_text f.2 ∷ w ∷ high ∷ life ∷ keep ∷ []) is_low
-              ∙ ap (λ w. codes "rule" ∷ prefix_text f.2 ∷ decimal f.3.low ∷ w ∷ life ∷ keep ∷ []) is_high
-              ∙ ap (λ w. codes "rule" ∷ prefix_text f.2 ∷ decimal f.3.low ∷ decimal f.3.high ∷ w ∷ keep ∷ []) is_life
-              ∙ ap (λ w. codes "rule" ∷ prefix_text f.2 ∷ decimal f.3.low ∷ decimal f.3.high ∷ decimal (lifetime_number f.3.lifetime) ∷ w ∷ []) is_keep,
-          ap (λ w. w ∷ m ∷ codes "rule" ∷ p ∷ low ∷ high ∷ life ∷ keep ∷ []) is_s ∙ ap (λ w. decimal f.0 ∷ w ∷ codes "rule" ∷ p ∷ low ∷ high ∷ life ∷ keep ∷ []) is_m,
-        ),
-      )
-
-  where_no_order : (o : Option ℕ) (c : Command A) (e : where_query {A = A} o ≡ Order c) → ⊥
-  where_no_order (Some itsi) c e = ask_order (Whereabouts itsi) c e
-  where_no_order None c e = bad_order Value c e
-
-  words_spelled : (station : ℕ) (ws : List (List ℕ)) (c : Command A) → of_words station ws ≡ Order c → IsSpelled station c ws
-  words_spelled station [] c e = absurd (bad_order Syntax c e)
-  words_spelled station (name ∷ []) c e = absurd (ask_order Total c (form_order (bytes_eq name (codes "count")) (Ask Total) c e).1)
-  words_spelled station (name ∷ itsi ∷ []) c e = absurd (where_no_order (result_ok (reading_identity itsi)) c (form_order (bytes_eq name (codes "where")) (where_query (result_ok (reading_identity itsi))) c e).1)
-  words_spelled station (a ∷ b ∷ x ∷ []) c e = absurd (bad_order Syntax c e)
-  words_spelled station (a ∷ b ∷ x ∷ y ∷ []) c e = absurd (bad_order Syntax c e)
-  words_spelled station (a ∷ b ∷ x ∷ y ∷ z ∷ []) c e = absurd (bad_order Syntax c e)
-  words_spelled station (s ∷ m ∷ name ∷ i ∷ a ∷ p ∷ []) c e =
-      let f = form_order (bytes_eq name (codes "mm")) (mm_order station (sequence_in s) (seconds_in m) (result_ok (reading_identity i)) (area_in a) (result_ok (reading_bits p))) c e in
-      subst (λ (word : List ℕ). IsSpelled station c (s ∷ m ∷ word ∷ i ∷ a ∷ p ∷ [])) (sym (named name (codes "mm") f.0)) (mm_spelled station s m i a p c f.1)
-  words_spelled station (a ∷ b ∷ x ∷ y ∷ z ∷ u ∷ v ∷ []) c e = absurd (bad_order Syntax c e)
-  words_spelled station (s ∷ m ∷ name ∷ p ∷ low ∷ high ∷ life ∷ keep ∷ []) c e =
-      let f = form_order (bytes_eq name (codes "rule")) (rule_order station (sequence_in s) (seconds_in m) (result_ok (reading_prefix p)) (rule_in low high life keep)) c e in
-      subst (λ (word : List ℕ). IsSpelled station c (s ∷ m ∷ word ∷ p ∷ low ∷ high ∷ life ∷ keep ∷ [])) (sym (named name (codes "rule") f.0)) (rule_spelled station s m p low high life keep c f.1)
-  words_spelled station (a ∷ b ∷ x ∷ y ∷ z ∷ u ∷ v ∷ w ∷ k ∷ rest) c e = absurd (bad_order Syntax c e)
-
-  pub only_commands : OnlyCommands A
-  only_commands station line c e =
-      let f = words_spelled station (words line) c (through_order (nat_lt 1024 (length line)) (is_silent line) (of_words station (words line)) c e) in
-      (f.0, f.1, (f.2.0, f.2.1, sym (join_with_byte-slice_split 32 line) ∙ ap spaced f.2.2))
-
-  -- ---- queries
-
-  ask_same : (p q : Query) (e : (let l : Line A = Ask p in l) ≡ Ask q) → p ≡ q
-  ask_same p q e = cc
-
-  bad_ask : (f : _) (q : Query) (e : (let l : Line A = Bad f in l) ≡ Ask q) → ⊥
+  bad_ask : (f : LineFault) (q : Query) (e : (let l : Line A = Bad f in l) ≡ Ask q) → ⊥
   bad_ask f q e = cc
 
   order_ask : (c : Command A) (q : Query) (e : (let l : Line A = Order c in l) ≡ Ask q) → ⊥
@@ -202,55 +264,80 @@ module _ {A : Type 0} where
   silent_ask : (q : Query) (e : (let l : Line A = Silent in l) ≡ Ask q) → ⊥
   silent_ask q e = cc
 
-  form_ask : (b : Bool) (l : Line A) (q : Query) → (if b then l else Bad Syntax) ≡ Ask q → (b ≡ true) × (l ≡ Ask q)
-  form_ask true l q e = (refl, e)
-  form_ask false l q e = absurd (bad_ask Syntax q e)
+  order_same : (c d : Command A) (e : (let l : Line A = Order c in l) ≡ Order d) → c ≡ d
+  order_same c d e = cc
+
+  ask_same : (p q : Query) (e : (let l : Line A = Ask p in l) ≡ Ask q) → p ≡ q
+  ask_same p q e = cc
+
+  count_no_order : (b : Bool) (c : Command A) (e : (if b then (let l : Line A = Ask Total in l) else Bad Syntax) ≡ Order c) → ⊥
+  count_no_order true c e = ask_order Total c e
+  count_no_order false c e = bad_order Syntax c e
+
+  count_only : (b : Bool) (q : Query) (e : (if b then (let l : Line A = Ask Total in l) else Bad Syntax) ≡ Ask q) → (b ≡ true) × (Total ≡ q)
+  count_only true q e = (refl, ask_same Total q e)
+  count_only false q e = absurd (bad_ask Syntax q e)
+
+  ask_no_order : (r : Result Query LineFault) (c : Command A) (e : ask {A = A} r ≡ Order c) → ⊥
+  ask_no_order (Ok q) c e = ask_order q c e
+  ask_no_order (Err f) c e = bad_order f c e
+
+  ask_only : (r : Result Query LineFault) (q : Query) (e : ask {A = A} r ≡ Ask q) → r ≡ Ok q
+  ask_only (Ok p) q e = ap (λ (o : Query). let r : Result Query LineFault = Ok o in r) (ask_same p q e)
+  ask_only (Err f) q e = absurd (bad_ask f q e)
+
+  order_no_ask : (station : ℕ) (head : Option Head) (body : Result (Body A) LineFault) (q : Query) (e : order station head body ≡ Ask q) → ⊥
+  order_no_ask station head (Err f) q e = bad_ask f q e
+  order_no_ask station None (Ok body) q e = bad_ask Value q e
+  order_no_ask station (Some head) (Ok body) q e = order_ask _ q e
+
+  order_only : (station : ℕ) (head : Option Head) (body : Result (Body A) LineFault) (c : Command A) → order station head body ≡ Order c →
+      (h : Head) × (b : Body A) × (head ≡ Some h) × (body ≡ Ok b) × ((let d : Command A = record { station = station; sequence = h.sequence; moment = h.moment; body = b } in d) ≡ c)
+  order_only station head (Err f) c e = absurd (bad_order f c e)
+  order_only station None (Ok body) c e = absurd (bad_order Value c e)
+  order_only station (Some head) (Ok body) c e = (head, body, refl, refl, order_same _ c e)
+
+  -- what the words of a command are
+  abbrev pub IsSpelled : ℕ → Command A → List (List ℕ) → Type 0
+  IsSpelled station c words = (c.station ≡ station) × (0 < c.sequence) × ((body : List (List ℕ)) × SpellsBody c.body body × (words ≡ decimal c.sequence ∷ decimal c.moment ∷ body))
+
+  words_spelled : (station : ℕ) (ws : List (List ℕ)) (c : Command A) → of_words station ws ≡ Order c → IsSpelled station c ws
+  words_spelled station [] c e = absurd (bad_order Syntax c e)
+  words_spelled station (name ∷ []) c e = absurd (count_no_order (bytes_eq name (codes "count")) c e)
+  words_spelled station (name ∷ identity ∷ []) c e = absurd (ask_no_order (query_in name identity) c e)
+  words_spelled station (s ∷ m ∷ name ∷ more) c e =
+      let f = order_only station (head_in s m) (body_in name more) c e in
+      let head = head_spelled s m f.0 f.2 in
+      subst (λ (d : Command A). IsSpelled station d (s ∷ m ∷ name ∷ more)) f.4 (
+        refl,
+        head.0,
+        (
+          name ∷ more,
+          body_spelled name more f.1 f.3,
+          ap (λ w. w ∷ m ∷ name ∷ more) head.1 ∙ ap (λ w. decimal f.0.sequence ∷ w ∷ name ∷ more) head.2,
+        ),
+      )
+
+  words_asked : (station : ℕ) (ws : List (List ℕ)) (q : Query) → of_words {A = A} station ws ≡ Ask q → spaced ws ≡ query_text q
+  words_asked station [] q e = absurd (bad_ask Syntax q e)
+  words_asked station (name ∷ []) q e = let f = count_only (bytes_eq name (codes "count")) q e in named name (codes "count") f.0 ∙ ap query_text f.1
+  words_asked station (name ∷ identity ∷ []) q e = query_spelled name identity q (ask_only (query_in name identity) q e)
+  words_asked station (s ∷ m ∷ name ∷ more) q e = absurd (order_no_ask station (head_in s m) (body_in name more) q e)
+
+  through_order : (long silent : Bool) (l : Line A) (c : Command A) → (if long then Bad TooLong else (if silent then Silent else l)) ≡ Order c → l ≡ Order c
+  through_order true silent l c e = absurd (bad_order TooLong c e)
+  through_order false true l c e = absurd (silent_order c e)
+  through_order false false l c e = e
 
   through_ask : (long silent : Bool) (l : Line A) (q : Query) → (if long then Bad TooLong else (if silent then Silent else l)) ≡ Ask q → l ≡ Ask q
   through_ask true silent l q e = absurd (bad_ask TooLong q e)
   through_ask false true l q e = absurd (silent_ask q e)
   through_ask false false l q e = e
 
-  mm_no_ask : (station : ℕ) (s m i a : Option ℕ) (p : Option (List Bool)) (q : Query) → mm_order {A = A} station s m i a p ≡ Ask q → ⊥
-  mm_no_ask station (Some s) (Some m) (Some i) (Some a) (Some p) q e = order_ask _ q e
-  mm_no_ask station None m i a p q e = bad_ask Value q e
-  mm_no_ask station (Some s) None i a p q e = bad_ask Value q e
-  mm_no_ask station (Some s) (Some m) None a p q e = bad_ask Value q e
-  mm_no_ask station (Some s) (Some m) (Some i) None p q e = bad_ask Value q e
-  mm_no_ask station (Some s) (Some m) (Some i) (Some a) None q e = bad_ask Value q e
-
-  rule_no_ask : (station : ℕ) (s m : Option ℕ) (p : Option Path) (r : Option Terms) (q : Query) → rule_order {A = A} station s m p r ≡ Ask q → ⊥
-  rule_no_ask station (Some s) (Some m) (Some p) (Some r) q e = order_ask _ q e
-  rule_no_ask station None m p r q e = bad_ask Value q e
-  rule_no_ask station (Some s) None p r q e = bad_ask Value q e
-  rule_no_ask station (Some s) (Some m) None r q e = bad_ask Value q e
-  rule_no_ask station (Some s) (Some m) (Some p) None q e = bad_ask Value q e
-
-  where_only : (o : Option ℕ) (q : Query) → where_query {A = A} o ≡ Ask q → (itsi : ℕ) × (o ≡ Some itsi) × (Whereabouts itsi ≡ q)
-  where_only (Some itsi) q e = (itsi, refl, ask_same (Whereabouts itsi) q e)
-  where_only None q e = absurd (bad_ask Value q e)
-
-  words_asked : (station : ℕ) (ws : List (List ℕ)) (q : Query) → of_words {A = A} station ws ≡ Ask q → spaced ws ≡ query_text q
-  words_asked station [] q e = absurd (bad_ask Syntax q e)
-  words_asked station (name ∷ []) q e =
-      let f = form_ask (bytes_eq name (codes "count")) (Ask Total) q e in
-      named name (codes "count") f.0 ∙ ap query_text (ask_same Total q f.1)
-  words_asked station (name ∷ itsi ∷ []) q e =
-      let f = form_ask (bytes_eq name (codes "where")) (where_query (result_ok (reading_identity itsi))) q e in
-      let w = where_only (result_ok (reading_identity itsi)) q f.1 in
-      let is : itsi ≡ identity_text w.0 = (reading_identity_only w.0 itsi (ok_of (reading_identity itsi) w.0 w.1)).1 in
-      ap (λ x. spaced (x ∷ itsi ∷ [])) (named name (codes "where") f.0) ∙ ap (λ x. spaced (codes "where" ∷ x ∷ [])) is ∙ ap query_text w.2
-  words_asked station (a ∷ b ∷ x ∷ []) q e = absurd (bad_ask Syntax q e)
-  words_asked station (a ∷ b ∷ x ∷ y ∷ []) q e = absurd (bad_ask Syntax q e)
-  words_asked station (a ∷ b ∷ x ∷ y ∷ z ∷ []) q e = absurd (bad_ask Syntax q e)
-  words_asked station (s ∷ m ∷ name ∷ i ∷ a ∷ p ∷ []) q e =
-      let line = mm_order station (sequence_in s) (seconds_in m) (result_ok (reading_identity i)) (area_in a) (result_ok (reading_bits p)) in
-      absurd (mm_no_ask station (sequence_in s) (seconds_in m) (result_ok (reading_identity i)) (area_in a) (result_ok (reading_bits p)) q (form_ask (bytes_eq name (codes "mm")) line q e).1)
-  words_asked station (a ∷ b ∷ x ∷ y ∷ z ∷ u ∷ v ∷ []) q e = absurd (bad_ask Syntax q e)
-  words_asked station (s ∷ m ∷ name ∷ p ∷ low ∷ high ∷ life ∷ keep ∷ []) q e =
-      let line = rule_order station (sequence_in s) (seconds_in m) (result_ok (reading_prefix p)) (rule_in low high life keep) in
-      absurd (rule_no_ask station (sequence_in s) (seconds_in m) (result_ok (reading_prefix p)) (rule_in low high life keep) q (form_ask (bytes_eq name (codes "rule")) line q e).1)
-  words_asked station (a ∷ b ∷ x ∷ y ∷ z ∷ u ∷ v ∷ w ∷ k ∷ rest) q e = absurd (bad_ask Syntax q e)
+  pub only_commands : OnlyCommands A
+  only_commands station line c e =
+      let f = words_spelled station (words line) c (through_order (nat_lt 1024 (length line)) (is_silent line) (of_words station (words line)) c e) in
+      (f.0, f.1, (f.2.0, f.2.1, sym (join_with_byte-slice_split 32 line) ∙ ap spaced f.2.2))
 
   pub only_queries : OnlyQueries A
   only_queries station line q e =

@@ -1,5 +1,5 @@
 -- What spells a command or a query is taken for it.
-use Rattle.std.proofs.Common.{◌≡◌, ℕ, zero, suc, ◌-◌, ◌<◌, ◌≤◌, ◌^◌, Bool, true, false, List, [], ◌∷◌, ◌++◌, length, replicate, refl, sym, ◌∙◌, ap, subst, arith, Option, Some, nat_lt, nat_le}
+use Rattle.std.proofs.Common.{◌≡◌, ℕ, zero, suc, ◌-◌, ◌<◌, ◌≤◌, ◌^◌, Bool, true, false, List, [], ◌∷◌, ◌++◌, length, replicate, refl, sym, ◌∙◌, ap, subst, arith, Option, Some, Result, Ok, not, nat_lt, nat_le}
 use Rattle.std.specs.Prelude.{◌==◌, codes, decimal}
 use Rattle.std.specs.Char.{is_ascii_digit, is_ascii_hexdigit}
 use Rattle.std.specs.List.{list_all}
@@ -23,13 +23,20 @@ use Rattle.mm_pdus.specs.declared.lifetime.Lifetime.{Lifetime}
 use Rattle.mm_pdus.specs.declared.lifetime.Lifetime.TheVariants.{NotNeeded, NextItsiAttach, NotAllowedAtNextItsiAttach, NextLocationUpdate}
 use Rattle.mm_pdus.specs.Values.{lifetime_of, lifetime_number}
 use Rattle.registration.specs.Terms.{Terms}
+use Rattle.mailbox.specs.declared.key.Key.{Key}
+use Rattle.mailbox.specs.declared.key.Kind.{Kind}
+use Rattle.mailbox.specs.declared.key.Kind.TheVariants.{Message, Report}
 use Rattle.centre_core.specs.declared.command.Body.{Body}
-use Rattle.centre_core.specs.declared.command.Body.TheVariants.{RuleSet, Mm}
-use Rattle.centre_core.specs.declared.query.Query.TheVariants.{Whereabouts, Total}
+use Rattle.centre_core.specs.declared.command.Body.TheVariants.{RuleSet, Mm, Sds, Sent, Expire, Delete}
+use Rattle.centre_core.specs.declared.query.Query.{Query}
+use Rattle.centre_core.specs.declared.query.Query.TheVariants.{Whereabouts, GroupsOf, MembersOf, Waiting, Total}
+use Rattle.console.specs.declared.order.Head.{Head}
+use Rattle.console.specs.declared.line.LineFault.{LineFault}
 use Rattle.console.specs.declared.line.Line.{Line}
 use Rattle.console.specs.declared.line.Line.TheVariants.{Order, Ask}
-use Rattle.console.specs.Reading.{Lacks, words, of_words, reading, is_silent, seconds_in, not_zero, sequence_in, area_in, lifetime_in, rule_of, rule_in, rule_order, mm_order, where_query}
-use Rattle.console.specs.Spelling.{spaced, SpellsBody, query_text, BodyInRange, AllCommands, AllQueries}
+use Rattle.console.specs.Reading.{Lacks, words, of_words, reading, is_silent, seconds_in, not_zero, sequence_in, head_of, head_in, area_in, lifetime_in, rule_of, rule_in, reference_in, kind_in, key_of, key_in, rule_body, mm_body, sds_body, body_in, order, saying, query_in, ask}
+use Rattle.console.specs.Words.{kind_word}
+use Rattle.console.specs.Spelling.{spaced, key_words, SpellsBody, KeyInRange, BodyInRange, AllCommands, AllQueries}
 use Rattle.console.proofs.Lines.{is_space}
 
 -- ---- no space in a word
@@ -54,17 +61,11 @@ decimal_digits n small = all_of_number (decimal n) (number_of_decimal n small)
 decimal_lacks : (n : ℕ) → n < 2 ^ 64 → Lacks 32 (decimal n)
 decimal_lacks n small = digits_lack (decimal n) (decimal_digits n small)
 
-rule_lacks : Lacks 32 (codes "rule")
-rule_lacks = All-cons (λ b. (b == 32) ≡ false) 114 (codes "ule") refl (All-cons (λ b. (b == 32) ≡ false) 117 (codes "le") refl (All-cons (λ b. (b == 32) ≡ false) 108 (codes "e") refl (All-cons (λ b. (b == 32) ≡ false) 101 [] refl (All-nil (λ b. (b == 32) ≡ false)))))
-
-mm_lacks : Lacks 32 (codes "mm")
-mm_lacks = All-cons (λ b. (b == 32) ≡ false) 109 (codes "m") refl (All-cons (λ b. (b == 32) ≡ false) 109 [] refl (All-nil (λ b. (b == 32) ≡ false)))
-
-where_lacks : Lacks 32 (codes "where")
-where_lacks = All-cons (λ b. (b == 32) ≡ false) 119 (codes "here") refl (All-cons (λ b. (b == 32) ≡ false) 104 (codes "ere") refl (All-cons (λ b. (b == 32) ≡ false) 101 (codes "re") refl (All-cons (λ b. (b == 32) ≡ false) 114 (codes "e") refl (All-cons (λ b. (b == 32) ≡ false) 101 [] refl (All-nil (λ b. (b == 32) ≡ false))))))
-
-count_lacks : Lacks 32 (codes "count")
-count_lacks = All-cons (λ b. (b == 32) ≡ false) 99 (codes "ount") refl (All-cons (λ b. (b == 32) ≡ false) 111 (codes "unt") refl (All-cons (λ b. (b == 32) ≡ false) 117 (codes "nt") refl (All-cons (λ b. (b == 32) ≡ false) 110 (codes "t") refl (All-cons (λ b. (b == 32) ≡ false) 116 [] refl (All-nil (λ b. (b == 32) ≡ false))))))
+letters_lack : (text : List ℕ) → list_all (λ b. not (b == 32)) text ≡ true → Lacks 32 text
+letters_lack [] e = All-nil (λ b. (b == 32) ≡ false)
+letters_lack (c ∷ text) e =
+    let first : (c == 32) ≡ false = let other = and_left (not (c == 32)) (list_all (λ b. not (b == 32)) text) e in grind (arith, other) in
+    All-cons (λ b. (b == 32) ≡ false) c text first (letters_lack text (and_right (not (c == 32)) (list_all (λ b. not (b == 32)) text) e))
 
 -- two words around a mark
 marked_lack : (a b : List ℕ) (mark : ℕ) → (mark == 32) ≡ false → Lacks 32 a → Lacks 32 b → Lacks 32 (a ++ mark ∷ b)
@@ -137,6 +138,38 @@ rules_same : (rule : Terms) (low high : Option ℕ) (life : Option Lifetime) (ke
     low ≡ Some rule.low → high ≡ Some rule.high → life ≡ Some rule.lifetime → keep ≡ Some rule.keep → rule_of low high life keep ≡ Some rule
 rules_same rule low high life keep order e f g h = rw (e, f, g, h) (rule_again rule order)
 
+kind_again : (kind : Kind) → kind_in (kind_word kind) ≡ Some kind
+kind_again Message = refl
+kind_again Report = refl
+
+kind_lacks : (kind : Kind) → Lacks 32 (kind_word kind)
+kind_lacks Message = letters_lack (codes "m") refl
+kind_lacks Report = letters_lack (codes "r") refl
+
+reference_again : (n : ℕ) → n < 2 ^ 8 → reference_in (decimal n) ≡ Some n
+reference_again n small = ap result_ok (reading_number_again 255 n (omega (arith, small)) (omega arith))
+
+-- the key that the words of a key give
+abbrev pub key_words_in : Key → Option Key
+key_words_in key = key_in (identity_text key.destination) (identity_text key.source) (decimal key.reference) (kind_word key.kind)
+
+key_same : (key : Key) (d s r : Option ℕ) (k : Option Kind) → d ≡ Some key.destination → s ≡ Some key.source → r ≡ Some key.reference → k ≡ Some key.kind → key_of d s r k ≡ Some key
+key_same key d s r k ed es er ek = rw (ed, es, er, ek) refl
+
+key_again : (key : Key) → KeyInRange key → key_words_in key ≡ Some key
+key_again key range =
+    key_same key (result_ok (reading_identity (identity_text key.destination))) (result_ok (reading_identity (identity_text key.source))) (reference_in (decimal key.reference)) (kind_in (kind_word key.kind))
+    (ap result_ok (reading_identity_again key.destination range.0)) (ap result_ok (reading_identity_again key.source range.1)) (reference_again key.reference range.2) (kind_again key.kind)
+
+key_lacks : (key : Key) → KeyInRange key → AllLack (key_words key)
+key_lacks key range = (identity_lacks key.destination range.0, (identity_lacks key.source range.1, (decimal_lacks key.reference (omega (arith, range.2)), (kind_lacks key.kind, tt))))
+
+saying_again : {V S : Type 0} (says : V → S) (o : Option V) (v : V) → o ≡ Some v → saying says o ≡ Ok (says v)
+saying_again says o v e = rw e refl
+
+head_again : (s m : ℕ) (s' m' : Option ℕ) → s' ≡ Some s → m' ≡ Some m → head_of s' m' ≡ Some (record { sequence = s; moment = m })
+head_again s m s' m' es em = rw (es, em) refl
+
 -- ---- lines
 
 first_speaks : (ds rest : List ℕ) → list_all is_ascii_digit ds ≡ true → 0 < length ds → is_silent (ds ++ rest) ≡ false
@@ -147,29 +180,33 @@ module _ {A : Type 0} where
   passes : (station : ℕ) (line : List ℕ) (said : Line A) → length line ≤ 1024 → is_silent line ≡ false → of_words station (words line) ≡ said → reading station line ≡ said
   passes station line said short speaks is = let fits : nat_lt 1024 (length line) ≡ false = grind (arith, short) in rw (fits, speaks) is
 
-  mm_same : (station s m i a : ℕ) (p : List Bool) (s' m' i' a' : Option ℕ) (p' : Option (List Bool)) → s' ≡ Some s → m' ≡ Some m → i' ≡ Some i → a' ≡ Some a → p' ≡ Some p →
-      mm_order {A = A} station s' m' i' a' p' ≡ Order (record { station = station; sequence = s; moment = m; body = Mm i a p })
-  mm_same station s m i a p s' m' i' a' p' es em ei ea ep = rw (es, em, ei, ea, ep) refl
+  mm_same : (i a : ℕ) (p : List Bool) (i' a' : Option ℕ) (p' : Option (List Bool)) → i' ≡ Some i → a' ≡ Some a → p' ≡ Some p → mm_body {A = A} i' a' p' ≡ Ok (Mm i a p)
+  mm_same i a p i' a' p' ei ea ep = rw (ei, ea, ep) refl
 
-  rule_same : (station s m : ℕ) (p : Path) (r : Terms) (s' m' : Option ℕ) (p' : Option Path) (r' : Option Terms) → s' ≡ Some s → m' ≡ Some m → p' ≡ Some p → r' ≡ Some r →
-      rule_order {A = A} station s' m' p' r' ≡ Order (record { station = station; sequence = s; moment = m; body = RuleSet p r })
-  rule_same station s m p r s' m' p' r' es em ep er = rw (es, em, ep, er) refl
+  sds_same : (s d : ℕ) (p : List Bool) (s' d' : Option ℕ) (p' : Option (List Bool)) → s' ≡ Some s → d' ≡ Some d → p' ≡ Some p → sds_body {A = A} s' d' p' ≡ Ok (Sds s d p)
+  sds_same s d p s' d' p' es ed ep = rw (es, ed, ep) refl
 
-  abbrev pub IsTaken : ℕ → ℕ → ℕ → Body A → List (List ℕ) → Type 0
-  IsTaken station s m b body =
-      (of_words station (decimal s ∷ decimal m ∷ body) ≡ Order (record { station = station; sequence = s; moment = m; body = b })) × AllLack body
+  rule_same : (p : Path) (r : Terms) (p' : Option Path) (r' : Option Terms) → p' ≡ Some p → r' ≡ Some r → rule_body {A = A} p' r' ≡ Ok (RuleSet p r)
+  rule_same p r p' r' ep er = rw (ep, er) refl
 
-  body_taken : (station s m : ℕ) (b : Body A) (body : List (List ℕ)) → 0 < s → s < 2 ^ 32 → m < 2 ^ 32 → BodyInRange b → SpellsBody b body → IsTaken station s m b body
-  body_taken station s m (RuleSet prefix rule) body some small_s small_m range spelt =
+  -- the words give the body, and none has a space
+  abbrev pub IsTaken : Body A → List (List ℕ) → Type 0
+  IsTaken b words = (name : List ℕ) × (more : List (List ℕ)) × (words ≡ name ∷ more) × (body_in name more ≡ Ok b) × AllLack words
+
+  body_taken : (b : Body A) (body : List (List ℕ)) → BodyInRange b → SpellsBody b body → IsTaken b body
+  body_taken (RuleSet prefix rule) body range spelt =
       let high_low : rule.low < 2 ^ 14 = omega (arith, range.1, range.2) in
-      subst (λ (ws : List (List ℕ)). IsTaken station s m (RuleSet prefix rule) ws) (sym spelt) (
-        rule_same station s m prefix rule (sequence_in (decimal s)) (seconds_in (decimal m)) (result_ok (reading_prefix (prefix_text prefix)))
+      subst (λ (ws : List (List ℕ)). IsTaken (RuleSet prefix rule) ws) (sym spelt) (
+        codes "rule",
+        prefix_text prefix ∷ decimal rule.low ∷ decimal rule.high ∷ decimal (lifetime_number rule.lifetime) ∷ decimal rule.keep ∷ [],
+        refl,
+        rule_same prefix rule (result_ok (reading_prefix (prefix_text prefix)))
             (rule_in (decimal rule.low) (decimal rule.high) (decimal (lifetime_number rule.lifetime)) (decimal rule.keep))
-            (sequence_again s some small_s) (seconds_again m small_m) (ap result_ok (reading_prefix_again prefix range.0))
+            (ap result_ok (reading_prefix_again prefix range.0))
             (rules_same rule (area_in (decimal rule.low)) (area_in (decimal rule.high)) (lifetime_in (decimal (lifetime_number rule.lifetime))) (seconds_in (decimal rule.keep)) range.1
             (area_again rule.low high_low) (area_again rule.high range.2) (lifetime_again rule.lifetime) (seconds_again rule.keep range.3)),
         (
-          rule_lacks,
+          letters_lack (codes "rule") refl,
           (
             prefix_lacks prefix range.0,
             (
@@ -182,30 +219,67 @@ module _ {A : Type 0} where
           ),
         ),
       )
-  body_taken station s m (Mm itsi area pdu) body some small_s small_m range spelt =
-      subst (λ (ws : List (List ℕ)). IsTaken station s m (Mm itsi area pdu) ws) (sym spelt.2) (
-        mm_same station s m itsi area pdu (sequence_in (decimal s)) (seconds_in (decimal m)) (result_ok (reading_identity (identity_text itsi))) (area_in (decimal area)) (result_ok (reading_bits spelt.0))
-            (sequence_again s some small_s) (seconds_again m small_m) (ap result_ok (reading_identity_again itsi range.0)) (area_again area range.1) (ap result_ok (reading_bits_again pdu spelt.0 range.2 spelt.1)),
-        (mm_lacks, (identity_lacks itsi range.0, (decimal_lacks area (omega (arith, range.1)), (bits_lack spelt.0 pdu range.2 spelt.1, tt)))),
+  body_taken (Mm itsi area pdu) body range spelt =
+      subst (λ (ws : List (List ℕ)). IsTaken (Mm itsi area pdu) ws) (sym spelt.2) (
+        codes "mm",
+        identity_text itsi ∷ decimal area ∷ spelt.0 ∷ [],
+        refl,
+        mm_same itsi area pdu (result_ok (reading_identity (identity_text itsi))) (area_in (decimal area)) (result_ok (reading_bits spelt.0))
+            (ap result_ok (reading_identity_again itsi range.0)) (area_again area range.1) (ap result_ok (reading_bits_again pdu spelt.0 range.2 spelt.1)),
+        (letters_lack (codes "mm") refl, (identity_lacks itsi range.0, (decimal_lacks area (omega (arith, range.1)), (bits_lack spelt.0 pdu range.2 spelt.1, tt)))),
       )
+  body_taken (Sds source destination pdu) body range spelt =
+      subst (λ (ws : List (List ℕ)). IsTaken (Sds source destination pdu) ws) (sym spelt.2) (
+        codes "sds",
+        identity_text source ∷ identity_text destination ∷ spelt.0 ∷ [],
+        refl,
+        sds_same source destination pdu (result_ok (reading_identity (identity_text source))) (result_ok (reading_identity (identity_text destination))) (result_ok (reading_bits spelt.0))
+            (ap result_ok (reading_identity_again source range.0)) (ap result_ok (reading_identity_again destination range.1)) (ap result_ok (reading_bits_again pdu spelt.0 range.2 spelt.1)),
+        (letters_lack (codes "sds") refl, (identity_lacks source range.0, (identity_lacks destination range.1, (bits_lack spelt.0 pdu range.2 spelt.1, tt)))),
+      )
+  body_taken (Sent key) body range spelt =
+      subst (λ (ws : List (List ℕ)). IsTaken (Sent key) ws) (sym spelt)
+      (codes "sent", key_words key, refl, saying_again Sent (key_words_in key) key (key_again key range), (letters_lack (codes "sent") refl, key_lacks key range))
+  body_taken Expire body range spelt =
+      subst (λ (ws : List (List ℕ)). IsTaken Expire ws) (sym spelt) (codes "expire", [], refl, refl, (letters_lack (codes "expire") refl, tt))
+  body_taken (Delete key) body range spelt =
+      subst (λ (ws : List (List ℕ)). IsTaken (Delete key) ws) (sym spelt)
+      (codes "delete", key_words key, refl, saying_again Delete (key_words_in key) key (key_again key range), (letters_lack (codes "delete") refl, key_lacks key range))
+
+  order_again : (station s m : ℕ) (b : Body A) (head : Option Head) (body : Result (Body A) LineFault) → head ≡ Some (record { sequence = s; moment = m }) → body ≡ Ok b →
+      order station head body ≡ Order (record { station = station; sequence = s; moment = m; body = b })
+  order_again station s m b head body is_head is_body = rw (is_head, is_body) refl
 
   pub all_commands : AllCommands A
   all_commands line c range spelt short =
       let s = c.sequence in let m = c.moment in let body = spelt.0 in
       let small_s : s < 2 ^ 64 = omega (arith, range.1) in
       let small_m : m < 2 ^ 64 = omega (arith, range.2) in
-      let taken = body_taken c.station s m c.body body range.0 range.1 range.2 range.3 spelt.1 in
-      let split : words line ≡ decimal s ∷ decimal m ∷ body = ap words spelt.2 ∙ words_back (decimal s) (decimal m ∷ body) (decimal_lacks s small_s, (decimal_lacks m small_m, taken.1)) in
+      let taken = body_taken c.body body range.3 spelt.1 in
+      let split : words line ≡ decimal s ∷ decimal m ∷ body = ap words spelt.2 ∙ words_back (decimal s) (decimal m ∷ body) (decimal_lacks s small_s, (decimal_lacks m small_m, taken.4)) in
       let speaks : is_silent line ≡ false = ap is_silent spelt.2 ∙ first_speaks (decimal s) (32 ∷ spaced (decimal m ∷ body)) (decimal_digits s small_s) (decimal_nonempty s small_s) in
-      passes c.station line (Order c) short speaks (ap (λ ws. of_words c.station ws) split ∙ taken.0)
+      passes c.station line (Order c) short speaks (
+      ap (λ ws. of_words c.station ws) (split ∙ ap (λ ws. decimal s ∷ decimal m ∷ ws) taken.2)
+      ∙ order_again c.station s m c.body (head_in (decimal s) (decimal m)) (body_in taken.0 taken.1)
+      (head_again s m (sequence_in (decimal s)) (seconds_in (decimal m)) (sequence_again s range.0 range.1) (seconds_again m range.2)) taken.3
+      )
 
-  asked : (station : ℕ) (o : Option ℕ) (itsi : ℕ) → o ≡ Some itsi → where_query {A = A} o ≡ Ask (Whereabouts itsi)
-  asked station o itsi e = rw e refl
+  -- a query about an identity is taken for itself, where its keyword and an identity are
+  about_again : (about : ℕ → Query) (station : ℕ) (keyword : List ℕ) (n : ℕ) → n < 2 ^ 48 → list_all (λ b. not (b == 32)) keyword ≡ true →
+      ((word : List ℕ) → query_in keyword word ≡ saying about (result_ok (reading_identity word))) →
+      is_silent (spaced (keyword ∷ identity_text n ∷ [])) ≡ false → length (spaced (keyword ∷ identity_text n ∷ [])) ≤ 1024 →
+      reading {A = A} station (spaced (keyword ∷ identity_text n ∷ [])) ≡ Ask (about n)
+  about_again about station keyword n small letters named speaks short =
+      passes station (spaced (keyword ∷ identity_text n ∷ [])) (Ask (about n)) short speaks (
+      ap (λ ws. of_words station ws) (words_back keyword (identity_text n ∷ []) (letters_lack keyword letters, (identity_lacks n small, tt)))
+      ∙ ap (λ r. ask r) (named (identity_text n))
+      ∙ ap (λ r. ask r) (saying_again about (result_ok (reading_identity (identity_text n))) n (ap result_ok (reading_identity_again n small)))
+      )
 
   pub all_queries : AllQueries A
-  all_queries station (Whereabouts itsi) small short =
-      passes station (query_text (Whereabouts itsi)) (Ask (Whereabouts itsi)) short refl
-      (ap (λ ws. of_words station ws) (words_back (codes "where") (identity_text itsi ∷ []) (where_lacks, (identity_lacks itsi small, tt)))
-      ∙ asked station (result_ok (reading_identity (identity_text itsi))) itsi (ap result_ok (reading_identity_again itsi small)))
+  all_queries station (Whereabouts itsi) small short = about_again Whereabouts station (codes "where") itsi small refl (λ word. refl) refl short
+  all_queries station (GroupsOf itsi) small short = about_again GroupsOf station (codes "groups") itsi small refl (λ word. refl) refl short
+  all_queries station (MembersOf gtsi) small short = about_again MembersOf station (codes "members") gtsi small refl (λ word. refl) refl short
+  all_queries station (Waiting itsi) small short = about_again Waiting station (codes "mail") itsi small refl (λ word. refl) refl short
   all_queries station Total small short =
-      passes station (codes "count") (Ask Total) short refl (ap (λ ws. of_words station ws) (words_back (codes "count") [] (count_lacks, tt)))
+      passes station (codes "count") (Ask Total) short refl (ap (λ ws. of_words station ws) (words_back (codes "count") [] (letters_lack (codes "count") refl, tt)))

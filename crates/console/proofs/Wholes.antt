@@ -8,6 +8,7 @@ use Rattle.centre_core.specs.Step.{step}
 use Rattle.centre_core.specs.Tell.{tell}
 use Rattle.centre_core.specs.declared.command.Command.{Command}
 use Rattle.centre_core.specs.declared.query.Query.{Query}
+use Rattle.centre_core.specs.declared.query.Told.{Told}
 use Rattle.centre_core.specs.declared.reply.Reply.{Reply}
 use Rattle.console.specs.declared.line.Line.{Line}
 use Rattle.console.specs.declared.line.Line.TheVariants.{Silent, Bad, Order, Ask}
@@ -95,7 +96,7 @@ module _ {A : Type 0} where
   one_order s c (answer.Untold n w) b t u f h calm still = absurd f
 
   one_query : (n : ℕ) (s : State) (q : Query) (a b : Answer A) (t u : State) → AnswersQuery of_register n s q a t → AnswersQuery of_register n s q b u → is_service a ≡ false → is_service b ≡ false → Same a b t u
-  one_query n s q (answer.Told x) (answer.Told y) t u f h calm still = (ap (λ told. answer.Told told) (f.1 ∙ sym h.1), f.0 ∙ sym h.0)
+  one_query n s q (answer.Told x) (answer.Told y) t u f h calm still = (ap (λ (told : Told A). answer.Told told) (f.1 ∙ sym h.1), f.0 ∙ sym h.0)
   one_query n s q (answer.Told x) (answer.Untold m w) t u f h calm still = absurd (true≢false still)
   one_query n s q (answer.Told x) answer.Quiet t u f h calm still = absurd h
   one_query n s q (answer.Told x) (answer.Bad m e) t u f h calm still = absurd h

@@ -1,8 +1,12 @@
 -- How an answer is written. B is the allocator that the bits in it lie under: nothing depends on it.
-use Rattle.std.specs.Prelude.{ℕ, Bool, true, false, List, [], ◌++◌, Option, Some, None, codes, decimal}
+use Rattle.std.specs.Prelude.{ℕ, Bool, true, false, List, [], ◌++◌, length, Option, Some, None, codes, decimal}
 use Rattle.std.specs.List.{flat_map}
 use Rattle.identity.specs.IdentityText.{identity_text}
 use Rattle.identity.specs.BitsText.{bits_text}
+use Rattle.mm_pdus.specs.Values.{lifetime_number}
+use Rattle.group_attach.specs.declared.attachment.Attachment.{Attachment}
+use Rattle.mailbox.specs.declared.key.Key.{Key}
+use Rattle.mailbox.specs.Values.{Waiting}
 use Rattle.registration.specs.declared.radio.Radio.{Radio}
 use Rattle.centre_core.specs.declared.reply.Reply.{Reply}
 use Rattle.centre_core.specs.declared.reply.Reply.TheVariants as reply
@@ -12,7 +16,7 @@ use Rattle.centre_core.specs.declared.query.Told.{Told}
 use Rattle.centre_core.specs.declared.query.Told.TheVariants as told
 use Rattle.console.specs.declared.answer.Answer.{Answer}
 use Rattle.console.specs.declared.answer.Answer.TheVariants as answer
-use Rattle.console.specs.Words.{line_word, service_word, mm_word, registration_word}
+use Rattle.console.specs.Words.{line_word, service_word, mm_word, registration_word, group_word, sds_word, mail_word, kind_word}
 
 -- the PDU for the radio, if there is one
 abbrev pub pdu_text : Option (List Bool) → List ℕ
@@ -28,9 +32,23 @@ whereabouts_text None = codes "unknown"
 whereabouts_text (Some radio) = codes "station " ++ decimal radio.station ++ codes " la " ++ decimal radio.area
     ++ presence_text radio.present
 
-abbrev pub told_text : Told → List ℕ
-told_text (told.Whereabouts itsi radio) = codes "where " ++ identity_text itsi ++ codes " " ++ whereabouts_text radio
-told_text (told.Total count) = codes "count " ++ decimal count
+-- a group that a radio is attached to, and a radio that is attached to a group
+abbrev pub group_text : Attachment → List ℕ
+group_text a = codes "group " ++ identity_text a.gtsi ++ codes " " ++ decimal a.class ++ codes " " ++ decimal (lifetime_number a.lifetime) ++ codes "\n"
+
+abbrev pub member_text : Attachment → List ℕ
+member_text a = codes "member " ++ identity_text a.itsi ++ codes " " ++ decimal a.class ++ codes "\n"
+
+-- what waits for a radio: a message or a report, from whom, and about which message
+abbrev pub key_text : Key → List ℕ
+key_text key = kind_word key.kind ++ codes " " ++ identity_text key.source ++ codes " " ++ decimal key.reference
+
+abbrev pub item_text : Waiting → List ℕ
+item_text i = codes "item " ++ decimal i.number ++ codes " " ++ key_text i.key ++ codes " " ++ decimal i.deadline ++ codes " " ++ bits_text i.pdu ++ codes "\n"
+
+-- a list is announced by how many lines follow
+abbrev pub list_text : {T : Type 0} → (T → List ℕ) → List T → List ℕ
+list_text line list = decimal (length list) ++ codes "\n" ++ flat_map line list
 
 module _ {B : Type 0} where
   abbrev pub refusal_text : Refusal B → List ℕ
@@ -39,6 +57,9 @@ module _ {B : Type 0} where
   refusal_text refusal.NumbersUsedUp = codes "numbers-used-up"
   refusal_text (refusal.Pdu fault) = mm_word fault
   refusal_text (refusal.Registration fault) = registration_word fault
+  refusal_text (refusal.Groups fault) = group_word fault
+  refusal_text (refusal.ShortData fault) = sds_word fault
+  refusal_text (refusal.Mail fault) = mail_word fault
   refusal_text (refusal.Location fault reject) = registration_word fault ++ codes " " ++ bits_text reject
 
   abbrev pub reply_text : Reply B → List ℕ
@@ -46,13 +67,20 @@ module _ {B : Type 0} where
   reply_text (reply.Kept number pdu) = codes " kept " ++ decimal number ++ codes " " ++ pdu_text pdu
   reply_text (reply.Refused refusal) = codes " no " ++ refusal_text refusal
 
-  -- the line that answers, with its end
+  abbrev pub told_text : Told B → List ℕ
+  told_text (told.Whereabouts itsi radio) = codes "where " ++ identity_text itsi ++ codes " " ++ whereabouts_text radio ++ codes "\n"
+  told_text (told.Groups itsi groups) = codes "groups " ++ identity_text itsi ++ codes " " ++ list_text group_text groups
+  told_text (told.Members gtsi members) = codes "members " ++ identity_text gtsi ++ codes " " ++ list_text member_text members
+  told_text (told.Waiting itsi items) = codes "mail " ++ identity_text itsi ++ codes " " ++ list_text item_text items
+  told_text (told.Total count) = codes "count " ++ decimal count ++ codes "\n"
+
+  -- the lines that answer, each with its end
   abbrev pub text : Answer B → List ℕ
   text answer.Quiet = []
   text (answer.Bad line fault) = codes "line " ++ decimal line ++ codes " bad " ++ line_word fault ++ codes "\n"
   text (answer.Replied sequence reply) = decimal sequence ++ reply_text reply ++ codes "\n"
   text (answer.Unserved sequence word) = decimal sequence ++ codes " no " ++ service_word word ++ codes "\n"
-  text (answer.Told told) = told_text told ++ codes "\n"
+  text (answer.Told told) = told_text told
   text (answer.Untold line word) = codes "line " ++ decimal line ++ codes " no " ++ service_word word ++ codes "\n"
 
   abbrev pub texts : List (Answer B) → List ℕ

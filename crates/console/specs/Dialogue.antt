@@ -22,14 +22,14 @@ use Rattle.console.specs.Answer.{texts, is_trouble, is_service}
 -- what a kind of desk, which stands for values of W, may do at a command and at a query
 pub record Rules (W : Type 0) : Type 1 where
   pub applies : {A B : Type 0} → W → Command A → Result (Reply B) Service → W → Type 0
-  pub tells : W → Query → Result Told Service → W → Type 0
+  pub tells : {B : Type 0} → W → Query → Result (Told B) Service → W → Type 0
 
 -- the register does a command as step says, or for want of memory does nothing
 abbrev pub Applies : {A B : Type 0} → State → Command A → Result (Reply B) Service → State → Type 0
 Applies s c (Ok reply) t = (t, reply) ≡ step s c
 Applies s c (Err word) t = t ≡ s
 
-abbrev pub Tells : State → Query → Result Told Service → State → Type 0
+abbrev pub Tells : {B : Type 0} → State → Query → Result (Told B) Service → State → Type 0
 Tells s q (Ok told) t = (t ≡ s) × (told ≡ tell s q)
 Tells s q (Err word) t = t ≡ s
 
@@ -49,7 +49,7 @@ module _ {A W : Type 0} where
 
   abbrev pub AnswersQuery : Rules W → ℕ → W → Query → Answer A → W → Type 0
   AnswersQuery rules n s q (answer.Told told) t = rules.tells s q (Ok told) t
-  AnswersQuery rules n s q (answer.Untold number word) t = (number ≡ n) × rules.tells s q (Err word) t
+  AnswersQuery rules n s q (answer.Untold number word) t = (number ≡ n) × rules.tells {B = A} s q (Err word) t
   AnswersQuery rules n s q other t = ⊥
 
   -- the answer to what the line numbered n says, and what the desk stands for after it

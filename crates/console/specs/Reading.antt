@@ -1,5 +1,5 @@
 -- What a line says. A is the allocator that the bits in it lie under: nothing depends on it.
-use Rattle.std.specs.Prelude.{◌≡◌, All, false, ℕ, zero, suc, Bool, true, List, [], ◌∷◌, length, Option, Some, None, nat_lt, nat_le, ◌==◌, if◌then◌else◌, codes}
+use Rattle.std.specs.Prelude.{◌≡◌, All, false, ℕ, zero, suc, Bool, true, List, [], ◌∷◌, length, Option, Some, None, Result, Ok, Err, nat_lt, nat_le, ◌==◌, if◌then◌else◌, codes}
 use Rattle.std.specs.List.{slice_split}
 use Rattle.std.specs.Option.{option_and_then}
 use Rattle.std.specs.Result.{result_ok}
@@ -11,9 +11,15 @@ use Rattle.identity.specs.BitsText.{reading_bits}
 use Rattle.mm_pdus.specs.declared.lifetime.Lifetime.{Lifetime}
 use Rattle.mm_pdus.specs.Values.{lifetime_of}
 use Rattle.registration.specs.Terms.{Terms}
+use Rattle.mailbox.specs.declared.key.Key.{Key}
+use Rattle.mailbox.specs.declared.key.Kind.{Kind}
+use Rattle.mailbox.specs.declared.key.Kind.TheVariants.{Message, Report}
 use Rattle.centre_core.specs.declared.command.Body.{Body}
-use Rattle.centre_core.specs.declared.command.Body.TheVariants.{RuleSet, Mm}
-use Rattle.centre_core.specs.declared.query.Query.TheVariants.{Whereabouts, Total}
+use Rattle.centre_core.specs.declared.command.Body.TheVariants.{RuleSet, Mm, Sds, Sent, Expire, Delete}
+use Rattle.centre_core.specs.declared.query.Query.{Query}
+use Rattle.centre_core.specs.declared.query.Query.TheVariants.{Whereabouts, GroupsOf, MembersOf, Waiting, Total}
+use Rattle.console.specs.declared.order.Head.{Head}
+use Rattle.console.specs.declared.line.LineFault.{LineFault}
 use Rattle.console.specs.declared.line.LineFault.TheVariants.{Syntax, Value, TooLong}
 use Rattle.console.specs.declared.line.Line.{Line}
 use Rattle.console.specs.declared.line.Line.TheVariants.{Silent, Bad, Order, Ask}
@@ -43,6 +49,14 @@ not_zero (suc n) = Some (suc n)
 abbrev pub sequence_in : List ℕ → Option ℕ
 sequence_in word = option_and_then not_zero (seconds_in word)
 
+abbrev pub head_of : Option ℕ → Option ℕ → Option Head
+head_of (Some sequence) (Some moment) = Some (record { sequence = sequence; moment = moment })
+head_of sequence moment = None
+
+-- SEQ MOMENT, which stand before the body of a command
+abbrev pub head_in : List ℕ → List ℕ → Option Head
+head_in sequence moment = head_of (sequence_in sequence) (seconds_in moment)
+
 -- a location area: 0 to 16,383
 abbrev pub area_in : List ℕ → Option ℕ
 area_in word = result_ok (reading_number 16383 word)
@@ -59,35 +73,78 @@ rule_of low high lifetime keep = None
 abbrev pub rule_in : List ℕ → List ℕ → List ℕ → List ℕ → Option Terms
 rule_in low high lifetime keep = rule_of (area_in low) (area_in high) (lifetime_in lifetime) (seconds_in keep)
 
+-- a message reference: 0 to 255
+abbrev pub reference_in : List ℕ → Option ℕ
+reference_in word = result_ok (reading_number 255 word)
+
+-- a message or a report
+abbrev pub kind_in : List ℕ → Option Kind
+kind_in word = if bytes_eq word (codes "m") then Some Message else (if bytes_eq word (codes "r") then Some Report else None)
+
+abbrev pub key_of : Option ℕ → Option ℕ → Option ℕ → Option Kind → Option Key
+key_of (Some destination) (Some source) (Some reference) (Some kind) = Some (record { destination = destination; source = source; reference = reference; kind = kind })
+key_of destination source reference kind = None
+
+-- DEST SOURCE REF KIND
+abbrev pub key_in : List ℕ → List ℕ → List ℕ → List ℕ → Option Key
+key_in destination source reference kind = key_of (result_ok (reading_identity destination)) (result_ok (reading_identity source)) (reference_in reference) (kind_in kind)
+
+-- what is said of a value that is in range
+abbrev pub saying : {V S : Type 0} → (V → S) → Option V → Result S LineFault
+saying says (Some value) = Ok (says value)
+saying says None = Err Value
+
+-- name ID: a query about an identity
+abbrev pub query_in : List ℕ → List ℕ → Result Query LineFault
+query_in name identity = if bytes_eq name (codes "where") then saying Whereabouts (result_ok (reading_identity identity))
+    else (if bytes_eq name (codes "groups") then saying GroupsOf (result_ok (reading_identity identity))
+    else (if bytes_eq name (codes "members") then saying MembersOf (result_ok (reading_identity identity))
+    else (if bytes_eq name (codes "mail") then saying Waiting (result_ok (reading_identity identity)) else Err Syntax)))
+
 module _ {A : Type 0} where
-  -- SEQ MOMENT rule PREFIX LOW HIGH LIFE KEEP
-  abbrev pub rule_order : ℕ → Option ℕ → Option ℕ → Option Path → Option Terms → Line A
-  rule_order station (Some sequence) (Some moment) (Some prefix) (Some rule) =
-      Order (record { station = station; sequence = sequence; moment = moment; body = RuleSet prefix rule })
-  rule_order station sequence moment prefix rule = Bad Value
+  -- rule PREFIX LOW HIGH LIFE KEEP
+  abbrev pub rule_body : Option Path → Option Terms → Result (Body A) LineFault
+  rule_body (Some prefix) (Some rule) = Ok (RuleSet prefix rule)
+  rule_body prefix rule = Err Value
 
-  -- SEQ MOMENT mm ITSI LA PDU
-  abbrev pub mm_order : ℕ → Option ℕ → Option ℕ → Option ℕ → Option ℕ → Option (List Bool) → Line A
-  mm_order station (Some sequence) (Some moment) (Some itsi) (Some area) (Some pdu) =
-      Order (record { station = station; sequence = sequence; moment = moment; body = Mm itsi area pdu })
-  mm_order station sequence moment itsi area pdu = Bad Value
+  -- mm ITSI LA PDU
+  abbrev pub mm_body : Option ℕ → Option ℕ → Option (List Bool) → Result (Body A) LineFault
+  mm_body (Some itsi) (Some area) (Some pdu) = Ok (Mm itsi area pdu)
+  mm_body itsi area pdu = Err Value
 
-  -- where ITSI
-  abbrev pub where_query : Option ℕ → Line A
-  where_query (Some itsi) = Ask (Whereabouts itsi)
-  where_query None = Bad Value
+  -- sds SOURCE DEST PDU
+  abbrev pub sds_body : Option ℕ → Option ℕ → Option (List Bool) → Result (Body A) LineFault
+  sds_body (Some source) (Some destination) (Some pdu) = Ok (Sds source destination pdu)
+  sds_body source destination pdu = Err Value
 
-  -- by the number of the words and the one that names the form; each of the other words is judged after that
+  -- by the word that names the form and the number of words behind it; each of these is judged after that
+  abbrev pub body_in : List ℕ → List (List ℕ) → Result (Body A) LineFault
+  body_in name [] = if bytes_eq name (codes "expire") then Ok Expire else Err Syntax
+  body_in name (first ∷ second ∷ pdu ∷ []) = if bytes_eq name (codes "mm")
+      then mm_body (result_ok (reading_identity first)) (area_in second) (result_ok (reading_bits pdu))
+      else (if bytes_eq name (codes "sds")
+      then sds_body (result_ok (reading_identity first)) (result_ok (reading_identity second)) (result_ok (reading_bits pdu)) else Err Syntax)
+  body_in name (destination ∷ source ∷ reference ∷ kind ∷ []) = if bytes_eq name (codes "sent") then saying Sent (key_in destination source reference kind)
+      else (if bytes_eq name (codes "delete") then saying Delete (key_in destination source reference kind) else Err Syntax)
+  body_in name (prefix ∷ low ∷ high ∷ lifetime ∷ keep ∷ []) = if bytes_eq name (codes "rule")
+      then rule_body (result_ok (reading_prefix prefix)) (rule_in low high lifetime keep) else Err Syntax
+  body_in name other = Err Syntax
+
+  abbrev pub order : ℕ → Option Head → Result (Body A) LineFault → Line A
+  order station head (Err fault) = Bad fault
+  order station None (Ok body) = Bad Value
+  order station (Some head) (Ok body) = Order (record { station = station; sequence = head.sequence; moment = head.moment; body = body })
+
+  abbrev pub ask : Result Query LineFault → Line A
+  ask (Ok query) = Ask query
+  ask (Err fault) = Bad fault
+
+  -- one or two words are a query, more are a command
   abbrev pub of_words : ℕ → List (List ℕ) → Line A
+  of_words station [] = Bad Syntax
   of_words station (name ∷ []) = if bytes_eq name (codes "count") then Ask Total else Bad Syntax
-  of_words station (name ∷ itsi ∷ []) = if bytes_eq name (codes "where") then where_query (result_ok (reading_identity itsi)) else Bad Syntax
-  of_words station (sequence ∷ moment ∷ name ∷ itsi ∷ area ∷ pdu ∷ []) = if bytes_eq name (codes "mm")
-      then mm_order station (sequence_in sequence) (seconds_in moment) (result_ok (reading_identity itsi)) (area_in area) (result_ok (reading_bits pdu))
-      else Bad Syntax
-  of_words station (sequence ∷ moment ∷ name ∷ prefix ∷ low ∷ high ∷ lifetime ∷ keep ∷ []) = if bytes_eq name (codes "rule")
-      then rule_order station (sequence_in sequence) (seconds_in moment) (result_ok (reading_prefix prefix)) (rule_in low high lifetime keep)
-      else Bad Syntax
-  of_words station other = Bad Syntax
+  of_words station (name ∷ identity ∷ []) = ask (query_in name identity)
+  of_words station (sequence ∷ moment ∷ name ∷ more) = order station (head_in sequence moment) (body_in name more)
 
 -- empty, or a comment
 abbrev pub is_silent : List ℕ → Bool
@@ -100,10 +157,24 @@ module _ {A : Type 0} where
   reading station line = if nat_lt 1024 (length line) then Bad TooLong
       else (if is_silent line then Silent else of_words station (words line))
 
+  -- the body has a PDU
+  abbrev pub HasPdu : Result (Body A) LineFault → Type 0
+  HasPdu (Ok (RuleSet prefix rule)) = ⊥
+  HasPdu (Ok (Mm itsi area pdu)) = Unit {0}
+  HasPdu (Ok (Sds source destination pdu)) = Unit {0}
+  HasPdu (Ok (Sent key)) = ⊥
+  HasPdu (Ok Expire) = ⊥
+  HasPdu (Ok (Delete key)) = ⊥
+  HasPdu (Err fault) = ⊥
+
   -- the sequence of a command, where a PDU comes with it
   abbrev pub with_pdu : ℕ → Body A → Option ℕ
   with_pdu sequence (RuleSet prefix rule) = None
   with_pdu sequence (Mm itsi area pdu) = Some sequence
+  with_pdu sequence (Sds source destination pdu) = Some sequence
+  with_pdu sequence (Sent key) = None
+  with_pdu sequence Expire = None
+  with_pdu sequence (Delete key) = None
 
   abbrev pub sequence_of : Line A → Option ℕ
   sequence_of (Order c) = with_pdu c.sequence c.body

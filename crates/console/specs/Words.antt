@@ -4,6 +4,14 @@ use Rattle.mm_pdus.specs.declared.fault.MmFault.{MmFault}
 use Rattle.mm_pdus.specs.declared.fault.MmFault.TheVariants as mm
 use Rattle.registration.specs.declared.fault.RegFault.{RegFault}
 use Rattle.registration.specs.declared.fault.RegFault.TheVariants as reg
+use Rattle.group_attach.specs.declared.fault.GroupFault.{GroupFault}
+use Rattle.group_attach.specs.declared.fault.GroupFault.TheVariants as group
+use Rattle.sds_tl.specs.declared.fault.SdsFault.{SdsFault}
+use Rattle.sds_tl.specs.declared.fault.SdsFault.TheVariants as sds
+use Rattle.mailbox.specs.declared.fault.MailFault.{MailFault}
+use Rattle.mailbox.specs.declared.fault.MailFault.TheVariants as mail
+use Rattle.mailbox.specs.declared.key.Kind.{Kind}
+use Rattle.mailbox.specs.declared.key.Kind.TheVariants as kind
 use Rattle.console.specs.declared.desk.Service.{Service}
 use Rattle.console.specs.declared.desk.Service.TheVariants as service
 use Rattle.console.specs.declared.line.LineFault.{LineFault}
@@ -19,7 +27,7 @@ line_word line.TooLong = codes "too-long"
 abbrev pub service_word : Service → List ℕ
 service_word service.Memory = codes "memory"
 
--- a PDU that is none
+-- a mobility management PDU that is none
 abbrev pub mm_word : MmFault → List ℕ
 mm_word mm.Short = codes "mm-short"
 mm_word mm.Trailing = codes "mm-trailing"
@@ -39,3 +47,34 @@ registration_word reg.UnsupportedType = codes "unsupported-type"
 registration_word reg.NotAttached = codes "not-attached"
 registration_word reg.RulesFull = codes "rules-full"
 registration_word reg.NoMemory = codes "memory"
+
+-- the groups of a radio
+abbrev pub group_word : GroupFault → List ℕ
+group_word group.NotAttached = codes "not-attached"
+group_word group.TooManyGroups = codes "too-many-groups"
+group_word group.NoMemory = codes "memory"
+
+-- a short data PDU that is none
+abbrev pub sds_word : SdsFault → List ℕ
+sds_word sds.Short = codes "sds-short"
+sds_word sds.Trailing = codes "sds-trailing"
+sds_word sds.NotSdsTl = codes "not-sds-tl"
+sds_word sds.UnknownType = codes "sds-unknown-type"
+sds_word sds.StorageControl = codes "storage-control"
+sds_word sds.TooLong = codes "too-long"
+sds_word sds.NoMemory = codes "memory"
+
+-- messages and reports
+abbrev pub mail_word : MailFault → List ℕ
+mail_word mail.UnknownDestination = codes "unknown-destination"
+mail_word mail.NotAttached = codes "not-attached"
+mail_word mail.ReferenceBusy = codes "reference-busy"
+mail_word mail.MailboxFull = codes "mailbox-full"
+mail_word mail.CentreFull = codes "centre-full"
+mail_word mail.NoSuchMessage = codes "no-such-message"
+mail_word mail.NoMemory = codes "memory"
+
+-- what waits
+abbrev pub kind_word : Kind → List ℕ
+kind_word kind.Message = codes "m"
+kind_word kind.Report = codes "r"

@@ -1,11 +1,15 @@
 ghost use Rattle.std.specs.Prelude.{◌≡◌, ◌++◌, OnOk};
-ghost use Rattle.console.specs.Answer.{text, is_trouble, reply_text, refusal_text, pdu_text, told_text, whereabouts_text, presence_text};
+ghost use Rattle.console.specs.Answer.{text, is_trouble, reply_text, refusal_text, pdu_text, told_text, list_text, group_text, member_text, item_text, key_text, whereabouts_text, presence_text};
 
 use crate::desk::Service;
 use crate::line::LineFault;
-use crate::words::{line_word, mm_word, registration_word, service_word};
+use crate::words::{
+    group_word, kind_word, line_word, mail_word, mm_word, registration_word, sds_word, service_word,
+};
 use centre_core::{Refusal, Reply, Told};
-use identity::{Bits, print_bits, print_itsi, print_number};
+use group_attach::Attachment;
+use identity::{Bits, print_bits, print_gtsi, print_itsi, print_number};
+use mailbox::{Item, Key};
 use registration::Radio;
 use std::alloc::{AllocError, Allocator};
 
@@ -21,7 +25,7 @@ pub enum Answer<B: Allocator> {
     /// The command of this sequence was not carried out.
     Unserved(u32, Service),
     /// The answer to a query.
-    Told(Told),
+    Told(Told<B>),
     /// The query in the line of this number was not answered.
     Untold(u64, Service),
 }
@@ -66,10 +70,7 @@ pub fn print_answer<A: Allocator, B: Allocator>(
             out.extend_from_slice(service_word(*word).as_bytes())?;
             out.extend_from_slice(b"\n")
         }
-        Answer::Told(told) => {
-            print_told(out, told)?;
-            out.extend_from_slice(b"\n")
-        }
+        Answer::Told(told) => print_told(out, told),
         Answer::Untold(line, word) => {
             out.extend_from_slice(b"line ")?;
             print_number(out, *line)?;
@@ -137,6 +138,9 @@ fn print_refusal<A: Allocator, B: Allocator>(
         Refusal::Registration(fault) => {
             out.extend_from_slice(registration_word(*fault).as_bytes())
         }
+        Refusal::ShortData(fault) => out.extend_from_slice(sds_word(*fault).as_bytes()),
+        Refusal::Mail(fault) => out.extend_from_slice(mail_word(*fault).as_bytes()),
+        Refusal::Groups(fault) => out.extend_from_slice(group_word(*fault).as_bytes()),
         Refusal::Location { fault, reject } => {
             out.extend_from_slice(registration_word(*fault).as_bytes())?;
             out.extend_from_slice(b" ")?;
@@ -146,7 +150,10 @@ fn print_refusal<A: Allocator, B: Allocator>(
 }
 
 #[tactic(auto, using(std::proofs::Common::append_assoc))]
-fn print_told<A: Allocator>(out: &mut Vec<u8, A>, told: &Told) -> Result<(), AllocError>
+fn print_told<A: Allocator, B: Allocator>(
+    out: &mut Vec<u8, A>,
+    told: &Told<B>,
+) -> Result<(), AllocError>
     ensures { OnOk result (out.new.items ≡ out.old.items ++ told_text told.now) }
 {
     match told {
@@ -154,13 +161,128 @@ fn print_told<A: Allocator>(out: &mut Vec<u8, A>, told: &Told) -> Result<(), All
             out.extend_from_slice(b"where ")?;
             print_itsi(out, *itsi)?;
             out.extend_from_slice(b" ")?;
-            print_whereabouts(out, radio)
+            print_whereabouts(out, radio)?;
+            out.extend_from_slice(b"\n")
+        }
+        Told::Groups { itsi, groups } => {
+            out.extend_from_slice(b"groups ")?;
+            print_itsi(out, *itsi)?;
+            out.extend_from_slice(b" ")?;
+            print_groups(out, groups.as_slice())
+        }
+        Told::Members { gtsi, members } => {
+            out.extend_from_slice(b"members ")?;
+            print_gtsi(out, *gtsi)?;
+            out.extend_from_slice(b" ")?;
+            print_members(out, members.as_slice())
+        }
+        Told::Waiting { itsi, items } => {
+            out.extend_from_slice(b"mail ")?;
+            print_itsi(out, *itsi)?;
+            out.extend_from_slice(b" ")?;
+            print_items(out, items.as_slice())
         }
         Told::Total(count) => {
             out.extend_from_slice(b"count ")?;
-            print_number(out, *count)
+            print_number(out, *count)?;
+            out.extend_from_slice(b"\n")
         }
     }
+}
+
+#[tactic(auto, using(std::proofs::Common::append_assoc))]
+fn print_groups<A: Allocator>(out: &mut Vec<u8, A>, groups: &[Attachment]) -> Result<(), AllocError>
+    ensures { OnOk result (out.new.items ≡ out.old.items ++ list_text group_text groups.now) }
+{
+    print_number(out, groups.len() as u64)?;
+    out.extend_from_slice(b"\n")?;
+    for group in groups {
+        print_group(out, group)?;
+    }
+    Ok(())
+}
+
+#[tactic(auto, using(std::proofs::Common::append_assoc))]
+fn print_group<A: Allocator>(out: &mut Vec<u8, A>, group: &Attachment) -> Result<(), AllocError>
+    ensures { OnOk result (out.new.items ≡ out.old.items ++ group_text group.now) }
+{
+    out.extend_from_slice(b"group ")?;
+    print_gtsi(out, group.gtsi)?;
+    out.extend_from_slice(b" ")?;
+    print_number(out, u64::from(group.class.number()))?;
+    out.extend_from_slice(b" ")?;
+    print_number(out, u64::from(group.lifetime.number()))?;
+    out.extend_from_slice(b"\n")
+}
+
+#[tactic(auto, using(std::proofs::Common::append_assoc))]
+fn print_members<A: Allocator>(
+    out: &mut Vec<u8, A>,
+    members: &[Attachment],
+) -> Result<(), AllocError>
+    ensures { OnOk result (out.new.items ≡ out.old.items ++ list_text member_text members.now) }
+{
+    print_number(out, members.len() as u64)?;
+    out.extend_from_slice(b"\n")?;
+    for member in members {
+        print_member(out, member)?;
+    }
+    Ok(())
+}
+
+#[tactic(auto, using(std::proofs::Common::append_assoc))]
+fn print_member<A: Allocator>(out: &mut Vec<u8, A>, member: &Attachment) -> Result<(), AllocError>
+    ensures { OnOk result (out.new.items ≡ out.old.items ++ member_text member.now) }
+{
+    out.extend_from_slice(b"member ")?;
+    print_itsi(out, member.itsi)?;
+    out.extend_from_slice(b" ")?;
+    print_number(out, u64::from(member.class.number()))?;
+    out.extend_from_slice(b"\n")
+}
+
+#[tactic(auto, using(std::proofs::Common::append_assoc))]
+fn print_items<A: Allocator, B: Allocator>(
+    out: &mut Vec<u8, A>,
+    items: &[Item<B>],
+) -> Result<(), AllocError>
+    ensures { OnOk result (out.new.items ≡ out.old.items ++ list_text item_text items.now) }
+{
+    print_number(out, items.len() as u64)?;
+    out.extend_from_slice(b"\n")?;
+    for item in items {
+        print_item(out, item)?;
+    }
+    Ok(())
+}
+
+#[tactic(auto, using(std::proofs::Common::append_assoc))]
+fn print_item<A: Allocator, B: Allocator>(
+    out: &mut Vec<u8, A>,
+    item: &Item<B>,
+) -> Result<(), AllocError>
+    ensures { OnOk result (out.new.items ≡ out.old.items ++ item_text item.now) }
+{
+    out.extend_from_slice(b"item ")?;
+    print_number(out, item.number())?;
+    out.extend_from_slice(b" ")?;
+    print_key(out, item.key())?;
+    out.extend_from_slice(b" ")?;
+    print_number(out, item.deadline())?;
+    out.extend_from_slice(b" ")?;
+    print_bits(out, item.pdu())?;
+    out.extend_from_slice(b"\n")
+}
+
+#[tactic(auto, using(std::proofs::Common::append_assoc))]
+fn print_key<A: Allocator>(out: &mut Vec<u8, A>, key: Key) -> Result<(), AllocError>
+    ensures { OnOk result (out.new.items ≡ out.old.items ++ key_text key) }
+{
+    out.extend_from_slice(kind_word(key.kind).as_bytes())?;
+    out.extend_from_slice(b" ")?;
+    print_itsi(out, key.source)?;
+    out.extend_from_slice(b" ")?;
+    print_number(out, u64::from(key.reference))
 }
 
 #[tactic(auto, using(std::proofs::Common::append_assoc))]

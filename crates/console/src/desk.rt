@@ -30,8 +30,8 @@ pub trait Desk {
     ) -> Result<Reply<C>, Service>
         ensures { rules.applies (world self.old) command.now result (world self.new) };
 
-    /// Answers a query.
-    fn query(&mut self, query: &Query) -> Result<Told, Service>
+    /// Answers a query; a list in the answer lies under `alloc`.
+    fn query<C: Allocator + Copy>(&mut self, alloc: C, query: &Query) -> Result<Told<C>, Service>
         ensures { rules.tells (world self.old) query.now result (world self.new) };
 }
 
@@ -53,8 +53,8 @@ impl<A: Allocator + Clone> Desk for Register<A> {
         }
     }
 
-    fn query(&mut self, query: &Query) -> Result<Told, Service> {
-        match Register::query(self, query) {
+    fn query<C: Allocator + Copy>(&mut self, alloc: C, query: &Query) -> Result<Told<C>, Service> {
+        match Register::query(self, alloc, query) {
             Ok(told) => Ok(told),
             Err(_) => Err(Service::Memory),
         }

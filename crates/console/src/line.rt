@@ -1,8 +1,8 @@
-ghost use Rattle.std.specs.Prelude.{◌≡◌, ◌∷◌, [], Some, IfOk, IfErr, OnErr, IsSome, option_map, MatchOption, ◌<◌, length, take, slice_get};
-ghost use Rattle.console.specs.Reading.{reading, sequence_of, Lacks, words, words_behind, of_words};
+ghost use Rattle.std.specs.Prelude.{◌≡◌, ◌∷◌, [], Some, IfOk, IfErr, OnErr, IsSome, option_map, MatchOption, ◌<◌, ◌≤◌, length, map, take, slice_get};
+ghost use Rattle.console.specs.Reading.{reading, sequence_of, Lacks, words, words_behind, of_words, body_in, order, ask};
 
-use crate::order::{mm_line, rule_line, where_line};
-use centre_core::{Command, Query};
+use crate::order::{Head, body_in, head_in, query_in};
+use centre_core::{Body, Command, Query};
 use memchr::memchr;
 use std::alloc::{AllocError, Allocator};
 
@@ -62,7 +62,7 @@ pub(crate) fn read_line<A: Allocator>(
     match line {
         [] => Ok(Line::Silent),
         [b'#', ..] => Ok(Line::Silent),
-        _ => read_words(alloc, station, line),
+        _ => read_text(alloc, station, line),
     }
 }
 
@@ -82,19 +82,60 @@ fn cut(line: &[u8]) -> (&[u8], Option<&[u8]>)
     }
 }
 
-fn read_words<A: Allocator>(alloc: A, station: u16, line: &[u8]) -> Result<Line<A>, Unread>
+/// The most words that a form has.
+const MOST_WORDS: usize = 8;
+
+/// The words of a line, which are in the first `count` of the places.
+#[derive(Clone, Copy)]
+struct Words<'a> {
+    places: [&'a [u8]; MOST_WORDS],
+    count: usize,
+}
+
+/// The words of a line, where they are no more than a form has.
+fn split(line: &[u8]) -> Option<Words<'_>>
+    ensures few { MatchOption result Unit (λ found. found.count ≤ 8) }
+    ensures words { MatchOption result (8 < length (words line.now)) (λ found. map (λ w. w.now) (take found.count found.places) ≡ words line.now) }
+{
+    let mut places = [line; MOST_WORDS];
+    let mut rest = line;
+    for at in 0..MOST_WORDS {
+        let (word, behind) = cut(rest);
+        places[at] = word;
+        let Some(behind) = behind else {
+            return Some(Words {
+                places,
+                count: at + 1,
+            });
+        };
+        rest = behind;
+    }
+    None
+}
+
+#[tactic(auto, using(crate::proofs::Forms::many_words))]
+fn read_text<A: Allocator>(alloc: A, station: u16, line: &[u8]) -> Result<Line<A>, Unread>
     ensures ok { IfOk result (λ said. said ≡ of_words station (words line.now)) }
     ensures err { IfErr result (λ unread. sequence_of (of_words {A = A} station (words line.now)) ≡ Some unread.sequence) }
 {
-    let (first, rest) = cut(line);
-    let Some(rest) = rest else {
-        return Ok(read_one(first));
-    };
-    let (second, rest) = cut(rest);
-    let Some(rest) = rest else {
-        return Ok(where_line(first, second));
-    };
-    read_order(alloc, station, first, second, rest)
+    match split(line) {
+        Some(words) => read_words(alloc, station, &words.places[..words.count]),
+        None => Ok(Line::Bad(LineFault::Syntax)),
+    }
+}
+
+fn read_words<A: Allocator>(alloc: A, station: u16, words: &[&[u8]]) -> Result<Line<A>, Unread>
+    ensures ok { IfOk result (λ said. said ≡ of_words station (map (λ w. w.now) words.now)) }
+    ensures err { IfErr result (λ unread. sequence_of (of_words {A = A} station (map (λ w. w.now) words.now)) ≡ Some unread.sequence) }
+{
+    match words {
+        [] => Ok(Line::Bad(LineFault::Syntax)),
+        [name] => Ok(read_one(name)),
+        [name, identity] => Ok(ask(query_in(name, identity))),
+        [sequence, moment, name, more @ ..] => {
+            read_order(alloc, station, head_in(sequence, moment), name, more)
+        }
+    }
 }
 
 fn read_one<A: Allocator>(name: &[u8]) -> Line<A>
@@ -107,59 +148,48 @@ fn read_one<A: Allocator>(name: &[u8]) -> Line<A>
     }
 }
 
-// Two words and a rest of at least one.
+fn ask<A: Allocator>(query: Result<Query, LineFault>) -> Line<A>
+    ensures { result ≡ ask query }
+{
+    match query {
+        Ok(query) => Line::Ask(query),
+        Err(fault) => Line::Bad(fault),
+    }
+}
+
+fn order<A: Allocator>(
+    station: u16,
+    head: Option<Head>,
+    body: Result<Body<A>, LineFault>,
+) -> Line<A>
+    ensures { result ≡ order station head body }
+{
+    match (head, body) {
+        (_, Err(fault)) => Line::Bad(fault),
+        (None, Ok(_)) => Line::Bad(LineFault::Value),
+        (Some(Head { sequence, moment }), Ok(body)) => Line::Order(Command {
+            station,
+            sequence,
+            moment,
+            body,
+        }),
+    }
+}
+
+#[tactic(auto, using(crate::proofs::Forms::unread, crate::proofs::Forms::headless))]
 fn read_order<A: Allocator>(
     alloc: A,
     station: u16,
-    sequence: &[u8],
-    moment: &[u8],
-    rest: &[u8],
-) -> Result<Line<A>, Unread>
-    ensures ok { IfOk result (λ said. said ≡ of_words station (sequence.now ∷ moment.now ∷ words rest.now)) }
-    ensures err { IfErr result (λ unread. sequence_of (of_words {A = A} station (sequence.now ∷ moment.now ∷ words rest.now)) ≡ Some unread.sequence) }
-{
-    let (name, rest) = cut(rest);
-    let Some(rest) = rest else {
-        return Ok(Line::Bad(LineFault::Syntax));
-    };
-    let (fourth, rest) = cut(rest);
-    let Some(rest) = rest else {
-        return Ok(Line::Bad(LineFault::Syntax));
-    };
-    let (fifth, rest) = cut(rest);
-    let Some(rest) = rest else {
-        return Ok(Line::Bad(LineFault::Syntax));
-    };
-    let (sixth, rest) = cut(rest);
-    let Some(rest) = rest else {
-        return mm_line(alloc, station, sequence, moment, name, fourth, fifth, sixth);
-    };
-    Ok(read_long(station, sequence, moment, name, fourth, fifth, sixth, rest))
-}
-
-// Six words and a rest of at least one.
-#[tactic(auto, using(crate::proofs::Forms::nine_words))]
-fn read_long<A: Allocator>(
-    station: u16,
-    sequence: &[u8],
-    moment: &[u8],
+    head: Option<Head>,
     name: &[u8],
-    prefix: &[u8],
-    low: &[u8],
-    high: &[u8],
-    rest: &[u8],
-) -> Line<A>
-    ensures { result ≡ of_words station (sequence.now ∷ moment.now ∷ name.now ∷ prefix.now ∷ low.now ∷ high.now ∷ words rest.now) }
+    words: &[&[u8]],
+) -> Result<Line<A>, Unread>
+    ensures ok { IfOk result (λ said. said ≡ order station head (body_in name.now (map (λ w. w.now) words.now))) }
+    ensures err { IfErr result (λ unread. sequence_of (order {A = A} station head (body_in name.now (map (λ w. w.now) words.now))) ≡ Some unread.sequence) }
 {
-    let (lifetime, rest) = cut(rest);
-    let Some(rest) = rest else {
-        return Line::Bad(LineFault::Syntax);
-    };
-    let (keep, rest) = cut(rest);
-    match rest {
-        None => rule_line(
-            station, sequence, moment, name, prefix, low, high, lifetime, keep,
-        ),
-        Some(_) => Line::Bad(LineFault::Syntax),
+    match (head, body_in(alloc, name, words)) {
+        (head, Ok(body)) => Ok(order(station, head, body)),
+        (None, Err(AllocError)) => Ok(Line::Bad(LineFault::Value)),
+        (Some(Head { sequence, .. }), Err(AllocError)) => Err(Unread { sequence }),
     }
 }

@@ -1,96 +1,168 @@
-//! The words of the forms with more than one word.
-ghost use Rattle.std.specs.Prelude.{◌≡◌, ◌∷◌, [], Some, IfOk, IfErr};
-ghost use Rattle.console.specs.Reading.{of_words, sequence_of, seconds_in, sequence_in, area_in, lifetime_in, rule_in};
+//! The words behind the one that names a form, and those before it.
+ghost use Rattle.std.specs.Prelude.{◌≡◌, IfOk, OnErr, IsSome, map};
+ghost use Rattle.std.specs.Result.{result_ok};
+ghost use Rattle.identity.specs.IdentityText.{reading_identity, reading_prefix};
+ghost use Rattle.identity.specs.BitsText.{reading_bits};
+ghost use Rattle.centre_core.specs.declared.query.Query.TheVariants.{Whereabouts};
+ghost use Rattle.console.specs.Reading.{query_in, body_in, mm_body, sds_body, rule_body, HasPdu, head_in, seconds_in, sequence_in, area_in, lifetime_in, rule_in, reference_in, kind_in, key_in};
 
-use crate::line::{Line, LineFault, Unread};
-use centre_core::{Body, Command, Query};
-use identity::{Fault, parse_bits, parse_itsi, parse_number, parse_prefix};
+use crate::line::LineFault;
+use centre_core::{Body, Query};
+use identity::{Bits, Fault, parse_bits, parse_gtsi, parse_itsi, parse_number, parse_prefix};
+use mailbox::{Key, Kind};
 use mm_pdus::Lifetime;
 use registration::{LocationArea, Rule};
-use std::alloc::Allocator;
+use std::alloc::{AllocError, Allocator};
 
-/// `where ITSI`
-pub(crate) fn where_line<A: Allocator>(name: &[u8], itsi: &[u8]) -> Line<A>
-    ensures { result ≡ of_words 0 (name.now ∷ itsi.now ∷ []) }
+/// What stands before the body of a command.
+#[derive(Clone, Copy, Debug)]
+pub(crate) struct Head {
+    pub(crate) sequence: u32,
+    pub(crate) moment: u32,
+}
+
+/// `SEQ MOMENT`
+pub(crate) fn head_in(sequence: &[u8], moment: &[u8]) -> Option<Head>
+    ensures { result ≡ head_in sequence.now moment.now }
 {
-    if name != b"where".as_slice() {
-        return Line::Bad(LineFault::Syntax);
-    }
-    match parse_itsi(itsi) {
-        Ok(itsi) => Line::Ask(Query::Whereabouts(itsi)),
-        Err(_) => Line::Bad(LineFault::Value),
+    let sequence = sequence_in(sequence)?;
+    let moment = seconds_in(moment)?;
+    Some(Head { sequence, moment })
+}
+
+/// A query about an identity.
+pub(crate) fn query_in(name: &[u8], identity: &[u8]) -> Result<Query, LineFault>
+    ensures { result ≡ query_in name.now identity.now }
+{
+    let query = if name == b"where".as_slice() {
+        parse_itsi(identity).map(Query::Whereabouts)
+    } else if name == b"groups".as_slice() {
+        parse_itsi(identity).map(Query::GroupsOf)
+    } else if name == b"members".as_slice() {
+        parse_gtsi(identity).map(Query::MembersOf)
+    } else if name == b"mail".as_slice() {
+        parse_itsi(identity).map(Query::Waiting)
+    } else {
+        return Err(LineFault::Syntax);
+    };
+    query.or(Err(LineFault::Value))
+}
+
+/// The body of a command, behind the word that names its form.
+pub(crate) fn body_in<A: Allocator>(
+    alloc: A,
+    name: &[u8],
+    words: &[&[u8]],
+) -> Result<Result<Body<A>, LineFault>, AllocError>
+    ensures ok { IfOk result (λ said. said ≡ body_in name.now (map (λ w. w.now) words.now)) }
+    ensures err { OnErr result (HasPdu (body_in {A = A} name.now (map (λ w. w.now) words.now))) }
+{
+    match words {
+        [] => {
+            if name == b"expire".as_slice() {
+                return Ok(Ok(Body::Expire));
+            }
+            Ok(Err(LineFault::Syntax))
+        }
+        [first, second, pdu] => {
+            if name == b"mm".as_slice() {
+                return mm_body(alloc, first, second, pdu);
+            }
+            if name == b"sds".as_slice() {
+                return sds_body(alloc, first, second, pdu);
+            }
+            Ok(Err(LineFault::Syntax))
+        }
+        [destination, source, reference, kind] => {
+            let key = key_in(destination, source, reference, kind);
+            let body = if name == b"sent".as_slice() {
+                key.map(|key| Body::Sent(key))
+            } else if name == b"delete".as_slice() {
+                key.map(|key| Body::Delete(key))
+            } else {
+                return Ok(Err(LineFault::Syntax));
+            };
+            Ok(body.ok_or(LineFault::Value))
+        }
+        [prefix, low, high, lifetime, keep] => {
+            if name == b"rule".as_slice() {
+                return Ok(rule_body(prefix, low, high, lifetime, keep));
+            }
+            Ok(Err(LineFault::Syntax))
+        }
+        _ => Ok(Err(LineFault::Syntax)),
     }
 }
 
-/// `SEQ MOMENT mm ITSI LA PDU`
+/// The bits of a PDU, where the word is one.
 #[tactic(auto, using(crate::proofs::Forms::bits_are_judged))]
-pub(crate) fn mm_line<A: Allocator>(
+fn bits_in<A: Allocator>(alloc: A, word: &[u8]) -> Result<Option<Bits<A>>, AllocError>
+    ensures ok { IfOk result (λ bits. bits ≡ result_ok (reading_bits word.now)) }
+    ensures err { OnErr result (IsSome (result_ok (reading_bits word.now))) }
+{
+    match parse_bits(alloc, word) {
+        Ok(bits) => Ok(Some(bits)),
+        Err(Fault::NoMemory) => Err(AllocError),
+        Err(_) => Ok(None),
+    }
+}
+
+/// `mm ITSI LA PDU`
+fn mm_body<A: Allocator>(
     alloc: A,
-    station: u16,
-    sequence: &[u8],
-    moment: &[u8],
-    name: &[u8],
     itsi: &[u8],
     area: &[u8],
     pdu: &[u8],
-) -> Result<Line<A>, Unread>
-    ensures ok { IfOk result (λ said. said ≡ of_words station (sequence.now ∷ moment.now ∷ name.now ∷ itsi.now ∷ area.now ∷ pdu.now ∷ [])) }
-    ensures err { IfErr result (λ unread. sequence_of (of_words {A = A} station (sequence.now ∷ moment.now ∷ name.now ∷ itsi.now ∷ area.now ∷ pdu.now ∷ [])) ≡ Some unread.sequence) }
+) -> Result<Result<Body<A>, LineFault>, AllocError>
+    ensures ok { IfOk result (λ said. said ≡ mm_body (result_ok (reading_identity itsi.now)) (area_in area.now) (result_ok (reading_bits pdu.now))) }
+    ensures err { OnErr result (HasPdu (mm_body {A = A} (result_ok (reading_identity itsi.now)) (area_in area.now) (result_ok (reading_bits pdu.now)))) }
 {
-    if name != b"mm".as_slice() {
-        return Ok(Line::Bad(LineFault::Syntax));
-    }
-    let (Some(sequence), Some(moment), Ok(itsi), Some(area)) = (
-        sequence_in(sequence),
-        seconds_in(moment),
-        parse_itsi(itsi),
-        area_in(area),
-    ) else {
-        return Ok(Line::Bad(LineFault::Value));
+    let (Ok(itsi), Some(area)) = (parse_itsi(itsi), area_in(area)) else {
+        return Ok(Err(LineFault::Value));
     };
-    match parse_bits(alloc, pdu) {
-        Ok(pdu) => Ok(Line::Order(Command {
-            station,
-            sequence,
-            moment,
-            body: Body::Mm { itsi, area, pdu },
-        })),
-        Err(Fault::NoMemory) => Err(Unread { sequence }),
-        Err(_) => Ok(Line::Bad(LineFault::Value)),
-    }
+    let Some(pdu) = bits_in(alloc, pdu)? else {
+        return Ok(Err(LineFault::Value));
+    };
+    Ok(Ok(Body::Mm { itsi, area, pdu }))
 }
 
-/// `SEQ MOMENT rule PREFIX LOW HIGH LIFE KEEP`
-pub(crate) fn rule_line<A: Allocator>(
-    station: u16,
-    sequence: &[u8],
-    moment: &[u8],
-    name: &[u8],
+/// `sds SOURCE DEST PDU`
+fn sds_body<A: Allocator>(
+    alloc: A,
+    source: &[u8],
+    destination: &[u8],
+    pdu: &[u8],
+) -> Result<Result<Body<A>, LineFault>, AllocError>
+    ensures ok { IfOk result (λ said. said ≡ sds_body (result_ok (reading_identity source.now)) (result_ok (reading_identity destination.now)) (result_ok (reading_bits pdu.now))) }
+    ensures err { OnErr result (HasPdu (sds_body {A = A} (result_ok (reading_identity source.now)) (result_ok (reading_identity destination.now)) (result_ok (reading_bits pdu.now)))) }
+{
+    let (Ok(source), Ok(destination)) = (parse_itsi(source), parse_itsi(destination)) else {
+        return Ok(Err(LineFault::Value));
+    };
+    let Some(pdu) = bits_in(alloc, pdu)? else {
+        return Ok(Err(LineFault::Value));
+    };
+    Ok(Ok(Body::Sds {
+        source,
+        destination,
+        pdu,
+    }))
+}
+
+/// `rule PREFIX LOW HIGH LIFE KEEP`
+fn rule_body<A: Allocator>(
     prefix: &[u8],
     low: &[u8],
     high: &[u8],
     lifetime: &[u8],
     keep: &[u8],
-) -> Line<A>
-    ensures { result ≡ of_words station (sequence.now ∷ moment.now ∷ name.now ∷ prefix.now ∷ low.now ∷ high.now ∷ lifetime.now ∷ keep.now ∷ []) }
+) -> Result<Body<A>, LineFault>
+    ensures { result ≡ rule_body (result_ok (reading_prefix prefix.now)) (rule_in low.now high.now lifetime.now keep.now) }
 {
-    if name != b"rule".as_slice() {
-        return Line::Bad(LineFault::Syntax);
-    }
-    let (Some(sequence), Some(moment), Ok(prefix), Some(rule)) = (
-        sequence_in(sequence),
-        seconds_in(moment),
-        parse_prefix(prefix),
-        rule_in(low, high, lifetime, keep),
-    ) else {
-        return Line::Bad(LineFault::Value);
+    let (Ok(prefix), Some(rule)) = (parse_prefix(prefix), rule_in(low, high, lifetime, keep)) else {
+        return Err(LineFault::Value);
     };
-    Line::Order(Command {
-        station,
-        sequence,
-        moment,
-        body: Body::RuleSet { prefix, rule },
-    })
+    Ok(Body::RuleSet { prefix, rule })
 }
 
 // A moment, or a keep time in seconds.
@@ -145,4 +217,46 @@ fn rule_in(low: &[u8], high: &[u8], lifetime: &[u8], keep: &[u8]) -> Option<Rule
         return None;
     };
     Rule::new(low, high, lifetime, keep)
+}
+
+#[tactic(auto, unfolding(identity::specs::NumberText::reading_number))]
+fn reference_in(word: &[u8]) -> Option<u8>
+    ensures { result ≡ reference_in word.now }
+{
+    match parse_number(word, 255) {
+        Ok(reference) => Some(reference as u8),
+        Err(_) => None,
+    }
+}
+
+fn kind_in(word: &[u8]) -> Option<Kind>
+    ensures { result ≡ kind_in word.now }
+{
+    if word == b"m".as_slice() {
+        Some(Kind::Message)
+    } else if word == b"r".as_slice() {
+        Some(Kind::Report)
+    } else {
+        None
+    }
+}
+
+/// `DEST SOURCE REF KIND`
+fn key_in(destination: &[u8], source: &[u8], reference: &[u8], kind: &[u8]) -> Option<Key>
+    ensures { result ≡ key_in destination.now source.now reference.now kind.now }
+{
+    let (Ok(destination), Ok(source), Some(reference), Some(kind)) = (
+        parse_itsi(destination),
+        parse_itsi(source),
+        reference_in(reference),
+        kind_in(kind),
+    ) else {
+        return None;
+    };
+    Some(Key {
+        destination,
+        source,
+        reference,
+        kind,
+    })
 }

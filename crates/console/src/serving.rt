@@ -35,7 +35,7 @@ fn answer_line<A: Allocator + Copy, D: Desk>(
             Ok(reply) => Answer::Replied(command.sequence, reply),
             Err(word) => Answer::Unserved(command.sequence, word),
         },
-        Ok(Line::Ask(query)) => match desk.query(&query) {
+        Ok(Line::Ask(query)) => match desk.query(alloc, &query) {
             Ok(told) => Answer::Told(told),
             Err(word) => Answer::Untold(number, word),
         },

@@ -6,15 +6,31 @@ use super::*;
 use crate::worked_rows::{LIMITS, worked_rows};
 use centre_core::{Body, Query, Register, Told};
 use linked_list_allocator::LocalHeap;
+use registration::Limits;
 use std::alloc::Global;
 use std::cell::Cell;
-use std::io;
 use std::io::{ErrorKind, Read, Write};
 use std::test::Fail;
+use std::{io, str};
 
-const RULE_ATTACH_COUNT: &str = "1 0 rule 234-14-0/24 1 99 1 3600
+const EACH_GROWTH: &str = "1 0 rule 234-14-0/24 1 99 1 3600
 2 10 mm 234-14-2001 7 10:260
+3 20 mm 234-14-2001 7 60:7380480A00007D0
+4 30 sds 234-14-2001 234-14-2002 48:820405014849
+groups 234-14-2001
+mail 234-14-2002
 count
+";
+
+const ANSWERS: &str = "1 ok 1 -
+2 ok 2 8:56
+3 ok 3 62:B3704C0980001F40
+4 ok 4 -
+groups 234-14-2001 1
+group 234-14-1000 4 1
+mail 234-14-2002 1
+item 4 m 234-14-2001 5 3630 48:820405014849
+count 4
 ";
 
 #[test]
@@ -290,58 +306,133 @@ fn a_reader_fails(rt: HostRuntime) -> Result<(), Fail> {
     Ok(())
 }
 
-/// How a run goes whose own memory is of so many bytes.
+/// The limits of a register for more radios than fit the room that an answer has at first.
+const MANY: Limits = Limits {
+    radios: 64,
+    ..LIMITS
+};
+
+/// Lines that have 60 radios attach to one group and ask for its members, and the last answer.
+fn many_members(rt: &HostRuntime) -> Result<(Vec<u8>, Vec<u8>), Fail> {
+    let mut lines = Vec::new(rt.alloc());
+    let mut answer = Vec::new(rt.alloc());
+    lines.extend_from_slice(b"1 0 rule 234-14-0/24 1 99 1 3600\n")?;
+    answer.extend_from_slice(b"members 234-14-1000 60\n")?;
+    for radio in 11..71u32 {
+        let demand = format!(in rt.alloc(); "{} 0 mm 234-14-{radio} 7 10:260\n", 2 * radio)?;
+        let groups = format!(in rt.alloc();
+            "{} 0 mm 234-14-{radio} 7 60:7380480A00007D0\n",
+            2 * radio + 1
+        )?;
+        let member = format!(in rt.alloc(); "member 234-14-{radio} 4\n")?;
+        lines.extend_from_slice(demand.as_bytes())?;
+        lines.extend_from_slice(groups.as_bytes())?;
+        answer.extend_from_slice(member.as_bytes())?;
+    }
+    lines.extend_from_slice(b"members 234-14-1000\n")?;
+    Ok((lines, answer))
+}
+
+#[test]
+fn a_mailbox_takes_128_items(rt: HostRuntime) -> Result<(), Fail> {
+    let mut lines = Vec::new(rt.alloc());
+    let mut answers = Vec::new(rt.alloc());
+    lines.extend_from_slice(b"1 0 rule 234-14-0/24 1 99 1 3600\n2 10 mm 234-14-2001 7 10:260\n")?;
+    answers.extend_from_slice(b"1 ok 1 -\n2 ok 2 8:56\n")?;
+    for reference in 0..129u32 {
+        let sequence = reference + 3;
+        let line = format!(in rt.alloc();
+            "{sequence} 100 sds 234-14-2001 234-14-2002 48:8204{reference:02X}014849\n"
+        )?;
+        lines.extend_from_slice(line.as_bytes())?;
+        if reference < 128 {
+            let answer = format!(in rt.alloc(); "{sequence} ok {sequence} -\n")?;
+            answers.extend_from_slice(answer.as_bytes())?;
+        }
+    }
+    lines.extend_from_slice(b"mail 234-14-2002\n")?;
+    answers.extend_from_slice(b"131 no mailbox-full\nmail 234-14-2002 128\n")?;
+    for reference in 0..128u32 {
+        let number = reference + 3;
+        let item = format!(in rt.alloc();
+            "item {number} m 234-14-2001 {reference} 3700 48:8204{reference:02X}014849\n"
+        )?;
+        answers.extend_from_slice(item.as_bytes())?;
+    }
+    let mut desk = Register::new(rt.alloc(), LIMITS)?;
+    let mut reader = lines.as_slice();
+    let mut out = Vec::new(rt.alloc());
+    run(rt.alloc(), &mut reader, &mut out, 1, 9, &mut desk)?;
+    assert_eq!(rt; out.as_slice(), answers.as_slice());
+    Ok(())
+}
+
+/// How a run over lines goes whose own memory is of so many bytes.
 fn in_little_memory(
     rt: &HostRuntime,
     bytes: usize,
+    lines: &[u8],
 ) -> Result<(Result<Ran, RunFault>, Vec<u8>), Fail> {
     let heap = LocalHeap::new(rt.alloc(), bytes)?;
-    let mut desk = Register::new(rt.alloc(), LIMITS)?;
-    let mut reader = RULE_ATTACH_COUNT.as_bytes();
+    let mut desk = Register::new(rt.alloc(), MANY)?;
+    let mut reader = lines;
     let mut out = Vec::new(rt.alloc());
     let ran = run(&heap, &mut reader, &mut out, 1, 9, &mut desk);
     Ok((ran, out))
 }
 
-#[test]
-fn little_memory_is_told(rt: HostRuntime) -> Result<(), Fail> {
-    let (mut none, mut some, mut ample) = (false, false, false);
-    for bytes in 1600..2400usize {
-        let (ran, out) = in_little_memory(&rt, bytes)?;
-        match ran {
-            Err(fault) => {
-                assert!(rt; fault == RunFault::NoMemory && out.is_empty());
-                none = true;
+/// Which answer is the first that was not given for want of memory, if one was not.
+fn first_refused(out: &[u8]) -> Result<Option<usize>, Fail> {
+    let Ok(text) = str::from_utf8(out) else {
+        return Err(Fail::from("no text"));
+    };
+    for (at, (given, wanted)) in text.lines().zip(ANSWERS.lines()).enumerate() {
+        if given != wanted {
+            if given.ends_with(" no memory") {
+                return Ok(Some(at));
             }
-            Ok(
-                Ran {
-                    lines,
-                    troubled: true,
-                },
-            ) => {
-                assert_eq!(rt; lines, 3);
-                assert_eq!(rt;
-                    out.as_slice(),
-                    b"1 ok 1 -\n2 no memory\ncount 1\n".as_slice()
-                );
-                some = true;
-            }
-            Ok(
-                Ran {
-                    lines,
-                    troubled: false,
-                },
-            ) => {
-                assert_eq!(rt; lines, 3);
-                assert_eq!(rt;
-                    out.as_slice(),
-                    b"1 ok 1 -\n2 ok 2 8:56\ncount 2\n".as_slice()
-                );
-                ample = true;
-            }
+            return Err(Fail::from("another answer"));
         }
     }
-    assert!(rt; none && some && ample);
+    Ok(None)
+}
+
+#[test]
+fn little_memory_is_told(rt: HostRuntime) -> Result<(), Fail> {
+    let (mut none, mut demand, mut groups, mut ample) = (false, false, false, false);
+    for step in 200..350usize {
+        let (ran, out) = in_little_memory(&rt, 8 * step, EACH_GROWTH.as_bytes())?;
+        let Ok(Ran { lines, troubled }) = ran else {
+            assert!(rt; ran == Err(RunFault::NoMemory) && out.is_empty());
+            none = true;
+            continue;
+        };
+        let refused = first_refused(out.as_slice())?;
+        assert!(rt; lines == 7 && troubled == refused.is_some());
+        demand = demand || refused == Some(1);
+        groups = groups || refused == Some(2);
+        ample = ample || refused.is_none();
+    }
+    assert!(rt; none && demand && groups && ample);
+    Ok(())
+}
+
+#[test]
+fn long_answers_want_memory(rt: HostRuntime) -> Result<(), Fail> {
+    let (lines, answer) = many_members(&rt)?;
+    let (mut unserved, mut cut_off, mut ample) = (false, false, false);
+    for step in 0..40usize {
+        let (ran, out) = in_little_memory(&rt, 2400 + 128 * step, lines.as_slice())?;
+        if ran == Err(RunFault::NoMemory) {
+            cut_off = true;
+        } else if out.ends_with(b"line 122 no memory\n") {
+            unserved = true;
+        } else {
+            assert!(rt; out.ends_with(answer.as_slice()), "at {step}");
+            ample = true;
+        }
+    }
+    assert!(rt; unserved && cut_off && ample);
     Ok(())
 }
 
@@ -351,7 +442,7 @@ fn over_a_little_register(rt: &HostRuntime, bytes: usize) -> Result<Option<Vec<u
     let Ok(mut desk) = Register::new(&heap, LIMITS) else {
         return Ok(None);
     };
-    let mut reader = RULE_ATTACH_COUNT.as_bytes();
+    let mut reader = EACH_GROWTH.as_bytes();
     let mut out = Vec::new(rt.alloc());
     run(rt.alloc(), &mut reader, &mut out, 1, 9, &mut desk)?;
     Ok(Some(out))
@@ -359,21 +450,20 @@ fn over_a_little_register(rt: &HostRuntime, bytes: usize) -> Result<Option<Vec<u
 
 #[test]
 fn a_little_register_goes_on(rt: HostRuntime) -> Result<(), Fail> {
-    let (mut first, mut second, mut ample) = (false, false, false);
-    for bytes in 0..4096usize {
-        let Some(out) = over_a_little_register(&rt, bytes)? else {
+    let (mut rule, mut demand, mut groups, mut message, mut ample) = (
+        false, false, false, false, false,
+    );
+    for step in 0..512usize {
+        let Some(out) = over_a_little_register(&rt, 8 * step)? else {
             continue;
         };
-        let out = out.as_slice();
-        if out == b"1 no memory\n2 no unknown-identity 14:7610\ncount 0\n".as_slice() {
-            first = true;
-        } else if out == b"1 ok 1 -\n2 no memory\ncount 1\n".as_slice() {
-            second = true;
-        } else {
-            assert_eq!(rt; out, b"1 ok 1 -\n2 ok 2 8:56\ncount 2\n".as_slice());
-            ample = true;
-        }
+        let refused = first_refused(out.as_slice())?;
+        rule = rule || refused == Some(0);
+        demand = demand || refused == Some(1);
+        groups = groups || refused == Some(2);
+        message = message || refused == Some(3);
+        ample = ample || refused.is_none();
     }
-    assert!(rt; first && second && ample);
+    assert!(rt; rule && demand && groups && message && ample);
     Ok(())
 }

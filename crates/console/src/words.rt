@@ -1,11 +1,14 @@
 //! The words of the answers.
 ghost use Rattle.std.specs.Prelude.{◌≡◌};
-ghost use Rattle.console.specs.Words.{line_word, service_word, mm_word, registration_word};
+ghost use Rattle.console.specs.Words.{line_word, service_word, mm_word, registration_word, group_word, sds_word, mail_word, kind_word};
 
 use crate::desk::Service;
 use crate::line::LineFault;
+use group_attach::GroupFault;
+use mailbox::{Kind, MailFault};
 use mm_pdus::MmFault;
 use registration::RegFault;
+use sds_tl::SdsFault;
 
 pub(crate) fn line_word(fault: LineFault) -> &'static str
     ensures { result.now ≡ line_word fault }
@@ -51,5 +54,52 @@ pub(crate) fn registration_word(fault: RegFault) -> &'static str
         RegFault::NotAttached => "not-attached",
         RegFault::RulesFull => "rules-full",
         RegFault::NoMemory => "memory",
+    }
+}
+
+pub(crate) fn group_word(fault: GroupFault) -> &'static str
+    ensures { result.now ≡ group_word fault }
+{
+    match fault {
+        GroupFault::NotAttached => "not-attached",
+        GroupFault::TooManyGroups => "too-many-groups",
+        GroupFault::NoMemory => "memory",
+    }
+}
+
+pub(crate) fn sds_word(fault: SdsFault) -> &'static str
+    ensures { result.now ≡ sds_word fault }
+{
+    match fault {
+        SdsFault::Short => "sds-short",
+        SdsFault::Trailing => "sds-trailing",
+        SdsFault::NotSdsTl => "not-sds-tl",
+        SdsFault::UnknownType => "sds-unknown-type",
+        SdsFault::StorageControl => "storage-control",
+        SdsFault::TooLong => "too-long",
+        SdsFault::NoMemory => "memory",
+    }
+}
+
+pub(crate) fn mail_word(fault: MailFault) -> &'static str
+    ensures { result.now ≡ mail_word fault }
+{
+    match fault {
+        MailFault::UnknownDestination => "unknown-destination",
+        MailFault::NotAttached => "not-attached",
+        MailFault::ReferenceBusy => "reference-busy",
+        MailFault::MailboxFull => "mailbox-full",
+        MailFault::CentreFull => "centre-full",
+        MailFault::NoSuchMessage => "no-such-message",
+        MailFault::NoMemory => "memory",
+    }
+}
+
+pub(crate) fn kind_word(kind: Kind) -> &'static str
+    ensures { result.now ≡ kind_word kind }
+{
+    match kind {
+        Kind::Message => "m",
+        Kind::Report => "r",
     }
 }

@@ -75,3 +75,9 @@ module _ {S : Type 0} (into : S → Element → Result S MmFault) where
   unfolding elements_at element_at
   elements_fail s [] f read = err_same Short f read
   elements_fail s (b ∷ bits) f read = ap (follow (elements_at into (length bits)) s) read
+
+  pub elements_refuse : (s : S) (bits rest : List Bool) (e : Element) (f : MmFault) → element_at bits ≡ Ok (Some e, rest) → into s e ≡ Err f → elements_at into (length bits) s bits ≡ Err f
+  unfolding elements_at element_at
+  elements_refuse s [] rest e f read refused = absurd cc
+  elements_refuse s (b ∷ bits) rest e f read refused =
+      ap (follow (elements_at into (length bits)) s) read ∙ ap (λ (r : Result S MmFault). r >>= λ t. elements_at into (length bits) t rest) refused

@@ -10,7 +10,7 @@ use Rattle.mm_pdus.proofs.FieldLaws.{optionals_take, optionals_again, element_ta
 
 module _ {S : Type 0} (into : S → Element → Result S MmFault) where
   -- what elements give
-  pub all_into : S → List Element → Result S MmFault
+  unfoldable pub all_into : S → List Element → Result S MmFault
   all_into s [] = Ok s
   all_into s (e ∷ es) = into s e >>= λ t. all_into t es
 

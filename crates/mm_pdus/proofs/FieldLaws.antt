@@ -9,7 +9,7 @@ use Rattle.identity.specs.NumberLaws.{length-num, number-num, num-number, number
 use Rattle.mm_pdus.specs.declared.fault.MmFault.{MmFault}
 use Rattle.mm_pdus.specs.declared.fault.MmFault.TheVariants.{Short}
 use Rattle.mm_pdus.specs.Syntax.{optional, AreParts, Element, element, IsElement}
-use Rattle.mm_pdus.specs.Reading.{◌>>=◌, bit_at, clear_at, field_at, piece_at, optional_at, optionals_at, element_at}
+use Rattle.mm_pdus.specs.Reading.{◌>>=◌, known, bit_at, clear_at, field_at, piece_at, optional_at, optionals_at, element_at}
 use Rattle.mm_pdus.proofs.Steps.{bind_ok, guard_ok, ok_is, join}
 
 pub field_takes : (w : ℕ) (bits : List Bool) (v : ℕ) (rest : List Bool) → field_at w bits ≡ Ok (v, rest) → (bits ≡ num w v ++ rest) × (v < 2 ^ w)
@@ -53,6 +53,10 @@ pub clear_takes : (bits rest : List Bool) → clear_at bits ≡ Ok rest → bits
 clear_takes [] rest h = absurd cc
 clear_takes (true ∷ bits) rest h = absurd cc
 clear_takes (false ∷ bits) rest h = ap (λ (r : List Bool). false ∷ r) (ok_is bits rest h)
+
+pub known_takes : {X : Type 0} (o : Option X) (x : X) → known o ≡ Ok x → o ≡ Some x
+known_takes {X} None x e = absurd cc
+known_takes {X} (Some y) x e = ap (λ (z : X). Some z) (ok_is y x e)
 
 -- ---- parts that may be left out
 

@@ -1,8 +1,13 @@
 pub mod Steps
 pub mod ElementSteps
+pub mod ItemLaws
+pub mod GroupSteps
 pub mod ValueLaws
 pub mod FieldLaws
 pub mod ExtensionLaws
-pub mod UplinkLaws
-pub mod DownlinkLaws
+pub mod GroupLaws
 pub mod CutLaws
+pub mod UplinkLaws
+pub mod UplinkCutLaws
+pub mod DownlinkLaws
+pub mod DownlinkCutLaws

@@ -1,39 +1,75 @@
 -- Reading a PDU to a radio: its value, or the first fault from the left.
-use Rattle.std.specs.Prelude.{Bool, List, Option, Some, None, Result, Ok, Err, ◌==◌, if◌then◌else◌}
+use Rattle.std.specs.Bool.{beq}
+use Rattle.std.specs.Prelude.{Bool, true, List, [], length, take, Result, Ok, Err, nat_lt, ◌==◌, if◌then◌else◌}
+use Rattle.identity.specs.Number.{number}
 use Rattle.mm_pdus.specs.declared.fault.MmFault.{MmFault}
-use Rattle.mm_pdus.specs.declared.fault.MmFault.TheVariants.{UnknownType, BadElement}
-use Rattle.mm_pdus.specs.declared.update.AcceptType.{AcceptType}
+use Rattle.mm_pdus.specs.declared.fault.MmFault.TheVariants.{UnknownType}
+use Rattle.mm_pdus.specs.declared.group.GroupDown.{GroupDown}
 use Rattle.mm_pdus.specs.declared.downlink.MmDown.{MmDown}
-use Rattle.mm_pdus.specs.declared.downlink.MmDown.TheVariants.{Accept, Reject}
+use Rattle.mm_pdus.specs.declared.downlink.MmDown.TheVariants.{Accept, Reject, Acknowledge}
 use Rattle.mm_pdus.specs.Values.{update_of, accept_of}
-use Rattle.mm_pdus.specs.Reading.{◌>>=◌, clear_at, field_at, whole}
+use Rattle.mm_pdus.specs.Downlink.{identity_downlink, rejects}
+use Rattle.mm_pdus.specs.Reading.{◌>>=◌, known, needs, bit_at, clear_at, field_at, piece_at, whole}
+use Rattle.mm_pdus.specs.GroupReading.{group_down_at, body_at}
 
--- an accept type, where the number is one
-abbrev pub accepting : Option AcceptType → Result AcceptType MmFault
-accepting (Some update) = Ok update
-accepting None = Err BadElement
+-- the one element with groups, at least one, and no element behind it
+unfoldable pub one_element_at : List Bool → Result (List GroupDown × List Bool) MmFault
+one_element_at bits = do
+  more ← bit_at bits
+  there ← needs more.0
+  identifier ← field_at 4 more.1
+  known ← needs (identifier.0 == identity_downlink)
+  len ← field_at 11 identifier.1
+  body ← piece_at len.0 len.1
+  items ← body_at group_down_at 0 body.0
+  some ← needs (nat_lt 0 (length items))
+  rest ← clear_at body.1
+  Ok (items, rest)
 
--- behind the accept type the O-bit
-unfoldable pub accept_at : List Bool → Result (MmDown × List Bool) MmFault
-accept_at bits = do
-  number ← field_at 3 bits
-  update ← accepting (accept_of (update_of number.0))
-  rest ← clear_at number.1
-  Ok (Accept update, rest)
+unfoldable pub answers_at : List Bool → Result (List GroupDown × List Bool) MmFault
+answers_at bits = do
+  more ← bit_at bits
+  if more.0 then one_element_at more.1 else Ok ([], more.1)
 
--- behind the cause cipher control and the O-bit
-unfoldable pub reject_at : List Bool → Result (MmDown × List Bool) MmFault
-reject_at bits = do
-  update ← field_at 3 bits
-  cause ← field_at 5 update.1
-  rest ← clear_at cause.1
-  rest ← clear_at rest
-  Ok (Reject (update_of update.0) cause.0, rest)
+-- whether the PDU type is D-ATTACH/DETACH GROUP IDENTITY ACKNOWLEDGEMENT, whose groups need memory
+abbrev pub names_groups : List Bool → Bool
+names_groups bits = number (take 4 bits) == 11
 
-unfoldable pub down_at : List Bool → Result (MmDown × List Bool) MmFault
-down_at bits = do
-  kind ← field_at 4 bits
-  if kind.0 == 5 then accept_at kind.1 else if kind.0 == 7 then reject_at kind.1 else Err UnknownType
+-- What is read is a PDU, and whether what it says of its groups is so.
+module _ {A : Type 0} where
+  -- behind the accept type the O-bit
+  unfoldable pub accept_at : List Bool → Result ((MmDown A × Bool) × List Bool) MmFault
+  accept_at bits = do
+    number ← field_at 3 bits
+    update ← known (accept_of (update_of number.0))
+    rest ← clear_at number.1
+    Ok ((Accept update, true), rest)
 
-unfoldable pub reading_down : List Bool → Result MmDown MmFault
-reading_down bits = whole (down_at bits)
+  -- behind the cause cipher control and the O-bit
+  unfoldable pub reject_at : List Bool → Result ((MmDown A × Bool) × List Bool) MmFault
+  reject_at bits = do
+    update ← field_at 3 bits
+    cause ← field_at 5 update.1
+    rest ← clear_at cause.1
+    rest ← clear_at rest
+    Ok ((Reject (update_of update.0) cause.0, true), rest)
+
+  -- the reserved bit is ignored
+  unfoldable pub acknowledge_at : List Bool → Result ((MmDown A × Bool) × List Bool) MmFault
+  acknowledge_at bits = do
+    rejected ← bit_at bits
+    reserved ← bit_at rejected.1
+    items ← answers_at reserved.1
+    Ok ((Acknowledge items.0, beq rejected.0 (rejects items.0)), items.1)
+
+  unfoldable pub down_at : List Bool → Result ((MmDown A × Bool) × List Bool) MmFault
+  down_at bits = do
+    kind ← field_at 4 bits
+    if kind.0 == 5 then accept_at kind.1 else if kind.0 == 7 then reject_at kind.1 else if kind.0 == 11 then acknowledge_at kind.1 else Err UnknownType
+
+  -- judged last: whether an acknowledgement says rightly that a group is rejected
+  unfoldable pub reading_down : List Bool → Result (MmDown A) MmFault
+  reading_down bits = do
+    read ← whole (down_at bits)
+    said ← needs read.1
+    Ok read.0

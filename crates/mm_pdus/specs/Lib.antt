@@ -1,7 +1,10 @@
 pub mod Values
+pub mod Address
 pub mod Syntax
+pub mod Groups
 pub mod Uplink
 pub mod Downlink
 pub mod Reading
+pub mod GroupReading
 pub mod UplinkReading
 pub mod DownlinkReading

@@ -1,8 +1,8 @@
 -- Reading the parts of a PDU from left to right: the value, or the first fault that is met.
-use Rattle.std.specs.Prelude.{ℕ, zero, suc, Bool, true, false, List, [], ◌∷◌, length, take, drop, Option, Some, None, Result, Ok, Err, nat_lt, ◌==◌, if◌then◌else◌}
+use Rattle.std.specs.Prelude.{◌≡◌, ℕ, zero, suc, Bool, true, false, List, [], ◌∷◌, length, take, drop, Option, Some, None, Result, Ok, Err, nat_lt, ◌==◌, if◌then◌else◌}
 use Rattle.identity.specs.Number.{number}
 use Rattle.mm_pdus.specs.declared.fault.MmFault.{MmFault}
-use Rattle.mm_pdus.specs.declared.fault.MmFault.TheVariants.{Short, Trailing, BadElement}
+use Rattle.mm_pdus.specs.declared.fault.MmFault.TheVariants.{Short, Trailing, BadElement, NoMemory}
 use Rattle.mm_pdus.specs.Syntax.{Element}
 
 infixl 10 ◌>>=◌
@@ -19,6 +19,16 @@ with_rest (Err f) rest = Err f
 abbrev pub giving : {A : Type 0} → Result (Unit {0}) MmFault → A → Result A MmFault
 giving (Ok u) x = Ok x
 giving (Err f) x = Err f
+
+-- a value, where the number of a field has one
+abbrev pub known : {X : Type 0} → Option X → Result X MmFault
+known (Some x) = Ok x
+known None = Err BadElement
+
+-- what must be so
+abbrev pub needs : Bool → Result (Unit {0}) MmFault
+needs true = Ok tt
+needs false = Err BadElement
 
 -- one bit
 abbrev pub bit_at : List Bool → Result (Bool × List Bool) MmFault
@@ -59,10 +69,13 @@ element_at bits = do
       then (field_at 4 more.1 >>= λ identifier. field_at 11 identifier.1 >>= λ len. piece_at len.0 len.1 >>= λ body. Ok (Some (record { identifier = identifier.0; body = body.0 }), body.1))
       else Ok (None, more.1)
 
+abbrev pub made_element : ℕ → List Bool → Element
+made_element identifier body = record { identifier = identifier; body = body }
+
 -- an element, as a function answers it
 abbrev pub seen : Result (Option (ℕ × List Bool)) MmFault → Result (Option Element) MmFault
 seen (Ok None) = Ok None
-seen (Ok (Some e)) = Ok (Some (record { identifier = e.0; body = e.1 }))
+seen (Ok (Some e)) = Ok (Some (made_element e.0 e.1))
 seen (Err f) = Err f
 
 -- Elements, each of which is taken into what the ones before gave. There are no more of them than bits.
@@ -85,3 +98,8 @@ extension_at widths bits = do
 -- a PDU that takes all of the bits
 abbrev pub whole : {A : Type 0} → Result (A × List Bool) MmFault → Result A MmFault
 whole read = read >>= λ p. if length p.1 == 0 then Ok p.0 else Err Trailing
+
+-- What is answered is what reading gives, unless memory ran out.
+abbrev pub Gives : {A : Type 0} → Result A MmFault → Result A MmFault → Type 0
+Gives (Ok x) read = read ≡ Ok x
+Gives (Err f) read = (f ≡ NoMemory → ⊥) → read ≡ Err f

@@ -1,10 +1,15 @@
--- How PDUs from a radio are spelt: U-ITSI DETACH and U-LOCATION UPDATE DEMAND (clause 16.9.3).
-use Rattle.std.specs.Prelude.{◌≡◌, ℕ, Bool, false, List, [], ◌∷◌, ◌++◌, length, Option, IfSome}
+-- How PDUs from a radio are spelt: U-ITSI DETACH, U-LOCATION UPDATE DEMAND and U-ATTACH/DETACH GROUP IDENTITY (clause 16.9.3).
+use Rattle.std.specs.Prelude.{◌≡◌, ℕ, ◌≤◌, ◌==◌, Bool, false, List, [], ◌∷◌, ◌++◌, length, Option, Some, None, IfSome, MatchBool}
+use Rattle.std.specs.List.{AllByRecursion}
 use Rattle.identity.specs.Number.{num}
+use Rattle.mm_pdus.specs.declared.update.LocationUpdateType.{LocationUpdateType}
+use Rattle.mm_pdus.specs.declared.group.GroupMode.{GroupMode}
+use Rattle.mm_pdus.specs.declared.group.GroupUp.{GroupUp}
 use Rattle.mm_pdus.specs.declared.uplink.MmUp.{MmUp}
-use Rattle.mm_pdus.specs.declared.uplink.MmUp.TheVariants.{Demand, Detach}
-use Rattle.mm_pdus.specs.Values.{update_number}
-use Rattle.mm_pdus.specs.Syntax.{optional, Extension, extension, IsExtension}
+use Rattle.mm_pdus.specs.declared.uplink.MmUp.TheVariants.{Demand, Detach, Groups}
+use Rattle.mm_pdus.specs.Values.{update_number, mode_bit, most_groups}
+use Rattle.mm_pdus.specs.Syntax.{optional, Element, Extension, extension, IsExtension}
+use Rattle.mm_pdus.specs.Groups.{group_up, IsGroupUp, groups_body, groups_extension}
 
 -- address extension
 abbrev pub detach_widths : List ℕ
@@ -14,14 +19,48 @@ detach_widths = 24 ∷ []
 abbrev pub demand_widths : List ℕ
 demand_widths = 24 ∷ 3 ∷ 15 ∷ 24 ∷ 24 ∷ []
 
--- The bits are a spelling of the PDU.
-abbrev pub SpellsUp : MmUp → List Bool → Type 0
-SpellsUp Detach bits = (x : Option Extension) × IsExtension detach_widths x × (bits ≡ num 4 1 ++ extension x)
-SpellsUp (Demand update) bits =
-    (append : Bool) × (ciphering : Option (List Bool)) × (x : Option Extension) × IfSome ciphering (λ parameters. length parameters ≡ 10) × IsExtension demand_widths x
-    × (bits ≡ num 4 2 ++ num 3 (update_number update) ++ append ∷ optional ciphering ++ extension x)
+-- the identifier of the element group identity uplink
+abbrev pub identity_uplink : ℕ
+identity_uplink = 8
 
--- The written form: nothing that may be left out is there, and no LA is asked for.
-abbrev pub canon_up : MmUp → List Bool
-canon_up Detach = num 4 1 ++ false ∷ []
-canon_up (Demand update) = num 4 2 ++ num 3 (update_number update) ++ false ∷ false ∷ false ∷ []
+-- The groups of all elements with groups, in order; the other elements are skipped.
+abbrev pub GroupsOf : List Element → List GroupUp → Type 0
+GroupsOf [] items = items ≡ []
+GroupsOf (e ∷ es) items = (front : List GroupUp) × (back : List GroupUp) × (items ≡ front ++ back) × MatchBool (e.identifier == identity_uplink) (AllByRecursion IsGroupUp front × (e.body ≡ groups_body group_up front)) (front ≡ []) × GroupsOf es back
+
+-- the elements of what follows the fixed fields
+abbrev pub elements_of : Option Extension → List Element
+elements_of None = []
+elements_of (Some x) = x.elements
+
+-- The written form: nothing that may be left out is there, and neither an LA nor a report is asked for.
+abbrev pub detach_text : List Bool
+detach_text = num 4 1 ++ false ∷ []
+
+abbrev pub demand_text : LocationUpdateType → List Bool
+demand_text update = num 4 2 ++ num 3 (update_number update) ++ false ∷ false ∷ false ∷ []
+
+abbrev pub groups_text : GroupMode → List GroupUp → List Bool
+groups_text mode items = num 4 7 ++ false ∷ mode_bit mode ∷ extension (groups_extension group_up identity_uplink items)
+
+-- The bits are a spelling of the PDU. No value depends on A, the allocator that a PDU keeps its groups under.
+module _ {A : Type 0} where
+  abbrev pub SpellsUp : MmUp A → List Bool → Type 0
+  SpellsUp Detach bits = (x : Option Extension) × IsExtension detach_widths x × (bits ≡ num 4 1 ++ extension x)
+  SpellsUp (Demand update) bits =
+      (append : Bool) × (ciphering : Option (List Bool)) × (x : Option Extension) × IfSome ciphering (λ parameters. length parameters ≡ 10) × IsExtension demand_widths x
+      × (bits ≡ num 4 2 ++ num 3 (update_number update) ++ append ∷ optional ciphering ++ extension x)
+  SpellsUp (Groups mode items) bits =
+      (report : Bool) × (x : Option Extension) × IsExtension [] x × GroupsOf (elements_of x) items × (length items ≤ most_groups)
+      × (bits ≡ num 4 7 ++ report ∷ mode_bit mode ∷ extension x)
+
+  abbrev pub canon_up : MmUp A → List Bool
+  canon_up Detach = detach_text
+  canon_up (Demand update) = demand_text update
+  canon_up (Groups mode items) = groups_text mode items
+
+  -- There are at most 32 groups, and each value has the bits that it needs.
+  abbrev pub IsUp : MmUp A → Type 0
+  IsUp Detach = Unit {0}
+  IsUp (Demand update) = Unit {0}
+  IsUp (Groups mode items) = (length items ≤ most_groups) × AllByRecursion IsGroupUp items

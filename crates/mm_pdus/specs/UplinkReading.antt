@@ -1,30 +1,55 @@
 -- Reading a PDU from a radio: its value, or the first fault from the left.
-use Rattle.std.specs.Prelude.{Bool, List, Result, Ok, Err, ◌==◌, if◌then◌else◌}
+use Rattle.std.specs.Prelude.{Bool, List, [], length, take, Result, Ok, Err, ◌==◌, if◌then◌else◌}
+use Rattle.identity.specs.Number.{number}
 use Rattle.mm_pdus.specs.declared.fault.MmFault.{MmFault}
 use Rattle.mm_pdus.specs.declared.fault.MmFault.TheVariants.{UnknownType}
+use Rattle.mm_pdus.specs.declared.group.GroupUp.{GroupUp}
 use Rattle.mm_pdus.specs.declared.uplink.MmUp.{MmUp}
-use Rattle.mm_pdus.specs.declared.uplink.MmUp.TheVariants.{Demand, Detach}
-use Rattle.mm_pdus.specs.Values.{update_of}
-use Rattle.mm_pdus.specs.Uplink.{detach_widths, demand_widths}
-use Rattle.mm_pdus.specs.Reading.{◌>>=◌, bit_at, field_at, optional_at, extension_at, whole}
+use Rattle.mm_pdus.specs.declared.uplink.MmUp.TheVariants.{Demand, Detach, Groups}
+use Rattle.mm_pdus.specs.Values.{update_of, mode_of}
+use Rattle.mm_pdus.specs.Syntax.{Element}
+use Rattle.mm_pdus.specs.Uplink.{detach_widths, demand_widths, identity_uplink}
+use Rattle.mm_pdus.specs.Reading.{◌>>=◌, bit_at, field_at, optional_at, extension_at, elements_at, whole}
+use Rattle.mm_pdus.specs.GroupReading.{group_up_at, body_at, behind}
 
-unfoldable pub detach_at : List Bool → Result (MmUp × List Bool) MmFault
-detach_at bits = do
-  rest ← extension_at detach_widths bits
-  Ok (Detach, rest)
+-- elements with groups are joined, and other elements are skipped
+abbrev pub join_groups : List GroupUp → Element → Result (List GroupUp) MmFault
+join_groups items e = if e.identifier == identity_uplink then behind items (body_at group_up_at (length items) e.body) else Ok items
 
-unfoldable pub demand_at : List Bool → Result (MmUp × List Bool) MmFault
-demand_at bits = do
-  update ← field_at 3 bits
-  append ← bit_at update.1
-  rest ← optional_at 10 append.1
-  rest ← extension_at demand_widths rest
-  Ok (Demand (update_of update.0), rest)
+unfoldable pub all_groups_at : List Bool → Result (List GroupUp × List Bool) MmFault
+all_groups_at bits = do
+  more ← bit_at bits
+  if more.0 then elements_at join_groups (length more.1) [] more.1 else Ok ([], more.1)
 
-unfoldable pub up_at : List Bool → Result (MmUp × List Bool) MmFault
-up_at bits = do
-  kind ← field_at 4 bits
-  if kind.0 == 1 then detach_at kind.1 else if kind.0 == 2 then demand_at kind.1 else Err UnknownType
+-- whether the PDU type is U-ATTACH/DETACH GROUP IDENTITY, whose groups need memory
+abbrev pub names_groups : List Bool → Bool
+names_groups bits = number (take 4 bits) == 7
 
-unfoldable pub reading_up : List Bool → Result MmUp MmFault
-reading_up bits = whole (up_at bits)
+module _ {A : Type 0} where
+  unfoldable pub detach_at : List Bool → Result (MmUp A × List Bool) MmFault
+  detach_at bits = do
+    rest ← extension_at detach_widths bits
+    Ok (Detach, rest)
+
+  unfoldable pub demand_at : List Bool → Result (MmUp A × List Bool) MmFault
+  demand_at bits = do
+    update ← field_at 3 bits
+    append ← bit_at update.1
+    rest ← optional_at 10 append.1
+    rest ← extension_at demand_widths rest
+    Ok (Demand (update_of update.0), rest)
+
+  unfoldable pub groups_up_at : List Bool → Result (MmUp A × List Bool) MmFault
+  groups_up_at bits = do
+    report ← bit_at bits
+    mode ← bit_at report.1
+    items ← all_groups_at mode.1
+    Ok (Groups (mode_of mode.0) items.0, items.1)
+
+  unfoldable pub up_at : List Bool → Result (MmUp A × List Bool) MmFault
+  up_at bits = do
+    kind ← field_at 4 bits
+    if kind.0 == 1 then detach_at kind.1 else if kind.0 == 2 then demand_at kind.1 else if kind.0 == 7 then groups_up_at kind.1 else Err UnknownType
+
+  unfoldable pub reading_up : List Bool → Result (MmUp A) MmFault
+  reading_up bits = whole (up_at bits)

@@ -1,22 +1,26 @@
 //! PDUs to a radio.
 
-ghost use Rattle.std.specs.Prelude.{◌≡◌, ◌++◌, ◌↔◌, OnOk, IfOk, IfErr};
+ghost use Rattle.std.specs.Prelude.{◌≡◌, ◌≤◌, ◌++◌, false, length, Ok, OnOk, IfOk, IfErr};
 ghost use Rattle.mm_pdus.specs.declared.fault.MmFault.TheVariants.{NoMemory};
 ghost use Rattle.mm_pdus.specs.declared.downlink.MmDown.{MmDown};
-ghost use Rattle.mm_pdus.specs.declared.downlink.MmDown.TheVariants.{Accept, Reject};
-ghost use Rattle.mm_pdus.specs.Downlink.{SpellsDown, canon_down};
-ghost use Rattle.mm_pdus.specs.Reading.{with_rest};
-ghost use Rattle.mm_pdus.specs.DownlinkReading.{accept_at, reject_at, down_at, reading_down};
+ghost use Rattle.mm_pdus.specs.Values.{most_groups};
+ghost use Rattle.mm_pdus.specs.Downlink.{SpellsDown, canon_down, rejects, accept_text, reject_text, acknowledge_text};
+ghost use Rattle.mm_pdus.specs.Reading.{with_rest, Gives};
+ghost use Rattle.mm_pdus.specs.DownlinkReading.{names_groups, one_element_at, answers_at, accept_at, reject_at, acknowledge_at, down_at, reading_down};
 
-use crate::fields::{clear_bit, field};
+use crate::fields::{bit, clear_bit, field, need, piece};
+use crate::group_fields::{body_into, put_groups};
 use crate::writing::{put, put_bit};
-use crate::{AcceptType, LocationUpdateType, MmFault, RejectCause};
+use crate::{AcceptType, GroupDown, GroupItems, LocationUpdateType, MmFault, RejectCause};
 use identity::{BitReader, BitWriter, Bits};
 use std::alloc::Allocator;
 
+/// The identifier of the element group identity downlink.
+const GROUP_IDENTITY_DOWNLINK: u64 = 7;
+
 /// A PDU to a radio.
-#[derive(Debug, PartialEq, Eq, Drop)]
-pub enum MmDown {
+#[derive(Drop)]
+pub enum MmDown<A: Allocator> {
     /// D-LOCATION UPDATE ACCEPT: the radio is known at its location area.
     Accept {
         update: AcceptType,
@@ -26,70 +30,140 @@ pub enum MmDown {
         update: LocationUpdateType,
         cause: RejectCause,
     },
+    /// D-ATTACH/DETACH GROUP IDENTITY ACKNOWLEDGEMENT: what became of each group that the radio
+    /// named.
+    Acknowledge {
+        items: GroupItems<GroupDown, A>,
+    },
 }
 
 #[tactic(auto, unfolding(crate::specs::DownlinkReading::accept_at))]
-fn accept(reader: &mut BitReader<'_>) -> Result<MmDown, MmFault>
+fn accept<A: Allocator>(reader: &mut BitReader<'_>) -> Result<(MmDown<A>, bool), MmFault>
     ensures { accept_at reader.old ≡ with_rest result reader.new }
 {
     let number = field(reader, 3)?;
     let Some(update) = LocationUpdateType::from_number(number as u8).accept_type() else {
         return Err(MmFault::BadElement);
     };
-    clear_bit(reader)?;
-    Ok(MmDown::Accept { update })
+    clear_bit(reader)?; // O-bit
+    Ok((MmDown::Accept { update }, true))
 }
 
 #[tactic(auto, unfolding(crate::specs::DownlinkReading::reject_at))]
-fn reject(reader: &mut BitReader<'_>) -> Result<MmDown, MmFault>
+fn reject<A: Allocator>(reader: &mut BitReader<'_>) -> Result<(MmDown<A>, bool), MmFault>
     ensures { reject_at reader.old ≡ with_rest result reader.new }
 {
     let update = field(reader, 3)?;
     let cause = field(reader, 5)?;
     clear_bit(reader)?; // cipher control
     clear_bit(reader)?; // O-bit
-    Ok(MmDown::Reject {
+    let pdu = MmDown::Reject {
         update: LocationUpdateType::from_number(update as u8),
         cause: RejectCause::new(cause as u8),
-    })
+    };
+    Ok((pdu, true))
 }
 
+/// Reads the one element with groups, at least one, and the end behind it.
+#[tactic(auto, unfolding(crate::specs::DownlinkReading::one_element_at))]
+fn one_element<A: Allocator>(
+    alloc: A,
+    reader: &mut BitReader<'_>,
+) -> Result<GroupItems<GroupDown, A>, MmFault>
+    ensures { Gives (with_rest result reader.new) (one_element_at reader.old) }
+{
+    need(bit(reader)?)?; // an element
+    need(field(reader, 4)? == GROUP_IDENTITY_DOWNLINK)?;
+    let len = field(reader, 11)?;
+    let body = piece(reader, len as usize)?;
+    let mut items = GroupItems::new(alloc);
+    body_into(body, &mut items)?;
+    need(items.len() > 0)?;
+    clear_bit(reader)?; // no second element
+    Ok(items)
+}
+
+#[tactic(auto, unfolding(crate::specs::DownlinkReading::answers_at))]
+fn answers<A: Allocator>(
+    alloc: A,
+    reader: &mut BitReader<'_>,
+) -> Result<GroupItems<GroupDown, A>, MmFault>
+    ensures { Gives (with_rest result reader.new) (answers_at reader.old) }
+{
+    if bit(reader)? {
+        one_element(alloc, reader)
+    } else {
+        Ok(GroupItems::new(alloc))
+    }
+}
+
+/// Whether at least one group is rejected.
+fn is_rejection(items: &[GroupDown]) -> bool
+    ensures { result ≡ rejects items.now }
+{
+    items.iter().any(|item| item.is_detach())
+}
+
+#[tactic(auto, unfolding(crate::specs::DownlinkReading::acknowledge_at))]
+fn acknowledge<A: Allocator>(
+    alloc: A,
+    reader: &mut BitReader<'_>,
+) -> Result<(MmDown<A>, bool), MmFault>
+    ensures { Gives (with_rest result reader.new) (acknowledge_at reader.old) }
+{
+    let rejected = bit(reader)?;
+    let _reserved = bit(reader)?;
+    let items = answers(alloc, reader)?;
+    let agrees = rejected == is_rejection(items.as_slice());
+    Ok((MmDown::Acknowledge { items }, agrees))
+}
+
+/// The PDU, and whether what it says of its groups is so.
 #[tactic(auto, unfolding(crate::specs::DownlinkReading::down_at))]
-fn down(reader: &mut BitReader<'_>) -> Result<MmDown, MmFault>
-    ensures { down_at reader.old ≡ with_rest result reader.new }
+fn down<A: Allocator>(alloc: A, reader: &mut BitReader<'_>) -> Result<(MmDown<A>, bool), MmFault>
+    ensures given { Gives (with_rest result reader.new) (down_at reader.old) }
+    ensures exact { names_groups reader.old ≡ false → down_at reader.old ≡ with_rest result reader.new }
 {
     match field(reader, 4)? {
         5 => accept(reader),
         7 => reject(reader),
+        11 => acknowledge(alloc, reader),
         _ => Err(MmFault::UnknownType),
     }
 }
 
 #[tactic(auto, unfolding(crate::specs::DownlinkReading::reading_down))]
-fn whole_down<A: Allocator>(bits: &Bits<A>) -> Result<MmDown, MmFault>
-    ensures { result ≡ reading_down bits.now }
+fn whole_down<A: Allocator, B: Allocator>(alloc: A, bits: &Bits<B>) -> Result<MmDown<A>, MmFault>
+    ensures given { Gives result (reading_down bits.now) }
+    ensures exact { names_groups bits.now ≡ false → result ≡ reading_down bits.now }
 {
     let mut reader = BitReader::new(bits);
-    let pdu = down(&mut reader)?;
+    let (pdu, agrees) = down(alloc, &mut reader)?;
     if reader.left() > 0 {
         return Err(MmFault::Trailing);
     }
+    need(agrees)?;
     Ok(pdu)
 }
 
-/// The PDU that the bits spell, all of them, or the first fault from the left.
-pub fn read_down<A: Allocator>(bits: &Bits<A>) -> Result<MmDown, MmFault>
-    // It is this PDU exactly where the bits spell it.
-    ensures value { (pdu : MmDown) → (result ≡ Ok pdu) ↔ SpellsDown pdu bits.now }
+/// The PDU that the bits spell, all of them, or the first fault from the left. Its groups are kept
+/// under `alloc`; `NoMemory` where memory for them ran out.
+pub fn read_down<A: Allocator, B: Allocator>(alloc: A, bits: &Bits<B>) -> Result<MmDown<A>, MmFault>
+    // What is read is spelt by the bits.
+    ensures spelt { IfOk result (λ pdu. SpellsDown pdu bits.now) }
+    // What the bits spell is read, unless memory ran out.
+    ensures found { (pdu : MmDown A) → SpellsDown pdu bits.now → Gives result (Ok pdu) }
     // Else it is the first fault.
-    ensures fault { result ≡ reading_down bits.now }
+    ensures fault { Gives result (reading_down bits.now) }
+    // Memory is needed for groups alone.
+    ensures exact { names_groups bits.now ≡ false → result ≡ reading_down bits.now }
 {
-    whole_down(bits)
+    whole_down(alloc, bits)
 }
 
 #[tactic(auto, using(std::proofs::Common::append_assoc))]
 fn put_accept<A: Allocator>(writer: &mut BitWriter<A>, update: AcceptType) -> Result<(), MmFault>
-    ensures ok { OnOk result (writer.new ≡ writer.old ++ canon_down (Accept update)) }
+    ensures ok { OnOk result (writer.new ≡ writer.old ++ accept_text update) }
     ensures err { IfErr result (λ e. e ≡ NoMemory) }
 {
     put(writer, 5, 4)?;
@@ -103,7 +177,7 @@ fn put_reject<A: Allocator>(
     update: LocationUpdateType,
     cause: RejectCause,
 ) -> Result<(), MmFault>
-    ensures ok { OnOk result (writer.new ≡ writer.old ++ canon_down (Reject update cause)) }
+    ensures ok { OnOk result (writer.new ≡ writer.old ++ reject_text update cause) }
     ensures err { IfErr result (λ e. e ≡ NoMemory) }
 {
     put(writer, 7, 4)?;
@@ -113,8 +187,23 @@ fn put_reject<A: Allocator>(
     put_bit(writer, false)
 }
 
+#[tactic(auto, using(std::proofs::Common::append_assoc))]
+fn put_acknowledge<A: Allocator>(
+    writer: &mut BitWriter<A>,
+    items: &[GroupDown],
+) -> Result<(), MmFault>
+    requires { length items.now ≤ most_groups }
+    ensures ok { OnOk result (writer.new ≡ writer.old ++ acknowledge_text false items.now) }
+    ensures err { IfErr result (λ e. e ≡ NoMemory) }
+{
+    put(writer, 11, 4)?;
+    put_bit(writer, is_rejection(items))?;
+    put_bit(writer, false)?;
+    put_groups(writer, GROUP_IDENTITY_DOWNLINK, items)
+}
+
 /// The canonical text of the PDU. The only error is `NoMemory`.
-pub fn write_down<A: Allocator>(alloc: A, pdu: &MmDown) -> Result<Bits<A>, MmFault>
+pub fn write_down<A: Allocator, B: Allocator>(alloc: A, pdu: &MmDown<B>) -> Result<Bits<A>, MmFault>
     ensures ok { IfOk result (λ bits. bits ≡ canon_down pdu.now) }
     ensures err { IfErr result (λ e. e ≡ NoMemory) }
 {
@@ -122,6 +211,7 @@ pub fn write_down<A: Allocator>(alloc: A, pdu: &MmDown) -> Result<Bits<A>, MmFau
     match pdu {
         MmDown::Accept { update } => put_accept(&mut writer, *update)?,
         MmDown::Reject { update, cause } => put_reject(&mut writer, *update, *cause)?,
+        MmDown::Acknowledge { items } => put_acknowledge(&mut writer, items.as_slice())?,
     }
     Ok(writer.finish())
 }

@@ -30,7 +30,7 @@ fn skip_optionals(reader: &mut BitReader<'_>, widths: &[usize]) -> Result<(), Mm
 
 /// The next element's identifier and its bits, or `None` behind the last.
 #[tactic(auto, unfolding(crate::specs::Reading::element_at))]
-fn element<'a>(reader: &mut BitReader<'a>) -> Result<Option<(u64, BitReader<'a>)>, MmFault>
+pub fn element<'a>(reader: &mut BitReader<'a>) -> Result<Option<(u64, BitReader<'a>)>, MmFault>
     ensures { element_at reader.old ≡ with_rest (seen result) reader.new }
 {
     if !bit(reader)? {

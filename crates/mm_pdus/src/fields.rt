@@ -1,7 +1,7 @@
 //! Fields of a PDU, read from left to right.
 
 ghost use Rattle.std.specs.Prelude.{◌≡◌, ◌<◌, ◌≤◌, ◌^◌, IfOk};
-ghost use Rattle.mm_pdus.specs.Reading.{with_rest, giving, bit_at, clear_at, field_at, piece_at};
+ghost use Rattle.mm_pdus.specs.Reading.{with_rest, giving, needs, bit_at, clear_at, field_at, piece_at};
 
 use crate::MmFault;
 use identity::BitReader;
@@ -37,4 +37,15 @@ pub fn clear_bit(reader: &mut BitReader<'_>) -> Result<(), MmFault>
         return Err(MmFault::BadElement);
     }
     Ok(())
+}
+
+/// What must be so in a PDU.
+pub fn need(holds: bool) -> Result<(), MmFault>
+    ensures { result ≡ needs holds }
+{
+    if holds {
+        Ok(())
+    } else {
+        Err(MmFault::BadElement)
+    }
 }

@@ -1,21 +1,28 @@
 //! What holds of the definitions alone: each law is the contract of a function that does
 //! nothing, or only names constants.
 
-ghost use Rattle.std.specs.Prelude.{◌≡◌, ◌<◌, ◌↔◌, ◌++◌, ◌∷◌, ℕ, Bool, List, [], Some, Ok, Err};
+ghost use Rattle.std.specs.Prelude.{◌≡◌, ◌<◌, ◌↔◌, ◌++◌, ◌∷◌, ℕ, Bool, not, List, [], Some, Ok, Err};
 ghost use Rattle.identity.specs.Number.{num};
-ghost use Rattle.mm_pdus.specs.declared.fault.MmFault.TheVariants.{Short, Trailing, UnknownType};
+ghost use Rattle.mm_pdus.specs.declared.fault.MmFault.TheVariants.{Short, Trailing, UnknownType, BadElement};
 ghost use Rattle.mm_pdus.specs.declared.update.LocationUpdateType.{LocationUpdateType};
 ghost use Rattle.mm_pdus.specs.declared.update.AcceptType.{AcceptType};
 ghost use Rattle.mm_pdus.specs.declared.lifetime.Lifetime.{Lifetime};
-ghost use Rattle.mm_pdus.specs.Values.{update_number, update_of, accept_of, update_accepted, lifetime_number, lifetime_of};
+ghost use Rattle.mm_pdus.specs.declared.detachment.LeaveReason.{LeaveReason};
+ghost use Rattle.mm_pdus.specs.declared.detachment.DetachReason.{DetachReason};
+ghost use Rattle.mm_pdus.specs.Values.{update_number, update_of, accept_of, update_accepted, lifetime_number, lifetime_of, leave_number, leave_of, detach_number, detach_of};
 ghost use Rattle.mm_pdus.specs.declared.uplink.MmUp.{MmUp};
 ghost use Rattle.mm_pdus.specs.declared.downlink.MmDown.{MmDown};
-ghost use Rattle.mm_pdus.specs.Uplink.{SpellsUp, canon_up};
-ghost use Rattle.mm_pdus.specs.Downlink.{SpellsDown, IsDown, canon_down};
+ghost use Rattle.mm_pdus.specs.declared.downlink.MmDown.TheVariants.{Acknowledge};
+ghost use Rattle.mm_pdus.specs.declared.group.GroupDown.{GroupDown};
+ghost use Rattle.mm_pdus.specs.Syntax.{extension};
+ghost use Rattle.mm_pdus.specs.Groups.{group_down, groups_extension};
+ghost use Rattle.mm_pdus.specs.Uplink.{SpellsUp, IsUp, canon_up};
 ghost use Rattle.mm_pdus.specs.UplinkReading.{reading_up};
+ghost use Rattle.mm_pdus.specs.Downlink.{SpellsDown, IsDown, canon_down, rejects, identity_downlink};
 ghost use Rattle.mm_pdus.specs.DownlinkReading.{reading_down};
 
 use crate::RejectCause;
+use std::alloc::Allocator;
 
 /// The causes that are used, which have the standard's numbers (clause 16.10, reject cause).
 pub fn used_causes() -> [RejectCause; 4]
@@ -33,6 +40,8 @@ pub fn used_causes() -> [RejectCause; 4]
 pub fn numbers_name_values()
     ensures update { (n : ℕ) → n < 8 → (update : LocationUpdateType) → (update_of n ≡ update) ↔ (n ≡ update_number update) }
     ensures lifetime { (n : ℕ) (lifetime : Lifetime) → (lifetime_of n ≡ Some lifetime) ↔ (n ≡ lifetime_number lifetime) }
+    ensures leave { (n : ℕ) → n < 4 → (reason : LeaveReason) → (leave_of n ≡ reason) ↔ (n ≡ leave_number reason) }
+    ensures detach { (n : ℕ) → n < 4 → (reason : DetachReason) → (detach_of n ≡ reason) ↔ (n ≡ detach_number reason) }
 {}
 
 /// An update is accepted as what it is.
@@ -41,33 +50,38 @@ pub fn accepted_as_asked()
 {}
 
 /// No bits spell two PDUs.
-pub fn one_value()
-    ensures up { (p q : MmUp) (bits : List Bool) → SpellsUp p bits → SpellsUp q bits → p ≡ q }
-    ensures down { (p q : MmDown) (bits : List Bool) → SpellsDown p bits → SpellsDown q bits → p ≡ q }
+pub fn one_value<A: Allocator>()
+    ensures up { (p q : MmUp A) (bits : List Bool) → SpellsUp p bits → SpellsUp q bits → p ≡ q }
+    ensures down { (p q : MmDown A) (bits : List Bool) → SpellsDown p bits → SpellsDown q bits → p ≡ q }
 {}
 
 /// The canonical text spells its PDU, so what was written is read back.
-pub fn read_back()
-    ensures spelt_up { (pdu : MmUp) → SpellsUp pdu (canon_up pdu) }
-    ensures spelt_down { (pdu : MmDown) → IsDown pdu → SpellsDown pdu (canon_down pdu) }
-    ensures up { (pdu : MmUp) → reading_up (canon_up pdu) ≡ Ok pdu }
-    ensures down { (pdu : MmDown) → IsDown pdu → reading_down (canon_down pdu) ≡ Ok pdu }
+pub fn read_back<A: Allocator>()
+    ensures spelt_up { (pdu : MmUp A) → IsUp pdu → SpellsUp pdu (canon_up pdu) }
+    ensures up { (pdu : MmUp A) → IsUp pdu → reading_up (canon_up pdu) ≡ Ok pdu }
+    ensures spelt_down { (pdu : MmDown A) → IsDown pdu → SpellsDown pdu (canon_down pdu) }
+    ensures down { (pdu : MmDown A) → IsDown pdu → reading_down (canon_down pdu) ≡ Ok pdu }
 {}
 
 /// A PDU with bits behind it is `Trailing`, whatever they are.
-pub fn bits_behind_a_pdu()
-    ensures up { (pdu : MmUp) (bits rest : List Bool) (b : Bool) → SpellsUp pdu bits → reading_up (bits ++ b ∷ rest) ≡ Err Trailing }
-    ensures down { (pdu : MmDown) (bits rest : List Bool) (b : Bool) → SpellsDown pdu bits → reading_down (bits ++ b ∷ rest) ≡ Err Trailing }
+pub fn bits_behind_a_pdu<A: Allocator>()
+    ensures up { (pdu : MmUp A) (bits rest : List Bool) (b : Bool) → SpellsUp pdu bits → reading_up {A = A} (bits ++ b ∷ rest) ≡ Err Trailing }
+    ensures down { (pdu : MmDown A) (bits rest : List Bool) (b : Bool) → SpellsDown pdu bits → reading_down {A = A} (bits ++ b ∷ rest) ≡ Err Trailing }
 {}
 
 /// Bits that begin with no PDU type that is read are `UnknownType`, whatever follows.
-pub fn other_types()
-    ensures up { (kind : ℕ) (rest : List Bool) → kind < 16 → (kind ≡ 1 → ⊥) → (kind ≡ 2 → ⊥) → reading_up (num 4 kind ++ rest) ≡ Err UnknownType }
-    ensures down { (kind : ℕ) (rest : List Bool) → kind < 16 → (kind ≡ 5 → ⊥) → (kind ≡ 7 → ⊥) → reading_down (num 4 kind ++ rest) ≡ Err UnknownType }
+pub fn other_types<A: Allocator>()
+    ensures up { (kind : ℕ) (rest : List Bool) → kind < 16 → (kind ≡ 1 → ⊥) → (kind ≡ 2 → ⊥) → (kind ≡ 7 → ⊥) → reading_up {A = A} (num 4 kind ++ rest) ≡ Err UnknownType }
+    ensures down { (kind : ℕ) (rest : List Bool) → kind < 16 → (kind ≡ 5 → ⊥) → (kind ≡ 7 → ⊥) → (kind ≡ 11 → ⊥) → reading_down {A = A} (num 4 kind ++ rest) ≡ Err UnknownType }
 {}
 
 /// The first bits of a PDU, where one or more are missing, are `Short`.
-pub fn bits_missing()
-    ensures up { (pdu : MmUp) (bits rest : List Bool) (b : Bool) → SpellsUp pdu (bits ++ b ∷ rest) → reading_up bits ≡ Err Short }
-    ensures down { (pdu : MmDown) (bits rest : List Bool) (b : Bool) → SpellsDown pdu (bits ++ b ∷ rest) → reading_down bits ≡ Err Short }
+pub fn bits_missing<A: Allocator>()
+    ensures up { (pdu : MmUp A) (bits rest : List Bool) (b : Bool) → SpellsUp pdu (bits ++ b ∷ rest) → reading_up {A = A} bits ≡ Err Short }
+    ensures down { (pdu : MmDown A) (bits rest : List Bool) (b : Bool) → SpellsDown pdu (bits ++ b ∷ rest) → reading_down {A = A} bits ≡ Err Short }
+{}
+
+/// An acknowledgement that says wrongly whether a group is rejected is `BadElement`.
+pub fn rejection_told_wrongly<A: Allocator>()
+    ensures { (items : List GroupDown) (reserved : Bool) → IsDown {A = A} (Acknowledge items) → reading_down {A = A} (num 4 11 ++ not (rejects items) ∷ reserved ∷ extension (groups_extension group_down identity_downlink items)) ≡ Err BadElement }
 {}

@@ -1,31 +1,42 @@
 //! PDUs from a radio.
 
-ghost use Rattle.std.specs.Prelude.{◌≡◌, ◌++◌, ◌↔◌, OnOk, IfOk, IfErr};
+ghost use Rattle.std.specs.Prelude.{◌≡◌, ◌≤◌, ◌++◌, false, length, Ok, OnOk, IfOk, IfErr};
 ghost use Rattle.mm_pdus.specs.declared.fault.MmFault.TheVariants.{NoMemory};
 ghost use Rattle.mm_pdus.specs.declared.uplink.MmUp.{MmUp};
-ghost use Rattle.mm_pdus.specs.declared.uplink.MmUp.TheVariants.{Demand, Detach};
-ghost use Rattle.mm_pdus.specs.Uplink.{SpellsUp, canon_up};
-ghost use Rattle.mm_pdus.specs.Reading.{with_rest};
-ghost use Rattle.mm_pdus.specs.UplinkReading.{detach_at, demand_at, up_at, reading_up};
+ghost use Rattle.mm_pdus.specs.Values.{most_groups};
+ghost use Rattle.mm_pdus.specs.Uplink.{SpellsUp, canon_up, detach_text, demand_text, groups_text};
+ghost use Rattle.mm_pdus.specs.Reading.{with_rest, giving, Gives, elements_at, made_element};
+ghost use Rattle.mm_pdus.specs.UplinkReading.{names_groups, join_groups, all_groups_at, groups_up_at, detach_at, demand_at, up_at, reading_up};
 
-use crate::elements::{skip_extension, skip_optional};
+use crate::elements::{element, skip_extension, skip_optional};
 use crate::fields::{bit, field};
+use crate::group_fields::{body_into, put_groups};
 use crate::writing::{put, put_bit};
-use crate::{LocationUpdateType, MmFault};
+use crate::{GroupItems, GroupMode, GroupUp, LocationUpdateType, MmFault};
 use identity::{BitReader, BitWriter, Bits};
 use std::alloc::Allocator;
 
+/// The identifier of the element group identity uplink.
+const GROUP_IDENTITY_UPLINK: u64 = 8;
+
 /// A PDU from a radio.
-#[derive(Debug, PartialEq, Eq, Drop)]
-pub enum MmUp {
+#[derive(Drop)]
+pub enum MmUp<A: Allocator> {
     /// U-LOCATION UPDATE DEMAND: the radio asks to be known at its location area.
-    Demand { update: LocationUpdateType },
+    Demand {
+        update: LocationUpdateType,
+    },
     /// U-ITSI DETACH: the radio goes.
     Detach,
+    /// U-ATTACH/DETACH GROUP IDENTITY: the radio joins and leaves groups.
+    Groups {
+        mode: GroupMode,
+        items: GroupItems<GroupUp, A>,
+    },
 }
 
 #[tactic(auto, unfolding(crate::specs::UplinkReading::demand_at))]
-fn demand(reader: &mut BitReader<'_>) -> Result<MmUp, MmFault>
+fn demand<A: Allocator>(reader: &mut BitReader<'_>) -> Result<MmUp<A>, MmFault>
     ensures { demand_at reader.old ≡ with_rest result reader.new }
 {
     let update = field(reader, 3)?;
@@ -38,44 +49,102 @@ fn demand(reader: &mut BitReader<'_>) -> Result<MmUp, MmFault>
 }
 
 #[tactic(auto, unfolding(crate::specs::UplinkReading::detach_at))]
-fn detach(reader: &mut BitReader<'_>) -> Result<MmUp, MmFault>
+fn detach<A: Allocator>(reader: &mut BitReader<'_>) -> Result<MmUp<A>, MmFault>
     ensures { detach_at reader.old ≡ with_rest result reader.new }
 {
     skip_extension(reader, &[24])?;
     Ok(MmUp::Detach)
 }
 
+/// Joins the groups of an element with groups to those that there are.
+fn join_element<A: Allocator>(
+    identifier: u64,
+    body: BitReader<'_>,
+    items: &mut GroupItems<GroupUp, A>,
+) -> Result<(), MmFault>
+    ensures { Gives (giving result items.new) (join_groups items.old (made_element identifier body.entry)) }
+{
+    if identifier == GROUP_IDENTITY_UPLINK {
+        body_into(body, items)?;
+    }
+    Ok(())
+}
+
+fn join_elements<A: Allocator>(
+    reader: &mut BitReader<'_>,
+    items: &mut GroupItems<GroupUp, A>,
+) -> Result<(), MmFault>
+    ensures { Gives (giving result (items.new, reader.new)) (elements_at join_groups (length reader.old) items.old reader.old) }
+{
+    while let Some((identifier, body)) = element(reader)? {
+        join_element(identifier, body, items)?;
+    }
+    Ok(())
+}
+
+#[tactic(auto, unfolding(crate::specs::UplinkReading::all_groups_at))]
+fn all_groups<A: Allocator>(
+    alloc: A,
+    reader: &mut BitReader<'_>,
+) -> Result<GroupItems<GroupUp, A>, MmFault>
+    ensures { Gives (with_rest result reader.new) (all_groups_at reader.old) }
+{
+    let mut items = GroupItems::new(alloc);
+    if bit(reader)? {
+        join_elements(reader, &mut items)?;
+    }
+    Ok(items)
+}
+
+#[tactic(auto, unfolding(crate::specs::UplinkReading::groups_up_at))]
+fn groups<A: Allocator>(alloc: A, reader: &mut BitReader<'_>) -> Result<MmUp<A>, MmFault>
+    ensures { Gives (with_rest result reader.new) (groups_up_at reader.old) }
+{
+    let _report = bit(reader)?;
+    let mode = GroupMode::from_bit(bit(reader)?);
+    let items = all_groups(alloc, reader)?;
+    Ok(MmUp::Groups { mode, items })
+}
+
 #[tactic(auto, unfolding(crate::specs::UplinkReading::up_at))]
-fn up(reader: &mut BitReader<'_>) -> Result<MmUp, MmFault>
-    ensures { up_at reader.old ≡ with_rest result reader.new }
+fn up<A: Allocator>(alloc: A, reader: &mut BitReader<'_>) -> Result<MmUp<A>, MmFault>
+    ensures given { Gives (with_rest result reader.new) (up_at reader.old) }
+    ensures exact { names_groups reader.old ≡ false → up_at reader.old ≡ with_rest result reader.new }
 {
     match field(reader, 4)? {
         1 => detach(reader),
         2 => demand(reader),
+        7 => groups(alloc, reader),
         _ => Err(MmFault::UnknownType),
     }
 }
 
 #[tactic(auto, unfolding(crate::specs::UplinkReading::reading_up))]
-fn whole_up<A: Allocator>(bits: &Bits<A>) -> Result<MmUp, MmFault>
-    ensures { result ≡ reading_up bits.now }
+fn whole_up<A: Allocator, B: Allocator>(alloc: A, bits: &Bits<B>) -> Result<MmUp<A>, MmFault>
+    ensures given { Gives result (reading_up bits.now) }
+    ensures exact { names_groups bits.now ≡ false → result ≡ reading_up bits.now }
 {
     let mut reader = BitReader::new(bits);
-    let pdu = up(&mut reader)?;
+    let pdu = up(alloc, &mut reader)?;
     if reader.left() > 0 {
         return Err(MmFault::Trailing);
     }
     Ok(pdu)
 }
 
-/// The PDU that the bits spell, all of them, or the first fault from the left.
-pub fn read_up<A: Allocator>(bits: &Bits<A>) -> Result<MmUp, MmFault>
-    // It is this PDU exactly where the bits spell it.
-    ensures value { (pdu : MmUp) → (result ≡ Ok pdu) ↔ SpellsUp pdu bits.now }
+/// The PDU that the bits spell, all of them, or the first fault from the left. Its groups are kept
+/// under `alloc`; `NoMemory` where memory for them ran out.
+pub fn read_up<A: Allocator, B: Allocator>(alloc: A, bits: &Bits<B>) -> Result<MmUp<A>, MmFault>
+    // What is read is spelt by the bits.
+    ensures spelt { IfOk result (λ pdu. SpellsUp pdu bits.now) }
+    // What the bits spell is read, unless memory ran out.
+    ensures found { (pdu : MmUp A) → SpellsUp pdu bits.now → Gives result (Ok pdu) }
     // Else it is the first fault.
-    ensures fault { result ≡ reading_up bits.now }
+    ensures fault { Gives result (reading_up bits.now) }
+    // Memory is needed for groups alone.
+    ensures exact { names_groups bits.now ≡ false → result ≡ reading_up bits.now }
 {
-    whole_up(bits)
+    whole_up(alloc, bits)
 }
 
 #[tactic(auto, using(std::proofs::Common::append_assoc))]
@@ -83,7 +152,7 @@ fn put_demand<A: Allocator>(
     writer: &mut BitWriter<A>,
     update: LocationUpdateType,
 ) -> Result<(), MmFault>
-    ensures ok { OnOk result (writer.new ≡ writer.old ++ canon_up (Demand update)) }
+    ensures ok { OnOk result (writer.new ≡ writer.old ++ demand_text update) }
     ensures err { IfErr result (λ e. e ≡ NoMemory) }
 {
     put(writer, 2, 4)?;
@@ -95,15 +164,31 @@ fn put_demand<A: Allocator>(
 
 #[tactic(auto, using(std::proofs::Common::append_assoc))]
 fn put_detach<A: Allocator>(writer: &mut BitWriter<A>) -> Result<(), MmFault>
-    ensures ok { OnOk result (writer.new ≡ writer.old ++ canon_up Detach) }
+    ensures ok { OnOk result (writer.new ≡ writer.old ++ detach_text) }
     ensures err { IfErr result (λ e. e ≡ NoMemory) }
 {
     put(writer, 1, 4)?;
     put_bit(writer, false)
 }
 
+#[tactic(auto, using(std::proofs::Common::append_assoc))]
+fn put_all_groups<A: Allocator>(
+    writer: &mut BitWriter<A>,
+    mode: GroupMode,
+    items: &[GroupUp],
+) -> Result<(), MmFault>
+    requires { length items.now ≤ most_groups }
+    ensures ok { OnOk result (writer.new ≡ writer.old ++ groups_text mode items.now) }
+    ensures err { IfErr result (λ e. e ≡ NoMemory) }
+{
+    put(writer, 7, 4)?;
+    put_bit(writer, false)?;
+    put_bit(writer, mode.bit())?;
+    put_groups(writer, GROUP_IDENTITY_UPLINK, items)
+}
+
 /// The canonical text of the PDU. The only error is `NoMemory`.
-pub fn write_up<A: Allocator>(alloc: A, pdu: &MmUp) -> Result<Bits<A>, MmFault>
+pub fn write_up<A: Allocator, B: Allocator>(alloc: A, pdu: &MmUp<B>) -> Result<Bits<A>, MmFault>
     ensures ok { IfOk result (λ bits. bits ≡ canon_up pdu.now) }
     ensures err { IfErr result (λ e. e ≡ NoMemory) }
 {
@@ -111,6 +196,7 @@ pub fn write_up<A: Allocator>(alloc: A, pdu: &MmUp) -> Result<Bits<A>, MmFault>
     match pdu {
         MmUp::Demand { update } => put_demand(&mut writer, *update)?,
         MmUp::Detach => put_detach(&mut writer)?,
+        MmUp::Groups { mode, items } => put_all_groups(&mut writer, *mode, items.as_slice())?,
     }
     Ok(writer.finish())
 }

@@ -3,7 +3,7 @@ use Rattle.mm_pdus.proofs.DownlinkLaws as downlink
 use Rattle.mm_pdus.proofs.laws.other_types.Goals as goal
 
 pub returns-clause-up : goal.returns-clause-up
-returns-clause-up c = uplink.other_type
+returns-clause-up g c = uplink.other_type _
 
 pub returns-clause-down : goal.returns-clause-down
-returns-clause-down c = downlink.other_type
+returns-clause-down g c = downlink.other_type

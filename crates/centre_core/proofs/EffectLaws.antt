@@ -1,0 +1,97 @@
+-- What holds of every state holds after what a rule, a location update, a detach and groups make of it.
+use Rattle.std.proofs.Common.{◌≡◌, ℕ, List, refl, sym, subst, ap, ◌∙◌, Option, None}
+use Rattle.identity.specs.Path.{Path}
+use Rattle.mm_pdus.specs.declared.update.LocationUpdateType.{LocationUpdateType}
+use Rattle.mm_pdus.specs.declared.group.GroupMode.{GroupMode}
+use Rattle.mm_pdus.specs.declared.group.GroupUp.{GroupUp}
+use Rattle.registration.specs.declared.rule.Rule.{Rule}
+use Rattle.registration.specs.Registered.{Registered, set_refusal, with_rule, locate_refusal, located, detached}
+use Rattle.group_attach.specs.Attached.{Attached}
+use Rattle.group_attach.specs.Applied.{after_update, applied, apply_refusal}
+use Rattle.group_attach.proofs.KeptLaws.{after_update_fits, after_update_known, applied_fits, applied_known, known_after}
+use Rattle.mailbox.specs.Values.{Mailed}
+use Rattle.centre_core.specs.State.{State, Served, IsState}
+use Rattle.centre_core.specs.Step.{rule_set, radio_located, radio_detached, groups_changed}
+use Rattle.centre_core.proofs.RegisteredLaws.{with_rule_within, located_within, located_keeps, detached_within, detached_keeps, detached_limits}
+
+-- what a step may change of a state before the command is counted
+pub record IsChange (s t : State) : Type 0 where
+  pub limits : t.registered.limits ≡ s.registered.limits
+  pub served : t.served ≡ s.served
+  pub count : t.count ≡ s.count
+  pub state : IsState s → IsState t
+
+pub rule_set_change : (s : State) (prefix : Path) (rule : Rule) → set_refusal s.registered prefix ≡ None → IsChange s (rule_set s prefix rule)
+rule_set_change s prefix rule none = record {
+  limits = refl;
+  served = refl;
+  count = refl;
+  state = λ h. (with_rule_within s.registered prefix rule none h.0, h.1, h.2, h.3, h.4, h.5);
+}
+
+pub radio_located_change : (s : State) (itsi station area : ℕ) (update : LocationUpdateType) → locate_refusal s.registered itsi area update ≡ None → IsChange s (radio_located s itsi station area update)
+radio_located_change s itsi station area update none = record {
+  limits = refl;
+  served = refl;
+  count = refl;
+  state = λ h. (
+    located_within s.registered itsi station area update none h.0,
+    (
+      after_update_fits s.groups itsi update h.1.0,
+      after_update_known (located s.registered itsi station area) s.groups itsi update (known_after s.registered (located s.registered itsi station area) s.groups (located_keeps s.registered itsi station area) h.1.1),
+    ),
+    h.2,
+    h.3,
+    h.4,
+    h.5,
+  );
+}
+
+pub radio_detached_change : (s : State) (itsi : ℕ) → IsChange s (radio_detached s itsi)
+radio_detached_change s itsi = record {
+  limits = detached_limits s.registered itsi;
+  served = refl;
+  count = refl;
+  state = λ h. (
+    detached_within s.registered itsi h.0,
+    (h.1.0, known_after s.registered (detached s.registered itsi) s.groups (detached_keeps s.registered itsi) h.1.1),
+    (h.2.0, h.2.1 ∙ ap (λ l. l.mail) (sym (detached_limits s.registered itsi))),
+    h.3 ∙ ap (λ l. l.stations) (sym (detached_limits s.registered itsi)),
+    h.4,
+    h.5,
+  );
+}
+
+pub groups_changed_change : (s : State) (itsi : ℕ) (mode : GroupMode) (items : List GroupUp) → apply_refusal s.registered s.groups itsi mode items ≡ None → IsChange s (groups_changed s itsi mode items)
+groups_changed_change s itsi mode items none = record {
+  limits = refl;
+  served = refl;
+  count = refl;
+  state = λ h. (
+    h.0,
+    (applied_fits s.registered s.groups itsi mode items none h.1.0, applied_known s.registered s.groups itsi mode items none h.1.1),
+    h.2,
+    h.3,
+    h.4,
+    h.5,
+  );
+}
+
+-- so too of any value that is known to be such a change
+pub rule_set_state : (s : State) (new : Registered) (prefix : Path) (rule : Rule) → set_refusal s.registered prefix ≡ None → new ≡ with_rule s.registered prefix rule → IsState s → IsState (record s { registered = new })
+rule_set_state s new prefix rule none e h = subst (λ r. IsState (record s { registered = r })) (sym e) ((rule_set_change s prefix rule none).state h)
+
+pub radio_located_state : (s : State) (new : Registered) (groups : Attached) (itsi station area : ℕ) (update : LocationUpdateType) → locate_refusal s.registered itsi area update ≡ None → new ≡ located s.registered itsi station area → groups ≡ after_update s.groups itsi update → IsState s → IsState (record s { registered = new; groups = groups })
+radio_located_state s new groups itsi station area update none e f h =
+    subst (λ r. IsState (record s { registered = r; groups = groups })) (sym e)
+    (subst (λ m. IsState (record s { registered = located s.registered itsi station area; groups = m })) (sym f) ((radio_located_change s itsi station area update none).state h))
+
+pub radio_detached_state : (s : State) (new : Registered) (itsi : ℕ) → new ≡ detached s.registered itsi → IsState s → IsState (record s { registered = new })
+radio_detached_state s new itsi e h = subst (λ r. IsState (record s { registered = r })) (sym e) ((radio_detached_change s itsi).state h)
+
+pub groups_changed_state : (s : State) (groups : Attached) (itsi : ℕ) (mode : GroupMode) (items : List GroupUp) → apply_refusal s.registered s.groups itsi mode items ≡ None → groups ≡ applied s.registered s.groups itsi mode items → IsState s → IsState (record s { groups = groups })
+groups_changed_state s groups itsi mode items none e h = subst (λ m. IsState (record s { groups = m })) (sym e) ((groups_changed_change s itsi mode items none).state h)
+
+pub same_state : (s : State) (new : Registered) (groups : Attached) (mail : Mailed) (served : List (Option Served)) → new ≡ s.registered → groups ≡ s.groups → mail ≡ s.mail → served ≡ s.served → IsState s
+    → IsState (record { registered = new; groups = groups; mail = mail; served = served; count = s.count })
+same_state s new groups mail served e f g k h = rw (e, f, g, k) h

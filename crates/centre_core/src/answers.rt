@@ -1,0 +1,105 @@
+//! The PDUs that answer a radio, and how its PDUs are refused.
+ghost use Rattle.std.specs.Prelude.{◌≡◌, ◌≢◌, IfOk};
+ghost use Rattle.mm_pdus.specs.Downlink.{canon_down};
+ghost use Rattle.registration.specs.declared.fault.RegFault.TheVariants as registration;
+ghost use Rattle.group_attach.specs.declared.fault.GroupFault.TheVariants as groups;
+ghost use Rattle.centre_core.specs.declared.reply.Refusal.TheVariants.{Registration, Groups};
+ghost use Rattle.centre_core.specs.Step.{cause_of, accept_pdu, acknowledge_pdu, location_refusal};
+
+use crate::Refusal;
+use group_attach::{GroupFault, answers};
+use identity::{Bits, Itsi};
+use mm_pdus::{GroupItems, GroupUp, LocationUpdateType, MmDown, RejectCause, write_down};
+use registration::{RegFault, Registry};
+use std::alloc::{AllocError, Allocator};
+
+/// The D-LOCATION UPDATE ACCEPT of an update that may be accepted.
+pub(crate) fn accept_pdu<A: Allocator>(
+    alloc: A,
+    update: LocationUpdateType,
+) -> Result<Option<Bits<A>>, AllocError>
+    ensures { IfOk result (λ pdu. pdu ≡ accept_pdu update) }
+{
+    let Some(update) = update.accept_type() else {
+        return Ok(None);
+    };
+    let pdu: MmDown<A> = MmDown::Accept { update };
+    Ok(Some(written(alloc, &pdu)?))
+}
+
+/// The refusal of a location update, with its D-LOCATION UPDATE REJECT where it has a cause. Want of
+/// memory is no refusal.
+pub(crate) fn location_refusal<A: Allocator>(
+    alloc: A,
+    update: LocationUpdateType,
+    fault: RegFault,
+) -> Result<Refusal<A>, AllocError>
+    ensures { IfOk result (λ refusal. (fault ≢ registration.NoMemory) × (refusal ≡ location_refusal update fault)) }
+{
+    let Some(cause) = cause_of(fault) else {
+        return registration_refusal(fault);
+    };
+    let pdu: MmDown<A> = MmDown::Reject { update, cause };
+    let reject = written(alloc, &pdu)?;
+    Ok(Refusal::Location { fault, reject })
+}
+
+/// The refusal of a change of rules or radios that has no PDU. Want of memory is no refusal.
+pub(crate) fn registration_refusal<A: Allocator>(fault: RegFault) -> Result<Refusal<A>, AllocError>
+    ensures { IfOk result (λ refusal. (fault ≢ registration.NoMemory) × (refusal ≡ Registration fault)) }
+{
+    if fault == RegFault::NoMemory {
+        return Err(AllocError);
+    }
+    Ok(Refusal::Registration(fault))
+}
+
+// The cause that the radio is told.
+fn cause_of(fault: RegFault) -> Option<RejectCause>
+    ensures { result ≡ cause_of fault }
+{
+    match fault {
+        RegFault::UnknownIdentity => Some(RejectCause::ITSI_UNKNOWN),
+        RegFault::LaNotAllowed => Some(RejectCause::LA_NOT_ALLOWED),
+        RegFault::Congestion => Some(RejectCause::CONGESTION),
+        RegFault::Migration => Some(RejectCause::MIGRATION_NOT_SUPPORTED),
+        RegFault::UnsupportedType
+        | RegFault::NotAttached
+        | RegFault::RulesFull
+        | RegFault::NoMemory => None,
+    }
+}
+
+/// The D-ATTACH/DETACH GROUP IDENTITY ACKNOWLEDGEMENT of what a radio asks of groups. The items lie
+/// under `scratch`.
+pub(crate) fn acknowledge_pdu<A: Allocator, R: Allocator + Clone, B: Allocator, C: Allocator>(
+    alloc: A,
+    scratch: C,
+    registry: &Registry<R>,
+    itsi: Itsi,
+    items: &GroupItems<GroupUp, B>,
+) -> Result<Bits<A>, AllocError>
+    ensures { IfOk result (λ pdu. pdu ≡ acknowledge_pdu registry.now itsi items.now) }
+{
+    let items = answers(scratch, registry, itsi, items)?;
+    written(alloc, &MmDown::Acknowledge { items })
+}
+
+/// The refusal of a change of groups. Want of memory is no refusal.
+pub(crate) fn groups_refusal<A: Allocator>(fault: GroupFault) -> Result<Refusal<A>, AllocError>
+    ensures { IfOk result (λ refusal. (fault ≢ groups.NoMemory) × (refusal ≡ Groups fault)) }
+{
+    if fault == GroupFault::NoMemory {
+        return Err(AllocError);
+    }
+    Ok(Refusal::Groups(fault))
+}
+
+fn written<A: Allocator, B: Allocator>(alloc: A, pdu: &MmDown<B>) -> Result<Bits<A>, AllocError>
+    ensures { IfOk result (λ bits. bits ≡ canon_down pdu.now) }
+{
+    match write_down(alloc, pdu) {
+        Ok(bits) => Ok(bits),
+        Err(_) => Err(AllocError),
+    }
+}

@@ -1,0 +1,7 @@
+mod Pairs
+mod Filtered
+mod Places
+mod Answering
+mod Counting
+mod Steps
+pub mod KeptLaws

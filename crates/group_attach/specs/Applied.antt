@@ -1,0 +1,98 @@
+-- What a location update and a group PDU make of the attachments, and how the PDU is answered.
+use Rattle.std.specs.Prelude.{ℕ, ◌==◌, nat_lt, Bool, true, false, ◌&&◌, not, List, Option, Some, None, if◌then◌else◌}
+use Rattle.std.specs.List.{filter, filter_map, fold}
+use Rattle.std.specs.FinMap as finite
+use Rattle.mm_pdus.specs.declared.update.LocationUpdateType.{LocationUpdateType}
+use Rattle.mm_pdus.specs.declared.update.LocationUpdateType.TheVariants.{Roaming, Migrating, Periodic, ItsiAttach, ServiceRestorationRoaming, ServiceRestorationMigrating, Demand, DisabledMs}
+use Rattle.mm_pdus.specs.declared.lifetime.Lifetime.{Lifetime}
+use Rattle.mm_pdus.specs.declared.lifetime.Lifetime.TheVariants.{NotNeeded, NextItsiAttach, NotAllowedAtNextItsiAttach, NextLocationUpdate}
+use Rattle.mm_pdus.specs.declared.address.GroupAddress.{GroupAddress}
+use Rattle.mm_pdus.specs.declared.detachment.DetachReason.TheVariants as reason
+use Rattle.mm_pdus.specs.declared.group.GroupMode.{GroupMode}
+use Rattle.mm_pdus.specs.declared.group.GroupMode.TheVariants.{Amendment, DetachAllFirst}
+use Rattle.mm_pdus.specs.declared.group.GroupUp.{GroupUp}
+use Rattle.mm_pdus.specs.declared.group.GroupUp.TheVariants as up
+use Rattle.mm_pdus.specs.declared.group.GroupDown.{GroupDown}
+use Rattle.mm_pdus.specs.declared.group.GroupDown.TheVariants as down
+use Rattle.mm_pdus.specs.Address.{gtsi_of}
+use Rattle.registration.specs.declared.rule.Rule.{Rule}
+use Rattle.registration.specs.Registered.{Registered, rule_of, radio_of, is_present}
+use Rattle.group_attach.specs.declared.fault.GroupFault.{GroupFault}
+use Rattle.group_attach.specs.declared.fault.GroupFault.TheVariants.{NotAttached, TooManyGroups}
+use Rattle.group_attach.specs.Attached.{Attached, Pair, Usage, of_radio, groups_of}
+
+-- the attachments that pass the test
+abbrev pub kept_where : (Pair × Usage → Bool) → Attached → Attached
+kept_where test m = finite.from_sorted (filter test (finite.entries m))
+
+-- the lifetimes that an ITSI attach ends, and those that the other location updates end which are no periodic one
+abbrev pub ends_at_attach : Lifetime → Bool
+ends_at_attach NotNeeded = false
+ends_at_attach NextItsiAttach = true
+ends_at_attach NotAllowedAtNextItsiAttach = true
+ends_at_attach NextLocationUpdate = true
+
+abbrev pub ends_at_update : Lifetime → Bool
+ends_at_update NotNeeded = false
+ends_at_update NextItsiAttach = false
+ends_at_update NotAllowedAtNextItsiAttach = false
+ends_at_update NextLocationUpdate = true
+
+-- whether an accepted update of this type ends an attachment; migration and the update of a disabled radio are never accepted
+abbrev pub is_dropped : LocationUpdateType → Lifetime → Bool
+is_dropped Roaming lifetime = ends_at_update lifetime
+is_dropped Migrating lifetime = false
+is_dropped Periodic lifetime = false
+is_dropped ItsiAttach lifetime = ends_at_attach lifetime
+is_dropped ServiceRestorationRoaming lifetime = ends_at_update lifetime
+is_dropped ServiceRestorationMigrating lifetime = false
+is_dropped Demand lifetime = ends_at_update lifetime
+is_dropped DisabledMs lifetime = false
+
+-- the attachments after an accepted location update of the radio
+abbrev pub after_update : Attached → ℕ → LocationUpdateType → Attached
+after_update m itsi update = kept_where (λ e. not ((e.0.0 == itsi) && is_dropped update e.1.1)) m
+
+-- all but the radio's
+abbrev pub without_radio : Attached → ℕ → Attached
+without_radio m itsi = finite.retain_keys m (λ pair. not (pair.0 == itsi))
+
+-- a group without a rule is not attached; one that has a rule is, for the rule's lifetime and in place of how it was before
+abbrev pub attached_by : Attached → Pair → ℕ → Option Rule → Attached
+attached_by m pair class None = m
+attached_by m pair class (Some rule) = finite.insert m pair (class, rule.lifetime)
+
+-- what one item of a radio's PDU makes of the attachments
+abbrev pub changed_by : Registered → ℕ → Attached → GroupUp → Attached
+changed_by s itsi m (up.Attach class address) = attached_by m (itsi, gtsi_of address itsi) class (rule_of s (gtsi_of address itsi))
+changed_by s itsi m (up.Leave reason address) = finite.remove m (itsi, gtsi_of address itsi)
+
+abbrev pub at_start : Attached → ℕ → GroupMode → Attached
+at_start m itsi Amendment = m
+at_start m itsi DetachAllFirst = without_radio m itsi
+
+-- the attachments after a radio's PDU of this mode and these items
+abbrev pub applied : Registered → Attached → ℕ → GroupMode → List GroupUp → Attached
+applied s m itsi mode items = fold (changed_by s itsi) (at_start m itsi mode) items
+
+-- the answer to an attach, by the group's rule
+abbrev pub answer_by : ℕ → GroupAddress → Option Rule → GroupDown
+answer_by class address None = down.Detach reason.UnknownGroup address
+answer_by class address (Some rule) = down.Attach rule.lifetime class address
+
+abbrev pub answer : Registered → ℕ → GroupUp → Option GroupDown
+answer s itsi (up.Attach class address) = Some (answer_by class address (rule_of s (gtsi_of address itsi)))
+answer s itsi (up.Leave reason address) = None
+
+-- the acknowledgement: the items that attach, in order
+abbrev pub answers : Registered → ℕ → List GroupUp → List GroupDown
+answers s itsi items = filter_map (answer s itsi) items
+
+-- how many groups a radio may be attached to
+abbrev pub most_of_radio : ℕ
+most_of_radio = 32
+
+-- why a group PDU is refused: the radio is not present, or would be attached to more groups than it may
+abbrev pub apply_refusal : Registered → Attached → ℕ → GroupMode → List GroupUp → Option GroupFault
+apply_refusal s m itsi mode items =
+    if is_present (radio_of s itsi) then (if nat_lt most_of_radio (finite.len (of_radio (applied s m itsi mode items) itsi)) then Some TooManyGroups else None) else Some NotAttached

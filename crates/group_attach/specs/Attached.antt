@@ -1,0 +1,59 @@
+-- The attachments of radios to groups as one finite map, and what can be asked of it.
+use Rattle.std.specs.Prelude.{ℕ, ◌==◌, Bool, not, List, map}
+use Rattle.std.specs.List.{filter}
+use Rattle.std.specs.Ordering.{nat_cmp, ordering_then}
+use Rattle.std.specs.declared.cmp.Ordering.{Ordering}
+use Rattle.std.specs.Coded.{Coded, coded×, coded_ℕ}
+use Rattle.std.specs.FinMap as finite
+use Rattle.mm_pdus.specs.declared.lifetime.Lifetime.{Lifetime}
+use Rattle.mm_pdus.specs.contracts.lifetime.Lifetime as lifetime
+use Rattle.group_attach.specs.declared.attachment.Attachment.{Attachment}
+
+-- a radio and a group
+abbrev pub Pair : Type 0
+Pair = ℕ × ℕ
+
+-- by radio, then by group
+abbrev pub pair_cmp : Pair → Pair → Ordering
+pair_cmp p q = ordering_then (nat_cmp p.0 q.0) (nat_cmp p.1 q.1)
+
+-- how a radio is attached to a group: the class of usage, and the lifetime
+abbrev pub Usage : Type 0
+Usage = ℕ × Lifetime
+
+-- how each radio is attached to each of its groups
+abbrev pub Attached : Type 0
+Attached = finite.FinMap pair_cmp Usage
+
+-- how it is stored, for proofs
+abbrev pub coded_attached : Coded Attached
+coded_attached = finite.code (coded× coded_ℕ coded_ℕ) (coded× coded_ℕ (lifetime.the_row).coded)
+
+-- no radio is attached to any group
+abbrev pub no_groups : Attached
+no_groups = finite.empty
+
+-- an entry of the map as an attachment, and back
+abbrev pub attachment_of : Pair × Usage → Attachment
+attachment_of e = record { itsi = e.0.0; gtsi = e.0.1; class = e.1.0; lifetime = e.1.1 }
+
+abbrev pub entry_of : Attachment → Pair × Usage
+entry_of a = ((a.itsi, a.gtsi), (a.class, a.lifetime))
+
+-- all attachments, by radio and then by group
+abbrev pub listed : Attached → List Attachment
+listed m = map attachment_of (finite.entries m)
+
+-- those of one radio, and those to one group
+abbrev pub of_radio : Attached → ℕ → Attached
+of_radio m itsi = finite.retain_keys m (λ pair. pair.0 == itsi)
+
+abbrev pub of_group : Attached → ℕ → Attached
+of_group m gtsi = finite.retain_keys m (λ pair. pair.1 == gtsi)
+
+-- a radio's attachments by group, and a group's by radio
+abbrev pub groups_of : Attached → ℕ → List Attachment
+groups_of m itsi = listed (of_radio m itsi)
+
+abbrev pub members_of : Attached → ℕ → List Attachment
+members_of m gtsi = listed (of_group m gtsi)

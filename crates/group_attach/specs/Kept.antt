@@ -1,0 +1,30 @@
+-- What holds of the attachments of every register.
+use Rattle.std.specs.Prelude.{◌≡◌, ℕ, ◌≤◌, List, None, IsSome}
+use Rattle.std.specs.FinMap as finite
+use Rattle.registration.specs.Registered.{Registered, radio_of}
+use Rattle.mm_pdus.specs.declared.update.LocationUpdateType.{LocationUpdateType}
+use Rattle.mm_pdus.specs.declared.group.GroupMode.{GroupMode}
+use Rattle.mm_pdus.specs.declared.group.GroupUp.{GroupUp}
+use Rattle.group_attach.specs.Attached.{Attached, no_groups, of_radio}
+use Rattle.group_attach.specs.Applied.{most_of_radio, after_update, applied, apply_refusal}
+
+-- no radio is attached to more groups than it may
+abbrev pub AllGroupsFit : Attached → Type 0
+AllGroupsFit m = (itsi : ℕ) → finite.len (of_radio m itsi) ≤ most_of_radio
+
+-- the radio of each attachment is known
+abbrev pub AreKnown : Registered → Attached → Type 0
+AreKnown s m = (itsi gtsi : ℕ) → IsSome (finite.get m (itsi, gtsi)) → IsSome (radio_of s itsi)
+
+-- both
+abbrev pub AreKept : Registered → Attached → Type 0
+AreKept s m = AllGroupsFit m × AreKnown s m
+
+abbrev pub EmptyIsKept : Type 0
+EmptyIsKept = (s : Registered) → AreKept s no_groups
+
+abbrev pub UpdatesKeep : Type 0
+UpdatesKeep = (s : Registered) (m : Attached) (itsi : ℕ) (update : LocationUpdateType) → AreKept s m → AreKept s (after_update m itsi update)
+
+abbrev pub PdusKeep : Type 0
+PdusKeep = (s : Registered) (m : Attached) (itsi : ℕ) (mode : GroupMode) (items : List GroupUp) → apply_refusal s m itsi mode items ≡ None → AreKept s m → AreKept s (applied s m itsi mode items)

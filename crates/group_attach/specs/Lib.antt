@@ -1,0 +1,5 @@
+pub mod Attached
+pub mod Applied
+pub mod Kept
+pub mod InOrder
+pub mod Counted

@@ -1,0 +1,184 @@
+//! The attachments of all radios, and the calls that change them.
+
+ghost use Rattle.std.specs.Prelude.{◌≡◌, None, OnOk, IfOk, IfErr, unwrap_or};
+ghost use Rattle.registration.specs.Registered.{is_present};
+ghost use Rattle.group_attach.specs.Attached.{no_groups, groups_of, members_of};
+ghost use Rattle.group_attach.specs.Applied.{after_update, applied, answers, apply_refusal};
+ghost use Rattle.group_attach.specs.declared.fault.GroupFault.TheVariants.{NoMemory};
+
+use crate::answer::answers;
+use crate::count::count_after;
+use crate::edit::{change_all, drop_ended};
+use crate::list::{of_radio, to_group};
+use crate::{Attachment, GroupFault};
+use identity::{Gtsi, Itsi};
+use mm_pdus::{GroupDown, GroupItems, GroupMode, GroupUp, LocationUpdateType};
+use prefix_tree::TryCopy;
+use registration::{Radio, Registry};
+use std::alloc::{AllocError, Allocator};
+use std::marker::Model;
+
+/// To how many groups a radio may be attached.
+const MOST_OF_RADIO: usize = 32;
+
+/// Which groups each radio is attached to, at most once to each.
+#[derive(Drop)]
+pub struct Groups<A: Allocator> {
+    entries: Vec<Attachment, A>,
+}
+
+impl<A: Allocator> Model for Groups<A> {
+    ghost use Rattle.group_attach.specs.Attached.{Attached, coded_attached};
+    ghost use Rattle.group_attach.specs.InOrder.{map_of, IsInOrder};
+
+    ghost Value = { Attached };
+
+    ghost coded = { coded_attached };
+
+    ghost view = { λ g. map_of g.entries.items };
+
+    ghost invariant = { λ g. IsInOrder g.entries.items };
+}
+
+impl<A: Allocator> Groups<A> {
+    /// No attachments. It takes no memory until the first one.
+    pub fn new(alloc: A) -> Self
+        ensures { result ≡ no_groups }
+    {
+        Groups {
+            entries: Vec::new(alloc),
+        }
+    }
+
+    /// A radio's attachments in order of their groups.
+    pub fn groups_of<C: Allocator>(
+        &self,
+        alloc: C,
+        itsi: Itsi,
+    ) -> Result<Vec<Attachment, C>, AllocError>
+        ensures { IfOk result (λ list. list.items ≡ groups_of self.now itsi) }
+    {
+        of_radio(alloc, &self.entries, itsi)
+    }
+
+    /// The attachments to a group in order of their radios, be these present or not.
+    pub fn members_of<C: Allocator>(
+        &self,
+        alloc: C,
+        gtsi: Gtsi,
+    ) -> Result<Vec<Attachment, C>, AllocError>
+        ensures { IfOk result (λ list. list.items ≡ members_of self.now gtsi) }
+    {
+        to_group(alloc, &self.entries, gtsi)
+    }
+
+    /// An accepted location update of the radio ends attachments by their lifetime (clause 16.4): an
+    /// ITSI attach all but those for which none is needed, a periodic update none, and another update
+    /// those that are to be attached anew at the next one. It takes no memory.
+    pub fn on_update(&mut self, itsi: Itsi, update: LocationUpdateType)
+        ensures { self.new ≡ after_update self.old itsi update }
+    {
+        drop_ended(&mut self.entries, itsi, update);
+    }
+
+    /// Why `apply` would refuse this PDU, memory aside: `NotAttached` and `TooManyGroups`, in this
+    /// order. It takes no memory.
+    pub fn apply_refusal<R: Allocator + Clone, B: Allocator>(
+        &self,
+        registry: &Registry<R>,
+        itsi: Itsi,
+        mode: GroupMode,
+        items: &GroupItems<GroupUp, B>,
+    ) -> Option<GroupFault>
+        ensures { result ≡ apply_refusal registry.now self.now itsi mode items.now }
+    {
+        if !is_present(registry.where_is(itsi)) {
+            return Some(GroupFault::NotAttached);
+        }
+        if count_after(&self.entries, registry, itsi, mode, items.as_slice()) > MOST_OF_RADIO {
+            Some(GroupFault::TooManyGroups)
+        } else {
+            None
+        }
+    }
+
+    /// Changes the radio's groups as its PDU asks (clause 16.8, attachment and detachment of group
+    /// identities), and gives the acknowledgement: `change` and `answers` in one.
+    pub fn apply<R: Allocator + Clone, B: Allocator, C: Allocator>(
+        &mut self,
+        alloc: C,
+        registry: &Registry<R>,
+        itsi: Itsi,
+        mode: GroupMode,
+        items: &GroupItems<GroupUp, B>,
+    ) -> Result<GroupItems<GroupDown, C>, GroupFault>
+        ensures answered { IfOk result (λ list. list ≡ answers registry.now itsi items.now) }
+        ensures ok { OnOk result ((apply_refusal registry.now self.old itsi mode items.now ≡ None) × (self.new ≡ applied registry.now self.old itsi mode items.now)) }
+        ensures err { IfErr result (λ e. (e ≡ unwrap_or (apply_refusal registry.now self.old itsi mode items.now) NoMemory) × (self.new ≡ self.old)) }
+    {
+        if let Some(fault) = self.apply_refusal(registry, itsi, mode, items) {
+            return Err(fault);
+        }
+        let Ok(answered) = answers(alloc, registry, itsi, items) else {
+            return Err(GroupFault::NoMemory);
+        };
+        self.enact(registry, itsi, mode, items)?;
+        Ok(answered)
+    }
+
+    /// Changes the radio's groups as its PDU asks, without the acknowledgement. `DetachAllFirst` ends
+    /// all its attachments first. Then each item in order: an attach to a group without a rule does
+    /// nothing, any other one adds the attachment or replaces it, with its class and the rule's
+    /// lifetime, and a leave ends it. `NotAttached` where the radio is not present, `TooManyGroups`
+    /// where it would have more than 32 groups after all items; a refusal changes nothing.
+    pub fn change<R: Allocator + Clone, B: Allocator>(
+        &mut self,
+        registry: &Registry<R>,
+        itsi: Itsi,
+        mode: GroupMode,
+        items: &GroupItems<GroupUp, B>,
+    ) -> Result<(), GroupFault>
+        ensures ok { OnOk result ((apply_refusal registry.now self.old itsi mode items.now ≡ None) × (self.new ≡ applied registry.now self.old itsi mode items.now)) }
+        ensures err { IfErr result (λ e. (e ≡ unwrap_or (apply_refusal registry.now self.old itsi mode items.now) NoMemory) × (self.new ≡ self.old)) }
+    {
+        if let Some(fault) = self.apply_refusal(registry, itsi, mode, items) {
+            return Err(fault);
+        }
+        self.enact(registry, itsi, mode, items)
+    }
+
+    // Changes them as the PDU asks, which is not refused.
+    fn enact<R: Allocator + Clone, B: Allocator>(
+        &mut self,
+        registry: &Registry<R>,
+        itsi: Itsi,
+        mode: GroupMode,
+        items: &GroupItems<GroupUp, B>,
+    ) -> Result<(), GroupFault>
+        ensures ok { OnOk result (self.new ≡ applied registry.now self.old itsi mode items.now) }
+        ensures err { IfErr result (λ e. (e ≡ NoMemory) × (self.new ≡ self.old)) }
+    {
+        if self.entries.reserve(items.len()).is_err() {
+            return Err(GroupFault::NoMemory);
+        }
+        change_all(&mut self.entries, registry, itsi, mode, items.as_slice());
+        Ok(())
+    }
+}
+
+impl<A: Allocator + Clone> TryCopy for Groups<A> {
+    fn try_copy(&self) -> Result<Self, AllocError> {
+        Ok(Groups {
+            entries: Vec::from_slice(self.entries.allocator().clone()?, &self.entries)?,
+        })
+    }
+}
+
+fn is_present(radio: Option<Radio>) -> bool
+    ensures { result ≡ is_present radio }
+{
+    match radio {
+        None => false,
+        Some(radio) => radio.present,
+    }
+}

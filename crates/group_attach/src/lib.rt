@@ -1,0 +1,20 @@
+//! Which groups the radios of a TETRA switch are attached to (ETSI EN 300 392-2, clause 16, the
+//! network's side of attachment and detachment of group identities).
+#![tactic(auto)]
+
+mod answer;
+mod attachment;
+mod count;
+mod edit;
+mod fault;
+mod groups;
+pub mod laws;
+mod list;
+
+pub use answer::answers;
+pub use attachment::Attachment;
+pub use fault::GroupFault;
+pub use groups::Groups;
+
+#[cfg(test)]
+mod tests;

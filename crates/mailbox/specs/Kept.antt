@@ -1,0 +1,55 @@
+-- What holds of the mail after any commands.
+use Rattle.std.specs.Prelude.{◌≡◌, ℕ, ◌<◌, ◌≤◌, ◌==◌, Bool, true, false, List, [], ◌∷◌, length, count_by, Result, Ok, Err}
+use Rattle.std.specs.List.{All, AllPairs}
+use Rattle.std.specs.Ordering.{nat_cmp}
+use Rattle.std.specs.declared.cmp.Ordering.TheVariants.{Less}
+use Rattle.std.specs.Cmp.Lexicographic.{slice_cmp}
+use Rattle.sds_tl.specs.declared.fault.SdsFault.{SdsFault}
+use Rattle.sds_tl.specs.declared.pdu.Head.{Head}
+use Rattle.sds_tl.specs.declared.pdu.Head.TheVariants as heads
+use Rattle.sds_tl.specs.Reading.{heading, cleared}
+use Rattle.mailbox.specs.declared.key.Kind.{Kind}
+use Rattle.mailbox.specs.declared.key.Kind.TheVariants.{Message, Report}
+use Rattle.mailbox.specs.Values.{Waiting, Mailed}
+use Rattle.mailbox.specs.Tests.{same_key, is_to}
+use Rattle.mailbox.specs.Refusals.{most_for_one}
+
+abbrev pub kind_number : Kind → ℕ
+kind_number Message = 0
+kind_number Report = 1
+
+-- an item's place in the order: by number, then by key
+abbrev pub place : Waiting → List ℕ
+place w = w.number ∷ w.key.destination ∷ w.key.source ∷ w.key.reference ∷ kind_number w.key.kind ∷ []
+
+abbrev pub IsBefore : Waiting → Waiting → Type 0
+IsBefore a b = slice_cmp nat_cmp (place a) (place b) ≡ Less
+
+-- a message's PDU is an SDS-TRANSFER of its reference, a report item's an SDS-REPORT
+abbrev pub is_head_of : Kind → ℕ → Result Head SdsFault → Bool
+is_head_of Message number (Ok (heads.Transfer request reference)) = reference == number
+is_head_of Message number (Ok (heads.Report acknowledge status reference)) = false
+is_head_of Message number (Ok (heads.Ack status reference)) = false
+is_head_of Report number (Ok (heads.Transfer request reference)) = false
+is_head_of Report number (Ok (heads.Report acknowledge status reference)) = reference == number
+is_head_of Report number (Ok (heads.Ack status reference)) = false
+is_head_of kind number (Err fault) = false
+
+-- its PDU is of its kind and reference, and in its written form: the reserved bits are 0
+pub record IsSpelt (w : Waiting) : Type 0 where
+  pub head : is_head_of w.key.kind w.key.reference (heading w.pdu) ≡ true
+  pub written : cleared w.pdu ≡ w.pdu
+
+-- the item is of one of the commands that were accepted
+abbrev pub IsNumbered : ℕ → Waiting → Type 0
+IsNumbered count w = (0 < w.number) × (w.number ≤ count)
+
+-- Of the mail after so many accepted commands: each item is of one of them, they are in order, no two have one key, there are
+-- no more than may be, in all and for one destination, and each item's PDU is what its key says.
+pub record IsMail (count : ℕ) (m : Mailed) : Type 0 where
+  pub numbered : All (IsNumbered count) m.items
+  pub ordered : AllPairs IsBefore m.items
+  pub apart : AllPairs (λ a b. same_key b.key a.key ≡ false) m.items
+  pub fits : length m.items ≤ m.room
+  pub fits_each : (destination : ℕ) → count_by (is_to destination) m.items ≤ most_for_one
+  pub spelt : All IsSpelt m.items

@@ -1,0 +1,35 @@
+-- What holds of the mail is kept by each effect. (The laws on public calls name these statements.)
+use Rattle.std.specs.Prelude.{◌≡◌, ℕ, ◌+◌, ◌≤◌, Bool, None}
+use Rattle.registration.specs.declared.limits.Limits.{Limits}
+use Rattle.registration.specs.Registered.{Registered}
+use Rattle.sds_tl.specs.Syntax.{Spells, canon}
+use Rattle.sds_tl.specs.Reading.{value}
+use Rattle.mailbox.specs.declared.key.Kind.TheVariants.{Report}
+use Rattle.mailbox.specs.declared.key.Envelope.{Envelope}
+use Rattle.mailbox.specs.Values.{Waiting, Mailed, empty_mailed}
+use Rattle.mailbox.specs.Tests.{key_of}
+use Rattle.mailbox.specs.Mail.{without, posted, reported}
+use Rattle.mailbox.specs.Refusals.{post_refusal, report_refusal}
+use Rattle.mailbox.specs.Kept.{IsSpelt, IsMail}
+
+abbrev pub EmptyIsMail : Type 0
+EmptyIsMail = (limits : Limits) (count : ℕ) → IsMail count (empty_mailed limits)
+
+-- a greater number of accepted commands changes nothing
+abbrev pub MoreIsMail : Type 0
+MoreIsMail = (count more : ℕ) (m : Mailed) → count ≤ more → IsMail count m → IsMail more m
+
+abbrev pub RemovalIsMail : Type 0
+RemovalIsMail = (count : ℕ) (m : Mailed) (test : Waiting → Bool) → IsMail count m → IsMail count (without test m)
+
+abbrev pub PostIsMail : Type 0
+PostIsMail =
+    (s : Registered) (count : ℕ) (m : Mailed) (w : Waiting) → IsMail count m → w.number ≡ count + 1 → IsSpelt w → post_refusal s m w ≡ None → IsMail (count + 1) (posted m w)
+
+abbrev pub ReportIsMail : Type 0
+ReportIsMail =
+    (s : Registered) (count : ℕ) (m : Mailed) (e : Envelope) (status : ℕ) (w : Waiting) → IsMail count m → w.number ≡ count + 1 → w.key ≡ key_of e Report → IsSpelt w → report_refusal s m e status w ≡ None → IsMail (count + 1) (reported m e status w)
+
+-- an item's PDU spells what it stands for, and is the written text of that
+abbrev pub ItemsAreTexts : Type 0 → Type 0
+ItemsAreTexts A = (w : Waiting) → IsSpelt w → Spells {A = A} (value w.pdu) w.pdu × (w.pdu ≡ canon {A = A} (value w.pdu))

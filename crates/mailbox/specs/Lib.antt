@@ -1,0 +1,6 @@
+pub mod Values
+pub mod Tests
+pub mod Mail
+pub mod Refusals
+pub mod Kept
+pub mod Laws

@@ -1,0 +1,54 @@
+-- What each call makes of the mail: items are filtered out, or one is added at the end.
+use Rattle.std.specs.Prelude.{ℕ, ◌+◌, Bool, not, List, [], ◌∷◌, ◌++◌, Option, Some, None}
+use Rattle.std.specs.List.{filter, list_any}
+use Rattle.registration.specs.declared.rule.Rule.{Rule}
+use Rattle.registration.specs.Registered.{Registered, rule_of}
+use Rattle.mailbox.specs.declared.key.Kind.TheVariants.{Report}
+use Rattle.mailbox.specs.declared.key.Key.{Key}
+use Rattle.mailbox.specs.declared.key.Envelope.{Envelope}
+use Rattle.mailbox.specs.declared.key.Stamp.{Stamp}
+use Rattle.mailbox.specs.Values.{Waiting, Mailed}
+use Rattle.mailbox.specs.Tests.{answered, is_at, is_to, is_ended_by, is_confirmed, is_expired}
+
+abbrev pub holds : Mailed → Key → Bool
+holds m k = list_any (is_at k) m.items
+
+-- the items that do not pass the test
+abbrev pub without : (Waiting → Bool) → Mailed → Mailed
+without test m = record { room = m.room; items = filter (λ w. not (test w)) m.items }
+
+-- one more item at the end
+abbrev pub with_item : Mailed → Waiting → Mailed
+with_item m w = record { room = m.room; items = m.items ++ w ∷ [] }
+
+-- the moment at which an item made at this one ends: after the keep of its destination's rule
+abbrev pub deadline_by : Option Rule → ℕ → ℕ
+deadline_by None moment = moment
+deadline_by (Some rule) moment = moment + rule.keep
+
+-- the item that a command makes
+abbrev pub waiting_for : Registered → Key → Stamp → List Bool → Waiting
+waiting_for s k stamp pdu = record { key = k; number = stamp.number; deadline = deadline_by (rule_of s k.destination) stamp.moment; pdu = pdu }
+
+abbrev pub posted : Mailed → Waiting → Mailed
+posted = with_item
+
+-- the message goes if the report ends it, an old report on it goes, and the new report is the last
+abbrev pub reported : Mailed → Envelope → ℕ → Waiting → Mailed
+reported m e status w = with_item (without (is_ended_by e status) m) w
+
+abbrev pub acknowledged : Mailed → Envelope → Mailed
+acknowledged m e = without (is_at (answered e Report)) m
+
+abbrev pub confirmed : Mailed → Key → Mailed
+confirmed m k = without (is_confirmed k) m
+
+abbrev pub expired : Mailed → ℕ → Mailed
+expired m moment = without (is_expired moment) m
+
+abbrev pub deleted : Mailed → Key → Mailed
+deleted m k = without (is_at k) m
+
+-- what waits for a destination
+abbrev pub waiting : Mailed → ℕ → List Waiting
+waiting m itsi = filter (is_to itsi) m.items

@@ -1,0 +1,62 @@
+-- Why a call is refused: the first that applies.
+use Rattle.std.specs.Prelude.{ℕ, nat_lt, length, count_by, Option, Some, None, if◌then◌else◌}
+use Rattle.registration.specs.declared.rule.Rule.{Rule}
+use Rattle.registration.specs.Registered.{Registered, rule_of, radio_of, is_present}
+use Rattle.mailbox.specs.declared.fault.MailFault.{MailFault}
+use Rattle.mailbox.specs.declared.fault.MailFault.TheVariants.{UnknownDestination, NotAttached, ReferenceBusy, MailboxFull, CentreFull, NoSuchMessage}
+use Rattle.mailbox.specs.declared.key.Kind.TheVariants.{Message, Report}
+use Rattle.mailbox.specs.declared.key.Key.{Key}
+use Rattle.mailbox.specs.declared.key.Envelope.{Envelope}
+use Rattle.mailbox.specs.Values.{Waiting, Mailed}
+use Rattle.mailbox.specs.Tests.{answered, is_to}
+use Rattle.mailbox.specs.Mail.{holds, posted, reported}
+
+abbrev pub or_then : Option MailFault → Option MailFault → Option MailFault
+or_then (Some fault) next = Some fault
+or_then None next = next
+
+-- no rule serves the destination
+abbrev pub unknown_refusal : Option Rule → Option MailFault
+unknown_refusal None = Some UnknownDestination
+unknown_refusal (Some rule) = None
+
+-- the radio is not present
+abbrev pub absent_refusal : Registered → ℕ → Option MailFault
+absent_refusal s itsi = if is_present (radio_of s itsi) then None else Some NotAttached
+
+-- the key is taken
+abbrev pub busy_refusal : Mailed → Key → Option MailFault
+busy_refusal m k = if holds m k then Some ReferenceBusy else None
+
+-- nothing waits at the key
+abbrev pub missing_refusal : Mailed → Key → Option MailFault
+missing_refusal m k = if holds m k then None else Some NoSuchMessage
+
+-- The most items for one destination.
+abbrev pub most_for_one : ℕ
+most_for_one = 128
+
+-- of so many items for one destination, and so many in all
+abbrev pub crowd_refusal : ℕ → ℕ → ℕ → Option MailFault
+crowd_refusal room for_one in_all = if nat_lt most_for_one for_one then Some MailboxFull else (if nat_lt room in_all then Some CentreFull else None)
+
+-- of the mail as a call would leave it, with a new item for this destination
+abbrev pub full_refusal : Mailed → ℕ → Option MailFault
+full_refusal m destination = crowd_refusal m.room (count_by (is_to destination) m.items) (length m.items)
+
+abbrev pub post_refusal : Registered → Mailed → Waiting → Option MailFault
+post_refusal s m w =
+    or_then (unknown_refusal (rule_of s w.key.destination)) (or_then (absent_refusal s w.key.source) (or_then (busy_refusal m w.key) (full_refusal (posted m w) w.key.destination)))
+
+abbrev pub report_refusal : Registered → Mailed → Envelope → ℕ → Waiting → Option MailFault
+report_refusal s m e status w =
+    or_then (unknown_refusal (rule_of s e.destination)) (or_then (absent_refusal s e.source) (or_then (missing_refusal m (answered e Message)) (full_refusal (reported m e status w) e.destination)))
+
+abbrev pub ack_refusal : Registered → Mailed → Envelope → Option MailFault
+ack_refusal s m e = or_then (unknown_refusal (rule_of s e.destination)) (or_then (absent_refusal s e.source) (missing_refusal m (answered e Report)))
+
+abbrev pub sent_refusal : Registered → Mailed → Key → Option MailFault
+sent_refusal s m k = or_then (absent_refusal s k.destination) (missing_refusal m k)
+
+abbrev pub delete_refusal : Mailed → Key → Option MailFault
+delete_refusal m k = missing_refusal m k

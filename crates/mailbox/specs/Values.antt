@@ -1,0 +1,34 @@
+-- What waits in the mail, as values.
+use Rattle.std.specs.Prelude.{ℕ, Bool, List, [], refl}
+use Rattle.std.specs.Coded.{Coded, code_by, coded×, coded_ℕ, coded_bool, coded_list}
+use Rattle.registration.specs.declared.limits.Limits.{Limits}
+use Rattle.mailbox.specs.declared.key.Key.{Key}
+use Rattle.mailbox.specs.contracts.key.Key as key
+
+-- an item: its key, the number of the command that made it, the moment at which it ends, and its PDU
+pub record Waiting : Type 0 where
+  pub key : Key
+  pub number : ℕ
+  pub deadline : ℕ
+  pub pdu : List Bool
+
+-- the mail: how many items it takes, and the items, the oldest first
+pub record Mailed : Type 0 where
+  pub room : ℕ
+  pub items : List Waiting
+
+-- how they are stored, for proofs
+abbrev pub coded_waiting : Coded Waiting
+coded_waiting =
+    code_by (Key × (ℕ × (ℕ × List Bool))) (coded× (key.the_row).coded (coded× coded_ℕ (coded× coded_ℕ (coded_list coded_bool))))
+    (λ w. (w.key, (w.number, (w.deadline, w.pdu))))
+    (λ p. record { key = p.0; number = p.1.0; deadline = p.1.1.0; pdu = p.1.1.1 }) (λ _. refl)
+
+abbrev pub coded_mailed : Coded Mailed
+coded_mailed =
+    code_by (ℕ × List Waiting) (coded× coded_ℕ (coded_list coded_waiting))
+    (λ m. (m.room, m.items)) (λ p. record { room = p.0; items = p.1 }) (λ _. refl)
+
+-- nothing waits
+abbrev pub empty_mailed : Limits → Mailed
+empty_mailed limits = record { room = limits.mail; items = [] }

@@ -1,0 +1,96 @@
+//! Who sent what to whom.
+
+ghost use Rattle.std.specs.Prelude.{◌≡◌};
+ghost use Rattle.mailbox.specs.Tests.{key_of, answered, same_kind, same_key};
+
+use identity::Itsi;
+
+/// What waits: a message for its destination, or a report for the sender of a message.
+#[derive(Clone, Copy, Debug, PartialEq, Eq)]
+pub enum Kind {
+    /// An SDS-TRANSFER.
+    Message,
+    /// An SDS-REPORT.
+    Report,
+}
+
+impl Kind {
+    pub(crate) fn is(self, other: Kind) -> bool
+        ensures { result ≡ same_kind self other }
+    {
+        match (self, other) {
+            (Kind::Message, Kind::Message) | (Kind::Report, Kind::Report) => true,
+            (Kind::Message, Kind::Report) | (Kind::Report, Kind::Message) => false,
+        }
+    }
+}
+
+/// By what an item is named. No two that wait have the same key.
+#[derive(Clone, Copy, Debug, PartialEq, Eq)]
+pub struct Key {
+    /// For whom it waits.
+    pub destination: Itsi,
+    /// Who sent it.
+    pub source: Itsi,
+    /// The message reference, 0 to 255 (clause 29.4.3.7).
+    pub reference: u8,
+    /// Whether it is a message or a report.
+    pub kind: Kind,
+}
+
+impl Key {
+    pub(crate) fn is(&self, other: &Key) -> bool
+        ensures { result ≡ same_key self.now other.now }
+    {
+        self.destination.number() == other.destination.number()
+            && self.source.number() == other.source.number()
+            && self.reference == other.reference
+            && self.kind.is(other.kind)
+    }
+}
+
+/// What stands on a PDU that a radio sends: from whom, to whom and about which message.
+#[derive(Clone, Copy, Debug, PartialEq, Eq)]
+pub struct Envelope {
+    /// The radio that sends it.
+    pub source: Itsi,
+    /// The radio that it is for.
+    pub destination: Itsi,
+    /// The message reference in it, 0 to 255.
+    pub reference: u8,
+}
+
+impl Envelope {
+    /// The key of what is sent in it.
+    pub fn key(&self, kind: Kind) -> Key
+        ensures { result ≡ key_of self.now kind }
+    {
+        Key {
+            destination: self.destination,
+            source: self.source,
+            reference: self.reference,
+            kind,
+        }
+    }
+
+    /// The key of what it answers, which went the other way.
+    pub fn answered(&self, kind: Kind) -> Key
+        ensures { result ≡ answered self.now kind }
+    {
+        Key {
+            destination: self.source,
+            source: self.destination,
+            reference: self.reference,
+            kind,
+        }
+    }
+}
+
+/// What an item keeps of the command that made it.
+#[derive(Clone, Copy, Debug, PartialEq, Eq)]
+pub struct Stamp {
+    /// The number of the command.
+    pub number: u64,
+    /// When it was given, in seconds.
+    pub moment: u32,
+}

@@ -1,0 +1,18 @@
+//! The short messages and delivery reports that wait in a TETRA switch for their radios
+//! (ETSI EN 300 392-2, clause 29, the switch's side of the short data transport service).
+#![tactic(auto)]
+
+mod fault;
+mod item;
+mod key;
+pub mod laws;
+mod mail;
+mod refusal;
+
+pub use fault::MailFault;
+pub use item::Item;
+pub use key::{Envelope, Key, Kind, Stamp};
+pub use mail::Mail;
+
+#[cfg(test)]
+mod tests;

@@ -1,0 +1,102 @@
+"""Lines: their ends and lengths, words out of form and range, bytes that are no text."""
+import itertools
+import random
+
+from streams import SERVED, U, demand, detach, numbered, text
+
+V, G = '234-14-2002', '234-14-1000'
+COMMANDS = [SERVED, f'mm {U} 7 60:7380480A00007D0', f'sds {U} {V} 48:820405014849', f'sent {V} {U} 5 m', 'expire', f'delete {V} {U} 5 r']
+QUERIES = [f'where {U}', f'groups {U}', f'members {G}', f'mail {V}', 'count']
+
+
+def numbers():
+    """Each number word at and past its limits, and out of form."""
+    words = ['0', '1', '00', '01', '-1', '+1', '', '9', '3', '4', '99', '100', '255', '256', '16383', '16384', '65535', '65536',
+             '4294967295', '4294967296', '18446744073709551615', '18446744073709551616', '9' * 40, '9' * 400, '1x', 'x', '１', '1.0', '0x1']
+    forms = ['{} 0 rule 234-14-0/24 1 99 1 3600', '1 {} rule 234-14-0/24 1 99 1 3600', '1 0 rule 234-14-0/{} 1 99 1 3600',
+             '1 0 rule 234-14-0/24 {} 99 1 3600', '1 0 rule 234-14-0/24 1 {} 1 3600', '1 0 rule 234-14-0/24 1 99 {} 3600',
+             '1 0 rule 234-14-0/24 1 99 1 {}', f'1 0 mm {U} {{}} 10:260', '1 0 mm {}-14-2001 7 10:260', '1 0 mm 234-{}-2001 7 10:260',
+             '1 0 mm 234-14-{} 7 10:260', f'1 0 mm {U} 7 {{}}:260', f'1 0 mm {U} 7 10:{{}}', '{}', '{} 0', '{} 0 rule', '{} 0 mm', 'count {}',
+             '{} 0 expire', '1 {} expire', '1 0 {}', f'1 0 sds {{}}-14-2001 {V} 48:820405014849', f'1 0 sds {U} 234-{{}}-1 48:820405014849',
+             f'1 0 sds {U} {V} {{}}:820405014849', f'1 0 sent {V} {U} {{}} m', f'1 0 delete {V} {U} {{}} r', f'1 0 sent 234-14-{{}} {U} 5 m',
+             f'1 0 delete {V} {{}}-14-2001 5 r']
+    queries = [f'{word} {name}' for word in ('where', 'groups', 'members', 'mail')
+               for name in ('{}', '{}-14-2001', '234-{}-2001', '234-14-{}', '234-14-2001 {}')]
+    fields = [('1023', '1024'), ('16383', '16384'), ('16777215', '16777216')]
+    edges = [f'{word} {"-".join(parts)}' for word in ('where', 'groups', 'members', 'mail')
+             for parts in itertools.product(*fields)]
+    for form in forms + queries:
+        yield text([form.format(word) for word in words])
+    yield text(edges)
+
+
+def wrong_words():
+    """Each form with each word left out, doubled, emptied, in capitals, or another; each kind of item."""
+    for form in [f'1 0 {command}' for command in COMMANDS] + QUERIES:
+        words, lines = form.split(' '), []
+        for k, word in enumerate(words):
+            for other in ([], [word, word], [''], [word.upper()], ['x'], [word + '0'], [word + '\0'], ['-' + word], [word + '-'], [word + '\t']):
+                lines.append(' '.join(words[:k] + other + words[k + 1:]))
+        yield text(lines + [form + ' ', ' ' + form, form + ' x', form])
+    kinds = ('m', 'r', 'M', 'R', '', 'mm', 'x', '0', '-', 'm:', '\xb5', '[', 'l', 'n', 'q', 's')
+    yield text(f'1 0 {word} {V} {U} 5 {kind}' for word in ('sent', 'delete') for kind in kinds)
+
+
+def bit_strings():
+    """Bit strings out of form, with fill bits, and at 2,048 bits."""
+    long = ['2048:' + '0' * 512, '2049:' + '0' * 513, '2048:' + '0' * 511, '2047:' + '0' * 511 + '2', '2047:' + '0' * 511 + '1']
+    odd = ['10:26', '10:2600', '10:261', '10:26G', '10:26g', '10:2e0', '10:2E0', '0:', '0:0', '1:8', '1:4', ':', '10', '10:',
+           '10::260', '010:260', '10:2 60']
+    yield text([f'{k} 0 mm {U} 7 {word}' for k, word in enumerate(odd + long, 1)])
+
+
+def lengths():
+    """Lines of every length round 1,024, with each end."""
+    for end in (b'\n', b'\r\n', b'\r\r\n', b'', b'\r'):
+        for filler in (b'a', b'#', b' ', b'\0', b'\xff', b'\r'):
+            for length in range(1020, 1030):
+                yield filler * length + end + b'count' + end
+    for length in (65535, 65536, 65537, 131072):
+        yield b'a' * length + b'\ncount\n'
+        yield b'count\n' * (length // 6) + b'cou'
+    yield b'x' * 10_000_000
+    yield b'x' * 10_000_000 + b'\ncount'
+
+
+def odd_bytes():
+    """Bytes that are no text, line ends of each kind, no last line end."""
+    for data in (b'', b'\n', b'\r', b'\r\n', b'\n\n', b'count', b'count\n', b'count\r', b'count\r\n', b'count\r\r\n', b'\xff', b'\0',
+                 b'count\0\n', b' count\n', b'count \n', b'Count\n', b'#\xff\xfe\n#\n', b'#' + b'\0' * 2000 + b'\n', b'where\n', b'where \n',
+                 b'where  \n', b'1 0  count\n', b'1\t0\tmm\n', b'1 0 MM 234-14-2001 7 10:260\n', b'\xef\xbb\xbfcount\n',
+                 b'groups 234-14-2001', b'members 234-14-1000\r', b'mail 234-14-2002\r\r\n', b'1 0 expire', b'1 0 expire\r', b'1 0 expire\r\n'):
+        yield data
+
+
+def random_bytes():
+    dice = random.Random(1)
+    for size in [10, 100, 1000, 10000, 100000] * 6:
+        yield bytes(dice.randrange(256) for _ in range(size))
+    alphabet = b'0123456789 -/:\n\r#abcdefmrulewhcontgpsxi' + b'\xff\0'
+    for size in [100, 1000, 10000] * 10:
+        yield bytes(dice.choice(alphabet) for _ in range(size))
+
+
+def broken_lines():
+    """Good lines with bytes changed, dropped and put in."""
+    dice = random.Random(2)
+    good = COMMANDS + QUERIES + [demand(3), demand(3, V), detach(), '# a comment', '']
+    for _ in range(60):
+        data = bytearray(numbered(dice.choice(good) for _ in range(60)))
+        for _ in range(20):
+            at = dice.randrange(len(data))
+            choice = dice.randrange(3)
+            if choice == 0:
+                data[at] = dice.randrange(256)
+            elif choice == 1:
+                del data[at]
+            else:
+                data.insert(at, dice.choice(b' \n\r0'))
+        yield bytes(data)
+
+
+KINDS = [odd_bytes, lengths, numbers, wrong_words, bit_strings, broken_lines, random_bytes]
