@@ -1,35 +1,33 @@
 #!/usr/bin/env python3
-"""Refuses each allocation of the program in turn (`rt try --fail-alloc N`) over the lines of
-growths.txt, which have every form. Each run has to answer as the independent reading beside this
-file does, with at most one line answered by want of memory and what follows as if that line had not
-come; or it ends with `fault: memory`, status 5 and a front of those answers. Three runs in a row
-without a refused allocation end the test. Prints 'N passed, M failed' last.
-Usage: growths.py [FIRST]"""
+"""Refuses each allocation of the program in turn (refuse.c, preloaded) over the lines of growths.txt,
+which have every form. Each run has to answer as the independent reading beside this file does, with at
+most one line answered by want of memory and what follows as if that line had not come; or it ends with
+`fault: memory`, status 5 and a front of those answers. The first run in which no answer changed and the
+two after it end the test. Prints 'N passed, M failed' last.
+Usage: growths.py COMMAND..."""
 import collections
+import os
 import pathlib
-import re
 import subprocess
 import sys
+import tempfile
 
 import reading
 
-TOP = pathlib.Path(__file__).resolve().parent.parent
-DATA = (TOP / 'tests/growths.txt').read_bytes()
+HERE = pathlib.Path(__file__).resolve().parent
+DATA = (HERE / 'growths.txt').read_bytes()
 LINES = DATA.split(b'\n')[:-1]
-OF_THE_KIT = re.compile(rb'(allocations:|checked:|interpreter:|run=)')
 
 
 def answers(lines):
     return reading.serve(b''.join(line + b'\n' for line in lines))[0]
 
 
-def run(refused):
+def run(command, library, refused):
     """What the program writes with that allocation refused, and its status."""
-    ran = subprocess.run(['rt', 'try', '--fail-alloc', str(refused)], cwd=TOP / 'crates/tetra_switch', input=DATA,
-                         stdout=subprocess.PIPE, stderr=subprocess.STDOUT).stdout
-    text = b''.join(line + b'\n' for line in ran.split(b'\n')[:-1] if not OF_THE_KIT.match(line))
-    status = re.findall(rb'run=ended status=(\d+)', ran)
-    return text, int(status[0]) if status else None
+    ran = subprocess.run(command, input=DATA, stdout=subprocess.PIPE, stderr=subprocess.STDOUT, timeout=60,
+                         env=dict(os.environ, LD_PRELOAD=library, REFUSED=str(refused)))
+    return ran.stdout, ran.returncode
 
 
 def wanting(at):
@@ -55,21 +53,35 @@ def judged(text, status):
     return 'WRONG'
 
 
-def main():
-    refused, unchanged, seen = int(sys.argv[1]) if len(sys.argv) > 1 else 1, 0, collections.Counter()
+def sweep(command, library):
+    """How often each kind of run was seen."""
+    refused, unchanged, seen = 1, 0, collections.Counter()
     while unchanged < 3:
-        text, status = run(refused)
+        text, status = run(command, library, refused)
         kind = judged(text, status)
         seen[kind.rstrip('0123456789')] += 1
         unchanged = unchanged + 1 if kind == 'no answer changed' else 0
-        print(f'{refused}: {kind}', flush=True)
         if kind == 'WRONG':
-            print(status, text.decode('latin1'))
+            print(f'allocation {refused}: status {status}', text.decode('latin1'))
         refused += 1
+    return seen
+
+
+def main():
+    command = sys.argv[1:]
+    if not command:
+        sys.exit(__doc__)
+    with tempfile.TemporaryDirectory() as folder:
+        library = f'{folder}/refuse.so'
+        subprocess.run(['cc', '-O2', '-shared', '-fPIC', '-o', library, HERE / 'refuse.c'], check=True)
+        seen = sweep(command, library)
+    if not seen['memory for line ']:
+        sys.exit('no allocation was refused')
     failed = seen['WRONG']
-    print(dict(seen))
+    print(', '.join(f'{kind.strip()}: {count}' for kind, count in seen.items()))
     print(f'{sum(seen.values()) - failed} passed, {failed} failed')
     sys.exit(1 if failed else 0)
 
 
-main()
+if __name__ == '__main__':
+    main()

@@ -87,9 +87,15 @@ class Register:
         self.rules, self.radios, self.served, self.count = {}, {}, {}, 0
         self.groups, self.mail = {}, {}
 
-    def rule_of(self, bits):
+    def look(self, bits):
+        """The longest prefix of these bits that has a rule, and the rule; or None."""
         under = [p for p in self.rules if bits.startswith(p)]
-        return self.rules[max(under, key=len)] if under else None
+        longest = max(under, key=len, default=None)
+        return None if longest is None else (longest, self.rules[longest])
+
+    def rule_of(self, bits):
+        found = self.look(bits)
+        return found and found[1]
 
     def apply(self, station, sequence, moment, body):
         """('ok' or 'kept', number, PDU), or Refused."""
@@ -112,6 +118,9 @@ class Register:
         if under not in self.rules and len(self.rules) >= self.limits['rules']:
             raise Refused('rules-full')
         self.rules[under] = rule
+
+    def clear_rule(self, under):
+        self.rules.pop(under, None)
 
     def present(self, itsi):
         return itsi in self.radios and self.radios[itsi][2]
@@ -242,6 +251,11 @@ def rule_body(words):
     return lambda register, station, moment: register.set_rule(under, (low, high, life, keep))
 
 
+def unrule_body(words):
+    under = prefix(words[0])
+    return lambda register, station, moment: register.clear_rule(under)
+
+
 def mobility_body(words):
     itsi, area, bits = identity(words[0]), number(words[1], 0, 16383), bit_string(words[2])
     return lambda register, station, moment: register.mobility(station, itsi, area, bits)
@@ -273,8 +287,8 @@ def delete_body(words):
     return lambda register, station, moment: register.delete(key)
 
 
-COMMANDS = {(b'rule', 5): rule_body, (b'mm', 3): mobility_body, (b'sds', 3): short_data_body, (b'sent', 4): sent_body,
-            (b'expire', 0): expire_body, (b'delete', 4): delete_body}
+COMMANDS = {(b'rule', 5): rule_body, (b'unrule', 1): unrule_body, (b'mm', 3): mobility_body, (b'sds', 3): short_data_body,
+            (b'sent', 4): sent_body, (b'expire', 0): expire_body, (b'delete', 4): delete_body}
 
 
 def where(register, words):
@@ -283,6 +297,14 @@ def where(register, words):
         return [f'where {name} unknown']
     station, area, present = register.radios[itsi]
     return [f'where {name} station {station} la {area} {"present" if present else "absent"}']
+
+
+def look(register, words):
+    found, name = register.look(identity(words[0])), words[0].decode()
+    if found is None:
+        return [f'look {name} none']
+    under, (low, high, life, keep) = found
+    return [f'look {name} {print_identity(under.ljust(48, "0"))}/{len(under)} {low} {high} {life} {keep}']
 
 
 def groups(register, words):
@@ -309,7 +331,7 @@ def total(register, words):
     return [f'count {register.count}']
 
 
-QUERIES = {(b'where', 1): where, (b'groups', 1): groups, (b'members', 1): members, (b'mail', 1): mail, (b'count', 0): total}
+QUERIES = {(b'where', 1): where, (b'look', 1): look, (b'groups', 1): groups, (b'members', 1): members, (b'mail', 1): mail, (b'count', 0): total}
 
 
 def command(register, station, words):

@@ -1,7 +1,8 @@
 """Rules and location updates: prefixes of every length, every short PDU, PDUs changed, cut and extended."""
 import random
 
-from streams import RULE, U, binary, bits_of, changed, mobility, text
+import reading
+from streams import RULE, SERVED, U, binary, bits_of, changed, demand, detach, mobility, numbered, text
 
 WORKED = ['10:260', '10:200', '10:220', '10:2A0', '10:2E0', '5:10', '31:1CEA0038', '59:267400002130068', '8:56',
           '14:7610', '60:7380480A00007D0', '7:74', '48:820405014849']
@@ -19,6 +20,31 @@ def prefixes():
         [(n, a) for n in (U, '234-14-2002', '234-14-4000', '234-15-1', '1-1-1', '1023-16383-16777215') for a in (210, 211, 212, 213, 214, 215)], 300)]
     yield text(lines)
     yield text(kept + asks)
+
+
+def nested():
+    """Rules under every length of one identity, up to the limit, set, looked up and removed in random order."""
+    dice = random.Random(4)
+    value = int(binary(234, 10) + binary(14, 14) + binary(2001, 24), 2)
+    names = [f'{reading.print_identity(binary(value >> (48 - n) << (48 - n), 48))}/{n}' for n in range(49)]
+    others = [reading.print_identity(binary(value ^ 1 << k, 48)) for k in range(48)]
+    for _ in range(20):
+        bodies = []
+        for _ in range(300):
+            at = dice.randrange(49)
+            bodies.append(dice.choice([f'rule {names[at]} {at} {at + dice.randrange(3)} {dice.randrange(4)} {dice.randrange(2 ** 32)}',
+                                       f'unrule {names[at]}', f'unrule {dice.choice(others)}/48', demand(3, area=dice.randrange(50))]))
+            bodies += [f'look {U}', f'look {dice.choice(others)}']
+        yield numbered(bodies)
+
+
+def rule_removed():
+    """A radio, its groups and its mail once the rule that served them is gone."""
+    rest = ['where ' + U, 'look ' + U, demand(0), demand(2), 'sds 234-14-2001 234-14-2001 48:820405014849', detach(), 'where ' + U]
+    yield numbered([SERVED, demand(3), 'sds 234-14-2001 234-14-2001 48:820405014849', 'unrule 234-14-0/24', *rest, 'mail ' + U, (3600, 'expire'),
+                    'mail ' + U, 'unrule 234-14-0/24', SERVED, *rest])
+    for length in range(49):
+        yield numbered([SERVED, demand(3), f'unrule 234-14-0/{length}', *rest])
 
 
 def short_pdus():
@@ -50,4 +76,4 @@ def extended_pdus():
     yield text(lines)
 
 
-KINDS = [prefixes, short_pdus, changed_pdus, extended_pdus]
+KINDS = [prefixes, nested, rule_removed, short_pdus, changed_pdus, extended_pdus]

@@ -5,14 +5,14 @@ use Rattle.mm_pdus.specs.declared.update.LocationUpdateType.{LocationUpdateType}
 use Rattle.mm_pdus.specs.declared.group.GroupMode.{GroupMode}
 use Rattle.mm_pdus.specs.declared.group.GroupUp.{GroupUp}
 use Rattle.registration.specs.declared.rule.Rule.{Rule}
-use Rattle.registration.specs.Registered.{Registered, set_refusal, with_rule, locate_refusal, located, detached}
+use Rattle.registration.specs.Registered.{Registered, set_refusal, with_rule, without_rule, locate_refusal, located, detached}
 use Rattle.group_attach.specs.Attached.{Attached}
 use Rattle.group_attach.specs.Applied.{after_update, applied, apply_refusal}
 use Rattle.group_attach.proofs.KeptLaws.{after_update_fits, after_update_known, applied_fits, applied_known, known_after}
 use Rattle.mailbox.specs.Values.{Mailed}
 use Rattle.centre_core.specs.State.{State, Served, IsState}
-use Rattle.centre_core.specs.Step.{rule_set, radio_located, radio_detached, groups_changed}
-use Rattle.centre_core.proofs.RegisteredLaws.{with_rule_within, located_within, located_keeps, detached_within, detached_keeps, detached_limits}
+use Rattle.centre_core.specs.Step.{rule_set, rule_cleared, radio_located, radio_detached, groups_changed}
+use Rattle.centre_core.proofs.RegisteredLaws.{with_rule_within, without_rule_within, located_within, located_keeps, detached_within, detached_keeps, detached_limits}
 
 -- what a step may change of a state before the command is counted
 pub record IsChange (s t : State) : Type 0 where
@@ -27,6 +27,14 @@ rule_set_change s prefix rule none = record {
   served = refl;
   count = refl;
   state = λ h. (with_rule_within s.registered prefix rule none h.0, h.1, h.2, h.3, h.4, h.5);
+}
+
+pub rule_cleared_change : (s : State) (prefix : Path) → IsChange s (rule_cleared s prefix)
+rule_cleared_change s prefix = record {
+  limits = refl;
+  served = refl;
+  count = refl;
+  state = λ h. (without_rule_within s.registered prefix h.0, h.1, h.2, h.3, h.4, h.5);
 }
 
 pub radio_located_change : (s : State) (itsi station area : ℕ) (update : LocationUpdateType) → locate_refusal s.registered itsi area update ≡ None → IsChange s (radio_located s itsi station area update)
@@ -81,6 +89,9 @@ groups_changed_change s itsi mode items none = record {
 pub rule_set_state : (s : State) (new : Registered) (prefix : Path) (rule : Rule) → set_refusal s.registered prefix ≡ None → new ≡ with_rule s.registered prefix rule → IsState s → IsState (record s { registered = new })
 rule_set_state s new prefix rule none e h = subst (λ r. IsState (record s { registered = r })) (sym e) ((rule_set_change s prefix rule none).state h)
 
+pub rule_cleared_state : (s : State) (new : Registered) (prefix : Path) → new ≡ without_rule s.registered prefix → IsState s → IsState (record s { registered = new })
+rule_cleared_state s new prefix e h = subst (λ r. IsState (record s { registered = r })) (sym e) ((rule_cleared_change s prefix).state h)
+
 pub radio_located_state : (s : State) (new : Registered) (groups : Attached) (itsi station area : ℕ) (update : LocationUpdateType) → locate_refusal s.registered itsi area update ≡ None → new ≡ located s.registered itsi station area → groups ≡ after_update s.groups itsi update → IsState s → IsState (record s { registered = new; groups = groups })
 radio_located_state s new groups itsi station area update none e f h =
     subst (λ r. IsState (record s { registered = r; groups = groups })) (sym e)
@@ -95,3 +106,7 @@ groups_changed_state s groups itsi mode items none e h = subst (λ m. IsState (r
 pub same_state : (s : State) (new : Registered) (groups : Attached) (mail : Mailed) (served : List (Option Served)) → new ≡ s.registered → groups ≡ s.groups → mail ≡ s.mail → served ≡ s.served → IsState s
     → IsState (record { registered = new; groups = groups; mail = mail; served = served; count = s.count })
 same_state s new groups mail served e f g k h = rw (e, f, g, k) h
+
+pub same_whole : (s : State) (new : Registered) (groups : Attached) (mail : Mailed) (served : List (Option Served)) → new ≡ s.registered → groups ≡ s.groups → mail ≡ s.mail → served ≡ s.served
+    → (let t : State = record { registered = new; groups = groups; mail = mail; served = served; count = s.count } in t) ≡ s
+same_whole s new groups mail served e f g k = rw (e, f, g, k) refl

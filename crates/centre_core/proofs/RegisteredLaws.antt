@@ -1,5 +1,5 @@
 -- Changes of rules and radios keep the limits.
-use Rattle.std.proofs.Common.{◌≡◌, ℕ, ◌+◌, ◌≤◌, Bool, true, false, refl, sym, subst, ap, ◌∙◌, arith, Option, Some, None}
+use Rattle.std.proofs.Common.{◌≡◌, ℕ, ◌+◌, ◌-◌, ◌≤◌, Bool, true, false, refl, sym, subst, ap, ◌∙◌, arith, Option, Some, None}
 use Rattle.std.specs.Prelude.{nat_lt, cond, IsSome, if◌then◌else◌}
 use Rattle.std.specs.Option.{is_some}
 use Rattle.std.specs.FinMap as map
@@ -13,7 +13,7 @@ use Rattle.registration.specs.declared.rule.Rule.{Rule}
 use Rattle.registration.specs.declared.radio.Radio.{Radio}
 use Rattle.registration.specs.declared.fault.RegFault.{RegFault}
 use Rattle.registration.specs.declared.fault.RegFault.TheVariants.{RulesFull, Congestion}
-use Rattle.registration.specs.Registered.{Registered, empty_registered, rule_of, radio_of, set_refusal, with_rule, type_refusal, area_refusal, room_refusal, first_of_three, locate_refusal, located, detached_at, detached, absent}
+use Rattle.registration.specs.Registered.{Registered, empty_registered, rule_of, radio_of, set_refusal, with_rule, without_rule, type_refusal, area_refusal, room_refusal, first_of_three, locate_refusal, located, detached_at, detached, absent}
 use Rattle.centre_core.specs.State.{IsWithin}
 
 room : (known free : Bool) (n limit : ℕ) (full : RegFault) → free ≡ nat_lt n limit → (if known then None else (if free then None else Some full)) ≡ None → n ≤ limit → (if known then n else n + 1) ≤ limit
@@ -27,6 +27,15 @@ room_for m k v limit full h fits = subst (λ n. n ≤ limit) (sym (map.len-inser
 
 pub with_rule_within : (r : Registered) (prefix : Path) (rule : Rule) → set_refusal r prefix ≡ None → IsWithin r → IsWithin (with_rule r prefix rule)
 with_rule_within r prefix rule none h = (room_for r.rules prefix rule r.limits.rules RulesFull none h.0, h.1)
+
+one_less : (b : Bool) (n : ℕ) → (if b then n - 1 else n) ≤ n
+one_less true n = omega arith
+one_less false n = omega arith
+
+pub without_rule_within : (r : Registered) (prefix : Path) → IsWithin r → IsWithin (without_rule r prefix)
+without_rule_within r prefix h =
+    let fewer : map.len (map.remove r.rules prefix) ≤ map.len r.rules = subst (λ n. n ≤ map.len r.rules) (sym (map.len-remove paths_total r.rules prefix)) (one_less (is_some (map.get r.rules prefix)) (map.len r.rules)) in
+    (omega (arith, fewer, h.0), h.1)
 
 none_of_three : (e f g : Option RegFault) → first_of_three e f g ≡ None → g ≡ None
 none_of_three (Some e) f g h = cc

@@ -29,7 +29,7 @@ use Rattle.mailbox.specs.Kept.{IsMail, is_head_of}
 use Rattle.mailbox.proofs.Kept.{empty_is_mail}
 use Rattle.centre_core.specs.declared.command.Command.{Command}
 use Rattle.centre_core.specs.declared.command.Body.{Body}
-use Rattle.centre_core.specs.declared.command.Body.TheVariants.{RuleSet, Mm, Sds, Sent, Expire, Delete}
+use Rattle.centre_core.specs.declared.command.Body.TheVariants.{RuleSet, RuleClear, Mm, Sds, Sent, Expire, Delete}
 use Rattle.centre_core.specs.declared.reply.Reply.{Reply}
 use Rattle.centre_core.specs.declared.reply.Reply.TheVariants.{Accepted, Kept, Refused}
 use Rattle.centre_core.specs.declared.reply.Refusal.{Refusal}
@@ -138,6 +138,7 @@ module _ {A : Type 0} (B C : Type 0) where
 
   same_body : (s : State) (c : Command A) (b : Body A) → Same {B = B} {C = C} (step_body s c b) (step_body s c b)
   same_body s c (RuleSet prefix rule) = same_made s c _ _ _ _ (set_refusal s.registered prefix)
+  same_body s c (RuleClear prefix) = refl
   same_body s c (Mm itsi area pdu) = same_mm s c itsi area (reading_up pdu) ∙ ap (λ read. (step_mm {B = C} s c itsi area read).0) (sym (reading_moved B C pdu))
   same_body s c (Sds source destination pdu) = same_sds s c source destination pdu (heading pdu)
   same_body s c (Sent key) = same_made s c _ _ _ _ (sent_refusal s.registered s.mail key)

@@ -7,6 +7,7 @@ use Rattle.mm_pdus.specs.declared.fault.MmFault.{MmFault}
 use Rattle.mm_pdus.specs.declared.uplink.MmUp.{MmUp}
 use Rattle.mm_pdus.specs.declared.uplink.MmUp.TheVariants as up
 use Rattle.mm_pdus.specs.UplinkReading.{reading_up}
+use Rattle.registration.specs.declared.fault.RegFault.{RegFault}
 use Rattle.registration.specs.Registered.{set_refusal, locate_refusal, detach_refusal}
 use Rattle.group_attach.specs.Applied.{apply_refusal}
 use Rattle.sds_tl.specs.declared.fault.SdsFault.{SdsFault}
@@ -19,15 +20,15 @@ use Rattle.mailbox.specs.Tests.{is_at, is_confirmed, is_expired}
 use Rattle.mailbox.specs.Refusals.{post_refusal, report_refusal, ack_refusal, sent_refusal, delete_refusal}
 use Rattle.centre_core.specs.declared.command.Command.{Command}
 use Rattle.centre_core.specs.declared.command.Body.{Body}
-use Rattle.centre_core.specs.declared.command.Body.TheVariants.{RuleSet, Mm, Sds, Sent, Expire, Delete}
+use Rattle.centre_core.specs.declared.command.Body.TheVariants.{RuleSet, RuleClear, Mm, Sds, Sent, Expire, Delete}
 use Rattle.centre_core.specs.declared.reply.Reply.{Reply}
 use Rattle.centre_core.specs.declared.reply.Reply.TheVariants.{Accepted, Kept, Refused}
 use Rattle.centre_core.specs.declared.reply.Refusal.{Refusal}
-use Rattle.centre_core.specs.declared.reply.Refusal.TheVariants.{Mail}
+use Rattle.centre_core.specs.declared.reply.Refusal.TheVariants.{Registration, Mail}
 use Rattle.centre_core.specs.State.{State, Served, last_number}
 use Rattle.centre_core.specs.Step.{step, step_new, step_after, step_body, step_made, step_mm, step_sds, accepted, kept_at, is_station, envelope, message_of, report_of}
 use Rattle.centre_core.specs.History.{is_acceptance, names_by_head, names_in, names, made_by_head, made_in, made}
-use Rattle.centre_core.proofs.EffectLaws.{rule_set_change, radio_located_change, radio_detached_change, groups_changed_change}
+use Rattle.centre_core.proofs.EffectLaws.{rule_set_change, rule_cleared_change, radio_located_change, radio_detached_change, groups_changed_change}
 use Rattle.centre_core.proofs.SpeltLaws.{message_headed, report_headed}
 use Rattle.centre_core.proofs.MailEffects.{IsEffect, mail_left, message_effect, report_effect, acknowledge_effect, removal_effect}
 
@@ -95,6 +96,7 @@ module _ {A : Type 0} (B : Type 0) where
 
   says_body : (s : State) (c : Command A) (b : Body A) → s.count < last_number → Says s c (names_in c.moment b) (made_in s c.moment b) (step_body s c b)
   says_body s c (RuleSet prefix rule) left = says_made s c _ _ _ _ _ (set_refusal s.registered prefix) left (λ none. mail_left s _ refl (rule_set_change s prefix rule none))
+  says_body s c (RuleClear prefix) left = says_made {F = RegFault} s c _ _ _ _ Registration None left (λ none. mail_left s _ refl (rule_cleared_change s prefix))
   says_body s c (Mm itsi area pdu) left = says_mm s c itsi area (reading_up pdu) left
   says_body s c (Sds source destination pdu) left = says_sds s c source destination pdu (heading pdu) refl left
   says_body s c (Sent key) left = says_made s c _ _ _ _ _ (sent_refusal s.registered s.mail key) left (λ none. removal_effect s (is_confirmed key) (is_confirmed key) (λ m message. refl))

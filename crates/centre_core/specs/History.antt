@@ -9,7 +9,7 @@ use Rattle.mailbox.specs.Values.{Waiting}
 use Rattle.mailbox.specs.Tests.{is_at, is_reported, is_confirmed, is_expired}
 use Rattle.centre_core.specs.declared.command.Command.{Command}
 use Rattle.centre_core.specs.declared.command.Body.{Body}
-use Rattle.centre_core.specs.declared.command.Body.TheVariants.{RuleSet, Mm, Sds, Sent, Expire, Delete}
+use Rattle.centre_core.specs.declared.command.Body.TheVariants.{RuleSet, RuleClear, Mm, Sds, Sent, Expire, Delete}
 use Rattle.centre_core.specs.declared.reply.Reply.{Reply}
 use Rattle.centre_core.specs.declared.reply.Reply.TheVariants.{Accepted, Kept, Refused}
 use Rattle.centre_core.specs.State.{State, Served}
@@ -58,6 +58,7 @@ module _ {A : Type 0} where
   -- the command ends this message: a report from its destination that says so, a `sent` where no report is asked for, an expiry at its deadline or later, a deletion
   abbrev pub names_in : ℕ → Body A → Waiting → Bool
   names_in moment (RuleSet prefix rule) m = false
+  names_in moment (RuleClear prefix) m = false
   names_in moment (Mm itsi area pdu) m = false
   names_in moment (Sds source destination pdu) m = names_by_head source destination (heading pdu) m
   names_in moment (Sent key) m = is_confirmed key m
@@ -75,6 +76,7 @@ module _ {A : Type 0} where
   -- the messages that an accepted command makes
   abbrev pub made_in : State → ℕ → Body A → List Waiting
   made_in s moment (RuleSet prefix rule) = []
+  made_in s moment (RuleClear prefix) = []
   made_in s moment (Mm itsi area pdu) = []
   made_in s moment (Sds source destination pdu) = made_by_head s moment source destination pdu (heading pdu)
   made_in s moment (Sent key) = []

@@ -14,7 +14,7 @@ use Rattle.mm_pdus.specs.Downlink.{accept_text, reject_text, acknowledge_text}
 use Rattle.registration.specs.declared.rule.Rule.{Rule}
 use Rattle.registration.specs.declared.fault.RegFault.{RegFault}
 use Rattle.registration.specs.declared.fault.RegFault.TheVariants.{UnknownIdentity, LaNotAllowed, Congestion, Migration, UnsupportedType, NotAttached, RulesFull, NoMemory}
-use Rattle.registration.specs.Registered.{Registered, set_refusal, with_rule, locate_refusal, located, detach_refusal, detached}
+use Rattle.registration.specs.Registered.{Registered, set_refusal, with_rule, without_rule, locate_refusal, located, detach_refusal, detached}
 use Rattle.group_attach.specs.Applied.{after_update, applied, answers, apply_refusal}
 use Rattle.sds_tl.specs.declared.fault.SdsFault.{SdsFault}
 use Rattle.sds_tl.specs.declared.pdu.Head.{Head}
@@ -30,7 +30,7 @@ use Rattle.mailbox.specs.Mail.{waiting_for, posted, reported, acknowledged, conf
 use Rattle.mailbox.specs.Refusals.{post_refusal, report_refusal, ack_refusal, sent_refusal, delete_refusal}
 use Rattle.centre_core.specs.declared.command.Command.{Command}
 use Rattle.centre_core.specs.declared.command.Body.{Body}
-use Rattle.centre_core.specs.declared.command.Body.TheVariants.{RuleSet, Mm, Sds, Sent, Expire, Delete}
+use Rattle.centre_core.specs.declared.command.Body.TheVariants.{RuleSet, RuleClear, Mm, Sds, Sent, Expire, Delete}
 use Rattle.centre_core.specs.declared.reply.Reply.{Reply}
 use Rattle.centre_core.specs.declared.reply.Reply.TheVariants.{Accepted, Kept, Refused}
 use Rattle.centre_core.specs.declared.reply.Refusal.{Refusal}
@@ -63,9 +63,12 @@ accept_pdu update = option_map accept_text (accept_of update)
 abbrev pub acknowledge_pdu : Registered → ℕ → List GroupUp → List Bool
 acknowledge_pdu r itsi items = acknowledge_text false (answers r itsi items)
 
--- what the bodies make of a state: a rule is set, a radio is located and loses attachments, it goes, and its groups change
+-- what the bodies make of a state: a rule is set, or goes, a radio is located and loses attachments, it goes, and its groups change
 abbrev pub rule_set : State → Path → Rule → State
 rule_set s prefix rule = record s { registered = with_rule s.registered prefix rule }
+
+abbrev pub rule_cleared : State → Path → State
+rule_cleared s prefix = record s { registered = without_rule s.registered prefix }
 
 abbrev pub radio_located : State → ℕ → ℕ → ℕ → LocationUpdateType → State
 radio_located s itsi station area update = record s { registered = located s.registered itsi station area; groups = after_update s.groups itsi update }
@@ -124,6 +127,9 @@ module _ {A B : Type 0} where
   abbrev pub step_rule : State → Command A → Path → Rule → State × Reply B
   step_rule s c prefix rule = step_made s c (rule_set s prefix rule) None (option_map Registration (set_refusal s.registered prefix))
 
+  abbrev pub step_clear : State → Command A → Path → State × Reply B
+  step_clear s c prefix = step_made s c (rule_cleared s prefix) None None
+
   abbrev pub step_locate : State → Command A → ℕ → ℕ → LocationUpdateType → State × Reply B
   step_locate s c itsi area update =
       step_made s c (radio_located s itsi c.station area update) (accept_pdu update) (option_map (location_refusal update) (locate_refusal s.registered itsi area update))
@@ -174,6 +180,7 @@ module _ {A B : Type 0} where
 
   abbrev pub step_body : State → Command A → Body A → State × Reply B
   step_body s c (RuleSet prefix rule) = step_rule s c prefix rule
+  step_body s c (RuleClear prefix) = step_clear s c prefix
   step_body s c (Mm itsi area pdu) = step_mm s c itsi area (reading_up pdu)
   step_body s c (Sds source destination pdu) = step_sds s c source destination pdu (heading pdu)
   step_body s c (Sent key) = step_sent s c key

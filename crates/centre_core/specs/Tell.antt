@@ -1,7 +1,7 @@
 -- The answer to a query.
 use Rattle.std.specs.Prelude.{ℕ, List}
 use Rattle.std.specs.List.{filter}
-use Rattle.registration.specs.Registered.{radio_of, is_present}
+use Rattle.registration.specs.Registered.{longest_rule, radio_of, is_present}
 use Rattle.group_attach.specs.declared.attachment.Attachment.{Attachment}
 use Rattle.group_attach.specs.Attached.{groups_of, members_of}
 use Rattle.mailbox.specs.Mail.{waiting}
@@ -18,6 +18,7 @@ present_members s gtsi = filter (λ a. is_present (radio_of s.registered a.itsi)
 -- A is the allocator that the answer is kept under. Nothing depends on it.
 abbrev pub tell : {A : Type 0} → State → Query → Told A
 tell s (query.Whereabouts itsi) = told.Whereabouts itsi (radio_of s.registered itsi)
+tell s (query.Look itsi) = told.Look itsi (longest_rule s.registered itsi)
 tell s (query.GroupsOf itsi) = told.Groups itsi (groups_of s.groups itsi)
 tell s (query.MembersOf gtsi) = told.Members gtsi (present_members s gtsi)
 tell s (query.Waiting itsi) = told.Waiting itsi (waiting s.mail itsi)

@@ -25,6 +25,10 @@ pub enum Body<A: Allocator> {
         prefix: Prefix,
         rule: Rule,
     },
+    /// Removes the rule under just this prefix, if there is one.
+    RuleClear {
+        prefix: Prefix,
+    },
     /// A mobility management PDU of a radio, received in a location area.
     Mm {
         itsi: Itsi,

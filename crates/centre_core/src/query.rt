@@ -1,9 +1,9 @@
 ghost use Rattle.std.specs.Prelude.{◌≡◌};
 
 use group_attach::Attachment;
-use identity::{Gtsi, Itsi};
+use identity::{Gtsi, Itsi, Prefix};
 use mailbox::Item;
-use registration::Radio;
+use registration::{Radio, Rule};
 use std::alloc::Allocator;
 use std::marker::Model;
 
@@ -12,6 +12,8 @@ use std::marker::Model;
 pub enum Query {
     /// Where a radio is.
     Whereabouts(Itsi),
+    /// Which rule serves an identity: a radio's, or a group's of the same number.
+    Look(Itsi),
     /// Which groups a radio is attached to.
     GroupsOf(Itsi),
     /// Which radios that are present are attached to a group.
@@ -26,13 +28,30 @@ pub enum Query {
 #[derive(Drop)]
 pub enum Told<A: Allocator> {
     /// The radio as the register knows it, if it does.
-    Whereabouts { itsi: Itsi, radio: Option<Radio> },
+    Whereabouts {
+        itsi: Itsi,
+        radio: Option<Radio>,
+    },
+    /// The rule that serves the identity, if there is one, and the prefix that it is under.
+    Look {
+        itsi: Itsi,
+        rule: Option<(Prefix, Rule)>,
+    },
     /// The attachments of a radio, in order of their groups.
-    Groups { itsi: Itsi, groups: Attachments<A> },
+    Groups {
+        itsi: Itsi,
+        groups: Attachments<A>,
+    },
     /// The attachments to a group, in order of their radios, which are present.
-    Members { gtsi: Gtsi, members: Attachments<A> },
+    Members {
+        gtsi: Gtsi,
+        members: Attachments<A>,
+    },
     /// What waits for a radio, in order of number, then of key.
-    Waiting { itsi: Itsi, items: Items<A> },
+    Waiting {
+        itsi: Itsi,
+        items: Items<A>,
+    },
     /// The number of accepted commands.
     Total(u64),
 }

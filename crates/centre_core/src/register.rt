@@ -6,7 +6,7 @@ ghost use Rattle.std.specs.Prelude.{◌≡◌, ◌<◌, ◌≤◌, ◌+◌, IfOk
 ghost use Rattle.mm_pdus.specs.UplinkReading.{reading_up};
 ghost use Rattle.registration.specs.Registered.{is_present};
 ghost use Rattle.centre_core.specs.State.{empty, IsState};
-ghost use Rattle.centre_core.specs.Step.{step, step_new, step_mm, step_rule, step_locate, step_detach, step_groups, accept_pdu, acknowledge_pdu, accepted, IsOfStation, CanBeAccepted};
+ghost use Rattle.centre_core.specs.Step.{step, step_new, step_mm, step_rule, step_clear, step_locate, step_detach, step_groups, accept_pdu, acknowledge_pdu, accepted, IsOfStation, CanBeAccepted};
 ghost use Rattle.centre_core.specs.Tell.{present_members, tell};
 ghost use Rattle.centre_core.specs.History.{is_acceptance, names};
 ghost use Rattle.centre_core.specs.Laws.{KeepsMessages};
@@ -102,6 +102,10 @@ impl<A: Allocator + Clone> Register<A> {
                 itsi,
                 radio: self.registry.where_is(itsi),
             }),
+            Query::Look(itsi) => Ok(Told::Look {
+                itsi,
+                rule: self.registry.longest_rule(itsi.number()),
+            }),
             Query::GroupsOf(itsi) => Ok(Told::Groups {
                 itsi,
                 groups: Attachments {
@@ -189,6 +193,7 @@ impl<A: Allocator + Clone> Register<A> {
         }
         match &command.body {
             Body::RuleSet { prefix, rule } => self.set_rule(command, *prefix, *rule),
+            Body::RuleClear { prefix } => Ok(self.clear_rule(command, prefix)),
             Body::Mm { itsi, area, pdu } => self.mobility(alloc, command, *itsi, *area, pdu),
             Body::Sds {
                 source,
@@ -216,6 +221,20 @@ impl<A: Allocator + Clone> Register<A> {
         }
         let number = self.accept(command, None);
         Ok(Reply::Accepted { number, pdu: None })
+    }
+
+    // It takes no memory.
+    fn clear_rule<B: Allocator, C: Allocator>(
+        &mut self,
+        command: &Command<B>,
+        prefix: &Prefix,
+    ) -> Reply<C>
+        requires { CanBeAccepted self.old command.now }
+        ensures { (self.new, result) ≡ step_clear self.old command.now prefix.now }
+    {
+        self.registry.clear_rule(prefix);
+        let number = self.accept(command, None);
+        Reply::Accepted { number, pdu: None }
     }
 
     fn mobility<B: Allocator, C: Allocator + Copy>(

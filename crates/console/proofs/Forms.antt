@@ -5,7 +5,7 @@ use Rattle.identity.specs.NumberText.{judged}
 use Rattle.identity.specs.BitsText.{digit_bits, bits_form, reading_bits}
 use Rattle.identity.specs.declared.fault.Fault.TheVariants.{OutOfRange, NoMemory}
 use Rattle.centre_core.specs.declared.command.Body.{Body}
-use Rattle.centre_core.specs.declared.command.Body.TheVariants.{RuleSet, Mm, Sds, Sent, Expire, Delete}
+use Rattle.centre_core.specs.declared.command.Body.TheVariants.{RuleSet, RuleClear, Mm, Sds, Sent, Expire, Delete}
 use Rattle.console.specs.Reading.{of_words, order, sequence_of, HasPdu}
 use Rattle.console.specs.declared.order.Head.{Head}
 use Rattle.console.specs.declared.line.LineFault.{LineFault}
@@ -28,6 +28,7 @@ many_words station (a ∷ b ∷ c ∷ d ∷ e ∷ f ∷ g ∷ h ∷ i ∷ ws) ma
 -- a body with a PDU, behind a head and without one
 pub unread : {A : Type 0} (station : ℕ) (head : Head) (body : Result (Body A) LineFault) → HasPdu body → sequence_of (order station (Some head) body) ≡ Some head.sequence
 unread station head (Ok (RuleSet prefix rule)) pdu = absurd pdu
+unread station head (Ok (RuleClear prefix)) pdu = absurd pdu
 unread station head (Ok (Mm itsi area bits)) pdu = refl
 unread station head (Ok (Sds source destination bits)) pdu = refl
 unread station head (Ok (Sent key)) pdu = absurd pdu

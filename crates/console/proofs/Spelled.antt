@@ -22,9 +22,9 @@ use Rattle.mailbox.specs.declared.key.Kind.{Kind}
 use Rattle.mailbox.specs.declared.key.Kind.TheVariants.{Message, Report}
 use Rattle.centre_core.specs.declared.command.Command.{Command}
 use Rattle.centre_core.specs.declared.command.Body.{Body}
-use Rattle.centre_core.specs.declared.command.Body.TheVariants.{RuleSet, Mm, Sds, Sent, Expire, Delete}
+use Rattle.centre_core.specs.declared.command.Body.TheVariants.{RuleSet, RuleClear, Mm, Sds, Sent, Expire, Delete}
 use Rattle.centre_core.specs.declared.query.Query.{Query}
-use Rattle.centre_core.specs.declared.query.Query.TheVariants.{Whereabouts, GroupsOf, MembersOf, Waiting, Total}
+use Rattle.centre_core.specs.declared.query.Query.TheVariants.{Whereabouts, Look, GroupsOf, MembersOf, Waiting, Total}
 use Rattle.console.specs.declared.order.Head.{Head}
 use Rattle.console.specs.declared.line.LineFault.{LineFault}
 use Rattle.console.specs.declared.line.LineFault.TheVariants.{Syntax, Value, TooLong}
@@ -106,13 +106,15 @@ query_spelled : (name identity : List ℕ) (q : Query) → query_in name identit
 query_spelled name identity q e =
     let o = result_ok (reading_identity identity) in
     let whereabouts = about_spelled Whereabouts (codes "where") name identity q (λ n. refl) in
+    let look = about_spelled Look (codes "look") name identity q (λ n. refl) in
     let groups = about_spelled GroupsOf (codes "groups") name identity q (λ n. refl) in
     let members = about_spelled MembersOf (codes "members") name identity q (λ n. refl) in
     let mail = about_spelled Waiting (codes "mail") name identity q (λ n. refl) in
     or_else (bytes_eq name (codes "where")) (saying Whereabouts o) _ q whereabouts
+    (or_else (bytes_eq name (codes "look")) (saying Look o) _ q look
     (or_else (bytes_eq name (codes "groups")) (saying GroupsOf o) _ q groups
     (or_else (bytes_eq name (codes "members")) (saying MembersOf o) _ q members
-    (or_else (bytes_eq name (codes "mail")) (saying Waiting o) (Err Syntax) q mail (λ none. absurd (err_ok Syntax q none))))) e
+    (or_else (bytes_eq name (codes "mail")) (saying Waiting o) (Err Syntax) q mail (λ none. absurd (err_ok Syntax q none)))))) e
 
 -- ---- commands
 
@@ -222,11 +224,19 @@ module _ {A : Type 0} where
       ∙ ap (λ w. codes "rule" ∷ prefix_text f.0 ∷ decimal f.1.low ∷ decimal f.1.high ∷ decimal (lifetime_number f.1.lifetime) ∷ w ∷ []) is_keep
       )
 
+  unrule_spelled : (p : List ℕ) (b : Body A) → saying RuleClear (result_ok (reading_prefix p)) ≡ Ok b → SpellsBody b (codes "unrule" ∷ p ∷ [])
+  unrule_spelled p b e =
+      let f = saying_only RuleClear (result_ok (reading_prefix p)) b e in
+      let is_p : p ≡ prefix_text f.0 = (reading_prefix_only f.0 p (ok_of (reading_prefix p) f.0 f.1)).1 in
+      subst (λ (d : Body A). SpellsBody d (codes "unrule" ∷ p ∷ [])) f.2 (ap (λ w. codes "unrule" ∷ w ∷ []) is_p)
+
   body_spelled : (name : List ℕ) (more : List (List ℕ)) (b : Body A) → body_in name more ≡ Ok b → SpellsBody b (name ∷ more)
   body_spelled name [] b e =
       let f = form_only (bytes_eq name (codes "expire")) (Ok Expire) b e in
       subst (λ (word : List ℕ). SpellsBody b (word ∷ [])) (sym (named name (codes "expire") f.0)) (subst (λ (c : Body A). SpellsBody c (codes "expire" ∷ [])) (ok_same Expire b f.1) refl)
-  body_spelled name (x ∷ []) b e = absurd (err_ok Syntax b e)
+  body_spelled name (p ∷ []) b e =
+      let f = form_only (bytes_eq name (codes "unrule")) (saying RuleClear (result_ok (reading_prefix p))) b e in
+      subst (λ (word : List ℕ). SpellsBody b (word ∷ p ∷ [])) (sym (named name (codes "unrule") f.0)) (unrule_spelled p b f.1)
   body_spelled name (x ∷ y ∷ []) b e = absurd (err_ok Syntax b e)
   body_spelled name (x ∷ y ∷ p ∷ []) b e =
       or_else (bytes_eq name (codes "mm")) (mm_body (result_ok (reading_identity x)) (area_in y) (result_ok (reading_bits p))) _ b

@@ -27,9 +27,9 @@ use Rattle.mailbox.specs.declared.key.Key.{Key}
 use Rattle.mailbox.specs.declared.key.Kind.{Kind}
 use Rattle.mailbox.specs.declared.key.Kind.TheVariants.{Message, Report}
 use Rattle.centre_core.specs.declared.command.Body.{Body}
-use Rattle.centre_core.specs.declared.command.Body.TheVariants.{RuleSet, Mm, Sds, Sent, Expire, Delete}
+use Rattle.centre_core.specs.declared.command.Body.TheVariants.{RuleSet, RuleClear, Mm, Sds, Sent, Expire, Delete}
 use Rattle.centre_core.specs.declared.query.Query.{Query}
-use Rattle.centre_core.specs.declared.query.Query.TheVariants.{Whereabouts, GroupsOf, MembersOf, Waiting, Total}
+use Rattle.centre_core.specs.declared.query.Query.TheVariants.{Whereabouts, Look, GroupsOf, MembersOf, Waiting, Total}
 use Rattle.console.specs.declared.order.Head.{Head}
 use Rattle.console.specs.declared.line.LineFault.{LineFault}
 use Rattle.console.specs.declared.line.Line.{Line}
@@ -219,6 +219,9 @@ module _ {A : Type 0} where
           ),
         ),
       )
+  body_taken (RuleClear prefix) body range spelt =
+      subst (λ (ws : List (List ℕ)). IsTaken (RuleClear prefix) ws) (sym spelt)
+      (codes "unrule", prefix_text prefix ∷ [], refl, saying_again RuleClear (result_ok (reading_prefix (prefix_text prefix))) prefix (ap result_ok (reading_prefix_again prefix range)), (letters_lack (codes "unrule") refl, (prefix_lacks prefix range, tt)))
   body_taken (Mm itsi area pdu) body range spelt =
       subst (λ (ws : List (List ℕ)). IsTaken (Mm itsi area pdu) ws) (sym spelt.2) (
         codes "mm",
@@ -278,6 +281,7 @@ module _ {A : Type 0} where
 
   pub all_queries : AllQueries A
   all_queries station (Whereabouts itsi) small short = about_again Whereabouts station (codes "where") itsi small refl (λ word. refl) refl short
+  all_queries station (Look itsi) small short = about_again Look station (codes "look") itsi small refl (λ word. refl) refl short
   all_queries station (GroupsOf itsi) small short = about_again GroupsOf station (codes "groups") itsi small refl (λ word. refl) refl short
   all_queries station (MembersOf gtsi) small short = about_again MembersOf station (codes "members") gtsi small refl (λ word. refl) refl short
   all_queries station (Waiting itsi) small short = about_again Waiting station (codes "mail") itsi small refl (λ word. refl) refl short

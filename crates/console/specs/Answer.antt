@@ -1,13 +1,15 @@
 -- How an answer is written. B is the allocator that the bits in it lie under: nothing depends on it.
 use Rattle.std.specs.Prelude.{ℕ, Bool, true, false, List, [], ◌++◌, length, Option, Some, None, codes, decimal}
 use Rattle.std.specs.List.{flat_map}
-use Rattle.identity.specs.IdentityText.{identity_text}
+use Rattle.identity.specs.IdentityText.{identity_text, prefix_text}
 use Rattle.identity.specs.BitsText.{bits_text}
+use Rattle.identity.specs.Path.{Path}
 use Rattle.mm_pdus.specs.Values.{lifetime_number}
 use Rattle.group_attach.specs.declared.attachment.Attachment.{Attachment}
 use Rattle.mailbox.specs.declared.key.Key.{Key}
 use Rattle.mailbox.specs.Values.{Waiting}
 use Rattle.registration.specs.declared.radio.Radio.{Radio}
+use Rattle.registration.specs.declared.rule.Rule.{Rule}
 use Rattle.centre_core.specs.declared.reply.Reply.{Reply}
 use Rattle.centre_core.specs.declared.reply.Reply.TheVariants as reply
 use Rattle.centre_core.specs.declared.reply.Refusal.{Refusal}
@@ -31,6 +33,11 @@ abbrev pub whereabouts_text : Option Radio → List ℕ
 whereabouts_text None = codes "unknown"
 whereabouts_text (Some radio) = codes "station " ++ decimal radio.station ++ codes " la " ++ decimal radio.area
     ++ presence_text radio.present
+
+-- the rule that serves an identity, behind its prefix
+abbrev pub rule_text : Option (Path × Rule) → List ℕ
+rule_text None = codes "none"
+rule_text (Some e) = prefix_text e.0 ++ codes " " ++ decimal e.1.low ++ codes " " ++ decimal e.1.high ++ codes " " ++ decimal (lifetime_number e.1.lifetime) ++ codes " " ++ decimal e.1.keep
 
 -- a group that a radio is attached to, and a radio that is attached to a group
 abbrev pub group_text : Attachment → List ℕ
@@ -69,6 +76,7 @@ module _ {B : Type 0} where
 
   abbrev pub told_text : Told B → List ℕ
   told_text (told.Whereabouts itsi radio) = codes "where " ++ identity_text itsi ++ codes " " ++ whereabouts_text radio ++ codes "\n"
+  told_text (told.Look itsi rule) = codes "look " ++ identity_text itsi ++ codes " " ++ rule_text rule ++ codes "\n"
   told_text (told.Groups itsi groups) = codes "groups " ++ identity_text itsi ++ codes " " ++ list_text group_text groups
   told_text (told.Members gtsi members) = codes "members " ++ identity_text gtsi ++ codes " " ++ list_text member_text members
   told_text (told.Waiting itsi items) = codes "mail " ++ identity_text itsi ++ codes " " ++ list_text item_text items

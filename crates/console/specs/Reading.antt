@@ -15,9 +15,9 @@ use Rattle.mailbox.specs.declared.key.Key.{Key}
 use Rattle.mailbox.specs.declared.key.Kind.{Kind}
 use Rattle.mailbox.specs.declared.key.Kind.TheVariants.{Message, Report}
 use Rattle.centre_core.specs.declared.command.Body.{Body}
-use Rattle.centre_core.specs.declared.command.Body.TheVariants.{RuleSet, Mm, Sds, Sent, Expire, Delete}
+use Rattle.centre_core.specs.declared.command.Body.TheVariants.{RuleSet, RuleClear, Mm, Sds, Sent, Expire, Delete}
 use Rattle.centre_core.specs.declared.query.Query.{Query}
-use Rattle.centre_core.specs.declared.query.Query.TheVariants.{Whereabouts, GroupsOf, MembersOf, Waiting, Total}
+use Rattle.centre_core.specs.declared.query.Query.TheVariants.{Whereabouts, Look, GroupsOf, MembersOf, Waiting, Total}
 use Rattle.console.specs.declared.order.Head.{Head}
 use Rattle.console.specs.declared.line.LineFault.{LineFault}
 use Rattle.console.specs.declared.line.LineFault.TheVariants.{Syntax, Value, TooLong}
@@ -97,9 +97,10 @@ saying says None = Err Value
 -- name ID: a query about an identity
 abbrev pub query_in : List ℕ → List ℕ → Result Query LineFault
 query_in name identity = if bytes_eq name (codes "where") then saying Whereabouts (result_ok (reading_identity identity))
+    else (if bytes_eq name (codes "look") then saying Look (result_ok (reading_identity identity))
     else (if bytes_eq name (codes "groups") then saying GroupsOf (result_ok (reading_identity identity))
     else (if bytes_eq name (codes "members") then saying MembersOf (result_ok (reading_identity identity))
-    else (if bytes_eq name (codes "mail") then saying Waiting (result_ok (reading_identity identity)) else Err Syntax)))
+    else (if bytes_eq name (codes "mail") then saying Waiting (result_ok (reading_identity identity)) else Err Syntax))))
 
 module _ {A : Type 0} where
   -- rule PREFIX LOW HIGH LIFE KEEP
@@ -120,6 +121,7 @@ module _ {A : Type 0} where
   -- by the word that names the form and the number of words behind it; each of these is judged after that
   abbrev pub body_in : List ℕ → List (List ℕ) → Result (Body A) LineFault
   body_in name [] = if bytes_eq name (codes "expire") then Ok Expire else Err Syntax
+  body_in name (prefix ∷ []) = if bytes_eq name (codes "unrule") then saying RuleClear (result_ok (reading_prefix prefix)) else Err Syntax
   body_in name (first ∷ second ∷ pdu ∷ []) = if bytes_eq name (codes "mm")
       then mm_body (result_ok (reading_identity first)) (area_in second) (result_ok (reading_bits pdu))
       else (if bytes_eq name (codes "sds")
@@ -160,6 +162,7 @@ module _ {A : Type 0} where
   -- the body has a PDU
   abbrev pub HasPdu : Result (Body A) LineFault → Type 0
   HasPdu (Ok (RuleSet prefix rule)) = ⊥
+  HasPdu (Ok (RuleClear prefix)) = ⊥
   HasPdu (Ok (Mm itsi area pdu)) = Unit {0}
   HasPdu (Ok (Sds source destination pdu)) = Unit {0}
   HasPdu (Ok (Sent key)) = ⊥
@@ -170,6 +173,7 @@ module _ {A : Type 0} where
   -- the sequence of a command, where a PDU comes with it
   abbrev pub with_pdu : ℕ → Body A → Option ℕ
   with_pdu sequence (RuleSet prefix rule) = None
+  with_pdu sequence (RuleClear prefix) = None
   with_pdu sequence (Mm itsi area pdu) = Some sequence
   with_pdu sequence (Sds source destination pdu) = Some sequence
   with_pdu sequence (Sent key) = None

@@ -7,9 +7,9 @@ use Rattle.mm_pdus.specs.Values.{lifetime_number}
 use Rattle.mailbox.specs.declared.key.Key.{Key}
 use Rattle.centre_core.specs.declared.command.Command.{Command}
 use Rattle.centre_core.specs.declared.command.Body.{Body}
-use Rattle.centre_core.specs.declared.command.Body.TheVariants.{RuleSet, Mm, Sds, Sent, Expire, Delete}
+use Rattle.centre_core.specs.declared.command.Body.TheVariants.{RuleSet, RuleClear, Mm, Sds, Sent, Expire, Delete}
 use Rattle.centre_core.specs.declared.query.Query.{Query}
-use Rattle.centre_core.specs.declared.query.Query.TheVariants.{Whereabouts, GroupsOf, MembersOf, Waiting, Total}
+use Rattle.centre_core.specs.declared.query.Query.TheVariants.{Whereabouts, Look, GroupsOf, MembersOf, Waiting, Total}
 use Rattle.console.specs.declared.line.Line.TheVariants.{Order, Ask}
 use Rattle.console.specs.Words.{kind_word}
 use Rattle.console.specs.Reading.{reading}
@@ -27,6 +27,7 @@ module _ {A : Type 0} where
   abbrev pub SpellsBody : Body A → List (List ℕ) → Type 0
   SpellsBody (RuleSet prefix rule) words =
       words ≡ codes "rule" ∷ prefix_text prefix ∷ decimal rule.low ∷ decimal rule.high ∷ decimal (lifetime_number rule.lifetime) ∷ decimal rule.keep ∷ []
+  SpellsBody (RuleClear prefix) words = words ≡ codes "unrule" ∷ prefix_text prefix ∷ []
   SpellsBody (Mm itsi area pdu) words =
       (digits : List ℕ) × SpellsBits digits pdu × (words ≡ codes "mm" ∷ identity_text itsi ∷ decimal area ∷ digits ∷ [])
   SpellsBody (Sds source destination pdu) words =
@@ -40,6 +41,7 @@ module _ {A : Type 0} where
 
 abbrev pub query_text : Query → List ℕ
 query_text (Whereabouts itsi) = spaced (codes "where" ∷ identity_text itsi ∷ [])
+query_text (Look itsi) = spaced (codes "look" ∷ identity_text itsi ∷ [])
 query_text (GroupsOf itsi) = spaced (codes "groups" ∷ identity_text itsi ∷ [])
 query_text (MembersOf gtsi) = spaced (codes "members" ∷ identity_text gtsi ∷ [])
 query_text (Waiting itsi) = spaced (codes "mail" ∷ identity_text itsi ∷ [])
@@ -59,6 +61,7 @@ module _ {A : Type 0} where
   -- what a command may hold
   abbrev pub BodyInRange : Body A → Type 0
   BodyInRange (RuleSet prefix rule) = (length prefix ≤ 48) × (rule.low ≤ rule.high) × (rule.high < 2 ^ 14) × (rule.keep < 2 ^ 32)
+  BodyInRange (RuleClear prefix) = length prefix ≤ 48
   BodyInRange (Mm itsi area pdu) = (itsi < 2 ^ 48) × (area < 2 ^ 14) × (length pdu ≤ 2048)
   BodyInRange (Sds source destination pdu) = (source < 2 ^ 48) × (destination < 2 ^ 48) × (length pdu ≤ 2048)
   BodyInRange (Sent key) = KeyInRange key
@@ -71,6 +74,7 @@ module _ {A : Type 0} where
 -- what a query may ask for
 abbrev pub Askable : Query → Type 0
 Askable (Whereabouts itsi) = itsi < 2 ^ 48
+Askable (Look itsi) = itsi < 2 ^ 48
 Askable (GroupsOf itsi) = itsi < 2 ^ 48
 Askable (MembersOf gtsi) = gtsi < 2 ^ 48
 Askable (Waiting itsi) = itsi < 2 ^ 48

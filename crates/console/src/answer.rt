@@ -1,5 +1,5 @@
 ghost use Rattle.std.specs.Prelude.{◌≡◌, ◌++◌, OnOk};
-ghost use Rattle.console.specs.Answer.{text, is_trouble, reply_text, refusal_text, pdu_text, told_text, list_text, group_text, member_text, item_text, key_text, whereabouts_text, presence_text};
+ghost use Rattle.console.specs.Answer.{text, is_trouble, reply_text, refusal_text, pdu_text, told_text, list_text, group_text, member_text, item_text, key_text, whereabouts_text, rule_text, presence_text};
 
 use crate::desk::Service;
 use crate::line::LineFault;
@@ -8,9 +8,9 @@ use crate::words::{
 };
 use centre_core::{Refusal, Reply, Told};
 use group_attach::Attachment;
-use identity::{Bits, print_bits, print_gtsi, print_itsi, print_number};
+use identity::{Bits, Prefix, print_bits, print_gtsi, print_itsi, print_number, print_prefix};
 use mailbox::{Item, Key};
-use registration::Radio;
+use registration::{Radio, Rule};
 use std::alloc::{AllocError, Allocator};
 
 /// The answer to a line.
@@ -164,6 +164,13 @@ fn print_told<A: Allocator, B: Allocator>(
             print_whereabouts(out, radio)?;
             out.extend_from_slice(b"\n")
         }
+        Told::Look { itsi, rule } => {
+            out.extend_from_slice(b"look ")?;
+            print_itsi(out, *itsi)?;
+            out.extend_from_slice(b" ")?;
+            print_rule(out, rule)?;
+            out.extend_from_slice(b"\n")
+        }
         Told::Groups { itsi, groups } => {
             out.extend_from_slice(b"groups ")?;
             print_itsi(out, *itsi)?;
@@ -300,6 +307,27 @@ fn print_whereabouts<A: Allocator>(
     out.extend_from_slice(b" la ")?;
     print_number(out, u64::from(radio.area.number()))?;
     out.extend_from_slice(presence_word(radio.present).as_bytes())
+}
+
+#[tactic(auto, using(std::proofs::Common::append_assoc))]
+fn print_rule<A: Allocator>(
+    out: &mut Vec<u8, A>,
+    rule: &Option<(Prefix, Rule)>,
+) -> Result<(), AllocError>
+    ensures { OnOk result (out.new.items ≡ out.old.items ++ rule_text rule.now) }
+{
+    let Some((prefix, rule)) = rule else {
+        return out.extend_from_slice(b"none");
+    };
+    print_prefix(out, *prefix)?;
+    out.extend_from_slice(b" ")?;
+    print_number(out, u64::from(rule.low().number()))?;
+    out.extend_from_slice(b" ")?;
+    print_number(out, u64::from(rule.high().number()))?;
+    out.extend_from_slice(b" ")?;
+    print_number(out, u64::from(rule.lifetime().number()))?;
+    out.extend_from_slice(b" ")?;
+    print_number(out, u64::from(rule.keep()))
 }
 
 fn presence_word(present: bool) -> &'static str

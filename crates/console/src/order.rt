@@ -4,7 +4,8 @@ ghost use Rattle.std.specs.Result.{result_ok};
 ghost use Rattle.identity.specs.IdentityText.{reading_identity, reading_prefix};
 ghost use Rattle.identity.specs.BitsText.{reading_bits};
 ghost use Rattle.centre_core.specs.declared.query.Query.TheVariants.{Whereabouts};
-ghost use Rattle.console.specs.Reading.{query_in, body_in, mm_body, sds_body, rule_body, HasPdu, head_in, seconds_in, sequence_in, area_in, lifetime_in, rule_in, reference_in, kind_in, key_in};
+ghost use Rattle.centre_core.specs.declared.command.Body.TheVariants.{RuleClear};
+ghost use Rattle.console.specs.Reading.{query_in, body_in, mm_body, sds_body, rule_body, HasPdu, head_in, seconds_in, sequence_in, area_in, lifetime_in, rule_in, reference_in, kind_in, key_in, saying};
 
 use crate::line::LineFault;
 use centre_core::{Body, Query};
@@ -36,6 +37,8 @@ pub(crate) fn query_in(name: &[u8], identity: &[u8]) -> Result<Query, LineFault>
 {
     let query = if name == b"where".as_slice() {
         parse_itsi(identity).map(Query::Whereabouts)
+    } else if name == b"look".as_slice() {
+        parse_itsi(identity).map(Query::Look)
     } else if name == b"groups".as_slice() {
         parse_itsi(identity).map(Query::GroupsOf)
     } else if name == b"members".as_slice() {
@@ -61,6 +64,12 @@ pub(crate) fn body_in<A: Allocator>(
         [] => {
             if name == b"expire".as_slice() {
                 return Ok(Ok(Body::Expire));
+            }
+            Ok(Err(LineFault::Syntax))
+        }
+        [prefix] => {
+            if name == b"unrule".as_slice() {
+                return Ok(unrule_body(prefix));
             }
             Ok(Err(LineFault::Syntax))
         }
@@ -163,6 +172,16 @@ fn rule_body<A: Allocator>(
         return Err(LineFault::Value);
     };
     Ok(Body::RuleSet { prefix, rule })
+}
+
+/// `unrule PREFIX`
+fn unrule_body<A: Allocator>(prefix: &[u8]) -> Result<Body<A>, LineFault>
+    ensures { result ≡ saying RuleClear (result_ok (reading_prefix prefix.now)) }
+{
+    match parse_prefix(prefix) {
+        Ok(prefix) => Ok(Body::RuleClear { prefix }),
+        Err(_) => Err(LineFault::Value),
+    }
 }
 
 // A moment, or a keep time in seconds.

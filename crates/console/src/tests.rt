@@ -454,7 +454,7 @@ fn a_little_register_goes_on(rt: HostRuntime) -> Result<(), Fail> {
         false, false, false, false, false,
     );
     for step in 0..512usize {
-        let Some(out) = over_a_little_register(&rt, 8 * step)? else {
+        let Some(out) = over_a_little_register(&rt, 64 * step)? else {
             continue;
         };
         let refused = first_refused(out.as_slice())?;

@@ -650,7 +650,69 @@ line 25 bad syntax
     )
 }
 
-pub(crate) fn worked_rows() -> [Row; 27] {
+fn nested_prefixes() -> Row {
+    plain_row(
+        "1 0 rule 0-0-0/0 1 9 0 10
+2 0 rule 234-14-0/24 1 99 1 3600
+3 0 rule 234-14-2001/48 5 5 3 60
+look 234-14-2001
+4 0 unrule 234-14-2001/48
+look 234-14-2001
+look 1023-16383-16777215
+",
+        "1 ok 1 -
+2 ok 2 -
+3 ok 3 -
+look 234-14-2001 234-14-2001/48 5 5 3 60
+4 ok 4 -
+look 234-14-2001 234-14-0/24 1 99 1 3600
+look 1023-16383-16777215 0-0-0/0 1 9 0 10
+",
+    )
+}
+
+fn rule_removed() -> Row {
+    plain_row(
+        "look 234-14-2001
+1 0 rule 234-14-0/24 1 99 1 3600
+2 10 mm 234-14-2001 7 10:260
+3 20 unrule 234-14-2001/48
+look 234-14-2001
+4 30 unrule 234-14-0/24
+look 234-14-2001
+where 234-14-2001
+5 40 mm 234-14-2001 7 10:260
+4 30 rule 234-14-0/24 1 99 1 3600
+5 50 mm 234-14-2001 0 5:10
+6 60 unrule 234-14-2001/24
+6 60 unrule
+6 60 unrule 234-14-0/24 1
+look
+look 234-14
+Look 234-14-2001
+",
+        "look 234-14-2001 none
+1 ok 1 -
+2 ok 2 8:56
+3 ok 3 -
+look 234-14-2001 234-14-0/24 1 99 1 3600
+4 ok 4 -
+look 234-14-2001 none
+where 234-14-2001 station 1 la 7 present
+5 no unknown-identity 14:7610
+4 kept 4 -
+5 ok 5 -
+line 12 bad value
+line 13 bad syntax
+line 14 bad syntax
+line 15 bad syntax
+line 16 bad value
+line 17 bad syntax
+",
+    )
+}
+
+pub(crate) fn worked_rows() -> [Row; 29] {
     [
         attach_and_where(),
         detach(),
@@ -678,6 +740,8 @@ pub(crate) fn worked_rows() -> [Row; 27] {
         resends_with_expire(),
         centre_full(),
         no_mail(),
+        nested_prefixes(),
+        rule_removed(),
         bad_lines(),
     ]
 }

@@ -1,10 +1,9 @@
 -- How one item changes whether a group is attached, and the count of a radio's groups.
-use Rattle.std.proofs.Common.{◌≡◌, ℕ, zero, suc, ◌+◌, ◌-◌, ◌<◌, ◌≤◌, Bool, true, false, cond, List, length, map, Option, Some, None, refl, sym, ap, ◌∙◌, subst, arith}
+use Rattle.std.proofs.Common.{◌≡◌, ℕ, ◌+◌, ◌-◌, ◌≤◌, Bool, true, false, cond, Option, Some, None, refl, sym, ap, ◌∙◌, arith}
 use Rattle.std.specs.Prelude.{◌&&◌, ◌||◌, ◌==◌, not}
 use Rattle.std.specs.Option.{is_some}
-use Rattle.std.specs.List.{filter}
 use Rattle.std.specs.Ordering.{eq_by_cmp}
-use Rattle.std.specs.Cmp.{nat_eq_equiv, unsigned_Decides}
+use Rattle.std.specs.Cmp.{nat_eq_equiv}
 use Rattle.std.specs.FinMap as finite
 use Rattle.mm_pdus.specs.declared.group.GroupUp.{GroupUp}
 use Rattle.mm_pdus.specs.declared.group.GroupUp.TheVariants as up
@@ -18,6 +17,10 @@ use Rattle.group_attach.proofs.Pairs.{pairs_total, pairs_exact, pairs_tied, alik
 
 pub same_number : (n : ℕ) → (n == n) ≡ true
 same_number n = nat_eq_equiv.refl n
+
+-- a pair ties with itself
+pub same_pair : (p : Pair) → eq_by_cmp pair_cmp p p ≡ true
+same_pair p = pairs_tied p p ∙ (λ i. same_number p.0 i && same_number p.1 i)
 
 -- with one radio, pairs tie where the groups are one
 pub tied_groups : (itsi a b : ℕ) → eq_by_cmp pair_cmp (itsi, a) (itsi, b) ≡ (a == b)
@@ -63,7 +66,7 @@ joined_is s itsi gtsi m (up.Attach class address) = attach_to itsi gtsi (gtsi_of
 joined_is s itsi gtsi m (up.Leave reason address) = leave_from itsi gtsi (gtsi_of address itsi) m
 
 -- a radio's part of the attachments after a change of one of its own groups
-part_inserted : (m : Attached) (itsi g : ℕ) (v : Usage) → of_radio (finite.insert m (itsi, g) v) itsi ≡ finite.insert (of_radio m itsi) (itsi, g) v
+pub part_inserted : (m : Attached) (itsi g : ℕ) (v : Usage) → of_radio (finite.insert m (itsi, g) v) itsi ≡ finite.insert (of_radio m itsi) (itsi, g) v
 part_inserted m itsi g v =
     finite.same_map pairs_total pairs_exact _ _ (λ q.
     finite.get-retain_keys (finite.insert m (itsi, g) v) (λ pair. pair.0 == itsi) q (alike (λ pair. pair.0 == itsi) q)
@@ -72,7 +75,7 @@ part_inserted m itsi g v =
     ∙ sym (finite.get-insert pairs_total (of_radio m itsi) (itsi, g) v q
     ∙ (λ i. cond (pairs_tied q (itsi, g) i) (Some v) (finite.get-retain_keys m (λ pair. pair.0 == itsi) q (alike (λ pair. pair.0 == itsi) q) i))))
 
-part_removed : (m : Attached) (itsi g : ℕ) → of_radio (finite.remove m (itsi, g)) itsi ≡ finite.remove (of_radio m itsi) (itsi, g)
+pub part_removed : (m : Attached) (itsi g : ℕ) → of_radio (finite.remove m (itsi, g)) itsi ≡ finite.remove (of_radio m itsi) (itsi, g)
 part_removed m itsi g =
     finite.same_map pairs_total pairs_exact _ _ (λ q.
     finite.get-retain_keys (finite.remove m (itsi, g)) (λ pair. pair.0 == itsi) q (alike (λ pair. pair.0 == itsi) q)

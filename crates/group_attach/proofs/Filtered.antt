@@ -1,20 +1,20 @@
 -- The entries of a part of the attachments.
-use Rattle.std.proofs.Common.{◌≡◌, ℕ, suc, ◌≤◌, None, Bool, true, false, cond, List, [], ◌∷◌, length, map, refl, ap, sym, ◌∙◌, subst, arith}
-use Rattle.std.specs.Prelude.{T, IsTrue, ◌&&◌, ◌==◌, not, Option}
+use Rattle.std.proofs.Common.{◌≡◌, suc, ◌≤◌, None, Bool, true, false, cond, List, [], ◌∷◌, length, map, refl, ap, sym, ◌∙◌, subst, arith}
+use Rattle.std.specs.Prelude.{T, ◌&&◌, ◌==◌, not}
 use Rattle.std.specs.List.{filter}
 use Rattle.std.specs.FinMap as finite
 use Rattle.std.specs.FinMap.Entries.{below_all, is_sorted, is_sorted-where_key, find-where_key}
 use Rattle.group_attach.specs.declared.attachment.Attachment.{Attachment}
-use Rattle.group_attach.specs.Attached.{Pair, Usage, Attached, pair_cmp, entry_of, attachment_of, listed, of_radio, of_group, groups_of, members_of}
+use Rattle.group_attach.specs.Attached.{Pair, Usage, Attached, pair_cmp, entry_of, attachment_of, listed}
 use Rattle.group_attach.specs.Applied.{kept_where}
 use Rattle.group_attach.specs.InOrder.{IsInOrder, map_of, pair_of}
 use Rattle.group_attach.proofs.Pairs.{pairs_total, pairs_exact, pairs_tied, alike}
 
-left : (a b : Bool) → T (a && b) → T a
+pub left : (a b : Bool) → T (a && b) → T a
 left true b h = tt
 left false b h = h
 
-right : (a b : Bool) → T (a && b) → T b
+pub right : (a b : Bool) → T (a && b) → T b
 right true b h = h
 right false b h = absurd h
 
@@ -124,3 +124,14 @@ removed_is_retained k m =
 
 pub removed_map : (k : Pair) (es : List Attachment) → IsInOrder es → map_of (filter (λ a. not ((a.itsi == k.0) && (a.gtsi == k.1))) es) ≡ finite.remove (map_of es) k
 removed_map k es order = retained_map (λ p. not ((p.0 == k.0) && (p.1 == k.1))) es order ∙ removed_is_retained k (map_of es)
+
+-- the whole list is what its map lists, and as long
+pub listed_map : (es : List Attachment) → IsInOrder es → listed (map_of es) ≡ es
+listed_map es order = ap (map attachment_of) (entries_of es order) ∙ as_listed es
+
+each_once : (es : List (Pair × Usage)) → length (map attachment_of es) ≡ length es
+each_once [] = refl
+each_once (e ∷ es) = ap suc (each_once es)
+
+pub length_listed : (m : Attached) → length (listed m) ≡ finite.len m
+length_listed m = each_once (finite.entries m) ∙ sym (finite.len-entries m)

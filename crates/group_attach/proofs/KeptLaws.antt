@@ -1,10 +1,9 @@
 -- What each effect keeps: no radio has too many groups, and the radios of all attachments are known.
 use Rattle.std.proofs.Common.{◌≡◌, ℕ, ◌≤◌, Bool, true, false, cond, List, [], ◌∷◌, length, Option, Some, None, refl, sym, ap, ◌∙◌, subst, arith}
-use Rattle.std.specs.Prelude.{◌&&◌, ◌==◌, nat_lt, not, IsSome, IsTrue, if◌then◌else◌}
+use Rattle.std.specs.Prelude.{◌&&◌, ◌==◌, nat_lt, not, IsSome, if◌then◌else◌}
 use Rattle.std.specs.Option.{is_some}
 use Rattle.std.specs.List.{filter, fold}
 use Rattle.std.specs.Ordering.{eq_by_cmp}
-use Rattle.std.specs.Cmp.{unsigned_Decides}
 use Rattle.std.specs.FinMap as finite
 use Rattle.std.specs.FinMap.{find}
 use mathlib.Core.Bool.{false≢true}
@@ -18,10 +17,9 @@ use Rattle.mm_pdus.specs.Address.{gtsi_of}
 use Rattle.registration.specs.declared.rule.Rule.{Rule}
 use Rattle.registration.specs.declared.radio.Radio.{Radio}
 use Rattle.registration.specs.Registered.{Registered, rule_of, radio_of, is_present}
-use Rattle.group_attach.specs.declared.fault.GroupFault.{GroupFault}
 use Rattle.group_attach.specs.declared.fault.GroupFault.TheVariants.{NotAttached, TooManyGroups}
 use Rattle.group_attach.specs.Attached.{Pair, Usage, Attached, pair_cmp, no_groups, of_radio}
-use Rattle.group_attach.specs.Applied.{kept_where, is_dropped, after_update, without_radio, attached_by, changed_by, at_start, applied, most_of_radio, apply_refusal}
+use Rattle.group_attach.specs.Applied.{kept_where, is_dropped, after_update, attached_by, changed_by, at_start, applied, most_of_radio, apply_refusal}
 use Rattle.group_attach.specs.Kept.{AllGroupsFit, AreKnown}
 use Rattle.group_attach.proofs.Pairs.{pairs_total, pairs_exact, pairs_tied, alike}
 use Rattle.group_attach.proofs.Filtered.{entries_kept, entries_retained, fewer}
@@ -108,7 +106,7 @@ pub known_after : (s t : Registered) (m : Attached) → ((itsi : ℕ) → IsSome
 known_after s t m grows known itsi gtsi there = grows itsi (known itsi gtsi there)
 
 -- a group PDU changes no attachment of another radio
-abbrev AreOthersSame : ℕ → Attached → Attached → Type 0
+abbrev pub AreOthersSame : ℕ → Attached → Attached → Type 0
 AreOthersSame itsi m n = (q : Pair) → (q.0 == itsi) ≡ false → finite.get n q ≡ finite.get m q
 
 other_inserted : (itsi g : ℕ) (v : Usage) (m : Attached) → AreOthersSame itsi m (finite.insert m (itsi, g) v)
@@ -136,7 +134,7 @@ other_at_start m itsi Amendment q other = refl
 other_at_start m itsi DetachAllFirst q other =
     finite.get-retain_keys m (λ pair. not (pair.0 == itsi)) q (alike (λ pair. not (pair.0 == itsi)) q) ∙ ap (λ b. cond (not b) (finite.get m q) None) other
 
-other_applied : (s : Registered) (m : Attached) (itsi : ℕ) (mode : GroupMode) (items : List GroupUp) → AreOthersSame itsi m (applied s m itsi mode items)
+pub other_applied : (s : Registered) (m : Attached) (itsi : ℕ) (mode : GroupMode) (items : List GroupUp) → AreOthersSame itsi m (applied s m itsi mode items)
 other_applied s m itsi mode items q other = other_folded s itsi (at_start m itsi mode) items q other ∙ other_at_start m itsi mode q other
 
 part_of_other : (itsi other : ℕ) (m n : Attached) → (other == itsi) ≡ false → AreOthersSame itsi m n → of_radio n other ≡ of_radio m other

@@ -1,7 +1,13 @@
 mod Pairs
 mod Filtered
 mod Places
-mod Answering
 mod Counting
+mod Endings
+mod FiledFacts
+mod Gathering
+mod IndexFacts
+mod Moves
+mod BothSides
+mod Answering
 mod Steps
 pub mod KeptLaws

@@ -1,20 +1,20 @@
 -- Where a radio's attachment to a group stands in the list in order, or would go, and what an edit there makes of the map.
 use Rattle.std.proofs.Common.{◌≡◌, ℕ, zero, suc, ◌<◌, ◌≤◌, Bool, true, false, List, [], ◌∷◌, length, map, get_or, set, Some, None, Result, Ok, Err, refl, sym, ap, ◌∙◌, subst, arith}
-use Rattle.std.specs.Prelude.{◌&&◌}
+use Rattle.std.specs.Prelude.{◌&&◌, if◌then◌else◌, OnOk, IsSome}
 use Rattle.std.specs.declared.cmp.Ordering.{Ordering}
 use Rattle.std.specs.declared.cmp.Ordering.TheVariants.{Less, Equal, Greater}
 use Rattle.std.specs.Ordering.{is_lt, ordering_index, ordering_reverse}
 use Rattle.std.specs.Cmp.{tied_itself}
 use Rattle.std.specs.List.{insert, HoldsAt}
 use Rattle.std.specs.List.Sorted.{IsBinarySearchResult, IsSearchInRange, IsNonDecreasingBy}
-use Rattle.std.specs.Option.{is_some}
+use Rattle.std.specs.Option.{is_some, option_map}
 use Rattle.std.specs.Result.{is_ok}
 use mathlib.Core.Bool.{false≢true}
 use Rattle.std.specs.FinMap as finite
 use Rattle.std.specs.FinMap.{find, put}
 use Rattle.std.specs.FinMap.Entries.{below_all, is_sorted-put}
 use Rattle.group_attach.specs.declared.attachment.Attachment.{Attachment}
-use Rattle.group_attach.specs.Attached.{Pair, Usage, Attached, pair_cmp, entry_of}
+use Rattle.group_attach.specs.Attached.{Pair, Usage, pair_cmp, entry_of, attachment_of}
 use Rattle.group_attach.specs.InOrder.{IsInOrder, map_of, pair_of}
 use Rattle.group_attach.proofs.Pairs.{pairs_total, pairs_exact}
 use Rattle.group_attach.proofs.Filtered.{to_T, from_T, entries_of}
@@ -179,3 +179,25 @@ pub has_at : (es l : List Attachment) (q : Pair) (r : Result ℕ ℕ) → l ≡ 
 has_at es [] q (Ok i) same order within place = absurd (omega (arith, within))
 has_at es (a ∷ l) q (Ok i) same order within place = sym (ap is_some (has_found es q i a order (found_at es (a ∷ l) q i same within place)))
 has_at es l q (Err i) same order within place = sym (ap is_some (has_none es q i order (gap_at es l q i same order within place)))
+
+-- the attachment that a search finds, and that it finds none
+pub tells_found : (es : List Attachment) (q : Pair) (i : ℕ) (a : Attachment) → IsInOrder es → IsAt es q i → a ≡ get_or es i a → Some a ≡ option_map (λ usage. attachment_of (q, usage)) (finite.get (map_of es) q)
+tells_found es q i a order at is =
+    let here : pair_of a ≡ q = ap pair_of is ∙ at.here a in
+    let there : finite.get (map_of es) q ≡ Some (usage_of a) = has_found es q i a order at ∙ ap (λ (x : Attachment). Some (usage_of x)) (sym is) in
+    (λ j. Some (attachment_of (here j, usage_of a))) ∙ ap (option_map (λ usage. attachment_of (q, usage))) (sym there)
+
+pub tells_none : (es : List Attachment) (q : Pair) (i : ℕ) → IsInOrder es → IsGap es q i → None ≡ option_map (λ usage. attachment_of (q, usage)) (finite.get (map_of es) q)
+tells_none es q i order gap = ap (option_map (λ usage. attachment_of (q, usage))) (sym (has_none es q i order gap))
+
+-- an insertion that may fail for want of memory
+pub tried_in_order : {X E : Type 0} (r : Result X E) (es new : List Attachment) (a : Attachment) (i : ℕ) → IsInOrder es → IsGap es (pair_of a) i → new ≡ (if is_ok r then insert es i a else es) → IsInOrder new
+tried_in_order (Ok x) es new a i order gap is = new_in_order es new a i order gap is
+tried_in_order (Err e) es new a i order gap is = subst IsInOrder (sym is) order
+
+pub tried_is_insert : {X E : Type 0} (r : Result X E) (es new : List Attachment) (a : Attachment) (i : ℕ) → IsInOrder es → IsGap es (pair_of a) i → new ≡ (if is_ok r then insert es i a else es) → OnOk r (map_of new ≡ finite.insert (map_of es) (pair_of a) (a.class, a.lifetime))
+tried_is_insert (Ok x) es new a i order gap is = new_is_insert es new a i order gap is
+tried_is_insert (Err e) es new a i order gap is = tt
+
+pub not_in_gap : (es : List Attachment) (q : Pair) (i : ℕ) → IsInOrder es → IsGap es q i → IsSome (finite.get (map_of es) q) → ⊥
+not_in_gap es q i order gap there = false≢true (sym (ap is_some (has_none es q i order gap)) ∙ there)

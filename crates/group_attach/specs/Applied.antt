@@ -19,7 +19,7 @@ use Rattle.registration.specs.declared.rule.Rule.{Rule}
 use Rattle.registration.specs.Registered.{Registered, rule_of, radio_of, is_present}
 use Rattle.group_attach.specs.declared.fault.GroupFault.{GroupFault}
 use Rattle.group_attach.specs.declared.fault.GroupFault.TheVariants.{NotAttached, TooManyGroups}
-use Rattle.group_attach.specs.Attached.{Attached, Pair, Usage, of_radio, groups_of}
+use Rattle.group_attach.specs.Attached.{Attached, Pair, Usage, of_radio}
 
 -- the attachments that pass the test
 abbrev pub kept_where : (Pair × Usage → Bool) → Attached → Attached

@@ -1,6 +1,5 @@
 -- The attachments of radios to groups as one finite map, and what can be asked of it.
-use Rattle.std.specs.Prelude.{ℕ, ◌==◌, Bool, not, List, map}
-use Rattle.std.specs.List.{filter}
+use Rattle.std.specs.Prelude.{ℕ, ◌==◌, List, map}
 use Rattle.std.specs.Ordering.{nat_cmp, ordering_then}
 use Rattle.std.specs.declared.cmp.Ordering.{Ordering}
 use Rattle.std.specs.Coded.{Coded, coded×, coded_ℕ}

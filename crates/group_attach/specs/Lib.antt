@@ -3,3 +3,4 @@ pub mod Applied
 pub mod Kept
 pub mod InOrder
 pub mod Counted
+pub mod Filed

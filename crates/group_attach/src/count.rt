@@ -10,7 +10,7 @@ ghost use Rattle.group_attach.specs.InOrder.{IsInOrder, map_of};
 ghost use Rattle.group_attach.specs.Counted.{group_of, joined, joined_to, counted};
 
 use crate::Attachment;
-use crate::list::{count_of, place};
+use crate::list::{count_of, has};
 use identity::{Gtsi, Itsi};
 use mm_pdus::{GroupMode, GroupUp};
 use registration::Registry;
@@ -63,7 +63,7 @@ fn is_attached_first(entries: &[Attachment], itsi: Itsi, mode: GroupMode, gtsi: 
     ensures { result ≡ is_some (finite.get (at_start (map_of entries.now) itsi mode) (itsi, gtsi)) }
 {
     match mode {
-        GroupMode::Amendment => place(entries, itsi, gtsi).is_ok(),
+        GroupMode::Amendment => has(entries, itsi, gtsi),
         GroupMode::DetachAllFirst => false,
     }
 }

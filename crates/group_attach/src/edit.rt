@@ -1,18 +1,18 @@
 //! What changes the list of attachments.
 
-ghost use Rattle.std.specs.Prelude.{◌≡◌, ◌==◌, ◌<◌, ◌≤◌, ◌+◌, ◌&&◌, not, length, vec_len, vec_capacity};
+ghost use Rattle.std.specs.Prelude.{◌≡◌, ◌==◌, ◌<◌, ◌≤◌, ◌+◌, ◌&&◌, not, length, vec_len, vec_capacity, IsSome, IsOk, OnOk, OnErr};
 ghost use Rattle.std.specs.List.{filter};
 ghost use Rattle.std.specs.FinMap as finite;
-ghost use Rattle.group_attach.specs.Attached.{entry_of};
+ghost use Rattle.group_attach.specs.Filed.{attached};
 ghost use Rattle.group_attach.specs.Applied.{ends_at_attach, ends_at_update, is_dropped, after_update, without_radio, changed_by, at_start, applied};
-ghost use Rattle.group_attach.specs.InOrder.{IsInOrder, map_of};
+ghost use Rattle.group_attach.specs.InOrder.{IsInOrder, map_of, pair_of};
 
 use crate::Attachment;
 use crate::list::place;
 use identity::{Gtsi, Itsi};
 use mm_pdus::{GroupMode, GroupUp, Lifetime, LocationUpdateType};
 use registration::Registry;
-use std::alloc::Allocator;
+use std::alloc::{AllocError, Allocator};
 
 // What a group PDU makes of the attachments. There is room for its items.
 pub(crate) fn change_all<A: Allocator, R: Allocator + Clone>(
@@ -72,31 +72,38 @@ fn change<A: Allocator, R: Allocator + Clone>(
                     class: *class,
                     lifetime,
                 };
-                attach(entries, attachment);
+                let _ = attach(entries, attachment);
             }
         }
         GroupUp::Leave { address, .. } => leave(entries, itsi, address.gtsi(itsi)),
     }
 }
 
-// The attachment in its place. There is room for it.
-fn attach<A: Allocator>(entries: &mut Vec<Attachment, A>, attachment: Attachment)
+// The attachment in its place. It takes memory only where its pair is new and there is no room.
+pub(crate) fn attach<A: Allocator>(
+    entries: &mut Vec<Attachment, A>,
+    attachment: Attachment,
+) -> Result<(), AllocError>
     requires in_order { IsInOrder entries.old.items }
-    requires room { vec_len entries.old < vec_capacity entries.old }
     ensures in_order { IsInOrder entries.new.items }
-    ensures changed { let e = entry_of attachment in map_of entries.new.items ≡ finite.insert (map_of entries.old.items) e.0 e.1 }
+    ensures ok { OnOk result (map_of entries.new.items ≡ attached (map_of entries.old.items) attachment) }
+    ensures err { OnErr result (map_of entries.new.items ≡ map_of entries.old.items) }
+    ensures overwrites { IsSome (finite.get (map_of entries.old.items) (pair_of attachment)) → IsOk result }
+    ensures room { vec_len entries.old < vec_capacity entries.old → IsOk result }
     ensures one_more { vec_len entries.new ≤ vec_len entries.old + 1 }
     ensures capacity { vec_capacity entries.old ≤ vec_capacity entries.new }
 {
     match place(entries, attachment.itsi, attachment.gtsi) {
-        Ok(at) => entries[at] = attachment,
-        Err(at) => {
-            let _ = entries.insert(at, attachment);
+        Ok(at) => {
+            entries[at] = attachment;
+            Ok(())
         }
+        Err(at) => entries.insert(at, attachment).or(Err(AllocError)),
     }
 }
 
-fn leave<A: Allocator>(entries: &mut Vec<Attachment, A>, itsi: Itsi, gtsi: Gtsi)
+// Without the radio's attachment to the group.
+pub(crate) fn leave<A: Allocator>(entries: &mut Vec<Attachment, A>, itsi: Itsi, gtsi: Gtsi)
     requires in_order { IsInOrder entries.old.items }
     ensures in_order { IsInOrder entries.new.items }
     ensures changed { map_of entries.new.items ≡ finite.remove (map_of entries.old.items) (itsi, gtsi) }
@@ -131,7 +138,7 @@ pub(crate) fn drop_ended<A: Allocator>(
     });
 }
 
-fn is_dropped(update: LocationUpdateType, lifetime: Lifetime) -> bool
+pub(crate) fn is_dropped(update: LocationUpdateType, lifetime: Lifetime) -> bool
     ensures { result ≡ is_dropped update lifetime }
 {
     match update {

@@ -1,15 +1,18 @@
 //! The attachments of all radios, and the calls that change them.
 
-ghost use Rattle.std.specs.Prelude.{◌≡◌, None, OnOk, IfOk, IfErr, unwrap_or};
+ghost use Rattle.std.specs.Prelude.{◌≡◌, None, OnOk, OnErr, IfOk, IfErr, unwrap_or};
+ghost use Rattle.std.specs.FinMap as finite;
 ghost use Rattle.registration.specs.Registered.{is_present};
-ghost use Rattle.group_attach.specs.Attached.{no_groups, groups_of, members_of};
+ghost use Rattle.group_attach.specs.Attached.{no_groups, of_radio, groups_of, members_of};
 ghost use Rattle.group_attach.specs.Applied.{after_update, applied, answers, apply_refusal};
+ghost use Rattle.group_attach.specs.Filed.{AllHave, IsReplaced};
 ghost use Rattle.group_attach.specs.declared.fault.GroupFault.TheVariants.{NoMemory};
 
 use crate::answer::answers;
+use crate::attachments::{AttachmentList, slice_of};
 use crate::count::count_after;
-use crate::edit::{change_all, drop_ended};
-use crate::list::{of_radio, to_group};
+use crate::index::Index;
+use crate::side::{ByGroup, ByRadio};
 use crate::{Attachment, GroupFault};
 use identity::{Gtsi, Itsi};
 use mm_pdus::{GroupDown, GroupItems, GroupMode, GroupUp, LocationUpdateType};
@@ -24,20 +27,22 @@ const MOST_OF_RADIO: usize = 32;
 /// Which groups each radio is attached to, at most once to each.
 #[derive(Drop)]
 pub struct Groups<A: Allocator> {
-    entries: Vec<Attachment, A>,
+    alloc: A,
+    by_radio: Index<ByRadio, A>,
+    by_group: Index<ByGroup, A>,
 }
 
 impl<A: Allocator> Model for Groups<A> {
     ghost use Rattle.group_attach.specs.Attached.{Attached, coded_attached};
-    ghost use Rattle.group_attach.specs.InOrder.{map_of, IsInOrder};
+    ghost use Rattle.std.specs.Prelude.{◌≡◌};
 
     ghost Value = { Attached };
 
     ghost coded = { coded_attached };
 
-    ghost view = { λ g. map_of g.entries.items };
+    ghost view = { λ g. g.by_radio };
 
-    ghost invariant = { λ g. IsInOrder g.entries.items };
+    ghost invariant = { λ g. g.by_group ≡ g.by_radio };
 }
 
 impl<A: Allocator> Groups<A> {
@@ -46,7 +51,9 @@ impl<A: Allocator> Groups<A> {
         ensures { result ≡ no_groups }
     {
         Groups {
-            entries: Vec::new(alloc),
+            alloc,
+            by_radio: Index::new(),
+            by_group: Index::new(),
         }
     }
 
@@ -58,7 +65,7 @@ impl<A: Allocator> Groups<A> {
     ) -> Result<Vec<Attachment, C>, AllocError>
         ensures { IfOk result (λ list. list.items ≡ groups_of self.now itsi) }
     {
-        of_radio(alloc, &self.entries, itsi)
+        Vec::from_slice(alloc, self.by_radio.part(itsi.number()))
     }
 
     /// The attachments to a group in order of their radios, be these present or not.
@@ -69,7 +76,7 @@ impl<A: Allocator> Groups<A> {
     ) -> Result<Vec<Attachment, C>, AllocError>
         ensures { IfOk result (λ list. list.items ≡ members_of self.now gtsi) }
     {
-        to_group(alloc, &self.entries, gtsi)
+        Vec::from_slice(alloc, self.by_group.part(gtsi.number()))
     }
 
     /// An accepted location update of the radio ends attachments by their lifetime (clause 16.4): an
@@ -78,7 +85,9 @@ impl<A: Allocator> Groups<A> {
     pub fn on_update(&mut self, itsi: Itsi, update: LocationUpdateType)
         ensures { self.new ≡ after_update self.old itsi update }
     {
-        drop_ended(&mut self.entries, itsi, update);
+        self.by_group
+            .leave_ended(self.by_radio.part(itsi.number()), update);
+        self.by_radio.drop_ended(itsi, update);
     }
 
     /// Why `apply` would refuse this PDU, memory aside: `NotAttached` and `TooManyGroups`, in this
@@ -95,13 +104,29 @@ impl<A: Allocator> Groups<A> {
         if !is_present(registry.where_is(itsi)) {
             return Some(GroupFault::NotAttached);
         }
-        if count_after(&self.entries, registry, itsi, mode, items.as_slice()) > MOST_OF_RADIO {
+        if self.count_after(registry, itsi, mode, items) > MOST_OF_RADIO {
             Some(GroupFault::TooManyGroups)
         } else {
             None
         }
     }
 
+    // How many groups the radio has after such a PDU.
+    fn count_after<R: Allocator + Clone, B: Allocator>(
+        &self,
+        registry: &Registry<R>,
+        itsi: Itsi,
+        mode: GroupMode,
+        items: &GroupItems<GroupUp, B>,
+    ) -> usize
+        ensures { result ≡ finite.len (of_radio (applied registry.now self.now itsi mode items.now) itsi) }
+    {
+        let own = self.by_radio.part(itsi.number());
+        count_after(own, registry, itsi, mode, items.as_slice())
+    }
+}
+
+impl<A: Allocator + Clone> Groups<A> {
     /// Changes the radio's groups as its PDU asks (clause 16.8, attachment and detachment of group
     /// identities), and gives the acknowledgement: `change` and `answers` in one.
     pub fn apply<R: Allocator + Clone, B: Allocator, C: Allocator>(
@@ -158,18 +183,55 @@ impl<A: Allocator> Groups<A> {
         ensures ok { OnOk result (self.new ≡ applied registry.now self.old itsi mode items.now) }
         ensures err { IfErr result (λ e. (e ≡ NoMemory) × (self.new ≡ self.old)) }
     {
-        if self.entries.reserve(items.len()).is_err() {
+        let Ok(list) = self.changed(registry, itsi, mode, items) else {
             return Err(GroupFault::NoMemory);
+        };
+        self.replace(itsi, list).or(Err(GroupFault::NoMemory))
+    }
+
+    // The radio's own attachments, as the PDU makes them.
+    fn changed<R: Allocator + Clone, B: Allocator>(
+        &self,
+        registry: &Registry<R>,
+        itsi: Itsi,
+        mode: GroupMode,
+        items: &GroupItems<GroupUp, B>,
+    ) -> Result<AttachmentList<A>, AllocError>
+        ensures { IfOk result (λ list. list ≡ of_radio (applied registry.now self.now itsi mode items.now) itsi) }
+    {
+        let mut list = self.by_radio.copy_of(&self.alloc, itsi)?;
+        list.change_all(registry, itsi, mode, items.as_slice())?;
+        Ok(list)
+    }
+
+    // Sets this list in the place of the radio's attachments, in both indexes. What takes memory comes
+    // first, and is undone where there is none.
+    fn replace(&mut self, itsi: Itsi, list: AttachmentList<A>) -> Result<(), AllocError>
+        requires { AllHave (λ pair. pair.0) itsi list }
+        ensures ok { OnOk result (IsReplaced self.old itsi list self.new) }
+        ensures err { OnErr result (self.new ≡ self.old) }
+    {
+        let before = self.by_radio.set(&self.alloc, itsi, list)?;
+        let own = self.by_radio.part(itsi.number());
+        match self.by_group.attach_all(&self.alloc, own) {
+            Ok(()) => {
+                self.by_group.leave_absent(slice_of(before.as_ref()), own);
+                Ok(())
+            }
+            Err(error) => {
+                self.by_radio.restore(&self.alloc, itsi, before);
+                Err(error)
+            }
         }
-        change_all(&mut self.entries, registry, itsi, mode, items.as_slice());
-        Ok(())
     }
 }
 
 impl<A: Allocator + Clone> TryCopy for Groups<A> {
     fn try_copy(&self) -> Result<Self, AllocError> {
         Ok(Groups {
-            entries: Vec::from_slice(self.entries.allocator().clone()?, &self.entries)?,
+            alloc: self.alloc.clone()?,
+            by_radio: self.by_radio.try_copy()?,
+            by_group: self.by_group.try_copy()?,
         })
     }
 }

@@ -4,12 +4,17 @@
 
 mod answer;
 mod attachment;
+mod attachments;
 mod count;
 mod edit;
+mod ending;
 mod fault;
 mod groups;
+mod index;
 pub mod laws;
 mod list;
+mod lists;
+mod side;
 
 pub use answer::answers;
 pub use attachment::Attachment;

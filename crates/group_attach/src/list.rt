@@ -1,45 +1,16 @@
 //! The list of attachments in order: by radio, then by group.
 
-ghost use Rattle.std.specs.Prelude.{◌≡◌, ◌==◌, ◌≤◌, IfOk, length};
+ghost use Rattle.std.specs.Prelude.{◌≡◌, ◌==◌, ◌≤◌, length};
 ghost use Rattle.std.specs.List.{filter, count_by};
 ghost use Rattle.std.specs.List.Sorted.{IsBinarySearchResult, IsSearchInRange};
-ghost use Rattle.group_attach.specs.Attached.{pair_cmp};
-ghost use Rattle.group_attach.specs.InOrder.{pair_of};
+ghost use Rattle.std.specs.Option.{is_some, option_map};
+ghost use Rattle.std.specs.FinMap as finite;
+ghost use Rattle.group_attach.specs.Attached.{pair_cmp, attachment_of};
+ghost use Rattle.group_attach.specs.InOrder.{IsInOrder, map_of, pair_of};
 
 use crate::Attachment;
 use identity::{Gtsi, Itsi};
-use std::alloc::{AllocError, Allocator};
 use std::cmp::Ordering;
-
-// The radio's attachments, in order.
-pub(crate) fn of_radio<A: Allocator>(
-    alloc: A,
-    entries: &[Attachment],
-    itsi: Itsi,
-) -> Result<Vec<Attachment, A>, AllocError>
-    ensures { IfOk result (λ list. list.items ≡ filter (λ a. a.itsi == itsi) entries.now) }
-{
-    entries
-        .iter()
-        .filter(|attachment| attachment.itsi == itsi)
-        .copied()
-        .collect(alloc)
-}
-
-// The attachments to the group, in order.
-pub(crate) fn to_group<A: Allocator>(
-    alloc: A,
-    entries: &[Attachment],
-    gtsi: Gtsi,
-) -> Result<Vec<Attachment, A>, AllocError>
-    ensures { IfOk result (λ list. list.items ≡ filter (λ a. a.gtsi == gtsi) entries.now) }
-{
-    entries
-        .iter()
-        .filter(|attachment| attachment.gtsi == gtsi)
-        .copied()
-        .collect(alloc)
-}
 
 // How many attachments the radio has.
 pub(crate) fn count_of(entries: &[Attachment], itsi: Itsi) -> usize
@@ -50,6 +21,25 @@ pub(crate) fn count_of(entries: &[Attachment], itsi: Itsi) -> usize
         .iter()
         .filter(|attachment| attachment.itsi == itsi)
         .count()
+}
+
+// The radio's attachment to the group.
+pub(crate) fn find(entries: &[Attachment], itsi: Itsi, gtsi: Gtsi) -> Option<Attachment>
+    requires { IsInOrder entries.now }
+    ensures { result ≡ option_map (λ usage. attachment_of ((itsi, gtsi), usage)) (finite.get (map_of entries.now) (itsi, gtsi)) }
+{
+    match place(entries, itsi, gtsi) {
+        Ok(at) => Some(entries[at]),
+        Err(_) => None,
+    }
+}
+
+// Whether the radio has an attachment to the group.
+pub(crate) fn has(entries: &[Attachment], itsi: Itsi, gtsi: Gtsi) -> bool
+    requires { IsInOrder entries.now }
+    ensures { result ≡ is_some (finite.get (map_of entries.now) (itsi, gtsi)) }
+{
+    place(entries, itsi, gtsi).is_ok()
 }
 
 // Where the radio's attachment to the group stands, or would go.

@@ -1,3 +1,6 @@
+mod side_by_side;
+mod small_heap;
+
 use crate::{GroupFault, Groups, answers};
 use identity::{Gtsi, Itsi, Prefix};
 use linked_list_allocator::LocalHeap;
@@ -18,11 +21,11 @@ const LIMITS: Limits = Limits {
     stations: 4,
 };
 
-fn radio(ssi: u16) -> Result<Itsi, Fail> {
+pub fn radio(ssi: u16) -> Result<Itsi, Fail> {
     Ok(Itsi::new(234, 14, ssi.into()).ok_or("an identity")?)
 }
 
-fn group(ssi: u16) -> Result<Gtsi, Fail> {
+pub fn group(ssi: u16) -> Result<Gtsi, Fail> {
     Ok(Gtsi::new(234, 14, ssi.into()).ok_or("a group")?)
 }
 
@@ -30,21 +33,21 @@ fn short(ssi: u16) -> GroupAddress {
     GroupAddress::Short(Gssi::new(ssi.into()))
 }
 
-fn attach(ssi: u16) -> GroupUp {
+pub fn attach(ssi: u16) -> GroupUp {
     GroupUp::Attach {
         class: ClassOfUsage::new(4),
         address: short(ssi),
     }
 }
 
-fn leave(ssi: u16) -> GroupUp {
+pub fn leave(ssi: u16) -> GroupUp {
     GroupUp::Leave {
         reason: LeaveReason::UserInitiated,
         address: short(ssi),
     }
 }
 
-fn items<A: Allocator>(alloc: A, list: &[GroupUp]) -> GroupItems<GroupUp, A> {
+pub fn items<A: Allocator>(alloc: A, list: &[GroupUp]) -> GroupItems<GroupUp, A> {
     let mut items = GroupItems::new(alloc);
     for item in list {
         let _ = items.push(*item);
@@ -64,7 +67,7 @@ fn come<A: Allocator + Clone>(registry: &mut Registry<A>, ssi: u16) -> Result<()
 }
 
 // Radios 2001 and 2002 are present, groups 1 to 4 have the four lifetimes, group 9 has no rule.
-fn register<A: Allocator + Clone>(alloc: A) -> Result<Registry<A>, Fail> {
+pub fn register<A: Allocator + Clone>(alloc: A) -> Result<Registry<A>, Fail> {
     let mut registry = Registry::new(alloc, LIMITS)?;
     let rules = [
         (2001, Lifetime::NotNeeded),
@@ -303,7 +306,7 @@ fn each_growth_may_be_refused(rt: HostRuntime) -> Result<(), Fail> {
     let asked = items(&ample, &[attach(1), attach(2)]);
     let (mut unanswered, mut unchanged, mut uncopied, mut done) = (0u32, 0u32, 0u32, 0u32);
     for step in 1..32usize {
-        let heap = LocalHeap::new(rt.alloc(), step * 32)?;
+        let heap = LocalHeap::new(rt.alloc(), step * step * 32)?;
         let mut groups = Groups::new(&heap);
         if answers(&heap, &registry, here, &asked).is_err() {
             unanswered = unanswered.saturating_add(1);

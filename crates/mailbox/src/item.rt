@@ -2,8 +2,10 @@
 
 ghost use Rattle.std.specs.Prelude.{◌≡◌, IfOk};
 ghost use Rattle.sds_tl.specs.Reading.{heading};
+ghost use Rattle.mailbox.specs.Boxes.{place_of};
 ghost use Rattle.mailbox.specs.Tests.{request_of, asks_nothing, asks_consumed, wants_acknowledgement, ends_request, is_at, is_to, is_reported, is_ended_by, is_answerless, is_confirmed, is_expired};
 
+use crate::place::Place;
 use crate::{Envelope, Key, Kind};
 use identity::{Bits, Itsi};
 use sds_tl::{DeliveryReportRequest, DeliveryStatus, Head};
@@ -84,6 +86,15 @@ impl<A: Allocator> Item<A> {
         }
     }
 
+    pub(crate) fn place(&self) -> Place
+        ensures { result ≡ place_of self.now }
+    {
+        Place {
+            number: self.number(),
+            key: self.key(),
+        }
+    }
+
     pub(crate) fn is_at(&self, key: &Key) -> bool
         ensures { result ≡ is_at key.now self.now }
     {
@@ -96,7 +107,8 @@ impl<A: Allocator> Item<A> {
         self.key.destination.number() == destination.number()
     }
 
-    fn is_reported(&self, envelope: &Envelope, status: DeliveryStatus) -> bool
+    /// A report in this envelope is on the message, and ends it.
+    pub(crate) fn is_reported(&self, envelope: &Envelope, status: DeliveryStatus) -> bool
         ensures { result ≡ is_reported envelope.now status self.now }
     {
         self.is_at(&envelope.answered(Kind::Message)) && ends_request(status, request_of(&self.pdu))

@@ -2,11 +2,16 @@
 //! (ETSI EN 300 392-2, clause 29, the switch's side of the short data transport service).
 #![tactic(auto)]
 
+mod boxes;
+mod ending;
 mod fault;
+mod inbox;
 mod item;
+mod items;
 mod key;
 pub mod laws;
 mod mail;
+mod place;
 mod refusal;
 
 pub use fault::MailFault;

@@ -1,14 +1,19 @@
 //! The mail, and the calls that change it.
 
-ghost use Rattle.std.specs.Prelude.{◌≡◌, ◌<◌, ◌≤◌, ◌++◌, ◌∷◌, [], length, count_by, not, map, None, OnOk, IfOk, IfErr, unwrap_or, vec_len, vec_capacity};
-ghost use Rattle.std.specs.List.{filter};
+ghost use Rattle.std.specs.Prelude.{◌≡◌, ◌<◌, ◌≤◌, ◌++◌, ◌∷◌, [], length, count_by, false, not, map, None, OnOk, IfOk, IfErr, unwrap_or, vec_len, vec_capacity};
+ghost use Rattle.std.specs.List.{AllPairs, filter, list_any};
 ghost use Rattle.mailbox.specs.declared.fault.MailFault.TheVariants.{NoMemory};
 ghost use Rattle.mailbox.specs.declared.key.Kind.TheVariants as kind;
 ghost use Rattle.mailbox.specs.Values.{empty_mailed};
-ghost use Rattle.mailbox.specs.Tests.{key_of, is_to, is_ended_by};
-ghost use Rattle.mailbox.specs.Mail.{holds, deadline_by, waiting_for, posted, reported, acknowledged, confirmed, expired, deleted, waiting};
+ghost use Rattle.mailbox.specs.Tests.{same_key, key_of, is_to, is_at, is_reported, is_ended_by};
+ghost use Rattle.mailbox.specs.Boxes.{is_kept};
+ghost use Rattle.mailbox.specs.Mail.{holds, without, with_item, deadline_by, waiting_for, posted, reported, acknowledged, confirmed, expired, deleted, waiting};
 ghost use Rattle.mailbox.specs.Refusals.{post_refusal, report_refusal, ack_refusal, sent_refusal, delete_refusal};
 
+use crate::boxes::{Boxes, remove_expired};
+use crate::ending::Ending;
+use crate::items::{any_at, any_confirmed, any_reported, count_at, count_left, count_reported};
+use crate::place::Place;
 use crate::{Envelope, Item, Key, Kind, MailFault, Stamp};
 use identity::{Bits, Itsi};
 use prefix_tree::TryCopy;
@@ -17,11 +22,12 @@ use sds_tl::DeliveryStatus;
 use std::alloc::{AllocError, Allocator};
 use std::marker::Model;
 
-/// All that waits, in order of the commands that made it.
+/// All that waits: by destination, and beside it the order of the commands that made it.
 #[derive(Drop)]
 pub struct Mail<A: Allocator> {
     room: u32,
-    items: Vec<Item<A>, A>,
+    boxes: Boxes<A>,
+    order: Vec<Place, A>,
 }
 
 impl<A: Allocator> Model for Mail<A> {
@@ -31,7 +37,11 @@ impl<A: Allocator> Model for Mail<A> {
 
     ghost coded = { coded_mailed };
 
-    ghost view = { λ m. record { room = m.room; items = m.items.items } };
+    ghost use Rattle.mailbox.specs.Boxes.{AreKept, in_order};
+
+    ghost view = { λ m. record { room = m.room; items = in_order m.boxes m.order.items } };
+
+    ghost invariant = { λ m. AreKept (in_order m.boxes m.order.items) m.boxes m.order.items };
 }
 
 impl<A: Allocator> Mail<A> {
@@ -41,7 +51,8 @@ impl<A: Allocator> Mail<A> {
     {
         Mail {
             room: limits.mail,
-            items: Vec::new(alloc),
+            boxes: Boxes::new(),
+            order: Vec::new(alloc),
         }
     }
 
@@ -56,52 +67,66 @@ impl<A: Allocator> Mail<A> {
     pub(crate) fn len(&self) -> usize
         ensures { result ≡ length self.now.items }
     {
-        self.items.len()
+        self.order.len()
+    }
+
+    /// What waits for a destination.
+    fn items_of(&self, destination: Itsi) -> &[Item<A>]
+        ensures items { result.now ≡ waiting self.now destination }
+        ensures apart { AllPairs (λ a b. same_key b.key a.key ≡ false) self.now.items }
+    {
+        self.boxes.items_of(destination)
     }
 
     /// Whether an item waits at the key.
     pub(crate) fn holds(&self, key: &Key) -> bool
         ensures { result ≡ holds self.now key.now }
     {
-        self.items.iter().any(|item| item.is_at(key))
+        any_at(self.items_of(key.destination), key)
     }
 
     /// How many items wait for a destination.
     pub(crate) fn count_to(&self, destination: Itsi) -> usize
         ensures { result ≡ count_by (is_to destination) self.now.items }
     {
-        self.items
-            .iter()
-            .filter(|item| item.is_to(destination))
-            .count()
+        self.items_of(destination).len()
     }
 
     /// How many items a report would leave.
     pub(crate) fn len_after(&self, envelope: &Envelope, status: DeliveryStatus) -> usize
         ensures { result ≡ length (filter (λ w. not (is_ended_by envelope.now status w)) self.now.items) }
     {
-        self.items
-            .iter()
-            .filter(|item| !item.is_ended_by(envelope, status))
-            .count()
+        self.len() - self.count_reported(envelope, status) - self.count_reports(envelope)
+    }
+
+    /// How many messages a report ends.
+    fn count_reported(&self, envelope: &Envelope, status: DeliveryStatus) -> usize
+        ensures { result ≡ length (filter (is_reported envelope.now status) self.now.items) }
+    {
+        count_reported(self.items_of(envelope.source), envelope, status)
+    }
+
+    /// How many reports are in the place of one in this envelope.
+    fn count_reports(&self, envelope: &Envelope) -> usize
+        ensures { result ≡ length (filter (is_at (key_of envelope.now kind.Report)) self.now.items) }
+    {
+        let key = envelope.key(Kind::Report);
+        count_at(self.items_of(key.destination), &key)
     }
 
     /// How many items a report would leave for its destination.
     pub(crate) fn count_after(&self, envelope: &Envelope, status: DeliveryStatus) -> usize
         ensures { result ≡ count_by (is_to envelope.now.destination) (filter (λ w. not (is_ended_by envelope.now status w)) self.now.items) }
     {
-        self.items
-            .iter()
-            .filter(|item| !item.is_ended_by(envelope, status))
-            .filter(|item| item.is_to(envelope.destination))
-            .count()
+        count_left(self.items_of(envelope.destination), envelope, status)
     }
 
     /// Removes every item whose deadline is at most the moment. It takes no memory.
     pub fn expire(&mut self, moment: u32)
         ensures { self.new ≡ expired self.old moment }
     {
-        self.items.retain(|item| !item.is_expired(moment));
+        remove_expired(&mut self.boxes, &self.order, moment);
+        keep_held(&mut self.order, &self.boxes);
     }
 
     /// Removes an item; `NoSuchMessage` where there is none at the key, and then nothing changes. It
@@ -120,20 +145,33 @@ impl<A: Allocator> Mail<A> {
     fn remove_at(&mut self, key: &Key)
         ensures { self.new ≡ deleted self.old key.now }
     {
-        self.items.retain(|item| !item.is_at(key));
+        self.boxes.remove(key.destination, &Ending::At(*key));
+        remove_place(&mut self.order, key);
     }
 
     fn remove_confirmed(&mut self, key: &Key)
         ensures { self.new ≡ confirmed self.old key.now }
     {
-        self.items.retain(|item| !item.is_confirmed(key));
+        if any_confirmed(self.items_of(key.destination), key) {
+            self.remove_at(key);
+        }
+    }
+
+    /// Removes the message that a report in this envelope ends.
+    fn remove_reported(&mut self, envelope: &Envelope, status: DeliveryStatus)
+        ensures { self.new ≡ without (is_reported envelope.now status) self.old }
+    {
+        let key = envelope.answered(Kind::Message);
+        if any_reported(self.items_of(key.destination), envelope, status) {
+            self.remove_at(&key);
+        }
     }
 
     /// All that waits, in order of number, then of key.
     pub fn items<B: Allocator>(&self, alloc: B) -> Result<Vec<&Item<A>, B>, AllocError>
         ensures { IfOk result (λ items. map (λ i. i.now) items.items ≡ self.now.items) }
     {
-        self.items.iter().collect(alloc)
+        self.boxes.items_at(alloc, &self.order)
     }
 
     /// What waits for a radio, in order of number, then of key.
@@ -144,10 +182,7 @@ impl<A: Allocator> Mail<A> {
     ) -> Result<Vec<&Item<A>, B>, AllocError>
         ensures { IfOk result (λ items. map (λ i. i.now) items.items ≡ waiting self.now itsi) }
     {
-        self.items
-            .iter()
-            .filter(|item| item.is_to(itsi))
-            .collect(alloc)
+        self.items_of(itsi).iter().collect(alloc)
     }
 }
 
@@ -168,9 +203,9 @@ impl<A: Allocator + Clone> Mail<A> {
             return Err(fault);
         }
         let item = item_for(registry, envelope.key(Kind::Message), stamp, pdu);
-        if self.items.push(item).is_err() {
+        let Ok(()) = self.put(item) else {
             return Err(MailFault::NoMemory);
-        }
+        };
         Ok(())
     }
 
@@ -192,11 +227,11 @@ impl<A: Allocator + Clone> Mail<A> {
         if let Some(fault) = self.report_refusal(registry, envelope, status) {
             return Err(fault);
         }
-        if self.items.reserve(1).is_err() {
-            return Err(MailFault::NoMemory);
-        }
         let item = item_for(registry, envelope.key(Kind::Report), stamp, pdu);
-        replace_ended(&mut self.items, envelope, status, item);
+        let Ok(()) = self.put(item) else {
+            return Err(MailFault::NoMemory);
+        };
+        self.remove_reported(envelope, status);
         Ok(())
     }
 
@@ -227,25 +262,28 @@ impl<A: Allocator + Clone> Mail<A> {
         self.remove_confirmed(key);
         Ok(())
     }
+
+    /// Puts the item at the end, in place of any at its key. For want of memory nothing changes.
+    fn put(&mut self, item: Item<A>) -> Result<(), AllocError>
+        ensures ok { OnOk result (self.new ≡ with_item (without (is_at item.key) self.old) item) }
+        ensures err { IfErr result (λ _. self.new ≡ self.old) }
+    {
+        let place = item.place();
+        make_room(&mut self.order, &place.key)?;
+        self.boxes.put(self.order.allocator(), item)?;
+        put_at_end(&mut self.order, &place);
+        Ok(())
+    }
 }
 
 impl<A: Allocator + Clone> TryCopy for Mail<A> {
     fn try_copy(&self) -> Result<Self, AllocError> {
         Ok(Mail {
             room: self.room,
-            items: copied(self.items.allocator(), &self.items)?,
+            boxes: self.boxes.try_copy()?,
+            order: Vec::from_slice(self.order.allocator().clone()?, &self.order)?,
         })
     }
-}
-
-fn copied<A: Allocator + Clone>(alloc: &A, items: &[Item<A>]) -> Result<Vec<Item<A>, A>, AllocError>
-    ensures { IfOk result (λ copy. copy.items ≡ items.now) }
-{
-    let mut copy = Vec::new(alloc.clone()?);
-    for item in items {
-        copy.push(item.copied(alloc.clone()?)?)?;
-    }
-    Ok(copy)
 }
 
 /// The moment at which an item ends that is made at `moment`, in seconds.
@@ -259,7 +297,7 @@ fn deadline_by(rule: Option<Rule>, moment: u32) -> u64
 }
 
 /// The item that a command makes.
-fn item_for<A: Allocator + Clone>(
+pub(crate) fn item_for<A: Allocator + Clone>(
     registry: &Registry<A>,
     key: Key,
     stamp: Stamp,
@@ -271,28 +309,43 @@ fn item_for<A: Allocator + Clone>(
     Item::new(key, stamp.number, deadline_by(rule, stamp.moment), pdu)
 }
 
-fn remove_ended<A: Allocator>(
-    items: &mut Vec<Item<A>, A>,
-    envelope: &Envelope,
-    status: DeliveryStatus,
-)
-    ensures kept { items.new.items ≡ filter (λ w. not (is_ended_by envelope.now status w)) items.old.items }
-    ensures shorter { vec_len items.new ≤ vec_len items.old }
-    ensures capacity { vec_capacity items.new ≡ vec_capacity items.old }
+/// Takes the places away at which nothing is kept.
+fn keep_held<A: Allocator>(order: &mut Vec<Place, A>, boxes: &Boxes<A>)
+    ensures { order.new.items ≡ filter (λ place. is_kept boxes.now place.key) order.old.items }
 {
-    items.retain(|item| !item.is_ended_by(envelope, status));
+    order.retain(|place| boxes.holds(&place.key));
 }
 
-/// There is room for the new item.
-fn replace_ended<A: Allocator>(
-    items: &mut Vec<Item<A>, A>,
-    envelope: &Envelope,
-    status: DeliveryStatus,
-    item: Item<A>,
-)
-    requires { vec_len items.old < vec_capacity items.old }
-    ensures { items.new.items ≡ filter (λ w. not (is_ended_by envelope.now status w)) items.old.items ++ item ∷ [] }
+/// There is room for one more place, or one at the key.
+fn make_room<A: Allocator>(order: &mut Vec<Place, A>, key: &Key) -> Result<(), AllocError>
+    ensures items { order.new.items ≡ order.old.items }
+    ensures room { OnOk result (list_any (λ place. same_key key.now place.key) order.new.items ≡ false → vec_len order.new < vec_capacity order.new) }
 {
-    remove_ended(items, envelope, status);
-    let _ = items.push(item);
+    if any_place(order, key) {
+        return Ok(());
+    }
+    order.reserve(1)?;
+    Ok(())
+}
+
+fn any_place(order: &[Place], key: &Key) -> bool
+    ensures { result ≡ list_any (λ place. same_key key.now place.key) order.now }
+{
+    order.iter().any(|place| key.is(&place.key))
+}
+
+fn remove_place<A: Allocator>(order: &mut Vec<Place, A>, key: &Key)
+    ensures kept { order.new.items ≡ filter (λ place. not (same_key key.now place.key)) order.old.items }
+    ensures room { (list_any (λ place. same_key key.now place.key) order.old.items ≡ false → vec_len order.old < vec_capacity order.old) → vec_len order.new < vec_capacity order.new }
+{
+    order.retain(|place| !key.is(&place.key));
+}
+
+/// There is room for the place, or one at its key.
+fn put_at_end<A: Allocator>(order: &mut Vec<Place, A>, place: &Place)
+    requires { list_any (λ other. same_key place.now.key other.key) order.old.items ≡ false → vec_len order.old < vec_capacity order.old }
+    ensures { order.new.items ≡ filter (λ other. not (same_key place.now.key other.key)) order.old.items ++ place.now ∷ [] }
+{
+    remove_place(order, &place.key);
+    let _ = order.push(*place);
 }

@@ -1,3 +1,7 @@
+mod plain;
+mod side_by_side;
+mod small_heap;
+
 use crate::{Envelope, Kind, Mail, MailFault, Stamp};
 use identity::{Bits, Itsi, Prefix, parse_bits, print_bits};
 use linked_list_allocator::LocalHeap;
@@ -9,16 +13,21 @@ use std::alloc::{Allocator, Global};
 use std::process::Abort;
 use std::test::Fail;
 
-const LIMITS: Limits = Limits {
+pub const LIMITS: Limits = Limits {
     rules: 16,
     radios: 16,
     mail: 256,
     stations: 4,
 };
 
-/// A call of the mail, with number 4 at moment 100.
+const STAMP: Stamp = Stamp {
+    number: 4,
+    moment: 100,
+};
+
+/// A call of the mail, where a row says no more with number 4 at moment 100.
 #[derive(Clone, Copy)]
-enum Call {
+pub enum Call {
     /// A message with this delivery report request, 0 to 3.
     Post(u8),
     /// A report of this status, with or without an acknowledgement required.
@@ -31,16 +40,16 @@ enum Call {
 
 /// The call, the source and the destination in its envelope, the reference, why it is refused, and how many items then
 /// wait for radios 1 and 2.
-type Row = (Call, u32, u32, u8, Option<MailFault>, [usize; 2]);
+pub type Row = (Call, u32, u32, u8, Option<MailFault>, [usize; 2]);
 
 /// A radio of network 234-14; from 100 on one of network 235-14.
-fn radio(number: u32) -> Result<Itsi, Fail> {
+pub fn radio(number: u32) -> Result<Itsi, Fail> {
     let mcc = if number < 100 { 234 } else { 235 };
     Ok(Itsi::new(mcc, 14, number).ok_or("an identity")?)
 }
 
 /// A register whose one rule, for network 234-14, keeps messages for an hour; radios 1 and 2 are present.
-fn registry<A: Allocator + Clone>(alloc: A) -> Result<Registry<A>, Fail> {
+pub fn registry<A: Allocator + Clone>(alloc: A) -> Result<Registry<A>, Fail> {
     let area = LocationArea::new(7).ok_or("a location area")?;
     let rule = Rule::new(area, area, Lifetime::NextItsiAttach, 3600).ok_or("a rule")?;
     let network = Prefix::new(radio(0)?.number(), 24).ok_or("a prefix")?;
@@ -52,7 +61,7 @@ fn registry<A: Allocator + Clone>(alloc: A) -> Result<Registry<A>, Fail> {
     Ok(registry)
 }
 
-fn envelope(row: &Row) -> Result<Envelope, Fail> {
+pub fn envelope(row: &Row) -> Result<Envelope, Fail> {
     Ok(Envelope {
         source: radio(row.1)?,
         destination: radio(row.2)?,
@@ -61,7 +70,7 @@ fn envelope(row: &Row) -> Result<Envelope, Fail> {
 }
 
 /// The PDU of a call, of reference 5.
-fn pdu<A: Allocator>(alloc: A, call: Call) -> Result<Bits<A>, Fail> {
+pub fn pdu<A: Allocator>(alloc: A, call: Call) -> Result<Bits<A>, Fail> {
     let text = match call {
         Call::Post(0) => b"32:82000549".as_slice(),
         Call::Post(1) => b"32:82040549".as_slice(),
@@ -73,7 +82,7 @@ fn pdu<A: Allocator>(alloc: A, call: Call) -> Result<Bits<A>, Fail> {
     Ok(parse_bits(alloc, text)?)
 }
 
-fn refusal<A: Allocator + Clone>(
+pub fn refusal<A: Allocator + Clone>(
     registry: &Registry<A>,
     mail: &Mail<A>,
     envelope: &Envelope,
@@ -89,17 +98,14 @@ fn refusal<A: Allocator + Clone>(
     }
 }
 
-fn called<A: Allocator + Clone>(
+pub fn called<A: Allocator + Clone>(
     registry: &Registry<A>,
     mail: &mut Mail<A>,
     envelope: &Envelope,
     call: Call,
+    stamp: Stamp,
     pdu: Bits<A>,
 ) -> Result<(), MailFault> {
-    let stamp = Stamp {
-        number: 4,
-        moment: 100,
-    };
     match call {
         Call::Post(_) => mail.post(registry, envelope, stamp, pdu),
         Call::Report(code, _) => {
@@ -127,7 +133,7 @@ fn run(rt: &impl Abort, alloc: Global, mail: &mut Mail<Global>, rows: &[Row]) ->
         let envelope = envelope(row)?;
         assert_eq!(rt; refusal(&registry, mail, &envelope, row.0), row.4);
         let pdu = pdu(alloc, row.0)?;
-        let answer = called(&registry, mail, &envelope, row.0, pdu);
+        let answer = called(&registry, mail, &envelope, row.0, STAMP, pdu);
         assert_eq!(rt; answer.err(), row.4);
         assert_eq!(rt; counts(alloc, mail)?, row.5);
     }
@@ -276,59 +282,6 @@ fn the_mail_has_its_limit(rt: HostRuntime) -> Result<(), Fail> {
     ];
     let limits = Limits { mail: 1, ..LIMITS };
     run(&rt, rt.alloc(), &mut Mail::new(rt.alloc(), limits), &rows)
-}
-
-/// Whether memory sufficed for the call. Where it did not, nothing changed.
-fn grown<'a>(
-    rt: &impl Abort,
-    ample: &'a LocalHeap,
-    registry: &Registry<&'a LocalHeap>,
-    mail: &mut Mail<&'a LocalHeap>,
-    row: &Row,
-) -> Result<bool, Fail> {
-    let envelope = envelope(row)?;
-    let before = mail.items(ample)?.len();
-    let Err(fault) = called(registry, mail, &envelope, row.0, pdu(ample, row.0)?) else {
-        return Ok(true);
-    };
-    assert_eq!(rt; fault, MailFault::NoMemory);
-    assert_eq!(rt; refusal(registry, mail, &envelope, row.0), None);
-    assert_eq!(rt; mail.items(ample)?.len(), before);
-    Ok(false)
-}
-
-/// How far a mail comes under a heap: 0 before the last of eight messages, 1 before a report, 2 before a copy, 3 to its end.
-fn stage<'a>(rt: &impl Abort, ample: &'a LocalHeap, heap: &'a LocalHeap) -> Result<usize, Fail> {
-    let registry = registry(ample)?;
-    let mut mail = Mail::new(heap, LIMITS);
-    let mut posted = true;
-    for reference in 0u8..8 {
-        let row = (Call::Post(3), 1, 2, reference, None, [0, 0]);
-        posted = grown(rt, ample, &registry, &mut mail, &row)? && posted;
-    }
-    if !posted {
-        return Ok(0);
-    }
-    let row = (Call::Report(0, false), 2, 1, 0, None, [0, 0]);
-    if !grown(rt, ample, &registry, &mut mail, &row)? {
-        return Ok(1);
-    }
-    Ok(if mail.try_copy().is_err() { 2 } else { 3 })
-}
-
-#[test]
-fn each_growth_may_be_refused(rt: HostRuntime) -> Result<(), Fail> {
-    let ample = LocalHeap::new(rt.alloc(), 1 << 16)?;
-    let mut seen = [false; 4];
-    for step in 1..64usize {
-        let heap = LocalHeap::new(rt.alloc(), step * 128)?;
-        let stage = stage(&rt, &ample, &heap)?;
-        if let Some(entry) = seen.get_mut(stage) {
-            *entry = true;
-        }
-    }
-    assert_eq!(rt; seen, [true; 4]);
-    Ok(())
 }
 
 #[test]

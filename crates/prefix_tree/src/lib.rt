@@ -5,6 +5,7 @@ ghost use Rattle.std.specs.Prelude.{◌≡◌, IfOk};
 
 use std::alloc::AllocError;
 
+mod copy;
 mod edit;
 pub mod laws;
 mod lend;

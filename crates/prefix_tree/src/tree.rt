@@ -158,6 +158,17 @@ impl<V, A: Allocator> PrefixTree<V, A> {
     }
 }
 
+impl<V: TryCopy + Drop, A: Allocator> PrefixTree<V, A> {
+    /// All entries in the order of `walk`, with copies of their values.
+    pub fn entries<B: Allocator>(&self, alloc: B) -> Result<Vec<(Prefix, V), B>, AllocError>
+        ensures { IfOk result (λ list. list.items ≡ map.entries self.now) }
+    {
+        let mut list = Vec::new(alloc);
+        self.root.copy_entries(Prefix::of(0, 0), &mut list)?;
+        Ok(list)
+    }
+}
+
 impl<V: TryCopy + Drop, A: Allocator + Clone> TryCopy for PrefixTree<V, A> {
     fn try_copy(&self) -> Result<Self, AllocError> {
         Ok(PrefixTree {

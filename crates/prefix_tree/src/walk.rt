@@ -59,8 +59,8 @@ impl<V, A: Allocator> Node<V, A> {
     }
 }
 
-// The prefix with one bit more.
-fn longer(prefix: Prefix, bit: bool) -> Prefix
+/// The prefix with one bit more.
+pub(crate) fn longer(prefix: Prefix, bit: bool) -> Prefix
     requires { length prefix < 48 }
     ensures { result ≡ prefix ++ bit ∷ [] }
 {

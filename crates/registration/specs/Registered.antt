@@ -32,9 +32,12 @@ coded_registered =
 abbrev pub empty_registered : Limits → Registered
 empty_registered limits = record { limits = limits; rules = map.empty; radios = map.empty }
 
--- the rule that serves an identity: the one under the longest prefix that begins it
+-- the rule that serves an identity and its prefix: the longest that begins the identity
+abbrev pub longest_rule : Registered → ℕ → Option (Path × Rule)
+longest_rule s identity = longest s.rules (id_path identity)
+
 abbrev pub rule_of : Registered → ℕ → Option Rule
-rule_of s identity = option_map (λ e. e.1) (longest s.rules (id_path identity))
+rule_of s identity = option_map (λ e. e.1) (longest_rule s identity)
 
 -- where a radio is, or was
 abbrev pub radio_of : Registered → ℕ → Option Radio
@@ -46,6 +49,13 @@ set_refusal s prefix = if is_some (map.get s.rules prefix) then None else (if na
 
 abbrev pub with_rule : Registered → Path → Rule → Registered
 with_rule s prefix rule = record s { rules = map.insert s.rules prefix rule }
+
+-- whether a rule stands under exactly this prefix, and what is left without it
+abbrev pub has_rule : Registered → Path → Bool
+has_rule s prefix = is_some (map.get s.rules prefix)
+
+abbrev pub without_rule : Registered → Path → Registered
+without_rule s prefix = record s { rules = map.remove s.rules prefix }
 
 -- why a location update is refused: by its type, then by the identity's rule and the location area, then for want of room
 abbrev pub type_refusal : LocationUpdateType → Option RegFault

@@ -2,13 +2,13 @@
 
 ghost use Rattle.std.specs.Prelude.{◌≡◌, None, Some, OnOk, IfOk, IfErr, IsOk, IsSome, unwrap_or};
 ghost use Rattle.std.specs.FinMap as map;
-ghost use Rattle.registration.specs.Registered.{rule_of, radio_of, type_refusal, area_refusal, room_refusal, locate_refusal, located, detach_refusal, detached, set_refusal, with_rule, empty_registered};
+ghost use Rattle.registration.specs.Registered.{has_rule, longest_rule, rule_of, radio_of, type_refusal, area_refusal, room_refusal, locate_refusal, located, detach_refusal, detached, set_refusal, with_rule, without_rule, empty_registered};
 ghost use Rattle.registration.specs.declared.fault.RegFault.TheVariants.{NoMemory};
 
 use crate::{Limits, LocationArea, Radio, RegFault, Rule};
 use identity::{Itsi, Prefix};
 use mm_pdus::LocationUpdateType;
-use prefix_tree::{PrefixList, TryCopy};
+use prefix_tree::{PrefixTree, TryCopy};
 use std::alloc::{AllocError, Allocator};
 use std::marker::Model;
 
@@ -16,8 +16,10 @@ use std::marker::Model;
 #[derive(Drop)]
 pub struct Registry<A: Allocator> {
     limits: Limits,
-    rules: PrefixList<Rule, A>,
-    radios: PrefixList<Radio, A>,
+    rules: PrefixTree<Rule, A>,
+    rule_count: u32,
+    radios: PrefixTree<Radio, A>,
+    radio_count: u32,
 }
 
 impl<A: Allocator> Model for Registry<A> {
@@ -28,6 +30,11 @@ impl<A: Allocator> Model for Registry<A> {
     ghost coded = { coded_registered };
 
     ghost view = { λ r. record { limits = r.limits; rules = r.rules; radios = r.radios } };
+
+    ghost use Rattle.std.specs.Prelude.{◌≡◌};
+    ghost use Rattle.std.specs.FinMap as map;
+
+    ghost invariant = { λ r. (r.rule_count ≡ map.len r.rules) × (r.radio_count ≡ map.len r.radios) };
 }
 
 impl<A: Allocator + Clone> Registry<A> {
@@ -35,11 +42,13 @@ impl<A: Allocator + Clone> Registry<A> {
     pub fn new(alloc: A, limits: Limits) -> Result<Self, AllocError>
         ensures { IfOk result (λ registry. registry ≡ empty_registered limits) }
     {
-        let rules = PrefixList::new_in(alloc.clone()?);
+        let rules = PrefixTree::new_in(alloc.clone()?);
         Ok(Registry {
             limits,
             rules,
-            radios: PrefixList::new_in(alloc),
+            rule_count: 0,
+            radios: PrefixTree::new_in(alloc),
+            radio_count: 0,
         })
     }
 
@@ -55,8 +64,16 @@ impl<A: Allocator + Clone> Registry<A> {
     pub fn rule_of(&self, identity: u64) -> Option<Rule>
         ensures { result ≡ rule_of self.now identity }
     {
-        match self.rules.longest(identity) {
-            Some((_, rule)) => Some(*rule),
+        let (_, rule) = self.longest_rule(identity)?;
+        Some(rule)
+    }
+
+    /// The rule that serves an identity, and the prefix that it stands under.
+    pub fn longest_rule(&self, identity: u64) -> Option<(Prefix, Rule)>
+        ensures { result ≡ longest_rule self.now identity }
+    {
+        match self.rules.find_longest(identity) {
+            Some((prefix, rule)) => Some((prefix, *rule)),
             None => None,
         }
     }
@@ -65,7 +82,7 @@ impl<A: Allocator + Clone> Registry<A> {
     pub fn where_is(&self, itsi: Itsi) -> Option<Radio>
         ensures { result ≡ radio_of self.now itsi }
     {
-        self.radios.get(&itsi.path()).copied()
+        self.radios.find(&itsi.path()).copied()
     }
 
     /// All rules, each under its prefix: a prefix before its extensions, and else by the first bit
@@ -87,10 +104,10 @@ impl<A: Allocator + Clone> Registry<A> {
     pub fn set_refusal(&self, prefix: &Prefix) -> Option<RegFault>
         ensures { result ≡ set_refusal self.now prefix.now }
     {
-        if self.rules.get(prefix).is_some() {
+        if self.rules.find(prefix).is_some() {
             return None;
         }
-        if self.rules.len() < self.limits.rules as usize {
+        if self.rule_count < self.limits.rules {
             None
         } else {
             Some(RegFault::RulesFull)
@@ -108,10 +125,28 @@ impl<A: Allocator + Clone> Registry<A> {
         if let Some(fault) = self.set_refusal(&prefix) {
             return Err(fault);
         }
-        if self.rules.insert(prefix, rule).is_err() {
-            return Err(RegFault::NoMemory);
+        match self.rules.insert(prefix, rule) {
+            Ok(Some(_)) => Ok(()),
+            Ok(None) => {
+                self.rule_count += 1;
+                Ok(())
+            }
+            Err(_) => Err(RegFault::NoMemory),
         }
-        Ok(())
+    }
+
+    /// Takes the rule under exactly this prefix away; whether there was one. It takes no memory.
+    pub fn clear_rule(&mut self, prefix: &Prefix) -> bool
+        ensures there { result ≡ has_rule self.old prefix.now }
+        ensures gone { self.new ≡ without_rule self.old prefix.now }
+    {
+        match self.rules.take(prefix) {
+            Some(_) => {
+                self.rule_count -= 1;
+                true
+            }
+            None => false,
+        }
     }
 
     /// Why `locate` would refuse this location update, memory aside: `UnsupportedType`, `Migration`,
@@ -155,10 +190,14 @@ impl<A: Allocator + Clone> Registry<A> {
             area,
             present: true,
         };
-        if self.radios.insert(itsi.path(), radio).is_err() {
-            return Err(RegFault::NoMemory);
+        match self.radios.insert(itsi.path(), radio) {
+            Ok(Some(_)) => Ok(()),
+            Ok(None) => {
+                self.radio_count += 1;
+                Ok(())
+            }
+            Err(_) => Err(RegFault::NoMemory),
         }
-        Ok(())
     }
 
     /// The radio is no longer present; its station and location area stay. `NotAttached` where it is
@@ -187,7 +226,7 @@ impl<A: Allocator + Clone> Registry<A> {
         if self.where_is(itsi).is_some() {
             return None;
         }
-        if self.radios.len() < self.limits.radios as usize {
+        if self.radio_count < self.limits.radios {
             None
         } else {
             Some(RegFault::Congestion)
@@ -200,7 +239,9 @@ impl<A: Allocator + Clone> TryCopy for Registry<A> {
         Ok(Registry {
             limits: self.limits,
             rules: self.rules.try_copy()?,
+            rule_count: self.rule_count,
             radios: self.radios.try_copy()?,
+            radio_count: self.radio_count,
         })
     }
 }

@@ -3,7 +3,7 @@ use identity::{Gtsi, Itsi, Prefix};
 use linked_list_allocator::LocalHeap;
 use mm_pdus::{Lifetime, LocationUpdateType};
 use prefix_tree::TryCopy;
-use std::alloc::Allocator;
+use std::alloc::{Allocator, Global};
 use std::process::Abort;
 use std::test::Fail;
 
@@ -61,6 +61,86 @@ fn the_longest_rule_serves(rt: HostRuntime) -> Result<(), Fail> {
         assert_eq!(rt; entry.0.len(), len);
         assert_eq!(rt; entry.1.high().number(), 99);
     }
+    Ok(())
+}
+
+// How long the prefix of an identity's rule is, and for how long the rule keeps messages.
+fn served<A: Allocator + Clone>(registry: &Registry<A>, identity: u64) -> Option<(u32, u32)> {
+    let (prefix, rule) = registry.longest_rule(identity)?;
+    Some((prefix.len(), rule.keep()))
+}
+
+#[test]
+fn a_cleared_rule_serves_no_more(rt: HostRuntime) -> Result<(), Fail> {
+    let mut registry = Registry::new(rt.alloc(), Limits { rules: 3, ..LIMITS })?;
+    let here = radio(2001)?;
+    let far = Itsi::new(1023, 16383, 16777215).ok_or("an identity")?;
+    for (len, keep) in [(0, 10), (24, 3600), (48, 60)] {
+        let set = registry.set_rule(first_bits(here, len)?, rule(1, 99, keep)?);
+        assert!(rt; set.is_ok());
+    }
+    assert_eq!(rt; served(&registry, here.number()), Some((48, 60)));
+    for (len, was_there, left) in [
+        (47, false, (48, 60)),
+        (48, true, (24, 3600)),
+        (48, false, (24, 3600)),
+        (24, true, (0, 10)),
+    ] {
+        assert_eq!(rt; registry.clear_rule(&first_bits(here, len)?), was_there);
+        assert_eq!(rt; served(&registry, here.number()), Some(left));
+        assert_eq!(rt; served(&registry, far.number()), Some((0, 10)));
+    }
+    assert_eq!(rt; registry.rules(rt.alloc())?.len(), 1);
+    Ok(())
+}
+
+#[test]
+fn a_cleared_rule_makes_room(rt: HostRuntime) -> Result<(), Fail> {
+    let mut registry = Registry::new(rt.alloc(), Limits { rules: 1, ..LIMITS })?;
+    let here = radio(2001)?;
+    for (len, room, was_there) in [
+        (24, Ok(()), true),
+        (48, Ok(()), false),
+        (0, Err(RegFault::RulesFull), false),
+    ] {
+        let set = registry.set_rule(first_bits(here, len)?, rule(1, 99, 60)?);
+        assert_eq!(rt; set, room);
+        assert_eq!(rt; registry.clear_rule(&first_bits(here, 24)?), was_there);
+    }
+    Ok(())
+}
+
+// Rules under each of the identity's 49 prefixes, each keeping messages for as many seconds as it has bits.
+fn set_all<A: Allocator + Clone>(registry: &mut Registry<A>, here: Itsi) -> Result<bool, Fail> {
+    let mut all = true;
+    for len in 0..=48u32 {
+        let set = registry.set_rule(first_bits(here, len)?, rule(1, 99, len)?);
+        all = all && set.is_ok() && served(registry, here.number()) == Some((len, len));
+    }
+    Ok(all)
+}
+
+#[test]
+fn prefixes_nest_at_every_length(rt: HostRuntime) -> Result<(), Fail> {
+    let mut registry = Registry::new(
+        rt.alloc(),
+        Limits {
+            rules: 49,
+            ..LIMITS
+        },
+    )?;
+    let here = radio(2001)?;
+    assert!(rt; set_all(&mut registry, here)?);
+    for len in 0..48u32 {
+        let parted = here.number() ^ (1 << (47 - len));
+        assert_eq!(rt; served(&registry, parted), Some((len, len)));
+    }
+    for len in 0..=48u32 {
+        let longest = 48 - len;
+        assert_eq!(rt; served(&registry, here.number()), Some((longest, longest)));
+        assert!(rt; registry.clear_rule(&first_bits(here, longest)?));
+    }
+    assert_eq!(rt; served(&registry, here.number()), None);
     Ok(())
 }
 
@@ -242,20 +322,99 @@ fn copies(registry: &Registry<&LocalHeap>, heap: &LocalHeap) -> bool {
     registry.try_copy().is_ok() && registry.rules(heap).is_ok() && registry.radios(heap).is_ok()
 }
 
+// How far a heap reaches.
+#[derive(Clone, Copy)]
+enum Reached {
+    SomeCalls,
+    AllCalls,
+    CopiesToo,
+}
+
+fn filled_and_copied(rt: &impl Abort, alloc: Global, size: usize) -> Result<Reached, Fail> {
+    let heap = LocalHeap::new(alloc, size)?;
+    let mut registry = Registry::new(&heap, LIMITS)?;
+    if filled(rt, &mut registry)? < 10 {
+        return Ok(Reached::SomeCalls);
+    }
+    if copies(&registry, &heap) {
+        Ok(Reached::CopiesToo)
+    } else {
+        Ok(Reached::AllCalls)
+    }
+}
+
 #[test]
 fn each_growth_may_be_refused(rt: HostRuntime) -> Result<(), Fail> {
     let (mut short, mut uncopied, mut copied) = (0u32, 0u32, 0u32);
     for step in 1..64usize {
-        let heap = LocalHeap::new(rt.alloc(), step * 32)?;
-        let mut registry = Registry::new(&heap, LIMITS)?;
-        if filled(&rt, &mut registry)? < 10 {
-            short = short.saturating_add(1);
-        } else if copies(&registry, &heap) {
-            copied = copied.saturating_add(1);
-        } else {
-            uncopied = uncopied.saturating_add(1);
+        match filled_and_copied(&rt, rt.alloc(), step * 256)? {
+            Reached::SomeCalls => short = short.saturating_add(1),
+            Reached::AllCalls => uncopied = uncopied.saturating_add(1),
+            Reached::CopiesToo => copied = copied.saturating_add(1),
         }
     }
     assert!(rt; short > 0 && uncopied > 0 && copied > 0);
+    Ok(())
+}
+
+// All rules and radios: the bits of each prefix with two numbers of what stands there.
+fn listed(alloc: Global, registry: &Registry<&LocalHeap>) -> Result<Vec<(u64, u32, u32)>, Fail> {
+    let mut list = Vec::new(alloc);
+    for (prefix, rule) in registry.rules(alloc)? {
+        list.push((prefix.bits(), prefix.len(), rule.keep()))?;
+    }
+    for (prefix, radio) in registry.radios(alloc)? {
+        list.push((prefix.bits(), u32::from(radio.station), radio.area.number()))?;
+    }
+    Ok(list)
+}
+
+// The call of this turn: rules under 0, 3 and 9 bits, and radios that part at the first bit and at the last.
+fn made(registry: &mut Registry<&LocalHeap>, turn: u32) -> Result<Result<(), RegFault>, Fail> {
+    let (here, area, attach) = (radio(2001)?, area(7)?, LocationUpdateType::ItsiAttach);
+    Ok(match turn {
+        0 => registry.set_rule(first_bits(here, 0)?, rule(1, 99, 10)?),
+        1 => registry.set_rule(first_bits(here, 3)?, rule(1, 99, 20)?),
+        2 => registry.locate(here, 1, area, attach),
+        3 => registry.locate(radio(2000)?, 2, area, attach),
+        4 => registry.set_rule(first_bits(here, 9)?, rule(1, 99, 30)?),
+        _ => registry.locate(Itsi::new(1023, 1, 1).ok_or("an identity")?, 3, area, attach),
+    })
+}
+
+// How many of the six calls a heap of this size takes. `kept`: the first that it refused left it and the registry as they were.
+#[derive(Clone, Copy)]
+struct Taken {
+    calls: u32,
+    kept: bool,
+}
+
+fn calls_taken(alloc: Global, size: usize) -> Result<Taken, Fail> {
+    let heap = LocalHeap::new(alloc, size)?;
+    let mut registry = Registry::new(&heap, LIMITS)?;
+    for calls in 0..6u32 {
+        let (before, used) = (listed(alloc, &registry)?, heap.used());
+        if let Err(fault) = made(&mut registry, calls)? {
+            let same = listed(alloc, &registry)? == before && heap.used() == used;
+            let kept = same && fault == RegFault::NoMemory;
+            return Ok(Taken { calls, kept });
+        }
+    }
+    Ok(Taken {
+        calls: 6,
+        kept: true,
+    })
+}
+
+#[test]
+fn each_growth_is_refused_in_turn(rt: HostRuntime) -> Result<(), Fail> {
+    let mut last = 0u32;
+    for size in 2..256usize {
+        let next = calls_taken(rt.alloc(), 32 * size)?;
+        assert!(rt; next.kept, "{size}");
+        assert!(rt; next.calls >= last && next.calls - last <= 1, "{size}");
+        last = next.calls;
+    }
+    assert_eq!(rt; last, 6);
     Ok(())
 }

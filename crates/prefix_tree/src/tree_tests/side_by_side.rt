@@ -103,6 +103,20 @@ fn same_entries(alloc: Global, tree: &Tree, list: &List) -> Result<bool, Fail> {
     Ok(true)
 }
 
+// Whether the copies of both are the same entries in the same order.
+fn same_copies(alloc: Global, tree: &Tree, list: &List) -> Result<bool, Fail> {
+    let (left, right) = (tree.entries(alloc)?, list.entries(alloc)?);
+    if left.len() != right.len() {
+        return Ok(false);
+    }
+    for (one, other) in left.iter().zip(&right) {
+        if !one.0.same(&other.0) || one.1 != other.1 {
+            return Ok(false);
+        }
+    }
+    Ok(true)
+}
+
 #[test]
 fn tree_and_list_answer_alike(rt: HostRuntime) -> Result<(), Fail> {
     let mut tree: Tree = PrefixTree::new_in(rt.alloc());
@@ -120,5 +134,6 @@ fn tree_and_list_answer_alike(rt: HostRuntime) -> Result<(), Fail> {
     assert!(rt; most > 8, "{most}");
     let copy = tree.try_copy()?;
     assert!(rt; same_entries(rt.alloc(), &copy, &list)?);
+    assert!(rt; same_copies(rt.alloc(), &copy, &list)?);
     Ok(())
 }

@@ -1,4 +1,4 @@
-use Rattle.std.proofs.Common.{rules, arith, refl, ◌∙◌}
+use Rattle.std.proofs.Common.{arith, ◌∙◌}
 use Rattle.group_attach.specs.Applied.{at_start}
 use Rattle.group_attach.specs.InOrder.{map_of}
 use Rattle.group_attach.proofs.Steps.{joined_more}

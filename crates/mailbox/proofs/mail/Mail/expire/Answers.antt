@@ -1,11 +1,13 @@
-use Rattle.std.proofs.Common.{◌≡◌, rules, not}
-use Rattle.std.specs.List.{filter}
-use Rattle.std.proofs.lemmas.Fn.{filter_same}
-use Rattle.mailbox.specs.Tests.{is_expired}
+use Rattle.std.proofs.Common.{ap, ◌∙◌}
+use Rattle.mailbox.specs.Boxes.{all_expired}
+use Rattle.mailbox.proofs.Keeping.{kept_expired, kept_again, kept_in_order}
 use Rattle.mailbox.proofs.mail.Mail.expire.Goals as goal
+
+pub invariant_of-self : goal.invariant_of-self
+invariant_of-self g c =
+    kept_again _ _ _ (kept_expired _ c.self.inside.boxes c.remove_expired.new.boxes c.self.inside.order.items c.keep_held.new.order.items c.args.moment c.self.invariant (c.remove_expired.ensures ∙ ap (all_expired c.args.moment c.self.inside.boxes) c.deref.ensures.value) c.keep_held.ensures)
 
 pub returns : goal.returns
 returns g c =
-    let kept : c.retain.new.self.items ≡ filter (λ w. not (is_expired c.args.moment w)) c.self.inside.items.items =
-    filter_same _ (λ w. not (is_expired c.args.moment w)) _ (λ x b f' k. search rules) _ _ c.retain.ensures.filtered in
-    rw (← c.self.view_is) (cc (kept))
+    let is = kept_in_order _ _ _ (kept_expired _ c.self.inside.boxes c.remove_expired.new.boxes c.self.inside.order.items c.keep_held.new.order.items c.args.moment c.self.invariant (c.remove_expired.ensures ∙ ap (all_expired c.args.moment c.self.inside.boxes) c.deref.ensures.value) c.keep_held.ensures) in
+    rw (← c.self.view_is) (λ i. record { room = c.self.inside.room; items = is i })

@@ -1,11 +1,11 @@
-use Rattle.std.proofs.Common.{◌≡◌, rules, not}
-use Rattle.std.specs.List.{filter}
-use Rattle.std.proofs.lemmas.Fn.{filter_same}
-use Rattle.mailbox.specs.Tests.{is_at}
+use Rattle.mailbox.proofs.Keeping.{kept_removed, kept_again, kept_in_order}
 use Rattle.mailbox.proofs.mail.Mail.remove_at.Goals as goal
+
+pub invariant_of-self : goal.invariant_of-self
+invariant_of-self g c =
+    kept_again _ _ _ (kept_removed _ c.self.inside.boxes c.remove.new.self c.self.inside.order.items c.remove_place.new.order.items c.args.key.now c.self.invariant c.remove.ensures c.remove_place.ensures.kept)
 
 pub returns : goal.returns
 returns g c =
-    let kept : c.retain.new.self.items ≡ filter (λ w. not (is_at c.args.key.now w)) c.self.inside.items.items =
-    filter_same _ (λ w. not (is_at c.args.key.now w)) _ (λ x b f' k. search rules) _ _ c.retain.ensures.filtered in
-    rw (← c.self.view_is) (cc (kept))
+    let is = kept_in_order _ _ _ (kept_removed _ c.self.inside.boxes c.remove.new.self c.self.inside.order.items c.remove_place.new.order.items c.args.key.now c.self.invariant c.remove.ensures c.remove_place.ensures.kept) in
+    rw (← c.self.view_is) (λ i. record { room = c.self.inside.room; items = is i })

@@ -1,11 +1,13 @@
-use Rattle.std.proofs.Common.{◌≡◌, rules, not}
-use Rattle.std.specs.List.{filter}
-use Rattle.std.proofs.lemmas.Fn.{filter_same}
-use Rattle.mailbox.specs.Tests.{is_confirmed}
+use Rattle.std.proofs.Common.{ap, sym, ◌∙◌}
+use Rattle.std.specs.List.{list_any}
+use Rattle.mailbox.specs.Tests.{is_answerless, is_confirmed}
+use Rattle.mailbox.proofs.Effects.{removed_some, removed_none}
 use Rattle.mailbox.proofs.mail.Mail.remove_confirmed.Goals as goal
 
-pub returns : goal.returns
-returns g c =
-    let kept : c.retain.new.self.items ≡ filter (λ w. not (is_confirmed c.args.key.now w)) c.self.inside.items.items =
-    filter_same _ (λ w. not (is_confirmed c.args.key.now w)) _ (λ x b f' k. search rules) _ _ c.retain.ensures.filtered in
-    rw (← c.self.view_is) (cc (kept))
+pub returns-then-any_confirmed : goal.returns-then-any_confirmed
+returns-then-any_confirmed g c =
+    c.remove_at.ensures
+    ∙ removed_some c.args.key.now (λ w. is_answerless w.key.kind w.pdu) c.args.self.now c.items_of.ensures.apart (sym (c.any_confirmed.ensures ∙ ap (list_any (is_confirmed c.args.key.now)) c.items_of.ensures.items) ∙ c.if-any_confirmed.true)
+
+pub returns-else-any_confirmed : goal.returns-else-any_confirmed
+returns-else-any_confirmed g c = removed_none c.args.key.now (λ w. is_answerless w.key.kind w.pdu) c.args.self.now (sym (c.any_confirmed.ensures ∙ ap (list_any (is_confirmed c.args.key.now)) c.items_of.ensures.items) ∙ c.if-any_confirmed.false)

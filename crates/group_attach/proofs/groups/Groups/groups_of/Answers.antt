@@ -1,7 +1,0 @@
-use Rattle.std.proofs.Common.{rules}
-use Rattle.std.specs.Prelude.{◌==◌}
-use Rattle.group_attach.proofs.Filtered.{listed_part}
-use Rattle.group_attach.proofs.groups.Groups.groups_of.Goals as goal
-
-pub returns : goal.returns
-returns g c = rw (← c.self.view_is, listed_part (λ pair. pair.0 == c.args.itsi) c.self.inside.entries.items c.self.invariant) (search (rules, c.of_radio.ensures, c.deref.ensures.value))

@@ -1,0 +1,7 @@
+use Rattle.std.proofs.Common.{ap, ◌∙◌}
+use Rattle.group_attach.specs.Attached.{listed, of_radio}
+use Rattle.group_attach.proofs.BothSides.{both_after_update}
+use Rattle.group_attach.proofs.groups.Groups.on_update.Goals as goal
+
+pub invariant_of-self : goal.invariant_of-self
+invariant_of-self g c = both_after_update c.self.inside.by_radio c.self.inside.by_group _ _ c.args.itsi c.args.update _ c.self.invariant (c.part.ensures.items ∙ ap (λ n. listed (of_radio c.self.inside.by_radio n)) c.number.ensures.value) c.leave_ended.ensures c.drop_ended.ensures

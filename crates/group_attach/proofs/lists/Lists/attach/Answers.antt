@@ -1,0 +1,12 @@
+use Rattle.group_attach.specs.InOrder.{pair_of}
+use Rattle.group_attach.proofs.FiledFacts.{none_to_overwrite}
+use Rattle.group_attach.proofs.lists.Lists.attach.Goals as goal
+
+pub returns-in_err-clone-clause-overwrites : goal.returns-in_err-clone-clause-overwrites
+returns-in_err-clone-clause-overwrites g c = λ there. absurd (none_to_overwrite c.args.self.now c.args.path (pair_of c.args.attachment) c.in_default.ensures.there there)
+
+pub returns-in_err-list-clause-overwrites : goal.returns-in_err-list-clause-overwrites
+returns-in_err-list-clause-overwrites g c = λ there. absurd (none_to_overwrite c.args.self.now c.args.path (pair_of c.args.attachment) c.in_default.ensures.there there)
+
+pub returns-in_err-insert-clause-overwrites : goal.returns-in_err-insert-clause-overwrites
+returns-in_err-insert-clause-overwrites g c = λ there. absurd (none_to_overwrite c.args.self.now c.args.path (pair_of c.args.attachment) c.in_default.ensures.there there)

@@ -1,0 +1,134 @@
+//! Attachments as one list in order of radio and group.
+
+ghost use Rattle.std.specs.Prelude.{◌≡◌, ◌==◌, OnOk, OnErr, IfOk, IsOk, IsSome};
+ghost use Rattle.std.specs.Option.{option_copied, option_map};
+ghost use Rattle.std.specs.FinMap as finite;
+ghost use Rattle.group_attach.specs.Attached.{no_groups, listed, attachment_of};
+ghost use Rattle.group_attach.specs.Applied.{applied};
+ghost use Rattle.group_attach.specs.InOrder.{IsInOrder, pair_of};
+ghost use Rattle.group_attach.specs.Filed.{attached, ended, held};
+
+use crate::Attachment;
+use crate::edit::{attach, change_all, drop_ended, leave};
+use crate::ending::Ending;
+use crate::list::find;
+use identity::{Gtsi, Itsi};
+use mm_pdus::{GroupMode, GroupUp};
+use prefix_tree::TryCopy;
+use registration::Registry;
+use std::alloc::{AllocError, Allocator};
+use std::marker::Model;
+
+/// Attachments in one list, at most one of each radio to each group.
+#[derive(Drop)]
+pub(crate) struct AttachmentList<A: Allocator> {
+    entries: Vec<Attachment, A>,
+}
+
+impl<A: Allocator> Model for AttachmentList<A> {
+    ghost use Rattle.group_attach.specs.Attached.{Attached, coded_attached};
+    ghost use Rattle.group_attach.specs.InOrder.{map_of, IsInOrder};
+
+    ghost Value = { Attached };
+
+    ghost coded = { coded_attached };
+
+    ghost view = { λ l. map_of l.entries.items };
+
+    ghost invariant = { λ l. IsInOrder l.entries.items };
+}
+
+impl<A: Allocator> AttachmentList<A> {
+    /// No attachments. It takes no memory until the first one.
+    pub(crate) fn new(alloc: A) -> Self
+        ensures { result ≡ no_groups }
+    {
+        AttachmentList {
+            entries: Vec::new(alloc),
+        }
+    }
+
+    /// This attachment alone.
+    pub(crate) fn one(alloc: A, attachment: Attachment) -> Result<Self, AllocError>
+        ensures { IfOk result (λ list. list ≡ attached no_groups attachment) }
+    {
+        let mut list = AttachmentList::new(alloc);
+        list.attach(attachment)?;
+        Ok(list)
+    }
+
+    /// Its attachments in order.
+    pub(crate) fn as_slice(&self) -> &[Attachment]
+        ensures items { result.now ≡ listed self.now }
+        ensures in_order { IsInOrder result.now }
+    {
+        &self.entries
+    }
+
+    /// Whether it has none.
+    pub(crate) fn is_empty(&self) -> bool
+        ensures { result ≡ (finite.len self.now == 0) }
+    {
+        self.as_slice().is_empty()
+    }
+
+    /// The radio's attachment to the group.
+    pub(crate) fn find(&self, itsi: Itsi, gtsi: Gtsi) -> Option<Attachment>
+        ensures { result ≡ option_map (λ usage. attachment_of ((itsi, gtsi), usage)) (finite.get self.now (itsi, gtsi)) }
+    {
+        find(&self.entries, itsi, gtsi)
+    }
+
+    /// Adds the attachment, or replaces the one of the same radio and group. The latter takes no memory.
+    pub(crate) fn attach(&mut self, attachment: Attachment) -> Result<(), AllocError>
+        ensures ok { OnOk result (self.new ≡ attached self.old attachment) }
+        ensures err { OnErr result (self.new ≡ self.old) }
+        ensures overwrites { IsSome (finite.get self.old (pair_of attachment)) → IsOk result }
+    {
+        attach(&mut self.entries, attachment)
+    }
+
+    /// Takes away what ends. It takes no memory.
+    pub(crate) fn end(&mut self, itsi: Itsi, ending: Ending)
+        ensures { self.new ≡ ended self.old itsi ending }
+    {
+        match ending {
+            Ending::Leave(gtsi) => leave(&mut self.entries, itsi, gtsi),
+            Ending::Update(update) => drop_ended(&mut self.entries, itsi, update),
+        }
+    }
+
+    /// Changes the list as a PDU of the radio asks.
+    pub(crate) fn change_all<R: Allocator + Clone>(
+        &mut self,
+        registry: &Registry<R>,
+        itsi: Itsi,
+        mode: GroupMode,
+        items: &[GroupUp],
+    ) -> Result<(), AllocError>
+        ensures { OnOk result (self.new ≡ applied registry.now self.old itsi mode items.now) }
+    {
+        self.entries.reserve(items.len())?;
+        change_all(&mut self.entries, registry, itsi, mode, items);
+        Ok(())
+    }
+}
+
+/// The attachments of a list that may not be there, in order.
+pub(crate) fn slice_of<A: Allocator>(list: Option<&AttachmentList<A>>) -> &[Attachment]
+    ensures items { result.now ≡ listed (held (option_copied list.entry)) }
+    ensures in_order { IsInOrder result.now }
+{
+    match list {
+        Some(list) => list.as_slice(),
+        None => &[],
+    }
+}
+
+impl<A: Allocator + Clone> TryCopy for AttachmentList<A> {
+    fn try_copy(&self) -> Result<Self, AllocError> {
+        Ok(AttachmentList {
+            entries: Vec::from_slice(self.entries.allocator().clone()?, &self.entries)?,
+        })
+    }
+}

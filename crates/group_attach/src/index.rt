@@ -1,0 +1,234 @@
+//! Attachments under the numbers of one side.
+
+ghost use Rattle.std.specs.Prelude.{◌≡◌, ◌<◌, ◌^◌, length, OnOk, OnErr, IfOk, IsOk, IsSome};
+ghost use Rattle.std.specs.Option.{option_map};
+ghost use Rattle.std.specs.FinMap as finite;
+ghost use Rattle.group_attach.specs.Attached.{Attached, no_groups, listed, attachment_of, of_radio};
+ghost use Rattle.group_attach.specs.Applied.{after_update};
+ghost use Rattle.group_attach.specs.InOrder.{IsInOrder, map_of, pair_of};
+ghost use Rattle.group_attach.specs.Filed.{part_of, attached, all_attached, all_left, set_back, held, left_where, left_if_ended, all_ended, AllHave, IsReplaced};
+
+use crate::Attachment;
+use crate::attachments::{AttachmentList, slice_of};
+use crate::edit::is_dropped;
+use crate::ending::Ending;
+use crate::list::has;
+use crate::lists::Lists;
+use crate::side::{ByRadio, Side};
+use identity::{Gtsi, Itsi, Prefix};
+use mm_pdus::LocationUpdateType;
+use prefix_tree::TryCopy;
+use std::alloc::{AllocError, Allocator};
+use std::marker::{Model, PhantomData};
+
+/// Attachments, in a list under each number of one side.
+#[derive(Drop)]
+pub(crate) struct Index<S: Side, A: Allocator> {
+    lists: Lists<A>,
+    side: PhantomData<S>,
+}
+
+impl<S: Side, A: Allocator> Model for Index<S, A> {
+    ghost use Rattle.group_attach.specs.Attached.{Attached, coded_attached};
+    ghost use Rattle.group_attach.specs.Filed.{gathered, IsFiled};
+
+    ghost Value = { Attached };
+
+    ghost coded = { coded_attached };
+
+    ghost view = { λ i. gathered S.key i.lists };
+
+    ghost invariant = { λ i. IsFiled S.key i.lists };
+}
+
+impl<S: Side, A: Allocator> Index<S, A> {
+    /// No attachments. It takes no memory until the first one.
+    pub(crate) fn new() -> Self
+        ensures { result ≡ no_groups }
+    {
+        Index {
+            lists: Lists::new(),
+            side: PhantomData,
+        }
+    }
+
+    /// The attachments with this number, in order.
+    pub(crate) fn part(&self, number: u64) -> &[Attachment]
+        requires { number < 2 ^ 48 }
+        ensures items { result.now ≡ listed (part_of S.key self.now number) }
+        ensures in_order { IsInOrder result.now }
+    {
+        slice_of(self.lists.find(&Prefix::whole(number)))
+    }
+
+    /// The radio's attachment to the group.
+    pub(crate) fn find(&self, itsi: Itsi, gtsi: Gtsi) -> Option<Attachment>
+        ensures { result ≡ option_map (λ usage. attachment_of ((itsi, gtsi), usage)) (finite.get self.now (itsi, gtsi)) }
+    {
+        match self.lists.find(&S::path(itsi, gtsi)) {
+            Some(list) => list.find(itsi, gtsi),
+            None => None,
+        }
+    }
+
+    /// Takes the radio's attachment to the group away. It takes no memory.
+    pub(crate) fn leave(&mut self, itsi: Itsi, gtsi: Gtsi)
+        ensures { self.new ≡ finite.remove self.old (itsi, gtsi) }
+    {
+        let path = S::path(itsi, gtsi);
+        self.lists.end(&path, itsi, Ending::Leave(gtsi));
+    }
+
+    /// Takes those of the old attachments away whose radio and group are not among these. It takes no
+    /// memory.
+    pub(crate) fn leave_absent(&mut self, old: &[Attachment], list: &[Attachment])
+        requires { IsInOrder list.now }
+        ensures { self.new ≡ all_left self.old old.now list.now }
+    {
+        for attachment in old {
+            self.leave_unless(list, attachment);
+        }
+    }
+
+    /// Takes those of these attachments away that the update ends. It takes no memory.
+    pub(crate) fn leave_ended(&mut self, list: &[Attachment], update: LocationUpdateType)
+        ensures { self.new ≡ all_ended update self.old list.now }
+    {
+        for attachment in list {
+            self.leave_if_ended(attachment, update);
+        }
+    }
+
+    // Takes the attachment away, if the update ends it.
+    fn leave_if_ended(&mut self, attachment: &Attachment, update: LocationUpdateType)
+        ensures { self.new ≡ left_if_ended update self.old attachment.now }
+    {
+        if is_dropped(update, attachment.lifetime) {
+            self.leave(attachment.itsi, attachment.gtsi);
+        }
+    }
+
+    // Takes the attachment away, unless the list has its radio and group.
+    fn leave_unless(&mut self, list: &[Attachment], attachment: &Attachment)
+        requires { IsInOrder list.now }
+        ensures { self.new ≡ left_where list.now self.old attachment.now }
+    {
+        if !has(list, attachment.itsi, attachment.gtsi) {
+            self.leave(attachment.itsi, attachment.gtsi);
+        }
+    }
+}
+
+impl<S: Side, A: Allocator + Clone> Index<S, A> {
+    /// Adds the attachment, or replaces the one of the same radio and group. The latter takes no memory.
+    pub(crate) fn attach(&mut self, alloc: &A, attachment: Attachment) -> Result<(), AllocError>
+        ensures ok { OnOk result (self.new ≡ attached self.old attachment) }
+        ensures err { OnErr result (self.new ≡ self.old) }
+        ensures overwrites { IsSome (finite.get self.old (pair_of attachment)) → IsOk result }
+    {
+        let path = S::path(attachment.itsi, attachment.gtsi);
+        self.lists.attach(alloc, path, attachment)
+    }
+
+    /// Adds or replaces all these; for want of memory none of them.
+    pub(crate) fn attach_all(&mut self, alloc: &A, list: &[Attachment]) -> Result<(), AllocError>
+        ensures ok { OnOk result (self.new ≡ all_attached self.old list.now) }
+        ensures err { OnErr result (self.new ≡ self.old) }
+        ensures some { OnErr result (0 < length list.now) }
+    {
+        let Some((first, rest)) = list.split_first() else {
+            return Ok(());
+        };
+        let before = self.find(first.itsi, first.gtsi);
+        self.attach(alloc, *first)?;
+        match self.attach_all(alloc, rest) {
+            Ok(()) => Ok(()),
+            Err(error) => {
+                self.set_back(alloc, first, before);
+                Err(error)
+            }
+        }
+    }
+
+    // Sets an attachment that is there back to how it was before. It takes no memory.
+    fn set_back(&mut self, alloc: &A, attachment: &Attachment, before: Option<Attachment>)
+        requires { IsSome (finite.get self.old (pair_of attachment.now)) }
+        ensures { (m : Attached) → before ≡ option_map (λ usage. attachment_of (pair_of attachment.now, usage)) (finite.get m (pair_of attachment.now)) → self.new ≡ set_back self.old (pair_of attachment.now) (finite.get m (pair_of attachment.now)) }
+    {
+        match before {
+            Some(before) => {
+                let _ = self.attach(alloc, before);
+            }
+            None => self.leave(attachment.itsi, attachment.gtsi),
+        }
+    }
+}
+
+impl<A: Allocator> Index<ByRadio, A> {
+    /// Takes away those attachments of the radio that its location update ends. It takes no memory.
+    pub(crate) fn drop_ended(&mut self, itsi: Itsi, update: LocationUpdateType)
+        ensures { self.new ≡ after_update self.old itsi update }
+    {
+        let path = Prefix::whole(itsi.number());
+        self.lists.end(&path, itsi, Ending::Update(update));
+    }
+}
+
+impl<A: Allocator + Clone> Index<ByRadio, A> {
+    /// A copy of the radio's attachments.
+    pub(crate) fn copy_of(&self, alloc: &A, itsi: Itsi) -> Result<AttachmentList<A>, AllocError>
+        ensures { IfOk result (λ list. list ≡ of_radio self.now itsi) }
+    {
+        match self.lists.find(&Prefix::whole(itsi.number())) {
+            Some(list) => list.try_copy(),
+            None => Ok(AttachmentList::new(alloc.clone()?)),
+        }
+    }
+
+    /// Sets this list in the place of the radio's attachments, and answers the one before. It takes
+    /// memory only where there was none.
+    pub(crate) fn set(
+        &mut self,
+        alloc: &A,
+        itsi: Itsi,
+        list: AttachmentList<A>,
+    ) -> Result<Option<AttachmentList<A>>, AllocError>
+        requires { AllHave (λ pair. pair.0) itsi list }
+        ensures before { IfOk result (λ before. held before ≡ of_radio self.old itsi) }
+        ensures ok { OnOk result (IsReplaced self.old itsi list self.new) }
+        ensures err { OnErr result (self.new ≡ self.old) }
+        ensures overwrites { 0 < finite.len (of_radio self.old itsi) → IsOk result }
+    {
+        self.lists.set(alloc, Prefix::whole(itsi.number()), list)
+    }
+
+    // Takes all the radio's attachments away.
+    fn clear(&mut self, itsi: Itsi)
+        ensures { IsReplaced self.old itsi no_groups self.new }
+    {
+        self.lists.clear(&Prefix::whole(itsi.number()));
+    }
+
+    /// Sets the radio's attachments, of which there are some, back to those before. It takes no memory.
+    pub(crate) fn restore(&mut self, alloc: &A, itsi: Itsi, before: Option<AttachmentList<A>>)
+        requires own { AllHave (λ pair. pair.0) itsi (held before) }
+        requires some { 0 < finite.len (of_radio self.old itsi) }
+        ensures { IsReplaced self.old itsi (held before) self.new }
+    {
+        match before {
+            Some(list) => {
+                let _ = self.set(alloc, itsi, list);
+            }
+            None => self.clear(itsi),
+        }
+    }
+}
+
+impl<S: Side, A: Allocator + Clone> TryCopy for Index<S, A> {
+    fn try_copy(&self) -> Result<Self, AllocError> {
+        Ok(Index {
+            lists: self.lists.try_copy()?,
+            side: PhantomData,
+        })
+    }
+}

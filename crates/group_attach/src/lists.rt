@@ -1,0 +1,230 @@
+//! Lists of attachments under paths.
+
+ghost use Rattle.std.specs.Prelude.{◌≡◌, ◌<◌, OnOk, OnErr, IfOk, IfSome, IfNone, IsOk, IsSome};
+ghost use Rattle.std.specs.Option.{option_copied, is_some};
+ghost use Rattle.std.specs.FinMap as finite;
+ghost use Rattle.group_attach.specs.InOrder.{pair_of};
+ghost use Rattle.group_attach.specs.Filed.{under, placed, attached, ended, IsEnded};
+
+use crate::Attachment;
+use crate::attachments::AttachmentList;
+use crate::ending::Ending;
+use identity::{Itsi, Prefix};
+use prefix_tree::{PrefixTree, Steps, TryCopy};
+use std::alloc::{AllocError, Allocator};
+use std::marker::{Brand, Model};
+use std::sync::ledger::{Blank, Ledger};
+
+/// Lists of attachments under paths. There is no tree before the first list, so that `new` needs no
+/// allocator.
+#[derive(Drop)]
+pub(crate) struct Lists<A: Allocator> {
+    tree: Option<PrefixTree<AttachmentList<A>, A>>,
+}
+
+impl<A: Allocator> Model for Lists<A> {
+    ghost use Rattle.prefix_tree.specs.Table.{coded_table};
+    ghost use Rattle.group_attach.specs.Attached.{coded_attached};
+    ghost use Rattle.group_attach.specs.Filed.{Filed, filed_in};
+
+    ghost Value = { Filed };
+
+    ghost coded = { coded_table coded_attached };
+
+    ghost view = { λ l. filed_in l.tree };
+}
+
+impl<A: Allocator> Lists<A> {
+    /// No list.
+    pub(crate) fn new() -> Self
+        ensures { result ≡ finite.empty }
+    {
+        Lists { tree: None }
+    }
+
+    /// The list under the path.
+    pub(crate) fn find(&self, path: &Prefix) -> Option<&AttachmentList<A>>
+        ensures { option_copied result ≡ finite.get self.now path.now }
+    {
+        match &self.tree {
+            Some(tree) => tree.find(path),
+            None => None,
+        }
+    }
+
+    /// Takes out the list under the path.
+    pub(crate) fn take(&mut self, path: &Prefix) -> Option<AttachmentList<A>>
+        ensures before { result ≡ finite.get self.old path.now }
+        ensures removed { self.new ≡ finite.remove self.old path.now }
+    {
+        if let Some(tree) = &mut self.tree {
+            return tree.take(path);
+        }
+        None
+    }
+
+    /// Takes away the list under the path.
+    pub(crate) fn clear(&mut self, path: &Prefix)
+        ensures { self.new ≡ finite.remove self.old path.now }
+    {
+        let _ = self.take(path);
+    }
+
+    /// Takes away what ends of the list under the path, and the list where nothing is left. It takes no
+    /// memory.
+    pub(crate) fn end(&mut self, path: &Prefix, itsi: Itsi, ending: Ending)
+        ensures { self.new ≡ placed self.old path.now (ended (under self.old path.now) itsi ending) }
+    {
+        if self.end_there(path, itsi, ending) {
+            self.clear(path);
+        }
+    }
+
+    // Takes away what ends of the list under the path; whether nothing is left of it.
+    fn end_there(&mut self, path: &Prefix, itsi: Itsi, ending: Ending) -> bool
+        ensures { IsEnded self.old path.now (ended (under self.old path.now) itsi ending) result self.new }
+    {
+        if let Some(tree) = &mut self.tree {
+            return end_from::<A, Brand>(tree, path, itsi, ending, Blank::new(1));
+        }
+        false
+    }
+
+    // Attaches in the list under the path; `None` where there is none.
+    fn attach_there(
+        &mut self,
+        path: &Prefix,
+        attachment: Attachment,
+    ) -> Option<Result<(), AllocError>>
+        ensures there { is_some result ≡ is_some (finite.get self.old path.now) }
+        ensures ok { IfSome result (λ r. OnOk r (self.new ≡ finite.insert self.old path.now (attached (under self.old path.now) attachment))) }
+        ensures err { IfSome result (λ r. OnErr r (self.new ≡ self.old)) }
+        ensures absent { IfNone result (self.new ≡ self.old) }
+        ensures overwrites { IsSome (finite.get (under self.old path.now) (pair_of attachment)) → IfSome result (λ r. IsOk r) }
+    {
+        if let Some(tree) = &mut self.tree {
+            return attach_from::<A, Brand>(tree, path, attachment, Blank::new(1));
+        }
+        None
+    }
+}
+
+impl<A: Allocator + Clone> Lists<A> {
+    /// Adds the attachment to the list under the path, or replaces the one of the same pair there. The
+    /// latter takes no memory.
+    pub(crate) fn attach(
+        &mut self,
+        alloc: &A,
+        path: Prefix,
+        attachment: Attachment,
+    ) -> Result<(), AllocError>
+        ensures ok { OnOk result (self.new ≡ finite.insert self.old path (attached (under self.old path) attachment)) }
+        ensures err { OnErr result (self.new ≡ self.old) }
+        ensures overwrites { IsSome (finite.get (under self.old path) (pair_of attachment)) → IsOk result }
+    {
+        if let Some(tried) = self.attach_there(&path, attachment) {
+            return tried;
+        }
+        let list = AttachmentList::one(alloc.clone()?, attachment)?;
+        self.insert(alloc, path, list)?;
+        Ok(())
+    }
+
+    /// Sets the list under the path, and answers the one before; an empty list is not kept. It takes
+    /// memory only where there was none.
+    pub(crate) fn set(
+        &mut self,
+        alloc: &A,
+        path: Prefix,
+        list: AttachmentList<A>,
+    ) -> Result<Option<AttachmentList<A>>, AllocError>
+        ensures before { IfOk result (λ before. before ≡ finite.get self.old path) }
+        ensures ok { OnOk result (self.new ≡ placed self.old path list) }
+        ensures err { OnErr result (self.new ≡ self.old) }
+        ensures overwrites { IsSome (finite.get self.old path) → IsOk result }
+        ensures clears { finite.len list ≡ 0 → IsOk result }
+    {
+        if list.is_empty() {
+            Ok(self.take(&path))
+        } else {
+            self.insert(alloc, path, list)
+        }
+    }
+
+    fn insert(
+        &mut self,
+        alloc: &A,
+        path: Prefix,
+        list: AttachmentList<A>,
+    ) -> Result<Option<AttachmentList<A>>, AllocError>
+        ensures before { IfOk result (λ before. before ≡ finite.get self.old path) }
+        ensures ok { OnOk result (self.new ≡ finite.insert self.old path list) }
+        ensures err { OnErr result (self.new ≡ self.old) }
+        ensures overwrites { IsSome (finite.get self.old path) → IsOk result }
+    {
+        if let Some(tree) = &mut self.tree {
+            return tree.insert(path, list).or(Err(AllocError));
+        }
+        let mut tree = PrefixTree::new_in(alloc.clone()?);
+        let before = tree.insert(path, list).or(Err(AllocError))?;
+        self.tree = Some(tree);
+        Ok(before)
+    }
+}
+
+impl<A: Allocator + Clone> TryCopy for Lists<A> {
+    fn try_copy(&self) -> Result<Self, AllocError> {
+        match &self.tree {
+            Some(tree) => Ok(Lists {
+                tree: Some(tree.try_copy()?),
+            }),
+            None => Ok(Lists { tree: None }),
+        }
+    }
+}
+
+// Attaches in the list under the path; `None` where there is none. Counted by this ledger.
+fn attach_from<A: Allocator, L: Ledger>(
+    tree: &mut PrefixTree<AttachmentList<A>, A>,
+    path: &Prefix,
+    attachment: Attachment,
+    blank: Blank,
+) -> Option<Result<(), AllocError>>
+    requires name { blank.name ≡ L.name }
+    requires parts { blank.parts ≡ L.parts }
+    requires some { 0 < blank.parts }
+    ensures there { is_some result ≡ is_some (finite.get tree.old path.now) }
+    ensures ok { IfSome result (λ r. OnOk r (tree.new ≡ finite.insert tree.old path.now (attached (under tree.old path.now) attachment))) }
+    ensures err { IfSome result (λ r. OnErr r (tree.new ≡ tree.old)) }
+    ensures absent { IfNone result (tree.new ≡ tree.old) }
+    ensures overwrites { IsSome (finite.get (under tree.old path.now) (pair_of attachment)) → IfSome result (λ r. IsOk r) }
+{
+    let mut steps = Steps::<L>::new(blank);
+    match tree.get_mut(path, &mut steps) {
+        Some(list) => Some(list.attach(attachment)),
+        None => None,
+    }
+}
+
+// Takes away what ends of the list under the path; whether nothing is left of it. Counted by this ledger.
+fn end_from<A: Allocator, L: Ledger>(
+    tree: &mut PrefixTree<AttachmentList<A>, A>,
+    path: &Prefix,
+    itsi: Itsi,
+    ending: Ending,
+    blank: Blank,
+) -> bool
+    requires name { blank.name ≡ L.name }
+    requires parts { blank.parts ≡ L.parts }
+    requires some { 0 < blank.parts }
+    ensures { IsEnded tree.old path.now (ended (under tree.old path.now) itsi ending) result tree.new }
+{
+    let mut steps = Steps::<L>::new(blank);
+    match tree.get_mut(path, &mut steps) {
+        Some(list) => {
+            list.end(itsi, ending);
+            list.is_empty()
+        }
+        None => false,
+    }
+}

@@ -1,0 +1,146 @@
+-- What each change makes of the boxes.
+use Rattle.std.proofs.Common.{◌≡◌, Bool, true, false, cond, List, [], ◌∷◌, ◌++◌, refl, ap, sym, ◌∙◌, arith, Option, Some, None}
+use Rattle.std.specs.Prelude.{◌==◌, not, ◌&&◌, unwrap_or, length}
+use Rattle.std.specs.List.{filter}
+use Rattle.std.specs.FinMap as finite
+use Rattle.std.specs.FinMap.{get-insert, get-remove, get-empty, same_map}
+use Rattle.std.specs.Ordering.{eq_by_cmp}
+use Rattle.std.proofs.lemmas.Bool.{not_from_false, false≢true, false_from_ne_true}
+use Rattle.std.proofs.lemmas.List.{append-nil}
+use Rattle.std.proofs.lemmas.List.Elements.{filter_agree, filter-append}
+use Rattle.identity.specs.Path.{Path, path_cmp, id_path}
+use Rattle.identity.specs.PathLaws.{paths_total, paths_exact, tie_exact, tied}
+use Rattle.mailbox.specs.Values.{Waiting}
+use Rattle.mailbox.specs.Tests.{is_at}
+use Rattle.mailbox.specs.Boxes.{Boxes, contents, items_under, box_of, with_items, with_less, swept, put_last, put, is_under}
+use Rattle.mailbox.proofs.Lists.{beside, filter_twice, filter_within, filter_turned}
+use Rattle.mailbox.proofs.Keys.{same_number, key_exact, under_other}
+
+-- each destination's box has its items
+abbrev pub IsBoxed : List Waiting → Boxes → Type 0
+IsBoxed ws boxes = (p : Path) → finite.get boxes p ≡ box_of (filter (is_under p) ws)
+
+pub contents_back : (ws : List Waiting) → contents (box_of ws) ≡ ws
+contents_back [] = refl
+contents_back (w ∷ ws) = refl
+
+pub items_boxed : (ws : List Waiting) (boxes : Boxes) (p : Path) → IsBoxed ws boxes → items_under boxes p ≡ filter (is_under p) ws
+items_boxed ws boxes p boxed = ap contents (boxed p) ∙ contents_back (filter (is_under p) ws)
+
+pub get_with : (boxes : Boxes) (p : Path) (ws : List Waiting) (q : Path) → finite.get (with_items boxes p ws) q ≡ cond (eq_by_cmp path_cmp q p) (box_of ws) (finite.get boxes q)
+get_with boxes p [] q = get-remove paths_total boxes p q
+get_with boxes p (w ∷ ws) q = get-insert paths_total boxes p (w ∷ ws) q
+
+-- a box of the new boxes, at the path that was written and elsewhere
+by_path : (p q : Path) (b : Bool) (new old : Option (List Waiting)) (want : Path → Option (List Waiting)) → eq_by_cmp path_cmp q p ≡ b → new ≡ want p → (eq_by_cmp path_cmp q p ≡ false → old ≡ want q) → cond b new old ≡ want q
+by_path p q true new old want e here elsewhere = here ∙ ap want (sym (tie_exact q p e))
+by_path p q false new old want e here elsewhere = elsewhere e
+
+module _ (ws : List Waiting) (boxes : Boxes) (boxed : IsBoxed ws boxes) where
+  swept_here : (p : Path) (test : Waiting → Bool) → filter (λ w. not (test w)) (items_under boxes p) ≡ filter (is_under p) (filter (λ w. not (is_under p w && test w)) ws)
+  swept_here p test =
+      ap (filter (λ w. not (test w))) (items_boxed ws boxes p boxed) ∙ filter_twice (λ w. not (test w)) (is_under p) ws
+      ∙ filter_agree (λ w. is_under p w && not (test w)) (λ w. not (is_under p w && test w) && is_under p w) (λ w. beside (is_under p w) (test w)) ws
+      ∙ sym (filter_twice (is_under p) (λ w. not (is_under p w && test w)) ws)
+
+  not_there : (p q : Path) (test : Waiting → Bool) → eq_by_cmp path_cmp q p ≡ false → (w : Waiting) → is_under q w ≡ true → not (is_under p w && test w) ≡ true
+  not_there p q test other w here = ap (λ b. not (b && test w)) (under_other p q (id_path w.key.destination) other here)
+
+  pub boxed_swept : (p : Path) (test : Waiting → Bool) → IsBoxed (filter (λ w. not (is_under p w && test w)) ws) (swept boxes p test)
+  boxed_swept p test q =
+      get_with boxes p (filter (λ w. not (test w)) (items_under boxes p)) q
+      ∙ by_path p q (eq_by_cmp path_cmp q p) _ _ (λ z. box_of (filter (is_under z) (filter (λ w. not (is_under p w && test w)) ws))) refl (ap box_of (swept_here p test))
+      (λ other. boxed q ∙ ap box_of (sym (filter_within (is_under q) (λ w. not (is_under p w && test w)) (not_there p q test other) ws)))
+
+  put_here : (w : Waiting) → put_last (items_under boxes (id_path w.key.destination)) w ≡ filter (is_under (id_path w.key.destination)) (put_last ws w)
+  put_here w =
+      let p : Path = id_path w.key.destination in
+      ap (λ os. put_last os w) (items_boxed ws boxes p boxed)
+      ∙ ap (λ os. os ++ w ∷ []) (filter_turned (λ o. not (is_at w.key o)) (is_under p) ws)
+      ∙ ap (λ b. filter (is_under p) (filter (λ o. not (is_at w.key o)) ws) ++ cond b (w ∷ []) []) (sym (tied p))
+      ∙ sym (filter-append (is_under p) (filter (λ o. not (is_at w.key o)) ws) (w ∷ []))
+
+  not_at : (w : Waiting) (q : Path) → is_under q w ≡ false → (o : Waiting) → is_under q o ≡ true → not (is_at w.key o) ≡ true
+  not_at w q other o here =
+      not_from_false (is_at w.key o) (false_from_ne_true (is_at w.key o)
+      (λ at. false≢true (sym other ∙ ap (λ k. eq_by_cmp path_cmp q (id_path k.destination)) (key_exact w.key o.key at) ∙ here)))
+
+  put_elsewhere : (w : Waiting) (q : Path) → is_under q w ≡ false → filter (is_under q) ws ≡ filter (is_under q) (put_last ws w)
+  put_elsewhere w q other =
+      sym (filter_within (is_under q) (λ o. not (is_at w.key o)) (not_at w q other) ws)
+      ∙ sym (append-nil (filter (is_under q) (filter (λ o. not (is_at w.key o)) ws)))
+      ∙ ap (λ b. filter (is_under q) (filter (λ o. not (is_at w.key o)) ws) ++ cond b (w ∷ []) []) (sym other)
+      ∙ sym (filter-append (is_under q) (filter (λ o. not (is_at w.key o)) ws) (w ∷ []))
+
+  pub boxed_put : (w : Waiting) → IsBoxed (put_last ws w) (put boxes w)
+  boxed_put w q =
+      let p : Path = id_path w.key.destination in
+      get_with boxes p (put_last (items_under boxes p) w) q
+      ∙ by_path p q (eq_by_cmp path_cmp q p) _ _ (λ z. box_of (filter (is_under z) (put_last ws w))) refl (ap box_of (put_here w))
+      (λ other. boxed q ∙ ap box_of (put_elsewhere w q other))
+
+-- what the code writes is one of these changes
+pub never_empty : (boxes : Boxes) (p : Path) (ws : List Waiting) (w : Waiting) → with_items boxes p (ws ++ w ∷ []) ≡ finite.insert boxes p (ws ++ w ∷ [])
+never_empty boxes p [] w = refl
+never_empty boxes p (o ∷ ws) w = refl
+
+unless_there : (b : Bool) (x y : Option (List Waiting)) → (b ≡ true → y ≡ x) → cond b x y ≡ y
+unless_there true x y h = sym (h refl)
+unless_there false x y h = refl
+
+-- to write what is there changes nothing
+pub written_again : (boxes : Boxes) (p : Path) (ws : List Waiting) → Some ws ≡ finite.get boxes p → finite.insert boxes p ws ≡ boxes
+written_again boxes p ws is = same_map paths_total paths_exact _ _ (λ q.
+    get-insert paths_total boxes p ws q ∙ unless_there (eq_by_cmp path_cmp q p) (Some ws) (finite.get boxes q) (λ e. ap (finite.get boxes) (tie_exact q p e) ∙ sym is))
+
+pub none_removed : (boxes : Boxes) (p : Path) → finite.get boxes p ≡ None → finite.remove boxes p ≡ boxes
+none_removed boxes p none = same_map paths_total paths_exact _ _ (λ q.
+    get-remove paths_total boxes p q ∙ unless_there (eq_by_cmp path_cmp q p) None (finite.get boxes q) (λ e. ap (finite.get boxes) (tie_exact q p e) ∙ none))
+
+twice_chosen : (b : Bool) (x y z : Option (List Waiting)) → cond b x (cond b y z) ≡ cond b x z
+twice_chosen true x y z = refl
+twice_chosen false x y z = refl
+
+-- to write and to remove is to remove
+pub written_removed : (boxes : Boxes) (p : Path) (ws : List Waiting) → finite.remove (finite.insert boxes p ws) p ≡ finite.remove boxes p
+written_removed boxes p ws = same_map paths_total paths_exact _ _ (λ q.
+    get-remove paths_total (finite.insert boxes p ws) p q ∙ ap (cond (eq_by_cmp path_cmp q p) None) (get-insert paths_total boxes p ws q)
+    ∙ twice_chosen (eq_by_cmp path_cmp q p) None (Some ws) (finite.get boxes q) ∙ sym (get-remove paths_total boxes p q))
+
+pub get_less : (boxes : Boxes) (p : Path) (ws : List Waiting) → items_under (finite.insert boxes p ws) p ≡ ws
+get_less boxes p ws = ap contents (get-insert paths_total boxes p ws p ∙ ap (λ b. cond b (Some ws) (finite.get boxes p)) (tied p))
+
+-- no tree is no box
+pub none_under : (tree : Option Boxes) (boxes : Boxes) (p : Path) → tree ≡ None → unwrap_or tree finite.empty ≡ boxes → [] ≡ items_under boxes p
+none_under tree boxes p none is = sym (ap contents (ap (λ b. finite.get b p) (sym is ∙ ap (λ o. unwrap_or o finite.empty) none) ∙ get-empty path_cmp p))
+
+no_items : (ws : List Waiting) → (length ws == 0) ≡ true → ws ≡ []
+no_items [] e = refl
+no_items (w ∷ ws) e = let none : length (w ∷ ws) ≡ 0 = same_number (length (w ∷ ws)) 0 e in absurd (omega (arith, none))
+
+some_items : (boxes : Boxes) (p : Path) (ws : List Waiting) → (length ws == 0) ≡ false → with_items boxes p ws ≡ finite.insert boxes p ws
+some_items boxes p [] e = absurd (false≢true (sym e))
+some_items boxes p (w ∷ ws) e = refl
+
+-- with what ends gone, and then the box if it is empty: swept
+pub less_taken : (boxes less : Boxes) (p : Path) (o : Option (List Waiting)) (test : Waiting → Bool) → o ≡ finite.get boxes p → less ≡ with_less boxes p o test → (length (items_under less p) == 0) ≡ true → finite.remove less p ≡ swept boxes p test
+less_taken boxes less p None test is less_is empty =
+    ap (λ b. finite.remove b p) less_is ∙ ap (λ o. with_items boxes p (filter (λ w. not (test w)) (contents o))) is
+less_taken boxes less p (Some ws) test is less_is empty =
+    let left : List Waiting = filter (λ w. not (test w)) ws in
+    let none : left ≡ [] = sym (ap (λ b. items_under b p) less_is ∙ get_less boxes p left) ∙ no_items (items_under less p) empty in
+    ap (λ b. finite.remove b p) less_is ∙ written_removed boxes p left ∙ ap (with_items boxes p) (sym none) ∙ ap (λ o. with_items boxes p (filter (λ w. not (test w)) (contents o))) is
+
+pub less_left : (boxes less : Boxes) (p : Path) (o : Option (List Waiting)) (test : Waiting → Bool) → o ≡ finite.get boxes p → less ≡ with_less boxes p o test → (length (items_under less p) == 0) ≡ false → less ≡ swept boxes p test
+less_left boxes less p None test is less_is some =
+    let none : items_under less p ≡ [] = ap (λ b. items_under b p) less_is ∙ ap contents (sym is) in
+    absurd (false≢true (sym some ∙ ap (λ (ws : List Waiting). length ws == 0) none))
+less_left boxes less p (Some ws) test is less_is some =
+    let left : List Waiting = filter (λ w. not (test w)) ws in
+    let there : items_under less p ≡ left = ap (λ b. items_under b p) less_is ∙ get_less boxes p left in
+    less_is ∙ sym (some_items boxes p left (ap (λ (ws : List Waiting). length ws == 0) (sym there) ∙ some)) ∙ ap (λ o. with_items boxes p (filter (λ w. not (test w)) (contents o))) is
+
+pub none_swept : (tree : Option Boxes) (boxes : Boxes) (p : Path) (test : Waiting → Bool) → tree ≡ None → unwrap_or tree finite.empty ≡ boxes → unwrap_or tree finite.empty ≡ swept boxes p test
+none_swept tree boxes p test none is =
+    is ∙ sym (none_removed boxes p (ap (λ b. finite.get b p) (sym is ∙ ap (λ o. unwrap_or o finite.empty) none) ∙ get-empty path_cmp p))
+    ∙ ap (λ (ws : List Waiting). with_items boxes p (filter (λ w. not (test w)) ws)) (none_under tree boxes p none is)

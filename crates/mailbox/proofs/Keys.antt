@@ -1,0 +1,77 @@
+-- When two keys are one, and when a destination is under a path.
+use Rattle.std.proofs.Common.{◌≡◌, ℕ, ◌<◌, ◌^◌, true, false, refl, ap, sym, ◌∙◌, arith}
+use Rattle.std.specs.Prelude.{◌==◌, ◌&&◌}
+use Rattle.std.specs.Ordering.{eq_by_cmp}
+use Rattle.std.specs.Cmp.{eq_by_cmp_equiv}
+use Rattle.std.proofs.lemmas.Bool.{and_parts, false≢true}
+use Rattle.std.proofs.lemmas.Bool.Decides.{nat_tests}
+use Rattle.identity.specs.Path.{Path, path_cmp, id_path}
+use Rattle.identity.specs.PathLaws.{paths_total, tie_exact, tied, id_path-injective}
+use Rattle.mailbox.specs.declared.key.Kind.{Kind}
+use Rattle.mailbox.specs.declared.key.Kind.TheVariants.{Message, Report}
+use Rattle.mailbox.specs.declared.key.Key.{Key}
+use Rattle.mailbox.specs.Values.{Waiting}
+use Rattle.mailbox.specs.Tests.{same_kind, same_key, is_at, is_to}
+use Rattle.mailbox.specs.Boxes.{is_under}
+use Rattle.mailbox.proofs.Lists.{both_ways}
+
+pub same_number : (a b : ℕ) → (a == b) ≡ true → a ≡ b
+same_number a b h = grind (arith, nat_tests)
+
+number_itself : (a : ℕ) → (a == a) ≡ true
+number_itself a = grind (arith, nat_tests)
+
+number_turned : (a b : ℕ) → (a == b) ≡ (b == a)
+number_turned a b = grind (arith, nat_tests)
+
+kind_itself : (k : Kind) → same_kind k k ≡ true
+kind_itself Message = refl
+kind_itself Report = refl
+
+kind_turned : (k j : Kind) → same_kind k j ≡ same_kind j k
+kind_turned Message Message = refl
+kind_turned Message Report = refl
+kind_turned Report Message = refl
+kind_turned Report Report = refl
+
+kind_exact : (k j : Kind) → same_kind k j ≡ true → k ≡ j
+kind_exact Message Message e = refl
+kind_exact Message Report e = absurd (false≢true e)
+kind_exact Report Message e = absurd (false≢true e)
+kind_exact Report Report e = refl
+
+pub key_itself : (k : Key) → same_key k k ≡ true
+key_itself k = λ i. (number_itself k.destination i) && (number_itself k.source i) && (number_itself k.reference i) && kind_itself k.kind i
+
+pub key_turned : (k j : Key) → same_key k j ≡ same_key j k
+key_turned k j = λ i. (number_turned k.destination j.destination i) && (number_turned k.source j.source i) && (number_turned k.reference j.reference i) && kind_turned k.kind j.kind i
+
+pub key_exact : (k j : Key) → same_key k j ≡ true → k ≡ j
+key_exact k j e =
+    let a = and_parts ((k.destination == j.destination) && (k.source == j.source) && (k.reference == j.reference)) (same_kind k.kind j.kind) e in
+    let b = and_parts ((k.destination == j.destination) && (k.source == j.source)) (k.reference == j.reference) a.0 in
+    let c = and_parts (k.destination == j.destination) (k.source == j.source) b.0 in
+    λ i. record {
+      destination = same_number k.destination j.destination c.0 i;
+      source = same_number k.source j.source c.1 i;
+      reference = same_number k.reference j.reference b.1 i;
+      kind = kind_exact k.kind j.kind a.1 i;
+    }
+
+-- what is at a key is for its destination, and under the path of that
+pub at_is_to : (k : Key) (w : Waiting) → is_at k w ≡ true → is_to k.destination w ≡ true
+at_is_to k w e = ap (λ j. j.destination == k.destination) (sym (key_exact k w.key e)) ∙ number_itself k.destination
+
+pub at_is_under : (k : Key) (w : Waiting) → is_at k w ≡ true → is_under (id_path k.destination) w ≡ true
+at_is_under k w e = ap (λ j. eq_by_cmp path_cmp (id_path k.destination) (id_path j.destination)) (sym (key_exact k w.key e)) ∙ tied (id_path k.destination)
+
+-- what is under one path is under no other
+pub under_other : (p q r : Path) → eq_by_cmp path_cmp q p ≡ false → eq_by_cmp path_cmp q r ≡ true → eq_by_cmp path_cmp p r ≡ false
+under_other p q r other here = ap (eq_by_cmp path_cmp p) (sym (tie_exact q r here)) ∙ (eq_by_cmp_equiv paths_total).symm p q ∙ other
+
+-- of identities: under the path is for the destination
+pub under_is_to : (destination : ℕ) → destination < 2 ^ 48 → (w : Waiting) → w.key.destination < 2 ^ 48 → is_under (id_path destination) w ≡ is_to destination w
+under_is_to destination below w whole =
+    both_ways (is_under (id_path destination) w) (is_to destination w)
+    (λ e. ap (λ d. d == destination) (id_path-injective w.key.destination destination whole below (sym (tie_exact (id_path destination) (id_path w.key.destination) e))) ∙ number_itself destination)
+    (λ e. ap (λ d. eq_by_cmp path_cmp (id_path destination) (id_path d)) (same_number w.key.destination destination e) ∙ tied (id_path destination))

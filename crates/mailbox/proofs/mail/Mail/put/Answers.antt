@@ -1,0 +1,16 @@
+use Rattle.std.proofs.Common.{◌∷◌, [], ◌++◌, not, ◌∙◌}
+use Rattle.std.specs.List.{filter}
+use Rattle.mailbox.specs.Tests.{same_key}
+use Rattle.mailbox.proofs.Keeping.{kept_put, kept_again, kept_in_order}
+use Rattle.mailbox.proofs.mail.Mail.put.Goals as goal
+
+pub invariant_of-self-2 : goal.invariant_of-self-2
+invariant_of-self-2 g c =
+    kept_again _ _ _ (kept_put _ c.self.inside.boxes c.put.new.self c.self.inside.order.items c.put_at_end.new.order.items c.args.item c.self.invariant c.put.ensures.whole c.in_ok-put.ensures.ok
+    (c.put_at_end.ensures ∙ (λ i. filter (λ place. not (same_key (c.place-place.ensures i).key place.key)) (c.make_room.ensures.items i) ++ c.place-place.ensures i ∷ [])))
+
+pub returns-clause-ok : goal.returns-clause-ok
+returns-clause-ok g c =
+    let is = kept_in_order _ _ _ (kept_put _ c.self.inside.boxes c.put.new.self c.self.inside.order.items c.put_at_end.new.order.items c.args.item c.self.invariant c.put.ensures.whole c.in_ok-put.ensures.ok
+    (c.put_at_end.ensures ∙ (λ i. filter (λ place. not (same_key (c.place-place.ensures i).key place.key)) (c.make_room.ensures.items i) ++ c.place-place.ensures i ∷ []))) in
+    rw (← c.self.view_is) (λ i. record { room = c.self.inside.room; items = is i })

@@ -1,0 +1,87 @@
+-- How the items are kept: in boxes by destination, and beside them an index of their places, in order.
+use Rattle.std.specs.Prelude.{◌≡◌, ℕ, ◌<◌, ◌^◌, Bool, false, not, List, [], ◌∷◌, ◌++◌, map, Option, Some, None}
+use Rattle.std.specs.List.{All, AllPairs, filter, filter_map, find, fold, list_any}
+use Rattle.std.specs.FinMap as finite
+use Rattle.std.specs.Ordering.{eq_by_cmp}
+use Rattle.identity.specs.Path.{Path, path_cmp, id_path}
+use Rattle.prefix_tree.specs.Table.{PathMap}
+use Rattle.mailbox.specs.declared.key.Key.{Key}
+use Rattle.mailbox.specs.declared.place.Place.{Place}
+use Rattle.mailbox.specs.declared.ending.Ending.{Ending}
+use Rattle.mailbox.specs.declared.ending.Ending.TheVariants.{At, Expired}
+use Rattle.mailbox.specs.Values.{Waiting}
+use Rattle.mailbox.specs.Tests.{same_key, is_at, is_expired}
+
+-- for each destination, under all bits of its identity, its items, the oldest first
+abbrev pub Boxes : Type 0
+Boxes = PathMap (List Waiting)
+
+abbrev pub contents : Option (List Waiting) → List Waiting
+contents None = []
+contents (Some ws) = ws
+
+-- the items under a path
+abbrev pub items_under : Boxes → Path → List Waiting
+items_under boxes p = contents (finite.get boxes p)
+
+-- where no items are, there is no box
+abbrev pub box_of : List Waiting → Option (List Waiting)
+box_of [] = None
+box_of (w ∷ ws) = Some (w ∷ ws)
+
+-- the boxes with these items under the path
+abbrev pub with_items : Boxes → Path → List Waiting → Boxes
+with_items boxes p [] = finite.remove boxes p
+with_items boxes p (w ∷ ws) = finite.insert boxes p (w ∷ ws)
+
+-- the items under the path that pass the test go
+abbrev pub swept : Boxes → Path → (Waiting → Bool) → Boxes
+swept boxes p test = with_items boxes p (filter (λ w. not (test w)) (items_under boxes p))
+
+-- as above, where a box that is left with nothing stays
+abbrev pub with_less : Boxes → Path → Option (List Waiting) → (Waiting → Bool) → Boxes
+with_less boxes p None test = boxes
+with_less boxes p (Some ws) test = finite.insert boxes p (filter (λ w. not (test w)) ws)
+
+-- the item is the last of these, in place of any at its key
+abbrev pub put_last : List Waiting → Waiting → List Waiting
+put_last ws w = filter (λ o. not (is_at w.key o)) ws ++ w ∷ []
+
+abbrev pub put : Boxes → Waiting → Boxes
+put boxes w = let p = id_path w.key.destination in with_items boxes p (put_last (items_under boxes p) w)
+
+-- which items end: the one at a key, or all that have expired by a moment
+abbrev pub ends : Ending → Waiting → Bool
+ends (At k) w = is_at k w
+ends (Expired moment) w = is_expired moment w
+
+-- those that have expired go, at the destination of each place
+abbrev pub all_expired : ℕ → Boxes → List Place → Boxes
+all_expired moment boxes order = fold (λ b place. swept b (id_path place.key.destination) (is_expired moment)) boxes order
+
+-- the item at a key
+abbrev pub item_at : Boxes → Key → Option Waiting
+item_at boxes k = find (is_at k) (items_under boxes (id_path k.destination))
+
+abbrev pub is_kept : Boxes → Key → Bool
+is_kept boxes k = list_any (is_at k) (items_under boxes (id_path k.destination))
+
+-- an item's entry in the index
+abbrev pub place_of : Waiting → Place
+place_of w = record { number = w.number; key = w.key }
+
+-- the items in the index's order
+abbrev pub in_order : Boxes → List Place → List Waiting
+in_order boxes order = filter_map (λ place. item_at boxes place.key) order
+
+-- its destination has this path
+abbrev pub is_under : Path → Waiting → Bool
+is_under p w = eq_by_cmp path_cmp p (id_path w.key.destination)
+
+-- These items, in order, are what is kept: each destination's box has its items, the index has the place of each item in
+-- order, no two have one key, and each destination is the number of an identity.
+pub record AreKept (ws : List Waiting) (boxes : Boxes) (order : List Place) : Type 0 where
+  pub boxed : (p : Path) → finite.get boxes p ≡ box_of (filter (is_under p) ws)
+  pub indexed : order ≡ map place_of ws
+  pub apart : AllPairs (λ a b. same_key b.key a.key ≡ false) ws
+  pub whole : All (λ w. w.key.destination < 2 ^ 48) ws

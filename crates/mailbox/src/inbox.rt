@@ -1,0 +1,102 @@
+//! The items of one destination.
+
+ghost use Rattle.std.specs.Prelude.{◌≡◌, ◌<◌, [], false, not, OnOk, IfOk, IfErr, vec_len, vec_capacity};
+ghost use Rattle.std.specs.List.{filter, list_any};
+ghost use Rattle.mailbox.specs.Tests.{is_at};
+ghost use Rattle.mailbox.specs.Boxes.{ends, put_last};
+
+use crate::ending::Ending;
+use crate::items::any_at;
+use crate::{Item, Key};
+use prefix_tree::TryCopy;
+use std::alloc::{AllocError, Allocator};
+use std::marker::Model;
+
+/// What waits for one destination, the oldest first.
+#[derive(Drop)]
+pub(crate) struct Inbox<A: Allocator> {
+    items: Vec<Item<A>, A>,
+}
+
+impl<A: Allocator> Model for Inbox<A> {
+    ghost use Rattle.std.specs.Prelude.{List};
+    ghost use Rattle.std.specs.Coded.{coded_list};
+    ghost use Rattle.mailbox.specs.Values.{Waiting, coded_waiting};
+
+    ghost Value = { List Waiting };
+
+    ghost coded = { coded_list coded_waiting };
+
+    ghost view = { λ i. i.items.items };
+}
+
+impl<A: Allocator> Inbox<A> {
+    pub(crate) fn new(alloc: A) -> Self
+        ensures { result ≡ [] }
+    {
+        Inbox {
+            items: Vec::new(alloc),
+        }
+    }
+
+    pub(crate) fn as_slice(&self) -> &[Item<A>]
+        ensures { result.now ≡ self.now }
+    {
+        &self.items
+    }
+
+    /// Puts the item at the end, in place of any at its key, and then without memory. For want of it
+    /// nothing changes.
+    pub(crate) fn put(&mut self, item: Item<A>) -> Result<(), AllocError>
+        ensures ok { OnOk result (self.new ≡ put_last self.old item) }
+        ensures err { IfErr result (λ _. self.new ≡ self.old) }
+    {
+        if !any_at(&self.items, &item.key()) && self.items.reserve(1).is_err() {
+            return Err(AllocError);
+        }
+        put_at_end(&mut self.items, item);
+        Ok(())
+    }
+
+    /// Takes away what ends.
+    pub(crate) fn remove(&mut self, ending: &Ending)
+        ensures { self.new ≡ filter (λ w. not (ends ending.now w)) self.old }
+    {
+        self.items.retain(|item| !ending.ends(item));
+    }
+}
+
+impl<A: Allocator + Clone> TryCopy for Inbox<A> {
+    fn try_copy(&self) -> Result<Self, AllocError> {
+        Ok(Inbox {
+            items: copied(self.items.allocator(), &self.items)?,
+        })
+    }
+}
+
+fn copied<A: Allocator + Clone>(alloc: &A, items: &[Item<A>]) -> Result<Vec<Item<A>, A>, AllocError>
+    ensures { IfOk result (λ copy. copy.items ≡ items.now) }
+{
+    let mut copy = Vec::new(alloc.clone()?);
+    for item in items {
+        copy.push(item.copied(alloc.clone()?)?)?;
+    }
+    Ok(copy)
+}
+
+/// There is room for the item, or one at its key.
+fn put_at_end<A: Allocator>(items: &mut Vec<Item<A>, A>, item: Item<A>)
+    requires { list_any (is_at item.key) items.old.items ≡ false → vec_len items.old < vec_capacity items.old }
+    ensures { items.new.items ≡ put_last items.old.items item }
+{
+    let key = item.key();
+    remove_at(items, &key);
+    let _ = items.push(item);
+}
+
+fn remove_at<A: Allocator>(items: &mut Vec<Item<A>, A>, key: &Key)
+    ensures kept { items.new.items ≡ filter (λ w. not (is_at key.now w)) items.old.items }
+    ensures room { (list_any (is_at key.now) items.old.items ≡ false → vec_len items.old < vec_capacity items.old) → vec_len items.new < vec_capacity items.new }
+{
+    items.retain(|item| !item.is_at(key));
+}

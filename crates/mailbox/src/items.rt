@@ -1,0 +1,69 @@
+//! What is asked of the items of one destination.
+
+ghost use Rattle.std.specs.Prelude.{◌≡◌, not, length};
+ghost use Rattle.std.specs.List.{filter, list_any};
+ghost use Rattle.mailbox.specs.Tests.{is_at, is_reported, is_ended_by, is_confirmed};
+
+use crate::{Envelope, Item, Key};
+use sds_tl::DeliveryStatus;
+use std::alloc::Allocator;
+
+/// Whether one is at the key.
+pub(crate) fn any_at<A: Allocator>(items: &[Item<A>], key: &Key) -> bool
+    ensures { result ≡ list_any (is_at key.now) items.now }
+{
+    items.iter().any(|item| item.is_at(key))
+}
+
+/// Whether one is at the key, and nobody waits for an answer to it.
+pub(crate) fn any_confirmed<A: Allocator>(items: &[Item<A>], key: &Key) -> bool
+    ensures { result ≡ list_any (is_confirmed key.now) items.now }
+{
+    items.iter().any(|item| item.is_confirmed(key))
+}
+
+/// Whether one is a message that the report ends.
+pub(crate) fn any_reported<A: Allocator>(
+    items: &[Item<A>],
+    envelope: &Envelope,
+    status: DeliveryStatus,
+) -> bool
+    ensures { result ≡ list_any (is_reported envelope.now status) items.now }
+{
+    items.iter().any(|item| item.is_reported(envelope, status))
+}
+
+/// How many are at the key.
+pub(crate) fn count_at<A: Allocator>(items: &[Item<A>], key: &Key) -> usize
+    ensures { result ≡ length (filter (is_at key.now) items.now) }
+{
+    items.iter().filter(|item| item.is_at(key)).count()
+}
+
+/// How many are messages that the report ends.
+pub(crate) fn count_reported<A: Allocator>(
+    items: &[Item<A>],
+    envelope: &Envelope,
+    status: DeliveryStatus,
+) -> usize
+    ensures { result ≡ length (filter (is_reported envelope.now status) items.now) }
+{
+    items
+        .iter()
+        .filter(|item| item.is_reported(envelope, status))
+        .count()
+}
+
+/// How many the report would leave.
+pub(crate) fn count_left<A: Allocator>(
+    items: &[Item<A>],
+    envelope: &Envelope,
+    status: DeliveryStatus,
+) -> usize
+    ensures { result ≡ length (filter (λ w. not (is_ended_by envelope.now status w)) items.now) }
+{
+    items
+        .iter()
+        .filter(|item| !item.is_ended_by(envelope, status))
+        .count()
+}

@@ -1,0 +1,6 @@
+use Rattle.std.proofs.Common.{sym, ◌∙◌}
+use Rattle.prefix_tree.specs.Counts.{len_replaced}
+use Rattle.registration.proofs.registry.Registry.detach.Goals as goal
+
+pub invariant_of-self : goal.invariant_of-self
+invariant_of-self g c = (c.self.invariant.0, c.self.invariant.1 ∙ sym (len_replaced _ _ _ _ c.replace.result c.replace.ensures.before c.replace.ensures.there c.replace.ensures.absent))
