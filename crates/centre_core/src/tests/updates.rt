@@ -6,7 +6,6 @@ use mm_pdus::{Lifetime, MmFault};
 use prefix_tree::TryCopy;
 use registration::{Limits, RegFault};
 use std::alloc::Global;
-use std::process::Abort;
 use std::test::Fail;
 
 #[test]
@@ -62,16 +61,15 @@ fn tables_have_their_limits(rt: HostRuntime) -> Result<(), Fail> {
     run(&rt, rt.alloc(), limits, &rows)
 }
 
-fn copy_is_empty<R: Abort>(rt: &R, register: &Register<Global>) -> Result<(), Fail> {
-    assert!(rt; register.try_copy()?.count() == 0);
-    Ok(())
+fn count_of_copy(register: &Register<Global>) -> Result<u64, Fail> {
+    Ok(register.try_copy()?.count())
 }
 
 #[test]
 fn a_new_register_is_empty(rt: HostRuntime) -> Result<(), Fail> {
     let register = Register::new(rt.alloc(), LIMITS)?;
     assert!(rt; register.limits().mail == 256 && register.count() == 0);
-    copy_is_empty(&rt, &register)?;
+    assert!(rt; count_of_copy(&register)? == 0);
     laws::states::<Global>();
     laws::registers(&register);
     laws::only_accepted_change::<Global, Global>();
