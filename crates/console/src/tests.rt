@@ -3,7 +3,7 @@
 //! read.
 
 use super::*;
-use crate::worked_rows::{LIMITS, worked_rows};
+use crate::worked_rows::{LIMITS, Row, worked_rows};
 use centre_core::{Body, Query, Register, Told};
 use linked_list_allocator::LocalHeap;
 use registration::Limits;
@@ -33,13 +33,19 @@ item 4 m 234-14-2001 5 3630 48:820405014849
 count 4
 ";
 
+/// How the run of a row ends, and what it writes.
+fn served(rt: &HostRuntime, row: &Row) -> Result<(Result<Ran, RunFault>, Vec<u8>), Fail> {
+    let mut desk = Register::new(rt.alloc(), row.limits)?;
+    let mut reader = row.lines.as_bytes();
+    let mut out = Vec::new(rt.alloc());
+    let ran = run(rt.alloc(), &mut reader, &mut out, row.station, 9, &mut desk);
+    Ok((ran, out))
+}
+
 #[test]
 fn worked_rows_are_answered(rt: HostRuntime) -> Result<(), Fail> {
     for row in worked_rows() {
-        let mut desk = Register::new(rt.alloc(), row.limits)?;
-        let mut reader = row.lines.as_bytes();
-        let mut out = Vec::new(rt.alloc());
-        let ran = run(rt.alloc(), &mut reader, &mut out, row.station, 9, &mut desk);
+        let (ran, out) = served(&rt, &row)?;
         let lines = row.lines.lines().count() as u64;
         let troubled = row.answers.contains(" bad ");
         assert_eq!(rt; ran, Ok(Ran { lines, troubled }));
@@ -156,6 +162,23 @@ impl Write for Full {
     }
 }
 
+/// How a run with so many turns over a slow reader ends, and what it writes.
+fn over_a_slow_reader(
+    rt: &HostRuntime,
+    turns: u32,
+    interrupts: bool,
+) -> Result<(Result<Ran, RunFault>, Vec<u8>), Fail> {
+    let mut desk = Register::new(rt.alloc(), LIMITS)?;
+    let mut reader = Slow {
+        rest: b"count\n",
+        interrupts,
+        due: false,
+    };
+    let mut out = Vec::new(rt.alloc());
+    let ran = run(rt.alloc(), &mut reader, &mut out, 1, turns, &mut desk);
+    Ok((ran, out))
+}
+
 #[test]
 fn turns_bound_the_calls(rt: HostRuntime) -> Result<(), Fail> {
     for (turns, interrupts, want) in [
@@ -179,29 +202,28 @@ fn turns_bound_the_calls(rt: HostRuntime) -> Result<(), Fail> {
             }),
         ),
     ] {
-        let mut desk = Register::new(rt.alloc(), LIMITS)?;
-        let mut reader = Slow {
-            rest: b"count\n",
-            interrupts,
-            due: false,
-        };
-        let mut out = Vec::new(rt.alloc());
-        let ran = run(rt.alloc(), &mut reader, &mut out, 1, turns, &mut desk);
+        let (ran, out) = over_a_slow_reader(&rt, turns, interrupts)?;
         assert!(rt; ran == want, "at {turns}");
         assert!(rt; out.is_empty() == (turns < 6), "text at {turns}");
     }
     Ok(())
 }
 
+/// How a run ends whose writer has room for so many bytes, and how many it takes.
+fn over_a_writer(rt: &HostRuntime, room: usize) -> Result<(Result<Ran, RunFault>, usize), Fail> {
+    let mut desk = Register::new(rt.alloc(), LIMITS)?;
+    let mut reader = b"count\n".as_slice();
+    let mut out = Full { room, taken: 0 };
+    let ran = run(rt.alloc(), &mut reader, &mut out, 1, 9, &mut desk);
+    Ok((ran, out.taken))
+}
+
 #[test]
 fn a_writer_fails(rt: HostRuntime) -> Result<(), Fail> {
     for room in 0..8usize {
-        let mut desk = Register::new(rt.alloc(), LIMITS)?;
-        let mut reader = b"count\n".as_slice();
-        let mut out = Full { room, taken: 0 };
-        let ran = run(rt.alloc(), &mut reader, &mut out, 1, 9, &mut desk);
+        let (ran, taken) = over_a_writer(&rt, room)?;
         assert!(rt; ran == Err(RunFault::Write), "at {room}");
-        assert!(rt; out.taken == room);
+        assert!(rt; taken == room);
     }
     Ok(())
 }
