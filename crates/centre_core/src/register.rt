@@ -4,7 +4,6 @@ mod messages;
 
 ghost use Rattle.std.specs.Prelude.{◌≡◌, ◌<◌, ◌≤◌, ◌+◌, IfOk, OnErr, None};
 ghost use Rattle.mm_pdus.specs.UplinkReading.{reading_up};
-ghost use Rattle.registration.specs.Registered.{is_present};
 ghost use Rattle.centre_core.specs.State.{empty, IsState};
 ghost use Rattle.centre_core.specs.Step.{step, step_new, step_mm, step_rule, step_clear, step_locate, step_detach, step_groups, accept_pdu, acknowledge_pdu, accepted, IsOfStation, CanBeAccepted};
 ghost use Rattle.centre_core.specs.Tell.{present_members, tell};
@@ -21,7 +20,7 @@ use identity::{Bits, Gtsi, Itsi, Prefix};
 use mailbox::Mail;
 use mm_pdus::{GroupItems, GroupMode, GroupUp, LocationUpdateType, MmFault, MmUp, read_up};
 use prefix_tree::TryCopy;
-use registration::{Limits, LocationArea, Radio, Registry, Rule};
+use registration::{Limits, LocationArea, Registry, Rule};
 use std::alloc::{AllocError, Allocator};
 use std::marker::Model;
 
@@ -135,7 +134,7 @@ impl<A: Allocator + Clone> Register<A> {
         ensures { IfOk result (λ list. list.items ≡ present_members self.now gtsi) }
     {
         let mut members = self.groups.members_of(alloc, gtsi)?;
-        members.retain(|member| is_present(self.registry.where_is(member.itsi)));
+        members.retain(|member| self.registry.is_present(member.itsi));
         Ok(members)
     }
 
@@ -364,14 +363,5 @@ impl<A: Allocator + Clone> TryCopy for Register<A> {
             served: copied(&self.alloc, &self.served)?,
             count: self.count,
         })
-    }
-}
-
-fn is_present(radio: Option<Radio>) -> bool
-    ensures { result ≡ is_present radio }
-{
-    match radio {
-        None => false,
-        Some(radio) => radio.present,
     }
 }

@@ -1,5 +1,5 @@
 //! Writing all of an answer, or a front of it.
-ghost use Rattle.std.specs.Prelude.{◌≡◌, ◌≢◌, ◌≤◌, ◌++◌, List, ℕ, length, take, IfOk, IfErr, OnOk, OnErr, Some};
+ghost use Rattle.std.specs.Prelude.{◌≡◌, ◌≤◌, ◌++◌, List, ℕ, length, take, IfOk, IfErr, OnOk, OnErr, Some};
 
 use crate::running::RunFault;
 use std::io::{ErrorKind, Write};
@@ -9,7 +9,7 @@ fn write_some<W: Write>(writer: &mut W, bytes: &[u8]) -> Result<usize, RunFault>
     ensures bound { IfOk result (λ n. n ≤ length bytes.now) }
     ensures ok { IfOk result (λ n. (before : List ℕ) → W.contents writer.old ≡ Some before → W.contents writer.new ≡ Some (before ++ take n bytes.now)) }
     ensures err { OnErr result ((before : List ℕ) → W.contents writer.old ≡ Some before → W.contents writer.new ≡ Some before) }
-    ensures plain { IfErr result (λ e. e ≢ RunFault.Read) }
+    ensures plain { IfErr result (λ e. e ≡ RunFault.Write) }
 {
     match writer.write(bytes) {
         Ok(0) => Err(RunFault::Write),
@@ -27,7 +27,7 @@ fn write_some<W: Write>(writer: &mut W, bytes: &[u8]) -> Result<usize, RunFault>
 /// Has the writer pass on what it was given.
 fn flush<W: Write>(writer: &mut W) -> Result<(), RunFault>
     ensures keeps { (before : List ℕ) → W.contents writer.old ≡ Some before → W.contents writer.new ≡ Some before }
-    ensures plain { IfErr result (λ e. e ≢ RunFault.Read) }
+    ensures plain { IfErr result (λ e. e ≡ RunFault.Write) }
 {
     match writer.flush() {
         Ok(()) => Ok(()),
@@ -40,7 +40,7 @@ pub(crate) fn send<W: Write>(writer: &mut W, bytes: &[u8]) -> Result<(), RunFaul
     ensures ok { OnOk result ((before : List ℕ) → W.contents writer.old ≡ Some before → W.contents writer.new ≡ Some (before ++ bytes.now)) }
     ensures err { OnErr result ((before : List ℕ) → W.contents writer.old ≡ Some before →
         (part : List ℕ) × (missing : List ℕ) × (bytes.now ≡ part ++ missing) × (W.contents writer.new ≡ Some (before ++ part))) }
-    ensures plain { IfErr result (λ e. e ≢ RunFault.Read) }
+    ensures plain { IfErr result (λ e. e ≡ RunFault.Write) }
 {
     let mut at = 0;
     for _ in 0..u32::MAX {

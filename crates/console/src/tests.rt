@@ -3,7 +3,7 @@
 //! read.
 
 use super::*;
-use crate::worked_rows::{LIMITS, Row, worked_rows};
+use crate::worked_rows::{LIMITS, worked_rows};
 use centre_core::{Body, Query, Register, Told};
 use linked_list_allocator::LocalHeap;
 use registration::Limits;
@@ -33,19 +33,24 @@ item 4 m 234-14-2001 5 3630 48:820405014849
 count 4
 ";
 
-/// How the run of a row ends, and what it writes.
-fn served(rt: &HostRuntime, row: &Row) -> Result<(Result<Ran, RunFault>, Vec<u8>), Fail> {
-    let mut desk = Register::new(rt.alloc(), row.limits)?;
-    let mut reader = row.lines.as_bytes();
+/// How a run over lines ends, and what it writes.
+fn served(
+    rt: &HostRuntime,
+    lines: &[u8],
+    station: u16,
+    limits: Limits,
+) -> Result<(Result<Ran, RunFault>, Vec<u8>), Fail> {
+    let mut desk = Register::new(rt.alloc(), limits)?;
+    let mut reader = lines;
     let mut out = Vec::new(rt.alloc());
-    let ran = run(rt.alloc(), &mut reader, &mut out, row.station, 9, &mut desk);
+    let ran = run(rt.alloc(), &mut reader, &mut out, station, 9, &mut desk);
     Ok((ran, out))
 }
 
 #[test]
 fn worked_rows_are_answered(rt: HostRuntime) -> Result<(), Fail> {
     for row in worked_rows() {
-        let (ran, out) = served(&rt, &row)?;
+        let (ran, out) = served(&rt, row.lines.as_bytes(), row.station, row.limits)?;
         let lines = row.lines.lines().count() as u64;
         let troubled = row.answers.contains(" bad ");
         assert_eq!(rt; ran, Ok(Ran { lines, troubled }));
@@ -61,10 +66,8 @@ fn answer_to_length(rt: &HostRuntime, length: usize, end: &str) -> Result<Vec<u8
         lines.push(b'#')?;
     }
     lines.extend_from_slice(end.as_bytes())?;
-    let mut desk = Register::new(rt.alloc(), LIMITS)?;
-    let mut reader = lines.as_slice();
-    let mut out = Vec::new(rt.alloc());
-    run(rt.alloc(), &mut reader, &mut out, 1, 9, &mut desk)?;
+    let (ran, out) = served(rt, lines.as_slice(), 1, LIMITS)?;
+    ran?;
     Ok(out)
 }
 
@@ -355,37 +358,45 @@ fn many_members(rt: &HostRuntime) -> Result<(Vec<u8>, Vec<u8>), Fail> {
     Ok((lines, answer))
 }
 
-#[test]
-fn a_mailbox_takes_128_items(rt: HostRuntime) -> Result<(), Fail> {
+/// Lines that send a radio 129 messages and ask for its mail.
+fn many_messages(rt: &HostRuntime) -> Result<Vec<u8>, Fail> {
     let mut lines = Vec::new(rt.alloc());
-    let mut answers = Vec::new(rt.alloc());
     lines.extend_from_slice(b"1 0 rule 234-14-0/24 1 99 1 3600\n2 10 mm 234-14-2001 7 10:260\n")?;
-    answers.extend_from_slice(b"1 ok 1 -\n2 ok 2 8:56\n")?;
     for reference in 0..129u32 {
-        let sequence = reference + 3;
         let line = format!(in rt.alloc();
-            "{sequence} 100 sds 234-14-2001 234-14-2002 48:8204{reference:02X}014849\n"
+            "{} 100 sds 234-14-2001 234-14-2002 48:8204{reference:02X}014849\n",
+            reference + 3
         )?;
         lines.extend_from_slice(line.as_bytes())?;
-        if reference < 128 {
-            let answer = format!(in rt.alloc(); "{sequence} ok {sequence} -\n")?;
-            answers.extend_from_slice(answer.as_bytes())?;
-        }
     }
     lines.extend_from_slice(b"mail 234-14-2002\n")?;
+    Ok(lines)
+}
+
+/// Their answers: the last message is one too many.
+fn full_mailbox(rt: &HostRuntime) -> Result<Vec<u8>, Fail> {
+    let mut answers = Vec::new(rt.alloc());
+    answers.extend_from_slice(b"1 ok 1 -\n2 ok 2 8:56\n")?;
+    for number in 3..131u32 {
+        let answer = format!(in rt.alloc(); "{number} ok {number} -\n")?;
+        answers.extend_from_slice(answer.as_bytes())?;
+    }
     answers.extend_from_slice(b"131 no mailbox-full\nmail 234-14-2002 128\n")?;
     for reference in 0..128u32 {
-        let number = reference + 3;
         let item = format!(in rt.alloc();
-            "item {number} m 234-14-2001 {reference} 3700 48:8204{reference:02X}014849\n"
+            "item {} m 234-14-2001 {reference} 3700 48:8204{reference:02X}014849\n",
+            reference + 3
         )?;
         answers.extend_from_slice(item.as_bytes())?;
     }
-    let mut desk = Register::new(rt.alloc(), LIMITS)?;
-    let mut reader = lines.as_slice();
-    let mut out = Vec::new(rt.alloc());
-    run(rt.alloc(), &mut reader, &mut out, 1, 9, &mut desk)?;
-    assert_eq!(rt; out.as_slice(), answers.as_slice());
+    Ok(answers)
+}
+
+#[test]
+fn a_mailbox_takes_128_items(rt: HostRuntime) -> Result<(), Fail> {
+    let (ran, out) = served(&rt, many_messages(&rt)?.as_slice(), 1, LIMITS)?;
+    assert!(rt; ran.is_ok());
+    assert_eq!(rt; out.as_slice(), full_mailbox(&rt)?.as_slice());
     Ok(())
 }
 

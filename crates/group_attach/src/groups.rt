@@ -2,7 +2,6 @@
 
 ghost use Rattle.std.specs.Prelude.{◌≡◌, None, OnOk, OnErr, IfOk, IfErr, unwrap_or};
 ghost use Rattle.std.specs.FinMap as finite;
-ghost use Rattle.registration.specs.Registered.{is_present};
 ghost use Rattle.group_attach.specs.Attached.{no_groups, of_radio, groups_of, members_of};
 ghost use Rattle.group_attach.specs.Applied.{after_update, applied, answers, apply_refusal};
 ghost use Rattle.group_attach.specs.Filed.{AllHave, IsReplaced};
@@ -17,7 +16,7 @@ use crate::{Attachment, GroupFault};
 use identity::{Gtsi, Itsi};
 use mm_pdus::{GroupDown, GroupItems, GroupMode, GroupUp, LocationUpdateType};
 use prefix_tree::TryCopy;
-use registration::{Radio, Registry};
+use registration::Registry;
 use std::alloc::{AllocError, Allocator};
 use std::marker::Model;
 
@@ -101,7 +100,7 @@ impl<A: Allocator> Groups<A> {
     ) -> Option<GroupFault>
         ensures { result ≡ apply_refusal registry.now self.now itsi mode items.now }
     {
-        if !is_present(registry.where_is(itsi)) {
+        if !registry.is_present(itsi) {
             return Some(GroupFault::NotAttached);
         }
         if self.count_after(registry, itsi, mode, items) > MOST_OF_RADIO {
@@ -233,14 +232,5 @@ impl<A: Allocator + Clone> TryCopy for Groups<A> {
             by_radio: self.by_radio.try_copy()?,
             by_group: self.by_group.try_copy()?,
         })
-    }
-}
-
-fn is_present(radio: Option<Radio>) -> bool
-    ensures { result ≡ is_present radio }
-{
-    match radio {
-        None => false,
-        Some(radio) => radio.present,
     }
 }

@@ -124,65 +124,134 @@ fn told<A: Allocator>(
     }
 }
 
-#[test]
-fn items_are_answered_and_kept(rt: HostRuntime) -> Result<(), Fail> {
-    let (here, there, full) = (radio(2001)?, radio(2002)?, GroupAddress::Full(group(2)?));
-    let heap = LocalHeap::new(rt.alloc(), 1 << 16)?;
-    let registry = register(&heap)?;
-    let mut groups = Groups::new(&heap);
-    let (class, other) = (ClassOfUsage::new(4), ClassOfUsage::new(7));
-    let joins = |class, address| GroupUp::Attach { class, address };
-    let joined = |lifetime, class, address| GroupDown::Attach {
-        lifetime,
-        class,
+fn joins(class: u8, address: GroupAddress) -> GroupUp {
+    GroupUp::Attach {
+        class: ClassOfUsage::new(class),
         address,
-    };
-    let asked = [
-        joins(other, short(4)),
-        joins(class, full),
+    }
+}
+
+fn joined(lifetime: Lifetime, class: u8, address: GroupAddress) -> GroupDown {
+    GroupDown::Attach {
+        lifetime,
+        class: ClassOfUsage::new(class),
+        address,
+    }
+}
+
+// Items of every kind, those on group 2 by its full address.
+fn asked(full: GroupAddress) -> [GroupUp; 7] {
+    [
+        joins(7, short(4)),
+        joins(4, full),
         attach(9),
         leave(2),
-        joins(class, full),
+        joins(4, full),
         attach(1),
         attach(4),
-    ];
-    let want = [
-        joined(Lifetime::NextLocationUpdate, other, short(4)),
-        joined(Lifetime::NextItsiAttach, class, full),
+    ]
+}
+
+// How they are acknowledged.
+fn acknowledged(full: GroupAddress) -> [GroupDown; 6] {
+    [
+        joined(Lifetime::NextLocationUpdate, 7, short(4)),
+        joined(Lifetime::NextItsiAttach, 4, full),
         GroupDown::Detach {
             reason: DetachReason::UnknownGroup,
             address: short(9),
         },
-        joined(Lifetime::NextItsiAttach, class, full),
-        joined(Lifetime::NotNeeded, class, short(1)),
-        joined(Lifetime::NextLocationUpdate, class, short(4)),
-    ];
-    let asked = items(&heap, &asked);
-    let answer = groups.apply(&heap, &registry, here, GroupMode::Amendment, &asked);
-    assert!(rt; told(answer, want.as_slice()));
+        joined(Lifetime::NextItsiAttach, 4, full),
+        joined(Lifetime::NotNeeded, 4, short(1)),
+        joined(Lifetime::NextLocationUpdate, 4, short(4)),
+    ]
+}
+
+#[test]
+fn items_are_answered_and_kept(rt: HostRuntime) -> Result<(), Fail> {
+    let (here, full) = (radio(2001)?, GroupAddress::Full(group(2)?));
+    let heap = LocalHeap::new(rt.alloc(), 1 << 16)?;
+    let registry = register(&heap)?;
+    let mut groups = Groups::new(&heap);
+    let asked = items(&heap, asked(full).as_slice());
+    let want = acknowledged(full);
     let answer = answers(&heap, &registry, here, &asked).or(Err(GroupFault::NoMemory));
     assert!(rt; told(answer, want.as_slice()));
-    let one = items(&heap, &[attach(2)]);
-    assert_eq!(rt;
-        groups.apply_refusal(&registry, there, GroupMode::Amendment, &one),
-        None
-    );
-    assert_eq!(rt;
-        groups.change(&registry, there, GroupMode::Amendment, &one),
-        Ok(())
-    );
-    let copy = groups.try_copy()?;
-    assert!(rt; has(&heap, &groups, here, &[1, 2, 4]) && has(&heap, &copy, there, &[2]));
-    assert!(rt; members(&heap, &groups, group(2)?, &[2001, 2002]));
+    let answer = groups.apply(&heap, &registry, here, GroupMode::Amendment, &asked);
+    assert!(rt; told(answer, want.as_slice()));
+    assert!(rt; has(&heap, &groups, here, &[1, 2, 4]));
     Ok(())
+}
+
+// What a change answers, and nothing else of it: so each test is about answers alone.
+fn changed<A: Allocator + Clone>(
+    registry: &Registry<A>,
+    groups: &mut Groups<A>,
+    itsi: Itsi,
+    mode: GroupMode,
+    asked: &GroupItems<GroupUp, A>,
+) -> Result<(), GroupFault> {
+    groups.change(registry, itsi, mode, asked)
+}
+
+// Attaches both radios to these groups; whether they were.
+fn both_join<A: Allocator + Copy>(
+    alloc: A,
+    registry: &Registry<A>,
+    groups: &mut Groups<A>,
+    both: [Itsi; 2],
+    list: &[GroupUp],
+) -> bool {
+    let (asked, mode) = (items(alloc, list), GroupMode::Amendment);
+    changed(registry, groups, both[0], mode, &asked).is_ok()
+        && changed(registry, groups, both[1], mode, &asked).is_ok()
+}
+
+// Whether a copy of both radios' groups has them too.
+fn is_copied(heap: &LocalHeap, both: [Itsi; 2], gtsi: Gtsi) -> Result<bool, Fail> {
+    let registry = register(heap)?;
+    let mut groups = Groups::new(heap);
+    let joined = both_join(heap, &registry, &mut groups, both, &[attach(2)]);
+    match groups.try_copy() {
+        Ok(copy) => {
+            Ok(
+                joined
+                    && has(heap, &copy, both[1], &[2])
+                    && members(heap, &copy, gtsi, &[2001, 2002]),
+            )
+        }
+        Err(_) => Ok(false),
+    }
+}
+
+#[test]
+fn a_copy_has_the_same_groups(rt: HostRuntime) -> Result<(), Fail> {
+    let both = [radio(2001)?, radio(2002)?];
+    let heap = LocalHeap::new(rt.alloc(), 1 << 16)?;
+    assert!(rt; is_copied(&heap, both, group(2)?)?);
+    Ok(())
+}
+
+// Whether an update of the first radio leaves it these groups of four, and the second all of its own.
+fn is_left<'h>(
+    heap: &'h LocalHeap,
+    registry: &Registry<&'h LocalHeap>,
+    both: [Itsi; 2],
+    update: LocationUpdateType,
+    left: &[u16],
+) -> bool {
+    let mut groups = Groups::new(heap);
+    let all = [attach(1), attach(2), attach(3), attach(4)];
+    let joined = both_join(heap, registry, &mut groups, both, &all);
+    groups.on_update(both[0], update);
+    joined && has(heap, &groups, both[0], left) && has(heap, &groups, both[1], &[1, 2, 3, 4])
 }
 
 #[test]
 fn updates_drop_by_lifetime(rt: HostRuntime) -> Result<(), Fail> {
-    let (here, there) = (radio(2001)?, radio(2002)?);
+    let both = [radio(2001)?, radio(2002)?];
     let heap = LocalHeap::new(rt.alloc(), 1 << 16)?;
     let registry = register(&heap)?;
-    let all = items(&heap, &[attach(1), attach(2), attach(3), attach(4)]);
     let rows: [(LocationUpdateType, &[u16]); 8] = [
         (LocationUpdateType::Roaming, &[1, 2, 3]),
         (LocationUpdateType::Migrating, &[1, 2, 3, 4]),
@@ -197,15 +266,7 @@ fn updates_drop_by_lifetime(rt: HostRuntime) -> Result<(), Fail> {
         (LocationUpdateType::DisabledMs, &[1, 2, 3, 4]),
     ];
     for (update, left) in rows {
-        let mut groups = Groups::new(&heap);
-        for itsi in [there, here] {
-            assert_eq!(rt;
-                groups.change(&registry, itsi, GroupMode::Amendment, &all),
-                Ok(())
-            );
-        }
-        groups.on_update(here, update);
-        assert!(rt; has(&heap, &groups, here, left) && has(&heap, &groups, there, &[1, 2, 3, 4]));
+        assert!(rt; is_left(&heap, &registry, both, update, left));
     }
     Ok(())
 }
@@ -226,7 +287,7 @@ fn all_groups_go_first_where_asked(rt: HostRuntime) -> Result<(), Fail> {
     ];
     for (itsi, mode, list, left) in rows {
         let asked = items(&heap, list);
-        assert_eq!(rt; groups.change(&registry, itsi, mode, &asked), Ok(()));
+        assert_eq!(rt; changed(&registry, &mut groups, itsi, mode, &asked), Ok(()));
         assert!(rt; has(&heap, &groups, itsi, left));
     }
     assert!(rt; has(&heap, &groups, there, &[2]));
@@ -251,10 +312,50 @@ fn only_radios_that_are_present_attach(rt: HostRuntime) -> Result<(), Fail> {
             groups.apply(&heap, &registry, itsi, mode, &one).err(),
             Some(fault)
         );
-        assert_eq!(rt; groups.change(&registry, itsi, mode, &one), Err(fault));
+        assert_eq!(rt;
+            changed(&registry, &mut groups, itsi, mode, &one),
+            Err(fault)
+        );
         assert!(rt; has(&heap, &groups, itsi, &[]));
     }
     Ok(())
+}
+
+fn first_groups() -> [u16; 32] {
+    let mut groups = [0; 32];
+    for (group, ssi) in groups.iter_mut().zip(0..32u16) {
+        *group = ssi;
+    }
+    groups
+}
+
+fn all_joined<A: Allocator>(alloc: A, groups: &[u16]) -> GroupItems<GroupUp, A> {
+    let mut items = GroupItems::new(alloc);
+    for ssi in groups {
+        let _ = items.push(attach(*ssi));
+    }
+    items
+}
+
+// Whether a radio with the first 32 groups is answered so by both calls; in mode 0 it has the same groups then.
+fn is_answered<'h>(
+    heap: &'h LocalHeap,
+    registry: &Registry<&'h LocalHeap>,
+    itsi: Itsi,
+    mode: GroupMode,
+    list: &[GroupUp],
+    refusal: Option<GroupFault>,
+) -> bool {
+    let mut groups = Groups::new(heap);
+    let (first, asked) = (first_groups(), items(heap, list));
+    let all = all_joined(heap, &first);
+    let full = changed(registry, &mut groups, itsi, mode, &all).is_ok()
+        && has(heap, &groups, itsi, &first);
+    let told = groups.apply_refusal(registry, itsi, mode, &asked);
+    let fault = groups.apply(heap, registry, itsi, mode, &asked).err();
+    full && told == refusal
+        && fault == refusal
+        && has(heap, &groups, itsi, &first) == (mode == GroupMode::Amendment)
 }
 
 #[test]
@@ -266,12 +367,6 @@ fn a_radio_has_at_most_32_groups(rt: HostRuntime) -> Result<(), Fail> {
     let mut registry = Registry::new(&heap, LIMITS)?;
     let _ = registry.set_rule(network, terms);
     come(&mut registry, 2001)?;
-    let mut groups = Groups::new(&heap);
-    let (mut most, mut names) = (GroupItems::new(&heap), [0u16; 32]);
-    for (name, ssi) in names.iter_mut().zip(0..32u16) {
-        *name = ssi;
-        let _ = most.push(attach(ssi));
-    }
     let fault = Some(GroupFault::TooManyGroups);
     let (amend, renew) = (GroupMode::Amendment, GroupMode::DetachAllFirst);
     let rows: [(GroupMode, &[GroupUp], Option<GroupFault>); 5] = [
@@ -282,18 +377,7 @@ fn a_radio_has_at_most_32_groups(rt: HostRuntime) -> Result<(), Fail> {
         (renew, &[attach(40), attach(41)], None),
     ];
     for (mode, list, refusal) in rows {
-        assert_eq!(rt; groups.change(&registry, here, renew, &most), Ok(()));
-        assert!(rt; has(&heap, &groups, here, &names));
-        let asked = items(&heap, list);
-        assert_eq!(rt;
-            groups.apply_refusal(&registry, here, mode, &asked),
-            refusal
-        );
-        assert_eq!(rt;
-            groups.apply(&heap, &registry, here, mode, &asked).err(),
-            refusal
-        );
-        assert_eq!(rt; has(&heap, &groups, here, &names), mode == amend);
+        assert!(rt; is_answered(&heap, &registry, here, mode, list, refusal));
     }
     Ok(())
 }

@@ -16,7 +16,7 @@ use Rattle.mailbox.specs.declared.place.Place.{Place}
 use Rattle.mailbox.specs.Values.{Waiting}
 use Rattle.mailbox.specs.Tests.{same_key, is_at, is_to, is_expired}
 use Rattle.mailbox.specs.Boxes.{Boxes, items_under, swept, put_last, put, all_expired, item_at, is_kept, place_of, in_order, is_under, AreKept}
-use Rattle.mailbox.proofs.Lists.{implied, filter_alike, filter_twice, any_within, find_within, filter_all, none_left, looked_up, filter_mapped, find_each, any_each}
+use Rattle.mailbox.proofs.Lists.{implied, filter_alike, filter_twice, any_within, find_within, filter_all, none_left, looked_up, filter_mapped, any_mapped, find_each, any_each}
 use Rattle.mailbox.proofs.Keys.{key_itself, key_turned, at_is_under, under_is_to}
 use Rattle.mailbox.proofs.Boxed.{IsBoxed, items_boxed, boxed_swept, boxed_put}
 
@@ -49,6 +49,10 @@ pub kept_waiting : (ws : List Waiting) (boxes : Boxes) (order : List Place) (des
 kept_waiting ws boxes order destination kept below =
     items_boxed ws boxes (id_path destination) kept.boxed
     ∙ filter_alike (is_under (id_path destination)) (is_to destination) ws (All-weaker (λ w. w.key.destination < 2 ^ 48) (λ w. is_under (id_path destination) w ≡ is_to destination w) (λ w whole. under_is_to destination below w whole) ws kept.whole)
+
+-- the index has a key's place where the item waits
+pub kept_any : (ws : List Waiting) (boxes : Boxes) (order : List Place) (k : Key) → AreKept ws boxes order → list_any (λ place. same_key k place.key) order ≡ list_any (is_at k) ws
+kept_any ws boxes order k kept = ap (list_any (λ place. same_key k place.key)) kept.indexed ∙ any_mapped place_of (λ place. same_key k place.key) ws
 
 -- one key's item goes
 pub kept_removed : (ws : List Waiting) (boxes new : Boxes) (order left : List Place) (k : Key) → AreKept ws boxes order → new ≡ swept boxes (id_path k.destination) (is_at k) → left ≡ filter (λ place. not (same_key k place.key)) order → AreKept (filter (λ w. not (is_at k w)) ws) new left

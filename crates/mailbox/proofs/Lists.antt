@@ -127,6 +127,10 @@ module _ {X : Type 0} where
   filter_mapped f p [] = refl
   filter_mapped f p (x ∷ xs) = one_mapped f (p (f x)) x (filter p (map f xs)) (filter (λ y. p (f y)) xs) (filter_mapped f p xs)
 
+  pub any_mapped : {Y : Type 0} (f : X → Y) (p : Y → Bool) (xs : List X) → list_any p (map f xs) ≡ list_any (λ x. p (f x)) xs
+  any_mapped f p [] = refl
+  any_mapped f p (x ∷ xs) = ap (λ b. p (f x) || b) (any_mapped f p xs)
+
 -- lists no later element of which is the same as an earlier one
 module _ {X : Type 0} (same : X → X → Bool) (itself : (x : X) → same x x ≡ true) where
   found_later : (w x : X) (xs : List X) → same w x ≡ false → find (same w) xs ≡ Some w → find (same w) (x ∷ xs) ≡ Some w

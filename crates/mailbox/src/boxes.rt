@@ -23,7 +23,7 @@ type Tree<A> = PrefixTree<Inbox<A>, A>;
 /// The inboxes of all destinations for which something waits, in a tree that is made for the first item.
 #[derive(Drop)]
 pub(crate) struct Boxes<A: Allocator> {
-    tree: Option<PrefixTree<Inbox<A>, A>>,
+    tree: Option<Tree<A>>,
 }
 
 impl<A: Allocator> Model for Boxes<A> {

@@ -269,9 +269,10 @@ impl<A: Allocator + Clone> Mail<A> {
         ensures err { IfErr result (λ _. self.new ≡ self.old) }
     {
         let place = item.place();
-        make_room(&mut self.order, &place.key)?;
+        let renewed = self.holds(&place.key);
+        make_room(&mut self.order, renewed)?;
         self.boxes.put(self.order.allocator(), item)?;
-        put_at_end(&mut self.order, &place);
+        put_at_end(&mut self.order, &place, renewed);
         Ok(())
     }
 }
@@ -316,22 +317,15 @@ fn keep_held<A: Allocator>(order: &mut Vec<Place, A>, boxes: &Boxes<A>)
     order.retain(|place| boxes.holds(&place.key));
 }
 
-/// There is room for one more place, or one at the key.
-fn make_room<A: Allocator>(order: &mut Vec<Place, A>, key: &Key) -> Result<(), AllocError>
+/// Makes room for one more place, unless it renews one that is there.
+fn make_room<A: Allocator>(order: &mut Vec<Place, A>, renewed: bool) -> Result<(), AllocError>
     ensures items { order.new.items ≡ order.old.items }
-    ensures room { OnOk result (list_any (λ place. same_key key.now place.key) order.new.items ≡ false → vec_len order.new < vec_capacity order.new) }
+    ensures room { OnOk result (renewed ≡ false → vec_len order.new < vec_capacity order.new) }
 {
-    if any_place(order, key) {
-        return Ok(());
+    if !renewed {
+        order.reserve(1)?;
     }
-    order.reserve(1)?;
     Ok(())
-}
-
-fn any_place(order: &[Place], key: &Key) -> bool
-    ensures { result ≡ list_any (λ place. same_key key.now place.key) order.now }
-{
-    order.iter().any(|place| key.is(&place.key))
 }
 
 fn remove_place<A: Allocator>(order: &mut Vec<Place, A>, key: &Key)
@@ -341,11 +335,14 @@ fn remove_place<A: Allocator>(order: &mut Vec<Place, A>, key: &Key)
     order.retain(|place| !key.is(&place.key));
 }
 
-/// There is room for the place, or one at its key.
-fn put_at_end<A: Allocator>(order: &mut Vec<Place, A>, place: &Place)
-    requires { list_any (λ other. same_key place.now.key other.key) order.old.items ≡ false → vec_len order.old < vec_capacity order.old }
+/// Puts the place at the end, for which there is room, or where it renews one that is there.
+fn put_at_end<A: Allocator>(order: &mut Vec<Place, A>, place: &Place, renewed: bool)
+    requires there { renewed ≡ list_any (λ other. same_key place.now.key other.key) order.old.items }
+    requires room { renewed ≡ false → vec_len order.old < vec_capacity order.old }
     ensures { order.new.items ≡ filter (λ other. not (same_key place.now.key other.key)) order.old.items ++ place.now ∷ [] }
 {
-    remove_place(order, &place.key);
+    if renewed {
+        remove_place(order, &place.key);
+    }
     let _ = order.push(*place);
 }

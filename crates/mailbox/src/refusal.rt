@@ -28,15 +28,10 @@ fn unknown_refusal(rule: Option<Rule>) -> Option<MailFault>
 fn absent_refusal<A: Allocator + Clone>(registry: &Registry<A>, itsi: Itsi) -> Option<MailFault>
     ensures { result ≡ absent_refusal registry.now itsi }
 {
-    match registry.where_is(itsi) {
-        Some(radio) => {
-            if radio.present {
-                None
-            } else {
-                Some(MailFault::NotAttached)
-            }
-        }
-        None => Some(MailFault::NotAttached),
+    if registry.is_present(itsi) {
+        None
+    } else {
+        Some(MailFault::NotAttached)
     }
 }
 

@@ -1,5 +1,5 @@
 -- The two laws for groups: what is read is spelt so, and what is spelt so is read.
-use Rattle.std.proofs.Common.{◌≡◌, ℕ, zero, suc, ◌+◌, ◌^◌, ◌<◌, ◌≤◌, Bool, true, false, cond, List, [], ◌∷◌, ◌++◌, length, Option, Some, None, Result, Ok, Err, refl, sym, ap, subst, ◌∙◌, arith, eqb, ltb, append_assoc, inl, inr}
+use Rattle.std.proofs.Common.{◌≡◌, ℕ, zero, suc, ◌+◌, ◌^◌, ◌<◌, ◌≤◌, Bool, true, false, cond, List, [], ◌∷◌, ◌++◌, length, Result, Ok, Err, refl, sym, ap, subst, ◌∙◌, arith, eqb, ltb, append_assoc, inl, inr}
 use Rattle.std.specs.List.{flat_map, AllByRecursion}
 use Rattle.std.proofs.lemmas.Bool.{eqb-true, eqb-false, ltb-false, le-ltb}
 use Rattle.std.proofs.lemmas.List.{append-nil, nil_from_length}
@@ -9,15 +9,14 @@ use Rattle.mm_pdus.specs.declared.fault.MmFault.{MmFault}
 use Rattle.mm_pdus.specs.declared.fault.MmFault.TheVariants as fault
 use Rattle.mm_pdus.specs.declared.address.GroupAddress.{GroupAddress}
 use Rattle.mm_pdus.specs.declared.address.GroupAddress.TheVariants.{Short, Full}
-use Rattle.mm_pdus.specs.declared.lifetime.Lifetime.{Lifetime}
 use Rattle.mm_pdus.specs.declared.group.GroupUp.{GroupUp}
 use Rattle.mm_pdus.specs.declared.group.GroupUp.TheVariants as up
 use Rattle.mm_pdus.specs.declared.group.GroupDown.{GroupDown}
 use Rattle.mm_pdus.specs.declared.group.GroupDown.TheVariants as down
 use Rattle.mm_pdus.specs.Values.{lifetime_number, lifetime_of, leave_number, leave_of, detach_number, detach_of, most_groups}
 use Rattle.mm_pdus.specs.Groups.{address, IsAddress, group_up, IsGroupUp, group_down, IsGroupDown, groups_body}
-use Rattle.mm_pdus.specs.Reading.{◌>>=◌, known, bit_at, field_at}
-use Rattle.mm_pdus.specs.GroupReading.{address_at, group_up_at, group_down_at, inside, read_inside, groups_at, counted_at, body_at}
+use Rattle.mm_pdus.specs.Reading.{◌>>=◌, known, field_at}
+use Rattle.mm_pdus.specs.GroupReading.{address_at, group_up_at, group_down_at, read_inside, groups_at, counted_at, body_at}
 use Rattle.mm_pdus.proofs.Steps.{bind_ok, guard_ended, ok_is, chosen, join, err_ok}
 use Rattle.mm_pdus.proofs.ValueLaws.{leave_number-leave_of, leave_of-leave_number, leave_number-lt, detach_number-detach_of, detach_of-detach_number, detach_number-lt, lifetime_number-lt, lifetime_named, lifetime_of-lifetime_number}
 use Rattle.mm_pdus.proofs.FieldLaws.{field_takes, field_again, known_takes}

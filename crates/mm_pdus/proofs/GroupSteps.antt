@@ -1,7 +1,7 @@
 -- Groups, one after the other, as loops read and write them.
-use Rattle.std.proofs.Common.{◌≡◌, ℕ, suc, ◌-◌, ◌+◌, ◌*◌, ◌^◌, ◌≤◌, ◌<◌, Bool, true, false, List, [], ◌∷◌, ◌++◌, length, take, Result, Ok, Err, refl, sym, ap, ◌∙◌, append_assoc, length-append, arith}
+use Rattle.std.proofs.Common.{◌≡◌, ℕ, suc, ◌-◌, ◌+◌, ◌*◌, ◌^◌, ◌≤◌, ◌<◌, Bool, true, false, List, [], ◌∷◌, ◌++◌, length, Result, Ok, Err, refl, sym, ap, ◌∙◌, append_assoc, length-append, arith}
 use Rattle.std.specs.List.{flat_map}
-use Rattle.std.proofs.lemmas.List.{append-nil, length-take}
+use Rattle.std.proofs.lemmas.List.{append-nil}
 use Rattle.identity.specs.Number.{num}
 use Rattle.identity.specs.NumberLaws.{length-num}
 use Rattle.identity.specs.Identity.{mcc_of, mnc_of, ssi_of}
@@ -16,7 +16,7 @@ use Rattle.mm_pdus.specs.declared.group.GroupDown.{GroupDown}
 use Rattle.mm_pdus.specs.declared.group.GroupDown.TheVariants as down
 use Rattle.mm_pdus.specs.Values.{lifetime_number, leave_number, detach_number, most_groups}
 use Rattle.mm_pdus.specs.Groups.{address, group_up, group_down, groups_body}
-use Rattle.mm_pdus.specs.GroupReading.{groups_at, with_front, behind}
+use Rattle.mm_pdus.specs.GroupReading.{groups_at, with_front}
 
 module _ {T : Type 0} (group_at : List Bool → Result (T × List Bool) MmFault) where
   regroup : (front : List T) (n : T) (read : Result (List T × List Bool) MmFault) → with_front front (read >>= λ x. Ok (n ∷ x.0, x.1)) ≡ with_front (front ++ n ∷ []) read

@@ -8,7 +8,7 @@ use Rattle.mm_pdus.specs.declared.uplink.MmUp.{MmUp}
 use Rattle.mm_pdus.specs.declared.uplink.MmUp.TheVariants.{Demand, Detach, Groups}
 use Rattle.mm_pdus.specs.Values.{update_of, mode_of}
 use Rattle.mm_pdus.specs.Uplink.{detach_widths, demand_widths, SpellsUp}
-use Rattle.mm_pdus.specs.Reading.{◌>>=◌, bit_at, field_at, optional_at, extension_at, elements_at}
+use Rattle.mm_pdus.specs.Reading.{◌>>=◌, bit_at, field_at, optional_at, extension_at}
 use Rattle.mm_pdus.specs.UplinkReading.{join_groups, all_groups_at, groups_up_at, detach_at, demand_at, up_at, reading_up}
 use Rattle.mm_pdus.proofs.Steps.{ok_is}
 use Rattle.mm_pdus.proofs.CutLaws.{Cut, on, value_on, cut_bind, field_cut, bit_cut, optional_cut, elements_cut, extension_cut, whole_missing}

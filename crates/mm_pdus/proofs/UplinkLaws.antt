@@ -5,20 +5,16 @@ use Rattle.std.specs.List.{flat_map, AllByRecursion}
 use Rattle.std.proofs.lemmas.Bool.{eqb-true, ne_eqb, true≢false, false≢true}
 use Rattle.std.proofs.lemmas.List.{append-nil}
 use Rattle.identity.specs.Number.{num}
-use Rattle.identity.specs.NumberLaws.{length-num}
 use Rattle.mm_pdus.specs.declared.fault.MmFault.{MmFault}
 use Rattle.mm_pdus.specs.declared.fault.MmFault.TheVariants.{Trailing, UnknownType}
-use Rattle.mm_pdus.specs.declared.update.LocationUpdateType.{LocationUpdateType}
-use Rattle.mm_pdus.specs.declared.group.GroupMode.{GroupMode}
 use Rattle.mm_pdus.specs.declared.group.GroupUp.{GroupUp}
-use Rattle.mm_pdus.specs.declared.group.GroupUp.TheVariants as group
 use Rattle.mm_pdus.specs.declared.uplink.MmUp.{MmUp}
 use Rattle.mm_pdus.specs.declared.uplink.MmUp.TheVariants.{Demand, Detach, Groups}
 use Rattle.mm_pdus.specs.Values.{update_of, update_number, mode_of, mode_bit, most_groups}
 use Rattle.mm_pdus.specs.Syntax.{optional, Element, element, IsElement, Extension, extension, IsExtension}
 use Rattle.mm_pdus.specs.Groups.{group_up, IsGroupUp, groups_body, groups_extension}
 use Rattle.mm_pdus.specs.Uplink.{detach_widths, demand_widths, identity_uplink, GroupsOf, elements_of, SpellsUp, canon_up, demand_text, IsUp}
-use Rattle.mm_pdus.specs.Reading.{◌>>=◌, bit_at, field_at, optional_at, extension_at, elements_at, whole, Gives}
+use Rattle.mm_pdus.specs.Reading.{◌>>=◌, bit_at, field_at, optional_at, extension_at, whole, Gives}
 use Rattle.mm_pdus.specs.GroupReading.{group_up_at, body_at, behind}
 use Rattle.mm_pdus.specs.UplinkReading.{join_groups, all_groups_at, groups_up_at, detach_at, demand_at, up_at, reading_up}
 use Rattle.mm_pdus.proofs.Steps.{bind_ok, ok_is, chosen, join, err_ok, whole_takes, whole_behind}

@@ -1,5 +1,5 @@
 -- How PDUs to a radio are spelt: D-LOCATION UPDATE ACCEPT, D-LOCATION UPDATE REJECT and D-ATTACH/DETACH GROUP IDENTITY ACKNOWLEDGEMENT (clause 16.9.2).
-use Rattle.std.specs.Prelude.{◌≡◌, ℕ, ◌<◌, ◌≤◌, ◌^◌, Bool, true, false, List, [], ◌∷◌, ◌++◌, length}
+use Rattle.std.specs.Prelude.{◌≡◌, ℕ, ◌<◌, ◌≤◌, ◌^◌, Bool, false, List, [], ◌∷◌, ◌++◌, length}
 use Rattle.std.specs.List.{AllByRecursion, list_any}
 use Rattle.identity.specs.Number.{num}
 use Rattle.mm_pdus.specs.declared.update.AcceptType.{AcceptType}

@@ -1,5 +1,5 @@
 -- How the groups of a PDU are spelt (clause 16.10, group identity uplink and group identity downlink).
-use Rattle.std.specs.Prelude.{◌≡◌, ℕ, ◌<◌, ◌^◌, Bool, true, false, List, [], ◌∷◌, ◌++◌, length, Option, Some, None}
+use Rattle.std.specs.Prelude.{ℕ, ◌<◌, ◌^◌, Bool, true, false, List, [], ◌∷◌, ◌++◌, length, Option, Some, None}
 use Rattle.std.specs.List.{flat_map}
 use Rattle.identity.specs.Number.{num}
 use Rattle.identity.specs.Identity.{mcc_of, mnc_of, ssi_of}
@@ -10,7 +10,7 @@ use Rattle.mm_pdus.specs.declared.group.GroupUp.TheVariants as up
 use Rattle.mm_pdus.specs.declared.group.GroupDown.{GroupDown}
 use Rattle.mm_pdus.specs.declared.group.GroupDown.TheVariants as down
 use Rattle.mm_pdus.specs.Values.{lifetime_number, leave_number, detach_number}
-use Rattle.mm_pdus.specs.Syntax.{Element, Extension}
+use Rattle.mm_pdus.specs.Syntax.{Extension}
 
 -- The address type and the GSSI, and behind a full one the country code and the network code.
 abbrev pub address : GroupAddress → List Bool

@@ -87,11 +87,11 @@ locate_refusal s itsi area update = first_of_three (type_refusal update) (area_r
 abbrev pub located : Registered → ℕ → ℕ → ℕ → Registered
 located s itsi station area = record s { radios = map.insert s.radios (id_path itsi) (record { station = station; area = area; present = true }) }
 
--- why a detach is refused: the radio is not present
 abbrev pub is_present : Option Radio → Bool
 is_present None = false
 is_present (Some radio) = radio.present
 
+-- why a detach is refused: the radio is not present
 abbrev pub detach_refusal : Registered → ℕ → Option RegFault
 detach_refusal s itsi = if is_present (radio_of s itsi) then None else Some NotAttached
 

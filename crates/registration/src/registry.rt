@@ -2,7 +2,7 @@
 
 ghost use Rattle.std.specs.Prelude.{◌≡◌, None, Some, OnOk, IfOk, IfErr, IsOk, IsSome, unwrap_or};
 ghost use Rattle.std.specs.FinMap as map;
-ghost use Rattle.registration.specs.Registered.{has_rule, longest_rule, rule_of, radio_of, type_refusal, area_refusal, room_refusal, locate_refusal, located, detach_refusal, detached, set_refusal, with_rule, without_rule, empty_registered};
+ghost use Rattle.registration.specs.Registered.{has_rule, longest_rule, rule_of, radio_of, type_refusal, area_refusal, room_refusal, locate_refusal, located, detach_refusal, detached, is_present, set_refusal, with_rule, without_rule, empty_registered};
 ghost use Rattle.registration.specs.declared.fault.RegFault.TheVariants.{NoMemory};
 
 use crate::{Limits, LocationArea, Radio, RegFault, Rule};
@@ -83,6 +83,13 @@ impl<A: Allocator + Clone> Registry<A> {
         ensures { result ≡ radio_of self.now itsi }
     {
         self.radios.find(&itsi.path()).copied()
+    }
+
+    /// Whether the radio is present: it came, and has not left since.
+    pub fn is_present(&self, itsi: Itsi) -> bool
+        ensures { result ≡ is_present (radio_of self.now itsi) }
+    {
+        self.where_is(itsi).is_some_and(|radio| radio.present)
     }
 
     /// All rules, each under its prefix: a prefix before its extensions, and else by the first bit

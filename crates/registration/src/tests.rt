@@ -157,47 +157,87 @@ fn a_rule_has_its_areas_in_order(rt: HostRuntime) -> Result<(), Fail> {
     Ok(())
 }
 
+// Whether each update is taken, and shown where it came from.
+fn moves<A: Allocator + Clone>(
+    registry: &mut Registry<A>,
+    here: Itsi,
+    updates: &[(Radio, LocationUpdateType)],
+) -> bool {
+    for (radio, update) in updates {
+        let taken = registry.locate(here, radio.station, radio.area, *update);
+        if taken.is_err() || registry.where_is(here) != Some(*radio) {
+            return false;
+        }
+    }
+    true
+}
+
+// Whether the radio leaves, just once, and is shown so then.
+fn leaves<A: Allocator + Clone>(registry: &mut Registry<A>, here: Itsi, left: Radio) -> bool {
+    let (first, shown) = (registry.detach(here), registry.where_is(here));
+    first == Ok(()) && shown == Some(left) && registry.detach(here) == Err(RegFault::NotAttached)
+}
+
+// Whether a copy has this radio alone.
+fn is_copied(alloc: Global, registry: &Registry<Global>, here: Itsi, left: Radio) -> bool {
+    let Ok(copy) = registry.try_copy() else {
+        return false;
+    };
+    let Ok(radios) = copy.radios(alloc) else {
+        return false;
+    };
+    copy.limits() == LIMITS
+        && radios.len() == 1
+        && radios.iter().all(|entry| entry.0.number() == here.number() && entry.1 == left)
+}
+
+fn seen(station: u16, area: LocationArea, present: bool) -> Radio {
+    Radio {
+        station,
+        area,
+        present,
+    }
+}
+
 #[test]
 fn a_radio_comes_moves_and_leaves(rt: HostRuntime) -> Result<(), Fail> {
+    let (here, first, second, terms) = (radio(2001)?, area(7)?, area(8)?, rule(1, 99, 3600)?);
+    let updates = [
+        (seen(1, first, true), LocationUpdateType::ItsiAttach),
+        (seen(2, second, true), LocationUpdateType::Roaming),
+        (seen(2, second, true), LocationUpdateType::Periodic),
+    ];
+    let left = seen(2, second, false);
+    let network = first_bits(here, 24)?;
     let mut registry = Registry::new(rt.alloc(), LIMITS)?;
-    let here = radio(2001)?;
-    assert!(rt;
-        registry
-            .set_rule(first_bits(here, 24)?, rule(1, 99, 3600)?)
-            .is_ok()
-    );
+    let _ = registry.set_rule(network, terms);
     assert_eq!(rt; registry.where_is(here), None);
     assert_eq!(rt; registry.detach(here), Err(RegFault::NotAttached));
-    let updates = [
-        (1, 7, LocationUpdateType::ItsiAttach),
-        (2, 8, LocationUpdateType::Roaming),
-        (2, 8, LocationUpdateType::Periodic),
-    ];
-    for (station, number, update) in updates {
-        assert_eq!(rt;
-            registry.locate(here, station, area(number)?, update),
-            Ok(())
-        );
-        let shown = Radio {
-            station,
-            area: area(number)?,
-            present: true,
-        };
-        assert_eq!(rt; registry.where_is(here), Some(shown));
-    }
-    assert_eq!(rt; registry.detach(here), Ok(()));
-    let left = Radio {
-        station: 2,
-        area: area(8)?,
-        present: false,
-    };
-    assert_eq!(rt; registry.where_is(here), Some(left));
-    assert_eq!(rt; registry.detach(here), Err(RegFault::NotAttached));
-    let copy = registry.try_copy()?;
-    assert_eq!(rt; copy.limits(), LIMITS);
-    let radios = copy.radios(rt.alloc())?;
-    assert_eq!(rt; radios.len(), 1);
-    assert!(rt; radios.iter().all(|entry| entry.0.number() == here.number() && entry.1 == left));
+    assert!(rt; moves(&mut registry, here, &updates));
+    assert!(rt; leaves(&mut registry, here, left));
+    assert!(rt; is_copied(rt.alloc(), &registry, here, left));
+    Ok(())
+}
+
+// Whether a radio is present before it comes, then, and once it left.
+fn presence<A: Allocator + Clone>(
+    registry: &mut Registry<A>,
+    here: Itsi,
+    area: LocationArea,
+) -> [bool; 3] {
+    let before = registry.is_present(here);
+    let _ = registry.locate(here, 1, area, LocationUpdateType::ItsiAttach);
+    let come = registry.is_present(here);
+    let _ = registry.detach(here);
+    [before, come, registry.is_present(here)]
+}
+
+#[test]
+fn a_radio_is_present_until_it_leaves(rt: HostRuntime) -> Result<(), Fail> {
+    let (here, area, terms) = (radio(2001)?, area(7)?, rule(1, 99, 3600)?);
+    let mut registry = Registry::new(rt.alloc(), LIMITS)?;
+    let _ = registry.set_rule(here.path(), terms);
+    assert_eq!(rt; presence(&mut registry, here, area), [false, true, false]);
     Ok(())
 }
 

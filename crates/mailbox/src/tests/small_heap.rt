@@ -54,6 +54,16 @@ fn taken<'a>(
     Ok((16 + usize::from(copied), listed(alloc, &mail)? == before))
 }
 
+fn mark(seen: &mut [bool], count: usize) {
+    if let Some(entry) = seen.get_mut(count) {
+        *entry = true;
+    }
+}
+
+fn are_marked(seen: &[bool], counts: &[usize]) -> bool {
+    counts.iter().all(|count| seen.get(*count) == Some(&true))
+}
+
 #[test]
 fn each_growth_is_refused_in_turn(rt: HostRuntime) -> Result<(), Fail> {
     let ample = LocalHeap::new(rt.alloc(), 1 << 16)?;
@@ -62,14 +72,10 @@ fn each_growth_is_refused_in_turn(rt: HostRuntime) -> Result<(), Fail> {
         let heap = LocalHeap::new(rt.alloc(), 64 * size)?;
         let (count, kept) = taken(rt.alloc(), &ample, &heap)?;
         assert!(rt; kept, "{size}");
-        if let Some(entry) = seen.get_mut(count) {
-            *entry = true;
-        }
+        mark(&mut seen, count);
     }
     // The first message and report need an inbox, the fifth a longer one, and so does the index at five and nine items.
-    for count in [0usize, 4, 8, 12, 16, 17] {
-        assert!(rt; seen.get(count) == Some(&true), "{count}");
-    }
+    assert!(rt; are_marked(&seen, &[0, 4, 8, 12, 16, 17]), "{seen:?}");
     Ok(())
 }
 

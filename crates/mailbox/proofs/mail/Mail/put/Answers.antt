@@ -1,7 +1,9 @@
-use Rattle.std.proofs.Common.{◌∷◌, [], ◌++◌, not, ◌∙◌}
-use Rattle.std.specs.List.{filter}
+use Rattle.std.proofs.Common.{◌∷◌, [], ◌++◌, not, ap, sym, ◌∙◌}
+use Rattle.std.specs.List.{filter, list_any}
+use Rattle.mailbox.specs.Values.{Mailed}
 use Rattle.mailbox.specs.Tests.{same_key}
-use Rattle.mailbox.proofs.Keeping.{kept_put, kept_again, kept_in_order}
+use Rattle.mailbox.specs.Mail.{holds}
+use Rattle.mailbox.proofs.Keeping.{kept_any, kept_put, kept_again, kept_in_order}
 use Rattle.mailbox.proofs.mail.Mail.put.Goals as goal
 
 pub invariant_of-self-2 : goal.invariant_of-self-2
@@ -14,3 +16,9 @@ returns-clause-ok g c =
     let is = kept_in_order _ _ _ (kept_put _ c.self.inside.boxes c.put.new.self c.self.inside.order.items c.put_at_end.new.order.items c.args.item c.self.invariant c.put.ensures.whole c.in_ok-put.ensures.ok
     (c.put_at_end.ensures ∙ (λ i. filter (λ place. not (same_key (c.place-place.ensures i).key place.key)) (c.make_room.ensures.items i) ++ c.place-place.ensures i ∷ []))) in
     rw (← c.self.view_is) (λ i. record { room = c.self.inside.room; items = is i })
+
+pub put_at_end-requires-clause-there : goal.put_at_end-requires-clause-there
+put_at_end-requires-clause-there g c =
+    let k = c.place-place.result.key in
+    c.holds-renewed.ensures ∙ ap (λ m. holds m k) (sym {A = Mailed} c.self.view_is) ∙ sym (kept_any _ c.self.inside.boxes c.self.inside.order.items k c.self.invariant)
+    ∙ ap (list_any (λ other. same_key k other.key)) (sym c.make_room.ensures.items)
