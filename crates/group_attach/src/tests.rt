@@ -124,46 +124,47 @@ fn told<A: Allocator>(
     }
 }
 
-fn joins(class: u8, address: GroupAddress) -> GroupUp {
+fn joins(class: ClassOfUsage, address: &GroupAddress) -> GroupUp {
     GroupUp::Attach {
-        class: ClassOfUsage::new(class),
-        address,
+        class,
+        address: *address,
     }
 }
 
-fn joined(lifetime: Lifetime, class: u8, address: GroupAddress) -> GroupDown {
+fn joined(lifetime: Lifetime, class: ClassOfUsage, address: &GroupAddress) -> GroupDown {
     GroupDown::Attach {
         lifetime,
-        class: ClassOfUsage::new(class),
-        address,
+        class,
+        address: *address,
     }
 }
 
 // Items of every kind, those on group 2 by its full address.
-fn asked(full: GroupAddress) -> [GroupUp; 7] {
+fn asked(full: &GroupAddress) -> [GroupUp; 7] {
     [
-        joins(7, short(4)),
-        joins(4, full),
+        joins(ClassOfUsage::new(7), &short(4)),
+        joins(ClassOfUsage::new(4), full),
         attach(9),
         leave(2),
-        joins(4, full),
+        joins(ClassOfUsage::new(4), full),
         attach(1),
         attach(4),
     ]
 }
 
 // How they are acknowledged.
-fn acknowledged(full: GroupAddress) -> [GroupDown; 6] {
+fn acknowledged(full: &GroupAddress) -> [GroupDown; 6] {
+    let (fourth, second) = (Lifetime::NextLocationUpdate, Lifetime::NextItsiAttach);
     [
-        joined(Lifetime::NextLocationUpdate, 7, short(4)),
-        joined(Lifetime::NextItsiAttach, 4, full),
+        joined(fourth, ClassOfUsage::new(7), &short(4)),
+        joined(second, ClassOfUsage::new(4), full),
         GroupDown::Detach {
             reason: DetachReason::UnknownGroup,
             address: short(9),
         },
-        joined(Lifetime::NextItsiAttach, 4, full),
-        joined(Lifetime::NotNeeded, 4, short(1)),
-        joined(Lifetime::NextLocationUpdate, 4, short(4)),
+        joined(second, ClassOfUsage::new(4), full),
+        joined(Lifetime::NotNeeded, ClassOfUsage::new(4), &short(1)),
+        joined(fourth, ClassOfUsage::new(4), &short(4)),
     ]
 }
 
@@ -173,8 +174,8 @@ fn items_are_answered_and_kept(rt: HostRuntime) -> Result<(), Fail> {
     let heap = LocalHeap::new(rt.alloc(), 1 << 16)?;
     let registry = register(&heap)?;
     let mut groups = Groups::new(&heap);
-    let asked = items(&heap, asked(full).as_slice());
-    let want = acknowledged(full);
+    let asked = items(&heap, asked(&full).as_slice());
+    let want = acknowledged(&full);
     let answer = answers(&heap, &registry, here, &asked).or(Err(GroupFault::NoMemory));
     assert!(rt; told(answer, want.as_slice()));
     let answer = groups.apply(&heap, &registry, here, GroupMode::Amendment, &asked);
