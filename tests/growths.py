@@ -1,18 +1,18 @@
 #!/usr/bin/env python3
 """Refuses each allocation of the program in turn (refuse.c, preloaded) over the lines of growths.txt,
 which have every form. Each run has to answer as the independent reading beside this file does, with at
-most one line answered by want of memory and what follows as if that line had not come; or it ends with
-`fault: memory`, status 5 and a front of those answers. The first run in which no answer changed and the
+most one line answered by want of memory and what follows as if that line had not come; or it ends before
+its first line with `fault: memory` and status 5. The first run in which no answer changed and the
 two after it end the test. Prints 'N passed, M failed' last.
-Usage: growths.py COMMAND..."""
+Usage: growths.py PROGRAM (the program itself, not a script that starts it; a proved build by either
+compiler; what `rt try` builds has a heap of its own, whose allocations `rt try --fail-alloc` refuses)"""
 import collections
-import os
 import pathlib
 import subprocess
 import sys
-import tempfile
 
 import reading
+import refusing
 
 HERE = pathlib.Path(__file__).resolve().parent
 DATA = (HERE / 'growths.txt').read_bytes()
@@ -26,7 +26,7 @@ def answers(lines):
 def run(command, library, refused):
     """What the program writes with that allocation refused, and its status."""
     ran = subprocess.run(command, input=DATA, stdout=subprocess.PIPE, stderr=subprocess.STDOUT, timeout=60,
-                         env=dict(os.environ, LD_PRELOAD=library, REFUSED=str(refused)))
+                         env=refusing.environment(library, refused))
     return ran.stdout, ran.returncode
 
 
@@ -47,8 +47,7 @@ def judged(text, status):
         return 'no answer changed'
     if text in CHANGED and status == 1:
         return f'memory for line {CHANGED[text] + 1}'
-    front = text.removesuffix(b'fault: memory\n')
-    if front != text and status == 5 and FULL.startswith(front):
+    if text == b'fault: memory\n' and status == 5:
         return 'fault: memory'
     return 'WRONG'
 
@@ -69,14 +68,12 @@ def sweep(command, library):
 
 def main():
     command = sys.argv[1:]
-    if not command:
+    if not command or refusing.is_script(command):
         sys.exit(__doc__)
-    with tempfile.TemporaryDirectory() as folder:
-        library = f'{folder}/refuse.so'
-        subprocess.run(['cc', '-O2', '-shared', '-fPIC', '-o', library, HERE / 'refuse.c'], check=True)
+    with refusing.library() as library:
         seen = sweep(command, library)
     if not seen['memory for line ']:
-        sys.exit('no allocation was refused')
+        sys.exit('no allocation was refused: the program has a heap of its own')
     failed = seen['WRONG']
     print(', '.join(f'{kind.strip()}: {count}' for kind, count in seen.items()))
     print(f'{sum(seen.values()) - failed} passed, {failed} failed')

@@ -1,4 +1,4 @@
-/* Preloaded into a program by growths.py: its allocation of the number REFUSED, counted from 1, gets no
+/* Preloaded into a program by refusing.py: its allocation of the number REFUSED, counted from 1, gets no
    memory, and every other one what the C library gives. */
 #include <stddef.h>
 #include <stdlib.h>

@@ -5,8 +5,13 @@ pub mod SpeltLaws
 pub mod Changed
 pub mod MailEffects
 pub mod StepLaws
+pub mod StationLaws
+pub mod HistoryLaws
+pub mod SameLaws
 pub mod StateLaws
 pub mod ResendLaws
 pub mod MailLaws
 pub mod UpdateLaws
 pub mod ReplyLaws
+pub mod RepliesSay
+pub mod InTurnLaws

@@ -1,7 +1,6 @@
 -- Resends may be left out of a list of commands.
-use Rattle.std.proofs.Common.{◌≡◌, ◌≢◌, ℕ, zero, suc, ◌+◌, ◌-◌, ◌<◌, ◌≤◌, Bool, true, false, cond, List, [], ◌∷◌, length, refl, ap, sym, ◌∙◌, subst, inl, inr, arith, Option, Some, None, get_or, get_or-set_same, get_or-set_other}
-use Rattle.std.specs.Prelude.{◌&&◌, ◌||◌, ◌==◌, ◌⊎◌, nat_lt, nat_le, slice_set, if◌then◌else◌}
-use Rattle.std.proofs.Math.ListN.{length-set}
+use Rattle.std.proofs.Common.{◌≡◌, ◌≢◌, ℕ, ◌+◌, Bool, true, false, cond, List, [], ◌∷◌, refl, ap, sym, ◌∙◌, subst, inl, inr, arith, Option, Some, None}
+use Rattle.std.specs.Prelude.{◌&&◌, ◌||◌, ◌==◌, ◌⊎◌, nat_lt, nat_le, if◌then◌else◌}
 use Rattle.std.specs.List.{list_any}
 use Rattle.std.proofs.lemmas.Bool.Decides.{nat_tests}
 use Rattle.std.proofs.lemmas.Bool.{cases_eq}
@@ -14,13 +13,7 @@ use Rattle.centre_core.specs.Step.{step, step_after, is_station, kept_at}
 use Rattle.centre_core.specs.History.{is_acceptance, accepts, next, after, has_reached, is_at_least, is_no_later, is_resend, fresh_from}
 use Rattle.centre_core.specs.Laws.{ResendsAreIdle}
 use Rattle.centre_core.proofs.StepLaws.{Advanced, Outcome, says}
-
--- there is a place for each station
-abbrev pub HasPlaces : State → Type 0
-HasPlaces s = length s.served ≡ s.registered.limits.stations
-
-above_none : (n m : ℕ) → (nat_lt 0 n && nat_le n m) ≡ true → (0 < n) × (n ≤ m)
-above_none n m h = grind (arith, nat_tests)
+use Rattle.centre_core.proofs.StationLaws.{HasPlaces, of_station, same_stations, kept_here, kept_elsewhere, places_after}
 
 and_both : (a b : Bool) → (a && b) ≡ true → (a ≡ true) × (b ≡ true)
 and_both true b h = (refl, h)
@@ -33,12 +26,6 @@ both_and false b e h = absurd (false≢true e)
 second_false : (a b : Bool) → a ≡ true → (a && b) ≡ false → b ≡ false
 second_false true b e h = h
 second_false false b e h = absurd (false≢true e)
-
--- what is asked of a station stays where another one's entry changes
-same_elsewhere : (served : List (Option Served)) (n i l q : ℕ) (k : Option Served) → 0 < n → i ≢ n → ((nat_lt 0 i && nat_le i l) && is_at_least q (get_or (slice_set served (n - 1) k) (i - 1) None)) ≡ ((nat_lt 0 i && nat_le i l) && is_at_least q (get_or served (i - 1) None))
-same_elsewhere served n zero l q k above other = refl
-same_elsewhere served n (suc j) l q k above other =
-    let apart : suc j - 1 ≢ n - 1 = λ e. other (omega arith) in ap (λ o. (nat_lt 0 (suc j) && nat_le (suc j) l) && is_at_least q o) (get_or-set_other served (n - 1) (suc j - 1) k None apart)
 
 below_or_equal : (q last : ℕ) → nat_le q last ≡ true → (nat_lt q last || (q == last)) ≡ true
 below_or_equal q last h = grind (arith, nat_tests)
@@ -64,14 +51,6 @@ module _ {A : Type 0} where
   idle : (s : State) (c : Command A) → has_reached s c.station c.sequence ≡ true → Idle s (step s c)
   unfolding step
   idle s c h = idle_if s (is_station s c.station) _ _ (λ _. idle_after s c (kept_at s c.station) (and_both _ _ h).1) (λ _. (refl, refl))
-
-  station_if : (s : State) (b : Bool) (x : State × Reply A) (y : State × Reply A) → is_acceptance y.1 ≡ false → is_acceptance (if b then x else y).1 ≡ true → b ≡ true
-  station_if s true x y h e = refl
-  station_if s false x y h e = absurd (false≢true (sym h ∙ e))
-
-  of_station : (s : State) (c : Command A) → accepts s c ≡ true → is_station s c.station ≡ true
-  unfolding step
-  of_station s c ok = station_if s (is_station s c.station) _ _ refl ok
 
   is_new : (s : State) (c : Command A) (b : Bool) → has_reached s c.station c.sequence ≡ b → accepts s c ≡ true → b ≡ false
   is_new s c false e ok = refl
@@ -104,31 +83,15 @@ by_none true h = refl
 by_none false h = h
 
 module _ {A : Type 0} where
-  -- the stations stay
-  same_stations : (s t : State) (c : Command A) → Advanced s t c → (i : ℕ) → is_station t i ≡ is_station s i
-  same_stations s t c h i = ap (λ u. is_station u i) h.is ∙ ap (λ l. nat_lt 0 i && nat_le i l.stations) h.change.limits
-
   -- after a command is accepted its station has its sequence, and the others are as they were
   here_after : (s t : State) (c : Command A) → Advanced s t c → HasPlaces s → accepts s c ≡ true → (q : ℕ) → nat_le q c.sequence ≡ true → has_reached t c.station q ≡ true
   here_after s t c h places ok q low =
-      let here : is_station s c.station ≡ true = of_station s c ok in
-      let place : (0 < c.station) × (c.station ≤ s.registered.limits.stations) = above_none _ _ here in
-      let same : length h.made.served ≡ length s.served = ap length h.change.served in
-      let within : c.station - 1 < length h.made.served = omega arith in
-      let known : kept_at t c.station ≡ Some (record { sequence = c.sequence; number = h.made.count + 1; pdu = h.pdu }) = ap (λ u. kept_at u c.station) h.is ∙ get_or-set_same h.made.served (c.station - 1) _ None within in
+      let here : is_station s c.station ≡ true = of_station A s c ok in
+      let known : kept_at t c.station ≡ Some (record { sequence = c.sequence; number = h.made.count + 1; pdu = h.pdu }) = kept_here s t c h places here in
       both_and (is_station t c.station) _ (same_stations s t c h c.station ∙ here) (subst (λ k. is_at_least q k ≡ true) (sym known) low)
 
   other_after : (s t : State) (c : Command A) → Advanced s t c → accepts s c ≡ true → (i q : ℕ) → i ≢ c.station → has_reached t i q ≡ has_reached s i q
-  other_after s t c h ok i q apart =
-      let last : Option Served = Some (record { sequence = c.sequence; number = h.made.count + 1; pdu = h.pdu }) in
-      let place : (0 < c.station) × (c.station ≤ s.registered.limits.stations) = above_none _ _ (of_station s c ok) in
-      ap (λ u. has_reached u i q) h.is ∙ ap (λ l. (nat_lt 0 i && nat_le i l.stations) && is_at_least q (get_or (slice_set h.made.served (c.station - 1) last) (i - 1) None)) h.change.limits
-      ∙ ap (λ served. (nat_lt 0 i && nat_le i s.registered.limits.stations) && is_at_least q (get_or (slice_set served (c.station - 1) last) (i - 1) None)) h.change.served
-      ∙ same_elsewhere s.served c.station i s.registered.limits.stations q last place.0 apart
-
-  places_after : (s t : State) (c : Command A) → Advanced s t c → HasPlaces s → HasPlaces t
-  places_after s t c h places =
-      subst HasPlaces (sym h.is) (length-set h.made.served (c.station - 1) _ ∙ ap length h.change.served ∙ places ∙ ap (λ l. l.stations) (sym h.change.limits))
+  other_after s t c h ok i q apart = λ j. same_stations s t c h i j && is_at_least q (kept_elsewhere s t c h (of_station A s c ok) i apart j)
 
   places_next : (s : State) (c : Command A) → HasPlaces s → HasPlaces (next s c)
   places_next s c places = elim (outcome s c) [ inl h ↦ places_after s (next s c) c h.1 places | inr h ↦ subst HasPlaces (sym h.0) places ]

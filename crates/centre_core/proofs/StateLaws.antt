@@ -35,7 +35,7 @@ use Rattle.centre_core.specs.declared.reply.Reply.TheVariants.{Accepted, Kept, R
 use Rattle.centre_core.specs.declared.reply.Refusal.{Refusal}
 use Rattle.centre_core.specs.State.{State, Served, last_number, IsState, IsNumbered}
 use Rattle.centre_core.specs.Step.{step, step_new, step_after, step_body, step_made, step_mm, step_sds, accepted, kept_at, is_station, envelope, mail_changed, message_of, report_of}
-use Rattle.centre_core.specs.History.{next, names, made}
+use Rattle.centre_core.specs.History.{is_acceptance, accepts, next, names, made}
 use Rattle.centre_core.specs.Laws.{EmptyIsState, StepKeepsState, StepIsNext}
 use Rattle.centre_core.proofs.ReadingLaws.{moved, reading_moved}
 use Rattle.centre_core.proofs.MailEffects.{IsEffect, message_effect, report_effect}
@@ -109,10 +109,14 @@ module _ {A : Type 0} where
       counted_state s (mail_changed s (reported s.mail e status m)) c (is_reported e status) [] mail served count (report_effect s c.moment e status pdu is (ap (report_refusal s.registered s.mail e status) (sym w_is) ∙ done.0))
       (ap (mail_changed s) (sym (done.1 ∙ ap (reported s.mail e status) w_is))) left served_is count_is h
 
--- two results of a step that differ in the reply alone
+-- what a step says wherever its reply is kept: the state, and whether it accepts
+abbrev seen : {B : Type 0} → State × Reply B → State × Bool
+seen r = (r.0, is_acceptance r.1)
+
+-- two results of a step that differ in the bits of the reply alone
 module _ {B C : Type 0} where
   abbrev Same : State × Reply B → State × Reply C → Type 0
-  Same x y = x.0 ≡ y.0
+  Same x y = seen x ≡ seen y
 
   same_if : (b : Bool) (x y : State × Reply B) (v w : State × Reply C) → Same x v → Same y w → Same (if b then x else y) (if b then v else w)
   same_if true x y v w h k = h
@@ -139,7 +143,7 @@ module _ {A : Type 0} (B C : Type 0) where
   same_body : (s : State) (c : Command A) (b : Body A) → Same {B = B} {C = C} (step_body s c b) (step_body s c b)
   same_body s c (RuleSet prefix rule) = same_made s c _ _ _ _ (set_refusal s.registered prefix)
   same_body s c (RuleClear prefix) = refl
-  same_body s c (Mm itsi area pdu) = same_mm s c itsi area (reading_up pdu) ∙ ap (λ read. (step_mm {B = C} s c itsi area read).0) (sym (reading_moved B C pdu))
+  same_body s c (Mm itsi area pdu) = same_mm s c itsi area (reading_up pdu) ∙ ap (λ read. seen (step_mm {B = C} s c itsi area read)) (sym (reading_moved B C pdu))
   same_body s c (Sds source destination pdu) = same_sds s c source destination pdu (heading pdu)
   same_body s c (Sent key) = same_made s c _ _ _ _ (sent_refusal s.registered s.mail key)
   same_body s c Expire = refl
@@ -157,4 +161,8 @@ module _ {A : Type 0} (B C : Type 0) where
   same_step s c = same_if (is_station s c.station) _ _ _ _ (same_after s c (kept_at s c.station)) refl
 
 pub step_is_next : {A : Type 0} (B : Type 0) → StepIsNext A B
-step_is_next {A} B s c = same_step B A s c
+step_is_next {A} B s c = ap (λ r. r.0) (same_step B A s c)
+
+-- whether the same command is accepted, under another allocator
+pub accepts_is_same : {A : Type 0} (B : Type 0) (s : State) (d : Command B) (c : Command A) → (step {B = B} s d).1 ≡ (step {B = B} s c).1 → accepts s d ≡ accepts s c
+accepts_is_same {A} B s d c e = ap is_acceptance e ∙ ap (λ r. r.1) (same_step B A s c)

@@ -1,5 +1,5 @@
 -- What holds of the register over all commands and lists of commands.
-use Rattle.std.specs.Prelude.{◌≡◌, ℕ, ◌+◌, ◌↔◌, ◌⊎◌, IsTrue, Bool, false, List, ◌∷◌, ◌++◌, Option, Some, None}
+use Rattle.std.specs.Prelude.{◌≡◌, ◌==◌, ℕ, ◌+◌, ◌↔◌, ◌⊎◌, IsTrue, Bool, false, List, ◌∷◌, ◌++◌, length, map, Option, Some, None, if◌then◌else◌}
 use Rattle.std.specs.List.{Contains}
 use Rattle.mm_pdus.specs.declared.update.LocationUpdateType.{LocationUpdateType}
 use Rattle.mm_pdus.specs.declared.update.AcceptType.{AcceptType}
@@ -12,8 +12,10 @@ use Rattle.mailbox.specs.Tests.{is_message}
 use Rattle.centre_core.specs.declared.command.Command.{Command}
 use Rattle.centre_core.specs.declared.reply.Reply.TheVariants.{Accepted, Kept}
 use Rattle.centre_core.specs.State.{State, IsState, empty}
-use Rattle.centre_core.specs.Step.{step, accept_pdu}
-use Rattle.centre_core.specs.History.{is_acceptance, accepts, next, after, ended, made, fresh}
+use Rattle.centre_core.specs.Step.{step, accept_pdu, kept_at}
+use Rattle.centre_core.specs.History.{is_acceptance, accepts, next, after, names, ended, made, fresh}
+use Rattle.centre_core.specs.Histories.{IsHistory, numbered, served_by, last_served}
+use Rattle.centre_core.specs.Same.{under}
 
 -- the D-LOCATION UPDATE ACCEPT that answers an update names its type
 pub record IsAnswered (update : LocationUpdateType) : Type 0 where
@@ -46,6 +48,21 @@ module _ (A : Type 0) where
       (s : State) → IsState s → (bs : List (Command A)) (c : Command A) (cs : List (Command A)) (m : Waiting) → IsTrue (accepts (after s bs) c) → Contains (made (after s bs) c) m
       → (¬ Contains (after s (bs ++ c ∷ cs)).mail.items m) ↔ IsTrue (ended (next (after s bs) c) cs m)
 
+  -- what an accepted command is answered is kept of its station, and of the others what was kept of them
+  abbrev pub AcceptedAreKept : Type 0
+  AcceptedAreKept =
+      (s : State) → IsState s → (c : Command A) → IsTrue (accepts s c) → (station : ℕ) → kept_at (next s c) station ≡ (if station == c.station then Some (served_by s c) else kept_at s station)
+
+  -- a history counts its commands: the one at place k gets the base's count and k as its number
+  abbrev pub HistoriesAreNumbered : Type 0
+  HistoriesAreNumbered =
+      (base : State) (bs : List (Command A)) (c : Command A) (cs : List (Command A)) → IsHistory base (bs ++ c ∷ cs)
+      → (numbered base (bs ++ c ∷ cs) (base.count + length bs + 1) ≡ Some c) × IsTrue (accepts (after base bs) c) × ((served_by (after base bs) c).number ≡ base.count + length bs + 1)
+
+  -- each station's entry after a history is the base's, or that of its last command in it
+  abbrev pub ServedAreLast : Type 0
+  ServedAreLast = (base : State) → IsState base → (cs : List (Command A)) → IsHistory base cs → (station : ℕ) → kept_at (after base cs) station ≡ last_served station (kept_at base station) base cs
+
   -- resends may be left out
   abbrev pub ResendsAreIdle : Type 0
   ResendsAreIdle = (s : State) → IsState s → (cs : List (Command A)) → after s cs ≡ after s (fresh s cs)
@@ -68,3 +85,26 @@ module _ (A B : Type 0) where
   ResendsAreAnswered =
       (s : State) → IsState s → (c again : Command A) (number : ℕ) (pdu : Option (List Bool)) → (step {B = B} s c).1 ≡ Accepted number pdu
       → again.station ≡ c.station → again.sequence ≡ c.sequence → step {B = B} (next s c) again ≡ (next s c, Kept number pdu)
+
+  -- under another allocator a command is the same, and so is all that is made of it
+  abbrev pub SameAgain : Type 0
+  SameAgain = (c : Command A) → under A (under B c) ≡ c
+
+  abbrev pub NamesAreSame : Type 0
+  NamesAreSame = (c : Command A) (m : Waiting) → names (under B c) m ≡ names c m
+
+  abbrev pub AcceptsAreSame : Type 0
+  AcceptsAreSame = (s : State) (c : Command A) → accepts s (under B c) ≡ accepts s c
+
+  abbrev pub AfterIsSame : Type 0
+  AfterIsSame = (s : State) (cs : List (Command A)) → after s (map (under B) cs) ≡ after s cs
+
+  abbrev pub FreshIsSame : Type 0
+  FreshIsSame = (s : State) (cs : List (Command A)) → fresh s (map (under B) cs) ≡ map (under B) (fresh s cs)
+
+  abbrev pub HistoriesAreSame : Type 0
+  HistoriesAreSame = (base : State) (cs : List (Command A)) → IsHistory base cs → IsHistory base (map (under B) cs)
+
+-- wherever the reply is kept
+abbrev pub StepIsSame : (A B C : Type 0) → Type 0
+StepIsSame A B C = (s : State) (c : Command A) → step {B = C} s (under B c) ≡ step {B = C} s c

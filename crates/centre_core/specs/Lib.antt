@@ -1,5 +1,10 @@
+pub mod Asked
+pub mod Ranges
 pub mod State
 pub mod Step
 pub mod Tell
 pub mod History
+pub mod Histories
+pub mod Same
 pub mod Laws
+pub mod InTurn

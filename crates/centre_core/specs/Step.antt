@@ -1,5 +1,5 @@
 -- The register as a machine: what a command makes of a state, and the reply.
-use Rattle.std.specs.Prelude.{◌<◌, ◌≤◌, ℕ, ◌+◌, ◌-◌, ◌==◌, nat_lt, nat_le, Bool, false, ◌&&◌, List, slice_index_or, slice_set, Option, Some, None, Result, Ok, Err, if◌then◌else◌}
+use Rattle.std.specs.Prelude.{◌<◌, ◌≤◌, ℕ, zero, suc, ◌+◌, ◌-◌, ◌==◌, nat_lt, nat_le, Bool, false, ◌&&◌, List, slice_index_or, slice_set, Option, Some, None, Result, Ok, Err, if◌then◌else◌}
 use Rattle.std.specs.Option.{option_map}
 use Rattle.identity.specs.Path.{Path}
 use Rattle.mm_pdus.specs.declared.update.LocationUpdateType.{LocationUpdateType}
@@ -40,9 +40,10 @@ use Rattle.centre_core.specs.State.{State, Served, last_number}
 abbrev pub is_station : State → ℕ → Bool
 is_station s station = nat_lt 0 station && nat_le station s.registered.limits.stations
 
--- what is kept of a station, which is one of them
+-- what is kept of a station: nothing where there is no such station
 abbrev pub kept_at : State → ℕ → Option Served
-kept_at s station = slice_index_or s.served (station - 1) None
+kept_at s zero = None
+kept_at s (suc before) = slice_index_or s.served before None
 
 -- the cause that a D-LOCATION UPDATE REJECT gives (clause 16.10, reject cause); the other refusals have no PDU
 abbrev pub cause_of : RegFault → Option ℕ

@@ -15,6 +15,15 @@ use Rattle.centre_core.specs.State.{State}
 abbrev pub present_members : State → ℕ → List Attachment
 present_members s gtsi = filter (λ a. is_present (radio_of s.registered a.itsi)) (members_of s.groups gtsi)
 
+-- the answer is a list
+abbrev pub AsksForList : Query → Type 0
+AsksForList (query.Whereabouts itsi) = ⊥
+AsksForList (query.Look itsi) = ⊥
+AsksForList (query.GroupsOf itsi) = Unit {0}
+AsksForList (query.MembersOf gtsi) = Unit {0}
+AsksForList (query.Waiting itsi) = Unit {0}
+AsksForList query.Total = ⊥
+
 -- A is the allocator that the answer is kept under. Nothing depends on it.
 abbrev pub tell : {A : Type 0} → State → Query → Told A
 tell s (query.Whereabouts itsi) = told.Whereabouts itsi (radio_of s.registered itsi)

@@ -1,20 +1,81 @@
+ghost use Rattle.std.specs.Prelude.{◌≡◌, ◌<◌, ◌↔◌, IsSome, IfSome, IsTrue, IfOk, OnErr};
+ghost use Rattle.mailbox.specs.Values.{KeyInRange};
+ghost use Rattle.centre_core.specs.Ranges.{IsShort, pdu_of, BodyInRange, RuleInRange, InRange};
+ghost use Rattle.centre_core.specs.Same.{body_under, under};
+
+use crate::last_accepted::bits_copy;
 use identity::{Bits, Itsi, Prefix};
 use mailbox::Key;
 use registration::{LocationArea, Rule};
-use std::alloc::Allocator;
+use std::alloc::{AllocError, Allocator};
+use std::marker::Model;
+
+/// The most bits of a PDU.
+const MOST_BITS: usize = 2048;
 
 /// What a station asks of the register.
 #[derive(Drop)]
 pub struct Command<A: Allocator> {
     /// The station that it comes from, counted from 1.
     pub station: u16,
-    /// Its place among the commands of that station. A sequence that was accepted before marks a
+    /// Its place among the commands of that station, from 1. A sequence that was accepted before marks a
     /// resend.
     pub sequence: u32,
     /// When it was given, in seconds. Moments need not rise.
     pub moment: u32,
     /// What is asked.
     pub body: Body<A>,
+}
+
+impl<A: Allocator> Model for Command<A> {
+    ghost use Rattle.centre_core.specs.Asked.{Asked};
+
+    ghost Value = { Asked A };
+
+    ghost use Rattle.centre_core.specs.Ranges.{InRange};
+
+    ghost view = { λ c. record { station = c.station; sequence = c.sequence; moment = c.moment; body = c.body } };
+
+    ghost invariant = { λ c. InRange (record { station = c.station; sequence = c.sequence; moment = c.moment; body = c.body }) };
+}
+
+impl<A: Allocator> Command<A> {
+    /// The command of a station; `None` where the sequence is 0 or a PDU has more than 2,048 bits.
+    pub fn new(station: u16, sequence: u32, moment: u32, body: Body<A>) -> Option<Command<A>>
+        ensures fits { IsSome result ↔ ((0 < sequence) × IsShort (pdu_of body)) }
+        ensures value { IfSome result (λ command. command ≡ record { station = station; sequence = sequence; moment = moment; body = body }) }
+    {
+        if sequence == 0 || !body.is_short() {
+            return None;
+        }
+        Some(Command {
+            station,
+            sequence,
+            moment,
+            body,
+        })
+    }
+
+    /// The same command with its bits under `alloc`.
+    pub fn try_copy<B: Allocator>(&self, alloc: B) -> Result<Command<B>, AllocError>
+        ensures ok { IfOk result (λ copy. copy ≡ under B self.now) }
+        ensures err { OnErr result (IsSome (pdu_of self.now.body)) }
+    {
+        let body = self.body.try_copy(alloc)?;
+        Ok(Command {
+            station: self.station,
+            sequence: self.sequence,
+            moment: self.moment,
+            body,
+        })
+    }
+
+    // What its fields keep, as a clause.
+    pub(crate) fn keep_ranges(&self)
+        ensures { InRange self.now }
+    {
+        let _station = self.station;
+    }
 }
 
 /// What a command asks.
@@ -48,4 +109,86 @@ pub enum Body<A: Allocator> {
     Expire,
     /// Removes the item of this key.
     Delete(Key),
+}
+
+impl<A: Allocator> Body<A> {
+    // Whether its PDU, if it has one, has at most 2,048 bits: then all of it is in range.
+    fn is_short(&self) -> bool
+        ensures short { IsTrue result ↔ IsShort (pdu_of self.now) }
+        ensures ranges { IsTrue result → BodyInRange self.now }
+    {
+        match self {
+            Body::RuleSet { prefix, rule } => {
+                let _bits = prefix.len();
+                keep_rule(rule);
+                true
+            }
+            Body::RuleClear { prefix } => {
+                let _bits = prefix.len();
+                true
+            }
+            Body::Mm { itsi, area, pdu } => {
+                let _parts = (itsi.number(), area.number());
+                pdu.len() <= MOST_BITS
+            }
+            Body::Sds {
+                source,
+                destination,
+                pdu,
+            } => {
+                let _parts = (source.number(), destination.number());
+                pdu.len() <= MOST_BITS
+            }
+            Body::Sent(key) | Body::Delete(key) => {
+                keep_key(key);
+                true
+            }
+            Body::Expire => true,
+        }
+    }
+
+    /// The same body with its bits under `alloc`.
+    pub fn try_copy<B: Allocator>(&self, alloc: B) -> Result<Body<B>, AllocError>
+        ensures ok { IfOk result (λ copy. copy ≡ body_under B self.now) }
+        ensures err { OnErr result (IsSome (pdu_of self.now)) }
+    {
+        match self {
+            Body::RuleSet { prefix, rule } => Ok(Body::RuleSet {
+                prefix: *prefix,
+                rule: *rule,
+            }),
+            Body::RuleClear { prefix } => Ok(Body::RuleClear { prefix: *prefix }),
+            Body::Mm { itsi, area, pdu } => Ok(Body::Mm {
+                itsi: *itsi,
+                area: *area,
+                pdu: bits_copy(alloc, pdu)?,
+            }),
+            Body::Sds {
+                source,
+                destination,
+                pdu,
+            } => Ok(Body::Sds {
+                source: *source,
+                destination: *destination,
+                pdu: bits_copy(alloc, pdu)?,
+            }),
+            Body::Sent(key) => Ok(Body::Sent(*key)),
+            Body::Expire => Ok(Body::Expire),
+            Body::Delete(key) => Ok(Body::Delete(*key)),
+        }
+    }
+}
+
+// What the types of their parts keep, as clauses.
+fn keep_rule(rule: &Rule)
+    ensures { RuleInRange rule.now }
+{
+    let _parts = (rule.low(), rule.high().number(), rule.keep());
+}
+
+fn keep_key(key: &Key)
+    ensures { KeyInRange key.now }
+{
+    let _identities = (key.destination.number(), key.source.number());
+    let _reference = key.reference;
 }

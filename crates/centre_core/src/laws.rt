@@ -1,9 +1,14 @@
 //! What holds of the register over all commands and lists of commands, by its definitions alone.
 //! These functions do nothing: calling one gives its clauses.
-ghost use Rattle.centre_core.specs.State.{IsState};
-ghost use Rattle.centre_core.specs.Laws.{AcceptedAreAnswered, AcceptedAreNumbered, EmptyIsState, StepKeepsState, NoneLost, NoneLostMade, OnlyAcceptedChange, StepIsNext, ResendsAreAnswered, ResendsAreIdle};
 
-use crate::Register;
+mod in_turn;
+
+ghost use Rattle.centre_core.specs.Ranges.{InRange};
+ghost use Rattle.centre_core.specs.State.{IsState};
+ghost use Rattle.centre_core.specs.Laws.{AcceptedAreAnswered, AcceptedAreNumbered, AcceptedAreKept, HistoriesAreNumbered, ServedAreLast, SameAgain, NamesAreSame, AcceptsAreSame, AfterIsSame, FreshIsSame, HistoriesAreSame, StepIsSame, EmptyIsState, StepKeepsState, NoneLost, NoneLostMade, OnlyAcceptedChange, StepIsNext, ResendsAreAnswered, ResendsAreIdle};
+
+use crate::{Command, Register};
+pub use in_turn::{accepted_in_turn, replies_say};
 use std::alloc::Allocator;
 
 /// What holds of every state holds of the empty one, and a command keeps it.
@@ -17,6 +22,13 @@ pub fn registers<A: Allocator>(register: &Register<A>)
     ensures { IsState register.now }
 {
     register.keep_state()
+}
+
+/// What a command holds is in its range.
+pub fn in_range<A: Allocator>(command: &Command<A>)
+    ensures { InRange command.now }
+{
+    command.keep_ranges()
 }
 
 /// A command that is refused, and one that comes again, change nothing.
@@ -34,6 +46,31 @@ pub fn step_is_next<A: Allocator, B: Allocator>()
 pub fn replies<A: Allocator, B: Allocator>()
     ensures numbered { AcceptedAreNumbered A B }
     ensures again { ResendsAreAnswered A B }
+{}
+
+/// What an accepted command is answered is kept of its station until the station's next accepted one.
+/// Over a history, a list of commands each accepted in its turn: the numbers follow the base's count one
+/// by one, and each station's entry is that of its last command, or the base's.
+pub fn histories<A: Allocator>()
+    ensures kept { AcceptedAreKept A }
+    ensures numbered { HistoriesAreNumbered A }
+    ensures last { ServedAreLast A }
+{}
+
+/// Under another allocator a command is the same: what it ends, whether it is accepted, and what a list
+/// makes of a state, with its resends and without them.
+pub fn same_commands<A: Allocator, B: Allocator>()
+    ensures again { SameAgain A B }
+    ensures names { NamesAreSame A B }
+    ensures accepts { AcceptsAreSame A B }
+    ensures after { AfterIsSame A B }
+    ensures fresh { FreshIsSame A B }
+    ensures histories { HistoriesAreSame A B }
+{}
+
+/// The step of a command is the same under another allocator, wherever its reply is kept.
+pub fn same_step<A: Allocator, B: Allocator, C: Allocator>()
+    ensures { StepIsSame A B C }
 {}
 
 /// Over every list of commands, from any state: a message that waits, or that an accepted command

@@ -17,6 +17,3 @@ pub use command::{Body, Command};
 pub use query::{Attachments, Items, Query, Told};
 pub use register::Register;
 pub use reply::{Refusal, Reply};
-
-#[cfg(test)]
-mod tests;

@@ -4,9 +4,10 @@ mod messages;
 
 ghost use Rattle.std.specs.Prelude.{◌≡◌, ◌<◌, ◌≤◌, ◌+◌, IfOk, OnErr, None};
 ghost use Rattle.mm_pdus.specs.UplinkReading.{reading_up};
+ghost use Rattle.group_attach.specs.Attached.{groups_of};
 ghost use Rattle.centre_core.specs.State.{empty, IsState};
 ghost use Rattle.centre_core.specs.Step.{step, step_new, step_mm, step_rule, step_clear, step_locate, step_detach, step_groups, accept_pdu, acknowledge_pdu, accepted, IsOfStation, CanBeAccepted};
-ghost use Rattle.centre_core.specs.Tell.{present_members, tell};
+ghost use Rattle.centre_core.specs.Tell.{AsksForList, present_members, tell};
 ghost use Rattle.centre_core.specs.History.{is_acceptance, names};
 ghost use Rattle.centre_core.specs.Laws.{KeepsMessages};
 
@@ -92,9 +93,10 @@ impl<A: Allocator + Clone> Register<A> {
         self.count
     }
 
-    /// The answer to a query, kept under `alloc`.
+    /// The answer to a query, kept under `alloc`. Only a list takes memory.
     pub fn query<C: Allocator + Copy>(&self, alloc: C, query: &Query) -> Result<Told<C>, AllocError>
-        ensures { IfOk result (λ told. told ≡ tell self.now query.now) }
+        ensures ok { IfOk result (λ told. told ≡ tell self.now query.now) }
+        ensures memory { OnErr result (AsksForList query.now) }
     {
         match *query {
             Query::Whereabouts(itsi) => Ok(Told::Whereabouts {
@@ -108,7 +110,7 @@ impl<A: Allocator + Clone> Register<A> {
             Query::GroupsOf(itsi) => Ok(Told::Groups {
                 itsi,
                 groups: Attachments {
-                    items: self.groups.groups_of(alloc, itsi)?,
+                    items: self.attachments_of(alloc, itsi)?,
                 },
             }),
             Query::MembersOf(gtsi) => Ok(Told::Members {
@@ -123,6 +125,17 @@ impl<A: Allocator + Clone> Register<A> {
             }),
             Query::Total => Ok(Told::Total(self.count)),
         }
+    }
+
+    // The attachments of a radio.
+    fn attachments_of<C: Allocator>(
+        &self,
+        alloc: C,
+        itsi: Itsi,
+    ) -> Result<Vec<Attachment, C>, AllocError>
+        ensures { IfOk result (λ list. list.items ≡ groups_of self.now.groups itsi) }
+    {
+        self.groups.groups_of(alloc, itsi)
     }
 
     // The attachments to a group whose radios are present.

@@ -40,3 +40,18 @@ pub enum Refusal<A: Allocator> {
     /// The mail is not changed.
     Mail(MailFault),
 }
+
+impl<A: Allocator> Reply<A> {
+    ghost use Rattle.std.specs.Prelude.{◌≡◌};
+    ghost use Rattle.centre_core.specs.History.{is_acceptance};
+
+    /// Whether it accepts its command as a new one.
+    pub fn is_acceptance(&self) -> bool
+        ensures { result ≡ is_acceptance self.now }
+    {
+        match self {
+            Reply::Accepted { .. } => true,
+            Reply::Kept { .. } | Reply::Refused(_) => false,
+        }
+    }
+}

@@ -1,12 +1,22 @@
 -- What words say.
-use Rattle.std.proofs.Common.{◌≡◌, ℕ, ◌<◌, Bool, true, false, List, [], ◌∷◌, length, take, Option, Some, None, Result, Ok, Err, refl, arith}
-use Rattle.std.specs.Prelude.{nat_le, if◌then◌else◌}
+use Rattle.std.proofs.Common.{◌≡◌, ℕ, zero, suc, ◌<◌, Bool, true, false, List, [], ◌∷◌, length, take, Option, Some, None, Result, Ok, Err, refl, arith}
+use Rattle.std.specs.Prelude.{IfOk, IfSome, codes, nat_le, if◌then◌else◌}
+use Rattle.std.specs.Option.{option_and_then}
+use Rattle.std.specs.Result.{result_ok}
+use Rattle.std.specs.Str.{bytes_eq}
+use Rattle.identity.specs.Path.{Path}
+use Rattle.identity.specs.IdentityText.{reading_identity, reading_prefix}
+use Rattle.identity.specs.declared.fault.Fault.{Fault}
+use Rattle.identity.proofs.BitsTexts.{reading_bits_only}
+use Rattle.registration.specs.Terms.{Terms}
+use Rattle.mailbox.specs.declared.key.Key.{Key}
+use Rattle.centre_core.specs.Ranges.{IsShort, pdu_of}
 use Rattle.identity.specs.NumberText.{judged}
 use Rattle.identity.specs.BitsText.{digit_bits, bits_form, reading_bits}
 use Rattle.identity.specs.declared.fault.Fault.TheVariants.{OutOfRange, NoMemory}
 use Rattle.centre_core.specs.declared.command.Body.{Body}
 use Rattle.centre_core.specs.declared.command.Body.TheVariants.{RuleSet, RuleClear, Mm, Sds, Sent, Expire, Delete}
-use Rattle.console.specs.Reading.{of_words, order, sequence_of, HasPdu}
+use Rattle.console.specs.Reading.{of_words, order, sequence_of, GivesPdu, not_zero, seconds_in, area_in, head_of, head_in, key_in, rule_in, saying, mm_body, sds_body, rule_body, body_in}
 use Rattle.console.specs.declared.order.Head.{Head}
 use Rattle.console.specs.declared.line.LineFault.{LineFault}
 use Rattle.console.specs.declared.line.LineFault.TheVariants.{Syntax, Value}
@@ -25,8 +35,74 @@ many_words station (a ∷ b ∷ c ∷ d ∷ e ∷ f ∷ g ∷ []) many = absurd 
 many_words station (a ∷ b ∷ c ∷ d ∷ e ∷ f ∷ g ∷ h ∷ []) many = absurd (omega (arith, many))
 many_words station (a ∷ b ∷ c ∷ d ∷ e ∷ f ∷ g ∷ h ∷ i ∷ ws) many = refl
 
+-- a sequence that is read is not 0
+above_of : (sequence moment : Option ℕ) → IfSome (head_of (option_and_then not_zero sequence) moment) (λ head. 0 < head.sequence)
+above_of None moment = tt
+above_of (Some zero) moment = tt
+above_of (Some (suc n)) None = tt
+above_of (Some (suc n)) (Some moment) = omega arith
+
+pub head_above : (sequence moment : List ℕ) → IfSome (head_in sequence moment) (λ head. 0 < head.sequence)
+head_above sequence moment = above_of (seconds_in sequence) (seconds_in moment)
+
+-- a PDU that is read has at most 2,048 bits
+bits_short : (text : List ℕ) (read : Result (List Bool) Fault) → reading_bits text ≡ read → IsShort (result_ok read)
+bits_short text (Ok bits) e = (reading_bits_only bits text e).0
+bits_short text (Err fault) e = tt
+
+abbrev HasShortPdu : {A : Type 0} → Result (Body A) LineFault → Type 0
+HasShortPdu said = IfOk said (λ body. IsShort (pdu_of body))
+
+module _ (A : Type 0) where
+  mm_short : (itsi area : Option ℕ) (pdu : Option (List Bool)) → IsShort pdu → HasShortPdu (mm_body {A = A} itsi area pdu)
+  mm_short None area pdu short = tt
+  mm_short (Some itsi) None pdu short = tt
+  mm_short (Some itsi) (Some area) None short = tt
+  mm_short (Some itsi) (Some area) (Some pdu) short = short
+
+  sds_short : (source destination : Option ℕ) (pdu : Option (List Bool)) → IsShort pdu → HasShortPdu (sds_body {A = A} source destination pdu)
+  sds_short None destination pdu short = tt
+  sds_short (Some source) None pdu short = tt
+  sds_short (Some source) (Some destination) None short = tt
+  sds_short (Some source) (Some destination) (Some pdu) short = short
+
+  rule_short : (prefix : Option Path) (rule : Option Terms) → HasShortPdu (rule_body {A = A} prefix rule)
+  rule_short None rule = tt
+  rule_short (Some prefix) None = tt
+  rule_short (Some prefix) (Some rule) = tt
+
+  clear_short : (prefix : Option Path) → HasShortPdu {A = A} (saying RuleClear prefix)
+  clear_short None = tt
+  clear_short (Some prefix) = tt
+
+  sent_short : (key : Option Key) → HasShortPdu {A = A} (saying Sent key)
+  sent_short None = tt
+  sent_short (Some key) = tt
+
+  delete_short : (key : Option Key) → HasShortPdu {A = A} (saying Delete key)
+  delete_short None = tt
+  delete_short (Some key) = tt
+
+  either_short : (b : Bool) (x y : Result (Body A) LineFault) → HasShortPdu x → HasShortPdu y → HasShortPdu (if b then x else y)
+  either_short true x y h k = h
+  either_short false x y h k = k
+
+  pub body_short : (name : List ℕ) (words : List (List ℕ)) → HasShortPdu (body_in {A = A} name words)
+  body_short name [] = either_short (bytes_eq name (codes "expire")) (Ok Expire) (Err Syntax) tt tt
+  body_short name (prefix ∷ []) = either_short (bytes_eq name (codes "unrule")) (saying RuleClear (result_ok (reading_prefix prefix))) (Err Syntax) (clear_short (result_ok (reading_prefix prefix))) tt
+  body_short name (a ∷ b ∷ []) = tt
+  body_short name (a ∷ b ∷ c ∷ []) =
+      let short : IsShort (result_ok (reading_bits c)) = bits_short c (reading_bits c) refl in
+      either_short (bytes_eq name (codes "mm")) (mm_body (result_ok (reading_identity a)) (area_in b) (result_ok (reading_bits c))) _ (mm_short (result_ok (reading_identity a)) (area_in b) (result_ok (reading_bits c)) short)
+      (either_short (bytes_eq name (codes "sds")) (sds_body (result_ok (reading_identity a)) (result_ok (reading_identity b)) (result_ok (reading_bits c))) (Err Syntax) (sds_short (result_ok (reading_identity a)) (result_ok (reading_identity b)) (result_ok (reading_bits c)) short) tt)
+  body_short name (a ∷ b ∷ c ∷ d ∷ []) =
+      either_short (bytes_eq name (codes "sent")) (saying Sent (key_in a b c d)) _ (sent_short (key_in a b c d)) (either_short (bytes_eq name (codes "delete")) (saying Delete (key_in a b c d)) (Err Syntax) (delete_short (key_in a b c d)) tt)
+  body_short name (a ∷ b ∷ c ∷ d ∷ e ∷ []) =
+      either_short (bytes_eq name (codes "rule")) (rule_body (result_ok (reading_prefix a)) (rule_in b c d e)) (Err Syntax) (rule_short (result_ok (reading_prefix a)) (rule_in b c d e)) tt
+  body_short name (a ∷ b ∷ c ∷ d ∷ e ∷ f ∷ ws) = tt
+
 -- a body with a PDU, behind a head and without one
-pub unread : {A : Type 0} (station : ℕ) (head : Head) (body : Result (Body A) LineFault) → HasPdu body → sequence_of (order station (Some head) body) ≡ Some head.sequence
+pub unread : {A : Type 0} (station : ℕ) (head : Head) (body : Result (Body A) LineFault) → GivesPdu body → sequence_of (order station (Some head) body) ≡ Some head.sequence
 unread station head (Ok (RuleSet prefix rule)) pdu = absurd pdu
 unread station head (Ok (RuleClear prefix)) pdu = absurd pdu
 unread station head (Ok (Mm itsi area bits)) pdu = refl
@@ -36,7 +112,7 @@ unread station head (Ok Expire) pdu = absurd pdu
 unread station head (Ok (Delete key)) pdu = absurd pdu
 unread station head (Err fault) pdu = absurd pdu
 
-pub headless : {A : Type 0} (station : ℕ) (body : Result (Body A) LineFault) → HasPdu body → order station None body ≡ Bad Value
+pub headless : {A : Type 0} (station : ℕ) (body : Result (Body A) LineFault) → GivesPdu body → order station None body ≡ Bad Value
 headless station (Ok body) pdu = refl
 headless station (Err fault) pdu = absurd pdu
 

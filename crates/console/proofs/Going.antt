@@ -1,7 +1,6 @@
 -- How far a run has come, a byte at a time.
-use Rattle.std.proofs.Common.{◌≡◌, ℕ, ◌+◌, ◌<◌, Bool, true, false, List, [], ◌∷◌, ◌++◌, ◌||◌, length, refl, sym, ◌∙◌, ap, subst, arith, append_assoc, Option, Some}
+use Rattle.std.proofs.Common.{◌≡◌, ℕ, ◌+◌, ◌<◌, Bool, false, List, [], ◌∷◌, ◌++◌, ◌||◌, length, refl, sym, ◌∙◌, ap, subst, arith, append_assoc, Option, Some}
 use Rattle.std.proofs.lemmas.List.{append-nil, length_push}
-use Rattle.std.proofs.lemmas.Bool.{true≢false}
 use Rattle.std.proofs.lemmas.List.Elements.{All-nil, All-append}
 use Rattle.std.specs.Prelude.{All, ◌==◌}
 use Rattle.std.specs.Str.Lines.{lines, strip_carriage_return}
@@ -9,18 +8,15 @@ use Rattle.console.specs.declared.progress.Progress.{Progress}
 use Rattle.console.specs.declared.answer.Answer.{Answer}
 use Rattle.console.specs.Answer.{text, texts, is_trouble}
 use Rattle.console.specs.Dialogue.{Rules, Answers, Dialogue, RunsWell, RunsShort}
-use Rattle.console.specs.Feed.{HasNoEnd, Holds, IsGoing}
+use Rattle.console.specs.Feed.{IsGoing}
+use Rattle.console.specs.Hand.{HasNoEnd, Holds}
 use Rattle.console.proofs.Lines.{is_feed, lines_step, lines_last}
 use Rattle.console.proofs.Talk.{texts_more, trouble_more, dialogue_more}
 
-holds_none : (kept : List ℕ) (long : Bool) → kept ≡ [] → long ≡ false → Holds kept long []
-holds_none kept false empty short = (empty, omega arith)
-holds_none kept true empty short = absurd (true≢false short)
-
 -- at the start nothing was taken
 pub going_start : {A W : Type 0} (rules : Rules W) (station : ℕ) (s : W) (before : List ℕ) (p : Progress A) (held : Option (List ℕ)) →
-    held ≡ Some before → p.troubled ≡ false → p.lines ≡ 0 → p.hand.kept.items ≡ [] → p.hand.long ≡ false → IsGoing rules station s before [] p held s
-going_start rules station s before p held known calm none empty short = record {
+    held ≡ Some before → p.troubled ≡ false → p.lines ≡ 0 → Holds p.hand.kept.items p.hand.long [] → IsGoing rules station s before [] p held s
+going_start rules station s before p held known calm none empty = record {
   done = [];
   answers = [];
   line = [];
@@ -30,7 +26,7 @@ going_start rules station s before p held known calm none empty short = record {
   written = known ∙ ap Some (sym (append-nil before));
   trouble = calm;
   counted = none;
-  holds = holds_none p.hand.kept.items p.hand.long empty short;
+  holds = empty;
 }
 
 -- bytes that end no line

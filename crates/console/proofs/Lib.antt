@@ -1,8 +1,11 @@
 pub mod Lines
 pub mod Forms
-pub mod Parts
+pub mod Writing
 pub mod Talk
 pub mod Going
 pub mod Wholes
+pub mod Listed
+pub mod Answering
 pub mod Spelled
 pub mod Taken
+pub mod Judged

@@ -1,5 +1,5 @@
 -- What is taken for a command or a query spells it.
-use Rattle.std.proofs.Common.{◌≡◌, ℕ, zero, suc, ◌<◌, ◌^◌, Bool, true, false, List, [], ◌∷◌, length, refl, sym, ◌∙◌, ap, subst, arith, Option, Some, None, Result, Ok, Err, nat_lt, nat_le}
+use Rattle.std.proofs.Common.{◌≡◌, ℕ, zero, suc, ◌<◌, ◌≤◌, ◌^◌, Bool, true, false, List, [], ◌∷◌, length, refl, sym, ◌∙◌, ap, subst, arith, Option, Some, None, Result, Ok, Err, nat_lt, nat_le}
 use Rattle.std.specs.Prelude.{if◌then◌else◌, codes, decimal}
 use Rattle.std.specs.Option.{option_and_then}
 use Rattle.std.specs.Result.{result_ok}
@@ -31,8 +31,10 @@ use Rattle.console.specs.declared.line.LineFault.TheVariants.{Syntax, Value, Too
 use Rattle.console.specs.declared.line.Line.{Line}
 use Rattle.console.specs.declared.line.Line.TheVariants.{Silent, Bad, Order, Ask}
 use Rattle.console.specs.Reading.{words, of_words, is_silent, seconds_in, not_zero, sequence_in, head_of, head_in, area_in, lifetime_in, rule_of, rule_in, reference_in, kind_in, key_of, key_in, rule_body, mm_body, sds_body, body_in, order, saying, query_in, ask}
+use Rattle.mailbox.specs.Values.{KeyInRange}
+use Rattle.centre_core.specs.Ranges.{BodyInRange, InRange}
 use Rattle.console.specs.Words.{kind_word}
-use Rattle.console.specs.Spelling.{spaced, key_words, SpellsBody, query_text, OnlyCommands, OnlyQueries}
+use Rattle.console.specs.Spelling.{spaced, key_words, SpellsBody, query_text, Askable, OnlyCommands, OnlyQueries}
 
 -- ---- one word
 
@@ -40,8 +42,8 @@ pub ok_of : {T E : Type 0} (r : Result T E) (v : T) → result_ok r ≡ Some v �
 ok_of (Ok x) v e = ap Ok (some_same x v e)
 ok_of (Err f) v e = absurd (none_some v e)
 
-pub number_only : (most n : ℕ) (word : List ℕ) → most < 2 ^ 64 → result_ok (reading_number most word) ≡ Some n → word ≡ decimal n
-number_only most n word small e = (reading_number_only most n word small (ok_of (reading_number most word) n e)).1
+pub number_only : (most n : ℕ) (word : List ℕ) → most < 2 ^ 64 → result_ok (reading_number most word) ≡ Some n → (n ≤ most) × (word ≡ decimal n)
+number_only most n word small e = reading_number_only most n word small (ok_of (reading_number most word) n e)
 
 not_zero_only : (o : Option ℕ) (n : ℕ) → option_and_then not_zero o ≡ Some n → (o ≡ Some n) × (0 < n)
 not_zero_only None n e = absurd (none_some n e)
@@ -64,11 +66,18 @@ named name keyword e = (bytes_eq-Decides name keyword).0 e
 
 -- ---- forms
 
+le_of : (a b : ℕ) → nat_le a b ≡ true → a ≤ b
+le_of a b e = grind (arith, e)
+
+short_of_flag : (n : ℕ) → nat_lt 1024 n ≡ false → n ≤ 1024
+short_of_flag n e = grind (arith, e)
+
 rule_of_only : (low high : Option ℕ) (life : Option Lifetime) (keep : Option ℕ) (rule : Terms) → rule_of low high life keep ≡ Some rule →
-    (low ≡ Some rule.low) × (high ≡ Some rule.high) × (life ≡ Some rule.lifetime) × (keep ≡ Some rule.keep)
+    (low ≡ Some rule.low) × (high ≡ Some rule.high) × (life ≡ Some rule.lifetime) × (keep ≡ Some rule.keep) × (rule.low ≤ rule.high)
 rule_of_only (Some low) (Some high) (Some life) (Some keep) rule e =
-    let same = some_same _ rule (chosen_some (nat_le low high) (Some (let r : Terms = record { low = low; high = high; lifetime = life; keep = keep } in r)) rule e).1 in
-    (ap (λ (r : Terms). Some r.low) same, ap (λ (r : Terms). Some r.high) same, ap (λ (r : Terms). Some r.lifetime) same, ap (λ (r : Terms). Some r.keep) same)
+    let chosen = chosen_some (nat_le low high) (Some (let r : Terms = record { low = low; high = high; lifetime = life; keep = keep } in r)) rule e in
+    let same = some_same _ rule chosen.1 in
+    (ap (λ (r : Terms). Some r.low) same, ap (λ (r : Terms). Some r.high) same, ap (λ (r : Terms). Some r.lifetime) same, ap (λ (r : Terms). Some r.keep) same, subst (λ (r : Terms). r.low ≤ r.high) same (le_of low high chosen.0))
 rule_of_only None high life keep rule e = absurd (none_some rule e)
 rule_of_only (Some low) None life keep rule e = absurd (none_some rule e)
 rule_of_only (Some low) (Some high) None keep rule e = absurd (none_some rule e)
@@ -95,21 +104,26 @@ saying_only : {V S : Type 0} (says : V → S) (o : Option V) (s : S) → saying 
 saying_only says (Some v) s e = (v, refl, ok_same (says v) s e)
 saying_only says None s e = absurd (err_ok Value s e)
 
-about_spelled : (about : ℕ → Query) (keyword name identity : List ℕ) (q : Query) → ((n : ℕ) → spaced (keyword ∷ identity_text n ∷ []) ≡ query_text (about n)) →
-    bytes_eq name keyword ≡ true → saying about (result_ok (reading_identity identity)) ≡ Ok q → spaced (name ∷ identity ∷ []) ≡ query_text q
+-- a query in range, in words
+abbrev Asks : Query → List (List ℕ) → Type 0
+Asks q ws = Askable q × (spaced ws ≡ query_text q)
+
+about_spelled : (about : ℕ → Query) (keyword name identity : List ℕ) (q : Query) → ((n : ℕ) → n < 2 ^ 48 → Asks (about n) (keyword ∷ identity_text n ∷ [])) →
+    bytes_eq name keyword ≡ true → saying about (result_ok (reading_identity identity)) ≡ Ok q → Asks q (name ∷ identity ∷ [])
 about_spelled about keyword name identity q text is e =
     let f = saying_only about (result_ok (reading_identity identity)) q e in
-    let read : identity ≡ identity_text f.0 = (reading_identity_only f.0 identity (ok_of (reading_identity identity) f.0 f.1)).1 in
-    ap (λ w. spaced (w ∷ identity ∷ [])) (named name keyword is) ∙ ap (λ w. spaced (keyword ∷ w ∷ [])) read ∙ text f.0 ∙ ap query_text f.2
+    let read = reading_identity_only f.0 identity (ok_of (reading_identity identity) f.0 f.1) in
+    let asks = subst (λ (p : Query). Asks p (keyword ∷ identity_text f.0 ∷ [])) f.2 (text f.0 read.0) in
+    (asks.0, ap (λ w. spaced (w ∷ identity ∷ [])) (named name keyword is) ∙ ap (λ w. spaced (keyword ∷ w ∷ [])) read.1 ∙ asks.1)
 
-query_spelled : (name identity : List ℕ) (q : Query) → query_in name identity ≡ Ok q → spaced (name ∷ identity ∷ []) ≡ query_text q
+query_spelled : (name identity : List ℕ) (q : Query) → query_in name identity ≡ Ok q → Asks q (name ∷ identity ∷ [])
 query_spelled name identity q e =
     let o = result_ok (reading_identity identity) in
-    let whereabouts = about_spelled Whereabouts (codes "where") name identity q (λ n. refl) in
-    let look = about_spelled Look (codes "look") name identity q (λ n. refl) in
-    let groups = about_spelled GroupsOf (codes "groups") name identity q (λ n. refl) in
-    let members = about_spelled MembersOf (codes "members") name identity q (λ n. refl) in
-    let mail = about_spelled Waiting (codes "mail") name identity q (λ n. refl) in
+    let whereabouts = about_spelled Whereabouts (codes "where") name identity q (λ n small. (small, refl)) in
+    let look = about_spelled Look (codes "look") name identity q (λ n small. (small, refl)) in
+    let groups = about_spelled GroupsOf (codes "groups") name identity q (λ n small. (small, refl)) in
+    let members = about_spelled MembersOf (codes "members") name identity q (λ n small. (small, refl)) in
+    let mail = about_spelled Waiting (codes "mail") name identity q (λ n small. (small, refl)) in
     or_else (bytes_eq name (codes "where")) (saying Whereabouts o) _ q whereabouts
     (or_else (bytes_eq name (codes "look")) (saying Look o) _ q look
     (or_else (bytes_eq name (codes "groups")) (saying GroupsOf o) _ q groups
@@ -137,15 +151,17 @@ key_of_only (Some d) None r k key e = absurd (none_some key e)
 key_of_only (Some d) (Some s) None k key e = absurd (none_some key e)
 key_of_only (Some d) (Some s) (Some r) None key e = absurd (none_some key e)
 
-key_only : (d s r k : List ℕ) (key : Key) → key_in d s r k ≡ Some key → d ∷ s ∷ r ∷ k ∷ [] ≡ key_words key
+key_only : (d s r k : List ℕ) (key : Key) → key_in d s r k ≡ Some key → KeyInRange key × (d ∷ s ∷ r ∷ k ∷ [] ≡ key_words key)
 key_only d s r k key e =
     let f = key_of_only (result_ok (reading_identity d)) (result_ok (reading_identity s)) (reference_in r) (kind_in k) key e in
-    let is_d : d ≡ identity_text key.destination = (reading_identity_only key.destination d (ok_of (reading_identity d) key.destination f.0)).1 in
-    let is_s : s ≡ identity_text key.source = (reading_identity_only key.source s (ok_of (reading_identity s) key.source f.1)).1 in
-    let is_r : r ≡ decimal key.reference = number_only 255 key.reference r (omega arith) f.2 in
-    ap (λ w. w ∷ s ∷ r ∷ k ∷ []) is_d ∙ ap (λ w. identity_text key.destination ∷ w ∷ r ∷ k ∷ []) is_s
-    ∙ ap (λ w. identity_text key.destination ∷ identity_text key.source ∷ w ∷ k ∷ []) is_r
-    ∙ ap (λ w. identity_text key.destination ∷ identity_text key.source ∷ decimal key.reference ∷ w ∷ []) (kind_only k key.kind f.3)
+    let is_d = reading_identity_only key.destination d (ok_of (reading_identity d) key.destination f.0) in
+    let is_s = reading_identity_only key.source s (ok_of (reading_identity s) key.source f.1) in
+    let is_r = number_only 255 key.reference r (omega arith) f.2 in (
+      (is_d.0, is_s.0, omega (arith, is_r.0)),
+      ap (λ w. w ∷ s ∷ r ∷ k ∷ []) is_d.1 ∙ ap (λ w. identity_text key.destination ∷ w ∷ r ∷ k ∷ []) is_s.1
+          ∙ ap (λ w. identity_text key.destination ∷ identity_text key.source ∷ w ∷ k ∷ []) is_r.1
+          ∙ ap (λ w. identity_text key.destination ∷ identity_text key.source ∷ decimal key.reference ∷ w ∷ []) (kind_only k key.kind f.3),
+    )
 
 head_only : (s m : Option ℕ) (head : Head) → head_of s m ≡ Some head → (s ≡ Some head.sequence) × (m ≡ Some head.moment)
 head_only (Some s) (Some m) head e =
@@ -153,11 +169,14 @@ head_only (Some s) (Some m) head e =
 head_only None m head e = absurd (none_some head e)
 head_only (Some s) None head e = absurd (none_some head e)
 
-head_spelled : (sequence moment : List ℕ) (head : Head) → head_in sequence moment ≡ Some head → (0 < head.sequence) × (sequence ≡ decimal head.sequence) × (moment ≡ decimal head.moment)
+head_spelled : (sequence moment : List ℕ) (head : Head) → head_in sequence moment ≡ Some head →
+    (0 < head.sequence) × (head.sequence < 2 ^ 32) × (head.moment < 2 ^ 32) × (sequence ≡ decimal head.sequence) × (moment ≡ decimal head.moment)
 head_spelled sequence moment head e =
     let f = head_only (sequence_in sequence) (seconds_in moment) head e in
     let some = not_zero_only (seconds_in sequence) head.sequence f.0 in
-    (some.1, number_only 4294967295 head.sequence sequence (omega arith) some.0, number_only 4294967295 head.moment moment (omega arith) f.1)
+    let is_sequence = number_only 4294967295 head.sequence sequence (omega arith) some.0 in
+    let is_moment = number_only 4294967295 head.moment moment (omega arith) f.1 in
+    (some.1, omega (arith, is_sequence.0), omega (arith, is_moment.0), is_sequence.1, is_moment.1)
 
 module _ {A : Type 0} where
   mm_only : (i a : Option ℕ) (p : Option (List Bool)) (b : Body A) → mm_body i a p ≡ Ok b →
@@ -180,77 +199,83 @@ module _ {A : Type 0} where
   rule_only None r b e = absurd (err_ok Value b e)
   rule_only (Some p) None b e = absurd (err_ok Value b e)
 
-  mm_spelled : (i a p : List ℕ) (b : Body A) → mm_body (result_ok (reading_identity i)) (area_in a) (result_ok (reading_bits p)) ≡ Ok b → SpellsBody b (codes "mm" ∷ i ∷ a ∷ p ∷ [])
+  -- a body in range, in words
+  abbrev Says : Body A → List (List ℕ) → Type 0
+  Says b ws = BodyInRange b × SpellsBody b ws
+
+  mm_spelled : (i a p : List ℕ) (b : Body A) → mm_body (result_ok (reading_identity i)) (area_in a) (result_ok (reading_bits p)) ≡ Ok b → Says b (codes "mm" ∷ i ∷ a ∷ p ∷ [])
   mm_spelled i a p b e =
       let f = mm_only (result_ok (reading_identity i)) (area_in a) (result_ok (reading_bits p)) b e in
-      let is_i : i ≡ identity_text f.0 = (reading_identity_only f.0 i (ok_of (reading_identity i) f.0 f.3)).1 in
-      let is_a : a ≡ decimal f.1 = number_only 16383 f.1 a (omega arith) f.4 in
-      let spelt : SpellsBits p f.2 = (reading_bits_only f.2 p (ok_of (reading_bits p) f.2 f.5)).1 in
-      subst (λ (d : Body A). SpellsBody d (codes "mm" ∷ i ∷ a ∷ p ∷ [])) f.6
-      (p, spelt, ap (λ w. codes "mm" ∷ w ∷ a ∷ p ∷ []) is_i ∙ ap (λ w. codes "mm" ∷ identity_text f.0 ∷ w ∷ p ∷ []) is_a)
+      let is_i = reading_identity_only f.0 i (ok_of (reading_identity i) f.0 f.3) in
+      let is_a = number_only 16383 f.1 a (omega arith) f.4 in
+      let spelt = reading_bits_only f.2 p (ok_of (reading_bits p) f.2 f.5) in
+      subst (λ (d : Body A). Says d (codes "mm" ∷ i ∷ a ∷ p ∷ [])) f.6
+      ((is_i.0, omega (arith, is_a.0), spelt.0), (p, spelt.1, ap (λ w. codes "mm" ∷ w ∷ a ∷ p ∷ []) is_i.1 ∙ ap (λ w. codes "mm" ∷ identity_text f.0 ∷ w ∷ p ∷ []) is_a.1))
 
-  sds_spelled : (s d p : List ℕ) (b : Body A) → sds_body (result_ok (reading_identity s)) (result_ok (reading_identity d)) (result_ok (reading_bits p)) ≡ Ok b → SpellsBody b (codes "sds" ∷ s ∷ d ∷ p ∷ [])
+  sds_spelled : (s d p : List ℕ) (b : Body A) → sds_body (result_ok (reading_identity s)) (result_ok (reading_identity d)) (result_ok (reading_bits p)) ≡ Ok b → Says b (codes "sds" ∷ s ∷ d ∷ p ∷ [])
   sds_spelled s d p b e =
       let f = sds_only (result_ok (reading_identity s)) (result_ok (reading_identity d)) (result_ok (reading_bits p)) b e in
-      let is_s : s ≡ identity_text f.0 = (reading_identity_only f.0 s (ok_of (reading_identity s) f.0 f.3)).1 in
-      let is_d : d ≡ identity_text f.1 = (reading_identity_only f.1 d (ok_of (reading_identity d) f.1 f.4)).1 in
-      let spelt : SpellsBits p f.2 = (reading_bits_only f.2 p (ok_of (reading_bits p) f.2 f.5)).1 in
-      subst (λ (c : Body A). SpellsBody c (codes "sds" ∷ s ∷ d ∷ p ∷ [])) f.6
-      (p, spelt, ap (λ w. codes "sds" ∷ w ∷ d ∷ p ∷ []) is_s ∙ ap (λ w. codes "sds" ∷ identity_text f.0 ∷ w ∷ p ∷ []) is_d)
+      let is_s = reading_identity_only f.0 s (ok_of (reading_identity s) f.0 f.3) in
+      let is_d = reading_identity_only f.1 d (ok_of (reading_identity d) f.1 f.4) in
+      let spelt = reading_bits_only f.2 p (ok_of (reading_bits p) f.2 f.5) in
+      subst (λ (c : Body A). Says c (codes "sds" ∷ s ∷ d ∷ p ∷ [])) f.6
+      ((is_s.0, is_d.0, spelt.0), (p, spelt.1, ap (λ w. codes "sds" ∷ w ∷ d ∷ p ∷ []) is_s.1 ∙ ap (λ w. codes "sds" ∷ identity_text f.0 ∷ w ∷ p ∷ []) is_d.1))
 
   -- sent and delete
-  key_spelled : (about : Key → Body A) (keyword name d s r k : List ℕ) (b : Body A) → ((key : Key) → SpellsBody (about key) (keyword ∷ key_words key)) →
-      bytes_eq name keyword ≡ true → saying about (key_in d s r k) ≡ Ok b → SpellsBody b (name ∷ d ∷ s ∷ r ∷ k ∷ [])
+  key_spelled : (about : Key → Body A) (keyword name d s r k : List ℕ) (b : Body A) → ((key : Key) → KeyInRange key → Says (about key) (keyword ∷ key_words key)) →
+      bytes_eq name keyword ≡ true → saying about (key_in d s r k) ≡ Ok b → Says b (name ∷ d ∷ s ∷ r ∷ k ∷ [])
   key_spelled about keyword name d s r k b spells is e =
       let f = saying_only about (key_in d s r k) b e in
-      subst (λ (word : List ℕ). SpellsBody b (word ∷ d ∷ s ∷ r ∷ k ∷ [])) (sym (named name keyword is))
-      (subst (λ (ws : List (List ℕ)). SpellsBody b (keyword ∷ ws)) (sym (key_only d s r k f.0 f.1)) (subst (λ (c : Body A). SpellsBody c (keyword ∷ key_words f.0)) f.2 (spells f.0)))
+      let key = key_only d s r k f.0 f.1 in
+      subst (λ (word : List ℕ). Says b (word ∷ d ∷ s ∷ r ∷ k ∷ [])) (sym (named name keyword is))
+      (subst (λ (ws : List (List ℕ)). Says b (keyword ∷ ws)) (sym key.1) (subst (λ (c : Body A). Says c (keyword ∷ key_words f.0)) f.2 (spells f.0 key.0)))
 
-  rule_spelled : (p low high life keep : List ℕ) (b : Body A) → rule_body (result_ok (reading_prefix p)) (rule_in low high life keep) ≡ Ok b → SpellsBody b (codes "rule" ∷ p ∷ low ∷ high ∷ life ∷ keep ∷ [])
+  rule_spelled : (p low high life keep : List ℕ) (b : Body A) → rule_body (result_ok (reading_prefix p)) (rule_in low high life keep) ≡ Ok b → Says b (codes "rule" ∷ p ∷ low ∷ high ∷ life ∷ keep ∷ [])
   rule_spelled p low high life keep b e =
       let f = rule_only (result_ok (reading_prefix p)) (rule_in low high life keep) b e in
       let rule = rule_of_only (area_in low) (area_in high) (lifetime_in life) (seconds_in keep) f.1 f.3 in
-      let is_p : p ≡ prefix_text f.0 = (reading_prefix_only f.0 p (ok_of (reading_prefix p) f.0 f.2)).1 in
-      let is_low : low ≡ decimal f.1.low = number_only 16383 f.1.low low (omega arith) rule.0 in
-      let is_high : high ≡ decimal f.1.high = number_only 16383 f.1.high high (omega arith) rule.1 in
+      let is_p = reading_prefix_only f.0 p (ok_of (reading_prefix p) f.0 f.2) in
+      let is_low = number_only 16383 f.1.low low (omega arith) rule.0 in
+      let is_high = number_only 16383 f.1.high high (omega arith) rule.1 in
       let is_life : life ≡ decimal (lifetime_number f.1.lifetime) =
-      number_only 3 (lifetime_number f.1.lifetime) life (omega arith) (lifetime_found (result_ok (reading_number 3 life)) f.1.lifetime rule.2) in
-      let is_keep : keep ≡ decimal f.1.keep = number_only 4294967295 f.1.keep keep (omega arith) rule.3 in
-      subst (λ (d : Body A). SpellsBody d (codes "rule" ∷ p ∷ low ∷ high ∷ life ∷ keep ∷ [])) f.4 (
-      ap (λ w. codes "rule" ∷ w ∷ low ∷ high ∷ life ∷ keep ∷ []) is_p
-      ∙ ap (λ w. codes "rule" ∷ prefix_text f.0 ∷ w ∷ high ∷ life ∷ keep ∷ []) is_low
-      ∙ ap (λ w. codes "rule" ∷ prefix_text f.0 ∷ decimal f.1.low ∷ w ∷ life ∷ keep ∷ []) is_high
-      ∙ ap (λ w. codes "rule" ∷ prefix_text f.0 ∷ decimal f.1.low ∷ decimal f.1.high ∷ w ∷ keep ∷ []) is_life
-      ∙ ap (λ w. codes "rule" ∷ prefix_text f.0 ∷ decimal f.1.low ∷ decimal f.1.high ∷ decimal (lifetime_number f.1.lifetime) ∷ w ∷ []) is_keep
+      (number_only 3 (lifetime_number f.1.lifetime) life (omega arith) (lifetime_found (result_ok (reading_number 3 life)) f.1.lifetime rule.2)).1 in
+      let is_keep = number_only 4294967295 f.1.keep keep (omega arith) rule.3 in
+      subst (λ (d : Body A). Says d (codes "rule" ∷ p ∷ low ∷ high ∷ life ∷ keep ∷ [])) f.4 (
+        (is_p.0, (rule.4, omega (arith, is_high.0), omega (arith, is_keep.0))),
+        ap (λ w. codes "rule" ∷ w ∷ low ∷ high ∷ life ∷ keep ∷ []) is_p.1
+            ∙ ap (λ w. codes "rule" ∷ prefix_text f.0 ∷ w ∷ high ∷ life ∷ keep ∷ []) is_low.1
+            ∙ ap (λ w. codes "rule" ∷ prefix_text f.0 ∷ decimal f.1.low ∷ w ∷ life ∷ keep ∷ []) is_high.1
+            ∙ ap (λ w. codes "rule" ∷ prefix_text f.0 ∷ decimal f.1.low ∷ decimal f.1.high ∷ w ∷ keep ∷ []) is_life
+            ∙ ap (λ w. codes "rule" ∷ prefix_text f.0 ∷ decimal f.1.low ∷ decimal f.1.high ∷ decimal (lifetime_number f.1.lifetime) ∷ w ∷ []) is_keep.1,
       )
 
-  unrule_spelled : (p : List ℕ) (b : Body A) → saying RuleClear (result_ok (reading_prefix p)) ≡ Ok b → SpellsBody b (codes "unrule" ∷ p ∷ [])
+  unrule_spelled : (p : List ℕ) (b : Body A) → saying RuleClear (result_ok (reading_prefix p)) ≡ Ok b → Says b (codes "unrule" ∷ p ∷ [])
   unrule_spelled p b e =
       let f = saying_only RuleClear (result_ok (reading_prefix p)) b e in
-      let is_p : p ≡ prefix_text f.0 = (reading_prefix_only f.0 p (ok_of (reading_prefix p) f.0 f.1)).1 in
-      subst (λ (d : Body A). SpellsBody d (codes "unrule" ∷ p ∷ [])) f.2 (ap (λ w. codes "unrule" ∷ w ∷ []) is_p)
+      let is_p = reading_prefix_only f.0 p (ok_of (reading_prefix p) f.0 f.1) in
+      subst (λ (d : Body A). Says d (codes "unrule" ∷ p ∷ [])) f.2 (is_p.0, ap (λ w. codes "unrule" ∷ w ∷ []) is_p.1)
 
-  body_spelled : (name : List ℕ) (more : List (List ℕ)) (b : Body A) → body_in name more ≡ Ok b → SpellsBody b (name ∷ more)
+  body_spelled : (name : List ℕ) (more : List (List ℕ)) (b : Body A) → body_in name more ≡ Ok b → Says b (name ∷ more)
   body_spelled name [] b e =
       let f = form_only (bytes_eq name (codes "expire")) (Ok Expire) b e in
-      subst (λ (word : List ℕ). SpellsBody b (word ∷ [])) (sym (named name (codes "expire") f.0)) (subst (λ (c : Body A). SpellsBody c (codes "expire" ∷ [])) (ok_same Expire b f.1) refl)
+      subst (λ (word : List ℕ). Says b (word ∷ [])) (sym (named name (codes "expire") f.0)) (subst (λ (c : Body A). Says c (codes "expire" ∷ [])) (ok_same Expire b f.1) (tt, refl))
   body_spelled name (p ∷ []) b e =
       let f = form_only (bytes_eq name (codes "unrule")) (saying RuleClear (result_ok (reading_prefix p))) b e in
-      subst (λ (word : List ℕ). SpellsBody b (word ∷ p ∷ [])) (sym (named name (codes "unrule") f.0)) (unrule_spelled p b f.1)
+      subst (λ (word : List ℕ). Says b (word ∷ p ∷ [])) (sym (named name (codes "unrule") f.0)) (unrule_spelled p b f.1)
   body_spelled name (x ∷ y ∷ []) b e = absurd (err_ok Syntax b e)
   body_spelled name (x ∷ y ∷ p ∷ []) b e =
       or_else (bytes_eq name (codes "mm")) (mm_body (result_ok (reading_identity x)) (area_in y) (result_ok (reading_bits p))) _ b
-      (λ is said. subst (λ (word : List ℕ). SpellsBody b (word ∷ x ∷ y ∷ p ∷ [])) (sym (named name (codes "mm") is)) (mm_spelled x y p b said))
+      (λ is said. subst (λ (word : List ℕ). Says b (word ∷ x ∷ y ∷ p ∷ [])) (sym (named name (codes "mm") is)) (mm_spelled x y p b said))
       (or_else (bytes_eq name (codes "sds")) (sds_body (result_ok (reading_identity x)) (result_ok (reading_identity y)) (result_ok (reading_bits p))) (Err Syntax) b
-      (λ is said. subst (λ (word : List ℕ). SpellsBody b (word ∷ x ∷ y ∷ p ∷ [])) (sym (named name (codes "sds") is)) (sds_spelled x y p b said))
+      (λ is said. subst (λ (word : List ℕ). Says b (word ∷ x ∷ y ∷ p ∷ [])) (sym (named name (codes "sds") is)) (sds_spelled x y p b said))
       (λ none. absurd (err_ok Syntax b none))) e
   body_spelled name (d ∷ s ∷ r ∷ k ∷ []) b e =
-      or_else (bytes_eq name (codes "sent")) (saying Sent (key_in d s r k)) _ b (key_spelled Sent (codes "sent") name d s r k b (λ key. refl))
-      (or_else (bytes_eq name (codes "delete")) (saying Delete (key_in d s r k)) (Err Syntax) b (key_spelled Delete (codes "delete") name d s r k b (λ key. refl))
+      or_else (bytes_eq name (codes "sent")) (saying Sent (key_in d s r k)) _ b (key_spelled Sent (codes "sent") name d s r k b (λ key range. (range, refl)))
+      (or_else (bytes_eq name (codes "delete")) (saying Delete (key_in d s r k)) (Err Syntax) b (key_spelled Delete (codes "delete") name d s r k b (λ key range. (range, refl)))
       (λ none. absurd (err_ok Syntax b none))) e
   body_spelled name (p ∷ low ∷ high ∷ life ∷ keep ∷ []) b e =
       let f = form_only (bytes_eq name (codes "rule")) (rule_body (result_ok (reading_prefix p)) (rule_in low high life keep)) b e in
-      subst (λ (word : List ℕ). SpellsBody b (word ∷ p ∷ low ∷ high ∷ life ∷ keep ∷ [])) (sym (named name (codes "rule") f.0)) (rule_spelled p low high life keep b f.1)
+      subst (λ (word : List ℕ). Says b (word ∷ p ∷ low ∷ high ∷ life ∷ keep ∷ [])) (sym (named name (codes "rule") f.0)) (rule_spelled p low high life keep b f.1)
   body_spelled name (x ∷ y ∷ z ∷ u ∷ v ∷ w ∷ more) b e = absurd (err_ok Syntax b e)
 
   -- ---- lines
@@ -309,7 +334,7 @@ module _ {A : Type 0} where
 
   -- what the words of a command are
   abbrev pub IsSpelled : ℕ → Command A → List (List ℕ) → Type 0
-  IsSpelled station c words = (c.station ≡ station) × (0 < c.sequence) × ((body : List (List ℕ)) × SpellsBody c.body body × (words ≡ decimal c.sequence ∷ decimal c.moment ∷ body))
+  IsSpelled station c words = (c.station ≡ station) × InRange c × ((body : List (List ℕ)) × SpellsBody c.body body × (words ≡ decimal c.sequence ∷ decimal c.moment ∷ body))
 
   words_spelled : (station : ℕ) (ws : List (List ℕ)) (c : Command A) → of_words station ws ≡ Order c → IsSpelled station c ws
   words_spelled station [] c e = absurd (bad_order Syntax c e)
@@ -318,38 +343,41 @@ module _ {A : Type 0} where
   words_spelled station (s ∷ m ∷ name ∷ more) c e =
       let f = order_only station (head_in s m) (body_in name more) c e in
       let head = head_spelled s m f.0 f.2 in
+      let says = body_spelled name more f.1 f.3 in
       subst (λ (d : Command A). IsSpelled station d (s ∷ m ∷ name ∷ more)) f.4 (
         refl,
-        head.0,
+        record { above = head.0; sequence = head.1; moment = head.2; body = says.0 },
         (
           name ∷ more,
-          body_spelled name more f.1 f.3,
-          ap (λ w. w ∷ m ∷ name ∷ more) head.1 ∙ ap (λ w. decimal f.0.sequence ∷ w ∷ name ∷ more) head.2,
+          says.1,
+          ap (λ w. w ∷ m ∷ name ∷ more) head.3 ∙ ap (λ w. decimal f.0.sequence ∷ w ∷ name ∷ more) head.4,
         ),
       )
 
-  words_asked : (station : ℕ) (ws : List (List ℕ)) (q : Query) → of_words {A = A} station ws ≡ Ask q → spaced ws ≡ query_text q
+  words_asked : (station : ℕ) (ws : List (List ℕ)) (q : Query) → of_words {A = A} station ws ≡ Ask q → Asks q ws
   words_asked station [] q e = absurd (bad_ask Syntax q e)
-  words_asked station (name ∷ []) q e = let f = count_only (bytes_eq name (codes "count")) q e in named name (codes "count") f.0 ∙ ap query_text f.1
+  words_asked station (name ∷ []) q e = let f = count_only (bytes_eq name (codes "count")) q e in subst (λ (p : Query). Asks p (name ∷ [])) f.1 (tt, named name (codes "count") f.0)
   words_asked station (name ∷ identity ∷ []) q e = query_spelled name identity q (ask_only (query_in name identity) q e)
   words_asked station (s ∷ m ∷ name ∷ more) q e = absurd (order_no_ask station (head_in s m) (body_in name more) q e)
 
-  through_order : (long silent : Bool) (l : Line A) (c : Command A) → (if long then Bad TooLong else (if silent then Silent else l)) ≡ Order c → l ≡ Order c
+  through_order : (long silent : Bool) (l : Line A) (c : Command A) → (if long then Bad TooLong else (if silent then Silent else l)) ≡ Order c → (long ≡ false) × (l ≡ Order c)
   through_order true silent l c e = absurd (bad_order TooLong c e)
   through_order false true l c e = absurd (silent_order c e)
-  through_order false false l c e = e
+  through_order false false l c e = (refl, e)
 
-  through_ask : (long silent : Bool) (l : Line A) (q : Query) → (if long then Bad TooLong else (if silent then Silent else l)) ≡ Ask q → l ≡ Ask q
+  through_ask : (long silent : Bool) (l : Line A) (q : Query) → (if long then Bad TooLong else (if silent then Silent else l)) ≡ Ask q → (long ≡ false) × (l ≡ Ask q)
   through_ask true silent l q e = absurd (bad_ask TooLong q e)
   through_ask false true l q e = absurd (silent_ask q e)
-  through_ask false false l q e = e
+  through_ask false false l q e = (refl, e)
 
   pub only_commands : OnlyCommands A
   only_commands station line c e =
-      let f = words_spelled station (words line) c (through_order (nat_lt 1024 (length line)) (is_silent line) (of_words station (words line)) c e) in
-      (f.0, f.1, (f.2.0, f.2.1, sym (join_with_byte-slice_split 32 line) ∙ ap spaced f.2.2))
+      let through = through_order (nat_lt 1024 (length line)) (is_silent line) (of_words station (words line)) c e in
+      let f = words_spelled station (words line) c through.1 in
+      (f.0, f.1, (f.2.0, f.2.1, sym (join_with_byte-slice_split 32 line) ∙ ap spaced f.2.2), short_of_flag (length line) through.0)
 
   pub only_queries : OnlyQueries A
   only_queries station line q e =
-      sym (join_with_byte-slice_split 32 line)
-      ∙ words_asked station (words line) q (through_ask (nat_lt 1024 (length line)) (is_silent line) (of_words station (words line)) q e)
+      let through = through_ask (nat_lt 1024 (length line)) (is_silent line) (of_words station (words line)) q e in
+      let asks = words_asked station (words line) q through.1 in
+      (asks.0, sym (join_with_byte-slice_split 32 line) ∙ asks.1, short_of_flag (length line) through.0)

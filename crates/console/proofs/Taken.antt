@@ -36,7 +36,9 @@ use Rattle.console.specs.declared.line.Line.{Line}
 use Rattle.console.specs.declared.line.Line.TheVariants.{Order, Ask}
 use Rattle.console.specs.Reading.{Lacks, words, of_words, reading, is_silent, seconds_in, not_zero, sequence_in, head_of, head_in, area_in, lifetime_in, rule_of, rule_in, reference_in, kind_in, key_of, key_in, rule_body, mm_body, sds_body, body_in, order, saying, query_in, ask}
 use Rattle.console.specs.Words.{kind_word}
-use Rattle.console.specs.Spelling.{spaced, key_words, SpellsBody, KeyInRange, BodyInRange, AllCommands, AllQueries}
+use Rattle.mailbox.specs.Values.{KeyInRange}
+use Rattle.centre_core.specs.Ranges.{BodyInRange}
+use Rattle.console.specs.Spelling.{spaced, key_words, SpellsBody, AllCommands, AllQueries}
 use Rattle.console.proofs.Lines.{is_space}
 
 -- ---- no space in a word
@@ -195,7 +197,7 @@ module _ {A : Type 0} where
 
   body_taken : (b : Body A) (body : List (List ℕ)) → BodyInRange b → SpellsBody b body → IsTaken b body
   body_taken (RuleSet prefix rule) body range spelt =
-      let high_low : rule.low < 2 ^ 14 = omega (arith, range.1, range.2) in
+      let high_low : rule.low < 2 ^ 14 = omega (arith, range.1.0, range.1.1) in
       subst (λ (ws : List (List ℕ)). IsTaken (RuleSet prefix rule) ws) (sym spelt) (
         codes "rule",
         prefix_text prefix ∷ decimal rule.low ∷ decimal rule.high ∷ decimal (lifetime_number rule.lifetime) ∷ decimal rule.keep ∷ [],
@@ -203,8 +205,8 @@ module _ {A : Type 0} where
         rule_same prefix rule (result_ok (reading_prefix (prefix_text prefix)))
             (rule_in (decimal rule.low) (decimal rule.high) (decimal (lifetime_number rule.lifetime)) (decimal rule.keep))
             (ap result_ok (reading_prefix_again prefix range.0))
-            (rules_same rule (area_in (decimal rule.low)) (area_in (decimal rule.high)) (lifetime_in (decimal (lifetime_number rule.lifetime))) (seconds_in (decimal rule.keep)) range.1
-            (area_again rule.low high_low) (area_again rule.high range.2) (lifetime_again rule.lifetime) (seconds_again rule.keep range.3)),
+            (rules_same rule (area_in (decimal rule.low)) (area_in (decimal rule.high)) (lifetime_in (decimal (lifetime_number rule.lifetime))) (seconds_in (decimal rule.keep)) range.1.0
+            (area_again rule.low high_low) (area_again rule.high range.1.1) (lifetime_again rule.lifetime) (seconds_again rule.keep range.1.2)),
         (
           letters_lack (codes "rule") refl,
           (
@@ -212,8 +214,8 @@ module _ {A : Type 0} where
             (
               decimal_lacks rule.low (omega (arith, high_low)),
               (
-                decimal_lacks rule.high (omega (arith, range.2)),
-                (decimal_lacks (lifetime_number rule.lifetime) (omega (arith, lifetime_small rule.lifetime)), (decimal_lacks rule.keep (omega (arith, range.3)), tt)),
+                decimal_lacks rule.high (omega (arith, range.1.1)),
+                (decimal_lacks (lifetime_number rule.lifetime) (omega (arith, lifetime_small rule.lifetime)), (decimal_lacks rule.keep (omega (arith, range.1.2)), tt)),
               ),
             ),
           ),
@@ -256,15 +258,15 @@ module _ {A : Type 0} where
   pub all_commands : AllCommands A
   all_commands line c range spelt short =
       let s = c.sequence in let m = c.moment in let body = spelt.0 in
-      let small_s : s < 2 ^ 64 = omega (arith, range.1) in
-      let small_m : m < 2 ^ 64 = omega (arith, range.2) in
-      let taken = body_taken c.body body range.3 spelt.1 in
+      let small_s : s < 2 ^ 64 = omega (arith, range.sequence) in
+      let small_m : m < 2 ^ 64 = omega (arith, range.moment) in
+      let taken = body_taken c.body body range.body spelt.1 in
       let split : words line ≡ decimal s ∷ decimal m ∷ body = ap words spelt.2 ∙ words_back (decimal s) (decimal m ∷ body) (decimal_lacks s small_s, (decimal_lacks m small_m, taken.4)) in
       let speaks : is_silent line ≡ false = ap is_silent spelt.2 ∙ first_speaks (decimal s) (32 ∷ spaced (decimal m ∷ body)) (decimal_digits s small_s) (decimal_nonempty s small_s) in
       passes c.station line (Order c) short speaks (
       ap (λ ws. of_words c.station ws) (split ∙ ap (λ ws. decimal s ∷ decimal m ∷ ws) taken.2)
       ∙ order_again c.station s m c.body (head_in (decimal s) (decimal m)) (body_in taken.0 taken.1)
-      (head_again s m (sequence_in (decimal s)) (seconds_in (decimal m)) (sequence_again s range.0 range.1) (seconds_again m range.2)) taken.3
+      (head_again s m (sequence_in (decimal s)) (seconds_in (decimal m)) (sequence_again s range.above range.sequence) (seconds_again m range.moment)) taken.3
       )
 
   -- a query about an identity is taken for itself, where its keyword and an identity are

@@ -1,5 +1,5 @@
 -- How an answer is written. B is the allocator that the bits in it lie under: nothing depends on it.
-use Rattle.std.specs.Prelude.{ℕ, Bool, true, false, List, [], ◌++◌, length, Option, Some, None, codes, decimal}
+use Rattle.std.specs.Prelude.{ℕ, ◌≤◌, Bool, true, false, List, [], ◌++◌, length, Option, Some, None, codes, decimal}
 use Rattle.std.specs.List.{flat_map}
 use Rattle.identity.specs.IdentityText.{identity_text, prefix_text}
 use Rattle.identity.specs.BitsText.{bits_text}
@@ -18,6 +18,7 @@ use Rattle.centre_core.specs.declared.query.Told.{Told}
 use Rattle.centre_core.specs.declared.query.Told.TheVariants as told
 use Rattle.console.specs.declared.answer.Answer.{Answer}
 use Rattle.console.specs.declared.answer.Answer.TheVariants as answer
+use Rattle.centre_core.specs.Ranges.{IsShort, most_bits}
 use Rattle.console.specs.Words.{line_word, service_word, mm_word, registration_word, group_word, sds_word, mail_word, kind_word}
 
 -- the PDU for the radio, if there is one
@@ -57,6 +58,10 @@ item_text i = codes "item " ++ decimal i.number ++ codes " " ++ key_text i.key +
 abbrev pub list_text : {T : Type 0} → (T → List ℕ) → List T → List ℕ
 list_text line list = decimal (length list) ++ codes "\n" ++ flat_map line list
 
+-- how many bytes an answer of one line has at most
+abbrev pub answer_room : ℕ
+answer_room = 1024
+
 module _ {B : Type 0} where
   abbrev pub refusal_text : Refusal B → List ℕ
   refusal_text refusal.UnknownStation = codes "unknown-station"
@@ -93,6 +98,45 @@ module _ {B : Type 0} where
 
   abbrev pub texts : List (Answer B) → List ℕ
   texts answers = flat_map text answers
+
+  -- what is told in one line
+  abbrev pub IsOneLine : Told B → Type 0
+  IsOneLine (told.Groups itsi groups) = ⊥
+  IsOneLine (told.Members gtsi members) = ⊥
+  IsOneLine (told.Waiting itsi items) = ⊥
+  IsOneLine other = Unit {0}
+
+  -- a list: so many lines follow as it has items
+  abbrev pub is_list : Told B → Bool
+  is_list (told.Groups itsi groups) = true
+  is_list (told.Members gtsi members) = true
+  is_list (told.Waiting itsi items) = true
+  is_list other = false
+
+  abbrev pub HasShortReject : Refusal B → Type 0
+  HasShortReject (refusal.Location fault reject) = length reject ≤ most_bits
+  HasShortReject other = Unit {0}
+
+  -- a reply with a PDU of at most 2,048 bits, or with none
+  abbrev pub HasShortPdu : Reply B → Type 0
+  HasShortPdu (reply.Accepted number pdu) = IsShort pdu
+  HasShortPdu (reply.Kept number pdu) = IsShort pdu
+  HasShortPdu (reply.Refused refusal) = HasShortReject refusal
+
+  -- no reply with a longer PDU
+  abbrev pub HasNoLongPdu : Answer B → Type 0
+  HasNoLongPdu (answer.Replied sequence reply) = HasShortPdu reply
+  HasNoLongPdu other = Unit {0}
+
+  abbrev pub tells_list : Answer B → Bool
+  tells_list (answer.Told told) = is_list told
+  tells_list other = false
+
+  -- no list, and no PDU that is longer: its text fits answer_room bytes
+  abbrev pub IsLine : Answer B → Type 0
+  IsLine (answer.Replied sequence reply) = HasShortPdu reply
+  IsLine (answer.Told told) = IsOneLine told
+  IsLine other = Unit {0}
 
   -- a word of the service
   abbrev pub is_service : Answer B → Bool

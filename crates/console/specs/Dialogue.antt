@@ -1,6 +1,6 @@
 -- Which answers may be given to which lines. A is the allocator that the bits of commands and replies
 -- lie under: nothing depends on it.
-use Rattle.std.specs.Prelude.{◌≡◌, ◌⊎◌, ℕ, ◌+◌, ◌≤◌, Bool, false, List, [], ◌∷◌, ◌++◌, length, Option, Some, Result, Ok, Err}
+use Rattle.std.specs.Prelude.{◌≡◌, ◌⊎◌, ℕ, ◌+◌, ◌≤◌, Bool, true, false, List, [], ◌∷◌, ◌++◌, length, Option, Some, Result, Ok, Err}
 use Rattle.std.specs.List.{list_any}
 use Rattle.std.specs.Str.Lines.{lines}
 use Rattle.centre_core.specs.State.{State}
@@ -12,44 +12,60 @@ use Rattle.centre_core.specs.declared.query.Query.{Query}
 use Rattle.centre_core.specs.declared.query.Told.{Told}
 use Rattle.console.specs.declared.desk.Service.{Service}
 use Rattle.console.specs.declared.desk.Service.TheVariants.{Memory}
+use Rattle.console.specs.declared.running.RunFault.{RunFault}
+use Rattle.console.specs.declared.running.RunFault.TheVariants.{Read, Write, NoMemory}
 use Rattle.console.specs.declared.line.Line.{Line}
 use Rattle.console.specs.declared.line.Line.TheVariants as line
 use Rattle.console.specs.declared.answer.Answer.{Answer}
 use Rattle.console.specs.declared.answer.Answer.TheVariants as answer
-use Rattle.console.specs.Reading.{reading}
-use Rattle.console.specs.Answer.{texts, is_trouble, is_service}
+use Rattle.console.specs.Reading.{reading, HasPdu}
+use Rattle.console.specs.Answer.{texts, is_trouble, is_service, is_list, HasShortPdu}
 
 -- what a kind of desk, which stands for values of W, may do at a command and at a query
 pub record Rules (W : Type 0) : Type 1 where
   pub applies : {A B : Type 0} → W → Command A → Result (Reply B) Service → W → Type 0
   pub tells : {B : Type 0} → W → Query → Result (Told B) Service → W → Type 0
 
--- the register does a command as step says, or for want of memory does nothing
+-- the register does a command as step says, or for want of memory does nothing; it has no other word
 abbrev pub Applies : {A B : Type 0} → State → Command A → Result (Reply B) Service → State → Type 0
 Applies s c (Ok reply) t = (t, reply) ≡ step s c
-Applies s c (Err word) t = t ≡ s
+Applies s c (Err word) t = (word ≡ Memory) × (t ≡ s)
 
 abbrev pub Tells : {B : Type 0} → State → Query → Result (Told B) Service → State → Type 0
 Tells s q (Ok told) t = (t ≡ s) × (told ≡ tell s q)
-Tells s q (Err word) t = t ≡ s
+Tells s q (Err word) t = (word ≡ Memory) × (t ≡ s)
 
 -- a register that nobody else changes
 abbrev pub of_register : Rules State
 of_register = record { applies = Applies; tells = Tells }
 
--- for the PDU of a command there is no memory, and the desk does nothing
-abbrev pub LacksMemory : {W : Type 0} → Service → W → W → Type 0
-LacksMemory word s t = (word ≡ Memory) × (t ≡ s)
+-- for the text of a list that the desk told there is no memory
+abbrev pub LacksText : (A : Type 0) {W : Type 0} → Rules W → W → Query → Service → W → Type 0
+LacksText A rules s q word t = (word ≡ Memory) × ((told : Told A) × (is_list told ≡ true) × rules.tells s q (Ok told) t)
+
+-- the desk gives a reply with a PDU of more than 2,048 bits
+abbrev pub GivesLongPdu : (A : Type 0) {W : Type 0} → Rules W → Type 0
+GivesLongPdu A {W = W} rules = (s : W) × (c : Command A) × (reply : Reply A) × (t : W) × rules.applies s c (Ok reply) t × (HasShortPdu reply → ⊥)
+
+-- why a run stops while it answers: the writer failed; or there is no memory for a reply with so long a PDU
+abbrev pub Stops : (A : Type 0) {W : Type 0} → Rules W → RunFault → Type 0
+Stops A rules Write = Unit {0}
+Stops A rules NoMemory = GivesLongPdu A rules
+Stops A rules Read = ⊥
 
 module _ {A W : Type 0} where
+  -- for the PDU in a command there is no memory, and the desk does nothing
+  abbrev pub LacksPdu : W → Command A → Service → W → Type 0
+  LacksPdu s c word t = HasPdu c.body × (word ≡ Memory) × (t ≡ s)
+
   abbrev pub AnswersOrder : Rules W → W → Command A → Answer A → W → Type 0
   AnswersOrder rules s c (answer.Replied sequence reply) t = (sequence ≡ c.sequence) × rules.applies s c (Ok reply) t
-  AnswersOrder rules s c (answer.Unserved sequence word) t = (sequence ≡ c.sequence) × (rules.applies {A = A} {B = A} s c (Err word) t ⊎ LacksMemory word s t)
+  AnswersOrder rules s c (answer.Unserved sequence word) t = (sequence ≡ c.sequence) × (rules.applies {A = A} {B = A} s c (Err word) t ⊎ LacksPdu s c word t)
   AnswersOrder rules s c other t = ⊥
 
   abbrev pub AnswersQuery : Rules W → ℕ → W → Query → Answer A → W → Type 0
   AnswersQuery rules n s q (answer.Told told) t = rules.tells s q (Ok told) t
-  AnswersQuery rules n s q (answer.Untold number word) t = (number ≡ n) × rules.tells {B = A} s q (Err word) t
+  AnswersQuery rules n s q (answer.Untold number word) t = (number ≡ n) × (rules.tells {B = A} s q (Err word) t ⊎ LacksText A rules s q word t)
   AnswersQuery rules n s q other t = ⊥
 
   -- the answer to what the line numbered n says, and what the desk stands for after it

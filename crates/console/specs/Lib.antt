@@ -4,3 +4,5 @@ pub mod Answer
 pub mod Dialogue
 pub mod Feed
 pub mod Spelling
+pub mod Parts
+pub mod Hand

@@ -159,16 +159,15 @@ module _ {A : Type 0} where
   reading station line = if nat_lt 1024 (length line) then Bad TooLong
       else (if is_silent line then Silent else of_words station (words line))
 
-  -- the body has a PDU
-  abbrev pub HasPdu : Result (Body A) LineFault → Type 0
-  HasPdu (Ok (RuleSet prefix rule)) = ⊥
-  HasPdu (Ok (RuleClear prefix)) = ⊥
-  HasPdu (Ok (Mm itsi area pdu)) = Unit {0}
-  HasPdu (Ok (Sds source destination pdu)) = Unit {0}
-  HasPdu (Ok (Sent key)) = ⊥
-  HasPdu (Ok Expire) = ⊥
-  HasPdu (Ok (Delete key)) = ⊥
-  HasPdu (Err fault) = ⊥
+  abbrev pub HasPdu : Body A → Type 0
+  HasPdu (Mm itsi area pdu) = Unit {0}
+  HasPdu (Sds source destination pdu) = Unit {0}
+  HasPdu other = ⊥
+
+  -- the words are a body with a PDU
+  abbrev pub GivesPdu : Result (Body A) LineFault → Type 0
+  GivesPdu (Ok body) = HasPdu body
+  GivesPdu (Err fault) = ⊥
 
   -- the sequence of a command, where a PDU comes with it
   abbrev pub with_pdu : ℕ → Body A → Option ℕ

@@ -1,6 +1,7 @@
 -- The lines that give a command or a query, as they are written.
-use Rattle.std.specs.Prelude.{◌≡◌, ◌<◌, ◌≤◌, ◌^◌, length, ℕ, List, [], ◌∷◌, codes, decimal}
-use Rattle.std.specs.List.{join_with_byte}
+use Rattle.std.specs.Prelude.{◌≡◌, ◌↔◌, ◌⊎◌, ◌<◌, ◌≤◌, ◌^◌, Bool, true, false, length, ℕ, List, [], ◌∷◌, codes, decimal}
+use Rattle.std.specs.List.{join_with_byte, list_any}
+use Rattle.std.specs.Str.{bytes_eq}
 use Rattle.identity.specs.IdentityText.{identity_text, prefix_text}
 use Rattle.identity.specs.BitsText.{SpellsBits}
 use Rattle.mm_pdus.specs.Values.{lifetime_number}
@@ -8,11 +9,13 @@ use Rattle.mailbox.specs.declared.key.Key.{Key}
 use Rattle.centre_core.specs.declared.command.Command.{Command}
 use Rattle.centre_core.specs.declared.command.Body.{Body}
 use Rattle.centre_core.specs.declared.command.Body.TheVariants.{RuleSet, RuleClear, Mm, Sds, Sent, Expire, Delete}
+use Rattle.centre_core.specs.Ranges.{InRange}
 use Rattle.centre_core.specs.declared.query.Query.{Query}
 use Rattle.centre_core.specs.declared.query.Query.TheVariants.{Whereabouts, Look, GroupsOf, MembersOf, Waiting, Total}
-use Rattle.console.specs.declared.line.Line.TheVariants.{Order, Ask}
+use Rattle.console.specs.declared.line.Line.TheVariants.{Bad, Order, Ask}
+use Rattle.console.specs.declared.line.LineFault.TheVariants.{Syntax, Value, TooLong}
 use Rattle.console.specs.Words.{kind_word}
-use Rattle.console.specs.Reading.{reading}
+use Rattle.console.specs.Reading.{reading, words, is_silent}
 
 -- words with single spaces between them
 abbrev pub spaced : List (List ℕ) → List ℕ
@@ -47,30 +50,6 @@ query_text (MembersOf gtsi) = spaced (codes "members" ∷ identity_text gtsi ∷
 query_text (Waiting itsi) = spaced (codes "mail" ∷ identity_text itsi ∷ [])
 query_text Total = codes "count"
 
--- a line is taken for a command only where it spells that command, of the station that it comes from
-abbrev pub OnlyCommands : Type 0 → Type 0
-OnlyCommands A = (station : ℕ) (line : List ℕ) (c : Command A) → reading station line ≡ Order c → (c.station ≡ station) × (0 < c.sequence) × SpellsCommand c line
-
-abbrev pub OnlyQueries : Type 0 → Type 0
-OnlyQueries A = (station : ℕ) (line : List ℕ) (q : Query) → reading {A = A} station line ≡ Ask q → line ≡ query_text q
-
-abbrev pub KeyInRange : Key → Type 0
-KeyInRange key = (key.destination < 2 ^ 48) × (key.source < 2 ^ 48) × (key.reference < 2 ^ 8)
-
-module _ {A : Type 0} where
-  -- what a command may hold
-  abbrev pub BodyInRange : Body A → Type 0
-  BodyInRange (RuleSet prefix rule) = (length prefix ≤ 48) × (rule.low ≤ rule.high) × (rule.high < 2 ^ 14) × (rule.keep < 2 ^ 32)
-  BodyInRange (RuleClear prefix) = length prefix ≤ 48
-  BodyInRange (Mm itsi area pdu) = (itsi < 2 ^ 48) × (area < 2 ^ 14) × (length pdu ≤ 2048)
-  BodyInRange (Sds source destination pdu) = (source < 2 ^ 48) × (destination < 2 ^ 48) × (length pdu ≤ 2048)
-  BodyInRange (Sent key) = KeyInRange key
-  BodyInRange Expire = Unit {0}
-  BodyInRange (Delete key) = KeyInRange key
-
-  abbrev pub InRange : Command A → Type 0
-  InRange c = (0 < c.sequence) × (c.sequence < 2 ^ 32) × (c.moment < 2 ^ 32) × BodyInRange c.body
-
 -- what a query may ask for
 abbrev pub Askable : Query → Type 0
 Askable (Whereabouts itsi) = itsi < 2 ^ 48
@@ -80,9 +59,46 @@ Askable (MembersOf gtsi) = gtsi < 2 ^ 48
 Askable (Waiting itsi) = itsi < 2 ^ 48
 Askable Total = Unit {0}
 
+-- a line is taken for a command only where it spells that command, in range, of the station that it comes from
+abbrev pub OnlyCommands : Type 0 → Type 0
+OnlyCommands A = (station : ℕ) (line : List ℕ) (c : Command A) → reading station line ≡ Order c → (c.station ≡ station) × InRange c × SpellsCommand c line × (length line ≤ 1024)
+
+abbrev pub OnlyQueries : Type 0 → Type 0
+OnlyQueries A = (station : ℕ) (line : List ℕ) (q : Query) → reading {A = A} station line ≡ Ask q → Askable q × (line ≡ query_text q) × (length line ≤ 1024)
+
 -- each line that spells a command is taken for that command
 abbrev pub AllCommands : Type 0 → Type 0
 AllCommands A = (line : List ℕ) (c : Command A) → InRange c → SpellsCommand c line → length line ≤ 1024 → reading c.station line ≡ Order c
 
 abbrev pub AllQueries : Type 0 → Type 0
 AllQueries A = (station : ℕ) (q : Query) → Askable q → length (query_text q) ≤ 1024 → reading {A = A} station (query_text q) ≡ Ask q
+
+-- a word is one of these
+abbrev pub is_one_of : List (List ℕ) → List ℕ → Bool
+is_one_of names word = list_any (bytes_eq word) names
+
+-- the forms of lines, by how many words they have: a query is named by its first word, a command by its third
+abbrev pub has_form : List (List ℕ) → Bool
+has_form (name ∷ []) = is_one_of (codes "count" ∷ []) name
+has_form (name ∷ identity ∷ []) = is_one_of (codes "where" ∷ codes "look" ∷ codes "groups" ∷ codes "members" ∷ codes "mail" ∷ []) name
+has_form (sequence ∷ moment ∷ name ∷ []) = is_one_of (codes "expire" ∷ []) name
+has_form (sequence ∷ moment ∷ name ∷ a ∷ []) = is_one_of (codes "unrule" ∷ []) name
+has_form (sequence ∷ moment ∷ name ∷ a ∷ b ∷ c ∷ []) = is_one_of (codes "mm" ∷ codes "sds" ∷ []) name
+has_form (sequence ∷ moment ∷ name ∷ a ∷ b ∷ c ∷ d ∷ []) = is_one_of (codes "sent" ∷ codes "delete" ∷ []) name
+has_form (sequence ∷ moment ∷ name ∷ a ∷ b ∷ c ∷ d ∷ e ∷ []) = is_one_of (codes "rule" ∷ []) name
+has_form other = false
+
+-- a line spells a command of its station, or a query, in range
+abbrev pub SpellsSome : Type 0 → ℕ → List ℕ → Type 0
+SpellsSome A station line = ((c : Command A) × (c.station ≡ station) × InRange c × SpellsCommand c line) ⊎ ((q : Query) × Askable q × (line ≡ query_text q))
+
+-- it is short enough, and neither empty nor a comment
+abbrev pub IsJudged : List ℕ → Type 0
+IsJudged line = (length line ≤ 1024) × (is_silent line ≡ false)
+
+-- how a line is bad: it is too long; or its words have no form; or they have one, and spell nothing
+abbrev pub BadLines : Type 0 → Type 0
+BadLines A = (station : ℕ) (line : List ℕ) →
+    ((reading {A = A} station line ≡ Bad TooLong) ↔ (1024 < length line))
+    × ((reading {A = A} station line ≡ Bad Syntax) ↔ (IsJudged line × (has_form (words line) ≡ false)))
+    × ((reading {A = A} station line ≡ Bad Value) ↔ (IsJudged line × (has_form (words line) ≡ true) × (SpellsSome A station line → ⊥)))

@@ -63,6 +63,7 @@ sds_word sds.UnknownType = codes "sds-unknown-type"
 sds_word sds.StorageControl = codes "storage-control"
 sds_word sds.TooLong = codes "too-long"
 sds_word sds.NoMemory = codes "memory"
+sds_word sds.NotATransfer = codes "not-a-transfer"
 
 -- messages and reports
 abbrev pub mail_word : MailFault → List ℕ
@@ -73,6 +74,7 @@ mail_word mail.MailboxFull = codes "mailbox-full"
 mail_word mail.CentreFull = codes "centre-full"
 mail_word mail.NoSuchMessage = codes "no-such-message"
 mail_word mail.NoMemory = codes "memory"
+mail_word mail.NoMembers = codes "no-members"
 
 -- what waits
 abbrev pub kind_word : Kind → List ℕ

@@ -2,7 +2,7 @@
 //! of commands and replies lie under: nothing depends on it.
 
 ghost use Rattle.console.specs.Dialogue.{CutOffIsFront, OneText};
-ghost use Rattle.console.specs.Spelling.{OnlyCommands, OnlyQueries, AllCommands, AllQueries};
+ghost use Rattle.console.specs.Spelling.{OnlyCommands, OnlyQueries, AllCommands, AllQueries, BadLines};
 
 use std::alloc::Allocator;
 
@@ -16,7 +16,7 @@ pub fn one_text<A: Allocator>()
     ensures { OneText A }
 {}
 
-/// A line is taken for a command or a query only where it spells it.
+/// A line is taken for a command or a query only where it spells it, with values in range.
 pub fn only_what_is_spelled<A: Allocator>()
     ensures commands { OnlyCommands A }
     ensures queries { OnlyQueries A }
@@ -26,4 +26,9 @@ pub fn only_what_is_spelled<A: Allocator>()
 pub fn all_that_is_spelled<A: Allocator>()
     ensures commands { AllCommands A }
     ensures queries { AllQueries A }
+{}
+
+/// Which lines are too long, which have no form (`syntax`), and which have one and say nothing (`value`).
+pub fn bad_lines<A: Allocator>()
+    ensures { BadLines A }
 {}

@@ -6,6 +6,7 @@
 #![tactic(auto)]
 
 mod answer;
+mod answer_text;
 mod desk;
 pub mod laws;
 mod line;
@@ -14,11 +15,8 @@ mod progress;
 mod running;
 mod sending;
 mod serving;
-#[cfg(test)]
-mod tests;
+mod text_part;
 mod words;
-#[cfg(test)]
-mod worked_rows;
 
 pub use answer::{Answer, print_answer};
 pub use desk::{Desk, Service};

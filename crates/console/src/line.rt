@@ -1,4 +1,5 @@
-ghost use Rattle.std.specs.Prelude.{◌≡◌, ◌∷◌, [], Some, IfOk, IfErr, OnErr, IsSome, option_map, MatchOption, ◌<◌, ◌≤◌, length, map, take, slice_get};
+ghost use Rattle.std.specs.Prelude.{◌≡◌, ◌∷◌, [], Some, IfOk, IfErr, IfSome, OnErr, IsSome, option_map, MatchOption, ◌<◌, ◌≤◌, length, map, take, slice_get};
+ghost use Rattle.centre_core.specs.Ranges.{IsShort, pdu_of};
 ghost use Rattle.console.specs.Reading.{reading, sequence_of, Lacks, words, words_behind, of_words, body_in, order, ask};
 
 use crate::order::{Head, body_in, head_in, query_in};
@@ -162,21 +163,23 @@ fn order<A: Allocator>(
     head: Option<Head>,
     body: Result<Body<A>, LineFault>,
 ) -> Line<A>
+    requires above { IfSome head (λ head. 0 < head.sequence) }
+    requires short { IfOk body (λ body. IsShort (pdu_of body)) }
     ensures { result ≡ order station head body }
 {
     match (head, body) {
         (_, Err(fault)) => Line::Bad(fault),
         (None, Ok(_)) => Line::Bad(LineFault::Value),
-        (Some(Head { sequence, moment }), Ok(body)) => Line::Order(Command {
-            station,
-            sequence,
-            moment,
-            body,
-        }),
+        (Some(Head { sequence, moment }), Ok(body)) => {
+            match Command::new(station, sequence, moment, body) {
+                Some(command) => Line::Order(command),
+                None => Line::Bad(LineFault::Value),
+            }
+        }
     }
 }
 
-#[tactic(auto, using(crate::proofs::Forms::unread, crate::proofs::Forms::headless))]
+#[tactic(auto, using(crate::proofs::Forms::unread, crate::proofs::Forms::headless, crate::proofs::Forms::body_short))]
 fn read_order<A: Allocator>(
     alloc: A,
     station: u16,
@@ -184,6 +187,7 @@ fn read_order<A: Allocator>(
     name: &[u8],
     words: &[&[u8]],
 ) -> Result<Line<A>, Unread>
+    requires { IfSome head (λ head. 0 < head.sequence) }
     ensures ok { IfOk result (λ said. said ≡ order station head (body_in name.now (map (λ w. w.now) words.now))) }
     ensures err { IfErr result (λ unread. sequence_of (order {A = A} station head (body_in name.now (map (λ w. w.now) words.now))) ≡ Some unread.sequence) }
 {

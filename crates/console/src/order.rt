@@ -5,7 +5,7 @@ ghost use Rattle.identity.specs.IdentityText.{reading_identity, reading_prefix};
 ghost use Rattle.identity.specs.BitsText.{reading_bits};
 ghost use Rattle.centre_core.specs.declared.query.Query.TheVariants.{Whereabouts};
 ghost use Rattle.centre_core.specs.declared.command.Body.TheVariants.{RuleClear};
-ghost use Rattle.console.specs.Reading.{query_in, body_in, mm_body, sds_body, rule_body, HasPdu, head_in, seconds_in, sequence_in, area_in, lifetime_in, rule_in, reference_in, kind_in, key_in, saying};
+ghost use Rattle.console.specs.Reading.{query_in, body_in, mm_body, sds_body, rule_body, GivesPdu, head_in, seconds_in, sequence_in, area_in, lifetime_in, rule_in, reference_in, kind_in, key_in, saying};
 
 use crate::line::LineFault;
 use centre_core::{Body, Query};
@@ -58,7 +58,7 @@ pub(crate) fn body_in<A: Allocator>(
     words: &[&[u8]],
 ) -> Result<Result<Body<A>, LineFault>, AllocError>
     ensures ok { IfOk result (λ said. said ≡ body_in name.now (map (λ w. w.now) words.now)) }
-    ensures err { OnErr result (HasPdu (body_in {A = A} name.now (map (λ w. w.now) words.now))) }
+    ensures err { OnErr result (GivesPdu (body_in {A = A} name.now (map (λ w. w.now) words.now))) }
 {
     match words {
         [] => {
@@ -124,7 +124,7 @@ fn mm_body<A: Allocator>(
     pdu: &[u8],
 ) -> Result<Result<Body<A>, LineFault>, AllocError>
     ensures ok { IfOk result (λ said. said ≡ mm_body (result_ok (reading_identity itsi.now)) (area_in area.now) (result_ok (reading_bits pdu.now))) }
-    ensures err { OnErr result (HasPdu (mm_body {A = A} (result_ok (reading_identity itsi.now)) (area_in area.now) (result_ok (reading_bits pdu.now)))) }
+    ensures err { OnErr result (GivesPdu (mm_body {A = A} (result_ok (reading_identity itsi.now)) (area_in area.now) (result_ok (reading_bits pdu.now)))) }
 {
     let (Ok(itsi), Some(area)) = (parse_itsi(itsi), area_in(area)) else {
         return Ok(Err(LineFault::Value));
@@ -143,7 +143,7 @@ fn sds_body<A: Allocator>(
     pdu: &[u8],
 ) -> Result<Result<Body<A>, LineFault>, AllocError>
     ensures ok { IfOk result (λ said. said ≡ sds_body (result_ok (reading_identity source.now)) (result_ok (reading_identity destination.now)) (result_ok (reading_bits pdu.now))) }
-    ensures err { OnErr result (HasPdu (sds_body {A = A} (result_ok (reading_identity source.now)) (result_ok (reading_identity destination.now)) (result_ok (reading_bits pdu.now)))) }
+    ensures err { OnErr result (GivesPdu (sds_body {A = A} (result_ok (reading_identity source.now)) (result_ok (reading_identity destination.now)) (result_ok (reading_bits pdu.now)))) }
 {
     let (Ok(source), Ok(destination)) = (parse_itsi(source), parse_itsi(destination)) else {
         return Ok(Err(LineFault::Value));

@@ -1,7 +1,12 @@
 //! How far a run has come.
-ghost use Rattle.std.specs.Prelude.{◌≡◌, ◌++◌, [], List, ℕ, MatchBool, option_map, length, ◌<◌, IfOk, OnOk, false};
-ghost use Rattle.console.specs.Feed.{Holds, line_at_end, StandsFor};
+ghost use Rattle.std.specs.Prelude.{◌≡◌, ◌++◌, ◌≤◌, [], List, ℕ, MatchBool, option_map, length, ◌<◌, IfOk, IfErr, false, vec_capacity};
+ghost use Rattle.console.specs.declared.progress.TheConstants.{ANSWER, KEPT};
+ghost use Rattle.console.specs.Answer.{text, answer_room, HasNoLongPdu};
+ghost use Rattle.console.specs.Hand.{Holds, line_at_end, StandsFor, StandsIn};
 
+use crate::answer::{Answer, print_answer};
+use crate::desk::Service;
+use crate::running::RunFault;
 use std::alloc::{AllocError, Allocator};
 
 /// The most bytes of a line that are kept: a line of 1,024 and a carriage return.
@@ -14,55 +19,32 @@ pub(crate) struct LineAtHand<A: Allocator> {
     kept: Vec<u8, A>,
     // There are more.
     long: bool,
-}
-
-/// Room for the text of an answer.
-const ANSWER: usize = 1024;
-
-/// How far a run has come.
-#[derive(Drop)]
-pub(crate) struct Progress<A: Allocator> {
-    pub(crate) hand: LineAtHand<A>,
-    /// Where the text of an answer is made.
-    pub(crate) out: Vec<u8, A>,
-    /// How many lines were answered.
-    pub(crate) lines: u64,
-    /// Whether there was trouble in an answer.
-    pub(crate) troubled: bool,
-}
-
-impl<A: Allocator + Copy> Progress<A> {
-    /// Nothing has come. Memory is taken here: for the line at hand all of it, and for the texts of
-    /// answers ample.
-    pub(crate) fn new(alloc: A) -> Result<Self, AllocError>
-        ensures kept { IfOk result (λ p. p.hand.kept.items ≡ []) }
-        ensures long { IfOk result (λ p. p.hand.long ≡ false) }
-        ensures lines { IfOk result (λ p. p.lines ≡ 0) }
-        ensures troubled { IfOk result (λ p. p.troubled ≡ false) }
-    {
-        let kept = Vec::with_capacity(alloc, KEPT)?;
-        Ok(Progress {
-            hand: LineAtHand { kept, long: false },
-            out: Vec::with_capacity(alloc, ANSWER)?,
-            lines: 0,
-            troubled: false,
-        })
-    }
+    ghost room: { KEPT ≤ vec_capacity kept },
 }
 
 impl<A: Allocator> LineAtHand<A> {
+    /// No byte has come. Memory for all of a line is taken here.
+    fn new(alloc: A) -> Result<Self, AllocError>
+        ensures { IfOk result (λ hand. Holds hand.kept.items hand.long []) }
+    {
+        Ok(LineAtHand {
+            kept: Vec::with_capacity(alloc, KEPT)?,
+            long: false,
+        })
+    }
+
     /// Adds bytes to the line.
-    pub(crate) fn keep(&mut self, run: &[u8]) -> Result<(), AllocError>
-        ensures { OnOk result ((line : List ℕ) → Holds self.old.kept.items self.old.long line → Holds self.new.kept.items self.new.long (line ++ run.now)) }
+    pub(crate) fn keep(&mut self, run: &[u8])
+        ensures { (line : List ℕ) → Holds self.old.kept.items self.old.long line → Holds self.new.kept.items self.new.long (line ++ run.now) }
     {
         if self.long {
-            return Ok(());
+            return;
         }
         if run.len() > KEPT || self.kept.len() > KEPT - run.len() {
             self.long = true;
-            return Ok(());
+            return;
         }
-        self.kept.extend_from_slice(run)
+        self.kept.extend_from_slice(run).unwrap();
     }
 
     /// Whether no byte of it has come.
@@ -92,5 +74,81 @@ impl<A: Allocator> LineAtHand<A> {
     {
         self.kept.clear();
         self.long = false;
+    }
+}
+
+/// Room for an answer of one line: `SEQ kept NUMBER PDU` with a PDU of 2,048 bits takes no more than half.
+const ANSWER: usize = 1024;
+
+/// The text of an answer.
+#[derive(Drop)]
+pub(crate) struct AnswerText<A: Allocator> {
+    bytes: Vec<u8, A>,
+    ghost room: { ANSWER ≤ vec_capacity bytes },
+}
+
+impl<A: Allocator> AnswerText<A> {
+    /// Takes memory for the text of any answer but a list.
+    fn new(alloc: A) -> Result<Self, AllocError> {
+        Ok(AnswerText {
+            bytes: Vec::with_capacity(alloc, ANSWER)?,
+        })
+    }
+
+    /// Makes the text of the answer to the line of this number, and tells which answer that is: a list for
+    /// whose text there is no memory gives way to want of memory.
+    pub(crate) fn hold<B: Allocator + Drop>(
+        &mut self,
+        number: u64,
+        answer: Answer<B>,
+    ) -> Result<Answer<B>, RunFault>
+        ensures ok { IfOk result (λ held. StandsIn number answer held × (self.new.bytes.items ≡ text held)) }
+        ensures err { IfErr result (λ e. (e ≡ RunFault.NoMemory) × (HasNoLongPdu answer → ⊥)) }
+    {
+        self.bytes.clear();
+        if print_answer(&mut self.bytes, &answer).is_ok() {
+            return Ok(answer);
+        }
+        if !answer.tells_list() {
+            return Err(RunFault::NoMemory);
+        }
+        let untold = Answer::Untold(number, Service::Memory);
+        print_answer(&mut self.bytes, &untold).unwrap();
+        Ok(untold)
+    }
+
+    pub(crate) fn as_slice(&self) -> &[u8]
+        ensures { result.now ≡ self.now.bytes.items }
+    {
+        self.bytes.as_slice()
+    }
+}
+
+/// How far a run has come.
+#[derive(Drop)]
+pub(crate) struct Progress<A: Allocator> {
+    pub(crate) hand: LineAtHand<A>,
+    /// Where the text of an answer is made.
+    pub(crate) out: AnswerText<A>,
+    /// How many lines were answered.
+    pub(crate) lines: u64,
+    /// Whether there was trouble in an answer.
+    pub(crate) troubled: bool,
+}
+
+impl<A: Allocator + Copy> Progress<A> {
+    /// Nothing has come. Memory is taken here alone: for the line at hand, and for the text of any answer
+    /// but a list.
+    pub(crate) fn new(alloc: A) -> Result<Self, AllocError>
+        ensures hand { IfOk result (λ p. Holds p.hand.kept.items p.hand.long []) }
+        ensures lines { IfOk result (λ p. p.lines ≡ 0) }
+        ensures troubled { IfOk result (λ p. p.troubled ≡ false) }
+    {
+        Ok(Progress {
+            hand: LineAtHand::new(alloc)?,
+            out: AnswerText::new(alloc)?,
+            lines: 0,
+            troubled: false,
+        })
     }
 }

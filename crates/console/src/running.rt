@@ -1,7 +1,7 @@
 //! Reading a text in pieces, to its end.
-ghost use Rattle.std.specs.Prelude.{◌≡◌, ◌⊎◌, IsErrOf, ◌≤◌, ◌<◌, ◌+◌, List, ℕ, length, IfOk, OnErr, Some};
+ghost use Rattle.std.specs.Prelude.{◌≡◌, ◌⊎◌, IsErrOf, ◌≤◌, ◌<◌, ◌+◌, List, ℕ, length, IfOk, IfErr, OnErr, Some};
 ghost use Rattle.console.specs.Feed.{FitsPiece, IsPiece};
-ghost use Rattle.console.specs.Dialogue.{RunsWell, RunsShort};
+ghost use Rattle.console.specs.Dialogue.{GivesLongPdu, RunsWell, RunsShort};
 
 use crate::desk::Desk;
 use crate::progress::Progress;
@@ -32,7 +32,8 @@ pub enum RunFault {
     /// The writer failed.
     #[error("the answers can't be written")]
     Write,
-    /// There is no memory for an answer.
+    /// There is no memory for a line and its answer: this is told before the first call of the reader; or
+    /// for a reply with a PDU of more than 2,048 bits.
     #[error("no memory")]
     NoMemory,
 }
@@ -62,6 +63,7 @@ fn read_piece<L: Ledger, F: Ledger, R: Read>(
     ensures calls { steps.new ≡ steps.old + 1 }
     ensures faults { faults.old ≤ faults.new }
     ensures failed { OnErr result (faults.old < faults.new) }
+    ensures plain { IfErr result (λ e. e ≡ RunFault.Read) }
 {
     steps.tick();
     match reader.read(buffer) {
@@ -95,6 +97,7 @@ pub fn run_counted<L: Ledger, F: Ledger, A: Allocator + Copy + Drop, R: Read, W:
         RunsShort A D.rules station (D.world desk.old) input before (W.contents writer.new) (D.world desk.new)) }
     ensures calls { steps.new ≤ steps.old + turns }
     ensures read { IsErrOf result RunFault.Read → (steps.new ≡ steps.old + turns) ⊎ (faults.old < faults.new) }
+    ensures memory { IsErrOf result RunFault.NoMemory → (steps.new ≡ steps.old) ⊎ GivesLongPdu A D.rules }
 {
     let Ok(mut progress) = Progress::new(alloc) else {
         return Err(RunFault::NoMemory);

@@ -1,14 +1,15 @@
 //! Answering lines as their bytes come.
-ghost use Rattle.std.specs.Prelude.{◌≡◌, ◌≢◌, ◌≤◌, ◌<◌, ◌+◌, ◌-◌, ◌^◌, ◌++◌, ◌∷◌, [], List, ℕ, length, take, drop, slice_get, MatchOption, option_map, IfOk, IfErr, OnOk, OnErr, Some};
-ghost use Rattle.console.specs.Answer.{text, is_trouble};
-ghost use Rattle.console.specs.Feed.{HasNoEnd, Holds, StandsFor, IsGoing};
-ghost use Rattle.console.specs.Dialogue.{Answers, RunsWell, RunsShort};
+ghost use Rattle.std.specs.Prelude.{◌≡◌, ◌≤◌, ◌<◌, ◌+◌, ◌-◌, ◌^◌, ◌++◌, ◌∷◌, [], List, ℕ, length, take, drop, slice_get, MatchOption, option_map, IfOk, IfErr, OnOk, OnErr, Some};
+ghost use Rattle.console.specs.Answer.{text, is_trouble, HasNoLongPdu};
+ghost use Rattle.console.specs.Feed.{IsGoing};
+ghost use Rattle.console.specs.Hand.{HasNoEnd, StandsFor};
+ghost use Rattle.console.specs.Dialogue.{Answers, GivesLongPdu, Stops, RunsWell, RunsShort};
 ghost use Rattle.console.specs.declared.answer.Answer.{Answer};
 
-use crate::answer::{Answer, print_answer};
+use crate::answer::Answer;
 use crate::desk::{Desk, Service};
 use crate::line::{Line, LineFault, read_line};
-use crate::progress::Progress;
+use crate::progress::{AnswerText, Progress};
 use crate::running::{Ran, RunFault};
 use crate::sending::send;
 use memchr::memchr;
@@ -23,7 +24,8 @@ fn answer_line<A: Allocator + Copy, D: Desk>(
     line: Option<&[u8]>,
     desk: &mut D,
 ) -> Answer<A>
-    ensures { (whole : List ℕ) → StandsFor (option_map (λ l. l.now) line.entry) whole → Answers D.rules station number (D.world desk.old) whole result (D.world desk.new) }
+    ensures answers { (whole : List ℕ) → StandsFor (option_map (λ l. l.now) line.entry) whole → Answers D.rules station number (D.world desk.old) whole result (D.world desk.new) }
+    ensures long { (HasNoLongPdu result → ⊥) → GivesLongPdu A D.rules }
 {
     let Some(line) = line else {
         return Answer::Bad(number, LineFault::TooLong);
@@ -43,28 +45,10 @@ fn answer_line<A: Allocator + Copy, D: Desk>(
     }
 }
 
-/// Writes an answer, whose text is made in `out`, or a front of it.
-fn deliver<A: Allocator, B: Allocator, W: Write>(
-    out: &mut Vec<u8, A>,
-    writer: &mut W,
-    answer: &Answer<B>,
-) -> Result<(), RunFault>
-    ensures ok { OnOk result ((before : List ℕ) → W.contents writer.old ≡ Some before → W.contents writer.new ≡ Some (before ++ text answer.now)) }
-    ensures err { OnErr result ((before : List ℕ) → W.contents writer.old ≡ Some before →
-        (part : List ℕ) × (missing : List ℕ) × (text answer.now ≡ part ++ missing) × (W.contents writer.new ≡ Some (before ++ part))) }
-    ensures plain { IfErr result (λ e. e ≢ RunFault.Read) }
-{
-    out.clear();
-    match print_answer(out, answer) {
-        Ok(()) => send(writer, out.as_slice()),
-        Err(_) => Err(RunFault::NoMemory),
-    }
-}
-
 /// Does what a line says, and writes its answer, whose text is made in `out`.
 fn serve<A: Allocator + Copy + Drop, W: Write, D: Desk>(
     alloc: A,
-    out: &mut Vec<u8, A>,
+    out: &mut AnswerText<A>,
     writer: &mut W,
     station: u16,
     number: u64,
@@ -77,11 +61,12 @@ fn serve<A: Allocator + Copy + Drop, W: Write, D: Desk>(
     ensures err { OnErr result ((whole before : List ℕ) → StandsFor (option_map (λ l. l.now) line.entry) whole → W.contents writer.old ≡ Some before →
         (a : Answer A) × (part : List ℕ) × (missing : List ℕ) × Answers D.rules station number (D.world desk.old) whole a (D.world desk.new)
         × (text a ≡ part ++ missing) × (W.contents writer.new ≡ Some (before ++ part))) }
-    ensures plain { IfErr result (λ e. e ≢ RunFault.Read) }
+    ensures stops { IfErr result (λ e. Stops A D.rules e) }
 {
     let answer = answer_line(alloc, station, number, line, desk);
-    deliver(out, writer, &answer)?;
-    Ok(answer.is_trouble())
+    let held = out.hold(number, answer)?;
+    send(writer, out.as_slice())?;
+    Ok(held.is_trouble())
 }
 
 /// Answers the line at hand, which a line feed ends.
@@ -100,7 +85,7 @@ fn end_line<A: Allocator + Copy + Drop, W: Write, D: Desk>(
         IsGoing D.rules station s before taken progress.old (W.contents writer.old) (D.world desk.old) →
         RunsShort A D.rules station s (taken ++ 10 ∷ rest) before (W.contents writer.new) (D.world desk.new)) }
     ensures lines { progress.new.lines ≤ progress.old.lines + 1 }
-    ensures plain { IfErr result (λ e. e ≢ RunFault.Read) }
+    ensures stops { IfErr result (λ e. Stops A D.rules e) }
 {
     let line = progress.hand.line(true);
     let number = progress.lines + 1;
@@ -117,19 +102,6 @@ fn end_line<A: Allocator + Copy + Drop, W: Write, D: Desk>(
     progress.troubled = progress.troubled | troubled;
     progress.hand.clear();
     Ok(())
-}
-
-/// Takes bytes that end no line.
-fn keep<A: Allocator>(progress: &mut Progress<A>, run: &[u8]) -> Result<(), RunFault>
-    ensures going { OnOk result ((line : List ℕ) → Holds progress.old.hand.kept.items progress.old.hand.long line → Holds progress.new.hand.kept.items progress.new.hand.long (line ++ run.now)) }
-    ensures lines { progress.new.lines ≡ progress.old.lines }
-    ensures troubled { progress.new.troubled ≡ progress.old.troubled }
-    ensures plain { IfErr result (λ e. e ≢ RunFault.Read) }
-{
-    match progress.hand.keep(run) {
-        Ok(()) => Ok(()),
-        Err(_) => Err(RunFault::NoMemory),
-    }
 }
 
 /// Takes bytes and the line feed behind them, and answers the line that it ends.
@@ -150,9 +122,9 @@ fn take_line<A: Allocator + Copy + Drop, W: Write, D: Desk>(
         IsGoing D.rules station s before taken progress.old (W.contents writer.old) (D.world desk.old) →
         RunsShort A D.rules station s (taken ++ run.now ++ 10 ∷ rest) before (W.contents writer.new) (D.world desk.new)) }
     ensures lines { progress.new.lines ≤ progress.old.lines + 1 }
-    ensures plain { IfErr result (λ e. e ≢ RunFault.Read) }
+    ensures stops { IfErr result (λ e. Stops A D.rules e) }
 {
-    keep(progress, run)?;
+    progress.hand.keep(run);
     end_line(alloc, progress, writer, station, desk)
 }
 
@@ -183,14 +155,15 @@ pub(crate) fn take_piece<A: Allocator + Copy + Drop, W: Write, D: Desk>(
         IsGoing D.rules station s before taken progress.old (W.contents writer.old) (D.world desk.old) →
         RunsShort A D.rules station s (taken ++ piece.now ++ rest) before (W.contents writer.new) (D.world desk.new)) }
     ensures lines { progress.new.lines ≤ progress.old.lines + length piece.now }
-    ensures plain { IfErr result (λ e. e ≢ RunFault.Read) }
+    ensures stops { IfErr result (λ e. Stops A D.rules e) }
 {
     let mut at = 0;
     while let Some(end) = next_end(piece, at) {
         take_line(alloc, progress, writer, station, &piece[at..end], desk)?;
         at = end + 1;
     }
-    keep(progress, &piece[at..])
+    progress.hand.keep(&piece[at..]);
+    Ok(())
 }
 
 /// Answers the last line, where the text doesn't end in a line feed.
@@ -208,7 +181,7 @@ pub(crate) fn finish<A: Allocator + Copy + Drop, W: Write, D: Desk>(
     ensures err { OnErr result ((s : D.World) (before taken : List ℕ) →
         IsGoing D.rules station s before taken progress.old (W.contents writer.old) (D.world desk.old) →
         RunsShort A D.rules station s taken before (W.contents writer.new) (D.world desk.new)) }
-    ensures plain { IfErr result (λ e. e ≢ RunFault.Read) }
+    ensures stops { IfErr result (λ e. Stops A D.rules e) }
 {
     if progress.hand.is_empty() {
         return Ok(Ran {

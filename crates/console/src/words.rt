@@ -1,5 +1,5 @@
 //! The words of the answers.
-ghost use Rattle.std.specs.Prelude.{◌≡◌};
+ghost use Rattle.std.specs.Prelude.{◌≡◌, ◌≤◌, length};
 ghost use Rattle.console.specs.Words.{line_word, service_word, mm_word, registration_word, group_word, sds_word, mail_word, kind_word};
 
 use crate::desk::Service;
@@ -11,7 +11,8 @@ use registration::RegFault;
 use sds_tl::SdsFault;
 
 pub(crate) fn line_word(fault: LineFault) -> &'static str
-    ensures { result.now ≡ line_word fault }
+    ensures text { result.now ≡ line_word fault }
+    ensures short { length result.now ≤ 32 }
 {
     match fault {
         LineFault::Syntax => "syntax",
@@ -21,7 +22,8 @@ pub(crate) fn line_word(fault: LineFault) -> &'static str
 }
 
 pub(crate) fn service_word(word: Service) -> &'static str
-    ensures { result.now ≡ service_word word }
+    ensures text { result.now ≡ service_word word }
+    ensures short { length result.now ≤ 32 }
 {
     match word {
         Service::Memory => "memory",
@@ -29,7 +31,8 @@ pub(crate) fn service_word(word: Service) -> &'static str
 }
 
 pub(crate) fn mm_word(fault: MmFault) -> &'static str
-    ensures { result.now ≡ mm_word fault }
+    ensures text { result.now ≡ mm_word fault }
+    ensures short { length result.now ≤ 32 }
 {
     match fault {
         MmFault::Short => "mm-short",
@@ -43,7 +46,8 @@ pub(crate) fn mm_word(fault: MmFault) -> &'static str
 }
 
 pub(crate) fn registration_word(fault: RegFault) -> &'static str
-    ensures { result.now ≡ registration_word fault }
+    ensures text { result.now ≡ registration_word fault }
+    ensures short { length result.now ≤ 32 }
 {
     match fault {
         RegFault::UnknownIdentity => "unknown-identity",
@@ -58,7 +62,8 @@ pub(crate) fn registration_word(fault: RegFault) -> &'static str
 }
 
 pub(crate) fn group_word(fault: GroupFault) -> &'static str
-    ensures { result.now ≡ group_word fault }
+    ensures text { result.now ≡ group_word fault }
+    ensures short { length result.now ≤ 32 }
 {
     match fault {
         GroupFault::NotAttached => "not-attached",
@@ -68,7 +73,8 @@ pub(crate) fn group_word(fault: GroupFault) -> &'static str
 }
 
 pub(crate) fn sds_word(fault: SdsFault) -> &'static str
-    ensures { result.now ≡ sds_word fault }
+    ensures text { result.now ≡ sds_word fault }
+    ensures short { length result.now ≤ 32 }
 {
     match fault {
         SdsFault::Short => "sds-short",
@@ -78,11 +84,13 @@ pub(crate) fn sds_word(fault: SdsFault) -> &'static str
         SdsFault::StorageControl => "storage-control",
         SdsFault::TooLong => "too-long",
         SdsFault::NoMemory => "memory",
+        SdsFault::NotATransfer => "not-a-transfer",
     }
 }
 
 pub(crate) fn mail_word(fault: MailFault) -> &'static str
-    ensures { result.now ≡ mail_word fault }
+    ensures text { result.now ≡ mail_word fault }
+    ensures short { length result.now ≤ 32 }
 {
     match fault {
         MailFault::UnknownDestination => "unknown-destination",
@@ -92,6 +100,7 @@ pub(crate) fn mail_word(fault: MailFault) -> &'static str
         MailFault::CentreFull => "centre-full",
         MailFault::NoSuchMessage => "no-such-message",
         MailFault::NoMemory => "memory",
+        MailFault::NoMembers => "no-members",
     }
 }
 

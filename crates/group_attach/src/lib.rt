@@ -20,6 +20,3 @@ pub use answer::answers;
 pub use attachment::Attachment;
 pub use fault::GroupFault;
 pub use groups::Groups;
-
-#[cfg(test)]
-mod tests;

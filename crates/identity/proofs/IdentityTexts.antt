@@ -144,7 +144,7 @@ id_path-aligned : (p : Path) → length p ≤ 48 → id_path (left_aligned p) �
 unfolding left_aligned padded
 id_path-aligned p le = id_path-number (padded p) (length-padded p le)
 
-aligned_below : (p : Path) → length p ≤ 48 → left_aligned p < 2 ^ 48
+pub aligned_below : (p : Path) → length p ≤ 48 → left_aligned p < 2 ^ 48
 unfolding left_aligned padded
 aligned_below p le = rw (length-padded p le) at (number-lt (padded p))
 

@@ -1,5 +1,6 @@
 pub mod Numbers
 pub mod Bytes
+pub mod SameBytes
 pub mod Reading
 pub mod Prefixes
 pub mod Identities
@@ -9,3 +10,5 @@ pub mod HexSteps
 pub mod Texts
 pub mod IdentityTexts
 pub mod BitsTexts
+pub mod Printed
+pub mod Lengths

@@ -1,12 +1,14 @@
 //! Strings of bits, packed in bytes.
 
-ghost use Rattle.std.specs.Prelude.{◌≡◌, ◌==◌, ◌<◌, ◌≤◌, ◌++◌, ◌*◌, Bool, List, [], length, take, IfOk, IfErr, OnOk, slice_get, Some};
+ghost use Rattle.std.specs.Prelude.{◌≡◌, ◌==◌, ◌<◌, ◌≤◌, ◌++◌, ◌*◌, ◌↔◌, Bool, List, [], length, take, IfOk, IfErr, OnOk, IsTrue, slice_get, Some};
+ghost use Rattle.std.specs.Ordering.{eq_by_cmp};
 ghost use Rattle.identity.specs.Number.{num};
 ghost use Rattle.identity.specs.Packed.{bits_of, IsPacked};
+ghost use Rattle.identity.specs.Path.{path_cmp};
 ghost use Rattle.identity.specs.declared.fault.Fault.TheVariants.{NoMemory};
 
 use crate::Fault;
-use crate::packed::{append_bits, bit_in};
+use crate::packed::{append_bits, bit_in, same_bytes};
 use std::alloc::{Allocator, Global};
 use std::marker::Model;
 
@@ -59,6 +61,23 @@ impl<A: Allocator> Bits<A> {
         })
     }
 
+    /// Its bits packed in bytes: eight to a byte, the first of them the greatest, in no more bytes than they
+    /// need; what fills the last byte is 0.
+    pub fn as_bytes(&self) -> &[u8]
+        ensures packed { IsPacked result.now (length self.now) }
+        ensures bits { take (length self.now) (bits_of result.now) ≡ self.now }
+    {
+        self.bytes.as_slice()
+    }
+
+    /// Whether the two are the same bits; they may lie under different allocators.
+    pub fn same<B: Allocator>(&self, other: &Bits<B>) -> bool
+        ensures equal { IsTrue result ↔ (self.now ≡ other.now) }
+        ensures test { result ≡ eq_by_cmp path_cmp self.now other.now }
+    {
+        self.len == other.len && same_bytes(&self.bytes, &other.bytes)
+    }
+
     pub(crate) fn new(alloc: A) -> Bits<A>
         ensures { result ≡ [] }
     {
@@ -79,14 +98,6 @@ impl<A: Allocator> Bits<A> {
         })
     }
 
-    /// The bytes that hold the bits, the greatest bit first.
-    pub(crate) fn as_bytes(&self) -> &[u8]
-        ensures bits { take (length self.now) (bits_of result.now) ≡ self.now }
-        ensures room { length self.now ≤ 8 * length result.now }
-    {
-        self.bytes.as_slice()
-    }
-
     /// Puts the low bits of `value` at the end.
     pub(crate) fn append(&mut self, value: u64, width: u32) -> Result<(), Fault>
         requires { width ≤ 64 }
@@ -100,4 +111,24 @@ impl<A: Allocator> Bits<A> {
         self.len = len;
         Ok(())
     }
+}
+
+impl<A: Allocator> PartialEq for Bits<A> {
+    ghost use Rattle.std.specs.Cmp.{partial_equiv_from_equiv, eq_by_cmp_equiv};
+    ghost use Rattle.identity.specs.PathLaws.{paths_total};
+
+    ghost eq = { eq_by_cmp path_cmp };
+
+    ghost laws = { partial_equiv_from_equiv (eq_by_cmp_equiv paths_total) };
+
+    fn eq(&self, other: &Bits<A>) -> bool {
+        self.same(other)
+    }
+}
+
+impl<A: Allocator> Eq for Bits<A> {
+    ghost use Rattle.std.specs.Cmp.{eq_by_cmp_equiv};
+    ghost use Rattle.identity.specs.PathLaws.{paths_total};
+
+    ghost laws = { eq_by_cmp_equiv paths_total };
 }

@@ -1,6 +1,6 @@
 //! Strings of bits as text.
 
-ghost use Rattle.std.specs.Prelude.{◌≡◌, ◌<◌, ◌≤◌, ◌^◌, ◌*◌, ◌+◌, ◌-◌, ◌++◌, ◌∷◌, ◌⊎◌, true, OnOk, OnErr, IfOk, IfErr, IfSome, Ok, Err, IsTrue, IsOk, length, take, drop, ◌==◌};
+ghost use Rattle.std.specs.Prelude.{◌≡◌, ◌<◌, ◌≤◌, ◌^◌, ◌*◌, ◌+◌, ◌-◌, ◌++◌, ◌∷◌, ◌⊎◌, true, OnOk, OnErr, IfOk, IfErr, IfSome, Ok, Err, IsTrue, IsOk, length, take, drop, vec_len, vec_capacity, ◌==◌};
 ghost use Rattle.std.specs.Char.{digit_value, is_ascii_hexdigit};
 ghost use Rattle.std.specs.Fmt.{digit_glyph};
 ghost use Rattle.std.specs.List.{list_all};
@@ -9,7 +9,7 @@ ghost use Rattle.identity.specs.NumberText.{is_number, value, Keeps};
 ghost use Rattle.identity.specs.BitsText.{hex_of, bits_text, digit_bits, bits_len, reading_bits};
 ghost use Rattle.identity.specs.declared.fault.Fault.TheVariants.{NoMemory};
 
-use crate::number_text::{cut, is_number, print_number, value_of};
+use crate::number_text::{cut, is_number, print_number, put_whole, value_of};
 use crate::{BitReader, Bits, Fault};
 use std::alloc::{AllocError, Allocator};
 
@@ -153,12 +153,14 @@ fn next_digit(reader: &mut BitReader<'_>) -> u8
     glyph(filled(value, width))
 }
 
-fn push_digits<A: Allocator>(
+fn put_digits<A: Allocator>(
     out: &mut Vec<u8, A>,
     reader: &mut BitReader<'_>,
 ) -> Result<(), AllocError>
     ensures ok { OnOk result (out.new.items ≡ out.old.items ++ hex_of reader.old) }
     ensures err { OnErr result (Keeps out.old.items out.new.items) }
+    ensures full { OnErr result (vec_capacity out.old < vec_len out.old + length (hex_of reader.old)) }
+    ensures capacity { vec_capacity out.old ≤ vec_capacity out.new }
 {
     while reader.left() > 0 {
         out.push(next_digit(reader))?;
@@ -166,16 +168,32 @@ fn push_digits<A: Allocator>(
     Ok(())
 }
 
-/// Appends the text `bits:HEX` of bits. On an error what `out` had is still there, at its front.
-#[tactic(auto, unfolding(crate::specs::BitsText::bits_text), using(std::proofs::Common::append_assoc))]
-pub fn print_bits<A: Allocator, B: Allocator>(
+#[tactic(auto, unfolding(crate::specs::BitsText::bits_text), using(crate::proofs::Printed::printed))]
+fn put_bits<A: Allocator, B: Allocator>(
     out: &mut Vec<u8, A>,
     bits: &Bits<B>,
 ) -> Result<(), AllocError>
     ensures ok { OnOk result (out.new.items ≡ out.old.items ++ bits_text bits.now) }
     ensures err { OnErr result (Keeps out.old.items out.new.items) }
+    ensures full { OnErr result (vec_capacity out.old < vec_len out.old + length (bits_text bits.now)) }
+    ensures capacity { vec_capacity out.old ≤ vec_capacity out.new }
 {
     print_number(out, bits.len() as u64)?;
     out.push(b':')?;
-    push_digits(out, &mut BitReader::new(bits))
+    put_digits(out, &mut BitReader::new(bits))
+}
+
+/// Appends the text `bits:HEX` of bits.
+pub fn print_bits<A: Allocator, B: Allocator>(
+    out: &mut Vec<u8, A>,
+    bits: &Bits<B>,
+) -> Result<(), AllocError>
+    ensures ok { OnOk result (out.new.items ≡ out.old.items ++ bits_text bits.now) }
+    ensures err { OnErr result (out.new.items ≡ out.old.items) }
+    ensures full { OnErr result (vec_capacity out.old < vec_len out.old + length (bits_text bits.now)) }
+    ensures capacity { vec_capacity out.old ≤ vec_capacity out.new }
+{
+    let before = out.len();
+    let put = put_bits(out, bits);
+    put_whole(out, before, put)
 }

@@ -1,10 +1,10 @@
 //! Identities and prefixes as text.
 
-ghost use Rattle.std.specs.Prelude.{◌≡◌, ◌<◌, ◌≤◌, ◌^◌, ◌++◌, OnOk, OnErr, IfOk, IfSome, IsTrue, option_map, length, take};
+ghost use Rattle.std.specs.Prelude.{◌≡◌, ◌<◌, ◌≤◌, ◌^◌, ◌+◌, ◌++◌, OnOk, OnErr, IfOk, IfSome, IsTrue, option_map, length, take, vec_len, vec_capacity};
 ghost use Rattle.identity.specs.NumberText.{is_number, value, Keeps};
 ghost use Rattle.identity.specs.IdentityText.{identity_text, prefix_text, three_numbers, identity_of, reading_identity, prefix_of, reading_prefix};
 
-use crate::number_text::{cut, is_number, print_number, value_of};
+use crate::number_text::{cut, is_number, print_number, put_whole, value_of};
 use crate::{Fault, Gtsi, Itsi, Prefix, fields};
 use std::alloc::{AllocError, Allocator};
 
@@ -117,12 +117,13 @@ pub fn parse_prefix(text: &[u8]) -> Result<Prefix, Fault>
     }
 }
 
-/// Appends the text of an identity's number.
-#[tactic(auto, unfolding(crate::specs::IdentityText::identity_text), using(std::proofs::Common::append_assoc))]
-fn print_identity<A: Allocator>(out: &mut Vec<u8, A>, number: u64) -> Result<(), AllocError>
+#[tactic(auto, unfolding(crate::specs::IdentityText::identity_text), using(crate::proofs::Printed::printed))]
+fn put_identity<A: Allocator>(out: &mut Vec<u8, A>, number: u64) -> Result<(), AllocError>
     requires { number < 2 ^ 48 }
     ensures ok { OnOk result (out.new.items ≡ out.old.items ++ identity_text number) }
     ensures err { OnErr result (Keeps out.old.items out.new.items) }
+    ensures full { OnErr result (vec_capacity out.old < vec_len out.old + length (identity_text number)) }
+    ensures capacity { vec_capacity out.old ≤ vec_capacity out.new }
 {
     print_number(out, u64::from(fields::mcc(number)))?;
     out.push(b'-')?;
@@ -131,29 +132,59 @@ fn print_identity<A: Allocator>(out: &mut Vec<u8, A>, number: u64) -> Result<(),
     print_number(out, u64::from(fields::ssi(number)))
 }
 
-/// Appends the text `mcc-mnc-ssi` of a radio's identity. On an error what `out` had is still there, at its front.
+/// Appends the text of an identity's number.
+fn print_identity<A: Allocator>(out: &mut Vec<u8, A>, number: u64) -> Result<(), AllocError>
+    requires { number < 2 ^ 48 }
+    ensures ok { OnOk result (out.new.items ≡ out.old.items ++ identity_text number) }
+    ensures err { OnErr result (out.new.items ≡ out.old.items) }
+    ensures full { OnErr result (vec_capacity out.old < vec_len out.old + length (identity_text number)) }
+    ensures capacity { vec_capacity out.old ≤ vec_capacity out.new }
+{
+    let before = out.len();
+    let put = put_identity(out, number);
+    put_whole(out, before, put)
+}
+
+/// Appends the text `mcc-mnc-ssi` of a radio's identity.
 pub fn print_itsi<A: Allocator>(out: &mut Vec<u8, A>, itsi: Itsi) -> Result<(), AllocError>
     ensures ok { OnOk result (out.new.items ≡ out.old.items ++ identity_text itsi) }
-    ensures err { OnErr result (Keeps out.old.items out.new.items) }
+    ensures err { OnErr result (out.new.items ≡ out.old.items) }
+    ensures full { OnErr result (vec_capacity out.old < vec_len out.old + length (identity_text itsi)) }
+    ensures capacity { vec_capacity out.old ≤ vec_capacity out.new }
 {
     print_identity(out, itsi.number())
 }
 
-/// Appends the text `mcc-mnc-ssi` of a group's identity. On an error what `out` had is still there, at its front.
+/// Appends the text `mcc-mnc-ssi` of a group's identity.
 pub fn print_gtsi<A: Allocator>(out: &mut Vec<u8, A>, gtsi: Gtsi) -> Result<(), AllocError>
     ensures ok { OnOk result (out.new.items ≡ out.old.items ++ identity_text gtsi) }
-    ensures err { OnErr result (Keeps out.old.items out.new.items) }
+    ensures err { OnErr result (out.new.items ≡ out.old.items) }
+    ensures full { OnErr result (vec_capacity out.old < vec_len out.old + length (identity_text gtsi)) }
+    ensures capacity { vec_capacity out.old ≤ vec_capacity out.new }
 {
     print_identity(out, gtsi.number())
 }
 
-/// Appends the text `mcc-mnc-ssi/len` of a prefix. On an error what `out` had is still there, at its front.
-#[tactic(auto, unfolding(crate::specs::IdentityText::prefix_text), using(std::proofs::Common::append_assoc))]
-pub fn print_prefix<A: Allocator>(out: &mut Vec<u8, A>, prefix: Prefix) -> Result<(), AllocError>
+#[tactic(auto, unfolding(crate::specs::IdentityText::prefix_text), using(crate::proofs::Printed::printed))]
+fn put_prefix<A: Allocator>(out: &mut Vec<u8, A>, prefix: Prefix) -> Result<(), AllocError>
     ensures ok { OnOk result (out.new.items ≡ out.old.items ++ prefix_text prefix) }
     ensures err { OnErr result (Keeps out.old.items out.new.items) }
+    ensures full { OnErr result (vec_capacity out.old < vec_len out.old + length (prefix_text prefix)) }
+    ensures capacity { vec_capacity out.old ≤ vec_capacity out.new }
 {
     print_identity(out, prefix.bits())?;
     out.push(b'/')?;
     print_number(out, u64::from(prefix.len()))
+}
+
+/// Appends the text `mcc-mnc-ssi/len` of a prefix.
+pub fn print_prefix<A: Allocator>(out: &mut Vec<u8, A>, prefix: Prefix) -> Result<(), AllocError>
+    ensures ok { OnOk result (out.new.items ≡ out.old.items ++ prefix_text prefix) }
+    ensures err { OnErr result (out.new.items ≡ out.old.items) }
+    ensures full { OnErr result (vec_capacity out.old < vec_len out.old + length (prefix_text prefix)) }
+    ensures capacity { vec_capacity out.old ≤ vec_capacity out.new }
+{
+    let before = out.len();
+    let put = put_prefix(out, prefix);
+    put_whole(out, before, put)
 }

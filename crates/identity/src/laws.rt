@@ -4,6 +4,7 @@
 ghost use Rattle.std.specs.Prelude.{◌≡◌, ◌<◌, ◌≤◌, ◌^◌, ◌↔◌, ◌⊎◌, ◌++◌, ◌∷◌, ℕ, List, Bool, true, false, Ok, Err, length, take, decimal};
 ghost use Rattle.std.specs.declared.cmp.Ordering.TheVariants.{Less};
 ghost use Rattle.identity.specs.Number.{num, number};
+ghost use Rattle.identity.specs.Packed.{bits_of, IsPacked, AreBytes};
 ghost use Rattle.identity.specs.Identity.{identity_number, AreFields, mcc_of, mnc_of, ssi_of};
 ghost use Rattle.identity.specs.NumberText.{is_number, reading_number};
 ghost use Rattle.identity.specs.IdentityText.{identity_text, prefix_text, IsIdentityForm, IsPrefixForm, reading_identity, reading_prefix};
@@ -17,6 +18,11 @@ pub fn numbers()
     ensures size { (w v : ℕ) → length (num w v) ≡ w }
     ensures back { (w v : ℕ) → v < 2 ^ w → number (num w v) ≡ v }
     ensures whole { (bits : List Bool) → num (length bits) (number bits) ≡ bits }
+{}
+
+/// Bits are packed in bytes in one way.
+pub fn packed_bits()
+    ensures { (one other : List ℕ) (len : ℕ) → AreBytes one → AreBytes other → IsPacked one len → IsPacked other len → take len (bits_of one) ≡ take len (bits_of other) → one ≡ other }
 {}
 
 /// The 48 bits of an identity are those of its three numbers, one after the other, and each 48 bits are an identity.

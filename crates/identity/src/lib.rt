@@ -23,10 +23,7 @@ pub use identity_text::{
     parse_gtsi, parse_itsi, parse_prefix, print_gtsi, print_itsi, print_prefix,
 };
 pub use itsi::Itsi;
-pub use number_text::{parse_number, print_number};
+pub use number_text::{parse_number, print_number, put_whole};
 pub use prefix::Prefix;
 pub use reader::BitReader;
 pub use writer::BitWriter;
-
-#[cfg(test)]
-mod tests;

@@ -1,6 +1,6 @@
 //! Numbers as text: decimal digits without leading zeros.
 
-ghost use Rattle.std.specs.Prelude.{◌≡◌, ◌<◌, ◌≤◌, ◌^◌, ◌++◌, ◌==◌, Some, None, OnOk, OnErr, IsTrue, decimal, nat_le, option_map, position, if◌then◌else◌};
+ghost use Rattle.std.specs.Prelude.{◌≡◌, ◌<◌, ◌≤◌, ◌^◌, ◌+◌, ◌++◌, ◌==◌, Some, None, OnOk, OnErr, IsTrue, decimal, nat_le, option_map, position, length, take, vec_len, vec_capacity, if◌then◌else◌};
 ghost use Rattle.std.specs.Char.{is_ascii_digit};
 ghost use Rattle.std.specs.List.{list_all};
 ghost use Rattle.identity.specs.NumberText.{is_number, value, reading_number, cut};
@@ -76,10 +76,30 @@ pub fn parse_number(text: &[u8], most: u64) -> Result<u64, Fault>
     }
 }
 
-/// Appends a number in decimal.
+/// Appends a number in decimal. Where there is no memory for it, `out` holds what it held: so it is with
+/// each print call, and each fails only where `out` has no room for its text.
 pub fn print_number<A: Allocator>(out: &mut Vec<u8, A>, number: u64) -> Result<(), AllocError>
     ensures ok { OnOk result (out.new.items ≡ out.old.items ++ decimal number) }
     ensures err { OnErr result (out.new.items ≡ out.old.items) }
+    ensures full { OnErr result (vec_capacity out.old < vec_len out.old + length (decimal number)) }
+    ensures capacity { vec_capacity out.old ≤ vec_capacity out.new }
 {
     out.extend_from_slice(Buffer::new().format(number).as_bytes())
+}
+
+/// Takes back what was put behind the first `before` bytes, where not all of it could be put; `put` tells.
+pub fn put_whole<A: Allocator>(
+    out: &mut Vec<u8, A>,
+    before: usize,
+    put: Result<(), AllocError>,
+) -> Result<(), AllocError>
+    ensures same { result ≡ put }
+    ensures ok { OnOk put (out.new.items ≡ out.old.items) }
+    ensures err { OnErr put (out.new.items ≡ take before out.old.items) }
+    ensures capacity { vec_capacity out.new ≡ vec_capacity out.old }
+{
+    if put.is_err() {
+        out.truncate(before);
+    }
+    put
 }

@@ -1,6 +1,6 @@
 -- What each change makes of the boxes.
-use Rattle.std.proofs.Common.{◌≡◌, Bool, true, false, cond, List, [], ◌∷◌, ◌++◌, refl, ap, sym, ◌∙◌, arith, Option, Some, None}
-use Rattle.std.specs.Prelude.{◌==◌, not, ◌&&◌, unwrap_or, length}
+use Rattle.std.proofs.Common.{◌≡◌, Bool, true, false, cond, List, [], ◌∷◌, ◌++◌, refl, ap, sym, ◌∙◌, arith, Option, Some, None, Result, Ok, Err}
+use Rattle.std.specs.Prelude.{IfErr, ◌==◌, not, ◌&&◌, unwrap_or, length}
 use Rattle.std.specs.List.{filter}
 use Rattle.std.specs.FinMap as finite
 use Rattle.std.specs.FinMap.{get-insert, get-remove, get-empty, same_map}
@@ -15,6 +15,11 @@ use Rattle.mailbox.specs.Tests.{is_at}
 use Rattle.mailbox.specs.Boxes.{Boxes, contents, items_under, box_of, with_items, with_less, swept, put_last, put, is_under}
 use Rattle.mailbox.proofs.Lists.{beside, filter_twice, filter_within, filter_turned}
 use Rattle.mailbox.proofs.Keys.{same_number, key_exact, under_other}
+
+-- what is known where a call fails
+pub on_err : {T E Q : Type 0} (r : Result T E) → Q → IfErr r (λ _. Q)
+on_err (Ok x) q = tt
+on_err (Err e) q = q
 
 -- each destination's box has its items
 abbrev pub IsBoxed : List Waiting → Boxes → Type 0

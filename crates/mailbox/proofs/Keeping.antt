@@ -15,6 +15,7 @@ use Rattle.mailbox.specs.declared.key.Key.{Key}
 use Rattle.mailbox.specs.declared.place.Place.{Place}
 use Rattle.mailbox.specs.Values.{Waiting}
 use Rattle.mailbox.specs.Tests.{same_key, is_at, is_to, is_expired}
+use Rattle.mailbox.specs.Order.{IsBefore}
 use Rattle.mailbox.specs.Boxes.{Boxes, items_under, swept, put_last, put, all_expired, item_at, is_kept, place_of, in_order, is_under, AreKept}
 use Rattle.mailbox.proofs.Lists.{implied, filter_alike, filter_twice, any_within, find_within, filter_all, none_left, looked_up, filter_mapped, any_mapped, find_each, any_each}
 use Rattle.mailbox.proofs.Keys.{key_itself, key_turned, at_is_under, under_is_to}
@@ -27,6 +28,7 @@ pub none_kept : (boxes : Boxes) (order : List Place) → boxes ≡ finite.empty 
 none_kept boxes order empty none = record {
   boxed = λ p. ap (λ b. finite.get b p) empty ∙ get-empty path_cmp p;
   indexed = none;
+  ordered = λ i j d less below. absurd (omega arith);
   apart = λ i j d less below. absurd (omega arith);
   whole = All-nil (λ w. w.key.destination < 2 ^ 48);
 }
@@ -54,6 +56,10 @@ kept_waiting ws boxes order destination kept below =
 pub kept_any : (ws : List Waiting) (boxes : Boxes) (order : List Place) (k : Key) → AreKept ws boxes order → list_any (λ place. same_key k place.key) order ≡ list_any (is_at k) ws
 kept_any ws boxes order k kept = ap (list_any (λ place. same_key k place.key)) kept.indexed ∙ any_mapped place_of (λ place. same_key k place.key) ws
 
+-- a destination's box has the item at a key where the item waits
+pub kept_holds : (ws : List Waiting) (boxes : Boxes) (order : List Place) (k : Key) → AreKept ws boxes order → is_kept boxes k ≡ list_any (is_at k) ws
+kept_holds ws boxes order k kept = ap (list_any (is_at k)) (items_boxed ws boxes (id_path k.destination) kept.boxed) ∙ any_within (is_at k) (is_under (id_path k.destination)) (at_is_under k) ws
+
 -- one key's item goes
 pub kept_removed : (ws : List Waiting) (boxes new : Boxes) (order left : List Place) (k : Key) → AreKept ws boxes order → new ≡ swept boxes (id_path k.destination) (is_at k) → left ≡ filter (λ place. not (same_key k place.key)) order → AreKept (filter (λ w. not (is_at k w)) ws) new left
 kept_removed ws boxes new order left k kept swept_so left_so = record {
@@ -61,18 +67,20 @@ kept_removed ws boxes new order left k kept swept_so left_so = record {
       (subst (λ os. IsBoxed os (swept boxes (id_path k.destination) (is_at k))) (filter_agree (λ w. not (is_under (id_path k.destination) w && is_at k w)) (λ w. not (is_at k w)) (λ w. ap not (implied (is_under (id_path k.destination) w) (is_at k w) (at_is_under k w))) ws)
       (boxed_swept ws boxes kept.boxed (id_path k.destination) (is_at k)));
   indexed = left_so ∙ ap (filter (λ place. not (same_key k place.key))) kept.indexed ∙ filter_mapped place_of (λ place. not (same_key k place.key)) ws;
+  ordered = AllPairs-filter IsBefore (λ w. not (is_at k w)) ws kept.ordered;
   apart = AllPairs-filter (λ a b. same_key b.key a.key ≡ false) (λ w. not (is_at k w)) ws kept.apart;
   whole = All-filter (λ w. not (is_at k w)) (λ w. w.key.destination < 2 ^ 48) ws kept.whole;
 }
 
--- one item more, in place of any at its key
-pub kept_put : (ws : List Waiting) (boxes new : Boxes) (order longer : List Place) (w : Waiting) → AreKept ws boxes order → w.key.destination < 2 ^ 48 → new ≡ put boxes w → longer ≡ filter (λ place. not (same_key w.key place.key)) order ++ place_of w ∷ [] → AreKept (put_last ws w) new longer
-kept_put ws boxes new order longer w kept below put_so longer_so =
+-- one item more, after all others, in place of any at its key
+pub kept_put : (ws : List Waiting) (boxes new : Boxes) (order longer : List Place) (w : Waiting) → AreKept ws boxes order → All (λ o. IsBefore o w) ws → w.key.destination < 2 ^ 48 → new ≡ put boxes w → longer ≡ filter (λ place. not (same_key w.key place.key)) order ++ place_of w ∷ [] → AreKept (put_last ws w) new longer
+kept_put ws boxes new order longer w kept last below put_so longer_so =
     let left : List Waiting = filter (λ o. not (is_at w.key o)) ws in
     record {
       boxed = subst (IsBoxed (put_last ws w)) (sym put_so) (boxed_put ws boxes kept.boxed w);
       indexed = longer_so ∙ ap (λ places. filter (λ place. not (same_key w.key place.key)) places ++ place_of w ∷ []) kept.indexed
           ∙ ap (λ places. places ++ place_of w ∷ []) (filter_mapped place_of (λ place. not (same_key w.key place.key)) ws) ∙ sym (map-append place_of left (w ∷ []));
+      ordered = all_pairs_push IsBefore left w (AllPairs-filter IsBefore (λ o. not (is_at w.key o)) ws kept.ordered) (All-filter (λ o. not (is_at w.key o)) (λ o. IsBefore o w) ws last);
       apart = all_pairs_push (λ a b. same_key b.key a.key ≡ false) left w (AllPairs-filter (λ a b. same_key b.key a.key ≡ false) (λ o. not (is_at w.key o)) ws kept.apart) (none_left (is_at w.key) ws);
       whole = All-push (λ o. o.key.destination < 2 ^ 48) left w (All-filter (λ o. not (is_at w.key o)) (λ o. o.key.destination < 2 ^ 48) ws kept.whole) below;
     }
@@ -134,6 +142,7 @@ kept_expired ws boxes new order left moment kept new_so left_so =
       boxed = boxed;
       indexed = left_so ∙ ap (filter (λ place. is_kept new place.key)) kept.indexed ∙ filter_mapped place_of (λ place. is_kept new place.key) ws
           ∙ ap (map place_of) (filter_alike (λ w. is_kept new w.key) (λ w. not (is_expired moment w)) ws (held_each (is_expired moment) ws new kept.apart boxed));
+      ordered = AllPairs-filter IsBefore (λ w. not (is_expired moment w)) ws kept.ordered;
       apart = AllPairs-filter (λ a b. same_key b.key a.key ≡ false) (λ w. not (is_expired moment w)) ws kept.apart;
       whole = All-filter (λ w. not (is_expired moment w)) (λ w. w.key.destination < 2 ^ 48) ws kept.whole;
     }

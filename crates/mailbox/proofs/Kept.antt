@@ -17,25 +17,30 @@ use Rattle.registration.specs.Registered.{Registered, rule_of}
 use Rattle.mailbox.specs.declared.fault.MailFault.{MailFault}
 use Rattle.mailbox.specs.declared.fault.MailFault.TheVariants.{ReferenceBusy, MailboxFull, CentreFull}
 use Rattle.mailbox.specs.declared.key.Kind.TheVariants.{Message}
+use Rattle.mailbox.specs.declared.key.Key.{Key}
 use Rattle.mailbox.specs.Values.{Waiting, Mailed}
 use Rattle.mailbox.specs.Tests.{same_key, answered, is_to, is_at, is_reported, is_ended_by}
 use Rattle.mailbox.specs.Mail.{holds, without, with_item, posted, reported}
 use Rattle.mailbox.specs.Refusals.{or_then, unknown_refusal, absent_refusal, busy_refusal, missing_refusal, crowd_refusal, full_refusal, post_refusal, most_for_one}
-use Rattle.mailbox.specs.Kept.{kind_number, IsBefore, IsSpelt, IsNumbered, IsMail}
-use Rattle.mailbox.specs.Laws.{EmptyIsMail, MoreIsMail, RemovalIsMail, PostIsMail, ReportIsMail}
+use Rattle.mailbox.specs.Order.{kind_number, place_at, IsBefore}
+use Rattle.mailbox.specs.Kept.{IsSpelt, IsNumbered, IsMail}
+use Rattle.mailbox.specs.Laws.{EmptyIsMail, MoreIsMail, RemovalIsMail, PostIsMail, ReportIsMail, NewComesLast}
 
 is_less : (x y : ℕ) (order : Ordering) → MatchOrdering order (x < y) (x ≡ y) (y < x) → x < y → order ≡ Less
 is_less x y Less h below = refl
 is_less x y Equal h below = absurd (omega (arith, h, below))
 is_less x y Greater h below = absurd (omega (arith, h, below))
 
--- the rest of its place
-abbrev key_place : Waiting → List ℕ
-key_place w = w.key.destination ∷ w.key.source ∷ w.key.reference ∷ kind_number w.key.kind ∷ []
+-- the rest of a place
+abbrev key_place : Key → List ℕ
+key_place k = k.destination ∷ k.source ∷ k.reference ∷ kind_number k.kind ∷ []
 
--- an item of a smaller number is before
-pub is_before : (a b : Waiting) → a.number < b.number → IsBefore a b
-is_before a b below = ap (λ order. ordering_then order (slice_cmp nat_cmp (key_place a) (key_place b))) (is_less a.number b.number (nat_cmp a.number b.number) (ranks a.number b.number) below)
+-- a smaller number is before
+pub is_before : (m n : ℕ) (j k : Key) → m < n → slice_cmp nat_cmp (place_at m j) (place_at n k) ≡ Less
+is_before m n j k below = ap (λ order. ordering_then order (slice_cmp nat_cmp (key_place j) (key_place k))) (is_less m n (nat_cmp m n) (ranks m n) below)
+
+pub new_comes_last : NewComesLast
+new_comes_last count m number k h new i d below = let p = All-get_or (IsNumbered count) m.items i d below h.numbered in let w = get_or m.items i d in is_before w.number number w.key k (omega (arith, p.1, new))
 
 abbrev weight : Bool → ℕ
 weight b = cond b 1 0
@@ -52,7 +57,7 @@ pub count_by-filter : (p q : Waiting → Bool) (xs : List Waiting) → count_by 
 count_by-filter p q [] = omega arith
 count_by-filter p q (x ∷ xs) = count_kept p (q x) x xs (filter q xs) (count_by-filter p q xs)
 
-one_more : (count more : ℕ) → count ≤ more → (w : Waiting) → IsNumbered count w → IsNumbered more w
+pub one_more : (count more : ℕ) → count ≤ more → (w : Waiting) → IsNumbered count w → IsNumbered more w
 one_more count more below w h = (h.0, omega (arith, below, h.1))
 
 pub empty_is_mail : EmptyIsMail
@@ -96,7 +101,7 @@ not_some : (b : Bool) (fault : MailFault) → (if b then Some fault else None) �
 not_some true fault h = cc
 not_some false fault h = refl
 
-at_most : (most n : ℕ) → nat_lt most n ≡ false → n ≤ most
+pub at_most : (most n : ℕ) → nat_lt most n ≡ false → n ≤ most
 at_most most n h = grind (arith, nat_tests)
 
 crowd_if : (b : Bool) (room in_all : ℕ) → (if b then Some MailboxFull else (if nat_lt room in_all then Some CentreFull else None)) ≡ None → (b ≡ false) × (in_all ≤ room)
@@ -124,14 +129,14 @@ with_new count m w h new =
     let crowd = not_crowded m.room _ _ new.none in
     record {
       numbered = All-push (IsNumbered (count + 1)) m.items w (All-weaker (IsNumbered count) (IsNumbered (count + 1)) (one_more count (count + 1) (omega arith)) m.items h.numbered) (omega (arith, new.number), omega (arith, new.number));
-      ordered = all_pairs_push IsBefore m.items w h.ordered (λ k d below. let p = All-get_or (IsNumbered count) m.items k d below h.numbered in is_before (get_or m.items k d) w (omega (arith, p.1, new.number)));
+      ordered = all_pairs_push IsBefore m.items w h.ordered (λ k d below. let p = All-get_or (IsNumbered count) m.items k d below h.numbered in is_before (get_or m.items k d).number w.number (get_or m.items k d).key w.key (omega (arith, p.1, new.number)));
       apart = all_pairs_push (λ a b. same_key b.key a.key ≡ false) m.items w h.apart (λ k d below. All-get_or (λ o. same_key w.key o.key ≡ false) m.items k d below new.alone);
       fits = crowd.1;
       fits_each = λ destination. each_fits m w destination (is_to destination w) refl (h.fits_each destination) crowd.0;
       spelt = All-push IsSpelt m.items w h.spelt new.spelt;
     }
 
-or_none : (f g : Option MailFault) → or_then f g ≡ None → (f ≡ None) × (g ≡ None)
+pub or_none : (f g : Option MailFault) → or_then f g ≡ None → (f ≡ None) × (g ≡ None)
 or_none (Some fault) g h = cc
 or_none None g h = (refl, h)
 

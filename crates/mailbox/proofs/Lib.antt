@@ -4,4 +4,9 @@ pub mod Boxed
 pub mod Keeping
 pub mod Effects
 pub mod Kept
+pub mod Copies
+pub mod CopiesRefused
+pub mod CopiesKept
+pub mod Newest
 pub mod Texts
+pub mod Next

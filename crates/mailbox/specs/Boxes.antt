@@ -11,6 +11,7 @@ use Rattle.mailbox.specs.declared.ending.Ending.{Ending}
 use Rattle.mailbox.specs.declared.ending.Ending.TheVariants.{At, Expired}
 use Rattle.mailbox.specs.Values.{Waiting}
 use Rattle.mailbox.specs.Tests.{same_key, is_at, is_expired}
+use Rattle.mailbox.specs.Order.{IsBefore}
 
 -- for each destination, under all bits of its identity, its items, the oldest first
 abbrev pub Boxes : Type 0
@@ -78,10 +79,11 @@ in_order boxes order = filter_map (λ place. item_at boxes place.key) order
 abbrev pub is_under : Path → Waiting → Bool
 is_under p w = eq_by_cmp path_cmp p (id_path w.key.destination)
 
--- These items, in order, are what is kept: each destination's box has its items, the index has the place of each item in
--- order, no two have one key, and each destination is the number of an identity.
+-- These items are what is kept: each destination's box has its items, the index has the place of each item, they are in
+-- order of number, then key, no two have one key, and each destination is the number of an identity.
 pub record AreKept (ws : List Waiting) (boxes : Boxes) (order : List Place) : Type 0 where
   pub boxed : (p : Path) → finite.get boxes p ≡ box_of (filter (is_under p) ws)
   pub indexed : order ≡ map place_of ws
+  pub ordered : AllPairs IsBefore ws
   pub apart : AllPairs (λ a b. same_key b.key a.key ≡ false) ws
   pub whole : All (λ w. w.key.destination < 2 ^ 48) ws

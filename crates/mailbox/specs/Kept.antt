@@ -1,9 +1,6 @@
 -- What holds of the mail after any commands.
-use Rattle.std.specs.Prelude.{◌≡◌, ℕ, ◌<◌, ◌≤◌, ◌==◌, Bool, true, false, List, [], ◌∷◌, length, count_by, Result, Ok, Err}
+use Rattle.std.specs.Prelude.{◌≡◌, ℕ, ◌<◌, ◌≤◌, ◌==◌, Bool, true, false, length, count_by, Result, Ok, Err}
 use Rattle.std.specs.List.{All, AllPairs}
-use Rattle.std.specs.Ordering.{nat_cmp}
-use Rattle.std.specs.declared.cmp.Ordering.TheVariants.{Less}
-use Rattle.std.specs.Cmp.Lexicographic.{slice_cmp}
 use Rattle.sds_tl.specs.declared.fault.SdsFault.{SdsFault}
 use Rattle.sds_tl.specs.declared.pdu.Head.{Head}
 use Rattle.sds_tl.specs.declared.pdu.Head.TheVariants as heads
@@ -12,18 +9,8 @@ use Rattle.mailbox.specs.declared.key.Kind.{Kind}
 use Rattle.mailbox.specs.declared.key.Kind.TheVariants.{Message, Report}
 use Rattle.mailbox.specs.Values.{Waiting, Mailed}
 use Rattle.mailbox.specs.Tests.{same_key, is_to}
+use Rattle.mailbox.specs.Order.{IsBefore}
 use Rattle.mailbox.specs.Refusals.{most_for_one}
-
-abbrev pub kind_number : Kind → ℕ
-kind_number Message = 0
-kind_number Report = 1
-
--- an item's place in the order: by number, then by key
-abbrev pub place : Waiting → List ℕ
-place w = w.number ∷ w.key.destination ∷ w.key.source ∷ w.key.reference ∷ kind_number w.key.kind ∷ []
-
-abbrev pub IsBefore : Waiting → Waiting → Type 0
-IsBefore a b = slice_cmp nat_cmp (place a) (place b) ≡ Less
 
 -- a message's PDU is an SDS-TRANSFER of its reference, a report item's an SDS-REPORT
 abbrev pub is_head_of : Kind → ℕ → Result Head SdsFault → Bool

@@ -1,7 +1,9 @@
 pub mod Values
 pub mod Tests
+pub mod Order
 pub mod Boxes
 pub mod Mail
 pub mod Refusals
+pub mod GroupPost
 pub mod Kept
 pub mod Laws

@@ -28,7 +28,7 @@ deadline_by (Some rule) moment = moment + rule.keep
 
 -- the item that a command makes
 abbrev pub waiting_for : Registered → Key → Stamp → List Bool → Waiting
-waiting_for s k stamp pdu = record { key = k; number = stamp.number; deadline = deadline_by (rule_of s k.destination) stamp.moment; pdu = pdu }
+waiting_for s k stamp pdu = record { key = k; number = stamp.number; deadline = deadline_by (rule_of s k.destination) stamp.moment; pdu = pdu; group = None }
 
 abbrev pub posted : Mailed → Waiting → Mailed
 posted = with_item

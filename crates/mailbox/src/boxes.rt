@@ -1,10 +1,11 @@
 //! The inboxes of all destinations.
 
-ghost use Rattle.std.specs.Prelude.{◌≡◌, ◌==◌, ◌<◌, ◌^◌, ◌++◌, [], length, map, OnOk, IfOk, IfErr, IsSome};
-ghost use Rattle.std.specs.List.{cons_option};
+ghost use Rattle.std.specs.Prelude.{◌≡◌, ◌==◌, ◌<◌, ◌^◌, ◌++◌, [], false, length, map, OnOk, OnErr, IfOk, IsSome};
+ghost use Rattle.std.specs.List.{cons_option, list_any};
 ghost use Rattle.std.specs.Option.{option_copied};
 ghost use Rattle.std.specs.FinMap as finite;
 ghost use Rattle.identity.specs.Path.{id_path};
+ghost use Rattle.mailbox.specs.Tests.{is_at};
 ghost use Rattle.mailbox.specs.Boxes.{items_under, with_items, with_less, swept, put, put_last, ends, all_expired, item_at, is_kept, in_order};
 
 use crate::ending::Ending;
@@ -107,14 +108,22 @@ impl<A: Allocator> Boxes<A> {
         };
         remove_under(tree, &destination.path(), ending);
     }
+
+    /// Takes the item at a key away. It takes no memory.
+    pub(crate) fn remove_at(&mut self, key: &Key)
+        ensures { self.new ≡ swept self.old (id_path key.now.destination) (is_at key.now) }
+    {
+        self.remove(key.destination, &Ending::At(*key));
+    }
 }
 
 impl<A: Allocator + Clone> Boxes<A> {
-    /// Puts the item at the end of its destination's inbox, in place of any at its key. For want of
-    /// memory nothing changes.
+    /// Puts the item at the end of its destination's inbox, in place of any at its key, and then
+    /// without memory. For want of it nothing changes.
     pub(crate) fn put(&mut self, alloc: &A, item: Item<A>) -> Result<(), AllocError>
         ensures ok { OnOk result (self.new ≡ put self.old item) }
-        ensures err { IfErr result (λ _. self.new ≡ self.old) }
+        ensures err { OnErr result (self.new ≡ self.old) }
+        ensures memory { OnErr result (is_kept self.old item.key ≡ false) }
         ensures whole { item.key.destination < 2 ^ 48 }
     {
         let path = Prefix::whole(item.key().destination.number());
@@ -169,7 +178,8 @@ fn put_under<A: Allocator + Clone>(
     item: Item<A>,
 ) -> Result<(), AllocError>
     ensures ok { OnOk result (tree.new ≡ with_items tree.old path.now (put_last (items_under tree.old path.now) item)) }
-    ensures err { IfErr result (λ _. tree.new ≡ tree.old) }
+    ensures err { OnErr result (tree.new ≡ tree.old) }
+    ensures memory { OnErr result (list_any (is_at item.key) (items_under tree.old path.now) ≡ false) }
 {
     if tree.find(path).is_some() {
         return put_from::<A, Brand>(tree, path, item, Blank::new(1));
@@ -194,7 +204,8 @@ fn put_from<A: Allocator, L: Ledger>(
     requires parts { blank.parts ≡ L.parts }
     requires some { 0 < blank.parts }
     ensures ok { OnOk result (tree.new ≡ finite.insert tree.old path.now (put_last (items_under tree.old path.now) item)) }
-    ensures err { IfErr result (λ _. tree.new ≡ tree.old) }
+    ensures err { OnErr result (tree.new ≡ tree.old) }
+    ensures memory { OnErr result (list_any (is_at item.key) (items_under tree.old path.now) ≡ false) }
 {
     let mut steps = Steps::<L>::new(blank);
     match tree.get_mut(path, &mut steps) {

@@ -26,4 +26,7 @@ pub enum MailFault {
     /// Memory ran out.
     #[error("out of memory")]
     NoMemory,
+    /// No member of the group is present but the sender.
+    #[error("no other member of the group is attached")]
+    NoMembers,
 }

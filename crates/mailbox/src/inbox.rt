@@ -1,6 +1,6 @@
 //! The items of one destination.
 
-ghost use Rattle.std.specs.Prelude.{◌≡◌, ◌<◌, [], false, not, OnOk, IfOk, IfErr, vec_len, vec_capacity};
+ghost use Rattle.std.specs.Prelude.{◌≡◌, ◌<◌, [], false, not, OnOk, OnErr, IfOk, vec_len, vec_capacity};
 ghost use Rattle.std.specs.List.{filter, list_any};
 ghost use Rattle.mailbox.specs.Tests.{is_at};
 ghost use Rattle.mailbox.specs.Boxes.{ends, put_last};
@@ -49,7 +49,8 @@ impl<A: Allocator> Inbox<A> {
     /// nothing changes.
     pub(crate) fn put(&mut self, item: Item<A>) -> Result<(), AllocError>
         ensures ok { OnOk result (self.new ≡ put_last self.old item) }
-        ensures err { IfErr result (λ _. self.new ≡ self.old) }
+        ensures err { OnErr result (self.new ≡ self.old) }
+        ensures memory { OnErr result (list_any (is_at item.key) self.old ≡ false) }
     {
         if !any_at(&self.items, &item.key()) && self.items.reserve(1).is_err() {
             return Err(AllocError);

@@ -1,13 +1,15 @@
 //! One message or report that waits.
 
-ghost use Rattle.std.specs.Prelude.{◌≡◌, IfOk};
+ghost use Rattle.std.specs.Prelude.{◌≡◌, ◌≤◌, IfOk};
 ghost use Rattle.sds_tl.specs.Reading.{heading};
+ghost use Rattle.mailbox.specs.Values.{latest_deadline};
 ghost use Rattle.mailbox.specs.Boxes.{place_of};
+ghost use Rattle.mailbox.specs.GroupPost.{addressed};
 ghost use Rattle.mailbox.specs.Tests.{request_of, asks_nothing, asks_consumed, wants_acknowledgement, ends_request, is_at, is_to, is_reported, is_ended_by, is_answerless, is_confirmed, is_expired};
 
 use crate::place::Place;
 use crate::{Envelope, Key, Kind};
-use identity::{Bits, Itsi};
+use identity::{Bits, Gtsi, Itsi};
 use sds_tl::{DeliveryReportRequest, DeliveryStatus, Head};
 use std::alloc::{AllocError, Allocator};
 use std::marker::Model;
@@ -19,27 +21,36 @@ pub struct Item<A: Allocator> {
     number: u64,
     deadline: u64,
     pdu: Bits<A>,
+    group: Option<Gtsi>,
 }
 
 impl<A: Allocator> Model for Item<A> {
-    ghost use Rattle.mailbox.specs.Values.{Waiting, coded_waiting};
+    ghost use Rattle.std.specs.Prelude.{◌≤◌};
+    ghost use Rattle.mailbox.specs.Values.{Waiting, coded_waiting, latest_deadline};
 
     ghost Value = { Waiting };
 
     ghost coded = { coded_waiting };
 
-    ghost view = { λ i. record { key = i.key; number = i.number; deadline = i.deadline; pdu = i.pdu } };
+    ghost view = { λ i. record { key = i.key; number = i.number; deadline = i.deadline; pdu = i.pdu; group = i.group } };
+
+    ghost invariant = { λ i. i.deadline ≤ latest_deadline };
 }
 
 impl<A: Allocator> Item<A> {
-    pub(crate) fn new(key: Key, number: u64, deadline: u64, pdu: Bits<A>) -> Item<A>
-        ensures { result ≡ record { key = key; number = number; deadline = deadline; pdu = pdu } }
+    /// The item at a key that the command of this number made: it ends at the moment `deadline`, in
+    /// seconds, at most 8,589,934,590 (the greatest moment and the greatest keep). A copy of a message
+    /// to a group has that group.
+    pub fn new(key: Key, number: u64, deadline: u64, pdu: Bits<A>, group: Option<Gtsi>) -> Item<A>
+        requires { deadline ≤ latest_deadline }
+        ensures { result ≡ record { key = key; number = number; deadline = deadline; pdu = pdu; group = group } }
     {
         Item {
             key,
             number,
             deadline,
             pdu,
+            group,
         }
     }
 
@@ -57,9 +68,10 @@ impl<A: Allocator> Item<A> {
         self.number
     }
 
-    /// The moment at which it expires, in seconds.
+    /// The moment at which it expires, in seconds: at most 8,589,934,590.
     pub fn deadline(&self) -> u64
-        ensures { result ≡ self.now.deadline }
+        ensures value { result ≡ self.now.deadline }
+        ensures latest { result ≤ latest_deadline }
     {
         self.deadline
     }
@@ -71,19 +83,39 @@ impl<A: Allocator> Item<A> {
         &self.pdu
     }
 
+    /// The group that it was sent to, of a copy of a message to a group.
+    pub fn group(&self) -> Option<Gtsi>
+        ensures { result ≡ self.now.group }
+    {
+        self.group
+    }
+
     /// A copy under the given allocator; it fails only where that has no memory left.
     pub fn copied<B: Allocator>(&self, alloc: B) -> Result<Item<B>, AllocError>
         ensures { IfOk result (λ copy. copy ≡ self.now) }
     {
-        match self.pdu.try_copy(alloc) {
-            Ok(pdu) => Ok(Item {
-                key: self.key,
-                number: self.number,
-                deadline: self.deadline,
-                pdu,
-            }),
-            Err(_) => Err(AllocError),
-        }
+        self.copied_to(alloc, self.key.destination)
+    }
+
+    /// A copy for this destination, under the given allocator; it fails only where that has no memory
+    /// left.
+    pub(crate) fn copied_to<B: Allocator>(
+        &self,
+        alloc: B,
+        destination: Itsi,
+    ) -> Result<Item<B>, AllocError>
+        ensures { IfOk result (λ copy. copy ≡ addressed self.now destination) }
+    {
+        let Ok(pdu) = self.pdu.try_copy(alloc) else {
+            return Err(AllocError);
+        };
+        Ok(Item {
+            key: self.key.with_destination(destination),
+            number: self.number,
+            deadline: self.deadline,
+            pdu,
+            group: self.group,
+        })
     }
 
     pub(crate) fn place(&self) -> Place

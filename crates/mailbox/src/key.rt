@@ -2,8 +2,9 @@
 
 ghost use Rattle.std.specs.Prelude.{◌≡◌};
 ghost use Rattle.mailbox.specs.Tests.{key_of, answered, same_kind, same_key};
+ghost use Rattle.mailbox.specs.GroupPost.{copy_key};
 
-use identity::Itsi;
+use identity::{Gtsi, Itsi};
 
 /// What waits: a message for its destination, or a report for the sender of a message.
 #[derive(Clone, Copy, Debug, PartialEq, Eq)]
@@ -47,6 +48,17 @@ impl Key {
             && self.reference == other.reference
             && self.kind.is(other.kind)
     }
+
+    pub(crate) fn with_destination(&self, destination: Itsi) -> Key
+        ensures { result ≡ record self.now { destination = destination } }
+    {
+        Key {
+            destination,
+            source: self.source,
+            reference: self.reference,
+            kind: self.kind,
+        }
+    }
 }
 
 /// What stands on a PDU that a radio sends: from whom, to whom and about which message.
@@ -82,6 +94,31 @@ impl Envelope {
             source: self.destination,
             reference: self.reference,
             kind,
+        }
+    }
+}
+
+/// What stands on a message that a radio sends to a group.
+#[derive(Clone, Copy, Debug, PartialEq, Eq)]
+pub struct GroupEnvelope {
+    /// The radio that sends it.
+    pub source: Itsi,
+    /// The group that it is for.
+    pub group: Gtsi,
+    /// The message reference in it, 0 to 255.
+    pub reference: u8,
+}
+
+impl GroupEnvelope {
+    /// The key of the copy for a member of the group.
+    pub fn key(&self, member: Itsi) -> Key
+        ensures { result ≡ copy_key self.now member }
+    {
+        Key {
+            destination: member,
+            source: self.source,
+            reference: self.reference,
+            kind: Kind::Message,
         }
     }
 }

@@ -5,6 +5,8 @@
 mod boxes;
 mod ending;
 mod fault;
+mod group_post;
+mod group_refusal;
 mod inbox;
 mod item;
 mod items;
@@ -16,8 +18,5 @@ mod refusal;
 
 pub use fault::MailFault;
 pub use item::Item;
-pub use key::{Envelope, Key, Kind, Stamp};
+pub use key::{Envelope, GroupEnvelope, Key, Kind, Stamp};
 pub use mail::Mail;
-
-#[cfg(test)]
-mod tests;

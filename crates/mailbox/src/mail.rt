@@ -1,13 +1,15 @@
 //! The mail, and the calls that change it.
 
-ghost use Rattle.std.specs.Prelude.{◌≡◌, ◌<◌, ◌≤◌, ◌++◌, ◌∷◌, [], length, count_by, false, not, map, None, OnOk, IfOk, IfErr, unwrap_or, vec_len, vec_capacity};
+ghost use Rattle.std.specs.Prelude.{◌≡◌, ◌↔◌, IsTrue, ◌<◌, ◌≤◌, ◌-◌, ◌++◌, ◌∷◌, [], length, count_by, false, not, map, None, OnOk, OnErr, IfOk, IfErr, unwrap_or, vec_len, vec_capacity};
 ghost use Rattle.std.specs.List.{AllPairs, filter, list_any};
 ghost use Rattle.mailbox.specs.declared.fault.MailFault.TheVariants.{NoMemory};
 ghost use Rattle.mailbox.specs.declared.key.Kind.TheVariants as kind;
-ghost use Rattle.mailbox.specs.Values.{empty_mailed};
+ghost use Rattle.mailbox.specs.Values.{empty_mailed, latest_deadline};
 ghost use Rattle.mailbox.specs.Tests.{same_key, key_of, is_to, is_at, is_reported, is_ended_by};
+ghost use Rattle.mailbox.specs.Order.{IsBefore, ComesLast};
 ghost use Rattle.mailbox.specs.Boxes.{is_kept};
 ghost use Rattle.mailbox.specs.Mail.{holds, without, with_item, deadline_by, waiting_for, posted, reported, acknowledged, confirmed, expired, deleted, waiting};
+ghost use Rattle.mailbox.specs.GroupPost.{shortened};
 ghost use Rattle.mailbox.specs.Refusals.{post_refusal, report_refusal, ack_refusal, sent_refusal, delete_refusal};
 
 use crate::boxes::{Boxes, remove_expired};
@@ -56,6 +58,13 @@ impl<A: Allocator> Mail<A> {
         }
     }
 
+    // What its fields keep, as a clause.
+    pub(crate) fn keep_order(&self)
+        ensures { AllPairs IsBefore self.now.items }
+    {
+        let _room = self.room;
+    }
+
     /// How many items may wait.
     pub(crate) fn room(&self) -> u32
         ensures { result ≡ self.now.room }
@@ -68,6 +77,11 @@ impl<A: Allocator> Mail<A> {
         ensures { result ≡ length self.now.items }
     {
         self.order.len()
+    }
+
+    /// The allocator under which it is kept.
+    pub(crate) fn allocator(&self) -> &A {
+        self.order.allocator()
     }
 
     /// What waits for a destination.
@@ -121,6 +135,16 @@ impl<A: Allocator> Mail<A> {
         count_left(self.items_of(envelope.destination), envelope, status)
     }
 
+    /// Whether an item of this number and key would come after all that wait.
+    pub fn is_next(&self, number: u64, key: &Key) -> bool
+        ensures { IsTrue result ↔ ComesLast self.now number key.now }
+    {
+        let Some(last) = self.order.last() else {
+            return true;
+        };
+        last.is_before(&Place { number, key: *key })
+    }
+
     /// Removes every item whose deadline is at most the moment. It takes no memory.
     pub fn expire(&mut self, moment: u32)
         ensures { self.new ≡ expired self.old moment }
@@ -145,7 +169,7 @@ impl<A: Allocator> Mail<A> {
     fn remove_at(&mut self, key: &Key)
         ensures { self.new ≡ deleted self.old key.now }
     {
-        self.boxes.remove(key.destination, &Ending::At(*key));
+        self.boxes.remove_at(key);
         remove_place(&mut self.order, key);
     }
 
@@ -165,6 +189,24 @@ impl<A: Allocator> Mail<A> {
         if any_reported(self.items_of(key.destination), envelope, status) {
             self.remove_at(&key);
         }
+    }
+
+    /// Takes the newest items away until no more than this many wait. It takes no memory.
+    pub(crate) fn truncate(&mut self, len: usize)
+        ensures { self.new ≡ shortened self.old len }
+    {
+        while self.len() > len {
+            self.drop_newest();
+        }
+    }
+
+    fn drop_newest(&mut self)
+        ensures { self.new ≡ shortened self.old (length self.old.items - 1) }
+    {
+        let Some(place) = self.order.pop() else {
+            return;
+        };
+        self.boxes.remove_at(&place.key);
     }
 
     /// All that waits, in order of number, then of key.
@@ -188,7 +230,8 @@ impl<A: Allocator> Mail<A> {
 
 impl<A: Allocator + Clone> Mail<A> {
     /// Puts a message (SDS-TRANSFER) at the end. It is kept for as long as the rule of its destination
-    /// says. The refusals are those of `post_refusal`, and `NoMemory`; a refusal changes nothing.
+    /// says. Its number and key come after those of all that wait. The refusals are those of
+    /// `post_refusal`, and `NoMemory`; a refusal changes nothing.
     pub fn post(
         &mut self,
         registry: &Registry<A>,
@@ -196,6 +239,7 @@ impl<A: Allocator + Clone> Mail<A> {
         stamp: Stamp,
         pdu: Bits<A>,
     ) -> Result<(), MailFault>
+        requires { ComesLast self.old stamp.number (key_of envelope.now kind.Message) }
         ensures ok { let w = waiting_for registry.now (key_of envelope.now kind.Message) stamp pdu in OnOk result ((post_refusal registry.now self.old w ≡ None) × (self.new ≡ posted self.old w)) }
         ensures err { let w = waiting_for registry.now (key_of envelope.now kind.Message) stamp pdu in IfErr result (λ e. (e ≡ unwrap_or (post_refusal registry.now self.old w) NoMemory) × (self.new ≡ self.old)) }
     {
@@ -211,8 +255,9 @@ impl<A: Allocator + Clone> Mail<A> {
 
     /// Takes a delivery report (SDS-REPORT) on a message that waits, from the message's destination to
     /// its source: the message goes where the status ends it, an earlier report on it goes, and this
-    /// one is put at the end. The refusals are those of `report_refusal`, and `NoMemory`; a refusal
-    /// changes nothing.
+    /// one is put at the end. Its number and key come after those of all that wait. The refusals are
+    /// those of `report_refusal`, and `NoMemory`, though never where an earlier report is replaced; a
+    /// refusal changes nothing.
     pub fn report(
         &mut self,
         registry: &Registry<A>,
@@ -221,8 +266,10 @@ impl<A: Allocator + Clone> Mail<A> {
         stamp: Stamp,
         pdu: Bits<A>,
     ) -> Result<(), MailFault>
+        requires { ComesLast self.old stamp.number (key_of envelope.now kind.Report) }
         ensures ok { let w = waiting_for registry.now (key_of envelope.now kind.Report) stamp pdu in OnOk result ((report_refusal registry.now self.old envelope.now status w ≡ None) × (self.new ≡ reported self.old envelope.now status w)) }
         ensures err { let w = waiting_for registry.now (key_of envelope.now kind.Report) stamp pdu in IfErr result (λ e. (e ≡ unwrap_or (report_refusal registry.now self.old envelope.now status w) NoMemory) × (self.new ≡ self.old)) }
+        ensures memory { let w = waiting_for registry.now (key_of envelope.now kind.Report) stamp pdu in OnErr result (report_refusal registry.now self.old envelope.now status w ≡ None → holds self.old (key_of envelope.now kind.Report) ≡ false) }
     {
         if let Some(fault) = self.report_refusal(registry, envelope, status) {
             return Err(fault);
@@ -263,10 +310,13 @@ impl<A: Allocator + Clone> Mail<A> {
         Ok(())
     }
 
-    /// Puts the item at the end, in place of any at its key. For want of memory nothing changes.
-    fn put(&mut self, item: Item<A>) -> Result<(), AllocError>
+    /// Puts the item at the end, in place of any at its key, and then without memory. Its number and
+    /// key come after those of all that wait. For want of memory nothing changes.
+    pub(crate) fn put(&mut self, item: Item<A>) -> Result<(), AllocError>
+        requires { ComesLast self.old item.number item.key }
         ensures ok { OnOk result (self.new ≡ with_item (without (is_at item.key) self.old) item) }
-        ensures err { IfErr result (λ _. self.new ≡ self.old) }
+        ensures err { OnErr result (self.new ≡ self.old) }
+        ensures memory { OnErr result (holds self.old item.key ≡ false) }
     {
         let place = item.place();
         let renewed = self.holds(&place.key);
@@ -288,8 +338,9 @@ impl<A: Allocator + Clone> TryCopy for Mail<A> {
 }
 
 /// The moment at which an item ends that is made at `moment`, in seconds.
-fn deadline_by(rule: Option<Rule>, moment: u32) -> u64
-    ensures { result ≡ deadline_by rule moment }
+pub(crate) fn deadline_by(rule: Option<Rule>, moment: u32) -> u64
+    ensures deadline { result ≡ deadline_by rule moment }
+    ensures latest { result ≤ latest_deadline }
 {
     match rule {
         Some(rule) => u64::from(moment) + u64::from(rule.keep()),
@@ -307,7 +358,8 @@ pub(crate) fn item_for<A: Allocator + Clone>(
     ensures { result ≡ waiting_for registry.now key stamp pdu }
 {
     let rule = registry.rule_of(key.destination.number());
-    Item::new(key, stamp.number, deadline_by(rule, stamp.moment), pdu)
+    let deadline = deadline_by(rule, stamp.moment);
+    Item::new(key, stamp.number, deadline, pdu, None)
 }
 
 /// Takes the places away at which nothing is kept.
@@ -321,6 +373,7 @@ fn keep_held<A: Allocator>(order: &mut Vec<Place, A>, boxes: &Boxes<A>)
 fn make_room<A: Allocator>(order: &mut Vec<Place, A>, renewed: bool) -> Result<(), AllocError>
     ensures items { order.new.items ≡ order.old.items }
     ensures room { OnOk result (renewed ≡ false → vec_len order.new < vec_capacity order.new) }
+    ensures memory { OnErr result (renewed ≡ false) }
 {
     if !renewed {
         order.reserve(1)?;

@@ -14,9 +14,9 @@ use sds_tl::DeliveryStatus;
 use std::alloc::Allocator;
 
 /// The most items that may wait for one destination.
-const MOST_FOR_ONE: usize = 128;
+pub(crate) const MOST_FOR_ONE: usize = 128;
 
-fn unknown_refusal(rule: Option<Rule>) -> Option<MailFault>
+pub(crate) fn unknown_refusal(rule: Option<Rule>) -> Option<MailFault>
     ensures { result ≡ unknown_refusal rule }
 {
     match rule {
@@ -25,7 +25,10 @@ fn unknown_refusal(rule: Option<Rule>) -> Option<MailFault>
     }
 }
 
-fn absent_refusal<A: Allocator + Clone>(registry: &Registry<A>, itsi: Itsi) -> Option<MailFault>
+pub(crate) fn absent_refusal<A: Allocator + Clone>(
+    registry: &Registry<A>,
+    itsi: Itsi,
+) -> Option<MailFault>
     ensures { result ≡ absent_refusal registry.now itsi }
 {
     if registry.is_present(itsi) {

@@ -1,10 +1,12 @@
 //! PDUs to a radio.
 
-ghost use Rattle.std.specs.Prelude.{◌≡◌, ◌≤◌, ◌++◌, false, length, Ok, OnOk, IfOk, IfErr};
+ghost use Rattle.std.specs.Prelude.{◌≡◌, ◌<◌, ◌≤◌, ◌^◌, ◌++◌, false, length, Ok, OnOk, IfOk, IfErr};
 ghost use Rattle.mm_pdus.specs.declared.fault.MmFault.TheVariants.{NoMemory};
 ghost use Rattle.mm_pdus.specs.declared.downlink.MmDown.{MmDown};
+ghost use Rattle.std.specs.List.{AllByRecursion};
 ghost use Rattle.mm_pdus.specs.Values.{most_groups};
-ghost use Rattle.mm_pdus.specs.Downlink.{SpellsDown, canon_down, rejects, accept_text, reject_text, acknowledge_text};
+ghost use Rattle.mm_pdus.specs.Groups.{IsGroupDown};
+ghost use Rattle.mm_pdus.specs.Downlink.{SpellsDown, IsDown, canon_down, rejects, accept_text, reject_text, acknowledge_text};
 ghost use Rattle.mm_pdus.specs.Reading.{with_rest, Gives};
 ghost use Rattle.mm_pdus.specs.DownlinkReading.{names_groups, one_element_at, answers_at, accept_at, reject_at, acknowledge_at, down_at, reading_down};
 
@@ -178,6 +180,7 @@ fn put_reject<A: Allocator>(
     cause: RejectCause,
 ) -> Result<(), MmFault>
     ensures ok { OnOk result (writer.new ≡ writer.old ++ reject_text update cause) }
+    ensures range { OnOk result (cause < 2 ^ 5) }
     ensures err { IfErr result (λ e. e ≡ NoMemory) }
 {
     put(writer, 7, 4)?;
@@ -194,6 +197,7 @@ fn put_acknowledge<A: Allocator>(
 ) -> Result<(), MmFault>
     requires { length items.now ≤ most_groups }
     ensures ok { OnOk result (writer.new ≡ writer.old ++ acknowledge_text false items.now) }
+    ensures range { OnOk result (AllByRecursion IsGroupDown items.now) }
     ensures err { IfErr result (λ e. e ≡ NoMemory) }
 {
     put(writer, 11, 4)?;
@@ -202,16 +206,29 @@ fn put_acknowledge<A: Allocator>(
     put_groups(writer, GROUP_IDENTITY_DOWNLINK, items)
 }
 
+fn put_down<A: Allocator, B: Allocator>(
+    writer: &mut BitWriter<A>,
+    pdu: &MmDown<B>,
+) -> Result<(), MmFault>
+    ensures ok { OnOk result (writer.new ≡ writer.old ++ canon_down pdu.now) }
+    ensures range { OnOk result (IsDown pdu.now) }
+    ensures err { IfErr result (λ e. e ≡ NoMemory) }
+{
+    match pdu {
+        MmDown::Accept { update } => put_accept(writer, *update),
+        MmDown::Reject { update, cause } => put_reject(writer, *update, *cause),
+        MmDown::Acknowledge { items } => put_acknowledge(writer, items.as_slice()),
+    }
+}
+
 /// The canonical text of the PDU. The only error is `NoMemory`.
 pub fn write_down<A: Allocator, B: Allocator>(alloc: A, pdu: &MmDown<B>) -> Result<Bits<A>, MmFault>
     ensures ok { IfOk result (λ bits. bits ≡ canon_down pdu.now) }
+    // What is written spells the PDU, so `read_down` gives it back.
+    ensures spelt { IfOk result (λ bits. SpellsDown pdu.now bits) }
     ensures err { IfErr result (λ e. e ≡ NoMemory) }
 {
     let mut writer = BitWriter::new(alloc);
-    match pdu {
-        MmDown::Accept { update } => put_accept(&mut writer, *update)?,
-        MmDown::Reject { update, cause } => put_reject(&mut writer, *update, *cause)?,
-        MmDown::Acknowledge { items } => put_acknowledge(&mut writer, items.as_slice())?,
-    }
+    put_down(&mut writer, pdu)?;
     Ok(writer.finish())
 }

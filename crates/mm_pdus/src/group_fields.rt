@@ -1,7 +1,7 @@
 //! The groups that an element of a PDU names.
 
 ghost use Rattle.std.specs.Prelude.{◌≡◌, ◌≤◌, ◌<◌, ◌^◌, ◌+◌, ◌++◌, Bool, List, Result, length, nat_lt, OnOk, IfErr};
-ghost use Rattle.std.specs.List.{flat_map};
+ghost use Rattle.std.specs.List.{flat_map, AllByRecursion};
 ghost use Rattle.mm_pdus.specs.declared.fault.MmFault.{MmFault};
 ghost use Rattle.mm_pdus.specs.declared.fault.MmFault.TheVariants.{NoMemory};
 ghost use Rattle.mm_pdus.specs.Values.{most_groups};
@@ -22,6 +22,8 @@ pub trait GroupText: Copy {
 
     ghost text: { Self → List Bool };
 
+    ghost is_in_range: { Self → Type 0 };
+
     /// Reads the next group.
     fn read(reader: &mut BitReader<'_>) -> Result<Self, MmFault>
         ensures { group_at reader.old ≡ with_rest result reader.new };
@@ -34,6 +36,7 @@ pub trait GroupText: Copy {
     /// Puts the group at the end.
     fn put<A: Allocator>(self, writer: &mut BitWriter<A>) -> Result<(), MmFault>
         ensures ok { OnOk result (writer.new ≡ writer.old ++ text self) }
+        ensures range { OnOk result (is_in_range self) }
         ensures err { IfErr result (λ e. e ≡ NoMemory) };
 }
 
@@ -101,6 +104,7 @@ fn put_each<T: GroupText, A: Allocator>(
     items: &[T],
 ) -> Result<(), MmFault>
     ensures ok { OnOk result (writer.new ≡ writer.old ++ flat_map T.text items.now) }
+    ensures range { OnOk result (AllByRecursion T.is_in_range items.now) }
     ensures err { IfErr result (λ e. e ≡ NoMemory) }
 {
     for item in items {
@@ -118,6 +122,7 @@ fn put_element<T: GroupText, A: Allocator>(
     requires small { identifier < 2 ^ 4 }
     requires few { length items.now ≤ most_groups }
     ensures ok { OnOk result (writer.new ≡ writer.old ++ element (made_element identifier (groups_body T.text items.now))) }
+    ensures range { OnOk result (AllByRecursion T.is_in_range items.now) }
     ensures err { IfErr result (λ e. e ≡ NoMemory) }
 {
     put_bit(writer, true)?;
@@ -137,6 +142,7 @@ pub fn put_groups<T: GroupText, A: Allocator>(
     requires small { identifier < 2 ^ 4 }
     requires few { length items.now ≤ most_groups }
     ensures ok { OnOk result (writer.new ≡ writer.old ++ extension (groups_extension T.text identifier items.now)) }
+    ensures range { OnOk result (AllByRecursion T.is_in_range items.now) }
     ensures err { IfErr result (λ e. e ≡ NoMemory) }
 {
     if items.is_empty() {

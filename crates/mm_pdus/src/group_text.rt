@@ -3,7 +3,7 @@
 ghost use Rattle.std.specs.Prelude.{◌≡◌, ◌≤◌, ◌++◌, length, OnOk, IfErr};
 ghost use Rattle.mm_pdus.specs.declared.fault.MmFault.TheVariants.{NoMemory};
 ghost use Rattle.mm_pdus.specs.Reading.{with_rest};
-ghost use Rattle.mm_pdus.specs.Groups.{address, group_up, group_down};
+ghost use Rattle.mm_pdus.specs.Groups.{address, IsAddress, group_up, IsGroupUp, group_down, IsGroupDown};
 ghost use Rattle.mm_pdus.specs.GroupReading.{address_at, group_up_at, group_down_at};
 
 use crate::fields::{bit, field};
@@ -36,6 +36,7 @@ fn read_address(reader: &mut BitReader<'_>) -> Result<GroupAddress, MmFault>
 #[tactic(auto, using(std::proofs::Common::append_assoc))]
 fn put_address<A: Allocator>(writer: &mut BitWriter<A>, group: GroupAddress) -> Result<(), MmFault>
     ensures ok { OnOk result (writer.new ≡ writer.old ++ address group) }
+    ensures range { OnOk result (IsAddress group) }
     ensures err { IfErr result (λ e. e ≡ NoMemory) }
 {
     match group {
@@ -67,6 +68,8 @@ impl GroupText for GroupUp {
     ghost group_at = { group_up_at };
 
     ghost text = { group_up };
+
+    ghost is_in_range = { IsGroupUp };
 
     #[tactic(auto, unfolding(crate::specs::GroupReading::group_up_at))]
     fn read(reader: &mut BitReader<'_>) -> Result<GroupUp, MmFault> {
@@ -115,6 +118,8 @@ impl GroupText for GroupDown {
     ghost group_at = { group_down_at };
 
     ghost text = { group_down };
+
+    ghost is_in_range = { IsGroupDown };
 
     #[tactic(auto, unfolding(crate::specs::GroupReading::group_down_at))]
     fn read(reader: &mut BitReader<'_>) -> Result<GroupDown, MmFault> {

@@ -37,8 +37,3 @@ pub use items::{GroupItems, MOST_GROUPS};
 pub use lifetime::Lifetime;
 pub use update::{AcceptType, LocationUpdateType};
 pub use uplink::{MmUp, read_up, write_up};
-
-#[cfg(test)]
-mod down_tests;
-#[cfg(test)]
-mod tests;

@@ -3,8 +3,10 @@
 ghost use Rattle.std.specs.Prelude.{◌≡◌, ◌≤◌, ◌++◌, false, length, Ok, OnOk, IfOk, IfErr};
 ghost use Rattle.mm_pdus.specs.declared.fault.MmFault.TheVariants.{NoMemory};
 ghost use Rattle.mm_pdus.specs.declared.uplink.MmUp.{MmUp};
+ghost use Rattle.std.specs.List.{AllByRecursion};
 ghost use Rattle.mm_pdus.specs.Values.{most_groups};
-ghost use Rattle.mm_pdus.specs.Uplink.{SpellsUp, canon_up, detach_text, demand_text, groups_text};
+ghost use Rattle.mm_pdus.specs.Groups.{IsGroupUp};
+ghost use Rattle.mm_pdus.specs.Uplink.{SpellsUp, IsUp, canon_up, detach_text, demand_text, groups_text};
 ghost use Rattle.mm_pdus.specs.Reading.{with_rest, giving, Gives, elements_at, made_element};
 ghost use Rattle.mm_pdus.specs.UplinkReading.{names_groups, join_groups, all_groups_at, groups_up_at, detach_at, demand_at, up_at, reading_up};
 
@@ -179,6 +181,7 @@ fn put_all_groups<A: Allocator>(
 ) -> Result<(), MmFault>
     requires { length items.now ≤ most_groups }
     ensures ok { OnOk result (writer.new ≡ writer.old ++ groups_text mode items.now) }
+    ensures range { OnOk result (AllByRecursion IsGroupUp items.now) }
     ensures err { IfErr result (λ e. e ≡ NoMemory) }
 {
     put(writer, 7, 4)?;
@@ -187,16 +190,29 @@ fn put_all_groups<A: Allocator>(
     put_groups(writer, GROUP_IDENTITY_UPLINK, items)
 }
 
+fn put_up<A: Allocator, B: Allocator>(
+    writer: &mut BitWriter<A>,
+    pdu: &MmUp<B>,
+) -> Result<(), MmFault>
+    ensures ok { OnOk result (writer.new ≡ writer.old ++ canon_up pdu.now) }
+    ensures range { OnOk result (IsUp pdu.now) }
+    ensures err { IfErr result (λ e. e ≡ NoMemory) }
+{
+    match pdu {
+        MmUp::Demand { update } => put_demand(writer, *update),
+        MmUp::Detach => put_detach(writer),
+        MmUp::Groups { mode, items } => put_all_groups(writer, *mode, items.as_slice()),
+    }
+}
+
 /// The canonical text of the PDU. The only error is `NoMemory`.
 pub fn write_up<A: Allocator, B: Allocator>(alloc: A, pdu: &MmUp<B>) -> Result<Bits<A>, MmFault>
     ensures ok { IfOk result (λ bits. bits ≡ canon_up pdu.now) }
+    // What is written spells the PDU, so `read_up` gives it back.
+    ensures spelt { IfOk result (λ bits. SpellsUp pdu.now bits) }
     ensures err { IfErr result (λ e. e ≡ NoMemory) }
 {
     let mut writer = BitWriter::new(alloc);
-    match pdu {
-        MmUp::Demand { update } => put_demand(&mut writer, *update)?,
-        MmUp::Detach => put_detach(&mut writer)?,
-        MmUp::Groups { mode, items } => put_all_groups(&mut writer, *mode, items.as_slice())?,
-    }
+    put_up(&mut writer, pdu)?;
     Ok(writer.finish())
 }

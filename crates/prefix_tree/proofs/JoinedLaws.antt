@@ -1,69 +1,21 @@
--- What a joined map has at each path, and in which order.
-use Rattle.std.proofs.Common.{◌≡◌, Bool, true, false, cond, List, [], ◌∷◌, ◌++◌, Option, Some, None, refl, sym, ap, ◌∙◌}
-use Rattle.std.specs.Prelude.{◌&&◌, T}
+-- What a joined map has at each path.
+use Rattle.std.proofs.Common.{◌≡◌, Bool, true, false, cond, List, [], ◌∷◌, ◌++◌, Option, Some, None, refl, sym, ap, subst, ◌∙◌}
+use mathlib.Core.Bool.{false≢true}
 use Rattle.std.specs.Option.{option_or}
 use Rattle.std.specs.Ordering.{eq_by_cmp}
 use Rattle.std.specs.FinMap as map
-use Rattle.std.specs.FinMap.{find, is_sorted, entries_sorted, entries-from_sorted, get-from_sorted, get-entries, get-insert, get-remove, get-empty, same_map}
-use Rattle.std.specs.FinMap.Entries.{below_all}
-use Rattle.identity.specs.Path.{Path, path_cmp}
-use Rattle.identity.specs.PathLaws.{paths_total, paths_exact}
+use Rattle.std.specs.FinMap.{find, get-entries, get-from_entries, get-insert, get-remove, get-empty, same_map}
+use Rattle.identity.specs.Path.{Path, path_cmp, begins}
+use Rattle.identity.specs.PathLaws.{paths_total, paths_exact, tie_exact}
 use Rattle.prefix_tree.specs.Table.{PathMap}
-use Rattle.prefix_tree.specs.Joined.{under, at_node, joined_entries, joined}
+use Rattle.prefix_tree.specs.Joined.{own_entry, joined_entries, joined, KeysUnder}
+use Rattle.prefix_tree.proofs.Begins.{begins_trans, pick, pick_is, pick_here, pick_zero, pick_one, pick_off, set_here, set_zero, set_one}
 
-both : (a b : Bool) → T a → T b → T (a && b)
-both true b p q = q
-both false b p q = p
-
-first : (a b : Bool) → T (a && b) → T a
-first true b p = tt
-first false b p = p
-
-second : (a b : Bool) → T (a && b) → T b
-second true b p = p
-second false b p = absurd p
+pub under_empty : (V : Type 0) → (p : Path) → KeysUnder {V = V} p map.empty
+unfolding KeysUnder
+under_empty V p q off = get-empty path_cmp q
 
 module _ {V : Type 0} where
-  below_append : (x : Path) (es fs : List (Path × V)) → T (below_all path_cmp x es) → T (below_all path_cmp x fs) → T (below_all path_cmp x (es ++ fs))
-  below_append x [] fs h k = k
-  below_append x (e ∷ es) fs h k = both _ _ (first _ _ h) (below_append x es fs (second _ _ h) k)
-
-  zero_below : (x : Path) (es : List (Path × V)) → T (below_all path_cmp x es) → T (below_all path_cmp (false ∷ x) (under false es))
-  zero_below x [] h = tt
-  zero_below x (e ∷ es) h = both _ _ (first _ _ h) (zero_below x es (second _ _ h))
-
-  one_below : (x : Path) (es : List (Path × V)) → T (below_all path_cmp x es) → T (below_all path_cmp (true ∷ x) (under true es))
-  one_below x [] h = tt
-  one_below x (e ∷ es) h = both _ _ (first _ _ h) (one_below x es (second _ _ h))
-
-  zero_before_one : (x : Path) (es : List (Path × V)) → T (below_all path_cmp (false ∷ x) (under true es))
-  zero_before_one x [] = tt
-  zero_before_one x (e ∷ es) = zero_before_one x es
-
-  here_before : (b : Bool) (es : List (Path × V)) → T (below_all path_cmp [] (under b es))
-  here_before b [] = tt
-  here_before b (e ∷ es) = here_before b es
-
-  sorted_one : (es : List (Path × V)) → T (is_sorted path_cmp es) → T (is_sorted path_cmp (under true es))
-  sorted_one [] h = tt
-  sorted_one (e ∷ es) h = both _ _ (one_below e.0 es (first _ _ h)) (sorted_one es (second _ _ h))
-
-  sorted_sides : (es fs : List (Path × V)) → T (is_sorted path_cmp es) → T (is_sorted path_cmp fs) → T (is_sorted path_cmp (under false es ++ under true fs))
-  sorted_sides [] fs h k = sorted_one fs k
-  sorted_sides (e ∷ es) fs h k = both _ _ (below_append (false ∷ e.0) (under false es) (under true fs) (zero_below e.0 es (first _ _ h)) (zero_before_one e.0 fs)) (sorted_sides es fs (second _ _ h) k)
-
-  sorted_joined : (v : Option V) (es fs : List (Path × V)) → T (is_sorted path_cmp es) → T (is_sorted path_cmp fs) → T (is_sorted path_cmp (at_node v ++ under false es ++ under true fs))
-  sorted_joined None es fs h k = sorted_sides es fs h k
-  sorted_joined (Some v) es fs h k = both _ _ (below_append [] (under false es) (under true fs) (here_before false es) (here_before true fs)) (sorted_sides es fs h k)
-
-  joined_sorted : (v : Option V) (l r : PathMap V) → T (is_sorted path_cmp (joined_entries v l r))
-  joined_sorted v l r = sorted_joined v (map.entries l) (map.entries r) (entries_sorted l) (entries_sorted r)
-
-  -- a joined map's entries stand in the order of the walk
-  pub entries_joined : (v : Option V) (l r : PathMap V) → map.entries (joined v l r) ≡ joined_entries v l r
-  unfolding joined
-  entries_joined v l r = entries-from_sorted path_cmp (joined_entries v l r) (joined_sorted v l r)
-
   find-append : (q : Path) (es fs : List (Path × V)) → find path_cmp q (es ++ fs) ≡ option_or (find path_cmp q es) (find path_cmp q fs)
   find-append q [] fs = refl
   find-append q (e ∷ es) fs = either (eq_by_cmp path_cmp q e.0) _ _ _ _ (find-append q es fs)
@@ -72,111 +24,139 @@ module _ {V : Type 0} where
       either true x r s t e = refl
       either false x r s t e = e
 
-  -- under the same bit it is the map there, and under the other bit or at the node nothing
-  under_zero : (q : Path) (es : List (Path × V)) → find path_cmp (false ∷ q) (under false es) ≡ find path_cmp q es
-  under_zero q [] = refl
-  under_zero q (e ∷ es) = ap (cond (eq_by_cmp path_cmp q e.0) (Some e.1)) (under_zero q es)
+  abbrev the_none : Option V
+  the_none = None
 
-  under_one : (q : Path) (es : List (Path × V)) → find path_cmp (true ∷ q) (under true es) ≡ find path_cmp q es
-  under_one q [] = refl
-  under_one q (e ∷ es) = ap (cond (eq_by_cmp path_cmp q e.0) (Some e.1)) (under_one q es)
-
-  zero_not_one : (q : Path) (es : List (Path × V)) → find path_cmp (false ∷ q) (under true es) ≡ None
-  zero_not_one q [] = refl
-  zero_not_one q (e ∷ es) = zero_not_one q es
-
-  one_not_zero : (q : Path) (es : List (Path × V)) → find path_cmp (true ∷ q) (under false es) ≡ None
-  one_not_zero q [] = refl
-  one_not_zero q (e ∷ es) = one_not_zero q es
-
-  here_not : (b : Bool) (es : List (Path × V)) → find path_cmp [] (under b es) ≡ None
-  here_not b [] = refl
-  here_not b (e ∷ es) = here_not b es
-
-  at_here : (v : Option V) → find path_cmp [] (at_node v) ≡ v
-  at_here None = refl
-  at_here (Some v) = refl
-
-  at_below : (v : Option V) (b : Bool) (q : Path) → find path_cmp (b ∷ q) (at_node v) ≡ None
-  at_below None b q = refl
-  at_below (Some v) b q = refl
-
-  or_none : (o : Option V) → option_or o None ≡ o
-  or_none None = refl
-  or_none (Some x) = refl
-
-  parts : (v : Option V) (l r : PathMap V) (q : Path) → map.get (joined v l r) q ≡ option_or (option_or (find path_cmp q (at_node v)) (find path_cmp q (under false (map.entries l)))) (find path_cmp q (under true (map.entries r)))
-  unfolding joined
-  parts v l r q =
-      get-from_sorted path_cmp (joined_entries v l r) q (joined_sorted v l r)
-      ∙ find-append q (at_node v ++ under false (map.entries l)) (under true (map.entries r))
-      ∙ ap (λ o. option_or o (find path_cmp q (under true (map.entries r)))) (find-append q (at_node v) (under false (map.entries l)))
-
-  pub get_here : (v : Option V) (l r : PathMap V) → map.get (joined v l r) [] ≡ v
-  get_here v l r =
-      parts v l r []
-      ∙ (λ i. option_or (option_or (at_here v i) (here_not false (map.entries l) i)) (here_not true (map.entries r) i))
-      ∙ or_none (option_or v None) ∙ or_none v
-
-  pub get_zero : (v : Option V) (l r : PathMap V) (q : Path) → map.get (joined v l r) (false ∷ q) ≡ map.get l q
-  get_zero v l r q =
-      parts v l r (false ∷ q)
-      ∙ (λ i. option_or (option_or (at_below v false q i) (under_zero q (map.entries l) i)) (zero_not_one q (map.entries r) i))
-      ∙ or_none (find path_cmp q (map.entries l)) ∙ sym (get-entries l q)
-
-  pub get_one : (v : Option V) (l r : PathMap V) (q : Path) → map.get (joined v l r) (true ∷ q) ≡ map.get r q
-  get_one v l r q =
-      parts v l r (true ∷ q)
-      ∙ (λ i. option_or (option_or (at_below v true q i) (one_not_zero q (map.entries l) i)) (under_one q (map.entries r) i))
-      ∙ sym (get-entries r q)
-
-  -- two maps that answer alike at the node and on either side are one
-  pub same_by_parts : (m n : PathMap V) → map.get m [] ≡ map.get n [] → ((q : Path) → map.get m (false ∷ q) ≡ map.get n (false ∷ q)) → ((q : Path) → map.get m (true ∷ q) ≡ map.get n (true ∷ q)) → m ≡ n
-  same_by_parts m n here zero one = same_map paths_total paths_exact m n at
+  find_own : (p q : Path) (v : Option V) → find path_cmp q (own_entry p v) ≡ cond (eq_by_cmp path_cmp q p) v None
+  find_own p q None = none (eq_by_cmp path_cmp q p)
     where
-      at : (q : Path) → map.get m q ≡ map.get n q
-      at [] = here
-      at (false ∷ q) = zero q
-      at (true ∷ q) = one q
+      none : (b : Bool) → the_none ≡ cond b the_none the_none
+      none true = refl
+      none false = refl
+  find_own p q (Some x) = refl
 
-  pub joined_empty : joined {V = V} None map.empty map.empty ≡ map.empty
-  joined_empty =
-      same_by_parts _ _ (get_here None map.empty map.empty ∙ sym (get-empty path_cmp []))
-      (λ q. get_zero None map.empty map.empty q ∙ get-empty path_cmp q ∙ sym (get-empty path_cmp (false ∷ q)))
-      (λ q. get_one None map.empty map.empty q ∙ get-empty path_cmp q ∙ sym (get-empty path_cmp (true ∷ q)))
+  pub under_wider : (r p : Path) (m : PathMap V) → begins r p ≡ true → KeysUnder p m → KeysUnder r m
+  unfolding KeysUnder
+  under_wider r p m e keys q off = keys q (never (begins p q) (λ so. false≢true (sym off ∙ begins_trans r p q e so)))
+    where
+      never : (b : Bool) → (b ≡ true → ⊥) → b ≡ false
+      never true h = absurd (h refl)
+      never false h = refl
 
-  pub insert_here : (v : Option V) (l r : PathMap V) (x : V) → joined (Some x) l r ≡ map.insert (joined v l r) [] x
-  insert_here v l r x =
-      same_by_parts _ _ (get_here (Some x) l r ∙ sym (get-insert paths_total (joined v l r) [] x []))
-      (λ q. get_zero (Some x) l r q ∙ sym (get-insert paths_total (joined v l r) [] x (false ∷ q) ∙ get_zero v l r q))
-      (λ q. get_one (Some x) l r q ∙ sym (get-insert paths_total (joined v l r) [] x (true ∷ q) ∙ get_one v l r q))
+  pub under_off : (p q : Path) (m : PathMap V) → KeysUnder p m → begins p q ≡ false → map.get m q ≡ None
+  unfolding KeysUnder
+  under_off p q m keys off = keys q off
 
-  pub insert_zero : (v : Option V) (l r : PathMap V) (p : Path) (x : V) → joined v (map.insert l p x) r ≡ map.insert (joined v l r) (false ∷ p) x
-  insert_zero v l r p x =
-      same_by_parts _ _ (get_here v (map.insert l p x) r ∙ sym (get-insert paths_total (joined v l r) (false ∷ p) x [] ∙ get_here v l r))
-      (λ q. get_zero v (map.insert l p x) r q ∙ get-insert paths_total l p x q ∙ sym (get-insert paths_total (joined v l r) (false ∷ p) x (false ∷ q) ∙ ap (cond (eq_by_cmp path_cmp q p) (Some x)) (get_zero v l r q)))
-      (λ q. get_one v (map.insert l p x) r q ∙ sym (get-insert paths_total (joined v l r) (false ∷ p) x (true ∷ q) ∙ get_one v l r q))
+  module _ (p : Path) (v : Option V) (l r : PathMap V) (left : KeysUnder (p ++ false ∷ []) l) (right : KeysUnder (p ++ true ∷ []) r) where
+    pub get_joined : (q : Path) → map.get (joined p v l r) q ≡ pick p q v (map.get l q) (map.get r q)
+    unfolding joined KeysUnder
+    get_joined q =
+        get-from_entries paths_total (joined_entries p v l r) q
+        ∙ find-append q (own_entry p v) (map.entries l ++ map.entries r)
+        ∙ (λ i. option_or (find_own p q v i) (find-append q (map.entries l) (map.entries r) i))
+        ∙ (λ i. option_or (cond (eq_by_cmp path_cmp q p) v None) (option_or (sym (get-entries l q) i) (sym (get-entries r q) i)))
+        ∙ pick_is p q v (map.get l q) (map.get r q) (left q) (right q)
 
-  pub insert_one : (v : Option V) (l r : PathMap V) (p : Path) (x : V) → joined v l (map.insert r p x) ≡ map.insert (joined v l r) (true ∷ p) x
-  insert_one v l r p x =
-      same_by_parts _ _ (get_here v l (map.insert r p x) ∙ sym (get-insert paths_total (joined v l r) (true ∷ p) x [] ∙ get_here v l r))
-      (λ q. get_zero v l (map.insert r p x) q ∙ sym (get-insert paths_total (joined v l r) (true ∷ p) x (false ∷ q) ∙ get_zero v l r q))
-      (λ q. get_one v l (map.insert r p x) q ∙ get-insert paths_total r p x q ∙ sym (get-insert paths_total (joined v l r) (true ∷ p) x (true ∷ q) ∙ ap (cond (eq_by_cmp path_cmp q p) (Some x)) (get_one v l r q)))
+    pub get_here : map.get (joined p v l r) p ≡ v
+    get_here = get_joined p ∙ pick_here p v _ _
 
-  pub remove_here : (v : Option V) (l r : PathMap V) → joined None l r ≡ map.remove (joined v l r) []
-  remove_here v l r =
-      same_by_parts _ _ (get_here None l r ∙ sym (get-remove paths_total (joined v l r) [] []))
-      (λ q. get_zero None l r q ∙ sym (get-remove paths_total (joined v l r) [] (false ∷ q) ∙ get_zero v l r q))
-      (λ q. get_one None l r q ∙ sym (get-remove paths_total (joined v l r) [] (true ∷ q) ∙ get_one v l r q))
+    pub get_zero : (q : Path) → begins (p ++ false ∷ []) q ≡ true → map.get (joined p v l r) q ≡ map.get l q
+    get_zero q e = get_joined q ∙ pick_zero p q v _ _ e
 
-  pub remove_zero : (v : Option V) (l r : PathMap V) (p : Path) → joined v (map.remove l p) r ≡ map.remove (joined v l r) (false ∷ p)
-  remove_zero v l r p =
-      same_by_parts _ _ (get_here v (map.remove l p) r ∙ sym (get-remove paths_total (joined v l r) (false ∷ p) [] ∙ get_here v l r))
-      (λ q. get_zero v (map.remove l p) r q ∙ get-remove paths_total l p q ∙ sym (get-remove paths_total (joined v l r) (false ∷ p) (false ∷ q) ∙ ap (cond (eq_by_cmp path_cmp q p) None) (get_zero v l r q)))
-      (λ q. get_one v (map.remove l p) r q ∙ sym (get-remove paths_total (joined v l r) (false ∷ p) (true ∷ q) ∙ get_one v l r q))
+    pub get_one : (q : Path) → begins (p ++ true ∷ []) q ≡ true → map.get (joined p v l r) q ≡ map.get r q
+    get_one q e = get_joined q ∙ pick_one p q v _ _ e
 
-  pub remove_one : (v : Option V) (l r : PathMap V) (p : Path) → joined v l (map.remove r p) ≡ map.remove (joined v l r) (true ∷ p)
-  remove_one v l r p =
-      same_by_parts _ _ (get_here v l (map.remove r p) ∙ sym (get-remove paths_total (joined v l r) (true ∷ p) [] ∙ get_here v l r))
-      (λ q. get_zero v l (map.remove r p) q ∙ sym (get-remove paths_total (joined v l r) (true ∷ p) (false ∷ q) ∙ get_zero v l r q))
-      (λ q. get_one v l (map.remove r p) q ∙ get-remove paths_total r p q ∙ sym (get-remove paths_total (joined v l r) (true ∷ p) (true ∷ q) ∙ ap (cond (eq_by_cmp path_cmp q p) None) (get_one v l r q)))
+    pub keys_joined : KeysUnder p (joined p v l r)
+    unfolding KeysUnder
+    keys_joined q off = get_joined q ∙ pick_off p q v _ _ off
+
+  module _ (p : Path) (m : PathMap V) (under : KeysUnder p m) (q : Path) (within : begins p q ≡ true) where
+    same : (q' : Path) → eq_by_cmp path_cmp q' q ≡ true → begins p q' ≡ true
+    same q' e = subst (λ z. begins p z ≡ true) (sym (tie_exact q' q e)) within
+
+    other : (t : Bool) (o a : Option V) (b : Bool) → (t ≡ true → b ≡ true) → b ≡ false → a ≡ None → cond t o a ≡ None
+    other true o a b h e n = absurd (false≢true (sym e ∙ h refl))
+    other false o a b h e n = n
+
+    pub keys_insert : (x : V) → KeysUnder p (map.insert m q x)
+    unfolding KeysUnder
+    keys_insert x q' off = get-insert paths_total m q x q' ∙ other (eq_by_cmp path_cmp q' q) (Some x) (map.get m q') (begins p q') (same q') off (under q' off)
+
+    pub keys_remove : KeysUnder p (map.remove m q)
+    unfolding KeysUnder
+    keys_remove q' off = get-remove paths_total m q q' ∙ other (eq_by_cmp path_cmp q' q) None (map.get m q') (begins p q') (same q') off (under q' off)
+
+  pub insert_here : (p : Path) (v : Option V) (l r : PathMap V) → KeysUnder (p ++ false ∷ []) l → KeysUnder (p ++ true ∷ []) r → (x : V) → joined p (Some x) l r ≡ map.insert (joined p v l r) p x
+  insert_here p v l r left right x = same_map paths_total paths_exact _ _ (λ q.
+      get_joined p (Some x) l r left right q ∙ set_here p q v _ _ (Some x) _ refl
+      ∙ ap (cond (eq_by_cmp path_cmp q p) (Some x)) (sym (get_joined p v l r left right q)) ∙ sym (get-insert paths_total (joined p v l r) p x q))
+
+  pub remove_here : (p : Path) (v : Option V) (l r : PathMap V) → KeysUnder (p ++ false ∷ []) l → KeysUnder (p ++ true ∷ []) r → joined p None l r ≡ map.remove (joined p v l r) p
+  remove_here p v l r left right = same_map paths_total paths_exact _ _ (λ q.
+      get_joined p None l r left right q ∙ set_here p q v _ _ None _ refl
+      ∙ ap (cond (eq_by_cmp path_cmp q p) None) (sym (get_joined p v l r left right q)) ∙ sym (get-remove paths_total (joined p v l r) p q))
+
+  module _ (p : Path) (v : Option V) (l r : PathMap V) (left : KeysUnder (p ++ false ∷ []) l) (right : KeysUnder (p ++ true ∷ []) r) (k : Path) where
+    here : (b : Bool) → begins (p ++ b ∷ []) k ≡ true → (q : Path) → eq_by_cmp path_cmp q k ≡ true → begins (p ++ b ∷ []) q ≡ true
+    here b within q e = subst (λ z. begins (p ++ b ∷ []) z ≡ true) (sym (tie_exact q k e)) within
+
+    pub insert_zero : (x : V) → begins (p ++ false ∷ []) k ≡ true → joined p v (map.insert l k x) r ≡ map.insert (joined p v l r) k x
+    insert_zero x within = same_map paths_total paths_exact _ _ (λ q.
+        get_joined p v (map.insert l k x) r (keys_insert _ l left k within x) right q
+        ∙ ap (λ z. pick p q v z (map.get r q)) (get-insert paths_total l k x q)
+        ∙ set_zero p q v _ _ (Some x) (eq_by_cmp path_cmp q k) (here false within q)
+        ∙ ap (cond (eq_by_cmp path_cmp q k) (Some x)) (sym (get_joined p v l r left right q)) ∙ sym (get-insert paths_total (joined p v l r) k x q))
+
+    pub insert_one : (x : V) → begins (p ++ true ∷ []) k ≡ true → joined p v l (map.insert r k x) ≡ map.insert (joined p v l r) k x
+    insert_one x within = same_map paths_total paths_exact _ _ (λ q.
+        get_joined p v l (map.insert r k x) left (keys_insert _ r right k within x) q
+        ∙ ap (λ z. pick p q v (map.get l q) z) (get-insert paths_total r k x q)
+        ∙ set_one p q v _ _ (Some x) (eq_by_cmp path_cmp q k) (here true within q)
+        ∙ ap (cond (eq_by_cmp path_cmp q k) (Some x)) (sym (get_joined p v l r left right q)) ∙ sym (get-insert paths_total (joined p v l r) k x q))
+
+    pub remove_zero : begins (p ++ false ∷ []) k ≡ true → joined p v (map.remove l k) r ≡ map.remove (joined p v l r) k
+    remove_zero within = same_map paths_total paths_exact _ _ (λ q.
+        get_joined p v (map.remove l k) r (keys_remove _ l left k within) right q
+        ∙ ap (λ z. pick p q v z (map.get r q)) (get-remove paths_total l k q)
+        ∙ set_zero p q v _ _ None (eq_by_cmp path_cmp q k) (here false within q)
+        ∙ ap (cond (eq_by_cmp path_cmp q k) None) (sym (get_joined p v l r left right q)) ∙ sym (get-remove paths_total (joined p v l r) k q))
+
+    pub remove_one : begins (p ++ true ∷ []) k ≡ true → joined p v l (map.remove r k) ≡ map.remove (joined p v l r) k
+    remove_one within = same_map paths_total paths_exact _ _ (λ q.
+        get_joined p v l (map.remove r k) left (keys_remove _ r right k within) q
+        ∙ ap (λ z. pick p q v (map.get l q) z) (get-remove paths_total r k q)
+        ∙ set_one p q v _ _ None (eq_by_cmp path_cmp q k) (here true within q)
+        ∙ ap (cond (eq_by_cmp path_cmp q k) None) (sym (get_joined p v l r left right q)) ∙ sym (get-remove paths_total (joined p v l r) k q))
+
+  pub joined_zero : (p : Path) (l : PathMap V) → KeysUnder (p ++ false ∷ []) l → joined p None l map.empty ≡ l
+  joined_zero p l left = same_map paths_total paths_exact _ _ (λ q.
+      get_joined p None l map.empty left (under_empty V _) q ∙ ap (pick p q None (map.get l q)) (get-empty path_cmp q) ∙ alone p q (map.get l q) (under_off _ q l left))
+    where
+      alone : (p q : Path) (a : Option V) → (begins (p ++ false ∷ []) q ≡ false → a ≡ None) → pick p q None a None ≡ a
+      alone [] [] a h = sym (h refl)
+      alone [] (false ∷ q) a h = refl
+      alone [] (true ∷ q) a h = sym (h refl)
+      alone (true ∷ p) [] a h = sym (h refl)
+      alone (false ∷ p) [] a h = sym (h refl)
+      alone (true ∷ p) (true ∷ q) a h = alone p q a h
+      alone (false ∷ p) (false ∷ q) a h = alone p q a h
+      alone (true ∷ p) (false ∷ q) a h = sym (h refl)
+      alone (false ∷ p) (true ∷ q) a h = sym (h refl)
+
+  pub joined_one : (p : Path) (r : PathMap V) → KeysUnder (p ++ true ∷ []) r → joined p None map.empty r ≡ r
+  joined_one p r right = same_map paths_total paths_exact _ _ (λ q.
+      get_joined p None map.empty r (under_empty V _) right q ∙ ap (λ z. pick p q None z (map.get r q)) (get-empty path_cmp q) ∙ alone p q (map.get r q) (under_off _ q r right))
+    where
+      alone : (p q : Path) (b : Option V) → (begins (p ++ true ∷ []) q ≡ false → b ≡ None) → pick p q None None b ≡ b
+      alone [] [] b h = sym (h refl)
+      alone [] (true ∷ q) b h = refl
+      alone [] (false ∷ q) b h = sym (h refl)
+      alone (true ∷ p) [] b h = sym (h refl)
+      alone (false ∷ p) [] b h = sym (h refl)
+      alone (true ∷ p) (true ∷ q) b h = alone p q b h
+      alone (false ∷ p) (false ∷ q) b h = alone p q b h
+      alone (true ∷ p) (false ∷ q) b h = sym (h refl)
+      alone (false ∷ p) (true ∷ q) b h = sym (h refl)
+
+pub joined_empty : (V : Type 0) → (p : Path) → joined {V = V} p None map.empty map.empty ≡ map.empty
+joined_empty V p = joined_zero p map.empty (under_empty V _)

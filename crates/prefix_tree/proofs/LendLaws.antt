@@ -1,201 +1,307 @@
--- What a write below a path makes of the whole map.
-use Rattle.std.proofs.Common.{◌≡◌, ℕ, ◌+◌, ◌-◌, ◌/◌, ◌%◌, ◌^◌, ◌≤◌, Bool, true, false, cond, [], ◌∷◌, ◌++◌, Option, Some, None, inl, inr, refl, sym, ap, ◌∙◌, subst, arith}
-use Rattle.std.proofs.lemmas.List.{append_assoc}
-use Rattle.std.specs.Prelude.{◌==◌, ◌≢◌, ◌⊎◌, ◌&&◌, IsTrue}
-use Rattle.std.specs.Option.{OnSome}
+-- What a write below a node makes of the node.
+use Rattle.std.proofs.Common.{◌≡◌, ℕ, ◌+◌, ◌-◌, ◌<◌, ◌≤◌, Bool, true, false, cond, nat_eq, inl, inr, [], ◌∷◌, ◌++◌, Option, Some, None, length, refl, sym, ap, ◌∙◌, subst, arith, MutBor}
+use mathlib.Core.Bool.{false≢true}
+use Rattle.std.proofs.lemmas.Bool.{cases_eq}
+use Rattle.std.proofs.lemmas.Bool.Decides.{nat_tests}
+use Rattle.std.specs.Prelude.{IsTrue, OnSome, IfSome, IfNone, ◌&&◌, ◌||◌}
+use Rattle.std.specs.Option.{is_some, option_copied_mut}
 use Rattle.std.specs.declared.boxed.Box.{Box}
 use Rattle.std.specs.Ordering.{eq_by_cmp}
 use Rattle.std.specs.FinMap as map
-use Rattle.std.specs.FinMap.{get-insert, get-empty, same_map}
-use Rattle.identity.specs.Number.{num}
-use Rattle.identity.specs.NumberLaws.{num-append}
-use Rattle.identity.specs.Path.{Path, path_cmp}
-use Rattle.identity.specs.PathLaws.{paths_total, paths_exact}
+use Rattle.std.specs.FinMap.{get-insert, same_map}
+use Rattle.identity.specs.Path.{Path, path_cmp, begins}
+use Rattle.identity.specs.PathLaws.{paths_total, paths_exact, tie_exact}
 use Rattle.prefix_tree.specs.Table.{PathMap}
-use Rattle.prefix_tree.specs.Joined.{NodeSeen, joined, map_below, node_view, IsBelow, has_entry, is_pruned}
-use Rattle.prefix_tree.specs.Lending.{beyond, get_beyond, IsGrafted}
-use Rattle.prefix_tree.proofs.JoinedLaws.{get_here, get_zero, get_one}
 use Rattle.prefix_tree.specs.declared.node.Node.TheInside.{Inside}
-use Rattle.prefix_tree.proofs.Places.{both, right_of}
-use Rattle.prefix_tree.proofs.NodeLaws.{map_is, is_there}
-use Rattle.prefix_tree.proofs.PrunedLaws.{has_value, some_key, has_inserted, pruned_node}
+use Rattle.prefix_tree.specs.Visits.{is_place, visits_beyond}
+use Rattle.prefix_tree.specs.Joined.{NodeSeen, joined, KeysUnder, table_of, is_under, leads_to, link_visits, IsFirm, IsUnder, node_view}
+use Rattle.prefix_tree.specs.Lending.{IsOnWay, IsLike, IsGrafted}
+use Rattle.prefix_tree.proofs.Begins.{pick, pick_zero, pick_one, begins_self, begins_trans, begins_length, begins_whole, longer_side, side_begins}
+use Rattle.prefix_tree.proofs.JoinedLaws.{get_joined, keys_joined, under_off}
+use Rattle.prefix_tree.proofs.Standing.{place_joined, goes_link, sound_when}
+use Rattle.prefix_tree.proofs.NodeLaws.{at_is, table_is, fits, zero_keys, one_keys, keys_of, zero_under, one_under, read_zero, read_one}
+use Rattle.prefix_tree.proofs.JoinLaws.{place_parts}
+use Rattle.prefix_tree.proofs.StepLaws.{still_sound, visits_on, some_one}
 
--- the bits, cut after the first so many
-pub cut : (l h v : ℕ) → h ≤ l → num l v ≡ num h (v / 2 ^ (l - h)) ++ num (l - h) v
-cut l h v le = let e : h + (l - h) ≡ l = omega arith in subst (λ n. num n v ≡ num h (v / 2 ^ (l - h)) ++ num (l - h) v) e (num-append h (l - h) v)
+pub if_at : {T : Type 0} (P : T → Type 0) (r : Option T) (x : T) → r ≡ Some x → IfSome r P → P x
+if_at P r x e h = subst (λ z. IfSome z P) e h
 
-pub num_odd : (l v : ℕ) → l ≡ 1 → v % 2 ≡ 1 → num l v ≡ true ∷ []
-unfolding num
-num_odd l v one odd = let e : v / 2 ^ 0 % 2 ≡ 1 = omega (arith, odd) in ap (λ n. num n v) one ∙ ap (λ n. (n == 1) ∷ []) e
-
-pub num_even : (l v : ℕ) → l ≡ 1 → v % 2 ≢ 1 → num l v ≡ false ∷ []
-unfolding num
-num_even l v one even = let e : v / 2 ^ 0 % 2 ≡ 0 = omega (arith, even) in ap (λ n. num n v) one ∙ ap (λ n. (n == 1) ∷ []) e
-
--- what is beyond p and then beyond p'
-abbrev then_beyond : Path → Option Path → Option Path
-then_beyond p' None = None
-then_beyond p' (Some r) = beyond p' r
-
-beyond_again : (p p' q : Path) → beyond (p ++ p') q ≡ then_beyond p' (beyond p q)
-unfolding beyond
-beyond_again [] p' q = refl
-beyond_again (b ∷ p) p' [] = refl
-beyond_again (true ∷ p) p' (true ∷ q) = beyond_again p p' q
-beyond_again (true ∷ p) p' (false ∷ q) = refl
-beyond_again (false ∷ p) p' (true ∷ q) = refl
-beyond_again (false ∷ p) p' (false ∷ q) = beyond_again p p' q
-
-abbrev tie_beyond : Path → Option Path → Bool
-tie_beyond p' None = false
-tie_beyond p' (Some r) = eq_by_cmp path_cmp r p'
-
-tie_again : (p p' q : Path) → eq_by_cmp path_cmp q (p ++ p') ≡ tie_beyond p' (beyond p q)
-unfolding beyond
-tie_again [] p' q = refl
-tie_again (true ∷ p) p' [] = refl
-tie_again (false ∷ p) p' [] = refl
-tie_again (true ∷ p) p' (true ∷ q) = tie_again p p' q
-tie_again (true ∷ p) p' (false ∷ q) = refl
-tie_again (false ∷ p) p' (true ∷ q) = refl
-tie_again (false ∷ p) p' (false ∷ q) = tie_again p p' q
-
-pub empty_below : (V : Type 0) (p : Path) → IsBelow {V = V} map.empty p map.empty
-unfolding IsBelow
-empty_below V p q = get-empty path_cmp q ∙ sym (get-empty path_cmp (p ++ q))
-
-module _ {V : Type 0} where
-  -- f beyond p is what w has there
-  abbrev Reads : (Path → Option V) → PathMap V → Path → Option Path → Type 0
-  Reads f w q None = Unit {0}
-  Reads f w q (Some r) = map.get w r ≡ f q
-
-  onto : (f : Path → Option V) (w : PathMap V) (b : Bool) (q : Path) (o : Option Path) → Reads (λ z. f (b ∷ z)) w q o → Reads f w (b ∷ q) o
-  onto f w b q None r = tt
-  onto f w b q (Some z) r = r
-
-  reads_all : (f : Path → Option V) (p : Path) (w : PathMap V) → ((q : Path) → map.get w q ≡ f (p ++ q)) → (q : Path) → Reads f w q (beyond p q)
-  unfolding beyond
-  reads_all f [] w h q = h q
-  reads_all f (b ∷ p) w h [] = tt
-  reads_all f (true ∷ p) w h (true ∷ q) = onto f w true q (beyond p q) (reads_all (λ z. f (true ∷ z)) p w h q)
-  reads_all f (true ∷ p) w h (false ∷ q) = tt
-  reads_all f (false ∷ p) w h (true ∷ q) = tt
-  reads_all f (false ∷ p) w h (false ∷ q) = onto f w false q (beyond p q) (reads_all (λ z. f (false ∷ z)) p w h q)
-
-  reads : (m : PathMap V) (p : Path) (w : PathMap V) → IsBelow m p w → (q : Path) → Reads (map.get m) w q (beyond p q)
-  unfolding IsBelow
-  reads m p w h q = reads_all (map.get m) p w h q
-
-  back : (m w : PathMap V) (q : Path) (o : Option Path) → Reads (map.get m) w q o → get_beyond m w q o ≡ map.get m q
-  back m w q None r = refl
-  back m w q (Some z) r = r
-
-  -- what is below p stays: so does the whole
-  pub graft_same : (m : PathMap V) (p : Path) (n w w' : PathMap V) → IsBelow m p w → IsGrafted m p n w' → w' ≡ w → n ≡ m
-  unfolding IsGrafted
-  graft_same m p n w w' below grafted same = same_map paths_total paths_exact n m (λ q.
-      grafted q ∙ ap (λ z. get_beyond m z q (beyond p q)) same ∙ back m w q (beyond p q) (reads m p w below q))
-
-  again : (m w x : PathMap V) (p' q : Path) (w' : PathMap V) (o : Option Path) → Reads (map.get m) w q o → ((r : Path) → map.get w' r ≡ get_beyond w x r (beyond p' r)) → get_beyond m w' q o ≡ get_beyond m x q (then_beyond p' o)
-  again m w x p' q w' None r h = refl
-  again m w x p' q w' (Some z) r h = h z ∙ through (beyond p' z)
-    where
-      through : (o : Option Path) → get_beyond w x z o ≡ get_beyond m x q o
-      through None = r
-      through (Some y) = refl
-
-  -- a graft into what was grafted
-  pub graft_again : (m : PathMap V) (p p' : Path) (n w w' x : PathMap V) → IsBelow m p w → IsGrafted m p n w' → IsGrafted w p' w' x → IsGrafted m (p ++ p') n x
-  unfolding IsGrafted
-  graft_again m p p' n w w' x below grafted inner q =
-      grafted q ∙ again m w x p' q w' (beyond p q) (reads m p w below q) inner ∙ ap (get_beyond m x q) (sym (beyond_again p p' q))
-
-  pub graft_cut : (m : PathMap V) (pp p p' : Path) → pp ≡ p ++ p' → (n w w' x : PathMap V) → IsBelow m p w → IsGrafted m p n w' → IsGrafted w p' w' x → IsGrafted m pp n x
-  graft_cut m pp p p' cut n w w' x below grafted inner = subst (λ z. IsGrafted m z n x) (sym cut) (graft_again m p p' n w w' x below grafted inner)
-
-  set_again : (m w : PathMap V) (p' q : Path) (v : V) (o : Option Path) → Reads (map.get m) w q o → get_beyond m (map.insert w p' v) q o ≡ cond (tie_beyond p' o) (Some v) (map.get m q)
-  set_again m w p' q v None r = refl
-  set_again m w p' q v (Some z) r = get-insert paths_total w p' v z ∙ ap (cond (eq_by_cmp path_cmp z p') (Some v)) r
-
-  -- one value set in what was grafted
-  pub graft_insert : (m : PathMap V) (p p' : Path) (n w w' : PathMap V) (v : V) → IsBelow m p w → IsGrafted m p n w' → w' ≡ map.insert w p' v → n ≡ map.insert m (p ++ p') v
-  unfolding IsGrafted
-  graft_insert m p p' n w w' v below grafted set = same_map paths_total paths_exact n (map.insert m (p ++ p') v) (λ q.
-      grafted q ∙ ap (λ z. get_beyond m z q (beyond p q)) set ∙ set_again m w p' q v (beyond p q) (reads m p w below q)
-      ∙ ap (λ b. cond b (Some v) (map.get m q)) (sym (tie_again p p' q)) ∙ sym (get-insert paths_total m (p ++ p') v q))
-
-  pub below_again : (m : PathMap V) (p p' : Path) (w x : PathMap V) → IsBelow m p w → IsBelow w p' x → IsBelow m (p ++ p') x
-  unfolding IsBelow
-  below_again m p p' w x h i q = i q ∙ h (p' ++ q) ∙ ap (map.get m) (sym (append_assoc p p' q))
-
-  pub read_below : (m : PathMap V) (p : Path) (w : PathMap V) (q : Path) → IsBelow m p w → map.get w q ≡ map.get m (p ++ q)
-  unfolding IsBelow
-  read_below m p w q h = h q
-
-  pub one_grafted : (v : Option V) (l r w : PathMap V) → IsGrafted (joined v l r) (true ∷ []) (joined v l w) w
-  unfolding IsGrafted beyond
-  one_grafted v l r w [] = get_here v l w ∙ sym (get_here v l r)
-  one_grafted v l r w (true ∷ q) = get_one v l w q
-  one_grafted v l r w (false ∷ q) = get_zero v l w q ∙ sym (get_zero v l r q)
-
-  pub zero_grafted : (v : Option V) (l r w : PathMap V) → IsGrafted (joined v l r) (false ∷ []) (joined v w r) w
-  unfolding IsGrafted beyond
-  zero_grafted v l r w [] = get_here v w r ∙ sym (get_here v l r)
-  zero_grafted v l r w (true ∷ q) = get_one v w r q ∙ sym (get_one v l r q)
-  zero_grafted v l r w (false ∷ q) = get_zero v w r q
-
-pub or_so : {P Q R S : Type 0} → P ⊎ Q → (P → R) → (Q → S) → R ⊎ S
-or_so (inl p) f g = inl (f p)
-or_so (inr q) f g = inr (g q)
+pub if_both : {T : Type 0} {P Q R : T → Type 0} (r : Option T) → IfSome r P → IfSome r Q → ((x : T) → P x → Q x → R x) → IfSome r R
+if_both None p q f = tt
+if_both (Some x) p q f = f x p q
 
 pub on_some : {T P Q : Type 0} (r : Option T) → (P → Q) → OnSome r P → OnSome r Q
 on_some (Some x) f h = f h
 on_some None f h = h
 
-pub at_some : {T P : Type 0} (r : Option T) (x : T) → r ≡ Some x → OnSome r P → P
-at_some {P = P} r x e h = subst (λ z. OnSome z P) e h
-
 pub all_some : {T P : Type 0} (r : Option T) → P → OnSome r P
 all_some (Some x) h = h
 all_some None h = tt
 
-module _ {V A : Type 0} (n : Inside V A) (d : NodeSeen V) (seen : node_view n.value n.zero n.one ≡ d) where
-  pub graft_one : (p : Path) → p ≡ true ∷ [] → (w : PathMap V) → IsGrafted d.0 p (joined n.value (map_below n.zero) w) w
-  graft_one p e w =
-      subst (λ z. IsGrafted z p (joined n.value (map_below n.zero) w) w) (map_is n d seen)
-      (subst (λ z. IsGrafted (joined n.value (map_below n.zero) (map_below n.one)) z (joined n.value (map_below n.zero) w) w) (sym e) (one_grafted n.value (map_below n.zero) (map_below n.one) w))
-
-  pub graft_zero : (p : Path) → p ≡ false ∷ [] → (w : PathMap V) → IsGrafted d.0 p (joined n.value w (map_below n.one)) w
-  graft_zero p e w =
-      subst (λ z. IsGrafted z p (joined n.value w (map_below n.one)) w) (map_is n d seen)
-      (subst (λ z. IsGrafted (joined n.value (map_below n.zero) (map_below n.one)) z (joined n.value w (map_below n.one)) w) (sym e) (zero_grafted n.value (map_below n.zero) (map_below n.one) w))
-
--- what a lent link leads to, of a node that is pruned below
-pub lent_node : {V A P : Type 0} (b : Box (NodeSeen V) A) (w : NodeSeen V) → w ≡ b.value → (P → IsTrue (is_pruned (Some b))) → P → IsTrue w.2 × IsTrue (has_entry (map.entries w.0))
-lent_node b w at pruned was = pruned_node (Some b) b w refl at (pruned was)
-
-beyond_itself : (p q : Path) → beyond p (p ++ q) ≡ Some q
-unfolding beyond
-beyond_itself [] q = refl
-beyond_itself (true ∷ p) q = beyond_itself p q
-beyond_itself (false ∷ p) q = beyond_itself p q
-
 module _ {V : Type 0} where
-  -- a map into which one with an entry is grafted has one
-  has_grafted : (m : PathMap V) (p : Path) (n w : PathMap V) → IsGrafted m p n w → IsTrue (has_entry (map.entries w)) → IsTrue (has_entry (map.entries n))
-  unfolding IsGrafted
-  has_grafted m p n w grafted has =
-      let k = some_key w has in
-      has_value n (p ++ k.0) (is_there (grafted (p ++ k.0) ∙ ap (get_beyond m w (p ++ k.0)) (beyond_itself p k.0)) k.1)
+  pub like_self : (s : NodeSeen V) → IsLike s s
+  like_self s = record { at = refl; place = λ h. h; keys = λ h. h; sound = λ h. h }
 
-  -- a node into which a pruned one is grafted is pruned, and has an entry
-  pub graft_pruned : (low n w : NodeSeen V) (q : Path) → IsTrue low.2 → IsGrafted low.0 q n.0 w.0 → (IsTrue low.2 → IsTrue (w.2 && has_entry (map.entries w.0)) → IsTrue n.2) → IsTrue (w.2 && has_entry (map.entries w.0)) → IsTrue (n.2 && has_entry (map.entries n.0))
-  graft_pruned low n w q was grafted keeps new = both _ _ (keeps was new) (has_grafted low.0 q n.0 w.0 grafted (right_of _ _ new))
+  pub like_is : (s t n : NodeSeen V) → t ≡ s → IsLike t n → IsLike s n
+  like_is s t n is like = subst (λ z. IsLike z n) is like
 
-  pub same_pruned_node : (low n : NodeSeen V) → IsTrue low.2 × IsTrue (has_entry (map.entries low.0)) → (n.0 ≡ low.0) × (IsTrue low.2 → IsTrue n.2) → IsTrue (n.2 && has_entry (map.entries n.0))
-  same_pruned_node low n was same = both _ _ (same.1 was.0) (ap (λ k. has_entry (map.entries k)) same.0 ∙ was.1)
+  pub firm_like : (p : Path) (l w : NodeSeen V) → IsFirm p l → IsLike l w → IsFirm p w
+  firm_like p l w firm like = record {
+    loose = record { extends = ap (begins p) like.at ∙ firm.loose.extends; keys = like.keys firm.loose.keys; sound = like.sound firm.loose.sound };
+    place = like.place firm.place;
+  }
 
-  pub set_pruned_node : (low n : NodeSeen V) (q : Path) (x : V) → IsTrue low.2 × IsTrue (has_entry (map.entries low.0)) → (n.0 ≡ low.0) ⊎ (n.0 ≡ map.insert low.0 q x) → (IsTrue low.2 → IsTrue n.2) → IsTrue (n.2 && has_entry (map.entries n.0))
-  set_pruned_node low n q x was (inl same) keeps = same_pruned_node low n was (same, keeps)
-  set_pruned_node low n q x was (inr set) keeps = both _ _ (keeps was.0) (has_inserted n.0 low.0 q x set)
+  -- a graft into what was grafted
+  pub graft_again : (s l low n w1 l2 w2 : NodeSeen V) (q : Path) → IsOnWay s q l → low ≡ l → (IsLike l w1 → IsGrafted s l n w1) → IsOnWay low q l2 → IsGrafted low l2 w1 w2 → IsGrafted s l2 n w2
+  graft_again s l low n w1 l2 w2 q on is ends next inner =
+      let outer : IsGrafted s l n w1 = ends (like_is l low w1 is inner.like) in record {
+        like = outer.like;
+        table = λ z. outer.table z ∙ both z (begins l.at z) refl (begins l2.at z) refl;
+      }
+    where
+      inside : (z : Path) → map.get w1.table z ≡ cond (begins l2.at z) (map.get w2.table z) (map.get l.table z)
+      inside z = inner.table z ∙ ap (λ (x : NodeSeen V). cond (begins l2.at z) (map.get w2.table z) (map.get x.table z)) is
+
+      wider : (z : Path) → begins l2.at z ≡ true → begins l.at z ≡ true
+      wider z h = begins_trans l.at l2.at z (ap (λ (x : NodeSeen V). begins x.at l2.at) (sym is) ∙ next.firm.loose.extends) h
+
+      both : (z : Path) (t : Bool) → begins l.at z ≡ t → (u : Bool) → begins l2.at z ≡ u → cond (begins l.at z) (map.get w1.table z) (map.get s.table z) ≡ cond (begins l2.at z) (map.get w2.table z) (map.get s.table z)
+      both z true a true b = ap (λ t. cond t (map.get w1.table z) (map.get s.table z)) a ∙ inside z ∙ ap (λ t. cond t (map.get w2.table z) (map.get l.table z)) b ∙ sym (ap (λ t. cond t (map.get w2.table z) (map.get s.table z)) b)
+      both z true a false b = ap (λ t. cond t (map.get w1.table z) (map.get s.table z)) a ∙ inside z ∙ ap (λ t. cond t (map.get w2.table z) (map.get l.table z)) b ∙ sym (on.same z a) ∙ sym (ap (λ t. cond t (map.get w2.table z) (map.get s.table z)) b)
+      both z false a true b = absurd (false≢true (sym a ∙ wider z b))
+      both z false a false b = ap (λ t. cond t (map.get w1.table z) (map.get s.table z)) a ∙ sym (ap (λ t. cond t (map.get w2.table z) (map.get s.table z)) b)
+
+  -- what is on the way from a node on the way is on the way
+  pub way_again : (s l low l2 : NodeSeen V) (q : Path) → IsOnWay s q l → low ≡ l → IsOnWay low q l2 → IsOnWay s q l2
+  way_again s l low l2 q on is next =
+      let step : IsOnWay l q l2 = subst (λ z. IsOnWay z q l2) is next in record {
+        firm = record {
+          loose = record { extends = begins_trans s.at l.at l2.at on.firm.loose.extends step.firm.loose.extends; keys = step.firm.loose.keys; sound = step.firm.loose.sound };
+          place = step.firm.place;
+        };
+        longer = let a = on.longer in let b = step.longer in omega (arith, a, b);
+        leads = step.leads;
+        same = λ z h. on.same z (begins_trans l.at l2.at z step.firm.loose.extends h) ∙ step.same z h;
+      }
+
+  module _ (s l low n w : NodeSeen V) (q : Path) (on : IsOnWay s q l) (is : low ≡ l) (ends : IsLike l w → IsGrafted s l n w) where
+    pub graft_like : IsLike low w → IsLike s n
+    graft_like like = (ends (like_is l low w is like)).like
+
+    -- what is below stays: so does the whole
+    pub graft_same : (w.table ≡ low.table) × IsLike low w → (n.table ≡ s.table) × IsLike s n
+    graft_same h = (same_map paths_total paths_exact n.table s.table (λ z. (ends (like_is l low w is h.1)).table z ∙ kept z (begins l.at z) refl), graft_like h.1)
+      where
+        kept : (z : Path) (t : Bool) → begins l.at z ≡ t → cond (begins l.at z) (map.get w.table z) (map.get s.table z) ≡ map.get s.table z
+        kept z true a = ap (λ t. cond t (map.get w.table z) (map.get s.table z)) a ∙ ap (λ m. map.get m z) h.0 ∙ ap (λ (x : NodeSeen V). map.get x.table z) is ∙ sym (on.same z a)
+        kept z false a = ap (λ t. cond t (map.get w.table z) (map.get s.table z)) a
+
+    -- one value set below is set in the whole
+    pub graft_insert : (p : Path) (x : V) → low.at ≡ p → IsLike low w → w.table ≡ map.insert low.table p x → n.table ≡ map.insert s.table p x
+    graft_insert p x at like set = same_map paths_total paths_exact n.table (map.insert s.table p x) (λ z.
+        (ends (like_is l low w is like)).table z ∙ put z (begins l.at z) refl (eq_by_cmp path_cmp z p) refl ∙ sym (get-insert paths_total s.table p x z))
+      where
+        under : (z : Path) → eq_by_cmp path_cmp z p ≡ true → begins l.at z ≡ true
+        under z e = ap (λ (y : NodeSeen V). begins y.at z) (sym is) ∙ ap (λ y. begins y z) at ∙ ap (begins p) (tie_exact z p e) ∙ begins_self p
+
+        inner : (z : Path) → map.get w.table z ≡ cond (eq_by_cmp path_cmp z p) (Some x) (map.get l.table z)
+        inner z = ap (λ m. map.get m z) set ∙ get-insert paths_total low.table p x z ∙ ap (λ (y : NodeSeen V). cond (eq_by_cmp path_cmp z p) (Some x) (map.get y.table z)) is
+
+        put : (z : Path) (t : Bool) → begins l.at z ≡ t → (u : Bool) → eq_by_cmp path_cmp z p ≡ u → cond (begins l.at z) (map.get w.table z) (map.get s.table z) ≡ cond (eq_by_cmp path_cmp z p) (Some x) (map.get s.table z)
+        put z true a u b = ap (λ t. cond t (map.get w.table z) (map.get s.table z)) a ∙ inner z ∙ ap (cond (eq_by_cmp path_cmp z p) (Some x)) (sym (on.same z a))
+        put z false a true b = absurd (false≢true (sym a ∙ under z b))
+        put z false a false b = ap (λ t. cond t (map.get w.table z) (map.get s.table z)) a ∙ sym (ap (λ u. cond u (Some x) (map.get s.table z)) b)
+
+module _ {V A : Type 0} (n : Inside V A) (d : NodeSeen V) (seen : node_view n.at n.value n.zero n.one ≡ d) (sound : IsTrue d.sound) where
+  zero_fit : IsUnder (n.at ++ false ∷ []) n.zero
+  zero_fit = (fits n d seen sound).0
+
+  one_fit : IsUnder (n.at ++ true ∷ []) n.one
+  one_fit = (fits n d seen sound).1
+
+  -- a value written at the node
+  pub own_like : (x : V) → IsLike d (node_view n.at (Some x) n.zero n.one)
+  own_like x = record {
+    at = at_is n d seen;
+    place = λ h. place_joined n.at (Some x) _ _ (zero_keys n d seen sound) (one_keys n d seen sound);
+    keys = λ h. keys_joined n.at (Some x) _ _ (zero_keys n d seen sound) (one_keys n d seen sound);
+    sound = λ h. still_sound n d seen sound;
+  }
+
+  pub same_like : IsLike d (node_view n.at n.value n.zero n.one)
+  same_like = subst (λ z. IsLike z (node_view n.at n.value n.zero n.one)) seen (like_self (node_view n.at n.value n.zero n.one))
+
+  module _ (l w : Box (NodeSeen V) A) (like : IsLike l.value w.value) where
+    -- another node in the place of the one behind 1
+    pub one_grafted : n.one ≡ Some l → IsGrafted d l.value (node_view n.at n.value n.zero (Some w)) w.value
+    one_grafted is =
+        let old : IsFirm (n.at ++ true ∷ []) l.value = subst (λ o. IsUnder (n.at ++ true ∷ []) o) is one_fit in
+        let new : IsFirm (n.at ++ true ∷ []) w.value = firm_like (n.at ++ true ∷ []) l.value w.value old like in
+        let keys : KeysUnder (n.at ++ true ∷ []) w.value.table = keys_of {V = V} {A = A} (n.at ++ true ∷ []) (Some w) new in record {
+          like = record {
+            at = at_is n d seen;
+            place = λ h.
+                place_joined n.at n.value _ _ (zero_keys n d seen sound) keys
+                ∙ (λ i. is_some n.value || goes_link (n.at ++ false ∷ []) n.zero zero_fit i && goes_link {V = V} {A = A} (n.at ++ true ∷ []) (Some w) new i)
+                ∙ ap (λ o. is_some n.value || is_some n.zero && is_some o) (sym is) ∙ sym (place_parts n d seen sound) ∙ h;
+            keys = λ h. keys_joined n.at n.value _ _ (zero_keys n d seen sound) keys;
+            sound = λ h. sound_when n.at n.zero (Some w) zero_fit new;
+          };
+          table = λ q.
+              get_joined n.at n.value _ _ (zero_keys n d seen sound) keys q ∙ split q (begins l.value.at q) refl old new;
+        }
+      where
+        here : (q : Path) → map.get d.table q ≡ pick n.at q n.value (map.get (table_of n.zero) q) (map.get l.value.table q)
+        here q = ap (λ m. map.get m q) (sym (table_is n d seen)) ∙ get_joined n.at n.value _ _ (zero_keys n d seen sound) (one_keys n d seen sound) q ∙ ap (λ o. pick n.at q n.value (map.get (table_of n.zero) q) (map.get (table_of o) q)) is
+
+        split : (q : Path) (t : Bool) → begins l.value.at q ≡ t → IsFirm (n.at ++ true ∷ []) l.value → IsFirm (n.at ++ true ∷ []) w.value → pick n.at q n.value (map.get (table_of n.zero) q) (map.get w.value.table q) ≡ cond (begins l.value.at q) (map.get w.value.table q) (map.get d.table q)
+        split q true on old new = pick_one n.at q n.value _ _ (begins_trans (n.at ++ true ∷ []) l.value.at q old.loose.extends on) ∙ sym (ap (λ t. cond t (map.get w.value.table q) (map.get d.table q)) on)
+        split q false off old new =
+            ap (pick n.at q n.value (map.get (table_of n.zero) q)) (under_off w.value.at q w.value.table new.loose.keys (ap (λ p. begins p q) like.at ∙ off) ∙ sym (under_off l.value.at q l.value.table old.loose.keys off))
+            ∙ sym (here q) ∙ sym (ap (λ t. cond t (map.get w.value.table q) (map.get d.table q)) off)
+
+    -- another node in the place of the one behind 0
+    pub zero_grafted : n.zero ≡ Some l → IsGrafted d l.value (node_view n.at n.value (Some w) n.one) w.value
+    zero_grafted is =
+        let old : IsFirm (n.at ++ false ∷ []) l.value = subst (λ o. IsUnder (n.at ++ false ∷ []) o) is zero_fit in
+        let new : IsFirm (n.at ++ false ∷ []) w.value = firm_like (n.at ++ false ∷ []) l.value w.value old like in
+        let keys : KeysUnder (n.at ++ false ∷ []) w.value.table = keys_of {V = V} {A = A} (n.at ++ false ∷ []) (Some w) new in record {
+          like = record {
+            at = at_is n d seen;
+            place = λ h.
+                place_joined n.at n.value _ _ keys (one_keys n d seen sound)
+                ∙ (λ i. is_some n.value || goes_link {V = V} {A = A} (n.at ++ false ∷ []) (Some w) new i && goes_link (n.at ++ true ∷ []) n.one one_fit i)
+                ∙ ap (λ o. is_some n.value || is_some o && is_some n.one) (sym is) ∙ sym (place_parts n d seen sound) ∙ h;
+            keys = λ h. keys_joined n.at n.value _ _ keys (one_keys n d seen sound);
+            sound = λ h. sound_when n.at (Some w) n.one new one_fit;
+          };
+          table = λ q.
+              get_joined n.at n.value _ _ keys (one_keys n d seen sound) q ∙ split q (begins l.value.at q) refl old new;
+        }
+      where
+        here : (q : Path) → map.get d.table q ≡ pick n.at q n.value (map.get l.value.table q) (map.get (table_of n.one) q)
+        here q = ap (λ m. map.get m q) (sym (table_is n d seen)) ∙ get_joined n.at n.value _ _ (zero_keys n d seen sound) (one_keys n d seen sound) q ∙ ap (λ o. pick n.at q n.value (map.get (table_of o) q) (map.get (table_of n.one) q)) is
+
+        split : (q : Path) (t : Bool) → begins l.value.at q ≡ t → IsFirm (n.at ++ false ∷ []) l.value → IsFirm (n.at ++ false ∷ []) w.value → pick n.at q n.value (map.get w.value.table q) (map.get (table_of n.one) q) ≡ cond (begins l.value.at q) (map.get w.value.table q) (map.get d.table q)
+        split q true on old new = pick_zero n.at q n.value _ _ (begins_trans (n.at ++ false ∷ []) l.value.at q old.loose.extends on) ∙ sym (ap (λ t. cond t (map.get w.value.table q) (map.get d.table q)) on)
+        split q false off old new =
+            ap (λ o. pick n.at q n.value o (map.get (table_of n.one) q)) (under_off w.value.at q w.value.table new.loose.keys (ap (λ p. begins p q) like.at ∙ off) ∙ sym (under_off l.value.at q l.value.table old.loose.keys off))
+            ∙ sym (here q) ∙ sym (ap (λ t. cond t (map.get w.value.table q) (map.get d.table q)) off)
+
+  -- the node behind a side on the way
+  pub one_way : (q : Path) (l : Box (NodeSeen V) A) → n.one ≡ Some l → leads_to n.one q ≡ true → IsOnWay d q l.value
+  one_way q l is on =
+      let firm : IsFirm (d.at ++ true ∷ []) l.value = subst (λ o. IsUnder (d.at ++ true ∷ []) o) is (one_under n d seen sound) in record {
+        firm = record { loose = record { extends = side_begins d.at l.value.at true firm.loose.extends; keys = firm.loose.keys; sound = firm.loose.sound }; place = firm.place };
+        longer = longer_side d.at l.value.at true firm.loose.extends;
+        leads = ap (λ o. leads_to o q) (sym is) ∙ on;
+        same = λ z h. read_one n d seen sound z (begins_trans (d.at ++ true ∷ []) l.value.at z firm.loose.extends h) ∙ ap (λ o. map.get (table_of o) z) is;
+      }
+
+  pub zero_way : (q : Path) (l : Box (NodeSeen V) A) → n.zero ≡ Some l → leads_to n.zero q ≡ true → IsOnWay d q l.value
+  zero_way q l is on =
+      let firm : IsFirm (d.at ++ false ∷ []) l.value = subst (λ o. IsUnder (d.at ++ false ∷ []) o) is (zero_under n d seen sound) in record {
+        firm = record { loose = record { extends = side_begins d.at l.value.at false firm.loose.extends; keys = firm.loose.keys; sound = firm.loose.sound }; place = firm.place };
+        longer = longer_side d.at l.value.at false firm.loose.extends;
+        leads = ap (λ o. leads_to o q) (sym is) ∙ on;
+        same = λ z h. read_zero n d seen sound z (begins_trans (d.at ++ false ∷ []) l.value.at z firm.loose.extends h) ∙ ap (λ o. map.get (table_of o) z) is;
+      }
+
+pub none_never : {V A : Type 0} (P : Type 0) (r : Option (MutBor (Box (NodeSeen V) A))) (o : Option (Box (NodeSeen V) A)) (q : Path) → option_copied_mut r ≡ o → leads_to o q ≡ true → IfNone r P
+none_never P None o q is on = absurd (false≢true (ap (λ z. leads_to z q) is ∙ on))
+none_never P (Some l) o q is on = tt
+
+pub way_far : {V A : Type 0} (r : Option (MutBor (Box (NodeSeen V) A))) (s : NodeSeen V) (q : Path) → IfSome r (λ l. IsOnWay s q l.now.value) → IfSome r (λ l. (n : ℕ) → n ≤ length s.at + 1 → n ≤ length q → n ≤ length l.now.value.at)
+way_far None s q h = tt
+way_far (Some l) s q h = λ n a b. let k = h.longer in omega (arith, k, a)
+
+module _ {V A : Type 0} (n : Inside V A) (d : NodeSeen V) (seen : node_view n.at n.value n.zero n.one ≡ d) (sound : IsTrue d.sound) (r : Option (MutBor (Box (NodeSeen V) A))) where
+  pub one_lent : option_copied_mut r ≡ n.one → (w : Box (NodeSeen V) A) → IfSome r (λ l. IsLike l.now.value w.value → IsGrafted d l.now.value (node_view n.at n.value n.zero (Some w)) w.value)
+  one_lent is w = at r is
+    where
+      at : (r : Option (MutBor (Box (NodeSeen V) A))) → option_copied_mut r ≡ n.one → IfSome r (λ l. IsLike l.now.value w.value → IsGrafted d l.now.value (node_view n.at n.value n.zero (Some w)) w.value)
+      at None is = tt
+      at (Some l) is = λ like. one_grafted n d seen sound l.now w like (sym is)
+
+  pub zero_lent : option_copied_mut r ≡ n.zero → (w : Box (NodeSeen V) A) → IfSome r (λ l. IsLike l.now.value w.value → IsGrafted d l.now.value (node_view n.at n.value (Some w) n.one) w.value)
+  zero_lent is w = at r is
+    where
+      at : (r : Option (MutBor (Box (NodeSeen V) A))) → option_copied_mut r ≡ n.zero → IfSome r (λ l. IsLike l.now.value w.value → IsGrafted d l.now.value (node_view n.at n.value (Some w) n.one) w.value)
+      at None is = tt
+      at (Some l) is = λ like. zero_grafted n d seen sound l.now w like (sym is)
+
+  module _ (q : Path) where
+    pub one_ways : option_copied_mut r ≡ n.one → leads_to n.one q ≡ true → IfSome r (λ l. IsOnWay d q l.now.value)
+    one_ways is on = at r is
+      where
+        at : (r : Option (MutBor (Box (NodeSeen V) A))) → option_copied_mut r ≡ n.one → IfSome r (λ l. IsOnWay d q l.now.value)
+        at None is = tt
+        at (Some l) is = one_way n d seen sound q l.now (sym is) on
+
+    pub zero_ways : option_copied_mut r ≡ n.zero → leads_to n.zero q ≡ true → IfSome r (λ l. IsOnWay d q l.now.value)
+    zero_ways is on = at r is
+      where
+        at : (r : Option (MutBor (Box (NodeSeen V) A))) → option_copied_mut r ≡ n.zero → IfSome r (λ l. IsOnWay d q l.now.value)
+        at None is = tt
+        at (Some l) is = zero_way n d seen sound q l.now (sym is) on
+
+    -- what the step to the link cost
+    pub step_cost : (o : Option (Box (NodeSeen V) A)) (before after : ℕ) → option_copied_mut r ≡ o → leads_to o q ≡ true → visits_beyond d.table d.at q ≡ link_visits o q → after ≡ before + cond (is_some o) 1 0 → IfSome r (λ l. after + visits_beyond l.now.value.table l.now.value.at q ≡ before + visits_beyond d.table d.at q)
+    step_cost o before after is on step cost = at r is
+      where
+        at : (r : Option (MutBor (Box (NodeSeen V) A))) → option_copied_mut r ≡ o → IfSome r (λ l. after + visits_beyond l.now.value.table l.now.value.at q ≡ before + visits_beyond d.table d.at q)
+        at None is = tt
+        at (Some l) is =
+            let one = some_one o l.now (sym is) in
+            let more : link_visits o q ≡ 1 + visits_beyond l.now.value.table l.now.value.at q = visits_on o q l.now l.now.value (sym is) refl on in
+            omega (arith, cost, one, more, step)
+
+pub if_some : {T : Type 0} {P Q : T → Type 0} (r : Option T) → ((x : T) → P x → Q x) → IfSome r P → IfSome r Q
+if_some None f h = h
+if_some (Some x) f h = f x h
+
+pub if_none : {T P Q : Type 0} (r : Option T) → (P → Q) → IfNone r P → IfNone r Q
+if_none None f h = f h
+if_none (Some x) f h = h
+
+same_lengths : (a b : ℕ) (t : Bool) → t ≡ nat_eq a b → t ≡ true → a ≡ b
+same_lengths a b t is so = let e : nat_eq a b ≡ true = sym is ∙ so in grind (arith, nat_tests, e)
+
+apart_lengths : (a b : ℕ) (t : Bool) → t ≡ nat_eq a b → t ≡ false → a ≡ b → ⊥
+apart_lengths a b t is off same = let e : nat_eq a b ≡ false = sym is ∙ off in grind (arith, nat_tests, e, same)
+
+module _ {V : Type 0} (s l : NodeSeen V) (q : Path) (on : IsOnWay s q l) where
+  -- the link leads to the key's own node, or goes further
+  pub far_there : (t : Bool) (k : ℕ) → t ≡ nat_eq (length l.at) (length q) → t ≡ true → (n : ℕ) → n ≤ length s.at + k → n ≤ length q → n ≤ length l.at
+  far_there t k is so n a b = let e = same_lengths (length l.at) (length q) t is so in omega (arith, e, b)
+
+  pub at_end : (k : ℕ) → length q ≤ length s.at + k → ((n : ℕ) → n ≤ length s.at + k → n ≤ length q → n ≤ length l.at) → l.at ≡ q
+  at_end k le far = begins_whole l.at q on.leads (far (length q) le (omega arith))
+
+  module _ (low : NodeSeen V) (is : low ≡ l) where
+    same_at : length low.at ≡ length l.at
+    same_at = ap (λ (x : NodeSeen V). length x.at) is
+
+    pub still_longer : (t : Bool) → t ≡ nat_eq (length l.at) (length q) → t ≡ false → length low.at < length q
+    still_longer t e off =
+        let le = begins_length l.at q on.leads in
+        let h = same_at in
+        elim (cases_eq (length l.at) (length q)) [
+          | inl same ↦ absurd (apart_lengths (length l.at) (length q) t e off same)
+          | inr other ↦ omega (arith, le, h, other)
+        ]
+
+    pub far_again : (h k : ℕ) → k ≡ h + h → ((n : ℕ) → n ≤ length s.at + h → n ≤ length q → n ≤ length l.at) → (m : ℕ) → ((n : ℕ) → n ≤ length low.at + h → n ≤ length q → n ≤ m) → (n : ℕ) → n ≤ length s.at + k → n ≤ length q → n ≤ m
+    far_again h k twice one m two n a b =
+        let near = one (n - h) (omega (arith, a, twice)) (omega (arith, b)) in
+        let e = same_at in
+        two n (omega (arith, near, e)) b
+
+    pub none_again : map.get low.table q ≡ None → map.get s.table q ≡ None
+    none_again none = on.same q on.leads ∙ ap (λ (x : NodeSeen V). map.get x.table q) (sym is) ∙ none
+
+    pub cost_again : (before mid : ℕ) → mid + visits_beyond l.table l.at q ≡ before + visits_beyond s.table s.at q → (after more : ℕ) → after + more ≡ mid + visits_beyond low.table low.at q → after + more ≡ before + visits_beyond s.table s.at q
+    cost_again before mid one after more two = let e : visits_beyond low.table low.at q ≡ visits_beyond l.table l.at q = ap (λ (x : NodeSeen V). visits_beyond x.table x.at q) is in omega (arith, one, two, e)
+
+    pub cost_ended : (before mid : ℕ) → mid + visits_beyond l.table l.at q ≡ before + visits_beyond s.table s.at q → (after : ℕ) → after ≡ mid + visits_beyond low.table low.at q → after ≡ before + visits_beyond s.table s.at q
+    cost_ended before mid one after two = let e : visits_beyond low.table low.at q ≡ visits_beyond l.table l.at q = ap (λ (x : NodeSeen V). visits_beyond x.table x.at q) is in omega (arith, one, two, e)

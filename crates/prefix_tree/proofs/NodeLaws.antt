@@ -1,121 +1,106 @@
 -- A node seen as a map, and its parts.
-use Rattle.std.proofs.Common.{◌≡◌, ℕ, zero, suc, ◌-◌, ◌<◌, Bool, true, false, cond, [], ◌∷◌, Option, Some, None, refl, sym, subst, ap, ◌∙◌, arith}
+use Rattle.std.proofs.Common.{◌≡◌, ◌<◌, ◌≤◌, inl, inr, arith, length, Bool, true, false, cond, [], ◌∷◌, ◌++◌, Option, Some, None, refl, sym, ap, subst, ◌∙◌}
 use mathlib.Core.Bool.{false≢true}
-use Rattle.std.specs.Prelude.{◌==◌, IsSome, Result, Ok, Err, OnOk, IfOk, IfErr}
-use Rattle.std.specs.Int.{bit_at}
-use Rattle.std.specs.declared.boxed.Box.{Box}
+use Rattle.std.specs.Prelude.{IsTrue, Result, Ok, Err, OnOk, IfOk, IfErr, IsSome, IfSome, IfNone}
+use Rattle.std.proofs.lemmas.Bool.{cases_eq}
+use Rattle.std.specs.Box.{with_value}
 use Rattle.std.specs.FinMap as map
-use Rattle.std.specs.Ordering.{eq_by_cmp}
 use Rattle.std.specs.FinMap.{get-empty, get-remove, same_map}
+use Rattle.std.specs.Ordering.{eq_by_cmp}
+use Rattle.std.specs.declared.boxed.Box.{Box}
+use Rattle.identity.specs.Path.{Path, path_cmp, begins}
 use Rattle.identity.specs.PathLaws.{paths_total, paths_exact, tie_exact}
-use Rattle.identity.specs.Number.{num}
-use Rattle.identity.specs.Path.{Path, path_cmp}
 use Rattle.prefix_tree.specs.Table.{PathMap}
 use Rattle.prefix_tree.specs.declared.node.Node.TheInside.{Inside}
-use Rattle.prefix_tree.specs.Joined.{NodeSeen, joined, map_below, node_view, IsBelow}
-use Rattle.prefix_tree.proofs.JoinedLaws.{get_here, get_zero, get_one, insert_here, insert_zero, insert_one, remove_here, remove_zero, remove_one, joined_empty}
+use Rattle.prefix_tree.specs.Visits.{is_place}
+use Rattle.prefix_tree.specs.Joined.{NodeSeen, joined, KeysUnder, table_of, IsLoose, IsFirm, IsUnder, node_view, leads_to}
+use Rattle.prefix_tree.proofs.Standing.{fits_when, place_inserted}
+use Rattle.prefix_tree.proofs.Begins.{longer_side, begins_whole, begins_length}
+use Rattle.prefix_tree.proofs.JoinedLaws.{under_wider, under_empty, under_off, get_here, get_zero, get_one, keys_joined, keys_insert, keys_remove, insert_here, insert_zero, insert_one, remove_here, remove_zero, remove_one, joined_empty}
 
-pub num_none : (w v : ℕ) → w ≡ 0 → num w v ≡ []
-unfolding num
-num_none w v e = ap (λ n. num n v) e
+module _ {V A : Type 0} where
+  pub keys_of : (p : Path) (o : Option (Box (NodeSeen V) A)) → IsUnder p o → KeysUnder p (table_of o)
+  keys_of p None h = under_empty V p
+  keys_of p (Some b) h = under_wider p b.value.at b.value.table h.loose.extends h.loose.keys
 
-pub num_some : (w v : ℕ) → 0 < w → num w v ≡ (bit_at v (w - 1) == 1) ∷ num (w - 1) v
-unfolding num
-num_some zero v h = absurd (omega arith)
-num_some (suc k) v h = let e : suc k - 1 ≡ k = omega arith in rw e refl
+  -- the node that a link leads to
+  pub firm_node : (p : Path) (o : Option (Box (NodeSeen V) A)) (b : Box (NodeSeen V) A) (w : NodeSeen V) → o ≡ Some b → w ≡ b.value → IsUnder p o → IsFirm p w
+  firm_node p o b w is at h = subst (λ z. IsFirm p z) (sym at) (subst (λ z. IsUnder p z) is h)
 
-module _ {V A : Type 0} (m : PathMap V) (p : Path) (o : Option (Box (NodeSeen V) A)) (below : IsBelow m p (map_below o)) where
-  -- what is below a path, behind a link
-  pub inside_is : (b : Box (NodeSeen V) A) (w : NodeSeen V) → o ≡ Some b → w ≡ b.value → IsBelow m p w.0
-  inside_is b w is at = subst (λ k. IsBelow m p k) (ap map_below is ∙ sym (ap (λ (x : NodeSeen V). x.0) at)) below
+  pub table_behind : (o : Option (Box (NodeSeen V) A)) (b : Box (NodeSeen V) A) (w : NodeSeen V) → o ≡ Some b → w ≡ b.value → w.table ≡ table_of o
+  table_behind o b w is at = ap (λ (x : NodeSeen V). x.table) at ∙ sym (ap table_of is)
 
-  pub nothing_is : o ≡ None → IsBelow m p map.empty
-  nothing_is is = subst (λ k. IsBelow m p k) (ap map_below is) below
+  pub none_behind : (o : Option (Box (NodeSeen V) A)) (q : Path) → o ≡ None → map.get (table_of o) q ≡ None
+  none_behind o q is = ap (λ z. map.get (table_of z) q) is ∙ get-empty path_cmp q
 
-module _ {V : Type 0} (m : PathMap V) (b : Bool) (p q : Path) (e : p ≡ b ∷ q) where
-  pub through : (w : PathMap V) → IsBelow m (b ∷ []) w → map.get w q ≡ map.get m p
-  unfolding IsBelow
-  through w below = below q ∙ ap (map.get m) (sym e)
+module _ {V A : Type 0} (n : Inside V A) (d : NodeSeen V) (seen : node_view n.at n.value n.zero n.one ≡ d) where
+  pub at_is : n.at ≡ d.at
+  at_is = ap (λ (x : NodeSeen V). x.at) seen
 
-  pub none_through : IsBelow m (b ∷ []) map.empty → map.get m p ≡ None
-  none_through below = sym (through map.empty below) ∙ get-empty path_cmp q
+  pub table_is : joined n.at n.value (table_of n.zero) (table_of n.one) ≡ d.table
+  table_is = ap (λ (x : NodeSeen V). x.table) seen
 
-same_unless : {V : Type 0} (b : Bool) (x y : Option V) → (b ≡ true → y ≡ None) → cond b None y ≡ y
-same_unless true x y h = sym (h refl)
-same_unless false x y h = refl
+  pub at_box : (x : NodeSeen V) → d ≡ x → n.at ≡ x.at
+  at_box x at = at_is ∙ ap (λ (z : NodeSeen V). z.at) at
 
--- to remove what is not there changes nothing
-pub remove_absent : {V : Type 0} (m : PathMap V) (p : Path) → map.get m p ≡ None → map.remove m p ≡ m
-remove_absent m p none = same_map paths_total paths_exact _ _ (λ q.
-    get-remove paths_total m p q ∙ same_unless (eq_by_cmp path_cmp q p) None (map.get m q) (λ same. ap (map.get m) (tie_exact q p same) ∙ none))
+module _ {V A : Type 0} (n : Inside V A) (d : NodeSeen V) (seen : node_view n.at n.value n.zero n.one ≡ d) (sound : IsTrue d.sound) where
+  the_at : n.at ≡ d.at
+  the_at = at_is n d seen
 
-module _ {V A : Type 0} (o : Option (Box (NodeSeen V) A)) where
-  pub some_behind : (b : Box (NodeSeen V) A) (w : NodeSeen V) → o ≡ Some b → w ≡ b.value → w.0 ≡ map_below o
-  some_behind b w is at = ap (λ (x : NodeSeen V). x.0) at ∙ sym (ap map_below is)
+  the_table : joined n.at n.value (table_of n.zero) (table_of n.one) ≡ d.table
+  the_table = table_is n d seen
 
-  pub none_behind : (p : Path) → o ≡ None → map.get (map_below o) p ≡ None
-  none_behind p is = ap (λ z. map.get (map_below z) p) is ∙ get-empty path_cmp p
+  pub fits : IsUnder (n.at ++ false ∷ []) n.zero × IsUnder (n.at ++ true ∷ []) n.one
+  fits = fits_when n.at n.value n.zero n.one d seen sound
 
-  -- nothing is taken from behind an empty link
-  pub none_removed : (p : Path) → o ≡ None → map_below o ≡ map.remove (map_below o) p
-  none_removed p is = sym (remove_absent (map_below o) p (none_behind p is))
+  pub zero_keys : KeysUnder (n.at ++ false ∷ []) (table_of n.zero)
+  zero_keys = keys_of _ n.zero fits.0
 
-module _ {V A : Type 0} (n : Inside V A) (d : NodeSeen V) (seen : node_view n.value n.zero n.one ≡ d) where
-  pub map_is : joined n.value (map_below n.zero) (map_below n.one) ≡ d.0
-  map_is = ap (λ (x : NodeSeen V). x.0) seen
+  pub one_keys : KeysUnder (n.at ++ true ∷ []) (table_of n.one)
+  one_keys = keys_of _ n.one fits.1
 
-  pub read_here : (p : Path) → p ≡ [] → map.get d.0 p ≡ n.value
-  read_here p e = ap (map.get d.0) e ∙ ap (λ m. map.get m []) (sym map_is) ∙ get_here n.value (map_below n.zero) (map_below n.one)
+  pub read_here : map.get d.table d.at ≡ n.value
+  read_here = (λ i. map.get (sym the_table i) (sym the_at i)) ∙ get_here n.at n.value _ _ zero_keys one_keys
 
-  pub read_zero : (p q : Path) → p ≡ false ∷ q → map.get d.0 p ≡ map.get (map_below n.zero) q
-  read_zero p q e = ap (map.get d.0) e ∙ ap (λ m. map.get m (false ∷ q)) (sym map_is) ∙ get_zero n.value (map_below n.zero) (map_below n.one) q
+  pub read_at : (q : Path) → q ≡ d.at → map.get d.table q ≡ n.value
+  read_at q e = ap (map.get d.table) e ∙ read_here
 
-  pub read_one : (p q : Path) → p ≡ true ∷ q → map.get d.0 p ≡ map.get (map_below n.one) q
-  read_one p q e = ap (map.get d.0) e ∙ ap (λ m. map.get m (true ∷ q)) (sym map_is) ∙ get_one n.value (map_below n.zero) (map_below n.one) q
+  pub read_zero : (q : Path) → IsTrue (begins (d.at ++ false ∷ []) q) → map.get d.table q ≡ map.get (table_of n.zero) q
+  read_zero q e = ap (λ m. map.get m q) (sym the_table) ∙ get_zero n.at n.value _ _ zero_keys one_keys q (ap (λ p. begins (p ++ false ∷ []) q) the_at ∙ e)
 
-  pub zero_is_below : IsBelow d.0 (false ∷ []) (map_below n.zero)
-  unfolding IsBelow
-  zero_is_below q = sym (read_zero (false ∷ q) q refl)
+  pub read_one : (q : Path) → IsTrue (begins (d.at ++ true ∷ []) q) → map.get d.table q ≡ map.get (table_of n.one) q
+  read_one q e = ap (λ m. map.get m q) (sym the_table) ∙ get_one n.at n.value _ _ zero_keys one_keys q (ap (λ p. begins (p ++ true ∷ []) q) the_at ∙ e)
 
-  pub one_is_below : IsBelow d.0 (true ∷ []) (map_below n.one)
-  unfolding IsBelow
-  one_is_below q = sym (read_one (true ∷ q) q refl)
+  pub zero_under : IsUnder (d.at ++ false ∷ []) n.zero
+  zero_under = subst (λ p. IsUnder (p ++ false ∷ []) n.zero) the_at fits.0
 
-  -- what an edit at the node, or below it, makes of its map
-  pub write_here : (p : Path) (x : V) → p ≡ [] → joined (Some x) (map_below n.zero) (map_below n.one) ≡ map.insert d.0 p x
-  write_here p x e = insert_here n.value (map_below n.zero) (map_below n.one) x ∙ (λ i. map.insert (map_is i) (sym e i) x)
+  pub one_under : IsUnder (d.at ++ true ∷ []) n.one
+  one_under = subst (λ p. IsUnder (p ++ true ∷ []) n.one) the_at fits.1
 
-  pub into_zero : (m : PathMap V) (p q : Path) (x : V) → p ≡ false ∷ q → m ≡ map.insert (map_below n.zero) q x → joined n.value m (map_below n.one) ≡ map.insert d.0 p x
-  into_zero m p q x e new = ap (λ m'. joined n.value m' (map_below n.one)) new ∙ insert_zero n.value (map_below n.zero) (map_below n.one) q x ∙ (λ i. map.insert (map_is i) (sym e i) x)
+  pub keys_is : KeysUnder d.at d.table
+  keys_is = subst (λ p. KeysUnder p d.table) the_at (subst (λ m. KeysUnder n.at m) the_table (keys_joined n.at n.value _ _ zero_keys one_keys))
 
-  pub into_one : (m : PathMap V) (p q : Path) (x : V) → p ≡ true ∷ q → m ≡ map.insert (map_below n.one) q x → joined n.value (map_below n.zero) m ≡ map.insert d.0 p x
-  into_one m p q x e new = ap (λ m'. joined n.value (map_below n.zero) m') new ∙ insert_one n.value (map_below n.zero) (map_below n.one) q x ∙ (λ i. map.insert (map_is i) (sym e i) x)
+  -- what an edit at the node, or on a side, makes of its map
+  pub write_here : (q : Path) (x : V) → q ≡ d.at → joined n.at (Some x) (table_of n.zero) (table_of n.one) ≡ map.insert d.table q x
+  write_here q x e = insert_here n.at n.value _ _ zero_keys one_keys x ∙ (λ i. map.insert (the_table i) ((the_at ∙ sym e) i) x)
 
-  pub take_here : (p : Path) → p ≡ [] → joined None (map_below n.zero) (map_below n.one) ≡ map.remove d.0 p
-  take_here p e = remove_here n.value (map_below n.zero) (map_below n.one) ∙ (λ i. map.remove (map_is i) (sym e i))
+  pub take_here : (q : Path) → q ≡ d.at → joined n.at None (table_of n.zero) (table_of n.one) ≡ map.remove d.table q
+  take_here q e = remove_here n.at n.value _ _ zero_keys one_keys ∙ (λ i. map.remove (the_table i) ((the_at ∙ sym e) i))
 
-  pub out_of_zero : (m : PathMap V) (p q : Path) → p ≡ false ∷ q → m ≡ map.remove (map_below n.zero) q → joined n.value m (map_below n.one) ≡ map.remove d.0 p
-  out_of_zero m p q e new = ap (λ m'. joined n.value m' (map_below n.one)) new ∙ remove_zero n.value (map_below n.zero) (map_below n.one) q ∙ (λ i. map.remove (map_is i) (sym e i))
+  pub into_zero : (m : PathMap V) (q : Path) (x : V) → IsTrue (begins (d.at ++ false ∷ []) q) → m ≡ map.insert (table_of n.zero) q x → joined n.at n.value m (table_of n.one) ≡ map.insert d.table q x
+  into_zero m q x e new = ap (λ z. joined n.at n.value z (table_of n.one)) new ∙ insert_zero n.at n.value _ _ zero_keys one_keys q x (ap (λ p. begins (p ++ false ∷ []) q) the_at ∙ e) ∙ ap (λ z. map.insert z q x) the_table
 
-  pub out_of_one : (m : PathMap V) (p q : Path) → p ≡ true ∷ q → m ≡ map.remove (map_below n.one) q → joined n.value (map_below n.zero) m ≡ map.remove d.0 p
-  out_of_one m p q e new = ap (λ m'. joined n.value (map_below n.zero) m') new ∙ remove_one n.value (map_below n.zero) (map_below n.one) q ∙ (λ i. map.remove (map_is i) (sym e i))
+  pub into_one : (m : PathMap V) (q : Path) (x : V) → IsTrue (begins (d.at ++ true ∷ []) q) → m ≡ map.insert (table_of n.one) q x → joined n.at n.value (table_of n.zero) m ≡ map.insert d.table q x
+  into_one m q x e new = ap (λ z. joined n.at n.value (table_of n.zero) z) new ∙ insert_one n.at n.value _ _ zero_keys one_keys q x (ap (λ p. begins (p ++ true ∷ []) q) the_at ∙ e) ∙ ap (λ z. map.insert z q x) the_table
 
-  pub same_zero : (m : PathMap V) → m ≡ map_below n.zero → joined n.value m (map_below n.one) ≡ d.0
-  same_zero m e = ap (λ m'. joined n.value m' (map_below n.one)) e ∙ map_is
+  pub out_of_zero : (m : PathMap V) (q : Path) → IsTrue (begins (d.at ++ false ∷ []) q) → m ≡ map.remove (table_of n.zero) q → joined n.at n.value m (table_of n.one) ≡ map.remove d.table q
+  out_of_zero m q e new = ap (λ z. joined n.at n.value z (table_of n.one)) new ∙ remove_zero n.at n.value _ _ zero_keys one_keys q (ap (λ p. begins (p ++ false ∷ []) q) the_at ∙ e) ∙ ap (λ z. map.remove z q) the_table
 
-  pub same_one : (m : PathMap V) → m ≡ map_below n.one → joined n.value (map_below n.zero) m ≡ d.0
-  same_one m e = ap (λ m'. joined n.value (map_below n.zero) m') e ∙ map_is
+  pub out_of_one : (m : PathMap V) (q : Path) → IsTrue (begins (d.at ++ true ∷ []) q) → m ≡ map.remove (table_of n.one) q → joined n.at n.value (table_of n.zero) m ≡ map.remove d.table q
+  out_of_one m q e new = ap (λ z. joined n.at n.value (table_of n.zero) z) new ∙ remove_one n.at n.value _ _ zero_keys one_keys q (ap (λ p. begins (p ++ true ∷ []) q) the_at ∙ e) ∙ ap (λ z. map.remove z q) the_table
 
-  pub bare_is_empty : n.value ≡ None → n.zero ≡ None → n.one ≡ None → d.0 ≡ map.empty
-  bare_is_empty a b c = sym map_is ∙ (λ i. joined (a i) (map_below (b i)) (map_below (c i))) ∙ joined_empty
-
--- a chain of one entry
-pub one_entry : {V : Type 0} (b : Bool) (m : PathMap V) (q : Path) (x : V) → m ≡ map.insert map.empty q x → joined None (cond b map.empty m) (cond b m map.empty) ≡ map.insert map.empty (b ∷ q) x
-one_entry false m q x e = ap (λ n. joined None n map.empty) e ∙ insert_zero None map.empty map.empty q x ∙ ap (λ n. map.insert n (false ∷ q) x) joined_empty
-one_entry true m q x e = ap (λ n. joined None map.empty n) e ∙ insert_one None map.empty map.empty q x ∙ ap (λ n. map.insert n (true ∷ q) x) joined_empty
-
-pub one_here : {V : Type 0} (x : V) → joined (Some x) map.empty map.empty ≡ map.insert map.empty [] x
-one_here x = insert_here None map.empty map.empty x ∙ ap (λ n. map.insert n [] x) joined_empty
+pub one_here : {V : Type 0} (p : Path) (x : V) → joined p (Some x) map.empty map.empty ≡ map.insert map.empty p x
+one_here {V} p x = insert_here p None map.empty map.empty (under_empty V _) (under_empty V _) x ∙ ap (λ m. map.insert m p x) (joined_empty V p)
 
 pub on_ok : {T E P Q : Type 0} (r : Result T E) → (P → Q) → OnOk r P → OnOk r Q
 on_ok (Ok x) f h = f h
@@ -129,6 +114,80 @@ pub if_err : {T E : Type 0} {P Q : E → Type 0} (r : Result T E) → ((e : E) �
 if_err (Ok x) f h = h
 if_err (Err e) f h = f e h
 
+-- one step down towards a path that goes on with the bit
+module _ {V A : Type 0} (d : NodeSeen V) (b : Bool) (o : Option (Box (NodeSeen V) A)) (q : Path) (side : IsTrue (begins (d.at ++ b ∷ []) q)) (under : IsUnder (d.at ++ b ∷ []) o) (table : (z : Path) → IsTrue (begins (d.at ++ b ∷ []) z) → map.get d.table z ≡ map.get (table_of o) z) where
+  pub none_there : o ≡ None → map.get d.table q ≡ None
+  none_there is = table q side ∙ none_behind o q is
+
+  module _ (x : Box (NodeSeen V) A) (w : NodeSeen V) (is : o ≡ Some x) (at : w ≡ x.value) where
+    firm : IsFirm (d.at ++ b ∷ []) w
+    firm = firm_node _ o x w is at under
+
+    pub on_there : map.get w.table q ≡ map.get d.table q
+    on_there = ap (λ m. map.get m q) (table_behind o x w is at) ∙ sym (table q side)
+
+    pub off_there : begins w.at q ≡ false → map.get d.table q ≡ None
+    off_there off = sym on_there ∙ under_off w.at q w.table firm.loose.keys off
+
+    pub longer_there : length d.at < length w.at
+    longer_there = longer_side d.at w.at b firm.loose.extends
+
+pub same_at : {V : Type 0} → (v w x : NodeSeen V) → v ≡ x → w ≡ x → (q : Path) → begins w.at q ≡ begins v.at q
+same_at {V = V} v w x a b q = ap (λ (d : NodeSeen V). begins d.at q) (b ∙ sym a)
+
+module _ {V A : Type 0} (n : Inside V A) (d : NodeSeen V) (seen : node_view n.at n.value n.zero n.one ≡ d) (q : Path) (within : IsTrue (begins d.at q)) where
+  same_length : length n.at ≡ length d.at
+  same_length = ap length (at_is n d seen)
+
+  -- the key is the node's own path, or longer
+  pub whole_key : length n.at ≡ length q → q ≡ d.at
+  whole_key e = let h = same_length in sym (begins_whole d.at q within (omega (arith, e, h)))
+
+  pub longer_key : (length n.at ≡ length q → ⊥) → length n.at < length q
+  longer_key apart =
+      let h = same_length in
+      let le : length d.at ≤ length q = begins_length d.at q within in
+      elim (cases_eq (length n.at) (length q)) [
+        | inl same ↦ absurd (apart same)
+        | inr other ↦ omega (arith, h, le, other)
+      ]
+
+  pub side_is : (b c : Bool) → b ≡ c → IsTrue (begins (n.at ++ b ∷ []) q) → IsTrue (begins (d.at ++ c ∷ []) q)
+  side_is b c e goes = subst (λ (z : Bool). IsTrue (begins (d.at ++ z ∷ []) q)) e (subst (λ (p : Path). IsTrue (begins (p ++ b ∷ []) q)) (at_is n d seen) goes)
+
+pub off_link : {V A : Type 0} → (p q : Path) (o : Option (Box (NodeSeen V) A)) → IsUnder p o → leads_to o q ≡ false → map.get (table_of o) q ≡ None
+off_link p q None under off = get-empty path_cmp q
+off_link p q (Some b) under off = under_off b.value.at q b.value.table under.loose.keys off
+
+pub on_link : {V A : Type 0} → (q : Path) (o : Option (Box (NodeSeen V) A)) (b : Box (NodeSeen V) A) → o ≡ Some b → leads_to o q ≡ true → IsTrue (begins b.value.at q)
+on_link q o b is on = ap (λ z. leads_to z q) (sym is) ∙ on
+
+pub same_box : {V A : Type 0} → (o : Option (Box (NodeSeen V) A)) (b : Box (NodeSeen V) A) (n d : NodeSeen V) → o ≡ Some b → n ≡ d → d ≡ b.value → Some (with_value b n) ≡ o
+same_box o b n d is same at = ap (λ w. Some (with_value b w)) (same ∙ at) ∙ sym is
+
+-- a firm node stays firm where a key that it begins is put in
+pub firm_put : {V : Type 0} → (p : Path) (d n : NodeSeen V) (k : Path) (x : V) → IsFirm p d → IsTrue (begins d.at k) → n.at ≡ d.at → n.table ≡ map.insert d.table k x → IsTrue n.sound → IsFirm p n
+firm_put p d n k x firm begun at put sound = record {
+  loose = record {
+    extends = ap (begins p) at ∙ firm.loose.extends;
+    keys = subst (λ z. KeysUnder z n.table) (sym at) (subst (λ m. KeysUnder d.at m) (sym put) (keys_insert d.at d.table firm.loose.keys k begun x));
+    sound = sound;
+  };
+  place = ap (is_place n.table) at ∙ place_inserted d.table n.table k x d.at put firm.place;
+}
+
+pub firm_after : {V E T : Type 0} → (p : Path) (r : Result T E) (d n : NodeSeen V) (k : Path) (x : V) (back : E → Type 0) → IsFirm p d → IsTrue (begins d.at k) → n.at ≡ d.at → OnOk r (n.table ≡ map.insert d.table k x) → IfErr r (λ b. back b × (n ≡ d)) → IsTrue n.sound → IsFirm p n
+firm_after p (Ok t) d n k x back firm begun at ok err sound = firm_put p d n k x firm begun at ok sound
+firm_after p (Err e) d n k x back firm begun at ok err sound = subst (λ z. IsFirm p z) (sym err.1) firm
+
+-- a node from which a key is taken still begins its keys
+pub loose_after : {V : Type 0} → (p : Path) (d n : NodeSeen V) (k : Path) → IsFirm p d → IsTrue (begins d.at k) → n.at ≡ d.at → n.table ≡ map.remove d.table k → IsTrue n.sound → IsLoose p n
+loose_after p d n k firm begun at gone sound = record {
+  sound = sound;
+  extends = ap (begins p) at ∙ firm.loose.extends;
+  keys = subst (λ z. KeysUnder z n.table) (sym at) (subst (λ m. KeysUnder d.at m) (sym gone) (keys_remove d.at d.table firm.loose.keys k begun));
+}
+
 pub is_there : {X : Type 0} {a b : Option X} → a ≡ b → IsSome b → IsSome a
 is_there e some = subst (λ o. IsSome o) (sym e) some
 
@@ -137,3 +196,15 @@ not_there {X = X} e some = apart (subst (λ (o : Option X). IsSome o) e some)
   where
     apart : IsSome {T = X} None → ⊥
     apart h = false≢true h
+
+same_unless : {V : Type 0} (b : Bool) (x y : Option V) → (b ≡ true → y ≡ None) → cond b None y ≡ y
+same_unless true x y h = sym (h refl)
+same_unless false x y h = refl
+
+-- to remove what is not there changes nothing
+pub remove_absent : {V : Type 0} (m : PathMap V) (p : Path) → map.get m p ≡ None → map.remove m p ≡ m
+remove_absent m p none = same_map paths_total paths_exact _ _ (λ q.
+    get-remove paths_total m p q ∙ same_unless (eq_by_cmp path_cmp q p) None (map.get m q) (λ same. ap (map.get m) (tie_exact q p same) ∙ none))
+
+pub begins_box : {V : Type 0} → (d w : NodeSeen V) (q : Path) → d ≡ w → IsTrue (begins w.at q) → IsTrue (begins d.at q)
+begins_box {V = V} d w q at on = ap (λ (z : NodeSeen V). begins z.at q) at ∙ on

@@ -1,6 +1,9 @@
 pub mod Table
 pub mod PrefixList
+pub mod Paths
+pub mod Visits
 pub mod Joined
 pub mod Lending
+pub mod Next
 pub mod Walk
 pub mod Counts

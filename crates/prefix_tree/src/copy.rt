@@ -1,61 +1,78 @@
-//! The entries of the tree as a list of their own.
+//! Copies of the tree: its entries as a list of their own, and the whole in boxes of its own.
 
-ghost use Rattle.std.specs.Prelude.{◌≡◌, ◌++◌, ◌∷◌, [], ◌-◌, length, OnOk};
+ghost use Rattle.std.specs.Prelude.{◌≡◌, ◌++◌, [], IsTrue, IfOk, OnOk};
 ghost use Rattle.std.specs.FinMap as map;
-ghost use Rattle.prefix_tree.specs.Joined.{at_node, map_below, under};
-ghost use Rattle.prefix_tree.specs.Walk.{AllShorter, lengthened};
+ghost use Rattle.prefix_tree.specs.Joined.{own_entry, table_of, IsUnder};
 
 use crate::TryCopy;
 use crate::node::{Link, Node};
-use crate::walk::longer;
 use identity::Prefix;
 use std::alloc::{AllocError, Allocator};
 
 impl<V: TryCopy + Drop, A: Allocator> Node<V, A> {
-    /// Adds the entries at and below this node, which stands at `here`, in order and with copies of
-    /// their values.
+    /// Adds the entries at and below this node in order, with copies of their values.
     #[cycle(copy)]
     pub(crate) fn copy_entries<B: Allocator>(
         &self,
-        here: Prefix,
         out: &mut Vec<(Prefix, V), B>,
     ) -> Result<(), AllocError>
-        requires { AllShorter (49 - length here) self.now.0 }
-        ensures { OnOk result (out.new.items ≡ out.old.items ++ lengthened here (map.entries self.now.0)) }
+        requires { IsTrue self.now.sound }
+        ensures { OnOk result (out.new.items ≡ out.old.items ++ map.entries self.now.table) }
     {
-        self.copy_own(here, out)?;
-        Node::copy_below(&self.zero, here, false, out)?;
-        Node::copy_below(&self.one, here, true, out)
+        self.copy_own(out)?;
+        Node::copy_below(&self.zero, out)?;
+        Node::copy_below(&self.one, out)
     }
 
     // Adds the node's own entry, where it has one.
-    fn copy_own<B: Allocator>(
-        &self,
-        here: Prefix,
-        out: &mut Vec<(Prefix, V), B>,
-    ) -> Result<(), AllocError>
-        ensures { OnOk result (out.new.items ≡ out.old.items ++ lengthened here (at_node (map.get self.now.0 []))) }
+    fn copy_own<B: Allocator>(&self, out: &mut Vec<(Prefix, V), B>) -> Result<(), AllocError>
+        requires { IsTrue self.now.sound }
+        ensures { OnOk result (out.new.items ≡ out.old.items ++ own_entry self.now.at (map.get self.now.table self.now.at)) }
     {
         if let Some(value) = &self.value {
-            out.push((here, value.try_copy()?))?;
+            out.push((self.at, value.try_copy()?))?;
         }
         Ok(())
     }
 
-    // Adds the entries that a link with this bit leads to, in order.
+    // Adds the entries that a link leads to, in order.
     #[cycle(copy)]
     fn copy_below<B: Allocator>(
         link: &Option<Link<V, A>>,
-        here: Prefix,
-        bit: bool,
         out: &mut Vec<(Prefix, V), B>,
     ) -> Result<(), AllocError>
-        requires { AllShorter (48 - length here) (map_below link.now) }
-        ensures { OnOk result (out.new.items ≡ out.old.items ++ lengthened here (under bit (map.entries (map_below link.now)))) }
+        requires { IsUnder [] link.now }
+        ensures { OnOk result (out.new.items ≡ out.old.items ++ map.entries (table_of link.now)) }
     {
         match link {
-            Some(node) if here.len() < 48 => node.copy_entries(longer(here, bit), out),
-            _ => Ok(()),
+            Some(node) => node.copy_entries(out),
+            None => Ok(()),
         }
+    }
+}
+
+impl<V: TryCopy + Drop, A: Allocator + Clone> Node<V, A> {
+    /// The same node again, in boxes of its own.
+    pub(crate) fn try_copy(&self, alloc: &A) -> Result<Self, AllocError>
+        ensures { IfOk result (λ copy. copy ≡ self.now) }
+    {
+        let value = match &self.value {
+            Some(value) => Some(value.try_copy()?),
+            None => None,
+        };
+        let zero = match &self.zero {
+            Some(node) => Some(Box::new(alloc.clone()?, node.try_copy(alloc)?)?),
+            None => None,
+        };
+        let one = match &self.one {
+            Some(node) => Some(Box::new(alloc.clone()?, node.try_copy(alloc)?)?),
+            None => None,
+        };
+        Ok(Node {
+            at: self.at,
+            value,
+            zero,
+            one,
+        })
     }
 }

@@ -1,168 +1,305 @@
-//! Changing the tree: new nodes are made before the first is linked, and empty ones are taken away.
+//! Changing the tree: at most two new nodes, made before either is linked; a node that is left without a value and
+//! with one side goes.
 
-ghost use Rattle.std.specs.Prelude.{◌≡◌, OnOk, IsOk, IsSome, IsTrue, ◌+◌, ◌≤◌, IfOk, IfErr, true, false};
+ghost use Rattle.std.specs.Prelude.{◌≡◌, cond, Some, None, ◌+◌, ◌<◌, ◌≤◌, ◌∷◌, ◌++◌, [], IsTrue, IsSome, IsOk, OnOk, IfOk, IfErr, true, false, not, length};
 ghost use Rattle.std.specs.FinMap as map;
-ghost use Rattle.identity.specs.Number.{num};
-ghost use Rattle.prefix_tree.specs.Joined.{map_below, is_pruned, is_pruned_below};
+ghost use Rattle.std.specs.Option.{is_some};
+ghost use Rattle.identity.specs.Path.{begins};
+ghost use Rattle.prefix_tree.specs.Joined.{table_of, nodes_of, leads_to, spread, KeysUnder, IsFirm, IsUnder, IsLoose, IsLooseUnder, PartsAt, is_lone, link_visits};
+ghost use Rattle.prefix_tree.specs.Visits.{is_place, visits_beyond};
 
-use crate::Steps;
-use crate::node::{Link, Node, first_bit};
-use std::alloc::Allocator;
+use crate::node::{Link, Node};
+use crate::{Steps, path};
+use identity::Prefix;
+use std::alloc::{AllocError, Allocator};
 use std::sync::ledger::Ledger;
-
-impl<V: Drop, A: Allocator> Node<V, A> {
-    /// The value that was there. A node that is left with nothing goes too.
-    #[cycle(remove)]
-    pub(crate) fn remove<L: Ledger>(
-        &mut self,
-        bits: u64,
-        left: u32,
-        steps: &mut Steps<L>,
-    ) -> Option<V>
-        requires { left ≤ 48 }
-        ensures before { result ≡ map.get self.old.0 (num left bits) }
-        ensures removed { self.new.0 ≡ map.remove self.old.0 (num left bits) }
-        ensures pruned { IsTrue self.old.2 → IsTrue self.new.2 }
-        ensures cost { steps.new ≤ steps.old + left + 1 }
-    {
-        steps.tick();
-        if left == 0 {
-            return self.value.take();
-        }
-        if first_bit(bits, left) {
-            Node::remove_below(&mut self.one, bits, left - 1, steps)
-        } else {
-            Node::remove_below(&mut self.zero, bits, left - 1, steps)
-        }
-    }
-
-    // As `remove`, of the node that a link leads to; one that is left with nothing goes.
-    #[cycle(remove)]
-    fn remove_below<L: Ledger>(
-        link: &mut Option<Link<V, A>>,
-        bits: u64,
-        left: u32,
-        steps: &mut Steps<L>,
-    ) -> Option<V>
-        requires { left ≤ 48 }
-        ensures before { result ≡ map.get (map_below link.old) (num left bits) }
-        ensures removed { map_below link.new ≡ map.remove (map_below link.old) (num left bits) }
-        ensures pruned { IsTrue (is_pruned link.old) → IsTrue (is_pruned link.new) }
-        ensures cost { steps.new ≤ steps.old + left + 1 }
-    {
-        let Some(node) = link else {
-            return None;
-        };
-        let gone = node.remove(bits, left, steps);
-        prune(link);
-        gone
-    }
-}
 
 impl<V: Drop, A: Allocator + Clone> Node<V, A> {
     /// The value before. For want of memory the value comes back, and nothing is changed.
     #[cycle(insert)]
-    pub(crate) fn insert(
-        &mut self,
-        alloc: &A,
-        bits: u64,
-        left: u32,
-        value: V,
-    ) -> Result<Option<V>, V>
-        requires { left ≤ 48 }
-        ensures before { IfOk result (λ before. before ≡ map.get self.old.0 (num left bits)) }
-        ensures ok { OnOk result (self.new.0 ≡ map.insert self.old.0 (num left bits) value) }
-        ensures err { IfErr result (λ back. (back ≡ value) × (self.new.0 ≡ self.old.0)) }
-        ensures overwrite_succeeds { IsSome (map.get self.old.0 (num left bits)) → IsOk result }
-        ensures pruned { IsTrue self.old.2 → IsTrue self.new.2 }
+    pub(crate) fn insert(&mut self, alloc: &A, key: &Prefix, value: V) -> Result<Option<V>, V>
+        requires within { IsTrue (begins self.old.at key.now) }
+        requires sound { IsTrue self.old.sound }
+        ensures at { self.new.at ≡ self.old.at }
+        ensures sound { IsTrue self.new.sound }
+        ensures before { IfOk result (λ before. before ≡ map.get self.old.table key.now) }
+        ensures ok { OnOk result (self.new.table ≡ map.insert self.old.table key.now value) }
+        ensures err { IfErr result (λ back. (back ≡ value) × (self.new ≡ self.old)) }
+        ensures overwrite_succeeds { IsSome (map.get self.old.table key.now) → IsOk result }
+        ensures few { self.new.nodes ≤ self.old.nodes + 2 }
     {
-        if left == 0 {
+        if self.at.len() == key.len() {
             return Ok(self.value.replace(value));
         }
-        if first_bit(bits, left) {
-            Node::insert_below(&mut self.one, alloc, bits, left - 1, value)
+        if path::side(&self.at, key) {
+            Node::insert_below(&mut self.one, alloc, key, value)
         } else {
-            Node::insert_below(&mut self.zero, alloc, bits, left - 1, value)
+            Node::insert_below(&mut self.zero, alloc, key, value)
         }
     }
 
-    // As `insert`, of the node that a link leads to; where there is none, all new nodes are made before the first is linked.
+    // As `insert`, of what a link leads to.
     #[cycle(insert)]
     fn insert_below(
         link: &mut Option<Link<V, A>>,
         alloc: &A,
-        bits: u64,
-        left: u32,
+        key: &Prefix,
         value: V,
     ) -> Result<Option<V>, V>
-        requires { left ≤ 48 }
-        ensures before { IfOk result (λ before. before ≡ map.get (map_below link.old) (num left bits)) }
-        ensures ok { OnOk result (map_below link.new ≡ map.insert (map_below link.old) (num left bits) value) }
-        ensures err { IfErr result (λ back. (back ≡ value) × (map_below link.new ≡ map_below link.old)) }
-        ensures overwrite_succeeds { IsSome (map.get (map_below link.old) (num left bits)) → IsOk result }
-        ensures pruned { IsTrue (is_pruned link.old) → IsTrue (is_pruned link.new) }
+        requires { IsUnder [] link.old }
+        ensures before { IfOk result (λ before. before ≡ map.get (table_of link.old) key.now) }
+        ensures ok { OnOk result (table_of link.new ≡ map.insert (table_of link.old) key.now value) }
+        ensures err { IfErr result (λ back. (back ≡ value) × (link.new ≡ link.old)) }
+        ensures overwrite_succeeds { IsSome (map.get (table_of link.old) key.now) → IsOk result }
+        ensures under { (p : _) → IsUnder p link.old → IsTrue (begins p key.now) → IsUnder p link.new }
+        ensures few { nodes_of link.new ≤ nodes_of link.old + 2 }
     {
-        if let Some(node) = link {
-            return node.insert(alloc, bits, left, value);
+        if !leads(link, key) {
+            return grow(link, alloc, key, value);
         }
-        match chain(alloc, bits, left, value) {
-            Ok(node) => {
-                *link = Some(node);
-                Ok(None)
+        let Some(node) = link else { unreachable!() };
+        node.insert(alloc, key, value)
+    }
+}
+
+impl<V, A: Allocator> Node<V, A> {
+    // A node with this behind one bit and that behind the other.
+    fn above(
+        at: Prefix,
+        value: Option<V>,
+        side: bool,
+        old: Option<Link<V, A>>,
+        other: Option<Link<V, A>>,
+    ) -> Self
+        requires old { IsUnder (at ++ side ∷ []) old }
+        requires other { IsUnder (at ++ not side ∷ []) other }
+        ensures at { result.at ≡ at }
+        ensures table { result.table ≡ spread at value side (table_of old) (table_of other) }
+        ensures keys { KeysUnder at result.table }
+        ensures count { result.nodes ≡ nodes_of old + nodes_of other + 1 }
+        ensures sound { IsTrue result.sound }
+        ensures valued { IsTrue (is_some value) → IsTrue (is_place result.table at) }
+        ensures forked { IsTrue (is_some old) → IsTrue (is_some other) → IsTrue (is_place result.table at) }
+    {
+        if side {
+            Node {
+                at,
+                value,
+                zero: other,
+                one: old,
             }
-            Err(value) => Err(value),
+        } else {
+            Node {
+                at,
+                value,
+                zero: old,
+                one: other,
+            }
         }
     }
 }
 
-// A node with nothing goes.
-fn prune<V: Drop, A: Allocator>(link: &mut Option<Link<V, A>>)
-    ensures map { map_below link.new ≡ map_below link.old }
-    ensures pruned { IsTrue (is_pruned_below link.old) → IsTrue (is_pruned link.new) }
-{
-    if is_bare_below(link) {
-        *link = None;
-    }
-}
-
-// Whether the link leads to a node with nothing.
-fn is_bare_below<V, A: Allocator>(link: &Option<Link<V, A>>) -> bool
-    ensures bare { result ≡ true → map_below link.now ≡ map.empty }
-    ensures not_bare { result ≡ false → IsTrue (is_pruned_below link.now) → IsTrue (is_pruned link.now) }
+// Whether the link leads to a node that begins the key.
+pub(crate) fn leads<V, A: Allocator>(link: &Option<Link<V, A>>, key: &Prefix) -> bool
+    ensures { result ≡ leads_to link.now key.now }
 {
     match link {
-        Some(node) => node.is_bare(),
+        Some(node) => path::begins(&node.at, key),
         None => false,
     }
 }
 
-// New nodes down to one with the value, none of them linked to a tree yet.
-fn chain<V: Drop, A: Allocator + Clone>(
-    alloc: &A,
-    bits: u64,
-    left: u32,
-    value: V,
-) -> Result<Link<V, A>, V>
-    requires { left ≤ 48 }
-    ensures ok { IfOk result (λ node. node.value.0 ≡ map.insert map.empty (num left bits) value) }
-    ensures pruned { IfOk result (λ node. IsTrue node.value.2) }
+/// As `leads`, and a step where there is a node.
+pub(crate) fn visit<V, A: Allocator, L: Ledger>(
+    link: &Option<Link<V, A>>,
+    key: &Prefix,
+    steps: &mut Steps<L>,
+) -> bool
+    ensures value { result ≡ leads_to link.now key.now }
+    ensures cost { steps.new ≡ steps.old + cond (is_some link.now) 1 0 }
+{
+    if link.is_some() {
+        steps.tick();
+    }
+    leads(link, key)
+}
+
+// Where the ways to the link's node and to the key part, and the bit that goes on to the node.
+fn parting<V, A: Allocator>(link: &Option<Link<V, A>>, key: &Prefix) -> Option<(Prefix, bool)>
+    requires under { IsUnder [] link.now }
+    requires beside { leads_to link.now key.now ≡ false }
+    ensures { PartsAt link.now key.now result }
+{
+    let Some(node) = link else {
+        return None;
+    };
+    let at = path::common(&node.at, key);
+    Some((at, path::side(&at, &node.at)))
+}
+
+// A node with nothing, in a box of its own.
+fn place<V: Drop, A: Allocator + Clone>(alloc: &A, at: Prefix) -> Result<Link<V, A>, AllocError> {
+    Ok(Box::new(alloc.clone()?, Node::leaf(at, None))?)
+}
+
+// A node with nothing but this value, in a box of its own.
+fn sprout<V: Drop, A: Allocator + Clone>(alloc: &A, at: Prefix, value: V) -> Result<Link<V, A>, V>
+    ensures at { IfOk result (λ node. node.value.at ≡ at) }
+    ensures table { IfOk result (λ node. node.value.table ≡ map.insert map.empty at value) }
+    ensures count { IfOk result (λ node. node.value.nodes ≡ 1) }
+    ensures firm { IfOk result (λ node. (p : _) → IsTrue (begins p at) → IsFirm p node.value) }
     ensures err { IfErr result (λ back. back ≡ value) }
 {
-    let Ok(own) = alloc.clone() else {
+    let Ok(mut node) = place(alloc, at) else {
         return Err(value);
     };
-    let Ok(mut node) = Box::new(own, Node::empty()) else {
+    *node = Node::leaf(at, Some(value));
+    Ok(node)
+}
+
+// A new node for the key where the link's node, if it has one, does not begin it; and one more above both, where
+// neither begins the other.
+fn grow<V: Drop, A: Allocator + Clone>(
+    link: &mut Option<Link<V, A>>,
+    alloc: &A,
+    key: &Prefix,
+    value: V,
+) -> Result<Option<V>, V>
+    requires under { IsUnder [] link.old }
+    requires beside { leads_to link.old key.now ≡ false }
+    ensures before { IfOk result (λ before. before ≡ None) }
+    ensures ok { OnOk result (table_of link.new ≡ map.insert (table_of link.old) key.now value) }
+    ensures err { IfErr result (λ back. (back ≡ value) × (link.new ≡ link.old)) }
+    ensures under { (p : _) → IsUnder p link.old → IsTrue (begins p key.now) → IsUnder p link.new }
+    ensures few { nodes_of link.new ≤ nodes_of link.old + 2 }
+{
+    let Some((at, side)) = parting(link, key) else {
+        return match sprout(alloc, *key, value) {
+            Ok(leaf) => {
+                *link = Some(leaf);
+                Ok(None)
+            }
+            Err(value) => Err(value),
+        };
+    };
+    let Ok(mut top) = place(alloc, at) else {
         return Err(value);
     };
-    if left == 0 {
-        *node = Node::leaf(value);
-        return Ok(node);
+    if at.len() == key.len() {
+        *top = Node::above(at, Some(value), side, link.take(), None);
+        *link = Some(top);
+        return Ok(None);
     }
-    match chain(alloc, bits, left - 1, value) {
+    match sprout(alloc, *key, value) {
+        Ok(leaf) => {
+            *top = Node::above(at, None, side, link.take(), Some(leaf));
+            *link = Some(top);
+            Ok(None)
+        }
         Err(value) => Err(value),
-        Ok(below) => {
-            *node = Node::above(first_bit(bits, left), below);
-            Ok(node)
+    }
+}
+
+impl<V: Drop, A: Allocator> Node<V, A> {
+    /// The value that was there. What is below and is left without a value and with one side is joined.
+    #[cycle(remove)]
+    pub(crate) fn remove<L: Ledger>(&mut self, key: &Prefix, steps: &mut Steps<L>) -> Option<V>
+        requires within { IsTrue (begins self.old.at key.now) }
+        requires sound { IsTrue self.old.sound }
+        ensures at { self.new.at ≡ self.old.at }
+        ensures sound { IsTrue self.new.sound }
+        ensures before { result ≡ map.get self.old.table key.now }
+        ensures removed { self.new.table ≡ map.remove self.old.table key.now }
+        ensures cost { steps.new ≡ steps.old + visits_beyond self.old.table self.old.at key.now }
+    {
+        if self.at.len() == key.len() {
+            return self.value.take();
+        }
+        if path::side(&self.at, key) {
+            Node::remove_below(&mut self.one, key, steps)
+        } else {
+            Node::remove_below(&mut self.zero, key, steps)
+        }
+    }
+
+    // As `remove`, of what a link leads to.
+    #[cycle(remove)]
+    fn remove_below<L: Ledger>(
+        link: &mut Option<Link<V, A>>,
+        key: &Prefix,
+        steps: &mut Steps<L>,
+    ) -> Option<V>
+        requires { IsUnder [] link.old }
+        ensures before { result ≡ map.get (table_of link.old) key.now }
+        ensures removed { table_of link.new ≡ map.remove (table_of link.old) key.now }
+        ensures under { (p : _) → IsUnder p link.old → IsUnder p link.new }
+        ensures cost { steps.new ≡ steps.old + link_visits link.old key.now }
+    {
+        if !visit(link, key, steps) {
+            return None;
+        }
+        let Some(node) = link else { unreachable!() };
+        let gone = node.remove(key, steps);
+        join(link);
+        gone
+    }
+}
+
+// A node without a value and with one side at most gives its place to that side.
+fn join<V: Drop, A: Allocator>(link: &mut Option<Link<V, A>>)
+    requires { IsLooseUnder [] link.old }
+    ensures table { table_of link.new ≡ table_of link.old }
+    ensures under { (p : _) → IsLooseUnder p link.old → IsUnder p link.new }
+{
+    if is_lone(link) {
+        *link = only_side(link);
+    }
+}
+
+// Whether the link's node has no value, and one side at most.
+fn is_lone<V, A: Allocator>(link: &Option<Link<V, A>>) -> bool
+    requires { IsLooseUnder [] link.now }
+    ensures { result ≡ is_lone link.now }
+{
+    match link {
+        Some(node) => !node.is_full(),
+        None => false,
+    }
+}
+
+// The one side of a node without a value, taken out of it.
+fn only_side<V, A: Allocator>(link: &mut Option<Link<V, A>>) -> Option<Link<V, A>>
+    requires loose { IsLooseUnder [] link.old }
+    requires lone { IsTrue (is_lone link.old) }
+    ensures table { table_of result ≡ table_of link.old }
+    ensures under { (p : _) → IsLooseUnder p link.old → IsUnder p result }
+{
+    match link {
+        Some(node) => node.take_side(),
+        None => None,
+    }
+}
+
+impl<V, A: Allocator> Node<V, A> {
+    // Whether it has a value, or both sides.
+    fn is_full(&self) -> bool
+        requires { IsTrue self.now.sound }
+        ensures { result ≡ is_place self.now.table self.now.at }
+    {
+        self.value.is_some() || self.zero.is_some() && self.one.is_some()
+    }
+
+    // The one side of a node without a value.
+    fn take_side(&mut self) -> Option<Link<V, A>>
+        requires sound { IsTrue self.old.sound }
+        requires lone { is_place self.old.table self.old.at ≡ false }
+        ensures table { table_of result ≡ self.old.table }
+        ensures under { (p : _) → IsLoose p self.old → IsUnder p result }
+    {
+        if self.one.is_none() {
+            self.zero.take()
+        } else {
+            self.one.take()
         }
     }
 }

@@ -1,10 +1,19 @@
 //! What the definitions say, over all maps and paths.
 
+ghost use Rattle.std.specs.Prelude.{◌≡◌, ◌≤◌, None};
+ghost use Rattle.std.specs.FinMap as map;
 ghost use Rattle.identity.specs.Path.{Path};
+ghost use Rattle.prefix_tree.specs.Next.{followed};
 ghost use Rattle.prefix_tree.specs.Table.{PathMap, NamesLongest, longest};
 
 /// `longest` names an entry of the map that begins the path, and no longer prefix in the map does. It
 /// names none only where no prefix in the map begins the path.
 pub fn longest_is_the_longest<V>()
     ensures { (m : PathMap V) (q : Path) → NamesLongest m q (longest m q) }
+{}
+
+/// From none to the first entry, and from each entry to the next, one comes to all entries of the map in
+/// order, to each once.
+pub fn next_comes_to_all<V>()
+    ensures { (m : PathMap V) (n : _) → map.len m ≤ n → followed m n None ≡ map.entries m }
 {}

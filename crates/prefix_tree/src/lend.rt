@@ -1,176 +1,190 @@
 //! A value of the tree, lent for writing.
 
-ghost use Rattle.std.specs.Prelude.{◌≡◌, ◌+◌, ◌-◌, ◌<◌, ◌≤◌, [], IsTrue};
+ghost use Rattle.std.specs.Prelude.{◌≡◌, ◌+◌, ◌<◌, ◌≤◌, ◌==◌, IsTrue, IfSome, IfNone, length};
 ghost use Rattle.std.specs.FinMap as map;
 ghost use Rattle.std.specs.Option.{option_copied_mut};
 ghost use Rattle.std.specs.Borrow.{sem};
-ghost use Rattle.identity.specs.Number.{num};
-ghost use Rattle.prefix_tree.specs.Joined.{IsBelow, is_pruned, map_below};
-ghost use Rattle.prefix_tree.specs.Lending.{LendsBelow, LendsValue, LendsInside};
+ghost use Rattle.identity.specs.Path.{begins};
+ghost use Rattle.prefix_tree.specs.Visits.{visits_beyond};
+ghost use Rattle.prefix_tree.specs.Lending.{IsOnWay, LendsBelow, LendsValue, LendsInside};
 
-use crate::Steps;
+use crate::edit::visit;
 use crate::node::{Link, Node};
+use crate::{Steps, path};
+use identity::Prefix;
 use std::alloc::Allocator;
 use std::sync::ledger::Ledger;
 
 impl<V, A: Allocator> Node<V, A> {
-    /// The value at the first `len` bits, for writing.
+    /// The value at this very prefix, for writing.
     pub(crate) fn get_mut<L: Ledger>(
         &mut self,
-        bits: u64,
-        len: u32,
+        key: &Prefix,
         steps: &mut Steps<L>,
     ) -> Option<&mut V>
-        requires { len ≤ 48 }
-        ensures* writes_back { sem 𝓛 (LendsValue V.row A.row A.Allocator self.entry (num len bits) result) }
-        ensures value { option_copied_mut result ≡ map.get self.old.0 (num len bits) }
-        ensures cost { steps.new ≤ steps.old + len + 1 }
+        requires within { IsTrue (begins self.old.at key.now) }
+        requires sound { IsTrue self.old.sound }
+        ensures* writes_back { sem 𝓛 (LendsValue V.row A.row A.Allocator self.entry key.now result) }
+        ensures value { option_copied_mut result ≡ map.get self.old.table key.now }
+        ensures cost { steps.new ≡ steps.old + 1 + visits_beyond self.old.table self.old.at key.now }
     {
-        if len == 0 {
-            return self.own_mut(steps);
+        steps.tick();
+        if self.at.len() == key.len() {
+            return self.own_mut();
         }
-        inside(self.down_64(bits, len, steps)?).own_mut(steps)
+        inside(self.down_64(key, steps)?).own_mut()
     }
 
     // The value at the node itself, for writing.
-    fn own_mut<L: Ledger>(&mut self, steps: &mut Steps<L>) -> Option<&mut V>
-        ensures* writes_back { sem 𝓛 (LendsValue V.row A.row A.Allocator self.entry [] result) }
-        ensures value { option_copied_mut result ≡ map.get self.old.0 [] }
-        ensures cost { steps.new ≡ steps.old + 1 }
+    fn own_mut(&mut self) -> Option<&mut V>
+        requires { IsTrue self.old.sound }
+        ensures* writes_back { sem 𝓛 (LendsValue V.row A.row A.Allocator self.entry self.old.at result) }
+        ensures value { option_copied_mut result ≡ map.get self.old.table self.old.at }
     {
-        steps.tick();
         self.value.as_mut()
     }
 
-    // The link so many levels down. A function that calls itself can lend nothing that is proved, so
-    // each of these goes down by the one before it, taken twice.
-    fn down_1<L: Ledger>(
-        &mut self,
-        bits: u64,
-        levels: u32,
-        steps: &mut Steps<L>,
-    ) -> Option<&mut Link<V, A>>
-        requires { levels ≡ 1 }
-        ensures* writes_back { sem 𝓛 (LendsBelow V.row A.row A.Allocator self.entry (num levels bits) result) }
-        ensures value { IsBelow self.old.0 (num levels bits) (map_below (option_copied_mut result)) }
-        ensures pruned { IsTrue self.old.2 → IsTrue (is_pruned (option_copied_mut result)) }
-        ensures cost { steps.new ≤ steps.old + levels }
+    // The link on the way to the key that is so many nodes down, or the one to the key's own node. A function
+    // that calls itself can lend nothing that is proved, so each of these goes down by the one before it,
+    // taken twice.
+    fn down_1<L: Ledger>(&mut self, key: &Prefix, steps: &mut Steps<L>) -> Option<&mut Link<V, A>>
+        requires within { IsTrue (begins self.old.at key.now) }
+        requires longer { length self.old.at < length key.now }
+        requires sound { IsTrue self.old.sound }
+        ensures* writes_back { sem 𝓛 (LendsBelow V.row A.row A.Allocator self.entry result) }
+        ensures on_way { IfSome result (λ link. IsOnWay self.old key.now link.now.value) }
+        ensures far { IfSome result (λ link. (n : _) → n ≤ length self.old.at + 1 → n ≤ length key.now → n ≤ length link.now.value.at) }
+        ensures none { IfNone result (map.get self.old.table key.now ≡ None) }
+        ensures cost { IfSome result (λ link. steps.new + visits_beyond link.now.value.table link.now.value.at key.now ≡ steps.old + visits_beyond self.old.table self.old.at key.now) }
+        ensures cost_of_none { IfNone result (steps.new ≡ steps.old + visits_beyond self.old.table self.old.at key.now) }
     {
-        steps.tick();
-        if bits % 2 == 1 {
+        if path::side(&self.at, key) {
+            if !visit(&self.one, key, steps) {
+                return None;
+            }
             self.one.as_mut()
         } else {
+            if !visit(&self.zero, key, steps) {
+                return None;
+            }
             self.zero.as_mut()
         }
     }
 
-    fn down_2<L: Ledger>(
-        &mut self,
-        bits: u64,
-        levels: u32,
-        steps: &mut Steps<L>,
-    ) -> Option<&mut Link<V, A>>
-        requires { (0 < levels) × (levels ≤ 2) }
-        ensures* writes_back { sem 𝓛 (LendsBelow V.row A.row A.Allocator self.entry (num levels bits) result) }
-        ensures value { IsBelow self.old.0 (num levels bits) (map_below (option_copied_mut result)) }
-        ensures pruned { IsTrue self.old.2 → IsTrue (is_pruned (option_copied_mut result)) }
-        ensures cost { steps.new ≤ steps.old + levels }
+    fn down_2<L: Ledger>(&mut self, key: &Prefix, steps: &mut Steps<L>) -> Option<&mut Link<V, A>>
+        requires within { IsTrue (begins self.old.at key.now) }
+        requires longer { length self.old.at < length key.now }
+        requires sound { IsTrue self.old.sound }
+        ensures* writes_back { sem 𝓛 (LendsBelow V.row A.row A.Allocator self.entry result) }
+        ensures on_way { IfSome result (λ link. IsOnWay self.old key.now link.now.value) }
+        ensures far { IfSome result (λ link. (n : _) → n ≤ length self.old.at + 2 → n ≤ length key.now → n ≤ length link.now.value.at) }
+        ensures none { IfNone result (map.get self.old.table key.now ≡ None) }
+        ensures cost { IfSome result (λ link. steps.new + visits_beyond link.now.value.table link.now.value.at key.now ≡ steps.old + visits_beyond self.old.table self.old.at key.now) }
+        ensures cost_of_none { IfNone result (steps.new ≡ steps.old + visits_beyond self.old.table self.old.at key.now) }
     {
-        if levels <= 1 {
-            return self.down_1(bits, levels, steps);
+        let link = self.down_1(key, steps)?;
+        if is_at(link, key) {
+            return Some(link);
         }
-        inside(self.down_1(bits >> (levels - 1), 1, steps)?).down_1(bits, levels - 1, steps)
+        inside(link).down_1(key, steps)
     }
 
-    fn down_4<L: Ledger>(
-        &mut self,
-        bits: u64,
-        levels: u32,
-        steps: &mut Steps<L>,
-    ) -> Option<&mut Link<V, A>>
-        requires { (0 < levels) × (levels ≤ 4) }
-        ensures* writes_back { sem 𝓛 (LendsBelow V.row A.row A.Allocator self.entry (num levels bits) result) }
-        ensures value { IsBelow self.old.0 (num levels bits) (map_below (option_copied_mut result)) }
-        ensures pruned { IsTrue self.old.2 → IsTrue (is_pruned (option_copied_mut result)) }
-        ensures cost { steps.new ≤ steps.old + levels }
+    fn down_4<L: Ledger>(&mut self, key: &Prefix, steps: &mut Steps<L>) -> Option<&mut Link<V, A>>
+        requires within { IsTrue (begins self.old.at key.now) }
+        requires longer { length self.old.at < length key.now }
+        requires sound { IsTrue self.old.sound }
+        ensures* writes_back { sem 𝓛 (LendsBelow V.row A.row A.Allocator self.entry result) }
+        ensures on_way { IfSome result (λ link. IsOnWay self.old key.now link.now.value) }
+        ensures far { IfSome result (λ link. (n : _) → n ≤ length self.old.at + 4 → n ≤ length key.now → n ≤ length link.now.value.at) }
+        ensures none { IfNone result (map.get self.old.table key.now ≡ None) }
+        ensures cost { IfSome result (λ link. steps.new + visits_beyond link.now.value.table link.now.value.at key.now ≡ steps.old + visits_beyond self.old.table self.old.at key.now) }
+        ensures cost_of_none { IfNone result (steps.new ≡ steps.old + visits_beyond self.old.table self.old.at key.now) }
     {
-        if levels <= 2 {
-            return self.down_2(bits, levels, steps);
+        let link = self.down_2(key, steps)?;
+        if is_at(link, key) {
+            return Some(link);
         }
-        inside(self.down_2(bits >> (levels - 2), 2, steps)?).down_2(bits, levels - 2, steps)
+        inside(link).down_2(key, steps)
     }
 
-    fn down_8<L: Ledger>(
-        &mut self,
-        bits: u64,
-        levels: u32,
-        steps: &mut Steps<L>,
-    ) -> Option<&mut Link<V, A>>
-        requires { (0 < levels) × (levels ≤ 8) }
-        ensures* writes_back { sem 𝓛 (LendsBelow V.row A.row A.Allocator self.entry (num levels bits) result) }
-        ensures value { IsBelow self.old.0 (num levels bits) (map_below (option_copied_mut result)) }
-        ensures pruned { IsTrue self.old.2 → IsTrue (is_pruned (option_copied_mut result)) }
-        ensures cost { steps.new ≤ steps.old + levels }
+    fn down_8<L: Ledger>(&mut self, key: &Prefix, steps: &mut Steps<L>) -> Option<&mut Link<V, A>>
+        requires within { IsTrue (begins self.old.at key.now) }
+        requires longer { length self.old.at < length key.now }
+        requires sound { IsTrue self.old.sound }
+        ensures* writes_back { sem 𝓛 (LendsBelow V.row A.row A.Allocator self.entry result) }
+        ensures on_way { IfSome result (λ link. IsOnWay self.old key.now link.now.value) }
+        ensures far { IfSome result (λ link. (n : _) → n ≤ length self.old.at + 8 → n ≤ length key.now → n ≤ length link.now.value.at) }
+        ensures none { IfNone result (map.get self.old.table key.now ≡ None) }
+        ensures cost { IfSome result (λ link. steps.new + visits_beyond link.now.value.table link.now.value.at key.now ≡ steps.old + visits_beyond self.old.table self.old.at key.now) }
+        ensures cost_of_none { IfNone result (steps.new ≡ steps.old + visits_beyond self.old.table self.old.at key.now) }
     {
-        if levels <= 4 {
-            return self.down_4(bits, levels, steps);
+        let link = self.down_4(key, steps)?;
+        if is_at(link, key) {
+            return Some(link);
         }
-        inside(self.down_4(bits >> (levels - 4), 4, steps)?).down_4(bits, levels - 4, steps)
+        inside(link).down_4(key, steps)
     }
 
-    fn down_16<L: Ledger>(
-        &mut self,
-        bits: u64,
-        levels: u32,
-        steps: &mut Steps<L>,
-    ) -> Option<&mut Link<V, A>>
-        requires { (0 < levels) × (levels ≤ 16) }
-        ensures* writes_back { sem 𝓛 (LendsBelow V.row A.row A.Allocator self.entry (num levels bits) result) }
-        ensures value { IsBelow self.old.0 (num levels bits) (map_below (option_copied_mut result)) }
-        ensures pruned { IsTrue self.old.2 → IsTrue (is_pruned (option_copied_mut result)) }
-        ensures cost { steps.new ≤ steps.old + levels }
+    fn down_16<L: Ledger>(&mut self, key: &Prefix, steps: &mut Steps<L>) -> Option<&mut Link<V, A>>
+        requires within { IsTrue (begins self.old.at key.now) }
+        requires longer { length self.old.at < length key.now }
+        requires sound { IsTrue self.old.sound }
+        ensures* writes_back { sem 𝓛 (LendsBelow V.row A.row A.Allocator self.entry result) }
+        ensures on_way { IfSome result (λ link. IsOnWay self.old key.now link.now.value) }
+        ensures far { IfSome result (λ link. (n : _) → n ≤ length self.old.at + 16 → n ≤ length key.now → n ≤ length link.now.value.at) }
+        ensures none { IfNone result (map.get self.old.table key.now ≡ None) }
+        ensures cost { IfSome result (λ link. steps.new + visits_beyond link.now.value.table link.now.value.at key.now ≡ steps.old + visits_beyond self.old.table self.old.at key.now) }
+        ensures cost_of_none { IfNone result (steps.new ≡ steps.old + visits_beyond self.old.table self.old.at key.now) }
     {
-        if levels <= 8 {
-            return self.down_8(bits, levels, steps);
+        let link = self.down_8(key, steps)?;
+        if is_at(link, key) {
+            return Some(link);
         }
-        inside(self.down_8(bits >> (levels - 8), 8, steps)?).down_8(bits, levels - 8, steps)
+        inside(link).down_8(key, steps)
     }
 
-    fn down_32<L: Ledger>(
-        &mut self,
-        bits: u64,
-        levels: u32,
-        steps: &mut Steps<L>,
-    ) -> Option<&mut Link<V, A>>
-        requires { (0 < levels) × (levels ≤ 32) }
-        ensures* writes_back { sem 𝓛 (LendsBelow V.row A.row A.Allocator self.entry (num levels bits) result) }
-        ensures value { IsBelow self.old.0 (num levels bits) (map_below (option_copied_mut result)) }
-        ensures pruned { IsTrue self.old.2 → IsTrue (is_pruned (option_copied_mut result)) }
-        ensures cost { steps.new ≤ steps.old + levels }
+    fn down_32<L: Ledger>(&mut self, key: &Prefix, steps: &mut Steps<L>) -> Option<&mut Link<V, A>>
+        requires within { IsTrue (begins self.old.at key.now) }
+        requires longer { length self.old.at < length key.now }
+        requires sound { IsTrue self.old.sound }
+        ensures* writes_back { sem 𝓛 (LendsBelow V.row A.row A.Allocator self.entry result) }
+        ensures on_way { IfSome result (λ link. IsOnWay self.old key.now link.now.value) }
+        ensures far { IfSome result (λ link. (n : _) → n ≤ length self.old.at + 32 → n ≤ length key.now → n ≤ length link.now.value.at) }
+        ensures none { IfNone result (map.get self.old.table key.now ≡ None) }
+        ensures cost { IfSome result (λ link. steps.new + visits_beyond link.now.value.table link.now.value.at key.now ≡ steps.old + visits_beyond self.old.table self.old.at key.now) }
+        ensures cost_of_none { IfNone result (steps.new ≡ steps.old + visits_beyond self.old.table self.old.at key.now) }
     {
-        if levels <= 16 {
-            return self.down_16(bits, levels, steps);
+        let link = self.down_16(key, steps)?;
+        if is_at(link, key) {
+            return Some(link);
         }
-        inside(self.down_16(bits >> (levels - 16), 16, steps)?).down_16(bits, levels - 16, steps)
+        inside(link).down_16(key, steps)
     }
 
-    fn down_64<L: Ledger>(
-        &mut self,
-        bits: u64,
-        levels: u32,
-        steps: &mut Steps<L>,
-    ) -> Option<&mut Link<V, A>>
-        requires { (0 < levels) × (levels ≤ 64) }
-        ensures* writes_back { sem 𝓛 (LendsBelow V.row A.row A.Allocator self.entry (num levels bits) result) }
-        ensures value { IsBelow self.old.0 (num levels bits) (map_below (option_copied_mut result)) }
-        ensures pruned { IsTrue self.old.2 → IsTrue (is_pruned (option_copied_mut result)) }
-        ensures cost { steps.new ≤ steps.old + levels }
+    fn down_64<L: Ledger>(&mut self, key: &Prefix, steps: &mut Steps<L>) -> Option<&mut Link<V, A>>
+        requires within { IsTrue (begins self.old.at key.now) }
+        requires longer { length self.old.at < length key.now }
+        requires sound { IsTrue self.old.sound }
+        ensures* writes_back { sem 𝓛 (LendsBelow V.row A.row A.Allocator self.entry result) }
+        ensures on_way { IfSome result (λ link. IsOnWay self.old key.now link.now.value) }
+        ensures far { IfSome result (λ link. (n : _) → n ≤ length self.old.at + 64 → n ≤ length key.now → n ≤ length link.now.value.at) }
+        ensures none { IfNone result (map.get self.old.table key.now ≡ None) }
+        ensures cost { IfSome result (λ link. steps.new + visits_beyond link.now.value.table link.now.value.at key.now ≡ steps.old + visits_beyond self.old.table self.old.at key.now) }
+        ensures cost_of_none { IfNone result (steps.new ≡ steps.old + visits_beyond self.old.table self.old.at key.now) }
     {
-        if levels <= 32 {
-            return self.down_32(bits, levels, steps);
+        let link = self.down_32(key, steps)?;
+        if is_at(link, key) {
+            return Some(link);
         }
-        inside(self.down_32(bits >> (levels - 32), 32, steps)?).down_32(bits, levels - 32, steps)
+        inside(link).down_32(key, steps)
     }
+}
+
+// Whether the link leads to the key's own node.
+fn is_at<V, A: Allocator>(link: &Link<V, A>, key: &Prefix) -> bool
+    ensures { result ≡ (length link.now.value.at == length key.now) }
+{
+    link.at.len() == key.len()
 }
 
 // The node in the box.

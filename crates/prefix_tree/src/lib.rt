@@ -10,7 +10,9 @@ mod edit;
 pub mod laws;
 mod lend;
 mod list;
+mod next;
 mod node;
+mod path;
 mod steps;
 mod tree;
 mod walk;
@@ -25,8 +27,3 @@ pub trait TryCopy {
     fn try_copy(&self) -> Result<Self, AllocError>
         ensures { IfOk result (λ copy. copy ≡ self.now) };
 }
-
-#[cfg(test)]
-mod tests;
-#[cfg(test)]
-mod tree_tests;

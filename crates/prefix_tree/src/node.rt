@@ -1,24 +1,26 @@
 //! The nodes of the tree.
 
-ghost use Rattle.std.specs.Prelude.{◌≡◌, Some, ◌+◌, ◌<◌, ◌≤◌, ◌-◌, ◌∷◌, [], IfOk, IfSome, IsTrue, take, true, false};
+ghost use Rattle.std.specs.Prelude.{◌≡◌, Some, None, ◌+◌, ◌<◌, ◌≤◌, ◌-◌, ◌*◌, ◌^◌, ◌∷◌, ◌++◌, [], IsTrue, IfSome, true, false, length};
 ghost use Rattle.std.specs.FinMap as map;
-ghost use Rattle.std.specs.Option.{option_copied, option_map};
+ghost use Rattle.std.specs.Option.{option_copied, option_map, is_some};
 ghost use Rattle.prefix_tree.specs.Table.{longest};
-ghost use Rattle.prefix_tree.specs.Joined.{map_below, IsBelow, is_pruned, has_entry};
-ghost use Rattle.identity.specs.Number.{num};
-ghost use Rattle.identity.specs.Path.{Path};
+ghost use Rattle.identity.specs.Path.{begins};
+ghost use Rattle.prefix_tree.specs.Joined.{table_of, nodes_of, IsUnder};
+ghost use Rattle.prefix_tree.specs.Visits.{is_place, visits_beyond};
 
-use crate::{Steps, TryCopy};
-use std::alloc::{AllocError, Allocator};
+use crate::{Steps, path};
+use identity::Prefix;
+use std::alloc::Allocator;
 use std::marker::Model;
 use std::sync::ledger::Ledger;
 
 /// A node in a box of its own.
 pub(crate) type Link<V, A> = Box<Node<V, A>, A>;
 
-/// One place of the tree: its value, and what is one bit further.
+/// A place where prefixes part, or where one ends: its whole prefix, its value, and what goes on with each bit.
 #[derive(Drop)]
 pub(crate) struct Node<V, A: Allocator> {
+    pub(crate) at: Prefix,
     pub(crate) value: Option<V>,
     pub(crate) zero: Option<Link<V, A>>,
     pub(crate) one: Option<Link<V, A>>,
@@ -31,9 +33,9 @@ impl<V, A: Allocator> Model for Node<V, A> {
 
     ghost coded = { coded_node V.code };
 
-    ghost view = { λ n. node_view n.value n.zero n.one };
+    ghost view = { λ n. node_view n.at n.value n.zero n.one };
 
-    ghost size = { λ d. d.1 };
+    ghost size = { λ d. d.nodes };
 
     ghost use Rattle.std.proofs.Common.{arith};
 
@@ -41,150 +43,125 @@ impl<V, A: Allocator> Model for Node<V, A> {
 }
 
 impl<V, A: Allocator> Node<V, A> {
-    /// A node with nothing.
-    pub(crate) fn empty() -> Self
-        ensures map { result.0 ≡ map.empty }
-        ensures pruned { IsTrue result.2 }
+    /// A node with nothing but its value, if it has one.
+    pub(crate) fn leaf(at: Prefix, value: Option<V>) -> Self
+        ensures at { result.at ≡ at }
+        ensures table { (v : V) → value ≡ Some v → result.table ≡ map.insert map.empty at v }
+        ensures bare { value ≡ None → result.table ≡ map.empty }
+        ensures sound { IsTrue result.sound }
+        ensures count { result.nodes ≡ 1 }
     {
         Node {
-            value: None,
+            at,
+            value,
             zero: None,
             one: None,
         }
     }
 
-    /// A node with nothing but this value.
-    pub(crate) fn leaf(value: V) -> Self
-        ensures map { result.0 ≡ map.insert map.empty [] value }
-        ensures pruned { IsTrue result.2 }
-    {
-        Node {
-            value: Some(value),
-            zero: None,
-            one: None,
-        }
-    }
-
-    /// A node with nothing but this below it.
-    pub(crate) fn above(one: bool, below: Link<V, A>) -> Self
-        ensures map { (q : Path) (x : V) → below.value.0 ≡ map.insert map.empty q x → result.0 ≡ map.insert map.empty (one ∷ q) x }
-        ensures pruned { IsTrue (is_pruned (Some below)) → IsTrue result.2 }
-    {
-        if one {
-            Node {
-                value: None,
-                zero: None,
-                one: Some(below),
-            }
-        } else {
-            Node {
-                value: None,
-                zero: Some(below),
-                one: None,
-            }
-        }
-    }
-
-    /// What is below this bit.
+    /// What goes on with this bit.
     pub(crate) fn below(&self, one: bool) -> &Option<Link<V, A>>
-        ensures { IsBelow self.now.0 (one ∷ []) (map_below result.now) }
+        requires { IsTrue self.now.sound }
+        ensures under { IsUnder (self.now.at ++ one ∷ []) result.now }
+        ensures table { (q : _) → IsTrue (begins (self.now.at ++ one ∷ []) q) → map.get self.now.table q ≡ map.get (table_of result.now) q }
     {
         if one { &self.one } else { &self.zero }
     }
 
-    /// The value at the first `left` bits.
-    pub(crate) fn get<L: Ledger>(&self, bits: u64, left: u32, steps: &mut Steps<L>) -> Option<&V>
-        requires { left ≤ 48 }
-        ensures value { option_copied result ≡ map.get self.now.0 (num left bits) }
-        ensures cost { steps.new ≤ steps.old + left + 1 }
+    /// The value at the node itself.
+    pub(crate) fn own(&self) -> Option<&V>
+        requires { IsTrue self.now.sound }
+        ensures { option_copied result ≡ map.get self.now.table self.now.at }
     {
-        steps.tick();
-        if left == 0 {
-            return match &self.value {
-                Some(value) => Some(value),
-                None => None,
-            };
-        }
-        match self.below(first_bit(bits, left)) {
-            Some(node) => node.get(bits, left - 1, steps),
+        match &self.value {
+            Some(value) => Some(value),
             None => None,
         }
     }
 
-    /// How many bits are left at the longest prefix that begins the bits, and its value.
+    /// The value at this very prefix.
+    pub(crate) fn get<L: Ledger>(&self, key: &Prefix, steps: &mut Steps<L>) -> Option<&V>
+        requires within { IsTrue (begins self.now.at key.now) }
+        requires sound { IsTrue self.now.sound }
+        ensures value { option_copied result ≡ map.get self.now.table key.now }
+        ensures cost { steps.new ≡ steps.old + 1 + visits_beyond self.now.table self.now.at key.now }
+    {
+        let mut here = self;
+        steps.tick();
+        while here.at.len() < key.len() {
+            let Some(node) = here.below(path::side(&here.at, key)) else {
+                return None;
+            };
+            steps.tick();
+            if !path::begins(&node.at, key) {
+                return None;
+            }
+            here = node;
+        }
+        here.own()
+    }
+
+    /// The entry under the longest prefix that begins the key. The node is the root.
     pub(crate) fn longest<L: Ledger>(
         &self,
-        bits: u64,
-        left: u32,
+        key: &Prefix,
         steps: &mut Steps<L>,
-    ) -> Option<(u32, &V)>
-        requires { left ≤ 48 }
-        ensures within { IfSome result (λ e. e.0 ≤ left) }
-        ensures found { option_map (λ e. (take (left - e.0) (num left bits), e.1.now)) result ≡ longest self.now.0 (num left bits) }
-        ensures cost { steps.new ≤ steps.old + left + 1 }
+    ) -> Option<(Prefix, &V)>
+        requires root { self.now.at ≡ [] }
+        requires sound { IsTrue self.now.sound }
+        ensures found { option_map (λ e. (e.0, e.1.now)) result ≡ longest self.now.table key.now }
+        ensures cost { steps.new ≡ steps.old + 1 + visits_beyond self.now.table self.now.at key.now }
     {
+        let mut here = self;
+        let mut best = None;
         steps.tick();
-        if left == 0 {
-            return self.own(left);
+        while here.at.len() < key.len() {
+            if let Some(value) = here.own() {
+                best = Some((here.at, value));
+            }
+            let Some(node) = here.below(path::side(&here.at, key)) else {
+                return best;
+            };
+            steps.tick();
+            if !path::begins(&node.at, key) {
+                return best;
+            }
+            here = node;
         }
-        let Some(node) = self.below(first_bit(bits, left)) else {
-            return self.own(left);
-        };
-        match node.longest(bits, left - 1, steps) {
-            Some(found) => Some(found),
-            None => self.own(left),
-        }
-    }
-
-    // The value at the node itself.
-    fn own(&self, left: u32) -> Option<(u32, &V)>
-        ensures value { option_map (λ e. e.1.now) result ≡ map.get self.now.0 [] }
-        ensures within { IfSome result (λ e. e.0 ≡ left) }
-    {
-        match &self.value {
-            Some(value) => Some((left, value)),
-            None => None,
-        }
-    }
-
-    /// Whether there is no value here and no node below.
-    pub(crate) fn is_bare(&self) -> bool
-        ensures bare { result ≡ true → self.now.0 ≡ map.empty }
-        ensures not_bare { result ≡ false → IsTrue self.now.2 → IsTrue (has_entry (map.entries self.now.0)) }
-    {
-        match &self.value {
-            Some(_) => false,
-            None => self.zero.is_none() && self.one.is_none(),
+        match here.own() {
+            Some(value) => Some((here.at, value)),
+            None => best,
         }
     }
 }
 
-impl<V: TryCopy + Drop, A: Allocator + Clone> Node<V, A> {
-    /// The same node again, in boxes of its own.
-    pub(crate) fn try_copy(&self, alloc: &A) -> Result<Self, AllocError>
-        ensures { IfOk result (λ copy. copy ≡ self.now) }
+impl<V, A: Allocator> Node<V, A> {
+    /// How many nodes it and those below it are. It takes no memory.
+    #[cycle(nodes)]
+    pub(crate) fn nodes(&self) -> usize
+        requires { IsTrue self.now.sound }
+        ensures value { result ≡ self.now.nodes }
+        ensures few { result ≤ 2 * map.len self.now.table + 1 }
+        ensures full { IsTrue (is_place self.now.table self.now.at) → result + 1 ≤ 2 * map.len self.now.table }
+        ensures fits { result < 2 ^ (49 - length self.now.at) }
+        ensures short { length self.now.at ≤ 48 }
     {
-        let value = match &self.value {
-            Some(value) => Some(value.try_copy()?),
-            None => None,
-        };
-        let zero = match &self.zero {
-            Some(node) => Some(Box::new(alloc.clone()?, node.try_copy(alloc)?)?),
-            None => None,
-        };
-        let one = match &self.one {
-            Some(node) => Some(Box::new(alloc.clone()?, node.try_copy(alloc)?)?),
-            None => None,
-        };
-        Ok(Node { value, zero, one })
+        let _ = self.at.len();
+        1 + Node::nodes_below(&self.zero) + Node::nodes_below(&self.one)
     }
-}
 
-/// The first of the bits that are left.
-pub(crate) fn first_bit(bits: u64, left: u32) -> bool
-    requires some { 0 < left }
-    requires few { left ≤ 48 }
-    ensures { num left bits ≡ result ∷ num (left - 1) bits }
-{
-    (bits >> (left - 1)) % 2 == 1
+    // As `nodes`, of what a link leads to.
+    #[cycle(nodes)]
+    fn nodes_below(link: &Option<Link<V, A>>) -> usize
+        requires { IsUnder [] link.now }
+        ensures value { result ≡ nodes_of link.now }
+        ensures few { result ≤ 2 * map.len (table_of link.now) }
+        ensures full { IsTrue (is_some link.now) → result + 1 ≤ 2 * map.len (table_of link.now) }
+        ensures fits { (p : _) (k : _) → IsUnder p link.now → length p ≡ k + 1 → k ≤ 48 → result < 2 ^ (48 - k) }
+    {
+        match link {
+            Some(node) => node.nodes(),
+            None => 0,
+        }
+    }
 }

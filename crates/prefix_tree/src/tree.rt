@@ -1,13 +1,15 @@
-//! The map as a tree with one bit a level.
+//! The map as a tree with a node only where prefixes part.
 
-ghost use Rattle.std.specs.Prelude.{◌≡◌, ◌+◌, ◌<◌, ◌≤◌, ◌^◌, IfOk, IfErr, IfNone, OnOk, OnSome, IsOk, IsSome};
+ghost use Rattle.std.specs.Prelude.{◌≡◌, ◌+◌, ◌*◌, ◌<◌, ◌≤◌, IfNone, IfOk, IfErr, OnOk, OnSome, IsOk, IsSome};
 ghost use Rattle.std.specs.Option.{option_copied, option_copied_mut, option_map};
 ghost use Rattle.std.specs.Borrow.{sem};
 ghost use Rattle.std.specs.FinMap as map;
 ghost use Rattle.identity.specs.Path.{id_path};
 ghost use Rattle.prefix_tree.specs.Table.{longest};
-ghost use Rattle.prefix_tree.specs.Lending.{LendsEntry};
 ghost use Rattle.prefix_tree.specs.Walk.{seen};
+ghost use Rattle.prefix_tree.specs.Lending.{LendsEntry};
+ghost use Rattle.prefix_tree.specs.Next.{next_entry};
+ghost use Rattle.prefix_tree.specs.Visits.{nodes_on_way};
 
 use crate::node::Node;
 use crate::{Steps, TryCopy};
@@ -17,10 +19,10 @@ use std::marker::{Brand, Model};
 use std::mem;
 use std::sync::ledger::{Blank, Ledger};
 
-/// A finite map from prefixes, kept as a tree with one bit a level.
+/// A finite map from prefixes, kept as a tree with a node only where prefixes part or one ends.
 ///
 /// The root is held in place, and each other node in a box under the map's allocator; each of these has a
-/// value at or below it.
+/// value, or nodes on both sides.
 #[derive(Drop)]
 pub struct PrefixTree<V, A: Allocator> {
     alloc: A,
@@ -29,17 +31,15 @@ pub struct PrefixTree<V, A: Allocator> {
 
 impl<V, A: Allocator> Model for PrefixTree<V, A> {
     ghost use Rattle.prefix_tree.specs.Table.{PathMap, coded_table};
+    ghost use Rattle.std.specs.Prelude.{◌≡◌, [], IsTrue};
 
     ghost Value = { PathMap V };
 
     ghost coded = { coded_table V.code };
 
-    ghost view = { λ t. t.root.0 };
+    ghost view = { λ t. t.root.table };
 
-    ghost use Rattle.std.specs.Prelude.{IsTrue};
-    ghost use Rattle.prefix_tree.specs.Walk.{AllShorter};
-
-    ghost invariant = { λ t. AllShorter 49 t.root.0 × IsTrue t.root.2 };
+    ghost invariant = { λ t. (t.root.at ≡ []) × IsTrue t.root.sound };
 }
 
 impl<V, A: Allocator> PrefixTree<V, A> {
@@ -49,7 +49,7 @@ impl<V, A: Allocator> PrefixTree<V, A> {
     {
         PrefixTree {
             alloc,
-            root: Node::empty(),
+            root: Node::leaf(Prefix::of(0, 0), None),
         }
     }
 
@@ -57,8 +57,10 @@ impl<V, A: Allocator> PrefixTree<V, A> {
     pub fn get<L: Ledger>(&self, prefix: &Prefix, steps: &mut Steps<L>) -> Option<&V>
         ensures value { option_copied result ≡ map.get self.now prefix.now }
         ensures cost { steps.new ≤ steps.old + 49 }
+        ensures visits { steps.new ≡ steps.old + nodes_on_way self.now prefix.now }
     {
-        self.root.get(prefix.number(), prefix.len(), steps)
+        let _ = prefix.len();
+        self.root.get(prefix, steps)
     }
 
     /// As `get`, for a caller that counts nothing.
@@ -73,11 +75,9 @@ impl<V, A: Allocator> PrefixTree<V, A> {
     pub fn longest<L: Ledger>(&self, identity: u64, steps: &mut Steps<L>) -> Option<(Prefix, &V)>
         ensures found { option_map (λ e. (e.0, e.1.now)) result ≡ longest self.now (id_path identity) }
         ensures cost { steps.new ≤ steps.old + 49 }
+        ensures visits { steps.new ≡ steps.old + nodes_on_way self.now (id_path identity) }
     {
-        match self.root.longest(identity, 48, steps) {
-            Some((left, value)) => Some((Prefix::of(identity, 48 - left), value)),
-            None => None,
-        }
+        self.root.longest(&Prefix::whole(identity), steps)
     }
 
     /// As `longest`, for a caller that counts nothing.
@@ -92,8 +92,26 @@ impl<V, A: Allocator> PrefixTree<V, A> {
         ensures { IfOk result (λ list. seen list.items ≡ map.entries self.now) }
     {
         let mut list = Vec::new(alloc);
-        self.root.push_entries(Prefix::of(0, 0), &mut list)?;
+        self.root.push_entries(&mut list)?;
         Ok(list)
+    }
+
+    /// The first entry after this prefix in the order of `walk`, also where the prefix has none itself, or the
+    /// first of all. It takes no memory.
+    pub fn next(&self, after: Option<Prefix>) -> Option<(Prefix, &V)>
+        ensures { option_map (λ e. (e.0, e.1.now)) result ≡ next_entry self.now after }
+    {
+        match after {
+            None => self.root.first(),
+            Some(prefix) => self.root.past(&prefix),
+        }
+    }
+
+    /// How many nodes there are, the root with them. It takes no memory.
+    pub fn nodes(&self) -> usize
+        ensures { result ≤ 2 * map.len self.now + 1 }
+    {
+        self.root.nodes()
     }
 
     /// The value at this very prefix, for writing. It takes no memory; each node that is visited is
@@ -102,8 +120,10 @@ impl<V, A: Allocator> PrefixTree<V, A> {
         ensures* writes_back { sem 𝓛 (LendsEntry V.row A.row A.Allocator self.entry prefix.now result) }
         ensures value { option_copied_mut result ≡ map.get self.old prefix.now }
         ensures cost { steps.new ≤ steps.old + 49 }
+        ensures visits { steps.new ≡ steps.old + nodes_on_way self.old prefix.now }
     {
-        self.root.get_mut(prefix.number(), prefix.len(), steps)
+        let _ = prefix.len();
+        self.root.get_mut(prefix, steps)
     }
 
     /// Sets the value at a prefix, and answers the one before. For want of memory the pair comes
@@ -117,8 +137,7 @@ impl<V, A: Allocator> PrefixTree<V, A> {
         ensures err { IfErr result (λ pair. (pair ≡ (prefix, value)) × (self.new ≡ self.old)) }
         ensures overwrite_succeeds { IsSome (map.get self.old prefix) → IsOk result }
     {
-        let (bits, len) = (prefix.number(), prefix.len());
-        match self.root.insert(&self.alloc, bits, len, value) {
+        match self.root.insert(&self.alloc, &prefix, value) {
             Ok(before) => Ok(before),
             Err(value) => Err((prefix, value)),
         }
@@ -135,16 +154,19 @@ impl<V, A: Allocator> PrefixTree<V, A> {
         replace_from::<V, A, Brand>(self, prefix, value, Blank::new(1))
     }
 
-    /// Takes the value at a prefix out, and with it each node that is left with nothing. It takes no
-    /// memory; each node that is visited is a step, 49 at most.
+    /// Takes the value at a prefix out, and with it each node that is left without a value and with one side
+    /// at most. It takes no memory; each node that is visited is a step, 49 at most.
     pub fn remove<L: Ledger>(&mut self, prefix: &Prefix, steps: &mut Steps<L>) -> Option<V>
     where
         V: Drop,
         ensures before { result ≡ map.get self.old prefix.now }
         ensures removed { self.new ≡ map.remove self.old prefix.now }
         ensures cost { steps.new ≤ steps.old + 49 }
+        ensures visits { steps.new ≡ steps.old + nodes_on_way self.old prefix.now }
     {
-        self.root.remove(prefix.number(), prefix.len(), steps)
+        let _ = prefix.len();
+        steps.tick();
+        self.root.remove(prefix, steps)
     }
 
     /// As `remove`, for a caller that counts nothing.
@@ -164,7 +186,7 @@ impl<V: TryCopy + Drop, A: Allocator> PrefixTree<V, A> {
         ensures { IfOk result (λ list. list.items ≡ map.entries self.now) }
     {
         let mut list = Vec::new(alloc);
-        self.root.copy_entries(Prefix::of(0, 0), &mut list)?;
+        self.root.copy_entries(&mut list)?;
         Ok(list)
     }
 }

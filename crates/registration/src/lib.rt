@@ -16,6 +16,3 @@ pub use limits::Limits;
 pub use radio::Radio;
 pub use registry::Registry;
 pub use rule::Rule;
-
-#[cfg(test)]
-mod tests;

@@ -4,3 +4,5 @@ pub mod Spelling
 pub mod Written
 pub mod Cleared
 pub mod Heads
+pub mod Transfers
+mod Faults

@@ -1,3 +1,4 @@
 pub mod Values
 pub mod Syntax
 pub mod Reading
+pub mod Transfers

@@ -93,7 +93,8 @@ clearing bits = unless (fault bits) (cleared bits)
 abbrev pub writing : {A : Type 0} → Sds A → Result (List Bool) SdsFault
 writing sds = if nat_lt most_bits (length (canon sds)) then Err TooLong else Ok (canon sds)
 
--- What is answered is this, unless memory ran out.
+-- What is answered is this; where it is a value, want of memory may stand in its place, and never where it is a fault.
 abbrev pub Gives : {A : Type 0} → Result A SdsFault → Result A SdsFault → Type 0
 Gives (Ok x) known = known ≡ Ok x
-Gives (Err f) known = (f ≡ NoMemory → ⊥) → known ≡ Err f
+Gives (Err f) (Ok y) = f ≡ NoMemory
+Gives (Err f) (Err fault) = f ≡ fault

@@ -21,6 +21,8 @@ pub enum SdsFault {
     TooLong,
     #[error("out of memory")]
     NoMemory,
+    #[error("the PDU is no message")]
+    NotATransfer,
 }
 
 impl From<AllocError> for SdsFault {

@@ -1,12 +1,14 @@
 //! What holds of the spelling alone, of all bits and all PDUs.
 
-ghost use Rattle.std.specs.Prelude.{◌≡◌, ℕ, Bool, List, None, Ok};
+ghost use Rattle.std.specs.Prelude.{◌≡◌, ◌≢◌, ℕ, Bool, List, None, Some, Ok, Err};
 ghost use Rattle.std.specs.Result.{result_map_both};
+ghost use Rattle.sds_tl.specs.declared.fault.SdsFault.TheVariants.{NoMemory};
 ghost use Rattle.sds_tl.specs.declared.pdu.DeliveryReportRequest.{DeliveryReportRequest};
 ghost use Rattle.sds_tl.specs.declared.pdu.Head.TheVariants.{Transfer};
 ghost use Rattle.sds_tl.specs.declared.pdu.Sds.{Sds};
 ghost use Rattle.sds_tl.specs.Syntax.{Spells, IsInRange, canon};
-ghost use Rattle.sds_tl.specs.Reading.{fault, value, reading, heading, head_of, cleared, writing};
+ghost use Rattle.sds_tl.specs.Reading.{fault, value, reading, heading, head_of, cleared, clearing, writing};
+ghost use Rattle.sds_tl.specs.Transfers.{reading_transfer, reference_of, transfer_reference};
 
 use std::alloc::Allocator;
 
@@ -41,7 +43,18 @@ pub fn cleared_again<A: Allocator>()
     ensures message { (bits : List Bool) (request : DeliveryReportRequest) (reference : ℕ) → heading bits ≡ Ok (Transfer request reference) → cleared bits ≡ bits }
 {}
 
-/// The head that is read of bits is that of the PDU that is read, and so is the fault.
+/// The head that is read of bits is that of the PDU that is read, and so is the fault; the same where
+/// only a message will do.
 pub fn heads_agree<A: Allocator>()
-    ensures { (bits : List Bool) → heading bits ≡ result_map_both head_of (λ fault. fault) (reading {A = A} bits) }
+    ensures transfers { (bits : List Bool) → transfer_reference (heading bits) ≡ result_map_both reference_of (λ fault. fault) (reading_transfer {A = A} bits) }
+    ensures heads { (bits : List Bool) → heading bits ≡ result_map_both head_of (λ fault. fault) (reading {A = A} bits) }
+{}
+
+/// Want of memory is no fault of bits, nor why a PDU can't be written.
+pub fn faults_of_bits<A: Allocator>()
+    ensures fault { (bits : List Bool) → fault bits ≢ Some NoMemory }
+    ensures read { (bits : List Bool) → reading {A = A} bits ≢ Err NoMemory }
+    ensures headed { (bits : List Bool) → heading bits ≢ Err NoMemory }
+    ensures cleared { (bits : List Bool) → clearing bits ≢ Err NoMemory }
+    ensures written { (sds : Sds A) → writing sds ≢ Err NoMemory }
 {}

@@ -7,13 +7,12 @@ mod pdu;
 mod pieces;
 mod reading;
 mod reserved;
+mod transfer;
 mod writing;
 
 pub use fault::SdsFault;
 pub use pdu::{DeliveryReportRequest, DeliveryStatus, Head, MOST_BITS, ProtocolIdentifier, Sds};
 pub use reading::{head, read};
 pub use reserved::canonical;
+pub use transfer::{read_transfer, transfer_reference};
 pub use writing::write;
-
-#[cfg(test)]
-mod tests;

@@ -111,7 +111,7 @@ restarted old new after marks calls base sectors pending count whole room failur
   honest = λ is. crash_replayed new after marks calls base sectors pending count (whole is);
   durable = λ k. rw pending (all_clear marks k);
   moment = rw calls refl;
-  room = rw calls (omega (arith, room));
+  room = room;
   failures = failures;
 }
 
@@ -140,7 +140,8 @@ blank new n room calls base sectors pending failures is_room =
       honest = crash_replayed new (replicate n (replicate 512 0)) (replicate n false) calls base sectors (pending ∙ no_marks_at_all n) (marks ∙ sym count) (zero_sectors n);
       reads = sectors;
       durable = λ k. rw (pending, no_marks_at_all n) (all_clear (replicate n false) k);
-      room = rw calls (omega (arith, is_room));
+      moment = rw calls refl;
+      room = is_room;
       failures = failures;
     }
 

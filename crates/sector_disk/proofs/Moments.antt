@@ -103,6 +103,7 @@ pub caused : {T : Type 0} (old mid new : View) (result : Result T DiskError) →
 caused old mid new result sectors failures cause = record {
   sectors = cause.sectors ∙ sectors;
   later = omega (arith, failures, cause.later);
+  bound = cause.bound;
   fault = λ is. ⊎_elim (λ rose. inl (omega (arith, rose, failures))) inr (cause.fault is);
 }
 

@@ -1,5 +1,5 @@
 -- What a disk of sectors is: what reading gives, what a stop may leave, and how each call changes both.
-use Rattle.std.specs.Prelude.{◌≡◌, ◌≢◌, ◌⊎◌, ℕ, ◌<◌, ◌≤◌, ◌^◌, ◌-◌, Bool, true, false, List, [], length, slice_index, slice_index_or, Result, IsErrOf, OnOk, OnErr}
+use Rattle.std.specs.Prelude.{◌≡◌, ◌≢◌, ◌⊎◌, ℕ, ◌<◌, ◌≤◌, ◌+◌, ◌^◌, ◌-◌, min, Bool, true, false, List, [], length, slice_index, slice_index_or, Result, IsErrOf, OnOk, OnErr}
 use Rattle.sector_disk.specs.declared.disk.DiskError.{DiskError}
 use Rattle.sector_disk.specs.declared.disk.DiskError.TheVariants.{DiskFault}
 
@@ -86,12 +86,17 @@ pub record HasSynced (old new : View) (result : Result Unit DiskError) : Type 0 
   pub pending : OnErr result (new.pending ≡ old.pending)
   pub durable : OnOk result ((k : ℕ) → new.pending k ≡ false)
 
+-- the failures counted, after one more
+abbrev pub one_failure_more : ℕ → ℕ
+one_failure_more failures = min (failures + 1) (2 ^ 64 - 1)
+
 -- the device has failed in between, or has failed as often as can be counted
 abbrev pub HasFailed : View → View → Type 0
 HasFailed old new = (old.failures < new.failures) ⊎ (new.failures ≡ 2 ^ 64 - 1)
 
--- `DiskFault` is told only where the device has failed.
+-- `DiskFault` is told only where the device has failed, which is counted up to a bound.
 pub record HasCause {T : Type 0} (old new : View) (result : Result T DiskError) : Type 0 where
   pub sectors : new.sectors ≡ old.sectors
   pub later : old.failures ≤ new.failures
+  pub bound : new.failures ≤ 2 ^ 64 - 1
   pub fault : IsErrOf result DiskFault → HasFailed old new

@@ -1,6 +1,6 @@
 -- What a disk in memory is: the sectors that it began with, after each of its calls.
-use Rattle.std.specs.Prelude.{◌≡◌, ℕ, ◌<◌, ◌≤◌, ◌-◌, Bool, true, false, List, [], ◌∷◌, length, map, replicate, set, take, nat_lt, if◌then◌else◌, Result, Ok, Err}
-use Rattle.sector_disk.specs.Disk.{IsImage, IsSector, View, sector}
+use Rattle.std.specs.Prelude.{◌≡◌, ℕ, ◌<◌, ◌≤◌, ◌+◌, ◌-◌, Bool, true, false, List, [], ◌∷◌, length, map, replicate, set, take, nat_lt, if◌then◌else◌, Result, Ok, Err}
+use Rattle.sector_disk.specs.Disk.{IsImage, IsSector, View, one_failure_more, sector}
 use Rattle.sector_disk.specs.Crash.{is_pending}
 use Rattle.sector_disk.specs.declared.disk.DiskError.{DiskError}
 use Rattle.sector_disk.specs.declared.disk.DiskError.TheVariants.{DiskFault}
@@ -53,17 +53,21 @@ memory_view disk = record {
 abbrev pub room_left : {A : Type 0} → MemoryDisk A → ℕ
 room_left disk = disk.record.room - length disk.record.calls.items
 
--- A call succeeds as long as the record has room, and then fills it by one.
+-- A call succeeds as long as the record has room, and then fills it by one; else it is counted as a failure, and nowhere else. The room stays.
 pub record HasRecorded {A : Type 0} (old new : MemoryDisk A) (result : Result Unit DiskError) : Type 0 where
   pub answer : result ≡ (if nat_lt 0 (room_left old) then Ok tt else Err DiskFault)
-  pub room : room_left new ≡ room_left old - 1
+  pub moment : (memory_view new).moment ≡ (if nat_lt 0 (room_left old) then (memory_view old).moment + 1 else (memory_view old).moment)
+  pub failures : new.record.failures ≡ (if nat_lt 0 (room_left old) then old.record.failures else one_failure_more old.record.failures)
+  pub room : new.record.room ≡ old.record.room
+  pub left : room_left new ≡ room_left old - 1
 
--- a new disk: zeros, nothing pending, no call recorded
+-- a new disk: zeros, nothing pending, no call recorded, room for just so many
 pub record IsBlank {A : Type 0} (disk : MemoryDisk A) (sectors calls : ℕ) : Type 0 where
   pub honest : (memory_view disk).honest
   pub reads : disk.sectors.items ≡ replicate sectors (replicate 512 0)
   pub durable : (k : ℕ) → is_pending disk.pending.items k ≡ false
-  pub room : room_left disk ≡ calls
+  pub moment : (memory_view disk).moment ≡ 0
+  pub room : disk.record.room ≡ calls
   pub failures : disk.record.failures ≡ 0
 
 -- a disk after a stop: nothing pending, an empty record with all its room
@@ -71,5 +75,5 @@ pub record IsRestarted {A : Type 0} (old new : MemoryDisk A) : Type 0 where
   pub honest : (memory_view old).honest → (memory_view new).honest
   pub durable : (k : ℕ) → is_pending new.pending.items k ≡ false
   pub moment : (memory_view new).moment ≡ 0
-  pub room : room_left new ≡ old.record.room
+  pub room : new.record.room ≡ old.record.room
   pub failures : new.record.failures ≡ old.record.failures

@@ -10,6 +10,3 @@ mod record;
 pub use disk::{Disk, DiskError};
 pub use failing::{Failing, FailingDisk};
 pub use memory::MemoryDisk;
-
-#[cfg(test)]
-mod tests;

@@ -1,6 +1,7 @@
 // The record that a disk in memory keeps of its calls.
 ghost use Rattle.std.specs.Prelude.{◌≡◌, ◌⊎◌, ◌-◌, ◌^◌, ◌<◌, ◌≤◌, [], ◌∷◌, ◌++◌, Err, IfOk, Ok, OnErr, OnOk, if◌then◌else◌, nat_lt, vec_len};
 ghost use Rattle.std.specs.Vec.{vec_capacity};
+ghost use Rattle.sector_disk.specs.Disk.{one_failure_more};
 ghost use Rattle.sector_disk.specs.declared.disk.DiskError.TheVariants.{DiskFault};
 
 use crate::DiskError;
@@ -20,6 +21,7 @@ pub(crate) struct Record<A: Allocator> {
     room: usize,
     failures: u64,
     ghost roomy: { room ≤ vec_capacity calls },
+    ghost counted: { failures ≤ 2 ^ 64 - 1 },
 }
 
 impl<A: Allocator> Record<A> {
@@ -39,6 +41,7 @@ impl<A: Allocator> Record<A> {
         ensures answer { result ≡ (if nat_lt (vec_len self.old.calls) self.old.room then Ok tt else Err DiskFault) }
         ensures noted { OnOk result (self.new.calls.items ≡ self.old.calls.items ++ call ∷ []) }
         ensures refused { OnErr result (self.new.calls ≡ self.old.calls) }
+        ensures failures { self.new.failures ≡ (if nat_lt (vec_len self.old.calls) self.old.room then self.old.failures else one_failure_more self.old.failures) }
         ensures failed { OnErr result ((self.old.failures < self.new.failures) ⊎ (self.new.failures ≡ 2 ^ 64 - 1)) }
         ensures later { self.old.failures ≤ self.new.failures }
         ensures room { self.new.room ≡ self.old.room }

@@ -1,10 +1,11 @@
-use Rattle.std.proofs.Common.{◌≡◌, ◌++◌, ◌≤◌, [], List, ℕ, Some, length, take, sym, subst, refl, arith}
+use Rattle.std.proofs.Common.{◌≡◌, ◌++◌, ◌≤◌, [], List, ℕ, Some, length, take, sym, subst, refl, arith, inr}
 use Rattle.std.proofs.lemmas.Grind.{common_steps}
 use Rattle.std.proofs.lemmas.Result.{IfOk-weaker, on_err_weaker}
 use Rattle.console.specs.declared.running.Piece.{Piece}
 use Rattle.console.specs.Dialogue.{RunsWell}
 use Rattle.console.specs.Feed.{IsGoing, IsPiece, FitsPiece}
-use Rattle.console.proofs.Parts.{on_err_true, at_the_end, passed_on}
+use Rattle.console.proofs.Answering.{never_read, only_long}
+use Rattle.console.proofs.Writing.{on_err_true, at_the_end, passed_on}
 use Rattle.console.proofs.Going.{going_start, short_at_once, short_of, short_same, well_same}
 use Rattle.console.proofs.running.run_counted.Goals as goal
 
@@ -22,7 +23,7 @@ loop-init g c = (
     input,
     known,
     refl,
-    going_start g.D.Desk.rules c.args.station (g.D.Desk.world c.args.desk.now) before _ (g.W.Write.contents c.args.writer.now) held c.in-Ok.ensures.troubled c.in-Ok.ensures.lines c.in-Ok.ensures.kept c.in-Ok.ensures.long,
+    going_start g.D.Desk.rules c.args.station (g.D.Desk.world c.args.desk.now) before _ (g.W.Write.contents c.args.writer.now) held c.in-Ok.ensures.troubled c.in-Ok.ensures.lines c.in-Ok.ensures.hand,
   ),
 )
 
@@ -84,3 +85,9 @@ pub returns-clause-err : goal.returns-clause-err
 returns-clause-err g c = λ input before known held.
     let i = c.loop.invariant.3 input before known held in
     short_of g.D.Desk.rules c.args.station (g.D.Desk.world c.args.desk.now) before i.0 i.1 input c.loop.progress (g.W.Write.contents c.loop.writer) (g.D.Desk.world c.loop.desk) (sym i.3) i.4
+
+pub returns-in-End-clause-read : goal.returns-in-End-clause-read
+returns-in-End-clause-read g c = λ failed. absurd (never_read g.row.A.Denot g.D.Desk.rules c.finish.result c.finish.ensures.stops failed)
+
+pub returns-in-End-clause-memory : goal.returns-in-End-clause-memory
+returns-in-End-clause-memory g c = λ failed. inr (only_long g.row.A.Denot g.D.Desk.rules c.finish.result c.finish.ensures.stops failed)

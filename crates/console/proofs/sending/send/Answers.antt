@@ -1,7 +1,7 @@
 use Rattle.std.proofs.Common.{◌++◌, [], Some, take, drop, sym, ap, ◌∙◌, arith}
 use Rattle.std.proofs.lemmas.Grind.{common_steps}
 use Rattle.std.proofs.lemmas.List.{take-append-drop, append-nil}
-use Rattle.console.proofs.Parts.{on_err_true, on_ok_true, written_all, resume}
+use Rattle.console.proofs.Writing.{on_err_true, on_ok_true, written_all, resume}
 use Rattle.console.proofs.sending.send.Goals as goal
 
 pub returns-in_err-at-clause-err : goal.returns-in_err-at-clause-err

@@ -2,7 +2,7 @@ use Rattle.std.proofs.Common.{◌++◌, ◌∷◌, ◌||◌, ap, refl}
 use Rattle.std.specs.Str.Lines.{lines, strip_carriage_return}
 use Rattle.console.specs.Answer.{texts}
 use Rattle.console.proofs.Lines.{line_ended}
-use Rattle.console.proofs.Parts.{on_err_true}
+use Rattle.console.proofs.Writing.{on_err_true}
 use Rattle.console.proofs.Going.{going_line, short_within}
 use Rattle.console.proofs.serving.end_line.Goals as goal
 

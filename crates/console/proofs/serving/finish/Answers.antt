@@ -1,6 +1,6 @@
 use Rattle.std.proofs.Common.{◌++◌, []}
 use Rattle.console.specs.Answer.{texts}
-use Rattle.console.proofs.Parts.{on_err_true}
+use Rattle.console.proofs.Writing.{on_err_true}
 use Rattle.console.proofs.Going.{ends_between, ends_within, last_split, short_within}
 use Rattle.console.proofs.serving.finish.Goals as goal
 

@@ -1,6 +1,6 @@
 use Rattle.std.proofs.Common.{◌++◌, ◌+◌, take, drop, arith}
-use Rattle.console.proofs.Parts.{on_err_true, left_behind, taken_more, taken_before}
-use Rattle.console.proofs.Going.{short_of, short_same, going_same}
+use Rattle.console.proofs.Writing.{on_err_true, taken_more, taken_before}
+use Rattle.console.proofs.Going.{short_same, going_same}
 use Rattle.console.proofs.serving.take_piece.Goals as goal
 
 pub returns-in_err-take_line-clause-err : goal.returns-in_err-take_line-clause-err
@@ -18,9 +18,3 @@ loop-end-preserved g c = let piece = c.args.piece.now in let at = c.loop-end.at 
       (taken_more taken piece at end 10 there.0 there.1 there.3)
       (c.in_ok-take_line.ensures.ok s before (taken ++ take at piece) (c.loop-end.invariant.2 s before taken i)),
 )
-
-pub returns-clause-err : goal.returns-clause-err
-returns-clause-err g c = on_err_true c.keep.result (λ s before taken rest i.
-    let piece = c.args.piece.now in let at = c.loop-end.at in
-    short_of g.D.Desk.rules c.args.station s before (taken ++ take at piece) (drop at piece ++ rest) _ c.loop-end.progress (g.W.Write.contents c.loop-end.writer) (g.D.Desk.world c.loop-end.desk)
-    (left_behind taken piece rest at) (c.loop-end.invariant.2 s before taken i))

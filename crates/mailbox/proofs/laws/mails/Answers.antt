@@ -1,4 +1,5 @@
-use Rattle.mailbox.proofs.Kept.{empty_is_mail, more_is_mail, removal_is_mail, post_is_mail, report_is_mail}
+use Rattle.mailbox.proofs.Kept.{empty_is_mail, more_is_mail, removal_is_mail, post_is_mail, report_is_mail, new_comes_last}
+use Rattle.mailbox.proofs.CopiesKept.{group_post_is_mail}
 use Rattle.mailbox.proofs.laws.mails.Goals as goal
 
 pub returns-clause-empty : goal.returns-clause-empty
@@ -15,3 +16,9 @@ returns-clause-post c = post_is_mail
 
 pub returns-clause-report : goal.returns-clause-report
 returns-clause-report c = report_is_mail
+
+pub returns-clause-last : goal.returns-clause-last
+returns-clause-last c = new_comes_last
+
+pub returns-clause-group : goal.returns-clause-group
+returns-clause-group c = group_post_is_mail

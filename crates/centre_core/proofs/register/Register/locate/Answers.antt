@@ -12,4 +12,4 @@ returns-in-Err-clause-ok g c =
 
 pub invariant_of-self-2 : goal.invariant_of-self-2
 invariant_of-self-2 g c =
-    radio_located_state (record { registered = c.self.inside.registry; groups = c.self.inside.groups; mail = c.self.inside.mail; served = c.self.inside.served.items; count = c.self.inside.count }) _ _ c.args.itsi c.args.command.now.station c.args.area c.args.update c.in_default.ensures.ok.0 c.in_default.ensures.ok.1 c.on_update.ensures c.self.invariant
+    radio_located_state (record { registered = c.self.inside.registry; groups = c.self.inside.groups; mail = c.self.inside.mail; served = c.self.inside.served.items; count = c.self.inside.count }) _ _ c.args.itsi c.command.inside.station c.args.area c.args.update c.in_default.ensures.ok.0 c.in_default.ensures.ok.1 c.on_update.ensures c.self.invariant

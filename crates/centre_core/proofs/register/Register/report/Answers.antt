@@ -3,6 +3,7 @@ use Rattle.sds_tl.specs.Reading.{cleared}
 use Rattle.mailbox.specs.declared.key.Kind.TheVariants.{Report}
 use Rattle.mailbox.specs.Tests.{key_of}
 use Rattle.mailbox.specs.Mail.{waiting_for}
+use Rattle.mailbox.proofs.Kept.{new_comes_last}
 use Rattle.centre_core.specs.State.{State, last_number}
 use Rattle.centre_core.specs.Step.{report_of}
 use Rattle.centre_core.proofs.SpeltLaws.{is_cleared}
@@ -21,3 +22,8 @@ invariant_of-self-2 g c =
     let kept : c.in-Ok.kept ≡ cleared c.args.pdu.now = is_cleared c.args.pdu.now c.in-Ok.kept c.in-Ok.ensures in
     let made : waiting_for s.registered (key_of c.args.envelope.now Report) c.stamp-stamp.result c.in-Ok.kept ≡ report_of s c.args.command.now.moment c.args.envelope.now c.args.pdu.now = search rules in
     reported_state s c.args.command.now c.args.envelope.now c.args.status c.args.pdu.now _ _ _ _ c.requires.pdu left made c.in-Ok-report.ensures.ok c.keep.ensures.kept c.keep.ensures.count c.self.invariant
+
+pub report-requires : goal.report-requires
+report-requires g c =
+    let later : c.self.inside.count < c.stamp-stamp.result.number = search rules in
+    new_comes_last c.self.inside.count c.self.inside.mail c.stamp-stamp.result.number (key_of c.args.envelope.now Report) c.self.invariant.2.0 later

@@ -11,3 +11,6 @@ returns-clause-ok g c =
       c.remove_reported.ensures ∙ ap (without (is_reported c.args.envelope.now c.args.status)) (c.in-Ok.ensures.ok ∙ ap (λ w. with_item (without (is_at w.key) c.args.self.now) w) item)
           ∙ reported_then c.args.self.now c.args.envelope.now c.args.status _ refl,
     )
+
+pub returns-in-Some-clause-memory : goal.returns-in-Some-clause-memory
+returns-in-Some-clause-memory g c = λ none. let told = c.report_refusal.ensures c.args.stamp c.args.pdu in cc (c.in-Some.is, told, none)

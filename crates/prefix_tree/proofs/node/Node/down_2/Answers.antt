@@ -1,56 +1,40 @@
-use Rattle.std.proofs.Common.{◌≡◌, ◌-◌, ◌/◌, ◌^◌, ◌++◌, refl, sym, subst, arith}
-use Rattle.std.specs.FinMap as map
-use Rattle.std.specs.Option.{option_copied_mut}
-use Rattle.identity.specs.Number.{num}
-use Rattle.prefix_tree.specs.Joined.{IsBelow, map_below}
-use Rattle.prefix_tree.proofs.LendLaws.{cut, at_some, on_some, empty_below, below_again, graft_cut, graft_same, graft_pruned, same_pruned_node, lent_node}
+use Rattle.std.proofs.Common.{refl}
+use Rattle.prefix_tree.proofs.LendLaws.{if_at, if_both, if_some, if_none, like_self, graft_again, graft_same, way_again, far_there, still_longer, far_again, none_again, cost_again, cost_ended}
 use Rattle.prefix_tree.proofs.node.Node.down_2.Goals as goal
 
-pub returns-in_err-down_1 : goal.returns-in_err-down_1
-returns-in_err-down_1 g c =
-    let m = c.args.self.now.0 in
-    let p = num 1 (c.args.bits / 2 ^ (c.args.levels - 1)) in
-    let q = num (c.args.levels - 1) c.args.bits in
-    let split : num c.args.levels c.args.bits ≡ p ++ q = cut c.args.levels 1 c.args.bits (omega (arith, c.if-levels-le1.false)) in
-    rw (c.from_residual.ensures) (
-      (refl, λ w. tt, c.down_1-2.follows.holds-at-none),
-      record {
-        writes_back = tt;
-        value = subst (λ z. IsBelow m z map.empty) (sym split) (below_again m p q map.empty map.empty c.in_err-down_1.ensures.value (empty_below _ q));
-        pruned = λ was. refl;
-        cost = omega (arith, c.down_1-2.ensures.cost, c.if-levels-le1.false);
-      },
-    )
+pub returns-then-is_at : goal.returns-then-is_at
+returns-then-is_at g c = (
+  (refl, λ w. if_at _ c.down_1.result _ c.in_ok-link.was (c.down_1.follows.holds w), (refl, like_self _)),
+  record {
+    writes_back = tt;
+    on_way = c.in_ok-link.ensures.on_way;
+    far = far_there _ _ _ c.in_ok-link.ensures.on_way _ 2 c.is_at.ensures c.if-is_at.true;
+    none = tt;
+    cost = c.in_ok-link.ensures.cost;
+    cost_of_none = tt;
+  },
+)
+
+pub down_1-requires-2-clause-longer : goal.down_1-requires-2-clause-longer
+down_1-requires-2-clause-longer g c = still_longer _ _ _ c.in_ok-link.ensures.on_way _ c.inside.ensures.value _ c.is_at.ensures c.if-is_at.false
 
 pub returns : goal.returns
 returns g c =
-    let m = c.args.self.now.0 in
-    let p = num 1 (c.args.bits / 2 ^ (c.args.levels - 1)) in
-    let q = num (c.args.levels - 1) c.args.bits in
-    let low = c.inside.result.now in
-    let link = c.in_ok-down_1.field-0.now in
-    let split : num c.args.levels c.args.bits ≡ p ++ q = cut c.args.levels 1 c.args.bits (omega (arith, c.if-levels-le1.false)) in
-    let below : IsBelow m p low.0 = subst (λ z. IsBelow m p z.0) (sym c.inside.ensures.value) c.in_ok-down_1.ensures.value in
-    let pruned = lent_node link low c.inside.ensures.value c.in_ok-down_1.ensures.pruned in
-    let ends : (n : _) → _ = λ n. at_some c.down_1-2.result _ c.in_ok-down_1.was (c.down_1-2.follows.holds (record link { value = n })) in
-    let lends = c.down_1-3.follows in (
+    let on = c.in_ok-link.ensures.on_way in
+    let low = c.inside.ensures.value in
+    let next = c.down_1-2.follows in
+    let ends : (n : _) → _ = λ n. if_at _ c.down_1.result _ c.in_ok-link.was (c.down_1.follows.holds (record c.in_ok-link.link.now { value = n })) in (
       (
         refl,
-        λ w. on_some c.down_1-3.result
-            (λ inner. (
-              graft_cut m _ p q split _ low.0 _ w.value.0 below (ends (lends.lender w)).0 inner.0,
-              λ was new. (ends (lends.lender w)).1 was (graft_pruned low (lends.lender w) w.value q (pruned was).0 inner.0 inner.1 new),
-            ))
-            (lends.holds w),
-        (
-          graft_same m p _ low.0 _ below (ends lends.lender-at-none).0 lends.holds-at-none.0,
-          λ was. (ends lends.lender-at-none).1 was (same_pruned_node low lends.lender-at-none (pruned was) lends.holds-at-none),
-        ),
+        λ w. if_both c.down_1-2.result c.down_1-2.ensures.on_way (next.holds w) (λ l way inner like. graft_again _ _ _ _ (next.lender w) _ _ _ on low (ends (next.lender w)) way (inner like)),
+        graft_same _ _ _ _ next.lender-at-none _ on low (ends next.lender-at-none) next.holds-at-none,
       ),
       record {
         writes_back = tt;
-        value = subst (λ z. IsBelow m z (map_below (option_copied_mut c.down_1-3.result))) (sym split) (below_again m p q low.0 _ below c.down_1-3.ensures.value);
-        pruned = λ was. c.down_1-3.ensures.pruned (pruned was).0;
-        cost = omega (arith, c.down_1-2.ensures.cost, c.down_1-3.ensures.cost, c.if-levels-le1.false);
+        on_way = if_some c.down_1-2.result (λ l way. way_again _ _ _ _ _ on low way) c.down_1-2.ensures.on_way;
+        far = if_some c.down_1-2.result (λ l far. far_again _ _ _ on _ low 1 2 refl c.in_ok-link.ensures.far _ far) c.down_1-2.ensures.far;
+        none = if_none c.down_1-2.result (none_again _ _ _ on _ low) c.down_1-2.ensures.none;
+        cost = if_some c.down_1-2.result (λ l more. cost_again _ _ _ on _ low _ _ c.in_ok-link.ensures.cost _ _ more) c.down_1-2.ensures.cost;
+        cost_of_none = if_none c.down_1-2.result (cost_ended _ _ _ on _ low _ _ c.in_ok-link.ensures.cost _) c.down_1-2.ensures.cost_of_none;
       },
     )

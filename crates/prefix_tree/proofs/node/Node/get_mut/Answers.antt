@@ -1,62 +1,57 @@
-use Rattle.std.proofs.Common.{[], inl, refl, sym, subst, ap, ◌∙◌, arith}
-use Rattle.std.proofs.lemmas.List.{append-nil}
+use Rattle.std.proofs.Common.{◌≡◌, refl, sym, length, ap, ◌∙◌, arith}
+use Rattle.std.proofs.lemmas.Bool.Decides.{nat_tests}
 use Rattle.std.specs.FinMap as map
-use Rattle.std.specs.FinMap.{get-empty}
-use Rattle.identity.specs.Path.{path_cmp}
-use Rattle.identity.specs.Number.{num}
-use Rattle.prefix_tree.specs.Joined.{IsBelow}
-use Rattle.prefix_tree.proofs.NodeLaws.{num_none}
-use Rattle.prefix_tree.proofs.LendLaws.{or_so, at_some, on_some, graft_insert, graft_same, read_below, lent_node, set_pruned_node, same_pruned_node}
+use Rattle.prefix_tree.specs.Visits.{visits_beyond}
+use Rattle.prefix_tree.specs.Joined.{NodeSeen}
+use Rattle.prefix_tree.proofs.NodeLaws.{at_is, whole_key, longer_key}
+use Rattle.prefix_tree.proofs.VisitLaws.{visits_done}
+use Rattle.prefix_tree.proofs.LendLaws.{if_at, on_some, at_end, graft_insert, graft_like, graft_same}
 use Rattle.prefix_tree.proofs.node.Node.get_mut.Goals as goal
 
-pub returns-then-len-eq0 : goal.returns-then-len-eq0
-returns-then-len-eq0 g c =
-    let m = c.args.self.now.0 in
-    let none = num_none c.args.len c.args.bits c.if-len-eq0.true in (
-      (refl, λ w. (on_some c.own_mut.result (λ e. e ∙ ap (λ p. map.insert m p w) (sym none)) (c.own_mut.follows.holds w).0, or_so (c.own_mut.follows.holds w).1 (λ e. e) (λ e. e ∙ ap (λ p. map.insert m p w) (sym none)), (c.own_mut.follows.holds w).2), c.own_mut.follows.holds-at-none),
-      record { writes_back = tt; value = c.own_mut.ensures.value ∙ ap (map.get m) (sym none); cost = omega (arith, c.own_mut.ensures.cost) },
-    )
-
-pub returns-in_err-down_64 : goal.returns-in_err-down_64
-returns-in_err-down_64 g c =
-    let m = c.args.self.now.0 in
-    let p = num c.args.len c.args.bits in
-    rw (c.from_residual.ensures) (
-      (refl, λ w. (tt, inl refl, λ was. was), c.down_64.follows.holds-at-none),
-      record {
-        writes_back = tt;
-        value = sym (ap (map.get m) (sym (append-nil p)) ∙ sym (read_below m p map.empty [] c.in_err-down_64.ensures.value) ∙ get-empty path_cmp []);
-        cost = omega (arith, c.down_64.ensures.cost);
-      },
-    )
-
-pub returns : goal.returns
-returns g c =
-    let m = c.args.self.now.0 in
-    let p = num c.args.len c.args.bits in
-    let low = c.inside.result.now in
-    let link = c.in_ok-down_64.field-0.now in
-    let below : IsBelow m p low.0 = subst (λ z. IsBelow m p z.0) (sym c.inside.ensures.value) c.in_ok-down_64.ensures.value in
-    let pruned = lent_node link low c.inside.ensures.value c.in_ok-down_64.ensures.pruned in
-    let ends : (n : _) → _ = λ n. at_some c.down_64.result _ c.in_ok-down_64.was (c.down_64.follows.holds (record link { value = n })) in
-    let lends = c.own_mut-2.follows in (
+pub returns-then-len : goal.returns-then-len
+returns-then-len g c =
+    let whole = whole_key c.self.inside _ c.self.view_is c.args.key.now c.requires.within (sym c.len.ensures.value ∙ c.if-len.true ∙ c.len-2.ensures.value) in
+    let done : visits_beyond c.args.self.now.table c.args.self.now.at c.args.key.now ≡ 0 = visits_done c.args.self.now _ (let e = ap length whole in omega (arith, e)) in (
       (
         refl,
-        λ w. (
-          on_some c.own_mut-2.result (λ inner. graft_insert m p [] _ low.0 _ w below (ends (lends.lender w)).0 inner ∙ ap (λ z. map.insert m z w) (append-nil p)) (lends.holds w).0,
-          or_so (lends.holds w).1
-              (λ same. graft_same m p _ low.0 _ below (ends (lends.lender w)).0 same)
-              (λ inner. graft_insert m p [] _ low.0 _ w below (ends (lends.lender w)).0 inner ∙ ap (λ z. map.insert m z w) (append-nil p)),
-          λ was. (ends (lends.lender w)).1 was (set_pruned_node low (lends.lender w) [] w (pruned was) (lends.holds w).1 (lends.holds w).2),
-        ),
-        (
-          graft_same m p _ low.0 _ below (ends lends.lender-at-none).0 lends.holds-at-none.0,
-          λ was. (ends lends.lender-at-none).1 was (same_pruned_node low lends.lender-at-none (pruned was) lends.holds-at-none),
-        ),
+        λ w. (on_some c.own_mut.result (λ e. e ∙ ap (λ p. map.insert c.args.self.now.table p w) (sym whole)) (c.own_mut.follows.holds w).0, (c.own_mut.follows.holds w).1),
+        c.own_mut.follows.holds-at-none,
       ),
       record {
         writes_back = tt;
-        value = c.own_mut-2.ensures.value ∙ read_below m p low.0 [] below ∙ ap (map.get m) (append-nil p);
-        cost = omega (arith, c.down_64.ensures.cost, c.own_mut-2.ensures.cost);
+        value = c.own_mut.ensures.value ∙ ap (map.get c.args.self.now.table) (sym whole);
+        cost = omega (arith, done, c.tick.ensures);
+      },
+    )
+
+pub down_64-requires-clause-longer : goal.down_64-requires-clause-longer
+down_64-requires-clause-longer g c =
+    let longer = longer_key c.self.inside _ c.self.view_is c.args.key.now c.requires.within (λ same. grind (arith, nat_tests, c.if-len.false, c.len.ensures.value ∙ same ∙ sym c.len-2.ensures.value)) in
+    let same : length c.self.inside.at ≡ length c.args.self.now.at = ap length (at_is c.self.inside _ c.self.view_is) in
+    omega (arith, longer, same)
+
+pub returns : goal.returns
+returns g c =
+    let key = c.args.key.now in
+    let link = c.in_ok-down_64.field-0.now in
+    let on = c.in_ok-down_64.ensures.on_way in
+    let low = c.inside.ensures.value in
+    let end = at_end _ _ _ on 64 (omega (arith, c.len-2.ensures.value, c.len-2.ensures.at_most_48)) c.in_ok-down_64.ensures.far in
+    let at = ap (λ (x : NodeSeen _). x.at) low ∙ end in
+    let done : visits_beyond link.value.table link.value.at key ≡ 0 = visits_done link.value _ (let e = ap length end in omega (arith, e)) in
+    let next = c.own_mut-2.follows in
+    let ends : (n : _) → _ = λ n. if_at _ c.down_64.result _ c.in_ok-down_64.was (c.down_64.follows.holds (record link { value = n })) in (
+      (
+        refl,
+        λ w. (
+          on_some c.own_mut-2.result (λ e. graft_insert _ _ _ _ (next.lender w) _ on low (ends (next.lender w)) key w at (next.holds w).1 (e ∙ ap (λ p. map.insert c.inside.result.now.table p w) at)) (next.holds w).0,
+          graft_like _ _ _ _ (next.lender w) _ on low (ends (next.lender w)) (next.holds w).1,
+        ),
+        graft_same _ _ _ _ next.lender-at-none _ on low (ends next.lender-at-none) next.holds-at-none,
+      ),
+      record {
+        writes_back = tt;
+        value = c.own_mut-2.ensures.value ∙ (λ i. map.get (low i).table (at i)) ∙ sym (on.same key on.leads);
+        cost = omega (arith, done, c.tick.ensures, c.in_ok-down_64.ensures.cost);
       },
     )

@@ -1,5 +1,5 @@
-use Rattle.prefix_tree.proofs.WalkLaws.{shorter_empty}
+use Rattle.std.proofs.Common.{refl}
 use Rattle.prefix_tree.proofs.tree.PrefixTree.new_in.Goals as goal
 
-pub invariant_of-result : goal.invariant_of-result
-invariant_of-result g c = (shorter_empty _ _ c.empty.ensures.map, c.empty.ensures.pruned)
+pub returns : goal.returns
+returns g c = c.leaf.ensures.bare refl

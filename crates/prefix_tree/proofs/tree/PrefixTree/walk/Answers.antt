@@ -1,11 +1,8 @@
 use Rattle.std.proofs.Common.{◌++◌, ap, ◌∙◌}
 use Rattle.std.specs.FinMap as map
-use Rattle.prefix_tree.specs.Walk.{seen, lengthened}
-use Rattle.prefix_tree.proofs.WalkLaws.{lengthened-none}
+use Rattle.prefix_tree.specs.Walk.{seen}
 use Rattle.prefix_tree.proofs.tree.PrefixTree.walk.Goals as goal
 
 pub returns : goal.returns
 returns g c =
-    c.in_ok-push_entries.ensures
-    ∙ (λ i. seen (c.new-list.ensures.items i) ++ lengthened (c.of.ensures i) (map.entries c.self.inside.root.0))
-    ∙ lengthened-none _ ∙ ap map.entries c.self.view_is
+    c.in_ok-push_entries.ensures ∙ ap (λ es. seen es ++ map.entries c.self.inside.root.table) c.new-list.ensures.items ∙ ap map.entries c.self.view_is

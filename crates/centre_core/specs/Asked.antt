@@ -1,0 +1,10 @@
+-- A command as a value. A is the allocator that the bits in it lie under: nothing depends on it.
+use Rattle.std.specs.Prelude.{ℕ}
+use Rattle.centre_core.specs.declared.command.Body.{Body}
+
+-- its station, its sequence among the commands of that station, its moment, and what is asked
+pub record Asked (A : Type 0) : Type 0 where
+  pub station : ℕ
+  pub sequence : ℕ
+  pub moment : ℕ
+  pub body : Body A

@@ -1,0 +1,236 @@
+-- Which lines are bad.
+use Rattle.std.proofs.Common.{◌≡◌, ◌⊎◌, inl, inr, ℕ, ◌<◌, ◌≤◌, Bool, true, false, ◌||◌, List, [], ◌∷◌, length, refl, sym, ◌∙◌, ap, subst, arith, Option, Some, None, Result, Ok, Err, nat_lt}
+use Rattle.std.specs.Prelude.{if◌then◌else◌, codes}
+use Rattle.std.specs.Result.{result_ok}
+use Rattle.std.specs.Str.{bytes_eq}
+use Rattle.std.proofs.lemmas.Bool.{true≢false, false≢true}
+use Rattle.identity.specs.IdentityText.{reading_identity, reading_prefix}
+use Rattle.identity.specs.BitsText.{reading_bits}
+use Rattle.identity.specs.Path.{Path}
+use Rattle.registration.specs.Terms.{Terms}
+use Rattle.centre_core.specs.declared.command.Command.{Command}
+use Rattle.centre_core.specs.declared.command.Body.{Body}
+use Rattle.centre_core.specs.declared.command.Body.TheVariants.{RuleClear, Sent, Expire, Delete}
+use Rattle.centre_core.specs.declared.query.Query.{Query}
+use Rattle.centre_core.specs.declared.query.Query.TheVariants.{Whereabouts, Look, GroupsOf, MembersOf, Waiting, Total}
+use Rattle.console.specs.declared.order.Head.{Head}
+use Rattle.console.specs.declared.line.LineFault.{LineFault}
+use Rattle.console.specs.declared.line.LineFault.TheVariants.{Syntax, Value, TooLong}
+use Rattle.console.specs.declared.line.Line.{Line}
+use Rattle.console.specs.declared.line.Line.TheVariants.{Silent, Bad, Order, Ask}
+use Rattle.console.specs.Reading.{words, of_words, is_silent, reading, head_in, area_in, rule_in, key_in, rule_body, mm_body, sds_body, body_in, order, saying, query_in, ask}
+use Rattle.console.specs.Spelling.{SpellsCommand, Askable, query_text, has_form, SpellsSome, IsJudged, BadLines}
+use Rattle.console.proofs.Spelled.{only_commands, only_queries}
+use Rattle.console.proofs.Taken.{all_commands, all_queries}
+
+-- what the words of a form give: a value, or that one of them is out of form or range
+abbrev IsFormed : {T : Type 0} → Result T LineFault → Type 0
+IsFormed (Ok x) = Unit {0}
+IsFormed (Err Value) = Unit {0}
+IsFormed (Err other) = ⊥
+
+formed_saying : {V S : Type 0} (says : V → S) (o : Option V) → IsFormed (saying says o)
+formed_saying says None = tt
+formed_saying says (Some v) = tt
+
+-- one of the names, or none of them
+formed_if : {T : Type 0} (b c : Bool) (x y : Result T LineFault) → IsFormed x → (c ≡ true → IsFormed y) → (b || c) ≡ true → IsFormed (if b then x else y)
+formed_if true c x y good rest e = good
+formed_if false c x y good rest e = rest e
+
+formless_if : {T : Type 0} (b c : Bool) (x y : Result T LineFault) → (c ≡ false → y ≡ Err Syntax) → (b || c) ≡ false → (if b then x else y) ≡ Err Syntax
+formless_if true c x y rest e = absurd (true≢false e)
+formless_if false c x y rest e = rest e
+
+last_formed : {T : Type 0} (b : Bool) (x : Result T LineFault) → IsFormed x → (b || false) ≡ true → IsFormed (if b then x else Err Syntax)
+last_formed b x good e = formed_if b false x (Err Syntax) good (λ f. absurd (false≢true f)) e
+
+last_formless : {T : Type 0} (b : Bool) (x : Result T LineFault) → (b || false) ≡ false → (if b then x else Err Syntax) ≡ Err Syntax
+last_formless b x e = formless_if b false x (Err Syntax) (λ f. refl) e
+
+query_formed : (name identity : List ℕ) → has_form (name ∷ identity ∷ []) ≡ true → IsFormed (query_in name identity)
+query_formed name identity e =
+    let o = result_ok (reading_identity identity) in
+    formed_if (bytes_eq name (codes "where")) _ (saying Whereabouts o) _ (formed_saying Whereabouts o)
+    (formed_if (bytes_eq name (codes "look")) _ (saying Look o) _ (formed_saying Look o)
+    (formed_if (bytes_eq name (codes "groups")) _ (saying GroupsOf o) _ (formed_saying GroupsOf o)
+    (formed_if (bytes_eq name (codes "members")) _ (saying MembersOf o) _ (formed_saying MembersOf o)
+    (last_formed (bytes_eq name (codes "mail")) (saying Waiting o) (formed_saying Waiting o))))) e
+
+query_formless : (name identity : List ℕ) → has_form (name ∷ identity ∷ []) ≡ false → query_in name identity ≡ Err Syntax
+query_formless name identity e =
+    let o = result_ok (reading_identity identity) in
+    formless_if (bytes_eq name (codes "where")) _ (saying Whereabouts o) _
+    (formless_if (bytes_eq name (codes "look")) _ (saying Look o) _
+    (formless_if (bytes_eq name (codes "groups")) _ (saying GroupsOf o) _
+    (formless_if (bytes_eq name (codes "members")) _ (saying MembersOf o) _
+    (last_formless (bytes_eq name (codes "mail")) (saying Waiting o))))) e
+
+module _ (A : Type 0) where
+  formed_rule : (p : Option Path) (r : Option Terms) → IsFormed (rule_body {A = A} p r)
+  formed_rule None r = tt
+  formed_rule (Some p) None = tt
+  formed_rule (Some p) (Some r) = tt
+
+  formed_mm : (i a : Option ℕ) (p : Option (List Bool)) → IsFormed (mm_body {A = A} i a p)
+  formed_mm None a p = tt
+  formed_mm (Some i) None p = tt
+  formed_mm (Some i) (Some a) None = tt
+  formed_mm (Some i) (Some a) (Some p) = tt
+
+  formed_sds : (s d : Option ℕ) (p : Option (List Bool)) → IsFormed (sds_body {A = A} s d p)
+  formed_sds None d p = tt
+  formed_sds (Some s) None p = tt
+  formed_sds (Some s) (Some d) None = tt
+  formed_sds (Some s) (Some d) (Some p) = tt
+
+  body_formed : (s m name : List ℕ) (more : List (List ℕ)) → has_form (s ∷ m ∷ name ∷ more) ≡ true → IsFormed (body_in {A = A} name more)
+  body_formed s m name [] e = last_formed (bytes_eq name (codes "expire")) (Ok Expire) tt e
+  body_formed s m name (a ∷ []) e = last_formed (bytes_eq name (codes "unrule")) (saying RuleClear (result_ok (reading_prefix a))) (formed_saying RuleClear (result_ok (reading_prefix a))) e
+  body_formed s m name (a ∷ b ∷ []) e = absurd (false≢true e)
+  body_formed s m name (a ∷ b ∷ c ∷ []) e =
+      formed_if (bytes_eq name (codes "mm")) _ (mm_body (result_ok (reading_identity a)) (area_in b) (result_ok (reading_bits c))) _
+      (formed_mm (result_ok (reading_identity a)) (area_in b) (result_ok (reading_bits c)))
+      (last_formed (bytes_eq name (codes "sds")) (sds_body (result_ok (reading_identity a)) (result_ok (reading_identity b)) (result_ok (reading_bits c)))
+      (formed_sds (result_ok (reading_identity a)) (result_ok (reading_identity b)) (result_ok (reading_bits c)))) e
+  body_formed s m name (a ∷ b ∷ c ∷ d ∷ []) e =
+      formed_if (bytes_eq name (codes "sent")) _ (saying Sent (key_in a b c d)) _ (formed_saying Sent (key_in a b c d))
+      (last_formed (bytes_eq name (codes "delete")) (saying Delete (key_in a b c d)) (formed_saying Delete (key_in a b c d))) e
+  body_formed s m name (a ∷ b ∷ c ∷ d ∷ f ∷ []) e =
+      last_formed (bytes_eq name (codes "rule")) (rule_body (result_ok (reading_prefix a)) (rule_in b c d f)) (formed_rule (result_ok (reading_prefix a)) (rule_in b c d f)) e
+  body_formed s m name (a ∷ b ∷ c ∷ d ∷ f ∷ g ∷ more) e = absurd (false≢true e)
+
+  body_formless : (s m name : List ℕ) (more : List (List ℕ)) → has_form (s ∷ m ∷ name ∷ more) ≡ false → body_in {A = A} name more ≡ Err Syntax
+  body_formless s m name [] e = last_formless (bytes_eq name (codes "expire")) (Ok Expire) e
+  body_formless s m name (a ∷ []) e = last_formless (bytes_eq name (codes "unrule")) (saying RuleClear (result_ok (reading_prefix a))) e
+  body_formless s m name (a ∷ b ∷ []) e = refl
+  body_formless s m name (a ∷ b ∷ c ∷ []) e =
+      formless_if (bytes_eq name (codes "mm")) _ (mm_body (result_ok (reading_identity a)) (area_in b) (result_ok (reading_bits c))) _
+      (last_formless (bytes_eq name (codes "sds")) (sds_body (result_ok (reading_identity a)) (result_ok (reading_identity b)) (result_ok (reading_bits c)))) e
+  body_formless s m name (a ∷ b ∷ c ∷ d ∷ []) e =
+      formless_if (bytes_eq name (codes "sent")) _ (saying Sent (key_in a b c d)) _
+      (last_formless (bytes_eq name (codes "delete")) (saying Delete (key_in a b c d))) e
+  body_formless s m name (a ∷ b ∷ c ∷ d ∷ f ∷ []) e = last_formless (bytes_eq name (codes "rule")) (rule_body (result_ok (reading_prefix a)) (rule_in b c d f)) e
+  body_formless s m name (a ∷ b ∷ c ∷ d ∷ f ∷ g ∷ more) e = refl
+
+  abbrev kind_of : Line A → ℕ
+  kind_of Silent = 0
+  kind_of (Bad TooLong) = 1
+  kind_of (Bad Syntax) = 2
+  kind_of (Bad Value) = 3
+  kind_of (Order c) = 4
+  kind_of (Ask q) = 5
+
+  -- words of a form are a command, a query, or a bad value
+  abbrev IsValued : Line A → Type 0
+  IsValued l = 3 ≤ kind_of l
+
+  valued_ask : (r : Result Query LineFault) → IsFormed r → IsValued (ask r)
+  valued_ask (Ok q) good = omega arith
+  valued_ask (Err Value) good = omega arith
+  valued_ask (Err Syntax) good = absurd good
+  valued_ask (Err TooLong) good = absurd good
+
+  valued_order : (station : ℕ) (head : Option Head) (r : Result (Body A) LineFault) → IsFormed r → IsValued (order station head r)
+  valued_order station None (Ok b) good = omega arith
+  valued_order station (Some head) (Ok b) good = omega arith
+  valued_order station head (Err Value) good = omega arith
+  valued_order station head (Err Syntax) good = absurd good
+  valued_order station head (Err TooLong) good = absurd good
+
+  count_valued : (b : Bool) → (b || false) ≡ true → IsValued (if b then (let l : Line A = Ask Total in l) else Bad Syntax)
+  count_valued true e = omega arith
+  count_valued false e = absurd (false≢true e)
+
+  count_formless : (b : Bool) → (b || false) ≡ false → (if b then (let l : Line A = Ask Total in l) else Bad Syntax) ≡ Bad Syntax
+  count_formless true e = absurd (true≢false e)
+  count_formless false e = refl
+
+  valued : (station : ℕ) (ws : List (List ℕ)) → has_form ws ≡ true → IsValued (of_words station ws)
+  valued station [] e = absurd (false≢true e)
+  valued station (name ∷ []) e = count_valued (bytes_eq name (codes "count")) e
+  valued station (name ∷ identity ∷ []) e = valued_ask (query_in name identity) (query_formed name identity e)
+  valued station (s ∷ m ∷ name ∷ more) e = valued_order station (head_in s m) (body_in name more) (body_formed s m name more e)
+
+  formless : (station : ℕ) (ws : List (List ℕ)) → has_form ws ≡ false → of_words {A = A} station ws ≡ Bad Syntax
+  formless station [] e = refl
+  formless station (name ∷ []) e = count_formless (bytes_eq name (codes "count")) e
+  formless station (name ∷ identity ∷ []) e = ap (λ r. ask {A = A} r) (query_formless name identity e)
+  formless station (s ∷ m ∷ name ∷ more) e = ap (λ r. order station (head_in s m) r) (body_formless s m name more e)
+
+  -- ---- lines
+
+  is_long : (n : ℕ) → 1024 < n → nat_lt 1024 n ≡ true
+  is_long n long = grind (arith, long)
+
+  is_short : (n : ℕ) → n ≤ 1024 → nat_lt 1024 n ≡ false
+  is_short n short = grind (arith, short)
+
+  long_flag : (n : ℕ) → nat_lt 1024 n ≡ true → 1024 < n
+  long_flag n e = grind (arith, e)
+
+  short_flag : (n : ℕ) → nat_lt 1024 n ≡ false → n ≤ 1024
+  short_flag n e = grind (arith, e)
+
+  -- what is judged of a line
+  abbrev judging : Bool → Bool → Line A → Line A
+  judging long silent l = if long then Bad TooLong else (if silent then Silent else l)
+
+  same_kind : (a b : Line A) → a ≡ b → kind_of a ≡ kind_of b
+  same_kind a b e = ap (λ (l : Line A). kind_of l) e
+
+  long_only : (long silent form : Bool) (l : Line A) → (form ≡ true → IsValued l) → (form ≡ false → l ≡ Bad Syntax) → judging long silent l ≡ Bad TooLong → long ≡ true
+  long_only true silent form l some none e = refl
+  long_only false true form l some none e = absurd (omega (arith, same_kind Silent (Bad TooLong) e))
+  long_only false false true l some none e = absurd (omega (arith, some refl, same_kind l (Bad TooLong) e))
+  long_only false false false l some none e = absurd (omega (arith, same_kind l (Bad Syntax) (none refl), same_kind l (Bad TooLong) e))
+
+  syntax_only : (long silent form : Bool) (l : Line A) → (form ≡ true → IsValued l) → judging long silent l ≡ Bad Syntax → (long ≡ false) × (silent ≡ false) × (form ≡ false)
+  syntax_only true silent form l some e = absurd (omega (arith, same_kind (Bad TooLong) (Bad Syntax) e))
+  syntax_only false true form l some e = absurd (omega (arith, same_kind Silent (Bad Syntax) e))
+  syntax_only false false true l some e = absurd (omega (arith, some refl, same_kind l (Bad Syntax) e))
+  syntax_only false false false l some e = (refl, refl, refl)
+
+  value_only : (long silent form : Bool) (l : Line A) → (form ≡ false → l ≡ Bad Syntax) → judging long silent l ≡ Bad Value → (long ≡ false) × (silent ≡ false) × (form ≡ true)
+  value_only true silent form l none e = absurd (omega (arith, same_kind (Bad TooLong) (Bad Value) e))
+  value_only false true form l none e = absurd (omega (arith, same_kind Silent (Bad Value) e))
+  value_only false false true l none e = (refl, refl, refl)
+  value_only false false false l none e = absurd (omega (arith, same_kind l (Bad Syntax) (none refl), same_kind l (Bad Value) e))
+
+  judged_of : (long silent : Bool) (l : Line A) → long ≡ false → silent ≡ false → judging long silent l ≡ l
+  judged_of long silent l short speaks = rw (short, speaks) refl
+
+  value_left : (l : Line A) → IsValued l → ((c : Command A) → l ≡ Order c → ⊥) → ((q : Query) → l ≡ Ask q → ⊥) → l ≡ Bad Value
+  value_left Silent good no_order no_ask = absurd (omega (arith, good))
+  value_left (Bad TooLong) good no_order no_ask = absurd (omega (arith, good))
+  value_left (Bad Syntax) good no_order no_ask = absurd (omega (arith, good))
+  value_left (Bad Value) good no_order no_ask = refl
+  value_left (Order c) good no_order no_ask = absurd (no_order c refl)
+  value_left (Ask q) good no_order no_ask = absurd (no_ask q refl)
+
+  -- what spells a command or a query is no bad line
+  spelt_is_taken : (station : ℕ) (line : List ℕ) → length line ≤ 1024 → SpellsSome A station line → reading {A = A} station line ≡ Bad Value → ⊥
+  spelt_is_taken station line short spelt e = elim spelt [
+    | inl command ↦ (let c = command.0 in let taken = subst (λ (n : ℕ). reading {A = A} n line ≡ Order c) command.1 (all_commands line c command.2 command.3 short) in
+        omega (arith, same_kind (Order c) (Bad Value) (sym taken ∙ e)))
+    | inr query ↦ (let q = query.0 in let same = query.2 in
+        let taken = subst (λ (text : List ℕ). reading {A = A} station text ≡ Ask q) (sym same) (all_queries {A = A} station q query.1 (subst (λ (text : List ℕ). length text ≤ 1024) same short)) in
+        omega (arith, same_kind (Ask q) (Bad Value) (sym taken ∙ e)))
+  ]
+
+  pub bad_lines : BadLines A
+  bad_lines station line =
+      let long = nat_lt 1024 (length line) in let silent = is_silent line in let form = has_form (words line) in let l = of_words {A = A} station (words line) in
+      let some = valued station (words line) in let none = formless station (words line) in (
+        (λ e. long_flag (length line) (long_only long silent form l some none e), λ many. rw (is_long (length line) many) refl),
+        (
+          λ e. (let f = syntax_only long silent form l some e in ((short_flag (length line) f.0, f.1), f.2)),
+          λ f. judged_of long silent l (is_short (length line) f.0.0) f.0.1 ∙ none f.1,
+        ),
+        (
+          λ e. (let f = value_only long silent form l none e in let short = short_flag (length line) f.0 in ((short, f.1), f.2, λ spelt. spelt_is_taken station line short spelt e)),
+          λ f. (let all = judged_of long silent l (is_short (length line) f.0.0) f.0.1 in all ∙ value_left l (some f.1)
+              (λ c e. (let only = only_commands station line c (all ∙ e) in f.2 (inl (c, only.0, only.1, only.2))))
+              (λ q e. (let only = only_queries station line q (all ∙ e) in f.2 (inr (q, only.0, only.1))))),
+        ),
+      )

@@ -1,0 +1,462 @@
+//! The texts of answers. Each `put_` adds its text, or a front of it.
+ghost use Rattle.std.specs.Prelude.{◌≡◌, ◌≤◌, ◌<◌, ◌+◌, ◌++◌, OnOk, OnErr, length, vec_len, vec_capacity, codes, decimal};
+ghost use Rattle.std.specs.List.{flat_map};
+ghost use Rattle.identity.specs.NumberText.{Keeps};
+ghost use Rattle.identity.specs.IdentityText.{identity_text};
+ghost use Rattle.centre_core.specs.Ranges.{IsShort};
+ghost use Rattle.console.specs.Parts.{part_text, part_room, pdu_room};
+ghost use Rattle.console.specs.Answer.{text, pdu_text, reply_text, refusal_text, told_text, group_text, member_text, item_text, key_text, whereabouts_text, rule_text, presence_text, HasShortPdu, HasShortReject, IsOneLine, IsLine, answer_room};
+
+use crate::answer::Answer;
+use crate::text_part::{Part, pdu_part, put_parts};
+use crate::words::{
+    group_word, kind_word, line_word, mail_word, mm_word, registration_word, sds_word, service_word,
+};
+use centre_core::{Refusal, Reply, Told};
+use group_attach::Attachment;
+use identity::{Bits, Itsi, Prefix};
+use mailbox::{Item, Key};
+use registration::{Radio, Rule};
+use std::alloc::{AllocError, Allocator};
+
+pub(crate) fn put_answer<A: Allocator, B: Allocator>(
+    out: &mut Vec<u8, A>,
+    answer: &Answer<B>,
+) -> Result<(), AllocError>
+    ensures ok { OnOk result (out.new.items ≡ out.old.items ++ text answer.now) }
+    ensures err { OnErr result (Keeps out.old.items out.new.items) }
+    ensures full { OnErr result (vec_capacity out.old < vec_len out.old + length (text answer.now)) }
+    ensures capacity { vec_capacity out.old ≤ vec_capacity out.new }
+    ensures line { IsLine answer.now → OnErr result (vec_capacity out.old < vec_len out.old + answer_room) }
+{
+    match answer {
+        Answer::Quiet => Ok(()),
+        Answer::Bad(line, fault) => put_of_line(out, *line, " bad ", line_word(*fault)),
+        Answer::Replied(sequence, reply) => put_reply(out, *sequence, reply),
+        Answer::Unserved(sequence, word) => put_refused(out, *sequence, service_word(*word)),
+        Answer::Told(told) => put_told(out, told),
+        Answer::Untold(line, word) => put_of_line(out, *line, " no ", service_word(*word)),
+    }
+}
+
+/// `line N bad WORD` or `line N no WORD`
+#[tactic(auto, using(std::proofs::Common::append_assoc))]
+fn put_of_line<'a, A: Allocator>(
+    out: &mut Vec<u8, A>,
+    line: u64,
+    verdict: &'a str,
+    word: &'a str,
+) -> Result<(), AllocError>
+    requires verdict { length verdict.now ≤ 5 }
+    requires word { length word.now ≤ 32 }
+    ensures ok { OnOk result (out.new.items ≡ out.old.items ++ codes "line " ++ decimal line ++ verdict.now ++ word.now ++ codes "\n") }
+    ensures err { OnErr result (Keeps out.old.items out.new.items) }
+    ensures full { OnErr result (vec_capacity out.old < vec_len out.old + length (codes "line " ++ decimal line ++ verdict.now ++ word.now ++ codes "\n")) }
+    ensures capacity { vec_capacity out.old ≤ vec_capacity out.new }
+    ensures line { OnErr result (vec_capacity out.old < vec_len out.old + answer_room) }
+{
+    let line: [Part; 5] = [
+        Part::Text("line "),
+        Part::Number(line),
+        Part::Text(verdict),
+        Part::Text(word),
+        Part::Text("\n"),
+    ];
+    put_parts(out, &line)
+}
+
+#[tactic(auto, using(std::proofs::Common::append_assoc))]
+fn put_reply<A: Allocator, B: Allocator>(
+    out: &mut Vec<u8, A>,
+    sequence: u32,
+    reply: &Reply<B>,
+) -> Result<(), AllocError>
+    ensures ok { OnOk result (out.new.items ≡ out.old.items ++ decimal sequence ++ reply_text reply.now ++ codes "\n") }
+    ensures err { OnErr result (Keeps out.old.items out.new.items) }
+    ensures full { OnErr result (vec_capacity out.old < vec_len out.old + length (decimal sequence ++ reply_text reply.now ++ codes "\n")) }
+    ensures capacity { vec_capacity out.old ≤ vec_capacity out.new }
+    ensures line { HasShortPdu reply.now → OnErr result (vec_capacity out.old < vec_len out.old + answer_room) }
+{
+    match reply {
+        Reply::Accepted { number, pdu } => put_done(out, sequence, " ok ", *number, pdu),
+        Reply::Kept { number, pdu } => put_done(out, sequence, " kept ", *number, pdu),
+        Reply::Refused(refusal) => put_refusal(out, sequence, refusal),
+    }
+}
+
+/// `SEQ ok NUMBER PDU` or `SEQ kept NUMBER PDU`
+#[tactic(auto, using(std::proofs::Common::append_assoc))]
+fn put_done<'a, A: Allocator, B: Allocator>(
+    out: &mut Vec<u8, A>,
+    sequence: u32,
+    word: &'a str,
+    number: u64,
+    pdu: &'a Option<Bits<B>>,
+) -> Result<(), AllocError>
+    requires { length word.now ≤ 6 }
+    ensures ok { OnOk result (out.new.items ≡ out.old.items ++ decimal sequence ++ (word.now ++ decimal number ++ codes " " ++ pdu_text pdu.now) ++ codes "\n") }
+    ensures err { OnErr result (Keeps out.old.items out.new.items) }
+    ensures full { OnErr result (vec_capacity out.old < vec_len out.old + length (decimal sequence ++ (word.now ++ decimal number ++ codes " " ++ pdu_text pdu.now) ++ codes "\n")) }
+    ensures capacity { vec_capacity out.old ≤ vec_capacity out.new }
+    ensures line { IsShort pdu.now → OnErr result (vec_capacity out.old < vec_len out.old + answer_room) }
+{
+    put_parts(
+        out,
+        &[
+            Part::Number(u64::from(sequence)),
+            Part::Text(word),
+            Part::Number(number),
+            Part::Text(" "),
+            pdu_part(pdu),
+            Part::Text("\n"),
+        ],
+    )
+}
+
+/// `SEQ no WORD`
+#[tactic(auto, using(std::proofs::Common::append_assoc))]
+fn put_refused<A: Allocator>(
+    out: &mut Vec<u8, A>,
+    sequence: u32,
+    word: &str,
+) -> Result<(), AllocError>
+    requires { length word.now ≤ 32 }
+    ensures ok { OnOk result (out.new.items ≡ out.old.items ++ decimal sequence ++ (codes " no " ++ word.now) ++ codes "\n") }
+    ensures err { OnErr result (Keeps out.old.items out.new.items) }
+    ensures full { OnErr result (vec_capacity out.old < vec_len out.old + length (decimal sequence ++ (codes " no " ++ word.now) ++ codes "\n")) }
+    ensures capacity { vec_capacity out.old ≤ vec_capacity out.new }
+    ensures line { OnErr result (vec_capacity out.old < vec_len out.old + answer_room) }
+{
+    let line: [Part; 4] = [
+        Part::Number(u64::from(sequence)),
+        Part::Text(" no "),
+        Part::Text(word),
+        Part::Text("\n"),
+    ];
+    put_parts(out, &line)
+}
+
+#[tactic(auto, using(std::proofs::Common::append_assoc))]
+fn put_refusal<A: Allocator, B: Allocator>(
+    out: &mut Vec<u8, A>,
+    sequence: u32,
+    refusal: &Refusal<B>,
+) -> Result<(), AllocError>
+    ensures ok { OnOk result (out.new.items ≡ out.old.items ++ decimal sequence ++ (codes " no " ++ refusal_text refusal.now) ++ codes "\n") }
+    ensures err { OnErr result (Keeps out.old.items out.new.items) }
+    ensures full { OnErr result (vec_capacity out.old < vec_len out.old + length (decimal sequence ++ (codes " no " ++ refusal_text refusal.now) ++ codes "\n")) }
+    ensures capacity { vec_capacity out.old ≤ vec_capacity out.new }
+    ensures line { HasShortReject refusal.now → OnErr result (vec_capacity out.old < vec_len out.old + answer_room) }
+{
+    match refusal {
+        Refusal::UnknownStation => put_refused(out, sequence, "unknown-station"),
+        Refusal::OldSequence { last } => put_refused_at(out, sequence, "old-sequence ", *last),
+        Refusal::NumbersUsedUp => put_refused(out, sequence, "numbers-used-up"),
+        Refusal::Pdu(fault) => put_refused(out, sequence, mm_word(*fault)),
+        Refusal::Registration(fault) => put_refused(out, sequence, registration_word(*fault)),
+        Refusal::ShortData(fault) => put_refused(out, sequence, sds_word(*fault)),
+        Refusal::Mail(fault) => put_refused(out, sequence, mail_word(*fault)),
+        Refusal::Groups(fault) => put_refused(out, sequence, group_word(*fault)),
+        Refusal::Location { fault, reject } => put_parts(
+            out,
+            &[
+                Part::Number(u64::from(sequence)),
+                Part::Text(" no "),
+                Part::Text(registration_word(*fault)),
+                Part::Text(" "),
+                Part::Pdu(reject),
+                Part::Text("\n"),
+            ],
+        ),
+    }
+}
+
+/// `SEQ no WORD LAST`
+#[tactic(auto, using(std::proofs::Common::append_assoc))]
+fn put_refused_at<A: Allocator>(
+    out: &mut Vec<u8, A>,
+    sequence: u32,
+    word: &str,
+    last: u32,
+) -> Result<(), AllocError>
+    requires { length word.now ≤ 32 }
+    ensures ok { OnOk result (out.new.items ≡ out.old.items ++ decimal sequence ++ (codes " no " ++ (word.now ++ decimal last)) ++ codes "\n") }
+    ensures err { OnErr result (Keeps out.old.items out.new.items) }
+    ensures full { OnErr result (vec_capacity out.old < vec_len out.old + length (decimal sequence ++ (codes " no " ++ (word.now ++ decimal last)) ++ codes "\n")) }
+    ensures capacity { vec_capacity out.old ≤ vec_capacity out.new }
+    ensures line { OnErr result (vec_capacity out.old < vec_len out.old + answer_room) }
+{
+    let line: [Part; 5] = [
+        Part::Number(u64::from(sequence)),
+        Part::Text(" no "),
+        Part::Text(word),
+        Part::Number(u64::from(last)),
+        Part::Text("\n"),
+    ];
+    put_parts(out, &line)
+}
+
+#[tactic(auto, using(identity::proofs::Printed::printed))]
+fn put_told<A: Allocator, B: Allocator>(
+    out: &mut Vec<u8, A>,
+    told: &Told<B>,
+) -> Result<(), AllocError>
+    ensures ok { OnOk result (out.new.items ≡ out.old.items ++ told_text told.now) }
+    ensures err { OnErr result (Keeps out.old.items out.new.items) }
+    ensures full { OnErr result (vec_capacity out.old < vec_len out.old + length (told_text told.now)) }
+    ensures capacity { vec_capacity out.old ≤ vec_capacity out.new }
+    ensures line { IsOneLine told.now → OnErr result (vec_capacity out.old < vec_len out.old + answer_room) }
+{
+    match told {
+        Told::Whereabouts { itsi, radio } => put_whereabouts(out, *itsi, radio),
+        Told::Look { itsi, rule } => put_look(out, *itsi, rule),
+        Told::Groups { itsi, groups } => {
+            let groups = groups.as_slice();
+            let whose: [Part; 2] = [Part::Text("groups "), Part::Radio(*itsi)];
+            put_parts(out, &whose)?;
+            put_count(out, groups.len())?;
+            put_groups(out, groups)
+        }
+        Told::Members { gtsi, members } => {
+            let members = members.as_slice();
+            let whose: [Part; 2] = [Part::Text("members "), Part::Group(*gtsi)];
+            put_parts(out, &whose)?;
+            put_count(out, members.len())?;
+            put_members(out, members)
+        }
+        Told::Waiting { itsi, items } => {
+            let items = items.as_slice();
+            let whose: [Part; 2] = [Part::Text("mail "), Part::Radio(*itsi)];
+            put_parts(out, &whose)?;
+            put_count(out, items.len())?;
+            put_items(out, items)
+        }
+        Told::Total(count) => put_total(out, *count),
+    }
+}
+
+#[tactic(auto, using(std::proofs::Common::append_assoc))]
+fn put_whereabouts<A: Allocator>(
+    out: &mut Vec<u8, A>,
+    itsi: Itsi,
+    radio: &Option<Radio>,
+) -> Result<(), AllocError>
+    ensures ok { OnOk result (out.new.items ≡ out.old.items ++ codes "where " ++ identity_text itsi ++ codes " " ++ whereabouts_text radio.now ++ codes "\n") }
+    ensures err { OnErr result (Keeps out.old.items out.new.items) }
+    ensures full { OnErr result (vec_capacity out.old < vec_len out.old + length (codes "where " ++ identity_text itsi ++ codes " " ++ whereabouts_text radio.now ++ codes "\n")) }
+    ensures capacity { vec_capacity out.old ≤ vec_capacity out.new }
+    ensures line { OnErr result (vec_capacity out.old < vec_len out.old + answer_room) }
+{
+    let Some(radio) = radio else {
+        let line: [Part; 3] = [
+            Part::Text("where "),
+            Part::Radio(itsi),
+            Part::Text(" unknown\n"),
+        ];
+        return put_parts(out, &line);
+    };
+    let line: [Part; 8] = [
+        Part::Text("where "),
+        Part::Radio(itsi),
+        Part::Text(" station "),
+        Part::Number(u64::from(radio.station)),
+        Part::Text(" la "),
+        Part::Number(u64::from(radio.area.number())),
+        Part::Text(presence_word(radio.present)),
+        Part::Text("\n"),
+    ];
+    put_parts(out, &line)
+}
+
+#[tactic(auto, using(std::proofs::Common::append_assoc))]
+fn put_look<A: Allocator>(
+    out: &mut Vec<u8, A>,
+    itsi: Itsi,
+    rule: &Option<(Prefix, Rule)>,
+) -> Result<(), AllocError>
+    ensures ok { OnOk result (out.new.items ≡ out.old.items ++ codes "look " ++ identity_text itsi ++ codes " " ++ rule_text rule.now ++ codes "\n") }
+    ensures err { OnErr result (Keeps out.old.items out.new.items) }
+    ensures full { OnErr result (vec_capacity out.old < vec_len out.old + length (codes "look " ++ identity_text itsi ++ codes " " ++ rule_text rule.now ++ codes "\n")) }
+    ensures capacity { vec_capacity out.old ≤ vec_capacity out.new }
+    ensures line { OnErr result (vec_capacity out.old < vec_len out.old + answer_room) }
+{
+    let Some((prefix, rule)) = rule else {
+        let line: [Part; 3] = [
+            Part::Text("look "),
+            Part::Radio(itsi),
+            Part::Text(" none\n"),
+        ];
+        return put_parts(out, &line);
+    };
+    let line: [Part; 13] = [
+        Part::Text("look "),
+        Part::Radio(itsi),
+        Part::Text(" "),
+        Part::Prefix(*prefix),
+        Part::Text(" "),
+        Part::Number(u64::from(rule.low().number())),
+        Part::Text(" "),
+        Part::Number(u64::from(rule.high().number())),
+        Part::Text(" "),
+        Part::Number(u64::from(rule.lifetime().number())),
+        Part::Text(" "),
+        Part::Number(u64::from(rule.keep())),
+        Part::Text("\n"),
+    ];
+    put_parts(out, &line)
+}
+
+#[tactic(auto, using(std::proofs::Common::append_assoc))]
+fn put_total<A: Allocator>(out: &mut Vec<u8, A>, count: u64) -> Result<(), AllocError>
+    ensures ok { OnOk result (out.new.items ≡ out.old.items ++ codes "count " ++ decimal count ++ codes "\n") }
+    ensures err { OnErr result (Keeps out.old.items out.new.items) }
+    ensures full { OnErr result (vec_capacity out.old < vec_len out.old + length (codes "count " ++ decimal count ++ codes "\n")) }
+    ensures capacity { vec_capacity out.old ≤ vec_capacity out.new }
+    ensures line { OnErr result (vec_capacity out.old < vec_len out.old + answer_room) }
+{
+    let line: [Part; 3] = [Part::Text("count "), Part::Number(count), Part::Text("\n")];
+    put_parts(out, &line)
+}
+
+/// How many lines of a list follow.
+#[tactic(auto, using(std::proofs::Common::append_assoc))]
+fn put_count<A: Allocator>(out: &mut Vec<u8, A>, count: usize) -> Result<(), AllocError>
+    ensures ok { OnOk result (out.new.items ≡ out.old.items ++ (codes " " ++ decimal count ++ codes "\n")) }
+    ensures err { OnErr result (Keeps out.old.items out.new.items) }
+    ensures full { OnErr result (vec_capacity out.old < vec_len out.old + length (codes " " ++ decimal count ++ codes "\n")) }
+    ensures capacity { vec_capacity out.old ≤ vec_capacity out.new }
+{
+    let end: [Part; 3] = [
+        Part::Text(" "),
+        Part::Number(count as u64),
+        Part::Text("\n"),
+    ];
+    put_parts(out, &end)
+}
+
+fn put_groups<A: Allocator>(out: &mut Vec<u8, A>, groups: &[Attachment]) -> Result<(), AllocError>
+    ensures ok { OnOk result (out.new.items ≡ out.old.items ++ flat_map group_text groups.now) }
+    ensures err { OnErr result (Keeps out.old.items out.new.items) }
+    ensures full { OnErr result (vec_capacity out.old < vec_len out.old + length (flat_map group_text groups.now)) }
+    ensures capacity { vec_capacity out.old ≤ vec_capacity out.new }
+{
+    for group in groups {
+        put_group(out, group)?;
+    }
+    Ok(())
+}
+
+#[tactic(auto, using(std::proofs::Common::append_assoc))]
+fn put_group<A: Allocator>(out: &mut Vec<u8, A>, group: &Attachment) -> Result<(), AllocError>
+    ensures ok { OnOk result (out.new.items ≡ out.old.items ++ group_text group.now) }
+    ensures err { OnErr result (Keeps out.old.items out.new.items) }
+    ensures full { OnErr result (vec_capacity out.old < vec_len out.old + length (group_text group.now)) }
+    ensures capacity { vec_capacity out.old ≤ vec_capacity out.new }
+{
+    let line: [Part; 7] = [
+        Part::Text("group "),
+        Part::Group(group.gtsi),
+        Part::Text(" "),
+        Part::Number(u64::from(group.class.number())),
+        Part::Text(" "),
+        Part::Number(u64::from(group.lifetime.number())),
+        Part::Text("\n"),
+    ];
+    put_parts(out, &line)
+}
+
+fn put_members<A: Allocator>(out: &mut Vec<u8, A>, members: &[Attachment]) -> Result<(), AllocError>
+    ensures ok { OnOk result (out.new.items ≡ out.old.items ++ flat_map member_text members.now) }
+    ensures err { OnErr result (Keeps out.old.items out.new.items) }
+    ensures full { OnErr result (vec_capacity out.old < vec_len out.old + length (flat_map member_text members.now)) }
+    ensures capacity { vec_capacity out.old ≤ vec_capacity out.new }
+{
+    for member in members {
+        put_member(out, member)?;
+    }
+    Ok(())
+}
+
+#[tactic(auto, using(std::proofs::Common::append_assoc))]
+fn put_member<A: Allocator>(out: &mut Vec<u8, A>, member: &Attachment) -> Result<(), AllocError>
+    ensures ok { OnOk result (out.new.items ≡ out.old.items ++ member_text member.now) }
+    ensures err { OnErr result (Keeps out.old.items out.new.items) }
+    ensures full { OnErr result (vec_capacity out.old < vec_len out.old + length (member_text member.now)) }
+    ensures capacity { vec_capacity out.old ≤ vec_capacity out.new }
+{
+    let line: [Part; 5] = [
+        Part::Text("member "),
+        Part::Radio(member.itsi),
+        Part::Text(" "),
+        Part::Number(u64::from(member.class.number())),
+        Part::Text("\n"),
+    ];
+    put_parts(out, &line)
+}
+
+fn put_items<A: Allocator, B: Allocator>(
+    out: &mut Vec<u8, A>,
+    items: &[Item<B>],
+) -> Result<(), AllocError>
+    ensures ok { OnOk result (out.new.items ≡ out.old.items ++ flat_map item_text items.now) }
+    ensures err { OnErr result (Keeps out.old.items out.new.items) }
+    ensures full { OnErr result (vec_capacity out.old < vec_len out.old + length (flat_map item_text items.now)) }
+    ensures capacity { vec_capacity out.old ≤ vec_capacity out.new }
+{
+    for item in items {
+        put_item(out, item)?;
+    }
+    Ok(())
+}
+
+#[tactic(auto, using(identity::proofs::Printed::printed))]
+fn put_item<A: Allocator, B: Allocator>(
+    out: &mut Vec<u8, A>,
+    item: &Item<B>,
+) -> Result<(), AllocError>
+    ensures ok { OnOk result (out.new.items ≡ out.old.items ++ item_text item.now) }
+    ensures err { OnErr result (Keeps out.old.items out.new.items) }
+    ensures full { OnErr result (vec_capacity out.old < vec_len out.old + length (item_text item.now)) }
+    ensures capacity { vec_capacity out.old ≤ vec_capacity out.new }
+{
+    let number: [Part; 3] = [
+        Part::Text("item "),
+        Part::Number(item.number()),
+        Part::Text(" "),
+    ];
+    put_parts(out, &number)?;
+    put_key(out, item.key())?;
+    put_parts(
+        out,
+        &[
+            Part::Text(" "),
+            Part::Number(item.deadline()),
+            Part::Text(" "),
+            Part::Pdu(item.pdu()),
+            Part::Text("\n"),
+        ],
+    )
+}
+
+#[tactic(auto, using(std::proofs::Common::append_assoc))]
+fn put_key<A: Allocator>(out: &mut Vec<u8, A>, key: Key) -> Result<(), AllocError>
+    ensures ok { OnOk result (out.new.items ≡ out.old.items ++ key_text key) }
+    ensures err { OnErr result (Keeps out.old.items out.new.items) }
+    ensures full { OnErr result (vec_capacity out.old < vec_len out.old + length (key_text key)) }
+    ensures capacity { vec_capacity out.old ≤ vec_capacity out.new }
+{
+    let words: [Part; 5] = [
+        Part::Text(kind_word(key.kind)),
+        Part::Text(" "),
+        Part::Radio(key.source),
+        Part::Text(" "),
+        Part::Number(u64::from(key.reference)),
+    ];
+    put_parts(out, &words)
+}
+
+fn presence_word(present: bool) -> &'static str
+    ensures { result.now ≡ presence_text present }
+{
+    if present { " present" } else { " absent" }
+}

@@ -1,0 +1,84 @@
+//! The parts of an answer's text.
+ghost use Rattle.std.specs.Prelude.{◌≡◌, ◌≤◌, ◌<◌, ◌+◌, ◌++◌, OnOk, OnErr, length, vec_len, vec_capacity};
+ghost use Rattle.identity.specs.NumberText.{Keeps};
+ghost use Rattle.console.specs.Answer.{pdu_text};
+ghost use Rattle.centre_core.specs.Ranges.{IsShort};
+ghost use Rattle.console.specs.Parts.{part_text, parts_text, part_room, parts_room, pdu_room};
+
+use identity::{
+    Bits, Gtsi, Itsi, Prefix, print_bits, print_gtsi, print_itsi, print_number, print_prefix,
+};
+use std::alloc::{AllocError, Allocator, Global};
+
+/// A part of an answer's text.
+#[derive(Drop)]
+pub(crate) enum Part<'a, B: Allocator = Global> {
+    Text(&'a str),
+    Number(u64),
+    Radio(Itsi),
+    Group(Gtsi),
+    Prefix(Prefix),
+    Pdu(&'a Bits<B>),
+}
+
+/// The PDU for the radio, or `-` where there is none.
+pub(crate) fn pdu_part<B: Allocator>(pdu: &Option<Bits<B>>) -> Part<'_, B>
+    ensures text { part_text result ≡ pdu_text pdu.now }
+    ensures room { IsShort pdu.now → part_room result ≤ pdu_room }
+{
+    match pdu {
+        None => Part::Text("-"),
+        Some(bits) => Part::Pdu(bits),
+    }
+}
+
+#[tactic(auto, using(identity::proofs::Lengths::text_fits))]
+fn put_part<A: Allocator, B: Allocator>(
+    out: &mut Vec<u8, A>,
+    part: &Part<'_, B>,
+) -> Result<(), AllocError>
+    ensures ok { OnOk result (out.new.items ≡ out.old.items ++ part_text part.now) }
+    ensures err { OnErr result (out.new.items ≡ out.old.items) }
+    ensures full { OnErr result (vec_capacity out.old < vec_len out.old + length (part_text part.now)) }
+    ensures capacity { vec_capacity out.old ≤ vec_capacity out.new }
+    ensures fits { length (part_text part.now) ≤ part_room part.now }
+{
+    // What is read of an identity, a prefix or bits tells how long its text may be.
+    match part {
+        Part::Text(text) => out.extend_from_slice(text.as_bytes()),
+        Part::Number(number) => print_number(out, *number),
+        Part::Radio(itsi) => {
+            let _number = itsi.number();
+            print_itsi(out, *itsi)
+        }
+        Part::Group(gtsi) => {
+            let _number = gtsi.number();
+            print_gtsi(out, *gtsi)
+        }
+        Part::Prefix(prefix) => {
+            let _len = prefix.len();
+            print_prefix(out, *prefix)
+        }
+        Part::Pdu(bits) => {
+            let _len = bits.len();
+            print_bits(out, bits)
+        }
+    }
+}
+
+/// Adds the parts of a text, or some of them.
+pub(crate) fn put_parts<A: Allocator, B: Allocator>(
+    out: &mut Vec<u8, A>,
+    parts: &[Part<'_, B>],
+) -> Result<(), AllocError>
+    ensures ok { OnOk result (out.new.items ≡ out.old.items ++ parts_text parts.now) }
+    ensures err { OnErr result (Keeps out.old.items out.new.items) }
+    ensures full { OnErr result (vec_capacity out.old < vec_len out.old + length (parts_text parts.now)) }
+    ensures capacity { vec_capacity out.old ≤ vec_capacity out.new }
+    ensures line { OnErr result (vec_capacity out.old < vec_len out.old + parts_room parts.now) }
+{
+    for part in parts {
+        put_part(out, part)?;
+    }
+    Ok(())
+}

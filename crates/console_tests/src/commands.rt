@@ -1,0 +1,68 @@
+//! Commands by themselves: what can be one, and copies of one.
+
+use centre_core::{Body, Command};
+use console::{Line, parse_line};
+use identity::{BitWriter, Bits, Itsi};
+use linked_list_allocator::LocalHeap;
+use std::alloc::Global;
+use std::test::Fail;
+
+fn zeros(alloc: Global, len: u32) -> Result<Bits<Global>, Fail> {
+    let mut writer = BitWriter::new(alloc);
+    for _ in 0..len {
+        writer.put(0, 1)?;
+    }
+    Ok(writer.finish())
+}
+
+/// A message of so many zeros from a radio to itself.
+fn message(alloc: Global, bits: u32) -> Result<Body<Global>, Fail> {
+    let source = Itsi::new(234, 14, 2001).ok_or("a radio")?;
+    Ok(Body::Sds {
+        source,
+        destination: source,
+        pdu: zeros(alloc, bits)?,
+    })
+}
+
+fn is_made(alloc: Global, sequence: u32, bits: u32) -> Result<bool, Fail> {
+    Ok(Command::new(1, sequence, 0, message(alloc, bits)?).is_some())
+}
+
+#[test]
+fn a_command_has_a_sequence_and_a_pdu_in_range(rt: HostRuntime) -> Result<(), Fail> {
+    let alloc = rt.alloc();
+    assert!(rt; !is_made(alloc, 0, 8)? && is_made(alloc, 1, 8)? && is_made(alloc, u32::MAX, 8)?);
+    assert!(rt; is_made(alloc, 1, 2048)? && !is_made(alloc, 1, 2049)?);
+    Ok(())
+}
+
+fn order(alloc: Global, line: &str) -> Result<Command<Global>, Fail> {
+    match parse_line(alloc, 4, line.as_bytes()) {
+        Ok(Line::Order(command)) => Ok(command),
+        _ => Err(Fail::from("no command")),
+    }
+}
+
+/// Whether the copy of this order in a heap has its head.
+fn is_copied_with_its_head(alloc: Global, heap: &LocalHeap, line: &str) -> Result<bool, Fail> {
+    let copy = order(alloc, line)?.try_copy(heap)?;
+    Ok((copy.station, copy.sequence, copy.moment) == (4, 7, 100))
+}
+
+/// Whether a message of so many bits can be copied into this heap.
+fn is_copied(alloc: Global, heap: &LocalHeap, bits: u32) -> Result<bool, Fail> {
+    let command = Command::new(1, 1, 0, message(alloc, bits)?).ok_or("a command")?;
+    Ok(command.try_copy(heap).is_ok())
+}
+
+#[test]
+fn a_command_is_copied(rt: HostRuntime) -> Result<(), Fail> {
+    let alloc = rt.alloc();
+    let heap = LocalHeap::new(alloc, 1 << 10)?;
+    let full = LocalHeap::new(alloc, 64)?;
+    assert!(rt; is_copied_with_its_head(alloc, &heap, "7 100 rule 234-14-0/24 1 99 1 3600")?);
+    assert!(rt; is_copied_with_its_head(alloc, &full, "7 100 expire")?);
+    assert!(rt; is_copied(alloc, &heap, 2048)? && !is_copied(alloc, &full, 2048)?);
+    Ok(())
+}

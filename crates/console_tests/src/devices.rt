@@ -1,0 +1,256 @@
+//! Runs over lines of any length, over readers that give a byte at a time or fail and writers that fail; and that a line is
+//! answered before the next one is read.
+
+use crate::limits::usual;
+use centre_core::Register;
+use console::{Ran, RunFault, run};
+use std::alloc::Global;
+use std::cell::Cell;
+use std::io;
+use std::io::{ErrorKind, Read, Write};
+use std::test::Fail;
+
+/// Whether a line of so many bytes, with this behind it, is answered so.
+fn is_answered(alloc: Global, length: usize, end: &str, answer: &str) -> Result<bool, Fail> {
+    let mut lines = Vec::new(alloc);
+    lines.resize(length, b'#')?;
+    lines.extend_from_slice(end.as_bytes())?;
+    let mut reader = lines.as_slice();
+    let mut desk = Register::new(alloc, usual()?)?;
+    let mut out = Vec::new(alloc);
+    let ran = run(alloc, &mut reader, &mut out, 1, 9, &mut desk);
+    Ok(ran.is_ok() && out.as_slice() == answer.as_bytes())
+}
+
+const LENGTHS: [(usize, &str, &str); 7] = [
+    (1024, "\n", ""),
+    (1024, "\r\n", ""),
+    (1024, "", ""),
+    (1024, "\r", "line 1 bad too-long\n"),
+    (1025, "\n", "line 1 bad too-long\n"),
+    (1025, "\r\n", "line 1 bad too-long\n"),
+    (70_000, "\ncount\n", "line 1 bad too-long\ncount 0\n"),
+];
+
+#[test]
+fn lines_have_at_most_1024_bytes(rt: HostRuntime) -> Result<(), Fail> {
+    for (length, end, answer) in LENGTHS {
+        assert!(rt; is_answered(rt.alloc(), length, end, answer)?, "{length}");
+    }
+    Ok(())
+}
+
+/// Gives one byte a call, and is interrupted at each other call where it is to be.
+#[derive(Drop)]
+struct Slow<'a> {
+    rest: &'a [u8],
+    interrupts: bool,
+    due: bool,
+}
+
+impl<'a> Read for Slow<'a> {
+    fn read(&mut self, buf: &mut [u8]) -> io::Result<usize> {
+        if self.interrupts {
+            self.due = !self.due;
+            if self.due {
+                return Err(io::Error::from(ErrorKind::Interrupted));
+            }
+        }
+        match (self.rest, buf) {
+            ([first, rest @ ..], [place, ..]) => {
+                *place = *first;
+                self.rest = rest;
+                Ok(1)
+            }
+            _ => Ok(0),
+        }
+    }
+}
+
+/// Takes so many bytes, and then fails.
+#[derive(Drop)]
+struct Full {
+    room: usize,
+    taken: usize,
+}
+
+impl Write for Full {
+    fn write(&mut self, buf: &[u8]) -> io::Result<usize> {
+        if self.taken >= self.room {
+            return Err(io::Error::from(ErrorKind::BrokenPipe));
+        }
+        let n = buf.len().min(self.room - self.taken);
+        self.taken += n;
+        Ok(n)
+    }
+
+    fn flush(&mut self) -> io::Result<()> {
+        Ok(())
+    }
+}
+
+/// How a run with so many turns over a slow reader ends, and how many bytes it writes.
+fn over_a_slow_reader(
+    alloc: Global,
+    turns: u32,
+    interrupts: bool,
+) -> Result<(Result<Ran, RunFault>, usize), Fail> {
+    let mut desk = Register::new(alloc, usual()?)?;
+    let mut reader = Slow {
+        rest: b"count\n",
+        interrupts,
+        due: false,
+    };
+    let mut out = Vec::new(alloc);
+    let ran = run(alloc, &mut reader, &mut out, 1, turns, &mut desk);
+    Ok((ran, out.len()))
+}
+
+const ONE_LINE: Result<Ran, RunFault> = Ok(Ran {
+    lines: 1,
+    troubled: false,
+});
+
+/// So many turns, whether each other call is interrupted, and how the run ends.
+const TURNS: [(u32, bool, Result<Ran, RunFault>); 5] = [
+    (3, false, Err(RunFault::Read)),
+    (6, false, Err(RunFault::Read)),
+    (7, false, ONE_LINE),
+    (13, true, Err(RunFault::Read)),
+    (14, true, ONE_LINE),
+];
+
+#[test]
+fn turns_bound_the_calls(rt: HostRuntime) -> Result<(), Fail> {
+    for (turns, interrupts, want) in TURNS {
+        let (ran, written) = over_a_slow_reader(rt.alloc(), turns, interrupts)?;
+        assert!(rt; ran == want && (written == 0) == (turns < 6), "{turns}");
+    }
+    Ok(())
+}
+
+/// Whether a run ends so whose writer has room for so many bytes, and takes them all.
+fn fails_when_full(alloc: Global, room: usize) -> Result<bool, Fail> {
+    let mut desk = Register::new(alloc, usual()?)?;
+    let mut reader = b"count\n".as_slice();
+    let mut out = Full { room, taken: 0 };
+    let ran = run(alloc, &mut reader, &mut out, 1, 9, &mut desk);
+    Ok(ran == Err(RunFault::Write) && out.taken == room)
+}
+
+#[test]
+fn a_writer_fails(rt: HostRuntime) -> Result<(), Fail> {
+    for room in 0..8usize {
+        assert!(rt; fails_when_full(rt.alloc(), room)?, "{room}");
+    }
+    Ok(())
+}
+
+/// Gives a line a call, once the one before it is answered.
+#[derive(Drop)]
+struct Asking<'a> {
+    calls: usize,
+    answered: &'a Cell<usize>,
+}
+
+impl<'a> Read for Asking<'a> {
+    fn read(&mut self, buf: &mut [u8]) -> io::Result<usize> {
+        if self.answered.get() < self.calls {
+            return Err(io::Error::from(ErrorKind::TimedOut));
+        }
+        if self.calls == 5 || buf.len() < 6 {
+            return Ok(0);
+        }
+        self.calls = self.calls.saturating_add(1);
+        buf[..6].copy_from_slice(b"count\n");
+        Ok(6)
+    }
+}
+
+/// Counts the lines that it was told to pass on.
+#[derive(Drop)]
+struct Counting<'a> {
+    lines: usize,
+    answered: &'a Cell<usize>,
+}
+
+impl<'a> Write for Counting<'a> {
+    fn write(&mut self, buf: &[u8]) -> io::Result<usize> {
+        for byte in buf {
+            if *byte == b'\n' {
+                self.lines = self.lines.saturating_add(1);
+            }
+        }
+        Ok(buf.len())
+    }
+
+    fn flush(&mut self) -> io::Result<()> {
+        self.answered.set(self.lines);
+        Ok(())
+    }
+}
+
+fn over_five_lines(alloc: Global) -> Result<Result<Ran, RunFault>, Fail> {
+    let mut desk = Register::new(alloc, usual()?)?;
+    let answered = Cell::new(0);
+    let mut reader = Asking {
+        calls: 0,
+        answered: &answered,
+    };
+    let mut writer = Counting {
+        lines: 0,
+        answered: &answered,
+    };
+    Ok(run(alloc, &mut reader, &mut writer, 1, 99, &mut desk))
+}
+
+#[test]
+fn a_line_is_answered_before_the_next(rt: HostRuntime) -> Result<(), Fail> {
+    let five = Ran {
+        lines: 5,
+        troubled: false,
+    };
+    assert!(rt; over_five_lines(rt.alloc())? == Ok(five));
+    Ok(())
+}
+
+/// Gives the rule, then half of the next line, and then fails.
+#[derive(Drop)]
+struct Broken<'a> {
+    parts: &'a [&'a str],
+}
+
+impl<'a> Read for Broken<'a> {
+    fn read(&mut self, buf: &mut [u8]) -> io::Result<usize> {
+        let [part, parts @ ..] = self.parts else {
+            return Err(io::Error::from(ErrorKind::ConnectionReset));
+        };
+        if buf.len() < part.len() {
+            return Ok(0);
+        }
+        self.parts = parts;
+        buf[..part.len()].copy_from_slice(part.as_bytes());
+        Ok(part.len())
+    }
+}
+
+/// Whether what was read is answered, and kept.
+fn fails_when_broken(alloc: Global) -> Result<bool, Fail> {
+    let mut desk = Register::new(alloc, usual()?)?;
+    let mut reader = Broken {
+        parts: &["1 0 rule 234-14-0/24 1 99 1 3600\n", "2 10 mm 234-14"],
+    };
+    let mut out = Vec::new(alloc);
+    let ran = run(alloc, &mut reader, &mut out, 1, 9, &mut desk);
+    Ok(
+        ran == Err(RunFault::Read)
+            && out.as_slice() == b"1 ok 1 -\n".as_slice()
+            && desk.count() == 1,
+    )
+}
+
+#[test]
+fn a_reader_fails(rt: HostRuntime) -> Result<(), Fail> {
+    assert!(rt; fails_when_broken(rt.alloc())?);
+    Ok(())
+}

@@ -1,0 +1,11 @@
+//! Tests of the public calls of `centre_core` and `console`, by lines and their answers wherever a line can say it.
+#![tactic(auto)]
+
+#[cfg(test)]
+mod calls;
+#[cfg(test)]
+mod commands;
+#[cfg(test)]
+mod devices;
+#[cfg(test)]
+mod limits;

@@ -1,0 +1,417 @@
+use identity::{Bits, Gtsi, Itsi, parse_bits, print_bits};
+use linked_list_allocator::LocalHeap;
+use mm_pdus::{
+    AcceptType, ClassOfUsage, DetachReason, GroupAddress, GroupDown, GroupItems, GroupMode,
+    GroupUp, Gssi, LeaveReason, Lifetime, LocationUpdateType, MOST_GROUPS, MmDown, MmFault, MmUp,
+    RejectCause, read_down, read_up, write_down, write_up,
+};
+use std::alloc::{Allocator, Global};
+use std::test::Fail;
+
+/// The text of bits, and what is written of the PDU that is read of them, or the fault.
+type Row = (&'static str, Result<&'static str, MmFault>);
+
+fn bits(alloc: Global, text: &str) -> Result<Bits<Global>, MmFault> {
+    parse_bits(alloc, text.as_bytes()).or(Err(MmFault::NoMemory))
+}
+
+fn printed(alloc: Global, bits: &Bits<Global>) -> Result<Vec<u8>, MmFault> {
+    let mut text = Vec::new(alloc);
+    match print_bits(&mut text, bits) {
+        Ok(()) => Ok(text),
+        Err(_) => Err(MmFault::NoMemory),
+    }
+}
+
+fn up_again(alloc: Global, text: &str) -> Result<Vec<u8>, MmFault> {
+    let pdu = read_up(alloc, &bits(alloc, text)?)?;
+    printed(alloc, &write_up(alloc, &pdu)?)
+}
+
+fn down_again(alloc: Global, text: &str) -> Result<Vec<u8>, MmFault> {
+    let pdu = read_down(alloc, &bits(alloc, text)?)?;
+    printed(alloc, &write_down(alloc, &pdu)?)
+}
+
+fn is_wanted(got: Result<Vec<u8>, MmFault>, want: Result<&str, MmFault>) -> bool {
+    match (got, want) {
+        (Ok(text), Ok(want)) => text.as_slice() == want.as_bytes(),
+        (Err(fault), Err(want)) => fault == want,
+        _ => false,
+    }
+}
+
+const UP: [Row; 30] = [
+    ("5:10", Ok("5:10")),
+    ("31:1CEA0038", Ok("5:10")),
+    ("10:260", Ok("10:260")),
+    ("20:26FFE", Ok("10:260")),
+    ("59:267400002130068", Ok("10:260")),
+    ("10:220", Ok("10:220")),
+    ("60:7380480A00007D0", Ok("60:7380480A00007D0")),
+    ("84:7380780A20007D075001E", Ok("84:7380780A20007D075001E")),
+    (
+        "113:7780B2163FFFFFDD000001FFFFFF0",
+        Ok("113:7780B2163FFFFFDD000001FFFFFF0"),
+    ),
+    // An element 3, three elements with groups, and the report bit.
+    (
+        "154:7B300B6C024040000001C00603008C180000010",
+        Ok("89:73808210000000300000020"),
+    ),
+    ("7:74", Ok("7:74")),
+    ("8:72", Ok("7:70")),
+    ("0:", Err(MmFault::Short)),
+    ("4:2", Err(MmFault::Short)),
+    ("58:267400002130068", Err(MmFault::Short)),
+    ("8:73", Err(MmFault::Short)),
+    ("59:7380480A00007D0", Err(MmFault::Short)),
+    ("60:7380500A00007D0", Err(MmFault::Short)),
+    ("4:3", Err(MmFault::UnknownType)),
+    ("6:10", Err(MmFault::Trailing)),
+    ("61:7380480A00007D08", Err(MmFault::Trailing)),
+    ("29:73800A00", Err(MmFault::BadElement)),
+    ("28:73800A0", Err(MmFault::BadElement)),
+    ("59:7380460A00007D0", Err(MmFault::BadElement)),
+    ("60:7380481200007D0", Err(MmFault::BadElement)),
+    ("61:73804A0A00007D00", Err(MmFault::BadElement)),
+    ("36:7380180A4", Err(MmFault::UnsupportedAddress)),
+    ("60:7380480A40007D0", Err(MmFault::UnsupportedAddress)),
+    ("60:7380480A6000002", Err(MmFault::UnsupportedAddress)),
+    ("30:73800D08", Err(MmFault::TooMany)),
+];
+
+#[test]
+fn uplink_is_read_and_written(rt: HostRuntime) -> Result<(), Fail> {
+    for (text, want) in UP {
+        assert!(rt; is_wanted(up_again(rt.alloc(), text), want), "{text}");
+    }
+    Ok(())
+}
+
+const DOWN: [Row; 50] = [
+    // Accepts and rejects.
+    ("8:56", Ok("8:56")),
+    ("14:7610", Ok("14:7610")),
+    ("14:7630", Ok("14:7630")),
+    ("14:7660", Ok("14:7660")),
+    ("14:72C0", Ok("14:72C0")),
+    ("14:7AC0", Ok("14:7AC0")),
+    ("14:7FF0", Ok("14:7FF0")),
+    // Acknowledgements.
+    ("7:B0", Ok("7:B0")),
+    ("7:B4", Ok("7:B0")),
+    ("62:B3704C0980001F40", Ok("62:B3704C0980001F40")),
+    ("83:BB70760C4000FA0EA003C", Ok("83:BB70760C4000FA0EA003C")),
+    (
+        "115:BB70B613E80000180200170000024",
+        Ok("115:BB70B613E80000180200170000024"),
+    ),
+    (
+        "115:BF70B613E80000180200170000024",
+        Ok("115:BB70B613E80000180200170000024"),
+    ),
+    ("0:", Err(MmFault::Short)),
+    ("7:56", Err(MmFault::Short)),
+    ("12:761", Err(MmFault::Short)),
+    ("61:B3704C0980001F40", Err(MmFault::Short)),
+    ("4:1", Err(MmFault::UnknownType)),
+    ("7:52", Err(MmFault::BadElement)),
+    ("7:5A", Err(MmFault::BadElement)),
+    ("7:5E", Err(MmFault::BadElement)),
+    ("8:57", Err(MmFault::BadElement)),
+    ("13:7618", Err(MmFault::BadElement)),
+    ("14:7614", Err(MmFault::BadElement)),
+    ("7:B8", Err(MmFault::BadElement)),
+    ("8:B2", Err(MmFault::BadElement)),
+    ("13:B380", Err(MmFault::BadElement)),
+    ("29:B3700A00", Err(MmFault::BadElement)),
+    ("30:B3700C00", Err(MmFault::BadElement)),
+    ("62:B3704C0980001F44", Err(MmFault::BadElement)),
+    ("63:B3704E0980001F44", Err(MmFault::BadElement)),
+    (
+        "115:B370B613E80000180200170000024",
+        Err(MmFault::BadElement),
+    ),
+    ("62:BB704C0980001F40", Err(MmFault::BadElement)),
+    ("38:B3701C0810", Err(MmFault::UnsupportedAddress)),
+    ("30:B3700D08", Err(MmFault::TooMany)),
+    ("9:560", Err(MmFault::Trailing)),
+    ("15:7610", Err(MmFault::Trailing)),
+    ("8:B8", Err(MmFault::Trailing)),
+    ("63:BB704C0980001F40", Err(MmFault::Trailing)),
+    // The bit that tells of a rejection is judged last, the bit behind it not at all.
+    ("61:BB704C0980001F40", Err(MmFault::Short)),
+    ("30:BB700D08", Err(MmFault::TooMany)),
+    ("38:BB701C0810", Err(MmFault::UnsupportedAddress)),
+    ("83:B370760C4000FA0EA003C", Err(MmFault::BadElement)),
+    ("83:BF70760C4000FA0EA003C", Ok("83:BB70760C4000FA0EA003C")),
+    // Bits that are missing inside the element, and none of them is missing behind it.
+    ("61:B3704A0980001F40", Err(MmFault::BadElement)),
+    ("62:B3704C1180001F40", Err(MmFault::BadElement)),
+    // No element, element 6, element 15, and a second element.
+    ("62:B3604C0980001F40", Err(MmFault::BadElement)),
+    ("62:B3F04C0980001F40", Err(MmFault::BadElement)),
+    // An element of no bits, and half of a length.
+    ("25:B370000", Err(MmFault::BadElement)),
+    ("22:B37000", Err(MmFault::Short)),
+];
+
+#[test]
+fn downlink_is_read_and_written(rt: HostRuntime) -> Result<(), Fail> {
+    for (text, want) in DOWN {
+        assert!(rt; is_wanted(down_again(rt.alloc(), text), want), "{text}");
+    }
+    Ok(())
+}
+
+/// The text of a reject.
+fn reject(
+    alloc: Global,
+    update: LocationUpdateType,
+    cause: RejectCause,
+) -> Result<Vec<u8>, MmFault> {
+    let pdu: MmDown<Global> = MmDown::Reject { update, cause };
+    printed(alloc, &write_down(alloc, &pdu)?)
+}
+
+#[test]
+fn rejects_have_their_type_and_cause(rt: HostRuntime) -> Result<(), Fail> {
+    let attach = LocationUpdateType::ItsiAttach;
+    let text = reject(rt.alloc(), attach, RejectCause::ITSI_UNKNOWN);
+    assert!(rt; is_wanted(text, Ok("14:7610")));
+    let text = reject(rt.alloc(), attach, RejectCause::LA_NOT_ALLOWED);
+    assert!(rt; is_wanted(text, Ok("14:7630")));
+    let text = reject(rt.alloc(), attach, RejectCause::CONGESTION);
+    assert!(rt; is_wanted(text, Ok("14:7660")));
+    let text = reject(
+        rt.alloc(),
+        LocationUpdateType::Migrating,
+        RejectCause::MIGRATION_NOT_SUPPORTED,
+    );
+    assert!(rt; is_wanted(text, Ok("14:72C0")));
+    let text = reject(
+        rt.alloc(),
+        LocationUpdateType::DisabledMs,
+        RejectCause::new(31),
+    );
+    assert!(rt; is_wanted(text, Ok("14:7FF0")));
+    Ok(())
+}
+
+/// The groups of a PDU, from the first to the last.
+fn are_groups_up(
+    alloc: Global,
+    text: &str,
+    mode: GroupMode,
+    groups: &[GroupUp],
+) -> Result<bool, MmFault> {
+    match read_up(alloc, &bits(alloc, text)?)? {
+        MmUp::Groups { mode: read, items } => Ok(read == mode && items.as_slice() == groups),
+        _ => Ok(false),
+    }
+}
+
+fn are_groups_down(alloc: Global, text: &str, groups: &[GroupDown]) -> Result<bool, MmFault> {
+    match read_down(alloc, &bits(alloc, text)?)? {
+        MmDown::Acknowledge { items } => Ok(items.as_slice() == groups),
+        _ => Ok(false),
+    }
+}
+
+fn full(mcc: u32, mnc: u32, ssi: u32) -> Result<GroupAddress, Fail> {
+    Ok(GroupAddress::Full(Gtsi::new(mcc, mnc, ssi).ok_or("a group")?))
+}
+
+#[test]
+fn groups_have_their_values(rt: HostRuntime) -> Result<(), Fail> {
+    let leave = GroupUp::Leave {
+        reason: LeaveReason::UserInitiated,
+        address: GroupAddress::Short(Gssi::new(16_777_215)),
+    };
+    let attach = GroupUp::Attach {
+        class: ClassOfUsage::new(7),
+        address: full(1023, 16_383, 1)?,
+    };
+    let text = "113:7780B2163FFFFFDD000001FFFFFF0";
+    let mode = GroupMode::DetachAllFirst;
+    assert!(rt; are_groups_up(rt.alloc(), text, mode, &[leave, attach])?);
+    let attach = GroupDown::Attach {
+        lifetime: Lifetime::NextLocationUpdate,
+        class: ClassOfUsage::new(7),
+        address: full(1, 2, 3)?,
+    };
+    let detach = GroupDown::Detach {
+        reason: DetachReason::Permanent,
+        address: GroupAddress::Short(Gssi::new(9)),
+    };
+    let text = "115:BB70B613E80000180200170000024";
+    assert!(rt; are_groups_down(rt.alloc(), text, &[attach, detach])?);
+    assert!(rt; detach.is_detach() && !attach.is_detach());
+    Ok(())
+}
+
+/// Whether the type is accepted as itself, or not at all.
+fn is_accepted_as_itself(number: u8) -> bool {
+    let update = LocationUpdateType::from_number(number.min(7));
+    let as_itself = match update.accept_type() {
+        Some(accept) => accept.update() == update,
+        None => matches!(number, 1 | 5 | 7),
+    };
+    as_itself && update.number() == number
+}
+
+#[test]
+fn acceptance_keeps_the_type(rt: HostRuntime) {
+    for number in 0..8 {
+        assert!(rt; is_accepted_as_itself(number), "{number}");
+    }
+    assert!(rt; AcceptType::Demand.update() == LocationUpdateType::Demand);
+}
+
+fn has_names(number: u8) -> bool {
+    let lifetime = match Lifetime::from_number(number) {
+        Some(lifetime) => lifetime.number() == number,
+        None => false,
+    };
+    lifetime
+        && LeaveReason::from_number(number).number() == number
+        && DetachReason::from_number(number).number() == number
+}
+
+fn have_their_numbers() -> bool {
+    Lifetime::from_number(4).is_none()
+        && Lifetime::from_number(1) == Some(Lifetime::NextItsiAttach)
+        && LeaveReason::CapacityExceeded.number() == 3
+        && DetachReason::from_number(1) == DetachReason::TemporaryFirst
+        && RejectCause::new(21).number() == 21
+        && ClassOfUsage::new(5).number() == 5
+        && GroupMode::from_bit(true).bit()
+        && !GroupMode::Amendment.bit()
+}
+
+#[test]
+fn values_have_their_numbers(rt: HostRuntime) {
+    for number in 0..4 {
+        assert!(rt; has_names(number), "{number}");
+    }
+    assert!(rt; have_their_numbers());
+}
+
+fn is_group(address: &GroupAddress, radio: Itsi, mnc: u32) -> bool {
+    let group = address.gtsi(radio);
+    (group.mcc(), group.mnc(), group.ssi()) == (234, mnc, 1000)
+}
+
+#[test]
+fn a_short_address_is_of_the_radios_network(rt: HostRuntime) -> Result<(), Fail> {
+    let radio = Itsi::new(234, 14, 2001).ok_or("a radio")?;
+    assert!(rt; is_group(&GroupAddress::Short(Gssi::new(1000)), radio, 14));
+    assert!(rt; is_group(&full(234, 15, 1000)?, radio, 15));
+    Ok(())
+}
+
+/// Numbers from 0 on, until there is no room: how many there are, and why there is none more.
+fn filled<A: Allocator>(alloc: A) -> (usize, Option<MmFault>) {
+    let mut items = GroupItems::new(alloc);
+    for number in 0..40u64 {
+        if let Err(fault) = items.push(number) {
+            return (items.len(), Some(fault));
+        }
+    }
+    (items.len(), None)
+}
+
+#[test]
+fn no_more_groups_than_32(rt: HostRuntime) -> Result<(), Fail> {
+    assert!(rt; filled(rt.alloc()) == (MOST_GROUPS, Some(MmFault::TooMany)));
+    let heap = LocalHeap::new(rt.alloc(), 64)?;
+    let (count, fault) = filled(&heap);
+    assert!(rt; count < MOST_GROUPS && fault == Some(MmFault::NoMemory));
+    Ok(())
+}
+
+/// A demand to be attached to 32 groups.
+fn longest_up(alloc: Global) -> Result<Bits<Global>, MmFault> {
+    let mut items = GroupItems::new(alloc);
+    for group in 0..32 {
+        let address = GroupAddress::Short(Gssi::new(group));
+        items.push(GroupUp::Attach {
+            class: ClassOfUsage::new(4),
+            address,
+        })?;
+    }
+    let mode = GroupMode::Amendment;
+    write_up(alloc, &MmUp::Groups { mode, items })
+}
+
+/// Its acknowledgement.
+fn longest_down(alloc: Global) -> Result<Bits<Global>, MmFault> {
+    let mut items = GroupItems::new(alloc);
+    for group in 0..32 {
+        let address = GroupAddress::Short(Gssi::new(group));
+        items.push(GroupDown::Attach {
+            lifetime: Lifetime::NextItsiAttach,
+            class: ClassOfUsage::new(4),
+            address,
+        })?;
+    }
+    write_down(alloc, &MmDown::Acknowledge { items })
+}
+
+/// Why the bits can't be read and written again in this heap.
+fn fault_up(heap: &LocalHeap, bits: &Bits<Global>) -> Option<MmFault> {
+    match read_up(heap, bits) {
+        Ok(pdu) => write_up(heap, &pdu).err(),
+        Err(fault) => Some(fault),
+    }
+}
+
+fn fault_down(heap: &LocalHeap, bits: &Bits<Global>) -> Option<MmFault> {
+    match read_down(heap, bits) {
+        Ok(pdu) => write_down(heap, &pdu).err(),
+        Err(fault) => Some(fault),
+    }
+}
+
+/// How often there was no fault, and how often a want of memory.
+#[derive(Clone, Copy)]
+struct Faults {
+    none: u32,
+    memory: u32,
+    other: u32,
+}
+
+impl Faults {
+    fn note(&mut self, fault: Option<MmFault>) {
+        match fault {
+            None => self.none = self.none.saturating_add(1),
+            Some(MmFault::NoMemory) => self.memory = self.memory.saturating_add(1),
+            Some(_) => self.other = self.other.saturating_add(1),
+        }
+    }
+}
+
+/// The faults in heaps of rising size.
+fn in_rising_heaps(alloc: Global, up: &Bits<Global>, down: &Bits<Global>) -> Result<Faults, Fail> {
+    let mut faults = Faults {
+        none: 0,
+        memory: 0,
+        other: 0,
+    };
+    for step in 1..64usize {
+        let heap = LocalHeap::new(alloc, step * 64)?;
+        faults.note(fault_up(&heap, up));
+        faults.note(fault_down(&heap, down));
+    }
+    Ok(faults)
+}
+
+#[test]
+fn each_growth_may_be_refused(rt: HostRuntime) -> Result<(), Fail> {
+    let (up, down) = (longest_up(rt.alloc())?, longest_down(rt.alloc())?);
+    assert!(rt; up.len() == 990 && down.len() == 1054);
+    let faults = in_rising_heaps(rt.alloc(), &up, &down)?;
+    assert!(rt; faults.none > 2 && faults.memory > 2 && faults.other == 0);
+    Ok(())
+}

@@ -1,0 +1,189 @@
+//! A registry in small heaps, and the values in it. What its calls answer is shown by the program's rows, in tests/rows.
+
+use identity::{Itsi, Prefix};
+use linked_list_allocator::LocalHeap;
+use mm_pdus::{Lifetime, LocationUpdateType};
+use prefix_tree::TryCopy;
+use registration::{Limits, LocationArea, RegFault, Registry, Rule};
+use std::alloc::{AllocError, Global};
+use std::test::Fail;
+
+fn limits() -> Limits {
+    Limits {
+        rules: 16,
+        radios: 16,
+        mail: 256,
+        stations: 4,
+    }
+}
+
+fn radio(ssi: u32) -> Result<Itsi, Fail> {
+    Ok(Itsi::new(234, 14, ssi).ok_or("an identity")?)
+}
+
+fn area(number: u32) -> Result<LocationArea, Fail> {
+    Ok(LocationArea::new(number).ok_or("a location area")?)
+}
+
+fn rule(keep: u32) -> Result<Rule, Fail> {
+    let rule = Rule::new(area(1)?, area(99)?, Lifetime::NextItsiAttach, keep);
+    Ok(rule.ok_or("a rule")?)
+}
+
+/// Limits of which one is out of its range.
+const OUT_OF_RANGE: [(u32, u32, u32, u32); 8] = [
+    (0, 1, 1, 1),
+    (4097, 1, 1, 1),
+    (1, 0, 1, 1),
+    (1, 65_537, 1, 1),
+    (1, 1, 0, 1),
+    (1, 1, 65_537, 1),
+    (1, 1, 1, 0),
+    (1, 1, 1, 65),
+];
+
+fn are_limits(rules: u32, radios: u32, mail: u32, stations: u32) -> bool {
+    let Some(limits) = Limits::new(rules, radios, mail, stations) else {
+        return false;
+    };
+    (limits.rules, limits.radios, limits.mail, limits.stations) == (rules, radios, mail, stations)
+}
+
+#[test]
+fn limits_have_their_ranges(rt: HostRuntime) {
+    assert!(rt; are_limits(1, 1, 1, 1) && are_limits(4096, 65_536, 65_536, 64));
+    for (rules, radios, mail, stations) in OUT_OF_RANGE {
+        assert!(rt; Limits::new(rules, radios, mail, stations).is_none());
+    }
+}
+
+fn has_terms(rule: &Rule, low: LocationArea, high: LocationArea) -> bool {
+    (rule.low(), rule.high(), rule.keep()) == (low, high, 7)
+        && rule.lifetime() == Lifetime::NextLocationUpdate
+}
+
+#[test]
+fn a_rule_has_its_areas_in_order(rt: HostRuntime) -> Result<(), Fail> {
+    let (low, high) = (area(5)?, area(9)?);
+    let rule = Rule::new(low, high, Lifetime::NextLocationUpdate, 7).ok_or("a rule")?;
+    assert!(rt; has_terms(&rule, low, high));
+    assert!(rt; Rule::new(high, low, Lifetime::NotNeeded, 0).is_none());
+    assert!(rt; LocationArea::new(16384).is_none());
+    Ok(())
+}
+
+/// All rules and radios: the bits of each prefix with two numbers of what stands there.
+fn listed(alloc: Global, registry: &Registry<&LocalHeap>) -> Result<Vec<(u64, u32, u32)>, Fail> {
+    let mut list = Vec::new(alloc);
+    for (prefix, rule) in registry.rules(alloc)? {
+        list.push((prefix.bits(), prefix.len(), rule.keep()))?;
+    }
+    for (prefix, radio) in registry.radios(alloc)? {
+        list.push((prefix.bits(), u32::from(radio.station), radio.area.number()))?;
+    }
+    Ok(list)
+}
+
+/// The call of this turn: rules under 0, 3 and 9 bits, and radios that part at the first bit and at the last.
+fn called(
+    registry: &mut Registry<&LocalHeap>,
+    turn: u32,
+    here: Itsi,
+    other: Itsi,
+    rule: Rule,
+) -> Result<(), RegFault> {
+    let (area, attach) = (rule.low(), LocationUpdateType::ItsiAttach);
+    match turn {
+        0 => registry.set_rule(Prefix::of(here.number(), 0), rule),
+        1 => registry.set_rule(Prefix::of(here.number(), 3), rule),
+        2 => registry.locate(here, 1, area, attach),
+        3 => registry.locate(other, 2, area, attach),
+        _ => registry.set_rule(Prefix::of(here.number(), 9), rule),
+    }
+}
+
+/// How many calls a heap takes, and then a copy and the lists. `kept`: the first that it refused left it and the registry
+/// as they were.
+#[derive(Clone, Copy)]
+struct Taken {
+    calls: u32,
+    kept: bool,
+}
+
+/// Whether the turn finds memory; where it does not, whether it left all as it was.
+fn turn(
+    alloc: Global,
+    heap: &LocalHeap,
+    registry: &mut Registry<&LocalHeap>,
+    turn: u32,
+) -> Result<Option<bool>, Fail> {
+    let (here, other, rule) = (radio(2001)?, radio(2000)?, rule(turn)?);
+    let (before, used) = (listed(alloc, registry)?, heap.used());
+    match called(registry, turn, here, other, rule) {
+        Ok(()) => Ok(None),
+        Err(fault) => {
+            let same = listed(alloc, registry)? == before && heap.used() == used;
+            Ok(Some(same && fault == RegFault::NoMemory))
+        }
+    }
+}
+
+fn is_copied(registry: &Registry<&LocalHeap>, heap: &LocalHeap) -> bool {
+    registry.try_copy().is_ok() && registry.rules(heap).is_ok() && registry.radios(heap).is_ok()
+}
+
+fn calls_taken(alloc: Global, size: usize) -> Result<Taken, Fail> {
+    let heap = LocalHeap::new(alloc, size)?;
+    let mut registry = Registry::new(&heap, limits())?;
+    for calls in 0..5u32 {
+        if let Some(kept) = turn(alloc, &heap, &mut registry, calls)? {
+            return Ok(Taken { calls, kept });
+        }
+    }
+    let calls = 5 + u32::from(is_copied(&registry, &heap));
+    Ok(Taken { calls, kept: true })
+}
+
+#[test]
+fn each_growth_is_refused_in_turn(rt: HostRuntime) -> Result<(), Fail> {
+    let mut last = 0u32;
+    for size in 2..256usize {
+        let next = calls_taken(rt.alloc(), 32 * size)?;
+        assert!(rt;
+            next.kept && next.calls >= last && next.calls - last <= 1,
+            "{size}"
+        );
+        last = next.calls;
+    }
+    assert!(rt; last == 6);
+    Ok(())
+}
+
+/// A registry in which the radio is present.
+fn with_radio(alloc: Global, here: Itsi, rule: Rule) -> Result<Registry<Global>, AllocError> {
+    let mut registry = Registry::new(alloc, limits())?;
+    let _ = registry.set_rule(here.path(), rule);
+    let _ = registry.locate(here, 1, rule.low(), LocationUpdateType::ItsiAttach);
+    Ok(registry)
+}
+
+/// Whether the radio is present in a copy, and in the registry that it then leaves.
+fn is_present_apart(registry: &mut Registry<Global>, here: Itsi) -> [bool; 2] {
+    let Ok(copy) = registry.try_copy() else {
+        return [false; 2];
+    };
+    let _ = registry.detach(here);
+    [copy.is_present(here), registry.is_present(here)]
+}
+
+fn parted(alloc: Global, here: Itsi, rule: Rule) -> Result<[bool; 2], AllocError> {
+    let mut registry = with_radio(alloc, here, rule)?;
+    Ok(is_present_apart(&mut registry, here))
+}
+
+#[test]
+fn a_copy_is_apart(rt: HostRuntime) -> Result<(), Fail> {
+    let (here, rule) = (radio(2001)?, rule(60)?);
+    assert!(rt; parted(rt.alloc(), here, rule)? == [true, false]);
+    Ok(())
+}

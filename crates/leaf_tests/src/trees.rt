@@ -1,0 +1,7 @@
+//! Runs of the tree: in a heap of fixed size, and beside the plain list.
+
+mod counted;
+mod nodes;
+pub mod number;
+mod side_by_side;
+mod small_heap;

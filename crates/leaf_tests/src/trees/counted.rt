@@ -1,0 +1,51 @@
+ghost use Rattle.std.specs.Prelude.{◌≡◌, ◌<◌};
+
+use crate::trees::number::Number;
+use identity::Prefix;
+use prefix_tree::{PrefixTree, Steps};
+use std::alloc::Global;
+use std::sync::ledger::{Blank, Ledger};
+
+type Tree = PrefixTree<Number, Global>;
+
+/// Sets the value at a prefix that has one, through `get_mut`; the one that `get` gave before.
+pub fn write<L: Ledger>(
+    tree: &mut Tree,
+    prefix: &Prefix,
+    value: Number,
+    blank: Blank,
+) -> Option<Number>
+    requires name { blank.name ≡ L.name }
+    requires parts { blank.parts ≡ L.parts }
+    requires some { 0 < blank.parts }
+{
+    let mut steps = Steps::<L>::new(blank);
+    let before = tree.get(prefix, &mut steps).copied();
+    if let Some(place) = tree.get_mut(prefix, &mut steps) {
+        *place = value;
+    }
+    before
+}
+
+/// Takes a value out, counted.
+pub fn removed<L: Ledger>(tree: &mut Tree, prefix: &Prefix, blank: Blank) -> Option<Number>
+    requires name { blank.name ≡ L.name }
+    requires parts { blank.parts ≡ L.parts }
+    requires some { 0 < blank.parts }
+{
+    let mut steps = Steps::<L>::new(blank);
+    tree.remove(prefix, &mut steps)
+}
+
+/// The longest entry, counted.
+pub fn longest<L: Ledger>(tree: &Tree, identity: u64, blank: Blank) -> Option<(Prefix, Number)>
+    requires name { blank.name ≡ L.name }
+    requires parts { blank.parts ≡ L.parts }
+    requires some { 0 < blank.parts }
+{
+    let mut steps = Steps::<L>::new(blank);
+    match tree.longest(identity, &mut steps) {
+        Some((prefix, number)) => Some((prefix, *number)),
+        None => None,
+    }
+}

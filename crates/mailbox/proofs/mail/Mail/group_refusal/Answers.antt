@@ -1,0 +1,17 @@
+use Rattle.std.proofs.Common.{◌≡◌, Option, None, rules, ap, sym, ◌∙◌}
+use Rattle.registration.specs.Registered.{rule_of}
+use Rattle.mailbox.specs.declared.fault.MailFault.{MailFault}
+use Rattle.mailbox.specs.Refusals.{or_then, unknown_refusal, absent_refusal}
+use Rattle.mailbox.specs.GroupPost.{copies, copies_refusal}
+use Rattle.mailbox.proofs.CopiesRefused.{told_by_members}
+use Rattle.mailbox.proofs.mail.Mail.group_refusal.Goals as goal
+
+pub returns : goal.returns
+returns g c = λ stamp pdu.
+    let s = c.args.registry.now in
+    let e = c.args.envelope.now in
+    let why : Option MailFault = copies_refusal c.args.self.now (copies s e c.args.members.now stamp pdu) in
+    let known : unknown_refusal (rule_of s e.group) ≡ None = search rules in
+    let present : absent_refusal s e.source ≡ None = search rules in
+    c.copies_refusal.ensures ∙ told_by_members s e stamp pdu c.args.self.now c.args.members.now c.requires
+    ∙ sym (ap (λ first. or_then first (or_then (absent_refusal s e.source) why)) known ∙ ap (λ first. or_then first why) present)

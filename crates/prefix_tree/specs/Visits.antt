@@ -1,0 +1,31 @@
+-- The nodes of a tree with a node only where prefixes part or one ends, told by the map alone.
+use Rattle.std.specs.Prelude.{ℕ, ◌+◌, Bool, true, false, ◌&&◌, ◌||◌, cond, length, drop, List, [], ◌∷◌, ◌++◌}
+use Rattle.std.specs.Option.{is_some}
+use Rattle.std.specs.FinMap as map
+use Rattle.identity.specs.Path.{Path, begins}
+use Rattle.prefix_tree.specs.Table.{PathMap}
+
+abbrev pub any_under : {V : Type 0} → Path → List (Path × V) → Bool
+any_under p [] = false
+any_under p (e ∷ es) = begins p e.0 || any_under p es
+
+-- the path begins some key of the map
+unfoldable pub goes_on : {V : Type 0} → PathMap V → Path → Bool
+goes_on m p = any_under p (map.entries m)
+
+-- where a node stands beside the root: the path is a key, or keys go on from it with both bits
+unfoldable pub is_place : {V : Type 0} → PathMap V → Path → Bool
+is_place m p = is_some (map.get m p) || goes_on m (p ++ false ∷ []) && goes_on m (p ++ true ∷ [])
+
+-- the nodes that are visited beyond p on the way to p and then q: each one that is next after a node of the way
+unfoldable pub visits : {V : Type 0} → PathMap V → Path → Bool → Path → ℕ
+visits m p place [] = 0
+visits m p place (b ∷ q) = cond (place && goes_on m (p ++ b ∷ [])) 1 0 + visits m (p ++ b ∷ []) (is_place m (p ++ b ∷ [])) q
+
+-- those beyond the node at p
+unfoldable pub visits_beyond : {V : Type 0} → PathMap V → Path → Path → ℕ
+visits_beyond m p q = visits m p true (drop (length p) q)
+
+-- the nodes that are visited on the way to a path, the root with them
+unfoldable pub nodes_on_way : {V : Type 0} → PathMap V → Path → ℕ
+nodes_on_way m q = 1 + visits_beyond m [] q

@@ -1,6 +1,0 @@
-//! Runs of the tree: in a heap of fixed size, and beside the plain list.
-
-mod counted;
-mod number;
-mod side_by_side;
-mod small_heap;
