@@ -18,7 +18,7 @@ MOST_GROUPS, MOST_ITEMS = 32, 128
 ENDED = {0: (3,), 2: (), 3: (1, 2, 3), 4: (3,), 6: (3,)}
 
 # What waits for a destination: under a key of destination, source, reference and b'm' or b'r'
-Item = collections.namedtuple('Item', 'number deadline pdu')
+Item = collections.namedtuple('Item', 'number deadline pdu group', defaults=[None])
 
 
 class BadLine(Exception):
@@ -199,6 +199,26 @@ class Register:
         else:
             self.delete((source, destination, value.reference, b'r'))
 
+    def group_short_data(self, moment, source, group, bits):
+        """A message for the present members of a group but its sender: all get a copy, or nobody."""
+        value, rule = read_sds(bits), self.rule_of(group)
+        if not isinstance(value, Message):
+            raise Refused('not-a-transfer')
+        if rule is None:
+            raise Refused('unknown-destination')
+        if not self.present(source):
+            raise Refused('not-attached')
+        keys = [(radio, source, value.reference, b'm') for radio in self.members_of(group) if radio != source and self.present(radio)]
+        if not keys:
+            raise Refused('no-members')
+        if any(key in self.mail for key in keys):
+            raise Refused('reference-busy')
+        if any(sum(other[0] == key[0] for other in self.mail) >= MOST_ITEMS for key in keys):
+            raise Refused('mailbox-full')
+        if len(self.mail) + len(keys) > self.limits['mail']:
+            raise Refused('centre-full')
+        self.mail.update((key, Item(self.count + 1, moment + rule[3], value, group)) for key in keys)
+
     def post(self, deadline, key, message):
         if key in self.mail:
             raise Refused('reference-busy')
@@ -266,6 +286,11 @@ def short_data_body(words):
     return lambda register, station, moment: register.short_data(moment, source, destination, bits)
 
 
+def group_short_data_body(words):
+    source, group, bits = identity(words[0]), identity(words[1]), bit_string(words[2])
+    return lambda register, station, moment: register.group_short_data(moment, source, group, bits)
+
+
 def key_of(words):
     key = identity(words[0]), identity(words[1]), number(words[2], 0, 255), words[3]
     if words[3] not in (b'm', b'r'):
@@ -288,7 +313,7 @@ def delete_body(words):
 
 
 COMMANDS = {(b'rule', 5): rule_body, (b'unrule', 1): unrule_body, (b'mm', 3): mobility_body, (b'sds', 3): short_data_body,
-            (b'sent', 4): sent_body, (b'expire', 0): expire_body, (b'delete', 4): delete_body}
+            (b'gsds', 3): group_short_data_body, (b'sent', 4): sent_body, (b'expire', 0): expire_body, (b'delete', 4): delete_body}
 
 
 def where(register, words):
@@ -324,6 +349,7 @@ def mail(register, words):
     waiting = [(item.number, key, item) for key, item in register.mail.items() if key[0] == itsi]
     return [f'mail {words[0].decode()} {len(waiting)}'] + [
         f'item {number} {kind.decode()} {print_identity(source)} {reference} {item.deadline} {print_bits(item.pdu.kept)}'
+        + (f' {print_identity(item.group)}' if item.group else '')
         for number, (_, source, reference, kind), item in sorted(waiting)]
 
 

@@ -5,7 +5,7 @@ import random
 from streams import SERVED, U, demand, detach, numbered, text
 
 V, G = '234-14-2002', '234-14-1000'
-COMMANDS = [SERVED, 'unrule 234-14-2001/48', f'mm {U} 7 60:7380480A00007D0', f'sds {U} {V} 48:820405014849', f'sent {V} {U} 5 m', 'expire', f'delete {V} {U} 5 r']
+COMMANDS = [SERVED, 'unrule 234-14-2001/48', f'mm {U} 7 60:7380480A00007D0', f'sds {U} {V} 48:820405014849', f'gsds {U} {G} 48:820405014849', f'sent {V} {U} 5 m', 'expire', f'delete {V} {U} 5 r']
 QUERIES = [f'where {U}', f'look {V}', f'groups {U}', f'members {G}', f'mail {V}', 'count']
 
 
@@ -18,7 +18,8 @@ def numbers():
              '1 0 rule 234-14-0/24 1 99 1 {}', f'1 0 mm {U} {{}} 10:260', '1 0 mm {}-14-2001 7 10:260', '1 0 mm 234-{}-2001 7 10:260',
              '1 0 mm 234-14-{} 7 10:260', f'1 0 mm {U} 7 {{}}:260', f'1 0 mm {U} 7 10:{{}}', '{}', '{} 0', '{} 0 rule', '{} 0 mm', 'count {}',
              '1 0 unrule 234-14-0/{}', '1 0 unrule {}-0-0/10', '{} 0 expire', '1 {} expire', '1 0 {}', f'1 0 sds {{}}-14-2001 {V} 48:820405014849', f'1 0 sds {U} 234-{{}}-1 48:820405014849',
-             f'1 0 sds {U} {V} {{}}:820405014849', f'1 0 sent {V} {U} {{}} m', f'1 0 delete {V} {U} {{}} r', f'1 0 sent 234-14-{{}} {U} 5 m',
+             f'1 0 sds {U} {V} {{}}:820405014849', f'1 0 gsds {{}}-14-2001 {G} 48:820405014849', f'1 0 gsds {U} 234-{{}}-1 48:820405014849',
+             f'1 0 gsds {U} {G} {{}}:820405014849', f'1 0 sent {V} {U} {{}} m', f'1 0 delete {V} {U} {{}} r', f'1 0 sent 234-14-{{}} {U} 5 m',
              f'1 0 delete {V} {{}}-14-2001 5 r']
     queries = [f'{word} {name}' for word in ('where', 'look', 'groups', 'members', 'mail')
                for name in ('{}', '{}-14-2001', '234-{}-2001', '234-14-{}', '234-14-2001 {}')]

@@ -1,8 +1,8 @@
 -- What one accepted command makes of the mail's list.
 use Rattle.std.proofs.Common.{◌≡◌, ℕ, zero, suc, ◌+◌, ◌<◌, ◌≤◌, Bool, true, false, cond, List, [], ◌∷◌, ◌++◌, length, get_or, refl, ap, sym, ◌∙◌, subst, inl, inr, arith}
 use Rattle.std.specs.Prelude.{not, ◌&&◌, ◌||◌, ◌⊎◌}
-use Rattle.std.specs.List.{filter, Contains}
-use Rattle.std.proofs.lemmas.List.Elements.{All-filter, All-contains, All-contains_itself, filter_passes, Contains-append_left, Contains-push, Contains-push_cases}
+use Rattle.std.specs.List.{All, filter, Contains}
+use Rattle.std.proofs.lemmas.List.Elements.{All-nil, All-cons, All-filter, All-contains, All-contains_itself, filter_passes, Contains-append_left, Contains-append_right, Contains-append_cases}
 use mathlib.Core.Bool.{false≢true}
 use Rattle.mailbox.specs.declared.key.Kind.{Kind}
 use Rattle.mailbox.specs.declared.key.Kind.TheVariants.{Message, Report}
@@ -49,10 +49,6 @@ pub record Changed (xs ys : List Waiting) (count : ℕ) (ends : Waiting → Bool
 none : (m : Waiting) → Contains [] m → ⊥
 none m (k, below, is) = omega arith
 
-the_one : (w m : Waiting) → Contains (w ∷ []) m → w ≡ m
-the_one w m (zero, below, is) = is
-the_one w m (suc k, below, is) = absurd (omega arith)
-
 pub changed_none : (xs : List Waiting) (count : ℕ) → Changed xs xs count (λ _. false) []
 changed_none xs count = record {
   kept = λ m is here stays. here;
@@ -74,28 +70,39 @@ changed_by_filter xs count ends test agree = record {
   made = λ m e. absurd (none m e);
 }
 
-too_great : (m w : Waiting) (count : ℕ) → w.number ≡ count + 1 → w ≡ m → m.number ≤ count → ⊥
-too_great m w count new e low = let f : w.number ≡ m.number = ap (λ x. x.number) e in omega arith
+-- items have the command's number
+abbrev pub AreNew : ℕ → List Waiting → Type 0
+AreNew count ws = All (λ w. w.number ≡ count + 1) ws
 
-old_one : (ys : List Waiting) (count : ℕ) (w m : Waiting) → w.number ≡ count + 1 → m.number ≤ count → Contains (ys ++ w ∷ []) m → Contains ys m
-old_one ys count w m new low here = elim (Contains-push_cases ys w m here) [ inl h ↦ h | inr e ↦ absurd (too_great m w count new e low) ]
+too_great : (ws : List Waiting) (count : ℕ) (m : Waiting) → AreNew count ws → Contains ws m → m.number ≤ count → ⊥
+too_great ws count m new here low = let n : m.number ≡ count + 1 = All-contains (λ w. w.number ≡ count + 1) ws m new here in omega (arith, n, low)
 
--- one more item at the end: a report item, or the message that the command makes
+old_one : (ys ws : List Waiting) (count : ℕ) (m : Waiting) → AreNew count ws → m.number ≤ count → Contains (ys ++ ws) m → Contains ys m
+old_one ys ws count m new low here = elim (Contains-append_cases ys ws m here) [ inl h ↦ h | inr h ↦ absurd (too_great ws count m new h low) ]
+
+just_one : (count : ℕ) (w : Waiting) → w.number ≡ count + 1 → AreNew count (w ∷ [])
+just_one count w new = All-cons (λ o. o.number ≡ count + 1) w [] new (All-nil (λ o. o.number ≡ count + 1))
+
+-- more items at the end: a report item, or the messages that the command makes
 pub changed_by_report : (xs ys : List Waiting) (count : ℕ) (ends : Waiting → Bool) (w : Waiting) → w.number ≡ count + 1 → Changed xs ys count ends [] → Changed xs (ys ++ w ∷ []) count ends []
 changed_by_report xs ys count ends w new h = record {
   kept = λ m is here stays. Contains-append_left ys (w ∷ []) m (h.kept m is here stays);
-  gone = λ m is low ends_it here. h.gone m is low ends_it (old_one ys count w m new low here);
-  old = λ m low here. h.old m low (old_one ys count w m new low here);
+  gone = λ m is low ends_it here. h.gone m is low ends_it (old_one ys (w ∷ []) count m (just_one count w new) low here);
+  old = λ m low here. h.old m low (old_one ys (w ∷ []) count m (just_one count w new) low here);
   made = λ m e. absurd (none m e);
 }
 
-pub changed_by_message : (xs : List Waiting) (count : ℕ) (w : Waiting) → w.number ≡ count + 1 → is_message w ≡ true → Changed xs (xs ++ w ∷ []) count (λ _. false) (w ∷ [])
-changed_by_message xs count w new is = record {
-  kept = λ m is here stays. Contains-append_left xs (w ∷ []) m here;
+pub changed_by_messages : (xs ws : List Waiting) (count : ℕ) → AreNew count ws → All (λ w. is_message w ≡ true) ws → Changed xs (xs ++ ws) count (λ _. false) ws
+changed_by_messages xs ws count new are = record {
+  kept = λ m is here stays. Contains-append_left xs ws m here;
   gone = λ m is low ends_it here. false≢true ends_it;
-  old = λ m low here. old_one xs count w m new low here;
-  made = λ m e. let f : w ≡ m = the_one w m e in (subst (λ o. is_message o ≡ true) f is, subst (Contains (xs ++ w ∷ [])) f (Contains-push xs w));
+  old = λ m low here. old_one xs ws count m new low here;
+  made = λ m e. (All-contains (λ w. is_message w ≡ true) ws m are e, Contains-append_right xs ws m e);
 }
+
+pub changed_by_message : (xs : List Waiting) (count : ℕ) (w : Waiting) → w.number ≡ count + 1 → is_message w ≡ true → Changed xs (xs ++ w ∷ []) count (λ _. false) (w ∷ [])
+changed_by_message xs count w new is =
+    changed_by_messages xs (w ∷ []) count (just_one count w new) (All-cons (λ o. is_message o ≡ true) w [] is (All-nil (λ o. is_message o ≡ true)))
 
 and_false : (a : Bool) → (a && false) ≡ false
 and_false true = refl

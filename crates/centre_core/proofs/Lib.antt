@@ -2,6 +2,7 @@ pub mod RegisteredLaws
 pub mod EffectLaws
 pub mod ReadingLaws
 pub mod SpeltLaws
+pub mod MembersLaws
 pub mod Changed
 pub mod MailEffects
 pub mod StepLaws

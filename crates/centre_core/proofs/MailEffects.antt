@@ -1,20 +1,27 @@
 -- What a command makes of the mail: the messages that it ends, and those that it makes.
-use Rattle.std.proofs.Common.{◌∙◌, ◌≡◌, ℕ, ◌+◌, Bool, true, false, List, [], ◌∷◌, refl, sym, subst, arith, None}
+use Rattle.std.proofs.Common.{◌∙◌, ◌≡◌, ℕ, ◌+◌, ◌<◌, Bool, true, false, List, [], ◌∷◌, refl, sym, subst, arith, None}
+use Rattle.std.specs.List.{All, filter}
+use Rattle.std.proofs.lemmas.List.Elements.{All-map, All-weaker}
 use Rattle.sds_tl.specs.Reading.{heading}
 use Rattle.mailbox.specs.declared.key.Kind.TheVariants.{Message, Report}
 use Rattle.mailbox.specs.declared.key.Envelope.{Envelope}
+use Rattle.mailbox.specs.declared.key.GroupEnvelope.{GroupEnvelope}
+use Rattle.mailbox.specs.declared.key.Stamp.{Stamp}
 use Rattle.mailbox.specs.Values.{Waiting, Mailed}
 use Rattle.mailbox.specs.Tests.{key_of, answered, is_message, is_at, is_reported, is_ended_by}
 use Rattle.mailbox.specs.Mail.{without, posted, reported, acknowledged}
 use Rattle.mailbox.specs.Refusals.{post_refusal, report_refusal}
-use Rattle.mailbox.specs.Kept.{IsMail, is_head_of}
+use Rattle.mailbox.specs.GroupPost.{is_receiver, copy_for, group_posted, group_refusal}
+use Rattle.mailbox.specs.Kept.{IsNumbered, IsMail, is_head_of}
 use Rattle.mailbox.proofs.Kept.{more_is_mail, removal_is_mail, post_is_mail, report_is_mail}
+use Rattle.mailbox.proofs.CopiesKept.{group_post_is_mail}
 use Rattle.group_attach.specs.Kept.{AreKept}
 use Rattle.centre_core.specs.State.{State, IsState, IsWithin, IsMailOf}
-use Rattle.centre_core.specs.Step.{mail_changed, message_of, report_of}
-use Rattle.centre_core.proofs.Changed.{Changed, changed_none, changed_by_filter, changed_by_report, changed_by_message, no_report, or_none}
+use Rattle.centre_core.specs.Step.{mail_changed, message_of, report_of, members, copies_of}
+use Rattle.centre_core.proofs.Changed.{Changed, changed_none, changed_by_filter, changed_by_report, changed_by_message, changed_by_messages, no_report, or_none}
 use Rattle.centre_core.proofs.EffectLaws.{IsChange}
-use Rattle.centre_core.proofs.SpeltLaws.{message_spelt, report_spelt}
+use Rattle.centre_core.proofs.MembersLaws.{list_rises}
+use Rattle.centre_core.proofs.SpeltLaws.{message_written, message_spelt, report_spelt}
 
 -- what a state is once its change is counted
 abbrev pub IsMade : ℕ → State → Type 0
@@ -63,6 +70,21 @@ pub message_effect : (s : State) (moment : ℕ) (e : Envelope) (pdu : List Bool)
 message_effect s moment e pdu is none =
     let w : Waiting = message_of s moment e pdu in
     mail_effect s (posted s.mail w) (λ _. false) (w ∷ []) refl (λ h. post_is_mail s.registered s.count s.mail w h refl (message_spelt s moment e pdu is) none) (changed_by_message s.mail.items s.count w refl refl)
+
+-- what waits has a lower number than what a later command makes
+pub all_are_older : (count : ℕ) (m : Mailed) (number : ℕ) → IsMail count m → count < number → All (λ o. o.number < number) m.items
+all_are_older count m number h later = All-weaker (IsNumbered count) (λ o. o.number < number) (λ o p. omega (arith, p.1, later)) m.items h.numbered
+
+pub copies_effect : (s : State) (moment : ℕ) (e : GroupEnvelope) (pdu : List Bool) → is_head_of Message e.reference (heading pdu) ≡ true → group_refusal s.registered s.mail e (copies_of s moment e pdu) ≡ None
+    → IsEffect s (mail_changed s (group_posted s.mail (copies_of s moment e pdu))) (λ _. false) (copies_of s moment e pdu)
+copies_effect s moment e pdu is none =
+    let ws : List Waiting = copies_of s moment e pdu in
+    let stamp : Stamp = record { number = s.count + 1; moment = moment } in
+    let copy : ℕ → Waiting = copy_for s.registered e stamp pdu in
+    let receivers : List ℕ = filter (is_receiver s.registered e.source) (members s e.group) in
+    mail_effect s (group_posted s.mail ws) (λ _. false) ws refl
+    (λ h. group_post_is_mail s.registered s.count s.mail e (members s e.group) stamp pdu h (list_rises s e.group (members s e.group) refl) refl is (message_written pdu e.reference (heading pdu) refl is) none)
+    (changed_by_messages s.mail.items ws s.count (All-map (λ w. w.number ≡ s.count + 1) copy receivers (λ k d below. refl)) (All-map (λ w. is_message w ≡ true) copy receivers (λ k d below. refl)))
 
 pub report_effect : (s : State) (moment : ℕ) (e : Envelope) (status : ℕ) (pdu : List Bool) → is_head_of Report e.reference (heading pdu) ≡ true → report_refusal s.registered s.mail e status (report_of s moment e pdu) ≡ None
     → IsEffect s (mail_changed s (reported s.mail e status (report_of s moment e pdu))) (is_reported e status) []

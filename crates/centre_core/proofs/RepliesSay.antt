@@ -10,14 +10,15 @@ use Rattle.sds_tl.specs.declared.fault.SdsFault.{SdsFault}
 use Rattle.sds_tl.specs.declared.pdu.Head.{Head}
 use Rattle.sds_tl.specs.declared.pdu.Head.TheVariants as heads
 use Rattle.sds_tl.specs.Reading.{heading}
+use Rattle.sds_tl.specs.Transfers.{transfer_reference}
 use Rattle.centre_core.specs.declared.command.Command.{Command}
 use Rattle.centre_core.specs.declared.command.Body.{Body}
-use Rattle.centre_core.specs.declared.command.Body.TheVariants.{RuleSet, RuleClear, Mm, Sds, Sent, Expire, Delete}
+use Rattle.centre_core.specs.declared.command.Body.TheVariants.{RuleSet, RuleClear, Mm, Sds, GroupSds, Sent, Expire, Delete}
 use Rattle.centre_core.specs.declared.reply.Reply.{Reply}
 use Rattle.centre_core.specs.declared.reply.Reply.TheVariants.{Accepted, Kept, Refused}
 use Rattle.centre_core.specs.declared.reply.Refusal.{Refusal}
 use Rattle.centre_core.specs.State.{State, Served, last_number}
-use Rattle.centre_core.specs.Step.{step, step_new, step_after, step_body, step_made, step_mm, step_sds, kept_at, is_station}
+use Rattle.centre_core.specs.Step.{step, step_new, step_after, step_body, step_made, step_mm, step_sds, step_group_sds, kept_at, is_station}
 use Rattle.centre_core.proofs.StationLaws.{kept_of}
 use Rattle.centre_core.proofs.StepLaws.{Advanced, Outcome, says}
 use Rattle.centre_core.specs.InTurn.{Replied, RepliesSay, last_of}
@@ -54,11 +55,16 @@ module _ {A B : Type 0} where
   sds_not s c source destination pdu (Ok (heads.Report acknowledge status reference)) n p e = made_not s _ c _ _ n p e
   sds_not s c source destination pdu (Ok (heads.Ack status reference)) n p e = made_not s _ c _ _ n p e
 
+  group_not : (s : State) (c : Command A) (source group : ℕ) (pdu : List Bool) (read : Result ℕ SdsFault) (n : ℕ) (p : Option (List Bool)) → IsRepeat B (step_group_sds s c source group pdu read) n p → ⊥
+  group_not s c source group pdu (Err fault) n p e = cc
+  group_not s c source group pdu (Ok reference) n p e = made_not s _ c _ _ n p e
+
   body_not : (s : State) (c : Command A) (b : Body A) (n : ℕ) (p : Option (List Bool)) → IsRepeat B (step_body s c b) n p → ⊥
   body_not s c (RuleSet prefix rule) n p e = made_not s _ c _ _ n p e
   body_not s c (RuleClear prefix) n p e = cc
   body_not s c (Mm itsi area pdu) n p e = mm_not s c itsi area (reading_up pdu) n p e
   body_not s c (Sds source destination pdu) n p e = sds_not s c source destination pdu (heading pdu) n p e
+  body_not s c (GroupSds source group pdu) n p e = group_not s c source group pdu (transfer_reference (heading pdu)) n p e
   body_not s c (Sent key) n p e = made_not s _ c _ _ n p e
   body_not s c Expire n p e = cc
   body_not s c (Delete key) n p e = made_not s _ c _ _ n p e

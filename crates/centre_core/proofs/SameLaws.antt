@@ -5,7 +5,7 @@ use Rattle.mailbox.specs.Values.{Waiting}
 use Rattle.mailbox.proofs.Lists.{any_mapped}
 use Rattle.centre_core.specs.declared.command.Command.{Command}
 use Rattle.centre_core.specs.declared.command.Body.{Body}
-use Rattle.centre_core.specs.declared.command.Body.TheVariants.{RuleSet, RuleClear, Mm, Sds, Sent, Expire, Delete}
+use Rattle.centre_core.specs.declared.command.Body.TheVariants.{RuleSet, RuleClear, Mm, Sds, GroupSds, Sent, Expire, Delete}
 use Rattle.centre_core.specs.declared.reply.Reply.{Reply}
 use Rattle.centre_core.specs.declared.reply.Reply.TheVariants.{Kept, Refused}
 use Rattle.centre_core.specs.declared.reply.Refusal.TheVariants.{UnknownStation, OldSequence, NumbersUsedUp}
@@ -23,6 +23,7 @@ module _ {A : Type 0} where
   body_own (RuleClear prefix) = refl
   body_own (Mm itsi area pdu) = refl
   body_own (Sds source destination pdu) = refl
+  body_own (GroupSds source group pdu) = refl
   body_own (Sent key) = refl
   body_own Expire = refl
   body_own (Delete key) = refl
@@ -37,6 +38,7 @@ module _ {A : Type 0} (B : Type 0) where
   body_again (RuleClear prefix) = refl
   body_again (Mm itsi area pdu) = refl
   body_again (Sds source destination pdu) = refl
+  body_again (GroupSds source group pdu) = refl
   body_again (Sent key) = refl
   body_again Expire = refl
   body_again (Delete key) = refl
@@ -49,6 +51,7 @@ module _ {A : Type 0} (B : Type 0) where
   names_by moment (RuleClear prefix) m = refl
   names_by moment (Mm itsi area pdu) m = refl
   names_by moment (Sds source destination pdu) m = refl
+  names_by moment (GroupSds source group pdu) m = refl
   names_by moment (Sent key) m = refl
   names_by moment Expire m = refl
   names_by moment (Delete key) m = refl
@@ -62,6 +65,7 @@ module _ {A : Type 0} (B C : Type 0) where
   step_by s c (RuleClear prefix) = refl
   step_by s c (Mm itsi area pdu) = refl
   step_by s c (Sds source destination pdu) = refl
+  step_by s c (GroupSds source group pdu) = refl
   step_by s c (Sent key) = refl
   step_by s c Expire = refl
   step_by s c (Delete key) = refl

@@ -8,6 +8,7 @@ use Rattle.sds_tl.specs.declared.pdu.DeliveryReportRequest.{DeliveryReportReques
 use Rattle.sds_tl.specs.declared.pdu.Head.{Head}
 use Rattle.sds_tl.specs.declared.pdu.Head.TheVariants as heads
 use Rattle.sds_tl.specs.Reading.{fault, value, unless, heading, head_value, cleared, clearing}
+use Rattle.sds_tl.specs.Transfers.{transfer_reference}
 use Rattle.sds_tl.proofs.Spelling.{value_takes}
 use Rattle.sds_tl.proofs.Cleared.{cleared_is_canon, cleared_spells, heading-cleared, cleared-message}
 use Rattle.mailbox.specs.declared.key.Kind.TheVariants.{Message, Report}
@@ -20,7 +21,7 @@ no_fault : (f : Option SdsFault) (x head : Head) → unless f x ≡ Ok head → 
 no_fault None x head e = refl
 no_fault (Some f) x head e = cc
 
-message_written : (pdu : List Bool) (reference : ℕ) (head : Result Head SdsFault) → heading pdu ≡ head → is_head_of Message reference head ≡ true → cleared pdu ≡ pdu
+pub message_written : (pdu : List Bool) (reference : ℕ) (head : Result Head SdsFault) → heading pdu ≡ head → is_head_of Message reference head ≡ true → cleared pdu ≡ pdu
 message_written pdu reference (Err fault) is e = absurd (false≢true e)
 message_written pdu reference (Ok (heads.Transfer request r)) is e = cleared-message pdu request r is
 message_written pdu reference (Ok (heads.Report acknowledge status r)) is e = absurd (false≢true e)
@@ -65,3 +66,13 @@ message_headed pdu request reference is = ap (is_head_of Message reference) is �
 
 pub report_headed : (pdu : List Bool) (acknowledge : Bool) (status reference : ℕ) → heading pdu ≡ Ok (heads.Report acknowledge status reference) → is_head_of Report reference (heading pdu) ≡ true
 report_headed pdu acknowledge status reference is = ap (is_head_of Report reference) is ∙ same reference
+
+referenced : (head : Result Head SdsFault) (reference : ℕ) → transfer_reference head ≡ Ok reference → is_head_of Message reference head ≡ true
+referenced (Err fault) reference e = cc
+referenced (Ok (heads.Transfer request r)) reference e = let n : r ≡ reference = cc in ap (λ k. r == k) (sym n) ∙ same r
+referenced (Ok (heads.Report acknowledge status r)) reference e = cc
+referenced (Ok (heads.Ack status r)) reference e = cc
+
+-- so too by its reference, where it is a message
+pub transfer_headed : (pdu : List Bool) (reference : ℕ) → transfer_reference (heading pdu) ≡ Ok reference → is_head_of Message reference (heading pdu) ≡ true
+transfer_headed pdu reference is = referenced (heading pdu) reference is

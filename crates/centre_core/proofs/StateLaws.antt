@@ -19,26 +19,29 @@ use Rattle.sds_tl.specs.declared.fault.SdsFault.{SdsFault}
 use Rattle.sds_tl.specs.declared.pdu.Head.{Head}
 use Rattle.sds_tl.specs.declared.pdu.Head.TheVariants as heads
 use Rattle.sds_tl.specs.Reading.{heading}
+use Rattle.sds_tl.specs.Transfers.{transfer_reference}
 use Rattle.mailbox.specs.Values.{Waiting, Mailed, empty_mailed}
 use Rattle.mailbox.specs.Refusals.{post_refusal, report_refusal, ack_refusal, sent_refusal, delete_refusal}
 use Rattle.mailbox.specs.declared.key.Kind.TheVariants.{Message, Report}
 use Rattle.mailbox.specs.declared.key.Envelope.{Envelope}
+use Rattle.mailbox.specs.declared.key.GroupEnvelope.{GroupEnvelope}
 use Rattle.mailbox.specs.Tests.{is_reported}
 use Rattle.mailbox.specs.Mail.{posted, reported}
+use Rattle.mailbox.specs.GroupPost.{group_posted, group_refusal}
 use Rattle.mailbox.specs.Kept.{IsMail, is_head_of}
 use Rattle.mailbox.proofs.Kept.{empty_is_mail}
 use Rattle.centre_core.specs.declared.command.Command.{Command}
 use Rattle.centre_core.specs.declared.command.Body.{Body}
-use Rattle.centre_core.specs.declared.command.Body.TheVariants.{RuleSet, RuleClear, Mm, Sds, Sent, Expire, Delete}
+use Rattle.centre_core.specs.declared.command.Body.TheVariants.{RuleSet, RuleClear, Mm, Sds, GroupSds, Sent, Expire, Delete}
 use Rattle.centre_core.specs.declared.reply.Reply.{Reply}
 use Rattle.centre_core.specs.declared.reply.Reply.TheVariants.{Accepted, Kept, Refused}
 use Rattle.centre_core.specs.declared.reply.Refusal.{Refusal}
 use Rattle.centre_core.specs.State.{State, Served, last_number, IsState, IsNumbered}
-use Rattle.centre_core.specs.Step.{step, step_new, step_after, step_body, step_made, step_mm, step_sds, accepted, kept_at, is_station, envelope, mail_changed, message_of, report_of}
+use Rattle.centre_core.specs.Step.{step, step_new, step_after, step_body, step_made, step_mm, step_sds, step_group_sds, accepted, kept_at, is_station, envelope, mail_changed, message_of, report_of, group_envelope, copies_of}
 use Rattle.centre_core.specs.History.{is_acceptance, accepts, next, names, made}
 use Rattle.centre_core.specs.Laws.{EmptyIsState, StepKeepsState, StepIsNext}
 use Rattle.centre_core.proofs.ReadingLaws.{moved, reading_moved}
-use Rattle.centre_core.proofs.MailEffects.{IsEffect, message_effect, report_effect}
+use Rattle.centre_core.proofs.MailEffects.{IsEffect, message_effect, copies_effect, report_effect}
 use Rattle.centre_core.proofs.RegisteredLaws.{empty_within}
 use Rattle.centre_core.proofs.StepLaws.{Advanced, Outcome, says}
 
@@ -101,6 +104,14 @@ module _ {A : Type 0} where
       counted_state s (mail_changed s (posted s.mail m)) c (λ _. false) (m ∷ []) mail served count (message_effect s c.moment e pdu is (ap (post_refusal s.registered s.mail) (sym w_is) ∙ done.0))
       (ap (mail_changed s) (sym (done.1 ∙ ap (posted s.mail) w_is))) left served_is count_is h
 
+  pub copies_state : (s : State) (c : Command A) (e : GroupEnvelope) (pdu : List Bool) (ws : List Waiting) (mail : Mailed) (served : List (Option Served)) (count : ℕ) → is_head_of Message e.reference (heading pdu) ≡ true → s.count < last_number
+      → ws ≡ copies_of s c.moment e pdu → (group_refusal s.registered s.mail e ws ≡ None) × (mail ≡ group_posted s.mail ws)
+      → served ≡ slice_set s.served (c.station - 1) (Some (record { sequence = c.sequence; number = s.count + 1; pdu = None })) → count ≡ s.count + 1 → IsState s → IsState (record { registered = s.registered; groups = s.groups; mail = mail; served = served; count = count })
+  copies_state s c e pdu ws mail served count is left ws_are done served_is count_is h =
+      let copies : List Waiting = copies_of s c.moment e pdu in
+      counted_state s (mail_changed s (group_posted s.mail copies)) c (λ _. false) copies mail served count (copies_effect s c.moment e pdu is (ap (group_refusal s.registered s.mail e) (sym ws_are) ∙ done.0))
+      (ap (mail_changed s) (sym (done.1 ∙ ap (group_posted s.mail) ws_are))) left served_is count_is h
+
   pub reported_state : (s : State) (c : Command A) (e : Envelope) (status : ℕ) (pdu : List Bool) (w : Waiting) (mail : Mailed) (served : List (Option Served)) (count : ℕ) → is_head_of Report e.reference (heading pdu) ≡ true → s.count < last_number
       → w ≡ report_of s c.moment e pdu → (report_refusal s.registered s.mail e status w ≡ None) × (mail ≡ reported s.mail e status w)
       → served ≡ slice_set s.served (c.station - 1) (Some (record { sequence = c.sequence; number = s.count + 1; pdu = None })) → count ≡ s.count + 1 → IsState s → IsState (record { registered = s.registered; groups = s.groups; mail = mail; served = served; count = count })
@@ -140,11 +151,17 @@ module _ {A : Type 0} (B C : Type 0) where
       let e = envelope source destination reference in same_made s c _ _ _ _ (report_refusal s.registered s.mail e status (report_of s c.moment e pdu))
   same_sds s c source destination pdu (Ok (heads.Ack status reference)) = same_made s c _ _ _ _ (ack_refusal s.registered s.mail (envelope source destination reference))
 
+  same_group : (s : State) (c : Command A) (source group : ℕ) (pdu : List Bool) (read : Result ℕ SdsFault) → Same {B = B} {C = C} (step_group_sds s c source group pdu read) (step_group_sds s c source group pdu read)
+  same_group s c source group pdu (Err fault) = refl
+  same_group s c source group pdu (Ok reference) =
+      let e = group_envelope source group reference in same_made s c _ _ _ _ (group_refusal s.registered s.mail e (copies_of s c.moment e pdu))
+
   same_body : (s : State) (c : Command A) (b : Body A) → Same {B = B} {C = C} (step_body s c b) (step_body s c b)
   same_body s c (RuleSet prefix rule) = same_made s c _ _ _ _ (set_refusal s.registered prefix)
   same_body s c (RuleClear prefix) = refl
   same_body s c (Mm itsi area pdu) = same_mm s c itsi area (reading_up pdu) ∙ ap (λ read. seen (step_mm {B = C} s c itsi area read)) (sym (reading_moved B C pdu))
   same_body s c (Sds source destination pdu) = same_sds s c source destination pdu (heading pdu)
+  same_body s c (GroupSds source group pdu) = same_group s c source group pdu (transfer_reference (heading pdu))
   same_body s c (Sent key) = same_made s c _ _ _ _ (sent_refusal s.registered s.mail key)
   same_body s c Expire = refl
   same_body s c (Delete key) = same_made s c _ _ _ _ (delete_refusal s.mail key)

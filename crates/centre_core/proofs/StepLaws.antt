@@ -14,23 +14,25 @@ use Rattle.sds_tl.specs.declared.fault.SdsFault.{SdsFault}
 use Rattle.sds_tl.specs.declared.pdu.Head.{Head}
 use Rattle.sds_tl.specs.declared.pdu.Head.TheVariants as heads
 use Rattle.sds_tl.specs.Reading.{heading}
+use Rattle.sds_tl.specs.Transfers.{transfer_reference}
 use Rattle.mailbox.specs.declared.fault.MailFault.{MailFault}
 use Rattle.mailbox.specs.Values.{Waiting}
 use Rattle.mailbox.specs.Tests.{is_at, is_confirmed, is_expired}
 use Rattle.mailbox.specs.Refusals.{post_refusal, report_refusal, ack_refusal, sent_refusal, delete_refusal}
+use Rattle.mailbox.specs.GroupPost.{group_refusal}
 use Rattle.centre_core.specs.declared.command.Command.{Command}
 use Rattle.centre_core.specs.declared.command.Body.{Body}
-use Rattle.centre_core.specs.declared.command.Body.TheVariants.{RuleSet, RuleClear, Mm, Sds, Sent, Expire, Delete}
+use Rattle.centre_core.specs.declared.command.Body.TheVariants.{RuleSet, RuleClear, Mm, Sds, GroupSds, Sent, Expire, Delete}
 use Rattle.centre_core.specs.declared.reply.Reply.{Reply}
 use Rattle.centre_core.specs.declared.reply.Reply.TheVariants.{Accepted, Kept, Refused}
 use Rattle.centre_core.specs.declared.reply.Refusal.{Refusal}
 use Rattle.centre_core.specs.declared.reply.Refusal.TheVariants.{Registration, Mail}
 use Rattle.centre_core.specs.State.{State, Served, last_number}
-use Rattle.centre_core.specs.Step.{step, step_new, step_after, step_body, step_made, step_mm, step_sds, accepted, kept_at, is_station, envelope, message_of, report_of}
-use Rattle.centre_core.specs.History.{is_acceptance, names_by_head, names_in, names, made_by_head, made_in, made}
+use Rattle.centre_core.specs.Step.{step, step_new, step_after, step_body, step_made, step_mm, step_sds, step_group_sds, accepted, kept_at, is_station, envelope, message_of, report_of, group_envelope, copies_of}
+use Rattle.centre_core.specs.History.{is_acceptance, names_by_head, names_in, names, made_by_head, made_by_reference, made_in, made}
 use Rattle.centre_core.proofs.EffectLaws.{rule_set_change, rule_cleared_change, radio_located_change, radio_detached_change, groups_changed_change}
-use Rattle.centre_core.proofs.SpeltLaws.{message_headed, report_headed}
-use Rattle.centre_core.proofs.MailEffects.{IsEffect, mail_left, message_effect, report_effect, acknowledge_effect, removal_effect}
+use Rattle.centre_core.proofs.SpeltLaws.{message_headed, report_headed, transfer_headed}
+use Rattle.centre_core.proofs.MailEffects.{IsEffect, mail_left, message_effect, copies_effect, report_effect, acknowledge_effect, removal_effect}
 
 below : (n : ℕ) → nat_lt n last_number ≡ true → n < last_number
 below n e = grind (arith, nat_tests)
@@ -94,11 +96,19 @@ module _ {A : Type 0} (B : Type 0) where
       let e = envelope source destination reference in
       says_made s c _ _ _ _ _ (ack_refusal s.registered s.mail e) left (λ none. acknowledge_effect s e)
 
+  says_group : (s : State) (c : Command A) (source group : ℕ) (pdu : List Bool) (read : Result ℕ SdsFault) → transfer_reference (heading pdu) ≡ read → s.count < last_number
+      → Says s c (λ _. false) (made_by_reference s c.moment source group pdu read) (step_group_sds s c source group pdu read)
+  says_group s c source group pdu (Err fault) is left = refl
+  says_group s c source group pdu (Ok reference) is left =
+      let e = group_envelope source group reference in
+      says_made s c _ _ _ _ _ (group_refusal s.registered s.mail e (copies_of s c.moment e pdu)) left (copies_effect s c.moment e pdu (transfer_headed pdu reference is))
+
   says_body : (s : State) (c : Command A) (b : Body A) → s.count < last_number → Says s c (names_in c.moment b) (made_in s c.moment b) (step_body s c b)
   says_body s c (RuleSet prefix rule) left = says_made s c _ _ _ _ _ (set_refusal s.registered prefix) left (λ none. mail_left s _ refl (rule_set_change s prefix rule none))
   says_body s c (RuleClear prefix) left = says_made {F = RegFault} s c _ _ _ _ Registration None left (λ none. mail_left s _ refl (rule_cleared_change s prefix))
   says_body s c (Mm itsi area pdu) left = says_mm s c itsi area (reading_up pdu) left
   says_body s c (Sds source destination pdu) left = says_sds s c source destination pdu (heading pdu) refl left
+  says_body s c (GroupSds source group pdu) left = says_group s c source group pdu (transfer_reference (heading pdu)) refl left
   says_body s c (Sent key) left = says_made s c _ _ _ _ _ (sent_refusal s.registered s.mail key) left (λ none. removal_effect s (is_confirmed key) (is_confirmed key) (λ m message. refl))
   says_body s c Expire left = says_made {F = MailFault} s c _ _ _ _ Mail None left (λ none. removal_effect s (is_expired c.moment) (is_expired c.moment) (λ m message. refl))
   says_body s c (Delete key) left = says_made s c _ _ _ _ _ (delete_refusal s.mail key) left (λ none. removal_effect s (is_at key) (is_at key) (λ m message. refl))

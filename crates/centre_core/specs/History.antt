@@ -5,15 +5,16 @@ use Rattle.sds_tl.specs.declared.fault.SdsFault.{SdsFault}
 use Rattle.sds_tl.specs.declared.pdu.Head.{Head}
 use Rattle.sds_tl.specs.declared.pdu.Head.TheVariants as heads
 use Rattle.sds_tl.specs.Reading.{heading}
+use Rattle.sds_tl.specs.Transfers.{transfer_reference}
 use Rattle.mailbox.specs.Values.{Waiting}
 use Rattle.mailbox.specs.Tests.{is_at, is_reported, is_confirmed, is_expired}
 use Rattle.centre_core.specs.declared.command.Command.{Command}
 use Rattle.centre_core.specs.declared.command.Body.{Body}
-use Rattle.centre_core.specs.declared.command.Body.TheVariants.{RuleSet, RuleClear, Mm, Sds, Sent, Expire, Delete}
+use Rattle.centre_core.specs.declared.command.Body.TheVariants.{RuleSet, RuleClear, Mm, Sds, GroupSds, Sent, Expire, Delete}
 use Rattle.centre_core.specs.declared.reply.Reply.{Reply}
 use Rattle.centre_core.specs.declared.reply.Reply.TheVariants.{Accepted, Kept, Refused}
 use Rattle.centre_core.specs.State.{State, Served}
-use Rattle.centre_core.specs.Step.{step, is_station, kept_at, envelope, message_of}
+use Rattle.centre_core.specs.Step.{step, is_station, kept_at, envelope, message_of, group_envelope, copies_of}
 
 -- the last accepted command has this sequence or a greater one
 abbrev pub is_at_least : ℕ → Option Served → Bool
@@ -43,6 +44,11 @@ made_by_head s moment source destination pdu (Ok (heads.Transfer request referen
 made_by_head s moment source destination pdu (Ok (heads.Report acknowledge status reference)) = []
 made_by_head s moment source destination pdu (Ok (heads.Ack status reference)) = []
 
+-- those that a message to a group makes: its copies
+abbrev pub made_by_reference : State → ℕ → ℕ → ℕ → List Bool → Result ℕ SdsFault → List Waiting
+made_by_reference s moment source group pdu (Err fault) = []
+made_by_reference s moment source group pdu (Ok reference) = copies_of s moment (group_envelope source group reference) pdu
+
 module _ {A : Type 0} where
   -- the state accepts the command
   abbrev pub accepts : State → Command A → Bool
@@ -61,6 +67,7 @@ module _ {A : Type 0} where
   names_in moment (RuleClear prefix) m = false
   names_in moment (Mm itsi area pdu) m = false
   names_in moment (Sds source destination pdu) m = names_by_head source destination (heading pdu) m
+  names_in moment (GroupSds source group pdu) m = false
   names_in moment (Sent key) m = is_confirmed key m
   names_in moment Expire m = is_expired moment m
   names_in moment (Delete key) m = is_at key m
@@ -73,12 +80,13 @@ module _ {A : Type 0} where
   ended s [] m = false
   ended s (c ∷ cs) m = (accepts s c && names c m) || ended (next s c) cs m
 
-  -- the messages that an accepted command makes
+  -- the messages that an accepted command makes: one, or each copy of a message to a group
   abbrev pub made_in : State → ℕ → Body A → List Waiting
   made_in s moment (RuleSet prefix rule) = []
   made_in s moment (RuleClear prefix) = []
   made_in s moment (Mm itsi area pdu) = []
   made_in s moment (Sds source destination pdu) = made_by_head s moment source destination pdu (heading pdu)
+  made_in s moment (GroupSds source group pdu) = made_by_reference s moment source group pdu (transfer_reference (heading pdu))
   made_in s moment (Sent key) = []
   made_in s moment Expire = []
   made_in s moment (Delete key) = []

@@ -3,7 +3,7 @@ use Rattle.std.specs.Prelude.{◌<◌, ◌≤◌, ◌^◌, ℕ, length, Bool, Li
 use Rattle.registration.specs.declared.rule.Rule.{Rule}
 use Rattle.mailbox.specs.Values.{KeyInRange}
 use Rattle.centre_core.specs.declared.command.Body.{Body}
-use Rattle.centre_core.specs.declared.command.Body.TheVariants.{RuleSet, RuleClear, Mm, Sds, Sent, Expire, Delete}
+use Rattle.centre_core.specs.declared.command.Body.TheVariants.{RuleSet, RuleClear, Mm, Sds, GroupSds, Sent, Expire, Delete}
 use Rattle.centre_core.specs.Asked.{Asked}
 
 -- two location areas of 14 bits in order, and a keep of 32 bits
@@ -25,6 +25,7 @@ module _ {A : Type 0} where
   pdu_of (RuleClear prefix) = None
   pdu_of (Mm itsi area pdu) = Some pdu
   pdu_of (Sds source destination pdu) = Some pdu
+  pdu_of (GroupSds source group pdu) = Some pdu
   pdu_of (Sent key) = None
   pdu_of Expire = None
   pdu_of (Delete key) = None
@@ -35,6 +36,7 @@ module _ {A : Type 0} where
   BodyInRange (RuleClear prefix) = length prefix ≤ 48
   BodyInRange (Mm itsi area pdu) = (itsi < 2 ^ 48) × (area < 2 ^ 14) × (length pdu ≤ most_bits)
   BodyInRange (Sds source destination pdu) = (source < 2 ^ 48) × (destination < 2 ^ 48) × (length pdu ≤ most_bits)
+  BodyInRange (GroupSds source group pdu) = (source < 2 ^ 48) × (group < 2 ^ 48) × (length pdu ≤ most_bits)
   BodyInRange (Sent key) = KeyInRange key
   BodyInRange Expire = Unit {0}
   BodyInRange (Delete key) = KeyInRange key

@@ -2,7 +2,7 @@
 use Rattle.std.specs.Prelude.{◌≡◌}
 use Rattle.centre_core.specs.declared.command.Command.{Command}
 use Rattle.centre_core.specs.declared.command.Body.{Body}
-use Rattle.centre_core.specs.declared.command.Body.TheVariants.{RuleSet, RuleClear, Mm, Sds, Sent, Expire, Delete}
+use Rattle.centre_core.specs.declared.command.Body.TheVariants.{RuleSet, RuleClear, Mm, Sds, GroupSds, Sent, Expire, Delete}
 
 -- the same body with its bits under the allocator B
 abbrev pub body_under : {A : Type 0} (B : Type 0) → Body A → Body B
@@ -10,6 +10,7 @@ body_under B (RuleSet prefix rule) = RuleSet prefix rule
 body_under B (RuleClear prefix) = RuleClear prefix
 body_under B (Mm itsi area pdu) = Mm itsi area pdu
 body_under B (Sds source destination pdu) = Sds source destination pdu
+body_under B (GroupSds source group pdu) = GroupSds source group pdu
 body_under B (Sent key) = Sent key
 body_under B Expire = Expire
 body_under B (Delete key) = Delete key

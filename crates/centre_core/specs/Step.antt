@@ -1,5 +1,5 @@
 -- The register as a machine: what a command makes of a state, and the reply.
-use Rattle.std.specs.Prelude.{◌<◌, ◌≤◌, ℕ, zero, suc, ◌+◌, ◌-◌, ◌==◌, nat_lt, nat_le, Bool, false, ◌&&◌, List, slice_index_or, slice_set, Option, Some, None, Result, Ok, Err, if◌then◌else◌}
+use Rattle.std.specs.Prelude.{◌<◌, ◌≤◌, ℕ, zero, suc, ◌+◌, ◌-◌, ◌==◌, nat_lt, nat_le, Bool, false, ◌&&◌, List, map, slice_index_or, slice_set, Option, Some, None, Result, Ok, Err, if◌then◌else◌}
 use Rattle.std.specs.Option.{option_map}
 use Rattle.identity.specs.Path.{Path}
 use Rattle.mm_pdus.specs.declared.update.LocationUpdateType.{LocationUpdateType}
@@ -15,22 +15,26 @@ use Rattle.registration.specs.declared.rule.Rule.{Rule}
 use Rattle.registration.specs.declared.fault.RegFault.{RegFault}
 use Rattle.registration.specs.declared.fault.RegFault.TheVariants.{UnknownIdentity, LaNotAllowed, Congestion, Migration, UnsupportedType, NotAttached, RulesFull, NoMemory}
 use Rattle.registration.specs.Registered.{Registered, set_refusal, with_rule, without_rule, locate_refusal, located, detach_refusal, detached}
+use Rattle.group_attach.specs.Attached.{members_of}
 use Rattle.group_attach.specs.Applied.{after_update, applied, answers, apply_refusal}
 use Rattle.sds_tl.specs.declared.fault.SdsFault.{SdsFault}
 use Rattle.sds_tl.specs.declared.pdu.Head.{Head}
 use Rattle.sds_tl.specs.declared.pdu.Head.TheVariants as heads
 use Rattle.sds_tl.specs.Reading.{heading, cleared}
+use Rattle.sds_tl.specs.Transfers.{transfer_reference}
 use Rattle.mailbox.specs.declared.fault.MailFault.{MailFault}
 use Rattle.mailbox.specs.declared.key.Kind.TheVariants as kind
 use Rattle.mailbox.specs.declared.key.Key.{Key}
 use Rattle.mailbox.specs.declared.key.Envelope.{Envelope}
+use Rattle.mailbox.specs.declared.key.GroupEnvelope.{GroupEnvelope}
 use Rattle.mailbox.specs.Values.{Waiting, Mailed}
 use Rattle.mailbox.specs.Tests.{key_of}
 use Rattle.mailbox.specs.Mail.{waiting_for, posted, reported, acknowledged, confirmed, expired, deleted}
 use Rattle.mailbox.specs.Refusals.{post_refusal, report_refusal, ack_refusal, sent_refusal, delete_refusal}
+use Rattle.mailbox.specs.GroupPost.{copies, group_posted, group_refusal}
 use Rattle.centre_core.specs.declared.command.Command.{Command}
 use Rattle.centre_core.specs.declared.command.Body.{Body}
-use Rattle.centre_core.specs.declared.command.Body.TheVariants.{RuleSet, RuleClear, Mm, Sds, Sent, Expire, Delete}
+use Rattle.centre_core.specs.declared.command.Body.TheVariants.{RuleSet, RuleClear, Mm, Sds, GroupSds, Sent, Expire, Delete}
 use Rattle.centre_core.specs.declared.reply.Reply.{Reply}
 use Rattle.centre_core.specs.declared.reply.Reply.TheVariants.{Accepted, Kept, Refused}
 use Rattle.centre_core.specs.declared.reply.Refusal.{Refusal}
@@ -92,6 +96,17 @@ report_of s moment e pdu = waiting_for s.registered (key_of e kind.Report) (reco
 
 abbrev pub envelope : ℕ → ℕ → ℕ → Envelope
 envelope source destination reference = record { source = source; destination = destination; reference = reference }
+
+-- the radios that are attached to a group, present or not, in order of number
+abbrev pub members : State → ℕ → List ℕ
+members s group = map (λ a. a.itsi) (members_of s.groups group)
+
+-- the copies of a message to a group that the next accepted command makes, one for each member that has one
+abbrev pub copies_of : State → ℕ → GroupEnvelope → List Bool → List Waiting
+copies_of s moment e pdu = copies s.registered e (members s e.group) (record { number = s.count + 1; moment = moment }) pdu
+
+abbrev pub group_envelope : ℕ → ℕ → ℕ → GroupEnvelope
+group_envelope source group reference = record { source = source; group = group; reference = reference }
 
 -- A and B are the allocators that a command's and a reply's bits are kept under. Nothing here depends on them.
 module _ {B : Type 0} where
@@ -170,6 +185,14 @@ module _ {A B : Type 0} where
       step_report s c (envelope source destination reference) status (report_of s c.moment (envelope source destination reference) pdu)
   step_sds s c source destination pdu (Ok (heads.Ack status reference)) = step_ack s c (envelope source destination reference)
 
+  abbrev pub step_copies : State → Command A → GroupEnvelope → List Waiting → State × Reply B
+  step_copies s c e ws = step_mail s c (group_posted s.mail ws) (group_refusal s.registered s.mail e ws)
+
+  -- a message to a group by the reference of its PDU, or its first fault
+  abbrev pub step_group_sds : State → Command A → ℕ → ℕ → List Bool → Result ℕ SdsFault → State × Reply B
+  step_group_sds s c source group pdu (Err fault) = (s, Refused (ShortData fault))
+  step_group_sds s c source group pdu (Ok reference) = step_copies s c (group_envelope source group reference) (copies_of s c.moment (group_envelope source group reference) pdu)
+
   abbrev pub step_sent : State → Command A → Key → State × Reply B
   step_sent s c key = step_mail s c (confirmed s.mail key) (sent_refusal s.registered s.mail key)
 
@@ -184,6 +207,7 @@ module _ {A B : Type 0} where
   step_body s c (RuleClear prefix) = step_clear s c prefix
   step_body s c (Mm itsi area pdu) = step_mm s c itsi area (reading_up pdu)
   step_body s c (Sds source destination pdu) = step_sds s c source destination pdu (heading pdu)
+  step_body s c (GroupSds source group pdu) = step_group_sds s c source group pdu (transfer_reference (heading pdu))
   step_body s c (Sent key) = step_sent s c key
   step_body s c Expire = step_expire s c
   step_body s c (Delete key) = step_delete s c key

@@ -4,7 +4,7 @@ ghost use Rattle.centre_core.specs.Ranges.{IsShort, pdu_of, BodyInRange, RuleInR
 ghost use Rattle.centre_core.specs.Same.{body_under, under};
 
 use crate::last_accepted::bits_copy;
-use identity::{Bits, Itsi, Prefix};
+use identity::{Bits, Gtsi, Itsi, Prefix};
 use mailbox::Key;
 use registration::{LocationArea, Rule};
 use std::alloc::{AllocError, Allocator};
@@ -103,6 +103,13 @@ pub enum Body<A: Allocator> {
         destination: Itsi,
         pdu: Bits<A>,
     },
+    /// A message (SDS-TRANSFER) from a radio for the members of a group: each that is present gets a
+    /// copy, but not the radio itself.
+    GroupSds {
+        source: Itsi,
+        group: Gtsi,
+        pdu: Bits<A>,
+    },
     /// The item of this key was sent to its destination.
     Sent(Key),
     /// Removes all that waits and ends at the command's moment or before.
@@ -139,6 +146,10 @@ impl<A: Allocator> Body<A> {
                 let _parts = (source.number(), destination.number());
                 pdu.len() <= MOST_BITS
             }
+            Body::GroupSds { source, group, pdu } => {
+                let _parts = (source.number(), group.number());
+                pdu.len() <= MOST_BITS
+            }
             Body::Sent(key) | Body::Delete(key) => {
                 keep_key(key);
                 true
@@ -170,6 +181,11 @@ impl<A: Allocator> Body<A> {
             } => Ok(Body::Sds {
                 source: *source,
                 destination: *destination,
+                pdu: bits_copy(alloc, pdu)?,
+            }),
+            Body::GroupSds { source, group, pdu } => Ok(Body::GroupSds {
+                source: *source,
+                group: *group,
                 pdu: bits_copy(alloc, pdu)?,
             }),
             Body::Sent(key) => Ok(Body::Sent(*key)),

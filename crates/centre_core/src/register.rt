@@ -1,5 +1,6 @@
 //! The register and its calls.
 
+mod group_messages;
 mod messages;
 
 ghost use Rattle.std.specs.Prelude.{◌≡◌, ◌<◌, ◌≤◌, ◌+◌, IfOk, OnErr, None};
@@ -212,6 +213,9 @@ impl<A: Allocator + Clone> Register<A> {
                 destination,
                 pdu,
             } => self.short_data(command, *source, *destination, pdu),
+            Body::GroupSds { source, group, pdu } => {
+                self.group_short_data(alloc, command, *source, *group, pdu)
+            }
             Body::Sent(key) => Ok(self.sent(command, key)),
             Body::Expire => Ok(self.expire(command)),
             Body::Delete(key) => Ok(self.delete(command, key)),

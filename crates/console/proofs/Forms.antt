@@ -15,8 +15,8 @@ use Rattle.identity.specs.NumberText.{judged}
 use Rattle.identity.specs.BitsText.{digit_bits, bits_form, reading_bits}
 use Rattle.identity.specs.declared.fault.Fault.TheVariants.{OutOfRange, NoMemory}
 use Rattle.centre_core.specs.declared.command.Body.{Body}
-use Rattle.centre_core.specs.declared.command.Body.TheVariants.{RuleSet, RuleClear, Mm, Sds, Sent, Expire, Delete}
-use Rattle.console.specs.Reading.{of_words, order, sequence_of, GivesPdu, not_zero, seconds_in, area_in, head_of, head_in, key_in, rule_in, saying, mm_body, sds_body, rule_body, body_in}
+use Rattle.centre_core.specs.declared.command.Body.TheVariants.{RuleSet, RuleClear, Mm, Sds, GroupSds, Sent, Expire, Delete}
+use Rattle.console.specs.Reading.{of_words, order, sequence_of, GivesPdu, not_zero, seconds_in, area_in, head_of, head_in, key_in, rule_in, saying, mm_body, sds_body, group_sds_body, rule_body, body_in}
 use Rattle.console.specs.declared.order.Head.{Head}
 use Rattle.console.specs.declared.line.LineFault.{LineFault}
 use Rattle.console.specs.declared.line.LineFault.TheVariants.{Syntax, Value}
@@ -66,6 +66,12 @@ module _ (A : Type 0) where
   sds_short (Some source) (Some destination) None short = tt
   sds_short (Some source) (Some destination) (Some pdu) short = short
 
+  group_sds_short : (source group : Option ℕ) (pdu : Option (List Bool)) → IsShort pdu → HasShortPdu (group_sds_body {A = A} source group pdu)
+  group_sds_short None group pdu short = tt
+  group_sds_short (Some source) None pdu short = tt
+  group_sds_short (Some source) (Some group) None short = tt
+  group_sds_short (Some source) (Some group) (Some pdu) short = short
+
   rule_short : (prefix : Option Path) (rule : Option Terms) → HasShortPdu (rule_body {A = A} prefix rule)
   rule_short None rule = tt
   rule_short (Some prefix) None = tt
@@ -94,7 +100,8 @@ module _ (A : Type 0) where
   body_short name (a ∷ b ∷ c ∷ []) =
       let short : IsShort (result_ok (reading_bits c)) = bits_short c (reading_bits c) refl in
       either_short (bytes_eq name (codes "mm")) (mm_body (result_ok (reading_identity a)) (area_in b) (result_ok (reading_bits c))) _ (mm_short (result_ok (reading_identity a)) (area_in b) (result_ok (reading_bits c)) short)
-      (either_short (bytes_eq name (codes "sds")) (sds_body (result_ok (reading_identity a)) (result_ok (reading_identity b)) (result_ok (reading_bits c))) (Err Syntax) (sds_short (result_ok (reading_identity a)) (result_ok (reading_identity b)) (result_ok (reading_bits c)) short) tt)
+      (either_short (bytes_eq name (codes "sds")) (sds_body (result_ok (reading_identity a)) (result_ok (reading_identity b)) (result_ok (reading_bits c))) _ (sds_short (result_ok (reading_identity a)) (result_ok (reading_identity b)) (result_ok (reading_bits c)) short)
+      (either_short (bytes_eq name (codes "gsds")) (group_sds_body (result_ok (reading_identity a)) (result_ok (reading_identity b)) (result_ok (reading_bits c))) (Err Syntax) (group_sds_short (result_ok (reading_identity a)) (result_ok (reading_identity b)) (result_ok (reading_bits c)) short) tt))
   body_short name (a ∷ b ∷ c ∷ d ∷ []) =
       either_short (bytes_eq name (codes "sent")) (saying Sent (key_in a b c d)) _ (sent_short (key_in a b c d)) (either_short (bytes_eq name (codes "delete")) (saying Delete (key_in a b c d)) (Err Syntax) (delete_short (key_in a b c d)) tt)
   body_short name (a ∷ b ∷ c ∷ d ∷ e ∷ []) =
@@ -107,6 +114,7 @@ unread station head (Ok (RuleSet prefix rule)) pdu = absurd pdu
 unread station head (Ok (RuleClear prefix)) pdu = absurd pdu
 unread station head (Ok (Mm itsi area bits)) pdu = refl
 unread station head (Ok (Sds source destination bits)) pdu = refl
+unread station head (Ok (GroupSds source group bits)) pdu = refl
 unread station head (Ok (Sent key)) pdu = absurd pdu
 unread station head (Ok Expire) pdu = absurd pdu
 unread station head (Ok (Delete key)) pdu = absurd pdu

@@ -1,5 +1,5 @@
 -- Which lines are bad.
-use Rattle.std.proofs.Common.{◌≡◌, ◌⊎◌, inl, inr, ℕ, ◌<◌, ◌≤◌, Bool, true, false, ◌||◌, List, [], ◌∷◌, length, refl, sym, ◌∙◌, ap, subst, arith, Option, Some, None, Result, Ok, Err, nat_lt}
+use Rattle.std.proofs.Common.{◌≡◌, inl, inr, ℕ, ◌<◌, ◌≤◌, Bool, true, false, ◌||◌, List, [], ◌∷◌, length, refl, sym, ◌∙◌, ap, subst, arith, Option, Some, None, Result, Ok, Err, nat_lt}
 use Rattle.std.specs.Prelude.{if◌then◌else◌, codes}
 use Rattle.std.specs.Result.{result_ok}
 use Rattle.std.specs.Str.{bytes_eq}
@@ -18,8 +18,8 @@ use Rattle.console.specs.declared.line.LineFault.{LineFault}
 use Rattle.console.specs.declared.line.LineFault.TheVariants.{Syntax, Value, TooLong}
 use Rattle.console.specs.declared.line.Line.{Line}
 use Rattle.console.specs.declared.line.Line.TheVariants.{Silent, Bad, Order, Ask}
-use Rattle.console.specs.Reading.{words, of_words, is_silent, reading, head_in, area_in, rule_in, key_in, rule_body, mm_body, sds_body, body_in, order, saying, query_in, ask}
-use Rattle.console.specs.Spelling.{SpellsCommand, Askable, query_text, has_form, SpellsSome, IsJudged, BadLines}
+use Rattle.console.specs.Reading.{words, of_words, is_silent, reading, head_in, area_in, rule_in, key_in, rule_body, mm_body, sds_body, group_sds_body, body_in, order, saying, query_in, ask}
+use Rattle.console.specs.Spelling.{has_form, SpellsSome, BadLines}
 use Rattle.console.proofs.Spelled.{only_commands, only_queries}
 use Rattle.console.proofs.Taken.{all_commands, all_queries}
 
@@ -84,6 +84,12 @@ module _ (A : Type 0) where
   formed_sds (Some s) (Some d) None = tt
   formed_sds (Some s) (Some d) (Some p) = tt
 
+  formed_group_sds : (s g : Option ℕ) (p : Option (List Bool)) → IsFormed (group_sds_body {A = A} s g p)
+  formed_group_sds None g p = tt
+  formed_group_sds (Some s) None p = tt
+  formed_group_sds (Some s) (Some g) None = tt
+  formed_group_sds (Some s) (Some g) (Some p) = tt
+
   body_formed : (s m name : List ℕ) (more : List (List ℕ)) → has_form (s ∷ m ∷ name ∷ more) ≡ true → IsFormed (body_in {A = A} name more)
   body_formed s m name [] e = last_formed (bytes_eq name (codes "expire")) (Ok Expire) tt e
   body_formed s m name (a ∷ []) e = last_formed (bytes_eq name (codes "unrule")) (saying RuleClear (result_ok (reading_prefix a))) (formed_saying RuleClear (result_ok (reading_prefix a))) e
@@ -91,8 +97,10 @@ module _ (A : Type 0) where
   body_formed s m name (a ∷ b ∷ c ∷ []) e =
       formed_if (bytes_eq name (codes "mm")) _ (mm_body (result_ok (reading_identity a)) (area_in b) (result_ok (reading_bits c))) _
       (formed_mm (result_ok (reading_identity a)) (area_in b) (result_ok (reading_bits c)))
-      (last_formed (bytes_eq name (codes "sds")) (sds_body (result_ok (reading_identity a)) (result_ok (reading_identity b)) (result_ok (reading_bits c)))
-      (formed_sds (result_ok (reading_identity a)) (result_ok (reading_identity b)) (result_ok (reading_bits c)))) e
+      (formed_if (bytes_eq name (codes "sds")) _ (sds_body (result_ok (reading_identity a)) (result_ok (reading_identity b)) (result_ok (reading_bits c))) _
+      (formed_sds (result_ok (reading_identity a)) (result_ok (reading_identity b)) (result_ok (reading_bits c)))
+      (last_formed (bytes_eq name (codes "gsds")) (group_sds_body (result_ok (reading_identity a)) (result_ok (reading_identity b)) (result_ok (reading_bits c)))
+      (formed_group_sds (result_ok (reading_identity a)) (result_ok (reading_identity b)) (result_ok (reading_bits c))))) e
   body_formed s m name (a ∷ b ∷ c ∷ d ∷ []) e =
       formed_if (bytes_eq name (codes "sent")) _ (saying Sent (key_in a b c d)) _ (formed_saying Sent (key_in a b c d))
       (last_formed (bytes_eq name (codes "delete")) (saying Delete (key_in a b c d)) (formed_saying Delete (key_in a b c d))) e
@@ -106,7 +114,8 @@ module _ (A : Type 0) where
   body_formless s m name (a ∷ b ∷ []) e = refl
   body_formless s m name (a ∷ b ∷ c ∷ []) e =
       formless_if (bytes_eq name (codes "mm")) _ (mm_body (result_ok (reading_identity a)) (area_in b) (result_ok (reading_bits c))) _
-      (last_formless (bytes_eq name (codes "sds")) (sds_body (result_ok (reading_identity a)) (result_ok (reading_identity b)) (result_ok (reading_bits c)))) e
+      (formless_if (bytes_eq name (codes "sds")) _ (sds_body (result_ok (reading_identity a)) (result_ok (reading_identity b)) (result_ok (reading_bits c))) _
+      (last_formless (bytes_eq name (codes "gsds")) (group_sds_body (result_ok (reading_identity a)) (result_ok (reading_identity b)) (result_ok (reading_bits c))))) e
   body_formless s m name (a ∷ b ∷ c ∷ d ∷ []) e =
       formless_if (bytes_eq name (codes "sent")) _ (saying Sent (key_in a b c d)) _
       (last_formless (bytes_eq name (codes "delete")) (saying Delete (key_in a b c d))) e

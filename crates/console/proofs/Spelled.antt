@@ -8,7 +8,7 @@ use Rattle.std.proofs.lemmas.List.Splits.{join_with_byte-slice_split}
 use Rattle.std.proofs.lemmas.Slice.Eq.{bytes_eq-Decides}
 use Rattle.identity.specs.Path.{Path}
 use Rattle.identity.specs.IdentityText.{identity_text, prefix_text, reading_identity, reading_prefix}
-use Rattle.identity.specs.BitsText.{SpellsBits, reading_bits}
+use Rattle.identity.specs.BitsText.{reading_bits}
 use Rattle.identity.specs.NumberText.{reading_number}
 use Rattle.identity.proofs.Texts.{reading_number_only, none_some, some_same, chosen_some}
 use Rattle.identity.proofs.IdentityTexts.{reading_identity_only, reading_prefix_only}
@@ -22,7 +22,7 @@ use Rattle.mailbox.specs.declared.key.Kind.{Kind}
 use Rattle.mailbox.specs.declared.key.Kind.TheVariants.{Message, Report}
 use Rattle.centre_core.specs.declared.command.Command.{Command}
 use Rattle.centre_core.specs.declared.command.Body.{Body}
-use Rattle.centre_core.specs.declared.command.Body.TheVariants.{RuleSet, RuleClear, Mm, Sds, Sent, Expire, Delete}
+use Rattle.centre_core.specs.declared.command.Body.TheVariants.{RuleSet, RuleClear, Mm, Sds, GroupSds, Sent, Expire, Delete}
 use Rattle.centre_core.specs.declared.query.Query.{Query}
 use Rattle.centre_core.specs.declared.query.Query.TheVariants.{Whereabouts, Look, GroupsOf, MembersOf, Waiting, Total}
 use Rattle.console.specs.declared.order.Head.{Head}
@@ -30,7 +30,7 @@ use Rattle.console.specs.declared.line.LineFault.{LineFault}
 use Rattle.console.specs.declared.line.LineFault.TheVariants.{Syntax, Value, TooLong}
 use Rattle.console.specs.declared.line.Line.{Line}
 use Rattle.console.specs.declared.line.Line.TheVariants.{Silent, Bad, Order, Ask}
-use Rattle.console.specs.Reading.{words, of_words, is_silent, seconds_in, not_zero, sequence_in, head_of, head_in, area_in, lifetime_in, rule_of, rule_in, reference_in, kind_in, key_of, key_in, rule_body, mm_body, sds_body, body_in, order, saying, query_in, ask}
+use Rattle.console.specs.Reading.{words, of_words, is_silent, seconds_in, not_zero, sequence_in, head_of, head_in, area_in, lifetime_in, rule_of, rule_in, reference_in, kind_in, key_of, key_in, rule_body, mm_body, sds_body, group_sds_body, body_in, order, saying, query_in, ask}
 use Rattle.mailbox.specs.Values.{KeyInRange}
 use Rattle.centre_core.specs.Ranges.{BodyInRange, InRange}
 use Rattle.console.specs.Words.{kind_word}
@@ -193,6 +193,13 @@ module _ {A : Type 0} where
   sds_only (Some s) None p b e = absurd (err_ok Value b e)
   sds_only (Some s) (Some d) None b e = absurd (err_ok Value b e)
 
+  group_sds_only : (s g : Option ℕ) (p : Option (List Bool)) (b : Body A) → group_sds_body s g p ≡ Ok b →
+      (source : ℕ) × (group : ℕ) × (pdu : List Bool) × (s ≡ Some source) × (g ≡ Some group) × (p ≡ Some pdu) × (GroupSds source group pdu ≡ b)
+  group_sds_only (Some s) (Some g) (Some p) b e = (s, g, p, refl, refl, refl, ok_same (GroupSds s g p) b e)
+  group_sds_only None g p b e = absurd (err_ok Value b e)
+  group_sds_only (Some s) None p b e = absurd (err_ok Value b e)
+  group_sds_only (Some s) (Some g) None b e = absurd (err_ok Value b e)
+
   rule_only : (p : Option Path) (r : Option Terms) (b : Body A) → rule_body p r ≡ Ok b →
       (prefix : Path) × (rule : Terms) × (p ≡ Some prefix) × (r ≡ Some rule) × (RuleSet prefix rule ≡ b)
   rule_only (Some p) (Some r) b e = (p, r, refl, refl, ok_same (RuleSet p r) b e)
@@ -220,6 +227,15 @@ module _ {A : Type 0} where
       let spelt = reading_bits_only f.2 p (ok_of (reading_bits p) f.2 f.5) in
       subst (λ (c : Body A). Says c (codes "sds" ∷ s ∷ d ∷ p ∷ [])) f.6
       ((is_s.0, is_d.0, spelt.0), (p, spelt.1, ap (λ w. codes "sds" ∷ w ∷ d ∷ p ∷ []) is_s.1 ∙ ap (λ w. codes "sds" ∷ identity_text f.0 ∷ w ∷ p ∷ []) is_d.1))
+
+  group_sds_spelled : (s g p : List ℕ) (b : Body A) → group_sds_body (result_ok (reading_identity s)) (result_ok (reading_identity g)) (result_ok (reading_bits p)) ≡ Ok b → Says b (codes "gsds" ∷ s ∷ g ∷ p ∷ [])
+  group_sds_spelled s g p b e =
+      let f = group_sds_only (result_ok (reading_identity s)) (result_ok (reading_identity g)) (result_ok (reading_bits p)) b e in
+      let is_s = reading_identity_only f.0 s (ok_of (reading_identity s) f.0 f.3) in
+      let is_g = reading_identity_only f.1 g (ok_of (reading_identity g) f.1 f.4) in
+      let spelt = reading_bits_only f.2 p (ok_of (reading_bits p) f.2 f.5) in
+      subst (λ (c : Body A). Says c (codes "gsds" ∷ s ∷ g ∷ p ∷ [])) f.6
+      ((is_s.0, is_g.0, spelt.0), (p, spelt.1, ap (λ w. codes "gsds" ∷ w ∷ g ∷ p ∷ []) is_s.1 ∙ ap (λ w. codes "gsds" ∷ identity_text f.0 ∷ w ∷ p ∷ []) is_g.1))
 
   -- sent and delete
   key_spelled : (about : Key → Body A) (keyword name d s r k : List ℕ) (b : Body A) → ((key : Key) → KeyInRange key → Says (about key) (keyword ∷ key_words key)) →
@@ -266,9 +282,11 @@ module _ {A : Type 0} where
   body_spelled name (x ∷ y ∷ p ∷ []) b e =
       or_else (bytes_eq name (codes "mm")) (mm_body (result_ok (reading_identity x)) (area_in y) (result_ok (reading_bits p))) _ b
       (λ is said. subst (λ (word : List ℕ). Says b (word ∷ x ∷ y ∷ p ∷ [])) (sym (named name (codes "mm") is)) (mm_spelled x y p b said))
-      (or_else (bytes_eq name (codes "sds")) (sds_body (result_ok (reading_identity x)) (result_ok (reading_identity y)) (result_ok (reading_bits p))) (Err Syntax) b
+      (or_else (bytes_eq name (codes "sds")) (sds_body (result_ok (reading_identity x)) (result_ok (reading_identity y)) (result_ok (reading_bits p))) _ b
       (λ is said. subst (λ (word : List ℕ). Says b (word ∷ x ∷ y ∷ p ∷ [])) (sym (named name (codes "sds") is)) (sds_spelled x y p b said))
-      (λ none. absurd (err_ok Syntax b none))) e
+      (or_else (bytes_eq name (codes "gsds")) (group_sds_body (result_ok (reading_identity x)) (result_ok (reading_identity y)) (result_ok (reading_bits p))) (Err Syntax) b
+      (λ is said. subst (λ (word : List ℕ). Says b (word ∷ x ∷ y ∷ p ∷ [])) (sym (named name (codes "gsds") is)) (group_sds_spelled x y p b said))
+      (λ none. absurd (err_ok Syntax b none)))) e
   body_spelled name (d ∷ s ∷ r ∷ k ∷ []) b e =
       or_else (bytes_eq name (codes "sent")) (saying Sent (key_in d s r k)) _ b (key_spelled Sent (codes "sent") name d s r k b (λ key range. (range, refl)))
       (or_else (bytes_eq name (codes "delete")) (saying Delete (key_in d s r k)) (Err Syntax) b (key_spelled Delete (codes "delete") name d s r k b (λ key range. (range, refl)))

@@ -27,14 +27,14 @@ use Rattle.mailbox.specs.declared.key.Key.{Key}
 use Rattle.mailbox.specs.declared.key.Kind.{Kind}
 use Rattle.mailbox.specs.declared.key.Kind.TheVariants.{Message, Report}
 use Rattle.centre_core.specs.declared.command.Body.{Body}
-use Rattle.centre_core.specs.declared.command.Body.TheVariants.{RuleSet, RuleClear, Mm, Sds, Sent, Expire, Delete}
+use Rattle.centre_core.specs.declared.command.Body.TheVariants.{RuleSet, RuleClear, Mm, Sds, GroupSds, Sent, Expire, Delete}
 use Rattle.centre_core.specs.declared.query.Query.{Query}
 use Rattle.centre_core.specs.declared.query.Query.TheVariants.{Whereabouts, Look, GroupsOf, MembersOf, Waiting, Total}
 use Rattle.console.specs.declared.order.Head.{Head}
 use Rattle.console.specs.declared.line.LineFault.{LineFault}
 use Rattle.console.specs.declared.line.Line.{Line}
 use Rattle.console.specs.declared.line.Line.TheVariants.{Order, Ask}
-use Rattle.console.specs.Reading.{Lacks, words, of_words, reading, is_silent, seconds_in, not_zero, sequence_in, head_of, head_in, area_in, lifetime_in, rule_of, rule_in, reference_in, kind_in, key_of, key_in, rule_body, mm_body, sds_body, body_in, order, saying, query_in, ask}
+use Rattle.console.specs.Reading.{Lacks, words, of_words, reading, is_silent, seconds_in, not_zero, sequence_in, head_of, head_in, area_in, lifetime_in, rule_of, rule_in, reference_in, kind_in, key_of, key_in, rule_body, mm_body, sds_body, group_sds_body, body_in, order, saying, query_in, ask}
 use Rattle.console.specs.Words.{kind_word}
 use Rattle.mailbox.specs.Values.{KeyInRange}
 use Rattle.centre_core.specs.Ranges.{BodyInRange}
@@ -188,6 +188,9 @@ module _ {A : Type 0} where
   sds_same : (s d : ℕ) (p : List Bool) (s' d' : Option ℕ) (p' : Option (List Bool)) → s' ≡ Some s → d' ≡ Some d → p' ≡ Some p → sds_body {A = A} s' d' p' ≡ Ok (Sds s d p)
   sds_same s d p s' d' p' es ed ep = rw (es, ed, ep) refl
 
+  group_sds_same : (s g : ℕ) (p : List Bool) (s' g' : Option ℕ) (p' : Option (List Bool)) → s' ≡ Some s → g' ≡ Some g → p' ≡ Some p → group_sds_body {A = A} s' g' p' ≡ Ok (GroupSds s g p)
+  group_sds_same s g p s' g' p' es eg ep = rw (es, eg, ep) refl
+
   rule_same : (p : Path) (r : Terms) (p' : Option Path) (r' : Option Terms) → p' ≡ Some p → r' ≡ Some r → rule_body {A = A} p' r' ≡ Ok (RuleSet p r)
   rule_same p r p' r' ep er = rw (ep, er) refl
 
@@ -241,6 +244,15 @@ module _ {A : Type 0} where
         sds_same source destination pdu (result_ok (reading_identity (identity_text source))) (result_ok (reading_identity (identity_text destination))) (result_ok (reading_bits spelt.0))
             (ap result_ok (reading_identity_again source range.0)) (ap result_ok (reading_identity_again destination range.1)) (ap result_ok (reading_bits_again pdu spelt.0 range.2 spelt.1)),
         (letters_lack (codes "sds") refl, (identity_lacks source range.0, (identity_lacks destination range.1, (bits_lack spelt.0 pdu range.2 spelt.1, tt)))),
+      )
+  body_taken (GroupSds source group pdu) body range spelt =
+      subst (λ (ws : List (List ℕ)). IsTaken (GroupSds source group pdu) ws) (sym spelt.2) (
+        codes "gsds",
+        identity_text source ∷ identity_text group ∷ spelt.0 ∷ [],
+        refl,
+        group_sds_same source group pdu (result_ok (reading_identity (identity_text source))) (result_ok (reading_identity (identity_text group))) (result_ok (reading_bits spelt.0))
+            (ap result_ok (reading_identity_again source range.0)) (ap result_ok (reading_identity_again group range.1)) (ap result_ok (reading_bits_again pdu spelt.0 range.2 spelt.1)),
+        (letters_lack (codes "gsds") refl, (identity_lacks source range.0, (identity_lacks group range.1, (bits_lack spelt.0 pdu range.2 spelt.1, tt)))),
       )
   body_taken (Sent key) body range spelt =
       subst (λ (ws : List (List ℕ)). IsTaken (Sent key) ws) (sym spelt)

@@ -51,8 +51,13 @@ member_text a = codes "member " ++ identity_text a.itsi ++ codes " " ++ decimal 
 abbrev pub key_text : Key → List ℕ
 key_text key = kind_word key.kind ++ codes " " ++ identity_text key.source ++ codes " " ++ decimal key.reference
 
+-- the end of its line: a copy of a message to a group names the group
+abbrev pub item_end : Option ℕ → List ℕ
+item_end None = codes "\n"
+item_end (Some group) = codes " " ++ identity_text group ++ codes "\n"
+
 abbrev pub item_text : Waiting → List ℕ
-item_text i = codes "item " ++ decimal i.number ++ codes " " ++ key_text i.key ++ codes " " ++ decimal i.deadline ++ codes " " ++ bits_text i.pdu ++ codes "\n"
+item_text i = codes "item " ++ decimal i.number ++ codes " " ++ key_text i.key ++ codes " " ++ decimal i.deadline ++ codes " " ++ bits_text i.pdu ++ item_end i.group
 
 -- a list is announced by how many lines follow
 abbrev pub list_text : {T : Type 0} → (T → List ℕ) → List T → List ℕ

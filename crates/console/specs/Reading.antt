@@ -15,7 +15,7 @@ use Rattle.mailbox.specs.declared.key.Key.{Key}
 use Rattle.mailbox.specs.declared.key.Kind.{Kind}
 use Rattle.mailbox.specs.declared.key.Kind.TheVariants.{Message, Report}
 use Rattle.centre_core.specs.declared.command.Body.{Body}
-use Rattle.centre_core.specs.declared.command.Body.TheVariants.{RuleSet, RuleClear, Mm, Sds, Sent, Expire, Delete}
+use Rattle.centre_core.specs.declared.command.Body.TheVariants.{RuleSet, RuleClear, Mm, Sds, GroupSds, Sent, Expire, Delete}
 use Rattle.centre_core.specs.declared.query.Query.{Query}
 use Rattle.centre_core.specs.declared.query.Query.TheVariants.{Whereabouts, Look, GroupsOf, MembersOf, Waiting, Total}
 use Rattle.console.specs.declared.order.Head.{Head}
@@ -118,6 +118,11 @@ module _ {A : Type 0} where
   sds_body (Some source) (Some destination) (Some pdu) = Ok (Sds source destination pdu)
   sds_body source destination pdu = Err Value
 
+  -- gsds SOURCE GTSI PDU
+  abbrev pub group_sds_body : Option ℕ → Option ℕ → Option (List Bool) → Result (Body A) LineFault
+  group_sds_body (Some source) (Some group) (Some pdu) = Ok (GroupSds source group pdu)
+  group_sds_body source group pdu = Err Value
+
   -- by the word that names the form and the number of words behind it; each of these is judged after that
   abbrev pub body_in : List ℕ → List (List ℕ) → Result (Body A) LineFault
   body_in name [] = if bytes_eq name (codes "expire") then Ok Expire else Err Syntax
@@ -125,7 +130,9 @@ module _ {A : Type 0} where
   body_in name (first ∷ second ∷ pdu ∷ []) = if bytes_eq name (codes "mm")
       then mm_body (result_ok (reading_identity first)) (area_in second) (result_ok (reading_bits pdu))
       else (if bytes_eq name (codes "sds")
-      then sds_body (result_ok (reading_identity first)) (result_ok (reading_identity second)) (result_ok (reading_bits pdu)) else Err Syntax)
+      then sds_body (result_ok (reading_identity first)) (result_ok (reading_identity second)) (result_ok (reading_bits pdu))
+      else (if bytes_eq name (codes "gsds")
+      then group_sds_body (result_ok (reading_identity first)) (result_ok (reading_identity second)) (result_ok (reading_bits pdu)) else Err Syntax))
   body_in name (destination ∷ source ∷ reference ∷ kind ∷ []) = if bytes_eq name (codes "sent") then saying Sent (key_in destination source reference kind)
       else (if bytes_eq name (codes "delete") then saying Delete (key_in destination source reference kind) else Err Syntax)
   body_in name (prefix ∷ low ∷ high ∷ lifetime ∷ keep ∷ []) = if bytes_eq name (codes "rule")
@@ -162,6 +169,7 @@ module _ {A : Type 0} where
   abbrev pub HasPdu : Body A → Type 0
   HasPdu (Mm itsi area pdu) = Unit {0}
   HasPdu (Sds source destination pdu) = Unit {0}
+  HasPdu (GroupSds source group pdu) = Unit {0}
   HasPdu other = ⊥
 
   -- the words are a body with a PDU
@@ -175,6 +183,7 @@ module _ {A : Type 0} where
   with_pdu sequence (RuleClear prefix) = None
   with_pdu sequence (Mm itsi area pdu) = Some sequence
   with_pdu sequence (Sds source destination pdu) = Some sequence
+  with_pdu sequence (GroupSds source group pdu) = Some sequence
   with_pdu sequence (Sent key) = None
   with_pdu sequence Expire = None
   with_pdu sequence (Delete key) = None

@@ -8,7 +8,7 @@ use Rattle.mm_pdus.specs.Values.{lifetime_number}
 use Rattle.mailbox.specs.declared.key.Key.{Key}
 use Rattle.centre_core.specs.declared.command.Command.{Command}
 use Rattle.centre_core.specs.declared.command.Body.{Body}
-use Rattle.centre_core.specs.declared.command.Body.TheVariants.{RuleSet, RuleClear, Mm, Sds, Sent, Expire, Delete}
+use Rattle.centre_core.specs.declared.command.Body.TheVariants.{RuleSet, RuleClear, Mm, Sds, GroupSds, Sent, Expire, Delete}
 use Rattle.centre_core.specs.Ranges.{InRange}
 use Rattle.centre_core.specs.declared.query.Query.{Query}
 use Rattle.centre_core.specs.declared.query.Query.TheVariants.{Whereabouts, Look, GroupsOf, MembersOf, Waiting, Total}
@@ -35,6 +35,8 @@ module _ {A : Type 0} where
       (digits : List ℕ) × SpellsBits digits pdu × (words ≡ codes "mm" ∷ identity_text itsi ∷ decimal area ∷ digits ∷ [])
   SpellsBody (Sds source destination pdu) words =
       (digits : List ℕ) × SpellsBits digits pdu × (words ≡ codes "sds" ∷ identity_text source ∷ identity_text destination ∷ digits ∷ [])
+  SpellsBody (GroupSds source group pdu) words =
+      (digits : List ℕ) × SpellsBits digits pdu × (words ≡ codes "gsds" ∷ identity_text source ∷ identity_text group ∷ digits ∷ [])
   SpellsBody (Sent key) words = words ≡ codes "sent" ∷ key_words key
   SpellsBody Expire words = words ≡ codes "expire" ∷ []
   SpellsBody (Delete key) words = words ≡ codes "delete" ∷ key_words key
@@ -83,7 +85,7 @@ has_form (name ∷ []) = is_one_of (codes "count" ∷ []) name
 has_form (name ∷ identity ∷ []) = is_one_of (codes "where" ∷ codes "look" ∷ codes "groups" ∷ codes "members" ∷ codes "mail" ∷ []) name
 has_form (sequence ∷ moment ∷ name ∷ []) = is_one_of (codes "expire" ∷ []) name
 has_form (sequence ∷ moment ∷ name ∷ a ∷ []) = is_one_of (codes "unrule" ∷ []) name
-has_form (sequence ∷ moment ∷ name ∷ a ∷ b ∷ c ∷ []) = is_one_of (codes "mm" ∷ codes "sds" ∷ []) name
+has_form (sequence ∷ moment ∷ name ∷ a ∷ b ∷ c ∷ []) = is_one_of (codes "mm" ∷ codes "sds" ∷ codes "gsds" ∷ []) name
 has_form (sequence ∷ moment ∷ name ∷ a ∷ b ∷ c ∷ d ∷ []) = is_one_of (codes "sent" ∷ codes "delete" ∷ []) name
 has_form (sequence ∷ moment ∷ name ∷ a ∷ b ∷ c ∷ d ∷ e ∷ []) = is_one_of (codes "rule" ∷ []) name
 has_form other = false

@@ -5,7 +5,7 @@ ghost use Rattle.identity.specs.NumberText.{Keeps};
 ghost use Rattle.identity.specs.IdentityText.{identity_text};
 ghost use Rattle.centre_core.specs.Ranges.{IsShort};
 ghost use Rattle.console.specs.Parts.{part_text, part_room, pdu_room};
-ghost use Rattle.console.specs.Answer.{text, pdu_text, reply_text, refusal_text, told_text, group_text, member_text, item_text, key_text, whereabouts_text, rule_text, presence_text, HasShortPdu, HasShortReject, IsOneLine, IsLine, answer_room};
+ghost use Rattle.console.specs.Answer.{text, pdu_text, reply_text, refusal_text, told_text, group_text, member_text, item_text, item_end, key_text, whereabouts_text, rule_text, presence_text, HasShortPdu, HasShortReject, IsOneLine, IsLine, answer_room};
 
 use crate::answer::Answer;
 use crate::text_part::{Part, pdu_part, put_parts};
@@ -14,7 +14,7 @@ use crate::words::{
 };
 use centre_core::{Refusal, Reply, Told};
 use group_attach::Attachment;
-use identity::{Bits, Itsi, Prefix};
+use identity::{Bits, Gtsi, Itsi, Prefix};
 use mailbox::{Item, Key};
 use registration::{Radio, Rule};
 use std::alloc::{AllocError, Allocator};
@@ -433,9 +433,25 @@ fn put_item<A: Allocator, B: Allocator>(
             Part::Number(item.deadline()),
             Part::Text(" "),
             Part::Pdu(item.pdu()),
-            Part::Text("\n"),
         ],
-    )
+    )?;
+    put_item_end(out, item.group())
+}
+
+/// The end of an item's line, which names the group of a copy.
+#[tactic(auto, using(std::proofs::Common::append_assoc))]
+fn put_item_end<A: Allocator>(out: &mut Vec<u8, A>, group: Option<Gtsi>) -> Result<(), AllocError>
+    ensures ok { OnOk result (out.new.items ≡ out.old.items ++ item_end group) }
+    ensures err { OnErr result (Keeps out.old.items out.new.items) }
+    ensures full { OnErr result (vec_capacity out.old < vec_len out.old + length (item_end group)) }
+    ensures capacity { vec_capacity out.old ≤ vec_capacity out.new }
+{
+    let Some(group) = group else {
+        let end: [Part; 1] = [Part::Text("\n")];
+        return put_parts(out, &end);
+    };
+    let end: [Part; 3] = [Part::Text(" "), Part::Group(group), Part::Text("\n")];
+    put_parts(out, &end)
 }
 
 #[tactic(auto, using(std::proofs::Common::append_assoc))]

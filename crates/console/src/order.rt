@@ -5,7 +5,7 @@ ghost use Rattle.identity.specs.IdentityText.{reading_identity, reading_prefix};
 ghost use Rattle.identity.specs.BitsText.{reading_bits};
 ghost use Rattle.centre_core.specs.declared.query.Query.TheVariants.{Whereabouts};
 ghost use Rattle.centre_core.specs.declared.command.Body.TheVariants.{RuleClear};
-ghost use Rattle.console.specs.Reading.{query_in, body_in, mm_body, sds_body, rule_body, GivesPdu, head_in, seconds_in, sequence_in, area_in, lifetime_in, rule_in, reference_in, kind_in, key_in, saying};
+ghost use Rattle.console.specs.Reading.{query_in, body_in, mm_body, sds_body, group_sds_body, rule_body, GivesPdu, head_in, seconds_in, sequence_in, area_in, lifetime_in, rule_in, reference_in, kind_in, key_in, saying};
 
 use crate::line::LineFault;
 use centre_core::{Body, Query};
@@ -79,6 +79,9 @@ pub(crate) fn body_in<A: Allocator>(
             }
             if name == b"sds".as_slice() {
                 return sds_body(alloc, first, second, pdu);
+            }
+            if name == b"gsds".as_slice() {
+                return group_sds_body(alloc, first, second, pdu);
             }
             Ok(Err(LineFault::Syntax))
         }
@@ -156,6 +159,25 @@ fn sds_body<A: Allocator>(
         destination,
         pdu,
     }))
+}
+
+/// `gsds SOURCE GTSI PDU`
+fn group_sds_body<A: Allocator>(
+    alloc: A,
+    source: &[u8],
+    group: &[u8],
+    pdu: &[u8],
+) -> Result<Result<Body<A>, LineFault>, AllocError>
+    ensures ok { IfOk result (λ said. said ≡ group_sds_body (result_ok (reading_identity source.now)) (result_ok (reading_identity group.now)) (result_ok (reading_bits pdu.now))) }
+    ensures err { OnErr result (GivesPdu (group_sds_body {A = A} (result_ok (reading_identity source.now)) (result_ok (reading_identity group.now)) (result_ok (reading_bits pdu.now)))) }
+{
+    let (Ok(source), Ok(group)) = (parse_itsi(source), parse_gtsi(group)) else {
+        return Ok(Err(LineFault::Value));
+    };
+    let Some(pdu) = bits_in(alloc, pdu)? else {
+        return Ok(Err(LineFault::Value));
+    };
+    Ok(Ok(Body::GroupSds { source, group, pdu }))
 }
 
 /// `rule PREFIX LOW HIGH LIFE KEEP`

@@ -180,7 +180,7 @@ impl<A: Allocator + Clone> Register<A> {
     }
 
     // What an item keeps of the command that makes it, which gets the next number.
-    fn stamp<B: Allocator>(&self, command: &Command<B>) -> Stamp
+    pub(crate) fn stamp<B: Allocator>(&self, command: &Command<B>) -> Stamp
         requires { CanBeAccepted self.now command.now }
         ensures { result ≡ record { number = self.now.count + 1; moment = command.now.moment } }
     {
