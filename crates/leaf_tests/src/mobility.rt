@@ -81,12 +81,19 @@ const UP: [Row; 30] = [
     ("30:73800D08", Err(MmFault::TooMany)),
 ];
 
-#[test]
-fn uplink_is_read_and_written(rt: HostRuntime) -> Result<(), Fail> {
+/// The first text that is read otherwise.
+fn first_wrong_up(alloc: Global) -> Option<&'static str> {
     for (text, want) in UP {
-        assert!(rt; is_wanted(up_again(rt.alloc(), text), want), "{text}");
+        if !is_wanted(up_again(alloc, text), want) {
+            return Some(text);
+        }
     }
-    Ok(())
+    None
+}
+
+#[test]
+fn uplink_is_read_and_written(rt: HostRuntime) {
+    assert_eq!(rt; first_wrong_up(rt.alloc()), None);
 }
 
 const DOWN: [Row; 50] = [
@@ -157,12 +164,18 @@ const DOWN: [Row; 50] = [
     ("22:B37000", Err(MmFault::Short)),
 ];
 
-#[test]
-fn downlink_is_read_and_written(rt: HostRuntime) -> Result<(), Fail> {
+fn first_wrong_down(alloc: Global) -> Option<&'static str> {
     for (text, want) in DOWN {
-        assert!(rt; is_wanted(down_again(rt.alloc(), text), want), "{text}");
+        if !is_wanted(down_again(alloc, text), want) {
+            return Some(text);
+        }
     }
-    Ok(())
+    None
+}
+
+#[test]
+fn downlink_is_read_and_written(rt: HostRuntime) {
+    assert_eq!(rt; first_wrong_down(rt.alloc()), None);
 }
 
 /// The text of a reject.
@@ -175,28 +188,42 @@ fn reject(
     printed(alloc, &write_down(alloc, &pdu)?)
 }
 
-#[test]
-fn rejects_have_their_type_and_cause(rt: HostRuntime) -> Result<(), Fail> {
-    let attach = LocationUpdateType::ItsiAttach;
-    let text = reject(rt.alloc(), attach, RejectCause::ITSI_UNKNOWN);
-    assert!(rt; is_wanted(text, Ok("14:7610")));
-    let text = reject(rt.alloc(), attach, RejectCause::LA_NOT_ALLOWED);
-    assert!(rt; is_wanted(text, Ok("14:7630")));
-    let text = reject(rt.alloc(), attach, RejectCause::CONGESTION);
-    assert!(rt; is_wanted(text, Ok("14:7660")));
-    let text = reject(
-        rt.alloc(),
+const REJECTS: [(LocationUpdateType, RejectCause, &str); 4] = [
+    (
+        LocationUpdateType::ItsiAttach,
+        RejectCause::ITSI_UNKNOWN,
+        "14:7610",
+    ),
+    (
+        LocationUpdateType::ItsiAttach,
+        RejectCause::LA_NOT_ALLOWED,
+        "14:7630",
+    ),
+    (
+        LocationUpdateType::ItsiAttach,
+        RejectCause::CONGESTION,
+        "14:7660",
+    ),
+    (
         LocationUpdateType::Migrating,
         RejectCause::MIGRATION_NOT_SUPPORTED,
-    );
-    assert!(rt; is_wanted(text, Ok("14:72C0")));
-    let text = reject(
-        rt.alloc(),
-        LocationUpdateType::DisabledMs,
-        RejectCause::new(31),
-    );
-    assert!(rt; is_wanted(text, Ok("14:7FF0")));
-    Ok(())
+        "14:72C0",
+    ),
+];
+
+fn are_rejects(alloc: Global) -> bool {
+    for (update, cause, want) in REJECTS {
+        if !is_wanted(reject(alloc, update, cause), Ok(want)) {
+            return false;
+        }
+    }
+    let other = reject(alloc, LocationUpdateType::DisabledMs, RejectCause::new(31));
+    is_wanted(other, Ok("14:7FF0"))
+}
+
+#[test]
+fn rejects_have_their_type_and_cause(rt: HostRuntime) {
+    assert!(rt; are_rejects(rt.alloc()));
 }
 
 /// The groups of a PDU, from the first to the last.
@@ -263,9 +290,7 @@ fn is_accepted_as_itself(number: u8) -> bool {
 
 #[test]
 fn acceptance_keeps_the_type(rt: HostRuntime) {
-    for number in 0..8 {
-        assert!(rt; is_accepted_as_itself(number), "{number}");
-    }
+    assert!(rt; (0..8u8).all(is_accepted_as_itself));
     assert!(rt; AcceptType::Demand.update() == LocationUpdateType::Demand);
 }
 
@@ -292,10 +317,7 @@ fn have_their_numbers() -> bool {
 
 #[test]
 fn values_have_their_numbers(rt: HostRuntime) {
-    for number in 0..4 {
-        assert!(rt; has_names(number), "{number}");
-    }
-    assert!(rt; have_their_numbers());
+    assert!(rt; (0..4u8).all(has_names) && have_their_numbers());
 }
 
 fn is_group(address: &GroupAddress, radio: Itsi, mnc: u32) -> bool {
@@ -322,12 +344,17 @@ fn filled<A: Allocator>(alloc: A) -> (usize, Option<MmFault>) {
     (items.len(), None)
 }
 
+fn is_filled(alloc: Global, heap: &LocalHeap) -> bool {
+    let (count, fault) = filled(heap);
+    filled(alloc) == (MOST_GROUPS, Some(MmFault::TooMany))
+        && count < MOST_GROUPS
+        && fault == Some(MmFault::NoMemory)
+}
+
 #[test]
 fn no_more_groups_than_32(rt: HostRuntime) -> Result<(), Fail> {
-    assert!(rt; filled(rt.alloc()) == (MOST_GROUPS, Some(MmFault::TooMany)));
     let heap = LocalHeap::new(rt.alloc(), 64)?;
-    let (count, fault) = filled(&heap);
-    assert!(rt; count < MOST_GROUPS && fault == Some(MmFault::NoMemory));
+    assert!(rt; is_filled(rt.alloc(), &heap));
     Ok(())
 }
 
@@ -407,11 +434,15 @@ fn in_rising_heaps(alloc: Global, up: &Bits<Global>, down: &Bits<Global>) -> Res
     Ok(faults)
 }
 
+fn are_refused(alloc: Global) -> Result<bool, Fail> {
+    let (up, down) = (longest_up(alloc)?, longest_down(alloc)?);
+    let faults = in_rising_heaps(alloc, &up, &down)?;
+    let lens = up.len() == 990 && down.len() == 1054;
+    Ok(lens && faults.none > 2 && faults.memory > 2 && faults.other == 0)
+}
+
 #[test]
 fn each_growth_may_be_refused(rt: HostRuntime) -> Result<(), Fail> {
-    let (up, down) = (longest_up(rt.alloc())?, longest_down(rt.alloc())?);
-    assert!(rt; up.len() == 990 && down.len() == 1054);
-    let faults = in_rising_heaps(rt.alloc(), &up, &down)?;
-    assert!(rt; faults.none > 2 && faults.memory > 2 && faults.other == 0);
+    assert!(rt; are_refused(rt.alloc())?);
     Ok(())
 }
