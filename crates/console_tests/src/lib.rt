@@ -6,6 +6,14 @@ mod calls;
 #[cfg(test)]
 mod commands;
 #[cfg(test)]
+mod copies;
+#[cfg(test)]
 mod devices;
 #[cfg(test)]
+mod fixed_heap;
+#[cfg(test)]
 mod limits;
+#[cfg(test)]
+mod served;
+#[cfg(test)]
+mod small_heaps;

@@ -1,0 +1,64 @@
+//! A copy of a register answers as the register did, whatever comes to the register then.
+
+use crate::limits::usual;
+use crate::served::are_answered;
+use centre_core::Register;
+use prefix_tree::TryCopy;
+use std::alloc::Global;
+use std::test::Fail;
+
+const BEFORE: (&str, &str) = (
+    "1 0 rule 234-14-0/24 1 99 1 3600\n\
+     2 10 mm 234-14-2001 7 10:260\n\
+     3 20 mm 234-14-2001 7 60:7380480A00007D0\n\
+     4 100 sds 234-14-2001 234-14-2001 48:820405014849\n",
+    "1 ok 1 -\n2 ok 2 8:56\n3 ok 3 62:B3704C0980001F40\n4 ok 4 -\n",
+);
+
+/// What the register is told once it was copied: nothing of the above is left.
+const AFTER: (&str, &str) = (
+    "5 3700 expire\n6 130 mm 234-14-2001 7 7:74\n7 140 mm 234-14-2001 0 5:10\n8 150 unrule 234-14-0/24\n",
+    "5 ok 5 -\n6 ok 6 7:B0\n7 ok 7 -\n8 ok 8 -\n",
+);
+
+const QUESTIONS: &str =
+    "where 234-14-2001\nlook 234-14-9\ngroups 234-14-2001\nmembers 234-14-1000\nmail 234-14-2001\ncount\n";
+
+const OF_THE_COPY: &str =
+    "where 234-14-2001 station 1 la 7 present\nlook 234-14-9 234-14-0/24 1 99 1 3600\n\
+     groups 234-14-2001 1\ngroup 234-14-1000 4 1\nmembers 234-14-1000 1\nmember 234-14-2001 4\n\
+     mail 234-14-2001 1\nitem 4 m 234-14-2001 5 3700 48:820405014849\ncount 4\n";
+
+const OF_THE_REGISTER: &str =
+    "where 234-14-2001 station 1 la 7 absent\nlook 234-14-9 none\ngroups 234-14-2001 0\n\
+     members 234-14-1000 0\nmail 234-14-2001 0\ncount 8\n";
+
+type Desk = Register<Global>;
+
+fn is_told(alloc: Global, desk: &mut Desk, (lines, want): (&str, &str)) -> bool {
+    are_answered(alloc, alloc, desk, lines.as_bytes(), want.as_bytes())
+}
+
+/// Whether the copy answers as the register did before it was told more.
+fn are_apart(alloc: Global, desk: &mut Desk, copy: &mut Desk) -> bool {
+    is_told(alloc, desk, AFTER)
+        && is_told(alloc, copy, (QUESTIONS, OF_THE_COPY))
+        && is_told(alloc, desk, (QUESTIONS, OF_THE_REGISTER))
+}
+
+fn is_copy_apart(alloc: Global, desk: &mut Desk) -> Result<bool, Fail> {
+    let before = is_told(alloc, desk, BEFORE);
+    let mut copy = desk.try_copy()?;
+    Ok(before && are_apart(alloc, desk, &mut copy))
+}
+
+fn is_copied(alloc: Global) -> Result<bool, Fail> {
+    let mut desk = Register::new(alloc, usual()?)?;
+    is_copy_apart(alloc, &mut desk)
+}
+
+#[test]
+fn a_copy_is_apart(rt: HostRuntime) -> Result<(), Fail> {
+    assert!(rt; is_copied(rt.alloc())?);
+    Ok(())
+}
