@@ -86,8 +86,8 @@ fn taken_in(
     taken(alloc, &heap, registry, &mut groups)
 }
 
-/// Behind which command heaps of rising size had no memory left.
-fn ends(alloc: Global, registry: &Registry<Global>) -> Result<[bool; 6], Fail> {
+/// Whether heaps of rising size have no memory left behind the first commands, and in the end for all.
+fn are_ends_seen(alloc: Global, registry: &Registry<Global>) -> Result<bool, Fail> {
     let mut ends = [false; 6];
     for size in 2..1500usize {
         let Some(count) = taken_in(alloc, registry, 16 * size)? else {
@@ -95,18 +95,18 @@ fn ends(alloc: Global, registry: &Registry<Global>) -> Result<[bool; 6], Fail> {
         };
         ends[count.min(5)] = true;
     }
-    Ok(ends)
+    let [first, second, third, _, _, all] = ends;
+    Ok(first && second && third && all)
 }
 
-fn are_ends_seen(alloc: Global) -> Result<bool, Fail> {
+fn is_refused_in_turn(alloc: Global) -> Result<bool, Fail> {
     let registry = register(alloc)?;
-    let [first, second, third, _, _, all] = ends(alloc, &registry)?;
-    Ok(first && second && third && all)
+    are_ends_seen(alloc, &registry)
 }
 
 #[test]
 fn each_growth_is_refused_in_turn(rt: HostRuntime) -> Result<(), Fail> {
-    assert!(rt; are_ends_seen(rt.alloc())?);
+    assert!(rt; is_refused_in_turn(rt.alloc())?);
     Ok(())
 }
 
@@ -139,13 +139,17 @@ fn reached_in(alloc: Global, registry: &Registry<Global>, size: usize) -> Result
     reached(&heap, registry, &mut groups, &items(alloc, &BOTH))
 }
 
-fn all_reached(alloc: Global) -> Result<[bool; 4], Fail> {
-    let registry = register(alloc)?;
+fn are_reached(alloc: Global, registry: &Registry<Global>) -> Result<[bool; 4], Fail> {
     let mut seen = [false; 4];
     for step in 1..40usize {
-        seen[reached_in(alloc, &registry, step * step * 32)?.min(3)] = true;
+        seen[reached_in(alloc, registry, step * step * 32)?.min(3)] = true;
     }
     Ok(seen)
+}
+
+fn all_reached(alloc: Global) -> Result<[bool; 4], Fail> {
+    let registry = register(alloc)?;
+    are_reached(alloc, &registry)
 }
 
 #[test]
@@ -169,15 +173,24 @@ fn are_attached(
 }
 
 /// Whether lists of two attachments find no memory in this heap.
-fn are_refused(alloc: Global, heap: &LocalHeap) -> Result<bool, Fail> {
+fn are_lists_refused(heap: &LocalHeap, groups: &Groups<Global>) -> Result<bool, Fail> {
     let (here, there) = (radio(2001)?, group(1)?);
+    Ok(groups.groups_of(heap, here).is_err() && groups.members_of(heap, there).is_err())
+}
+
+fn are_refused_once_attached(
+    alloc: Global,
+    heap: &LocalHeap,
+    registry: &Registry<Global>,
+    groups: &mut Groups<Global>,
+) -> Result<bool, Fail> {
+    Ok(are_attached(alloc, registry, groups)? && are_lists_refused(heap, groups)?)
+}
+
+fn are_refused(alloc: Global, heap: &LocalHeap) -> Result<bool, Fail> {
     let registry = register(alloc)?;
     let mut groups = Groups::new(alloc);
-    Ok(
-        are_attached(alloc, &registry, &mut groups)?
-            && groups.groups_of(heap, here).is_err()
-            && groups.members_of(heap, there).is_err(),
-    )
+    are_refused_once_attached(alloc, heap, &registry, &mut groups)
 }
 
 #[test]
