@@ -131,69 +131,48 @@ fn prefixes_begin_identities(rt: HostRuntime) {
     assert!(rt; is_begun());
 }
 
-/// What a text can be read as: a number up to 9, one of 64 bits, an identity, a prefix or bits.
-#[derive(Clone, Copy)]
-enum Kind {
-    Digit,
-    Long,
-    Itsi,
-    Gtsi,
-    Prefix,
-    Bits,
-}
-
-/// A text, and what it is printed as once it was read, or why it can't be.
-type Row = (Kind, &'static str, Result<&'static str, Fault>);
-
-const BAD: Result<&str, Fault> = Err(Fault::BadText);
-
-const FAR: Result<&str, Fault> = Err(Fault::OutOfRange);
-
+/// What a text is read as, the text, and what it is printed as once it was read; or why it can't be: `bad` its form, `far` its
+/// range. A digit is a number up to 9, `long` one of 64 bits.
+///
 /// Form is judged before range.
-const ROWS: [Row; 38] = [
-    (
-        Kind::Long,
-        "18446744073709551615",
-        Ok("18446744073709551615"),
-    ),
-    (Kind::Itsi, "1023-16383-16777215", Ok("1023-16383-16777215")),
-    (Kind::Gtsi, "234-14-1000", Ok("234-14-1000")),
-    (Kind::Prefix, "234-14-0/24", Ok("234-14-0/24")),
-    (Kind::Bits, "59:267400002130068", Ok("59:267400002130068")),
-    (Kind::Bits, "60:7380480a00007d0", Ok("60:7380480A00007D0")),
-    (Kind::Bits, "0:", Ok("0:")),
-    (Kind::Digit, "9", Ok("9")),
-    (Kind::Digit, "", BAD),
-    (Kind::Digit, "01", BAD),
-    (Kind::Digit, "+1", BAD),
-    (Kind::Digit, "1a", BAD),
-    (Kind::Digit, " 1", BAD),
-    (Kind::Itsi, "1024-x-1", BAD),
-    (Kind::Itsi, "1024-0", BAD),
-    (Kind::Itsi, "1024-0-1-1", BAD),
-    (Kind::Itsi, "1024--1", BAD),
-    (Kind::Itsi, "1024-01-1", BAD),
-    (Kind::Prefix, "234-14-2001", BAD),
-    (Kind::Prefix, "1024-14-2001/", BAD),
-    (Kind::Prefix, "234-14-2001/049", BAD),
-    (Kind::Prefix, "234-14/24", BAD),
-    (Kind::Bits, "5:1", BAD),
-    (Kind::Bits, "5:100", BAD),
-    (Kind::Bits, "5:14", BAD),
-    (Kind::Bits, "5:1G", BAD),
-    (Kind::Bits, "05:10", BAD),
-    (Kind::Bits, "5", BAD),
-    (Kind::Bits, ":", BAD),
-    (Kind::Bits, "9999999999999999999999:", BAD),
-    (Kind::Bits, "9999999999999999999999:0", BAD),
-    (Kind::Long, "18446744073709551616", FAR),
-    (Kind::Gtsi, "1024-0-1", FAR),
-    (Kind::Gtsi, "0-16384-1", FAR),
-    (Kind::Gtsi, "0-0-16777216", FAR),
-    (Kind::Prefix, "234-14-2001/24", FAR),
-    (Kind::Prefix, "234-14-2001/49", FAR),
-    (Kind::Prefix, "1024-14-0/24", FAR),
-];
+const ROWS: &str = "long|18446744073709551615|18446744073709551615\n\
+     itsi|1023-16383-16777215|1023-16383-16777215\n\
+     gtsi|234-14-1000|234-14-1000\n\
+     prefix|234-14-0/24|234-14-0/24\n\
+     bits|59:267400002130068|59:267400002130068\n\
+     bits|60:7380480a00007d0|60:7380480A00007D0\n\
+     bits|0:|0:\n\
+     digit|9|9\n\
+     digit||bad\n\
+     digit|01|bad\n\
+     digit|+1|bad\n\
+     digit|1a|bad\n\
+     digit| 1|bad\n\
+     itsi|1024-x-1|bad\n\
+     itsi|1024-0|bad\n\
+     itsi|1024-0-1-1|bad\n\
+     itsi|1024--1|bad\n\
+     itsi|1024-01-1|bad\n\
+     prefix|234-14-2001|bad\n\
+     prefix|1024-14-2001/|bad\n\
+     prefix|234-14-2001/049|bad\n\
+     prefix|234-14/24|bad\n\
+     bits|5:1|bad\n\
+     bits|5:100|bad\n\
+     bits|5:14|bad\n\
+     bits|5:1G|bad\n\
+     bits|05:10|bad\n\
+     bits|5|bad\n\
+     bits|:|bad\n\
+     bits|9999999999999999999999:|bad\n\
+     bits|9999999999999999999999:0|bad\n\
+     long|18446744073709551616|far\n\
+     gtsi|1024-0-1|far\n\
+     gtsi|0-16384-1|far\n\
+     gtsi|0-0-16777216|far\n\
+     prefix|234-14-2001/24|far\n\
+     prefix|234-14-2001/49|far\n\
+     prefix|1024-14-0/24|far\n";
 
 fn done(printed: Result<(), AllocError>) -> Result<(), Fault> {
     printed.or(Err(Fault::NoMemory))
@@ -204,31 +183,48 @@ fn print_bits_again(alloc: Global, out: &mut Vec<u8>, text: &[u8]) -> Result<(),
     done(print_bits(out, &bits))
 }
 
-fn print_again(alloc: Global, out: &mut Vec<u8>, kind: Kind, text: &[u8]) -> Result<(), Fault> {
+fn print_again(alloc: Global, out: &mut Vec<u8>, kind: &str, text: &[u8]) -> Result<(), Fault> {
     match kind {
-        Kind::Digit => done(print_number(out, parse_number(text, 9)?)),
-        Kind::Long => done(print_number(out, parse_number(text, u64::MAX)?)),
-        Kind::Itsi => done(print_itsi(out, parse_itsi(text)?)),
-        Kind::Gtsi => done(print_gtsi(out, parse_gtsi(text)?)),
-        Kind::Prefix => done(print_prefix(out, parse_prefix(text)?)),
-        Kind::Bits => print_bits_again(alloc, out, text),
+        "digit" => done(print_number(out, parse_number(text, 9)?)),
+        "long" => done(print_number(out, parse_number(text, u64::MAX)?)),
+        "itsi" => done(print_itsi(out, parse_itsi(text)?)),
+        "gtsi" => done(print_gtsi(out, parse_gtsi(text)?)),
+        "prefix" => done(print_prefix(out, parse_prefix(text)?)),
+        _ => print_bits_again(alloc, out, text),
     }
 }
 
-fn is_wanted(alloc: Global, kind: Kind, text: &str, want: Result<&str, Fault>) -> bool {
+fn word(fault: Fault) -> &'static str {
+    match fault {
+        Fault::BadText => "bad",
+        Fault::OutOfRange => "far",
+        _ => "other",
+    }
+}
+
+fn is_wanted(alloc: Global, kind: &str, text: &str, want: &str) -> bool {
     let mut out = Vec::new(alloc);
-    let printed = print_again(alloc, &mut out, kind, text.as_bytes());
-    match want {
-        Ok(want) => printed.is_ok() && out.as_slice() == want.as_bytes(),
-        Err(fault) => printed.err() == Some(fault),
+    match print_again(alloc, &mut out, kind, text.as_bytes()) {
+        Ok(()) => out.as_slice() == want.as_bytes(),
+        Err(fault) => word(fault) == want,
     }
 }
 
-/// The first text that is read otherwise.
+fn is_right(alloc: Global, row: &str) -> bool {
+    let Some((kind, rest)) = row.split_once('|') else {
+        return false;
+    };
+    let Some((text, want)) = rest.split_once('|') else {
+        return false;
+    };
+    is_wanted(alloc, kind, text, want)
+}
+
+/// The first row that is read otherwise.
 fn first_wrong(alloc: Global) -> Option<&'static str> {
-    for (kind, text, want) in ROWS {
-        if !is_wanted(alloc, kind, text, want) {
-            return Some(text);
+    for row in ROWS.lines() {
+        if !is_right(alloc, row) {
+            return Some(row);
         }
     }
     None
