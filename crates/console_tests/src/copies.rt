@@ -1,62 +1,64 @@
-//! Runs over registers with room for one item and for two: a message to a group of two waits for both or for nobody.
+//! A copy of a register answers as the register did, whatever comes to the register then.
 
-use crate::limits::limits;
+use crate::limits::usual;
+use crate::served::are_answered;
 use centre_core::Register;
-use console::run;
+use prefix_tree::TryCopy;
 use std::alloc::Global;
 use std::test::Fail;
 
-const LINES: [&str; 10] = [
-    "1 0 rule 234-14-0/24 1 99 1 3600\n",
-    "2 10 mm 234-14-2001 7 10:260\n",
-    "3 20 mm 234-14-2001 7 60:7380480A00007D0\n",
-    "4 21 mm 234-14-2002 7 10:260\n",
-    "5 22 mm 234-14-2002 7 60:7380480A00007D0\n",
-    "6 23 mm 234-14-2003 7 10:260\n",
-    "7 100 gsds 234-14-2003 234-14-1000 48:820405014849\n",
-    "mail 234-14-2001\n",
-    "mail 234-14-2002\n",
-    "count\n",
-];
+const BEFORE: (&str, &str) = (
+    "1 0 rule 234-14-0/24 1 99 1 3600\n\
+     2 10 mm 234-14-2001 7 10:260\n\
+     3 20 mm 234-14-2001 7 60:7380480A00007D0\n\
+     4 100 sds 234-14-2001 234-14-2001 48:820405014849\n",
+    "1 ok 1 -\n2 ok 2 8:56\n3 ok 3 62:B3704C0980001F40\n4 ok 4 -\n",
+);
 
-const FOR_NOBODY: [&str; 4] = [
-    "7 no centre-full\n",
-    "mail 234-14-2001 0\n",
-    "mail 234-14-2002 0\n",
-    "count 6\n",
-];
+/// What the register is told once it was copied: nothing of the above is left.
+const AFTER: (&str, &str) = (
+    "5 3700 expire\n6 130 mm 234-14-2001 7 7:74\n7 140 mm 234-14-2001 0 5:10\n8 150 unrule 234-14-0/24\n",
+    "5 ok 5 -\n6 ok 6 7:B0\n7 ok 7 -\n8 ok 8 -\n",
+);
 
-const FOR_BOTH: [&str; 6] = [
-    "7 ok 7 -\n",
-    "mail 234-14-2001 1\n",
-    "item 7 m 234-14-2003 5 3700 48:820405014849 234-14-1000\n",
-    "mail 234-14-2002 1\n",
-    "item 7 m 234-14-2003 5 3700 48:820405014849 234-14-1000\n",
-    "count 7\n",
-];
+const QUESTIONS: &str =
+    "where 234-14-2001\nlook 234-14-9\ngroups 234-14-2001\nmembers 234-14-1000\nmail 234-14-2001\ncount\n";
 
-fn joined(alloc: Global, parts: &[&str]) -> Result<Vec<u8>, Fail> {
-    let mut text = Vec::new(alloc);
-    for part in parts {
-        text.extend_from_slice(part.as_bytes())?;
-    }
-    Ok(text)
+const OF_THE_COPY: &str =
+    "where 234-14-2001 station 1 la 7 present\nlook 234-14-9 234-14-0/24 1 99 1 3600\n\
+     groups 234-14-2001 1\ngroup 234-14-1000 4 1\nmembers 234-14-1000 1\nmember 234-14-2001 4\n\
+     mail 234-14-2001 1\nitem 4 m 234-14-2001 5 3700 48:820405014849\ncount 4\n";
+
+const OF_THE_REGISTER: &str =
+    "where 234-14-2001 station 1 la 7 absent\nlook 234-14-9 none\ngroups 234-14-2001 0\n\
+     members 234-14-1000 0\nmail 234-14-2001 0\ncount 8\n";
+
+type Desk = Register<Global>;
+
+fn is_told(alloc: Global, desk: &mut Desk, (lines, want): (&str, &str)) -> bool {
+    are_answered(alloc, alloc, desk, lines.as_bytes(), want.as_bytes())
 }
 
-/// Whether the answers end so where this many items may wait.
-fn end_so(alloc: Global, room: u32, answers: &[&str]) -> Result<bool, Fail> {
-    let lines = joined(alloc, &LINES)?;
-    let end = joined(alloc, answers)?;
-    let mut reader = lines.as_slice();
-    let mut desk = Register::new(alloc, limits(16, 16, room)?)?;
-    let mut out = Vec::new(alloc);
-    let ran = run(alloc, &mut reader, &mut out, 1, 9, &mut desk);
-    Ok(ran.is_ok() && out.as_slice().ends_with(end.as_slice()))
+/// Whether the copy answers as the register did before it was told more.
+fn are_apart(alloc: Global, desk: &mut Desk, copy: &mut Desk) -> bool {
+    is_told(alloc, desk, AFTER)
+        && is_told(alloc, copy, (QUESTIONS, OF_THE_COPY))
+        && is_told(alloc, desk, (QUESTIONS, OF_THE_REGISTER))
+}
+
+fn is_copy_apart(alloc: Global, desk: &mut Desk) -> Result<bool, Fail> {
+    let before = is_told(alloc, desk, BEFORE);
+    let mut copy = desk.try_copy()?;
+    Ok(before && are_apart(alloc, desk, &mut copy))
+}
+
+fn is_copied(alloc: Global) -> Result<bool, Fail> {
+    let mut desk = Register::new(alloc, usual()?)?;
+    is_copy_apart(alloc, &mut desk)
 }
 
 #[test]
-fn a_message_waits_for_both_or_for_nobody(rt: HostRuntime) -> Result<(), Fail> {
-    let alloc = rt.alloc();
-    assert!(rt; end_so(alloc, 1, &FOR_NOBODY)? && end_so(alloc, 2, &FOR_BOTH)?);
+fn a_copy_is_apart(rt: HostRuntime) -> Result<(), Fail> {
+    assert!(rt; is_copied(rt.alloc())?);
     Ok(())
 }

@@ -10,4 +10,12 @@ mod copies;
 #[cfg(test)]
 mod devices;
 #[cfg(test)]
+mod fixed_heap;
+#[cfg(test)]
+mod group_copies;
+#[cfg(test)]
 mod limits;
+#[cfg(test)]
+mod served;
+#[cfg(test)]
+mod small_heaps;

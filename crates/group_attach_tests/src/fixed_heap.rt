@@ -1,81 +1,102 @@
 //! Groups in a heap of fixed size: 10,000 changes, ten of which end with no attachment, take no more of it than none do,
 //! and once the groups are gone every byte is free again.
 
-use crate::fixture::{attach, items, leave, radio, register};
+use crate::fixture::Ask::{Attach, Leave};
+use crate::fixture::{Ask, items, radio, register};
 use group_attach::Groups;
 use linked_list_allocator::LocalHeap;
-use mm_pdus::{GroupMode, GroupUp, LocationUpdateType};
+use mm_pdus::{GroupMode, LocationUpdateType};
 use registration::Registry;
 use std::alloc::Global;
 use std::test::Fail;
 
-#[derive(Drop)]
-enum Made {
-    Pdu(u16, GroupMode, [GroupUp; 2]),
-    Update(u16, LocationUpdateType),
+#[derive(Clone, Copy)]
+enum Change {
+    Pdu(GroupMode, [Ask; 2]),
+    Update(LocationUpdateType),
 }
+
+const AMEND: GroupMode = GroupMode::Amendment;
+
+const RENEW: GroupMode = GroupMode::DetachAllFirst;
 
 /// The changes of a round: attachments end by leaving, by leaving all, by an ITSI attach and by another update.
-fn made_in(turn: u32) -> Made {
-    let (amend, renew) = (GroupMode::Amendment, GroupMode::DetachAllFirst);
-    match turn {
-        0 => Made::Pdu(2001, amend, [attach(1), attach(2)]),
-        1 => Made::Pdu(2002, amend, [attach(2), attach(4)]),
-        2 => Made::Update(2002, LocationUpdateType::Demand),
-        3 => Made::Pdu(2001, renew, [attach(4), attach(2)]),
-        4 => Made::Update(2001, LocationUpdateType::ItsiAttach),
-        5 => Made::Pdu(2002, amend, [leave(2), leave(4)]),
-        6 => Made::Pdu(2001, amend, [attach(3), attach(1)]),
-        7 => Made::Pdu(2001, renew, [attach(9), leave(1)]),
-        8 => Made::Pdu(2002, amend, [attach(1), attach(2)]),
-        _ => Made::Pdu(2002, amend, [leave(1), leave(2)]),
-    }
-}
+const ROUND: [(u16, Change); 10] = [
+    (2001, Change::Pdu(AMEND, [Attach(1), Attach(2)])),
+    (2002, Change::Pdu(AMEND, [Attach(2), Attach(4)])),
+    (2002, Change::Update(LocationUpdateType::Demand)),
+    (2001, Change::Pdu(RENEW, [Attach(4), Attach(2)])),
+    (2001, Change::Update(LocationUpdateType::ItsiAttach)),
+    (2002, Change::Pdu(AMEND, [Leave(2), Leave(4)])),
+    (2001, Change::Pdu(AMEND, [Attach(3), Attach(1)])),
+    (2001, Change::Pdu(RENEW, [Attach(9), Leave(1)])),
+    (2002, Change::Pdu(AMEND, [Attach(1), Attach(2)])),
+    (2002, Change::Pdu(AMEND, [Leave(1), Leave(2)])),
+];
 
-/// Whether the change is made.
+/// Whether the change of this radio is made.
 fn is_made(
     alloc: Global,
     heap: &LocalHeap,
     registry: &Registry<Global>,
     groups: &mut Groups<&LocalHeap>,
-    made: &Made,
+    (ssi, change): (u16, Change),
 ) -> Result<bool, Fail> {
-    match made {
-        Made::Pdu(ssi, mode, asked) => {
-            let asked = items(alloc, asked.as_slice());
-            let told = groups.apply(heap, registry, radio(*ssi)?, *mode, &asked);
-            Ok(told.is_ok())
+    let itsi = radio(ssi)?;
+    match change {
+        Change::Pdu(mode, asks) => {
+            let asked = items(alloc, &asks);
+            Ok(groups.apply(heap, registry, itsi, mode, &asked).is_ok())
         }
-        Made::Update(ssi, update) => {
-            groups.on_update(radio(*ssi)?, *update);
+        Change::Update(update) => {
+            groups.on_update(itsi, update);
             Ok(true)
         }
     }
 }
 
-/// Whether all rounds are made, and leave the heap as it was.
-fn is_even(alloc: Global, heap: &LocalHeap, rounds: u32) -> Result<bool, Fail> {
-    let registry = register(alloc)?;
-    let mut groups = Groups::new(heap);
-    let used = heap.used();
-    for _ in 0..rounds {
-        for turn in 0..10u32 {
-            if !is_made(alloc, heap, &registry, &mut groups, &made_in(turn))? {
-                return Ok(false);
-            }
-        }
-        if heap.used() != used {
+/// Whether the changes of a round are made.
+fn is_round_made(
+    alloc: Global,
+    heap: &LocalHeap,
+    registry: &Registry<Global>,
+    groups: &mut Groups<&LocalHeap>,
+) -> Result<bool, Fail> {
+    for made in ROUND {
+        if !is_made(alloc, heap, registry, groups, made)? {
             return Ok(false);
         }
     }
     Ok(true)
 }
 
+/// Whether all rounds are made, and leave the heap as it was.
+fn is_even(
+    alloc: Global,
+    heap: &LocalHeap,
+    registry: &Registry<Global>,
+    groups: &mut Groups<&LocalHeap>,
+    rounds: u32,
+) -> Result<bool, Fail> {
+    let used = heap.used();
+    for _ in 0..rounds {
+        if !is_round_made(alloc, heap, registry, groups)? || heap.used() != used {
+            return Ok(false);
+        }
+    }
+    Ok(true)
+}
+
+fn is_kept_even(alloc: Global, heap: &LocalHeap) -> Result<bool, Fail> {
+    let registry = register(alloc)?;
+    let mut groups = Groups::new(heap);
+    is_even(alloc, heap, &registry, &mut groups, 1000)
+}
+
 #[test]
 fn ten_thousand_changes_leave_no_trace(rt: HostRuntime) -> Result<(), Fail> {
     let heap = LocalHeap::new(rt.alloc(), 1 << 15)?;
     let empty = heap.used();
-    assert!(rt; is_even(rt.alloc(), &heap, 1000)?);
-    assert_eq!(rt; heap.used(), empty);
+    assert!(rt; is_kept_even(rt.alloc(), &heap)? && heap.used() == empty);
     Ok(())
 }

@@ -30,24 +30,30 @@ fn short(ssi: u16) -> GroupAddress {
     GroupAddress::Short(Gssi::new(ssi.into()))
 }
 
-pub fn attach(ssi: u16) -> GroupUp {
-    GroupUp::Attach {
-        class: ClassOfUsage::new(4),
-        address: short(ssi),
+/// What is asked about a group.
+#[derive(Clone, Copy)]
+pub enum Ask {
+    Attach(u16),
+    Leave(u16),
+}
+
+fn item(ask: Ask) -> GroupUp {
+    match ask {
+        Ask::Attach(ssi) => GroupUp::Attach {
+            class: ClassOfUsage::new(4),
+            address: short(ssi),
+        },
+        Ask::Leave(ssi) => GroupUp::Leave {
+            reason: LeaveReason::UserInitiated,
+            address: short(ssi),
+        },
     }
 }
 
-pub fn leave(ssi: u16) -> GroupUp {
-    GroupUp::Leave {
-        reason: LeaveReason::UserInitiated,
-        address: short(ssi),
-    }
-}
-
-pub fn items<A: Allocator>(alloc: A, list: &[GroupUp]) -> GroupItems<GroupUp, A> {
+pub fn items<A: Allocator>(alloc: A, asks: &[Ask]) -> GroupItems<GroupUp, A> {
     let mut items = GroupItems::new(alloc);
-    for item in list {
-        let _ = items.push(*item);
+    for ask in asks {
+        let _ = items.push(item(*ask));
     }
     items
 }
@@ -63,22 +69,26 @@ fn come<A: Allocator + Clone>(registry: &mut Registry<A>, ssi: u16) -> Result<()
     Ok(())
 }
 
-// Radios 2001 and 2002 are present, groups 1 to 4 have the four lifetimes, group 9 has no rule.
-pub fn register<A: Allocator + Clone>(alloc: A) -> Result<Registry<A>, Fail> {
-    let mut registry = Registry::new(alloc, limits())?;
-    let rules = [
-        (2001, Lifetime::NotNeeded),
-        (2002, Lifetime::NotNeeded),
-        (1, Lifetime::NotNeeded),
-        (2, Lifetime::NextItsiAttach),
-        (3, Lifetime::NotAllowedAtNextItsiAttach),
-        (4, Lifetime::NextLocationUpdate),
-    ];
-    for (ssi, lifetime) in rules {
+const RULES: [(u16, Lifetime); 6] = [
+    (2001, Lifetime::NotNeeded),
+    (2002, Lifetime::NotNeeded),
+    (1, Lifetime::NotNeeded),
+    (2, Lifetime::NextItsiAttach),
+    (3, Lifetime::NotAllowedAtNextItsiAttach),
+    (4, Lifetime::NextLocationUpdate),
+];
+
+fn fill<A: Allocator + Clone>(registry: &mut Registry<A>) -> Result<(), Fail> {
+    for (ssi, lifetime) in RULES {
         let _ = registry.set_rule(radio(ssi)?.path(), rule(lifetime)?);
     }
-    for ssi in [2001, 2002] {
-        come(&mut registry, ssi)?;
-    }
+    come(registry, 2001)?;
+    come(registry, 2002)
+}
+
+/// Radios 2001 and 2002 are present, groups 1 to 4 have the four lifetimes, group 9 has no rule.
+pub fn register<A: Allocator + Clone>(alloc: A) -> Result<Registry<A>, Fail> {
+    let mut registry = Registry::new(alloc, limits())?;
+    fill(&mut registry)?;
     Ok(registry)
 }

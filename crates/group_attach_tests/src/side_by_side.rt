@@ -1,147 +1,156 @@
-use crate::fixture::{attach, group, items, leave, radio, register};
+use crate::fixture::{Ask, group, items, radio, register};
 use crate::plain::PlainGroups;
 use group_attach::{Attachment, Groups};
 use identity::{Gtsi, Itsi};
-use mm_pdus::{GroupMode, GroupUp, LocationUpdateType};
+use mm_pdus::{GroupItems, GroupMode, GroupUp, LocationUpdateType};
 use registration::Registry;
 use std::alloc::Global;
 use std::test::Fail;
 
 // What each step of the script does.
+#[derive(Clone, Copy)]
 enum Step {
-    Change(Itsi, GroupMode, [GroupUp; 3]),
-    Update(Itsi, LocationUpdateType),
+    Change(GroupMode, [Ask; 3]),
+    Update(LocationUpdateType),
 }
 
-fn item(number: u64) -> GroupUp {
-    let ssis = [1, 2, 3, 4, 9];
-    let ssi = ssis[(number >> 2) as usize % 5];
+const GROUPS: [u16; 5] = [1, 2, 3, 4, 9];
+
+fn ask(number: u64) -> Ask {
+    let ssi = GROUPS[(number >> 2) as usize % 5];
     if number % 4 == 0 {
-        leave(ssi)
+        Ask::Leave(ssi)
     } else {
-        attach(ssi)
+        Ask::Attach(ssi)
     }
 }
 
 // The step that is made of a number.
-fn made(number: u64, itsi: Itsi) -> Step {
+fn made(number: u64) -> Step {
+    let asks = [ask(number >> 3), ask(number >> 8), ask(number >> 13)];
     match number % 8 {
-        0..=1 => Step::Update(
-            itsi,
-            LocationUpdateType::from_number(((number >> 20) % 8) as u8),
-        ),
-        2 => Step::Change(
-            itsi,
-            GroupMode::DetachAllFirst,
-            [item(number >> 3), item(number >> 8), item(number >> 13)],
-        ),
-        _ => Step::Change(
-            itsi,
-            GroupMode::Amendment,
-            [item(number >> 3), item(number >> 8), item(number >> 13)],
-        ),
+        0..=1 => Step::Update(LocationUpdateType::from_number(((number >> 20) % 8) as u8)),
+        2 => Step::Change(GroupMode::DetachAllFirst, asks),
+        _ => Step::Change(GroupMode::Amendment, asks),
     }
 }
 
+// The groups and the list.
+#[derive(Drop)]
+struct Both {
+    groups: Groups<Global>,
+    plain: PlainGroups,
+}
+
+// Whether neither refuses what is asked.
+fn is_changed(
+    registry: &Registry<Global>,
+    both: &mut Both,
+    itsi: Itsi,
+    mode: GroupMode,
+    items: &GroupItems<GroupUp, Global>,
+) -> bool {
+    both.groups.change(registry, itsi, mode, items).is_ok()
+        && both
+            .plain
+            .change(registry, itsi, mode, items.as_slice())
+            .is_ok()
+}
+
 // One step in both; whether neither was refused.
-fn done(
+fn is_done(
     alloc: Global,
     registry: &Registry<Global>,
-    groups: &mut Groups<Global>,
-    plain: &mut PlainGroups,
+    both: &mut Both,
+    itsi: Itsi,
     step: Step,
 ) -> bool {
     match step {
-        Step::Change(itsi, mode, asked) => {
-            let asked = items(alloc, asked.as_slice());
-            groups.change(registry, itsi, mode, &asked).is_ok()
-                && plain.change(registry, itsi, mode, asked.as_slice()).is_ok()
-        }
-        Step::Update(itsi, update) => {
-            groups.on_update(itsi, update);
-            plain.update(itsi, update);
+        Step::Change(mode, asks) => is_changed(registry, both, itsi, mode, &items(alloc, &asks)),
+        Step::Update(update) => {
+            both.groups.on_update(itsi, update);
+            both.plain.update(itsi, update);
             true
         }
     }
 }
 
-// Whether the radio has the groups that the list says.
-fn same_groups(
-    alloc: Global,
-    groups: &Groups<Global>,
-    list: &[Attachment],
-    itsi: Itsi,
-) -> Result<bool, Fail> {
-    let told = groups.groups_of(alloc, itsi)?;
-    let mut want = Vec::new(alloc);
+// Whether these are the attachments in the list of a radio.
+fn are_of_radio(told: &[Attachment], list: &[Attachment], itsi: Itsi) -> bool {
+    let mut count = 0usize;
     for attachment in list {
         if attachment.itsi == itsi {
-            want.push(*attachment)?;
+            if told.get(count) != Some(attachment) {
+                return false;
+            }
+            count = count.saturating_add(1);
         }
     }
-    Ok(told == want)
+    count == told.len()
 }
 
-// Whether the group has the members that the list says.
-fn same_members(
-    alloc: Global,
-    groups: &Groups<Global>,
-    list: &[Attachment],
-    gtsi: Gtsi,
-) -> Result<bool, Fail> {
-    let told = groups.members_of(alloc, gtsi)?;
-    let mut want = Vec::new(alloc);
+// Whether these are the attachments in the list to a group.
+fn are_of_group(told: &[Attachment], list: &[Attachment], gtsi: Gtsi) -> bool {
+    let mut count = 0usize;
     for attachment in list {
         if attachment.gtsi == gtsi {
-            want.push(*attachment)?;
+            if told.get(count) != Some(attachment) {
+                return false;
+            }
+            count = count.saturating_add(1);
         }
     }
-    Ok(told == want)
+    count == told.len()
 }
 
 // Whether each radio and each group is told alike.
-fn alike(alloc: Global, groups: &Groups<Global>, list: &[Attachment]) -> Result<bool, Fail> {
-    for ssi in [2001, 2002] {
-        if !same_groups(alloc, groups, list, radio(ssi)?)? {
+fn are_alike(alloc: Global, groups: &Groups<Global>, list: &[Attachment]) -> Result<bool, Fail> {
+    for ssi in RADIOS {
+        let itsi = radio(ssi)?;
+        if !are_of_radio(&groups.groups_of(alloc, itsi)?, list, itsi) {
             return Ok(false);
         }
     }
-    for ssi in [1, 2, 3, 4, 9] {
-        if !same_members(alloc, groups, list, group(ssi)?)? {
+    for ssi in GROUPS {
+        let gtsi = group(ssi)?;
+        if !are_of_group(&groups.members_of(alloc, gtsi)?, list, gtsi) {
             return Ok(false);
         }
     }
     Ok(true)
 }
 
+const RADIOS: [u16; 2] = [2001, 2002];
+
 /// The most attachments that there were in so many steps, after each of which all is told alike.
 fn most_attachments(
     alloc: Global,
     registry: &Registry<Global>,
-    groups: &mut Groups<Global>,
-    plain: &mut PlainGroups,
+    both: &mut Both,
     steps: u32,
 ) -> Result<usize, Fail> {
-    let radios = [radio(2001)?, radio(2002)?];
     let (mut number, mut most) = (1u64, 0);
     for _ in 0..steps {
         number = number
             .wrapping_mul(6_364_136_223_846_793_005)
             .wrapping_add(1_442_695_040_888_963_407);
-        let step = made(number >> 33, radios[(number >> 60) as usize % 2]);
-        if !done(alloc, registry, groups, plain, step) || !alike(alloc, groups, plain.as_slice())? {
+        let itsi = radio(RADIOS[(number >> 60) as usize % 2])?;
+        let done = is_done(alloc, registry, both, itsi, made(number >> 33));
+        if !done || !are_alike(alloc, &both.groups, both.plain.as_slice())? {
             return Err(Fail::from("groups and list differ"));
         }
-        most = most.max(plain.as_slice().len());
+        most = most.max(both.plain.as_slice().len());
     }
     Ok(most)
 }
 
 fn compared(alloc: Global) -> Result<usize, Fail> {
     let registry = register(alloc)?;
-    let mut groups = Groups::new(alloc);
-    let mut plain = PlainGroups::new(alloc);
-    most_attachments(alloc, &registry, &mut groups, &mut plain, 500)
+    let mut both = Both {
+        groups: Groups::new(alloc),
+        plain: PlainGroups::new(alloc),
+    };
+    most_attachments(alloc, &registry, &mut both, 500)
 }
 
 #[test]

@@ -1,44 +1,51 @@
-use crate::fixture::{attach, group, items, leave, radio, register};
+use crate::fixture::Ask::{Attach, Leave};
+use crate::fixture::{Ask, group, items, radio, register};
 use group_attach::{Attachment, GroupFault, Groups, answers};
 use linked_list_allocator::LocalHeap;
-use mm_pdus::{GroupMode, GroupUp};
+use mm_pdus::{GroupItems, GroupMode, GroupUp};
 use prefix_tree::TryCopy;
 use registration::Registry;
 use std::alloc::Global;
 use std::test::Fail;
 
+const RADIOS: [u16; 2] = [2001, 2002];
+
+const GROUPS: [u16; 3] = [1, 2, 4];
+
 // All that is told: of each radio, and then of each group.
 fn told(alloc: Global, groups: &Groups<&LocalHeap>) -> Result<Vec<Attachment>, Fail> {
     let mut list = Vec::new(alloc);
-    for ssi in [2001, 2002] {
+    for ssi in RADIOS {
         list.extend_from_slice(&groups.groups_of(alloc, radio(ssi)?)?)?;
     }
-    for ssi in [1, 2, 4] {
+    for ssi in GROUPS {
         list.extend_from_slice(&groups.members_of(alloc, group(ssi)?)?)?;
     }
     Ok(list)
 }
 
-// How many commands were carried out in a heap of some size. `kept`: the one that was refused left all as it
-// was, the heap too.
-#[derive(Clone, Copy)]
-struct Outcome {
-    taken: usize,
-    kept: bool,
-}
-
 // The commands, in order.
-fn command(turn: usize) -> (u16, GroupMode, [GroupUp; 2]) {
-    match turn {
-        0 => (2001, GroupMode::Amendment, [attach(1), attach(2)]),
-        1 => (2002, GroupMode::Amendment, [attach(2), attach(2)]),
-        2 => (2001, GroupMode::DetachAllFirst, [attach(4), attach(2)]),
-        3 => (2001, GroupMode::Amendment, [leave(2), leave(4)]),
-        _ => (2002, GroupMode::Amendment, [leave(1), leave(2)]),
-    }
+const COMMANDS: [(u16, GroupMode, [Ask; 2]); 5] = [
+    (2001, GroupMode::Amendment, [Attach(1), Attach(2)]),
+    (2002, GroupMode::Amendment, [Attach(2), Attach(2)]),
+    (2001, GroupMode::DetachAllFirst, [Attach(4), Attach(2)]),
+    (2001, GroupMode::Amendment, [Leave(2), Leave(4)]),
+    (2002, GroupMode::Amendment, [Leave(1), Leave(2)]),
+];
+
+// What a command is answered.
+fn changed(
+    alloc: Global,
+    registry: &Registry<Global>,
+    groups: &mut Groups<&LocalHeap>,
+    turn: usize,
+) -> Result<Result<(), GroupFault>, Fail> {
+    let (ssi, mode, asks) = COMMANDS[turn.min(4)];
+    let itsi = radio(ssi)?;
+    Ok(groups.change(registry, itsi, mode, &items(alloc, &asks)))
 }
 
-// One command; nothing where it is carried out, or else whether it left all as it was.
+// One command; nothing where it is carried out, or else whether it left all as it was, the heap too.
 fn tried(
     alloc: Global,
     heap: &LocalHeap,
@@ -46,79 +53,103 @@ fn tried(
     groups: &mut Groups<&LocalHeap>,
     turn: usize,
 ) -> Result<Option<bool>, Fail> {
-    let (ssi, mode, asked) = command(turn);
     let (before, used) = (told(alloc, groups)?, heap.used());
-    match groups.change(registry, radio(ssi)?, mode, &items(alloc, asked.as_slice())) {
-        Ok(()) => Ok(None),
-        Err(fault) => Ok(Some(
-            fault == GroupFault::NoMemory && told(alloc, groups)? == before && heap.used() == used,
-        )),
-    }
+    let Err(fault) = changed(alloc, registry, groups, turn)? else {
+        return Ok(None);
+    };
+    let same = fault == GroupFault::NoMemory && heap.used() == used;
+    Ok(Some(told(alloc, groups)? == before && same))
 }
 
-// Commands until one is refused.
-fn script(alloc: Global, registry: &Registry<Global>, size: usize) -> Result<Outcome, Fail> {
+// How many commands are carried out until one is refused; nothing where that changes something.
+fn taken(
+    alloc: Global,
+    heap: &LocalHeap,
+    registry: &Registry<Global>,
+    groups: &mut Groups<&LocalHeap>,
+) -> Result<Option<usize>, Fail> {
+    for turn in 0..5usize {
+        if let Some(kept) = tried(alloc, heap, registry, groups, turn)? {
+            return Ok(kept.then_some(turn));
+        }
+    }
+    Ok(Some(5))
+}
+
+fn taken_in(
+    alloc: Global,
+    registry: &Registry<Global>,
+    size: usize,
+) -> Result<Option<usize>, Fail> {
     let heap = LocalHeap::new(alloc, size)?;
     let mut groups = Groups::new(&heap);
-    for turn in 0..5 {
-        if let Some(kept) = tried(alloc, &heap, registry, &mut groups, turn)? {
-            return Ok(Outcome { taken: turn, kept });
-        }
-    }
-    Ok(Outcome {
-        taken: 5,
-        kept: true,
-    })
+    taken(alloc, &heap, registry, &mut groups)
 }
 
-/// Behind which command heaps of rising size had no memory left.
-fn ends(alloc: Global, registry: &Registry<Global>) -> Result<[bool; 6], Fail> {
+/// Whether heaps of rising size have no memory left behind the first commands, and in the end for all.
+fn are_ends_seen(alloc: Global, registry: &Registry<Global>) -> Result<bool, Fail> {
     let mut ends = [false; 6];
     for size in 2..1500usize {
-        let outcome = script(alloc, registry, 16 * size)?;
-        if !outcome.kept {
+        let Some(count) = taken_in(alloc, registry, 16 * size)? else {
             return Err(Fail::from("a refusal changed something"));
-        }
-        ends[outcome.taken.min(5)] = true;
+        };
+        ends[count.min(5)] = true;
     }
-    Ok(ends)
+    let [first, second, third, _, _, all] = ends;
+    Ok(first && second && third && all)
 }
 
-fn ends_alone(alloc: Global) -> Result<[bool; 6], Fail> {
+fn is_refused_in_turn(alloc: Global) -> Result<bool, Fail> {
     let registry = register(alloc)?;
-    ends(alloc, &registry)
+    are_ends_seen(alloc, &registry)
 }
 
 #[test]
 fn each_growth_is_refused_in_turn(rt: HostRuntime) -> Result<(), Fail> {
-    let [first, second, third, _, _, all] = ends_alone(rt.alloc())?;
-    assert!(rt; first && second && third && all);
+    assert!(rt; is_refused_in_turn(rt.alloc())?);
     Ok(())
 }
 
-/// How far a heap of this size reaches: 0 not to the answers to a PDU that attaches to two groups, 1 not to carrying it out,
-/// 2 not to a copy of the groups, 3 to all.
-fn reached(alloc: Global, registry: &Registry<Global>, size: usize) -> Result<usize, Fail> {
-    let (here, mode) = (radio(2001)?, GroupMode::Amendment);
-    let asked = items(alloc, &[attach(1), attach(2)]);
-    let heap = LocalHeap::new(alloc, size)?;
-    if answers(&heap, registry, here, &asked).is_err() {
+const BOTH: [Ask; 2] = [Attach(1), Attach(2)];
+
+/// How far a heap reaches: 0 not to the answers to a PDU that attaches to two groups, 1 not to carrying it out, 2 not to a
+/// copy of the groups, 3 to all.
+fn reached(
+    heap: &LocalHeap,
+    registry: &Registry<Global>,
+    groups: &mut Groups<&LocalHeap>,
+    asked: &GroupItems<GroupUp, Global>,
+) -> Result<usize, Fail> {
+    let here = radio(2001)?;
+    if answers(heap, registry, here, asked).is_err() {
         return Ok(0);
     }
-    let mut groups = Groups::new(&heap);
-    if groups.apply(&heap, registry, here, mode, &asked).is_err() {
+    if groups
+        .apply(heap, registry, here, GroupMode::Amendment, asked)
+        .is_err()
+    {
         return Ok(1);
     }
     Ok(2 + usize::from(groups.try_copy().is_ok()))
 }
 
-fn all_reached(alloc: Global) -> Result<[bool; 4], Fail> {
-    let registry = register(alloc)?;
+fn reached_in(alloc: Global, registry: &Registry<Global>, size: usize) -> Result<usize, Fail> {
+    let heap = LocalHeap::new(alloc, size)?;
+    let mut groups = Groups::new(&heap);
+    reached(&heap, registry, &mut groups, &items(alloc, &BOTH))
+}
+
+fn are_reached(alloc: Global, registry: &Registry<Global>) -> Result<[bool; 4], Fail> {
     let mut seen = [false; 4];
     for step in 1..40usize {
-        seen[reached(alloc, &registry, step * step * 32)?.min(3)] = true;
+        seen[reached_in(alloc, registry, step * step * 32)?.min(3)] = true;
     }
     Ok(seen)
+}
+
+fn all_reached(alloc: Global) -> Result<[bool; 4], Fail> {
+    let registry = register(alloc)?;
+    are_reached(alloc, &registry)
 }
 
 #[test]
@@ -127,14 +158,39 @@ fn answers_and_copies_may_be_refused(rt: HostRuntime) -> Result<(), Fail> {
     Ok(())
 }
 
+/// Whether both radios are attached to both groups.
+fn are_attached(
+    alloc: Global,
+    registry: &Registry<Global>,
+    groups: &mut Groups<Global>,
+) -> Result<bool, Fail> {
+    let (first, second) = (radio(2001)?, radio(2002)?);
+    let (asked, mode) = (items(alloc, &BOTH), GroupMode::Amendment);
+    Ok(
+        groups.change(registry, first, mode, &asked).is_ok()
+            && groups.change(registry, second, mode, &asked).is_ok(),
+    )
+}
+
 /// Whether lists of two attachments find no memory in this heap.
+fn are_lists_refused(heap: &LocalHeap, groups: &Groups<Global>) -> Result<bool, Fail> {
+    let (here, there) = (radio(2001)?, group(1)?);
+    Ok(groups.groups_of(heap, here).is_err() && groups.members_of(heap, there).is_err())
+}
+
+fn are_refused_once_attached(
+    alloc: Global,
+    heap: &LocalHeap,
+    registry: &Registry<Global>,
+    groups: &mut Groups<Global>,
+) -> Result<bool, Fail> {
+    Ok(are_attached(alloc, registry, groups)? && are_lists_refused(heap, groups)?)
+}
+
 fn are_refused(alloc: Global, heap: &LocalHeap) -> Result<bool, Fail> {
     let registry = register(alloc)?;
     let mut groups = Groups::new(alloc);
-    let asked = items(alloc, &[attach(1), attach(2)]);
-    groups.change(&registry, radio(2001)?, GroupMode::Amendment, &asked)?;
-    groups.change(&registry, radio(2002)?, GroupMode::Amendment, &asked)?;
-    Ok(groups.groups_of(heap, radio(2001)?).is_err() && groups.members_of(heap, group(1)?).is_err())
+    are_refused_once_attached(alloc, heap, &registry, &mut groups)
 }
 
 #[test]

@@ -8,9 +8,6 @@ use mm_pdus::{
 use std::alloc::{Allocator, Global};
 use std::test::Fail;
 
-/// The text of bits, and what is written of the PDU that is read of them, or the fault.
-type Row = (&'static str, Result<&'static str, MmFault>);
-
 fn bits(alloc: Global, text: &str) -> Result<Bits<Global>, MmFault> {
     parse_bits(alloc, text.as_bytes()).or(Err(MmFault::NoMemory))
 }
@@ -33,136 +30,147 @@ fn down_again(alloc: Global, text: &str) -> Result<Vec<u8>, MmFault> {
     printed(alloc, &write_down(alloc, &pdu)?)
 }
 
-fn is_wanted(got: Result<Vec<u8>, MmFault>, want: Result<&str, MmFault>) -> bool {
-    match (got, want) {
-        (Ok(text), Ok(want)) => text.as_slice() == want.as_bytes(),
-        (Err(fault), Err(want)) => fault == want,
-        _ => false,
+fn word(fault: MmFault) -> &'static str {
+    match fault {
+        MmFault::Short => "short",
+        MmFault::Trailing => "trailing",
+        MmFault::UnknownType => "unknown-type",
+        MmFault::BadElement => "bad-element",
+        MmFault::UnsupportedAddress => "unsupported-address",
+        MmFault::TooMany => "too-many",
+        MmFault::NoMemory => "memory",
     }
 }
 
-const UP: [Row; 30] = [
-    ("5:10", Ok("5:10")),
-    ("31:1CEA0038", Ok("5:10")),
-    ("10:260", Ok("10:260")),
-    ("20:26FFE", Ok("10:260")),
-    ("59:267400002130068", Ok("10:260")),
-    ("10:220", Ok("10:220")),
-    ("60:7380480A00007D0", Ok("60:7380480A00007D0")),
-    ("84:7380780A20007D075001E", Ok("84:7380780A20007D075001E")),
-    (
-        "113:7780B2163FFFFFDD000001FFFFFF0",
-        Ok("113:7780B2163FFFFFDD000001FFFFFF0"),
-    ),
-    // An element 3, three elements with groups, and the report bit.
-    (
-        "154:7B300B6C024040000001C00603008C180000010",
-        Ok("89:73808210000000300000020"),
-    ),
-    ("7:74", Ok("7:74")),
-    ("8:72", Ok("7:70")),
-    ("0:", Err(MmFault::Short)),
-    ("4:2", Err(MmFault::Short)),
-    ("58:267400002130068", Err(MmFault::Short)),
-    ("8:73", Err(MmFault::Short)),
-    ("59:7380480A00007D0", Err(MmFault::Short)),
-    ("60:7380500A00007D0", Err(MmFault::Short)),
-    ("4:3", Err(MmFault::UnknownType)),
-    ("6:10", Err(MmFault::Trailing)),
-    ("61:7380480A00007D08", Err(MmFault::Trailing)),
-    ("29:73800A00", Err(MmFault::BadElement)),
-    ("28:73800A0", Err(MmFault::BadElement)),
-    ("59:7380460A00007D0", Err(MmFault::BadElement)),
-    ("60:7380481200007D0", Err(MmFault::BadElement)),
-    ("61:73804A0A00007D00", Err(MmFault::BadElement)),
-    ("36:7380180A4", Err(MmFault::UnsupportedAddress)),
-    ("60:7380480A40007D0", Err(MmFault::UnsupportedAddress)),
-    ("60:7380480A6000002", Err(MmFault::UnsupportedAddress)),
-    ("30:73800D08", Err(MmFault::TooMany)),
-];
-
-#[test]
-fn uplink_is_read_and_written(rt: HostRuntime) -> Result<(), Fail> {
-    for (text, want) in UP {
-        assert!(rt; is_wanted(up_again(rt.alloc(), text), want), "{text}");
+/// Whether this is the text, or the fault.
+fn is_wanted(got: Result<Vec<u8>, MmFault>, want: &str) -> bool {
+    match got {
+        Ok(text) => text.as_slice() == want.as_bytes(),
+        Err(fault) => word(fault) == want,
     }
-    Ok(())
 }
 
-const DOWN: [Row; 50] = [
-    // Accepts and rejects.
-    ("8:56", Ok("8:56")),
-    ("14:7610", Ok("14:7610")),
-    ("14:7630", Ok("14:7630")),
-    ("14:7660", Ok("14:7660")),
-    ("14:72C0", Ok("14:72C0")),
-    ("14:7AC0", Ok("14:7AC0")),
-    ("14:7FF0", Ok("14:7FF0")),
-    // Acknowledgements.
-    ("7:B0", Ok("7:B0")),
-    ("7:B4", Ok("7:B0")),
-    ("62:B3704C0980001F40", Ok("62:B3704C0980001F40")),
-    ("83:BB70760C4000FA0EA003C", Ok("83:BB70760C4000FA0EA003C")),
-    (
-        "115:BB70B613E80000180200170000024",
-        Ok("115:BB70B613E80000180200170000024"),
-    ),
-    (
-        "115:BF70B613E80000180200170000024",
-        Ok("115:BB70B613E80000180200170000024"),
-    ),
-    ("0:", Err(MmFault::Short)),
-    ("7:56", Err(MmFault::Short)),
-    ("12:761", Err(MmFault::Short)),
-    ("61:B3704C0980001F40", Err(MmFault::Short)),
-    ("4:1", Err(MmFault::UnknownType)),
-    ("7:52", Err(MmFault::BadElement)),
-    ("7:5A", Err(MmFault::BadElement)),
-    ("7:5E", Err(MmFault::BadElement)),
-    ("8:57", Err(MmFault::BadElement)),
-    ("13:7618", Err(MmFault::BadElement)),
-    ("14:7614", Err(MmFault::BadElement)),
-    ("7:B8", Err(MmFault::BadElement)),
-    ("8:B2", Err(MmFault::BadElement)),
-    ("13:B380", Err(MmFault::BadElement)),
-    ("29:B3700A00", Err(MmFault::BadElement)),
-    ("30:B3700C00", Err(MmFault::BadElement)),
-    ("62:B3704C0980001F44", Err(MmFault::BadElement)),
-    ("63:B3704E0980001F44", Err(MmFault::BadElement)),
-    (
-        "115:B370B613E80000180200170000024",
-        Err(MmFault::BadElement),
-    ),
-    ("62:BB704C0980001F40", Err(MmFault::BadElement)),
-    ("38:B3701C0810", Err(MmFault::UnsupportedAddress)),
-    ("30:B3700D08", Err(MmFault::TooMany)),
-    ("9:560", Err(MmFault::Trailing)),
-    ("15:7610", Err(MmFault::Trailing)),
-    ("8:B8", Err(MmFault::Trailing)),
-    ("63:BB704C0980001F40", Err(MmFault::Trailing)),
-    // The bit that tells of a rejection is judged last, the bit behind it not at all.
-    ("61:BB704C0980001F40", Err(MmFault::Short)),
-    ("30:BB700D08", Err(MmFault::TooMany)),
-    ("38:BB701C0810", Err(MmFault::UnsupportedAddress)),
-    ("83:B370760C4000FA0EA003C", Err(MmFault::BadElement)),
-    ("83:BF70760C4000FA0EA003C", Ok("83:BB70760C4000FA0EA003C")),
-    // Bits that are missing inside the element, and none of them is missing behind it.
-    ("61:B3704A0980001F40", Err(MmFault::BadElement)),
-    ("62:B3704C1180001F40", Err(MmFault::BadElement)),
-    // No element, element 6, element 15, and a second element.
-    ("62:B3604C0980001F40", Err(MmFault::BadElement)),
-    ("62:B3F04C0980001F40", Err(MmFault::BadElement)),
-    // An element of no bits, and half of a length.
-    ("25:B370000", Err(MmFault::BadElement)),
-    ("22:B37000", Err(MmFault::Short)),
-];
+#[derive(Clone, Copy)]
+enum Way {
+    Up,
+    Down,
+}
+
+/// A row is the text of bits, and what is written of the PDU that is read of them, or the fault.
+fn is_right(alloc: Global, way: Way, row: &str) -> bool {
+    let Some((text, want)) = row.split_once(' ') else {
+        return false;
+    };
+    match way {
+        Way::Up => is_wanted(up_again(alloc, text), want),
+        Way::Down => is_wanted(down_again(alloc, text), want),
+    }
+}
+
+/// The first row that is read otherwise.
+fn first_wrong(alloc: Global, way: Way, rows: &'static str) -> Option<&'static str> {
+    for row in rows.lines() {
+        if !is_right(alloc, way, row) {
+            return Some(row);
+        }
+    }
+    None
+}
+
+/// The last of those that are written have an element 3, three elements with groups, and the report bit.
+const UP: &str = "5:10 5:10\n\
+     31:1CEA0038 5:10\n\
+     10:260 10:260\n\
+     20:26FFE 10:260\n\
+     59:267400002130068 10:260\n\
+     10:220 10:220\n\
+     60:7380480A00007D0 60:7380480A00007D0\n\
+     84:7380780A20007D075001E 84:7380780A20007D075001E\n\
+     113:7780B2163FFFFFDD000001FFFFFF0 113:7780B2163FFFFFDD000001FFFFFF0\n\
+     154:7B300B6C024040000001C00603008C180000010 89:73808210000000300000020\n\
+     7:74 7:74\n\
+     8:72 7:70\n\
+     0: short\n\
+     4:2 short\n\
+     58:267400002130068 short\n\
+     8:73 short\n\
+     59:7380480A00007D0 short\n\
+     60:7380500A00007D0 short\n\
+     4:3 unknown-type\n\
+     6:10 trailing\n\
+     61:7380480A00007D08 trailing\n\
+     29:73800A00 bad-element\n\
+     28:73800A0 bad-element\n\
+     59:7380460A00007D0 bad-element\n\
+     60:7380481200007D0 bad-element\n\
+     61:73804A0A00007D00 bad-element\n\
+     36:7380180A4 unsupported-address\n\
+     60:7380480A40007D0 unsupported-address\n\
+     60:7380480A6000002 unsupported-address\n\
+     30:73800D08 too-many\n";
 
 #[test]
-fn downlink_is_read_and_written(rt: HostRuntime) -> Result<(), Fail> {
-    for (text, want) in DOWN {
-        assert!(rt; is_wanted(down_again(rt.alloc(), text), want), "{text}");
-    }
-    Ok(())
+fn uplink_is_read_and_written(rt: HostRuntime) {
+    assert_eq!(rt; first_wrong(rt.alloc(), Way::Up, UP), None);
+}
+
+/// First accepts, rejects and acknowledgements. The bit that tells of a rejection is judged last, the bit behind it not at all.
+/// Bits may be missing inside the element and none behind it; there may be no element, an element 6 or 15 and a second one, an
+/// element of no bits, and half of a length.
+const DOWN: &str = "8:56 8:56\n\
+     14:7610 14:7610\n\
+     14:7630 14:7630\n\
+     14:7660 14:7660\n\
+     14:72C0 14:72C0\n\
+     14:7AC0 14:7AC0\n\
+     14:7FF0 14:7FF0\n\
+     7:B0 7:B0\n\
+     7:B4 7:B0\n\
+     62:B3704C0980001F40 62:B3704C0980001F40\n\
+     83:BB70760C4000FA0EA003C 83:BB70760C4000FA0EA003C\n\
+     115:BB70B613E80000180200170000024 115:BB70B613E80000180200170000024\n\
+     115:BF70B613E80000180200170000024 115:BB70B613E80000180200170000024\n\
+     0: short\n\
+     7:56 short\n\
+     12:761 short\n\
+     61:B3704C0980001F40 short\n\
+     4:1 unknown-type\n\
+     7:52 bad-element\n\
+     7:5A bad-element\n\
+     7:5E bad-element\n\
+     8:57 bad-element\n\
+     13:7618 bad-element\n\
+     14:7614 bad-element\n\
+     7:B8 bad-element\n\
+     8:B2 bad-element\n\
+     13:B380 bad-element\n\
+     29:B3700A00 bad-element\n\
+     30:B3700C00 bad-element\n\
+     62:B3704C0980001F44 bad-element\n\
+     63:B3704E0980001F44 bad-element\n\
+     115:B370B613E80000180200170000024 bad-element\n\
+     62:BB704C0980001F40 bad-element\n\
+     38:B3701C0810 unsupported-address\n\
+     30:B3700D08 too-many\n\
+     9:560 trailing\n\
+     15:7610 trailing\n\
+     8:B8 trailing\n\
+     63:BB704C0980001F40 trailing\n\
+     61:BB704C0980001F40 short\n\
+     30:BB700D08 too-many\n\
+     38:BB701C0810 unsupported-address\n\
+     83:B370760C4000FA0EA003C bad-element\n\
+     83:BF70760C4000FA0EA003C 83:BB70760C4000FA0EA003C\n\
+     61:B3704A0980001F40 bad-element\n\
+     62:B3704C1180001F40 bad-element\n\
+     62:B3604C0980001F40 bad-element\n\
+     62:B3F04C0980001F40 bad-element\n\
+     25:B370000 bad-element\n\
+     22:B37000 short\n";
+
+#[test]
+fn downlink_is_read_and_written(rt: HostRuntime) {
+    assert_eq!(rt; first_wrong(rt.alloc(), Way::Down, DOWN), None);
 }
 
 /// The text of a reject.
@@ -175,28 +183,42 @@ fn reject(
     printed(alloc, &write_down(alloc, &pdu)?)
 }
 
-#[test]
-fn rejects_have_their_type_and_cause(rt: HostRuntime) -> Result<(), Fail> {
-    let attach = LocationUpdateType::ItsiAttach;
-    let text = reject(rt.alloc(), attach, RejectCause::ITSI_UNKNOWN);
-    assert!(rt; is_wanted(text, Ok("14:7610")));
-    let text = reject(rt.alloc(), attach, RejectCause::LA_NOT_ALLOWED);
-    assert!(rt; is_wanted(text, Ok("14:7630")));
-    let text = reject(rt.alloc(), attach, RejectCause::CONGESTION);
-    assert!(rt; is_wanted(text, Ok("14:7660")));
-    let text = reject(
-        rt.alloc(),
+const REJECTS: [(LocationUpdateType, RejectCause, &str); 4] = [
+    (
+        LocationUpdateType::ItsiAttach,
+        RejectCause::ITSI_UNKNOWN,
+        "14:7610",
+    ),
+    (
+        LocationUpdateType::ItsiAttach,
+        RejectCause::LA_NOT_ALLOWED,
+        "14:7630",
+    ),
+    (
+        LocationUpdateType::ItsiAttach,
+        RejectCause::CONGESTION,
+        "14:7660",
+    ),
+    (
         LocationUpdateType::Migrating,
         RejectCause::MIGRATION_NOT_SUPPORTED,
-    );
-    assert!(rt; is_wanted(text, Ok("14:72C0")));
-    let text = reject(
-        rt.alloc(),
-        LocationUpdateType::DisabledMs,
-        RejectCause::new(31),
-    );
-    assert!(rt; is_wanted(text, Ok("14:7FF0")));
-    Ok(())
+        "14:72C0",
+    ),
+];
+
+fn are_rejects(alloc: Global) -> bool {
+    for (update, cause, want) in REJECTS {
+        if !is_wanted(reject(alloc, update, cause), want) {
+            return false;
+        }
+    }
+    let other = reject(alloc, LocationUpdateType::DisabledMs, RejectCause::new(31));
+    is_wanted(other, "14:7FF0")
+}
+
+#[test]
+fn rejects_have_their_type_and_cause(rt: HostRuntime) {
+    assert!(rt; are_rejects(rt.alloc()));
 }
 
 /// The groups of a PDU, from the first to the last.
@@ -263,9 +285,7 @@ fn is_accepted_as_itself(number: u8) -> bool {
 
 #[test]
 fn acceptance_keeps_the_type(rt: HostRuntime) {
-    for number in 0..8 {
-        assert!(rt; is_accepted_as_itself(number), "{number}");
-    }
+    assert!(rt; (0..8u8).all(is_accepted_as_itself));
     assert!(rt; AcceptType::Demand.update() == LocationUpdateType::Demand);
 }
 
@@ -292,10 +312,7 @@ fn have_their_numbers() -> bool {
 
 #[test]
 fn values_have_their_numbers(rt: HostRuntime) {
-    for number in 0..4 {
-        assert!(rt; has_names(number), "{number}");
-    }
-    assert!(rt; have_their_numbers());
+    assert!(rt; (0..4u8).all(has_names) && have_their_numbers());
 }
 
 fn is_group(address: &GroupAddress, radio: Itsi, mnc: u32) -> bool {
@@ -322,12 +339,17 @@ fn filled<A: Allocator>(alloc: A) -> (usize, Option<MmFault>) {
     (items.len(), None)
 }
 
+fn is_filled(alloc: Global, heap: &LocalHeap) -> bool {
+    let (count, fault) = filled(heap);
+    filled(alloc) == (MOST_GROUPS, Some(MmFault::TooMany))
+        && count < MOST_GROUPS
+        && fault == Some(MmFault::NoMemory)
+}
+
 #[test]
 fn no_more_groups_than_32(rt: HostRuntime) -> Result<(), Fail> {
-    assert!(rt; filled(rt.alloc()) == (MOST_GROUPS, Some(MmFault::TooMany)));
     let heap = LocalHeap::new(rt.alloc(), 64)?;
-    let (count, fault) = filled(&heap);
-    assert!(rt; count < MOST_GROUPS && fault == Some(MmFault::NoMemory));
+    assert!(rt; is_filled(rt.alloc(), &heap));
     Ok(())
 }
 
@@ -407,11 +429,15 @@ fn in_rising_heaps(alloc: Global, up: &Bits<Global>, down: &Bits<Global>) -> Res
     Ok(faults)
 }
 
+fn are_refused(alloc: Global) -> Result<bool, Fail> {
+    let (up, down) = (longest_up(alloc)?, longest_down(alloc)?);
+    let faults = in_rising_heaps(alloc, &up, &down)?;
+    let lens = up.len() == 990 && down.len() == 1054;
+    Ok(lens && faults.none > 2 && faults.memory > 2 && faults.other == 0)
+}
+
 #[test]
 fn each_growth_may_be_refused(rt: HostRuntime) -> Result<(), Fail> {
-    let (up, down) = (longest_up(rt.alloc())?, longest_down(rt.alloc())?);
-    assert!(rt; up.len() == 990 && down.len() == 1054);
-    let faults = in_rising_heaps(rt.alloc(), &up, &down)?;
-    assert!(rt; faults.none > 2 && faults.memory > 2 && faults.other == 0);
+    assert!(rt; are_refused(rt.alloc())?);
     Ok(())
 }

@@ -49,12 +49,18 @@ fn are_limits(rules: u32, radios: u32, mail: u32, stations: u32) -> bool {
     (limits.rules, limits.radios, limits.mail, limits.stations) == (rules, radios, mail, stations)
 }
 
+fn are_refused() -> bool {
+    for (rules, radios, mail, stations) in OUT_OF_RANGE {
+        if Limits::new(rules, radios, mail, stations).is_some() {
+            return false;
+        }
+    }
+    true
+}
+
 #[test]
 fn limits_have_their_ranges(rt: HostRuntime) {
-    assert!(rt; are_limits(1, 1, 1, 1) && are_limits(4096, 65_536, 65_536, 64));
-    for (rules, radios, mail, stations) in OUT_OF_RANGE {
-        assert!(rt; Limits::new(rules, radios, mail, stations).is_none());
-    }
+    assert!(rt; are_refused() && are_limits(1, 1, 1, 1) && are_limits(4096, 65_536, 65_536, 64));
 }
 
 fn has_terms(rule: &Rule, low: LocationArea, high: LocationArea) -> bool {
@@ -62,13 +68,18 @@ fn has_terms(rule: &Rule, low: LocationArea, high: LocationArea) -> bool {
         && rule.lifetime() == Lifetime::NextLocationUpdate
 }
 
+fn is_in_order(low: LocationArea, high: LocationArea) -> bool {
+    match Rule::new(low, high, Lifetime::NextLocationUpdate, 7) {
+        Some(rule) => {
+            has_terms(&rule, low, high) && Rule::new(high, low, Lifetime::NotNeeded, 0).is_none()
+        }
+        None => false,
+    }
+}
+
 #[test]
 fn a_rule_has_its_areas_in_order(rt: HostRuntime) -> Result<(), Fail> {
-    let (low, high) = (area(5)?, area(9)?);
-    let rule = Rule::new(low, high, Lifetime::NextLocationUpdate, 7).ok_or("a rule")?;
-    assert!(rt; has_terms(&rule, low, high));
-    assert!(rt; Rule::new(high, low, Lifetime::NotNeeded, 0).is_none());
-    assert!(rt; LocationArea::new(16384).is_none());
+    assert!(rt; is_in_order(area(5)?, area(9)?) && LocationArea::new(16384).is_none());
     Ok(())
 }
 
@@ -132,30 +143,42 @@ fn is_copied(registry: &Registry<&LocalHeap>, heap: &LocalHeap) -> bool {
     registry.try_copy().is_ok() && registry.rules(heap).is_ok() && registry.radios(heap).is_ok()
 }
 
-fn calls_taken(alloc: Global, size: usize) -> Result<Taken, Fail> {
-    let heap = LocalHeap::new(alloc, size)?;
-    let mut registry = Registry::new(&heap, limits())?;
+fn calls_until_refused(
+    alloc: Global,
+    heap: &LocalHeap,
+    registry: &mut Registry<&LocalHeap>,
+) -> Result<Taken, Fail> {
     for calls in 0..5u32 {
-        if let Some(kept) = turn(alloc, &heap, &mut registry, calls)? {
+        if let Some(kept) = turn(alloc, heap, registry, calls)? {
             return Ok(Taken { calls, kept });
         }
     }
-    let calls = 5 + u32::from(is_copied(&registry, &heap));
+    let calls = 5 + u32::from(is_copied(registry, heap));
     Ok(Taken { calls, kept: true })
+}
+
+fn calls_taken(alloc: Global, size: usize) -> Result<Taken, Fail> {
+    let heap = LocalHeap::new(alloc, size)?;
+    let mut registry = Registry::new(&heap, limits())?;
+    calls_until_refused(alloc, &heap, &mut registry)
+}
+
+/// How many calls the largest of these heaps takes, where each takes as many as the one before or one more.
+fn most_calls(alloc: Global) -> Result<Option<u32>, Fail> {
+    let mut last = 0u32;
+    for size in 2..256usize {
+        let next = calls_taken(alloc, 32 * size)?;
+        if !next.kept || next.calls < last || next.calls - last > 1 {
+            return Ok(None);
+        }
+        last = next.calls;
+    }
+    Ok(Some(last))
 }
 
 #[test]
 fn each_growth_is_refused_in_turn(rt: HostRuntime) -> Result<(), Fail> {
-    let mut last = 0u32;
-    for size in 2..256usize {
-        let next = calls_taken(rt.alloc(), 32 * size)?;
-        assert!(rt;
-            next.kept && next.calls >= last && next.calls - last <= 1,
-            "{size}"
-        );
-        last = next.calls;
-    }
-    assert!(rt; last == 6);
+    assert!(rt; most_calls(rt.alloc())? == Some(6));
     Ok(())
 }
 

@@ -1,10 +1,11 @@
-// Runs of the disks, and what a stop leaves.
+//! Runs of the disks, and what a stop leaves.
+
 use sector_disk::example::write_in_order;
 use sector_disk::{Disk, DiskError, Failing, FailingDisk, MemoryDisk};
-use std::alloc::Allocator;
+use std::alloc::{AllocError, Global};
 use std::test::Fail;
 
-// A disk that is never honest, and fails each call in range.
+/// A disk that is never honest, and fails each call in range.
 #[derive(Drop)]
 struct DeadDisk {
     sectors: u64,
@@ -59,79 +60,156 @@ impl Disk for DeadDisk {
     }
 }
 
-// The first byte of a sector whose bytes are all alike.
+/// A call of a disk, and what it answers.
+#[derive(Clone, Copy)]
+enum Call {
+    /// Reads a sector; the byte that all of it are.
+    Read(u64, Result<u8, DiskError>),
+    /// Writes a sector whose bytes are all this one.
+    Write(u64, u8, Result<(), DiskError>),
+    Sync(Result<(), DiskError>),
+    Failures(u64),
+}
+
+/// What a read gives, where all bytes are alike; else 255.
 fn byte_of<D: Disk>(disk: &mut D, at: u64) -> Result<u8, DiskError> {
-    let mut bytes = [0; 512];
+    let mut bytes = [7; 512];
     disk.read(at, &mut bytes)?;
-    Ok(bytes[0])
+    let byte = bytes[0];
+    Ok(if bytes == [byte; 512] { byte } else { 255 })
+}
+
+fn is_answered<D: Disk>(disk: &mut D, call: &Call) -> bool {
+    match call {
+        Call::Read(at, want) => byte_of(disk, *at) == *want,
+        Call::Write(at, byte, want) => disk.write(*at, &[*byte; 512]) == *want,
+        Call::Sync(want) => disk.sync() == *want,
+        Call::Failures(want) => disk.failures() == *want,
+    }
+}
+
+fn are_answered<D: Disk>(disk: &mut D, calls: &[Call]) -> bool {
+    for call in calls {
+        if !is_answered(disk, call) {
+            return false;
+        }
+    }
+    true
+}
+
+fn are_pending(alloc: Global, disk: &MemoryDisk<Global>, want: &[u64]) -> bool {
+    match disk.pending(alloc) {
+        Ok(pending) => pending.as_slice() == want,
+        Err(_) => false,
+    }
+}
+
+const NEW: [Call; 4] = [
+    Call::Failures(0),
+    Call::Read(0, Ok(0)),
+    Call::Read(1, Ok(0)),
+    Call::Read(2, Ok(0)),
+];
+
+fn is_zeros(alloc: Global) -> Result<bool, AllocError> {
+    let mut disk = MemoryDisk::new(alloc, 3, 9)?;
+    let new = disk.sectors() == 3 && are_pending(alloc, &disk, &[]);
+    Ok(new && are_answered(&mut disk, &NEW))
 }
 
 #[test]
 fn a_new_disk_is_zeros(rt: HostRuntime) -> Result<(), Fail> {
-    let mut disk = MemoryDisk::new(rt.alloc(), 3, 9)?;
-    assert_eq!(rt; disk.sectors(), 3);
-    assert_eq!(rt; disk.failures(), 0);
-    assert!(rt; disk.pending(rt.alloc())?.is_empty());
-    let mut bytes = [7; 512];
-    for at in 0..3 {
-        disk.read(at, &mut bytes)?;
-        assert_eq!(rt; bytes, [0; 512]);
-    }
+    assert!(rt; is_zeros(rt.alloc())?);
     Ok(())
+}
+
+const BEFORE_THE_STOP: [Call; 6] = [
+    Call::Write(0, 10, Ok(())),
+    Call::Sync(Ok(())),
+    Call::Write(3, 13, Ok(())),
+    Call::Write(1, 11, Ok(())),
+    Call::Write(4, 14, Ok(())),
+    Call::Read(3, Ok(13)),
+];
+
+/// A settled sector, one of no disk, a pending one, and one that is named twice.
+const FILL: [(u64, [u8; 512]); 5] = [
+    (0, [70; 512]),
+    (5, [75; 512]),
+    (3, [73; 512]),
+    (4, [74; 512]),
+    (4, [84; 512]),
+];
+
+const AFTER_THE_STOP: [Call; 5] = [
+    Call::Read(0, Ok(10)),
+    Call::Read(1, Ok(11)),
+    Call::Read(2, Ok(0)),
+    Call::Read(3, Ok(73)),
+    Call::Read(4, Ok(84)),
+];
+
+/// A disk that stopped, where all was answered before.
+fn stopped(alloc: Global) -> Result<Option<MemoryDisk<Global>>, AllocError> {
+    let mut disk = MemoryDisk::new(alloc, 5, 99)?;
+    let before = are_answered(&mut disk, &BEFORE_THE_STOP) && are_pending(alloc, &disk, &[1, 3, 4]);
+    Ok(before.then_some(disk.crash(&FILL)))
+}
+
+fn is_filled(alloc: Global) -> Result<bool, AllocError> {
+    let Some(mut disk) = stopped(alloc)? else {
+        return Ok(false);
+    };
+    Ok(are_answered(&mut disk, &AFTER_THE_STOP) && are_pending(alloc, &disk, &[]))
 }
 
 #[test]
 fn a_stop_leaves_what_is_named_in_pending_sectors(rt: HostRuntime) -> Result<(), Fail> {
-    let mut disk = MemoryDisk::new(rt.alloc(), 5, 99)?;
-    disk.write(0, &[10; 512])?;
-    disk.sync()?;
-    disk.write(3, &[13; 512])?;
-    disk.write(1, &[11; 512])?;
-    disk.write(4, &[14; 512])?;
-    assert_eq!(rt; disk.pending(rt.alloc())?.as_slice(), [1, 3, 4].as_slice());
-    assert_eq!(rt; byte_of(&mut disk, 3)?, 13);
-    // A settled sector, one of no disk, a pending one, and one that is named twice.
-    let mut disk = disk.crash(&[
-        (0, [70; 512]),
-        (5, [75; 512]),
-        (3, [73; 512]),
-        (4, [74; 512]),
-        (4, [84; 512]),
-    ]);
-    for (at, want) in [(0, 10), (1, 11), (2, 0), (3, 73), (4, 84)] {
-        assert_eq!(rt; byte_of(&mut disk, at)?, want, "sector {at}");
-    }
-    assert!(rt; disk.pending(rt.alloc())?.is_empty());
+    assert!(rt; is_filled(rt.alloc())?);
     Ok(())
+}
+
+const FAULT: DiskError = DiskError::DiskFault;
+
+const OUT: DiskError = DiskError::OutOfRange;
+
+/// The record has room for three calls in range.
+const UNTIL_FULL: [Call; 10] = [
+    Call::Write(0, 1, Ok(())),
+    Call::Write(1, 1, Err(OUT)),
+    Call::Read(0, Ok(1)),
+    Call::Read(1, Err(OUT)),
+    Call::Sync(Ok(())),
+    Call::Failures(0),
+    Call::Write(0, 2, Err(FAULT)),
+    Call::Read(0, Err(FAULT)),
+    Call::Sync(Err(FAULT)),
+    Call::Failures(3),
+];
+
+const EMPTY_AGAIN: [Call; 5] = [
+    Call::Read(0, Ok(1)),
+    Call::Failures(3),
+    Call::Sync(Ok(())),
+    Call::Sync(Ok(())),
+    Call::Sync(Err(FAULT)),
+];
+
+fn is_full(alloc: Global) -> Result<bool, AllocError> {
+    let mut disk = MemoryDisk::new(alloc, 1, 3)?;
+    let full = are_answered(&mut disk, &UNTIL_FULL) && are_pending(alloc, &disk, &[]);
+    Ok(full && are_answered(&mut disk.crash(&[]), &EMPTY_AGAIN))
 }
 
 #[test]
 fn a_full_record_fails(rt: HostRuntime) -> Result<(), Fail> {
-    let mut disk = MemoryDisk::new(rt.alloc(), 1, 3)?;
-    disk.write(0, &[1; 512])?;
-    assert_eq!(rt; disk.write(1, &[1; 512]), Err(DiskError::OutOfRange));
-    assert_eq!(rt; byte_of(&mut disk, 0)?, 1);
-    assert_eq!(rt; byte_of(&mut disk, 1), Err(DiskError::OutOfRange));
-    disk.sync()?;
-    assert_eq!(rt; disk.failures(), 0);
-    assert_eq!(rt; disk.write(0, &[2; 512]), Err(DiskError::DiskFault));
-    assert_eq!(rt; byte_of(&mut disk, 0), Err(DiskError::DiskFault));
-    assert_eq!(rt; disk.sync(), Err(DiskError::DiskFault));
-    assert_eq!(rt; disk.failures(), 3);
-    assert!(rt; disk.pending(rt.alloc())?.is_empty());
-    let mut disk = disk.crash(&[]);
-    assert_eq!(rt; byte_of(&mut disk, 0)?, 1);
-    assert_eq!(rt; disk.failures(), 3);
-    disk.sync()?;
-    disk.sync()?;
-    assert_eq!(rt; disk.sync(), Err(DiskError::DiskFault));
+    assert!(rt; is_full(rt.alloc())?);
     Ok(())
 }
 
-// Which of six calls fail, as bits, the first call first.
-fn failing_calls<D: Disk>(disk: &mut D) -> [bool; 6] {
+/// Six calls, of which those fail that are named; calls out of range among them count for nothing.
+fn are_failing<D: Disk>(disk: &mut D, want: [bool; 6]) -> bool {
     let mut bytes = [0; 512];
-    // A call out of range counts for nothing.
     let _ = disk.read(9, &mut bytes);
     let first = disk.write(0, &[1; 512]).is_err();
     let second = disk.read(0, &mut bytes).is_err();
@@ -139,87 +217,181 @@ fn failing_calls<D: Disk>(disk: &mut D) -> [bool; 6] {
     let third = disk.sync().is_err();
     let fourth = disk.write(1, &[2; 512]).is_err();
     let fifth = disk.read(1, &mut bytes).is_err();
-    [first, second, third, fourth, fifth, disk.sync().is_err()]
+    [first, second, third, fourth, fifth, disk.sync().is_err()] == want
+}
+
+/// The call that fails, whether all later ones do, which of six do, and how many.
+const FAILING: [(u64, Failing, [bool; 6], u64); 16] = [
+    (
+        0,
+        Failing::Once,
+        [false, false, false, false, false, false],
+        0,
+    ),
+    (
+        1,
+        Failing::Once,
+        [true, false, false, false, false, false],
+        1,
+    ),
+    (
+        2,
+        Failing::Once,
+        [false, true, false, false, false, false],
+        1,
+    ),
+    (
+        3,
+        Failing::Once,
+        [false, false, true, false, false, false],
+        1,
+    ),
+    (
+        4,
+        Failing::Once,
+        [false, false, false, true, false, false],
+        1,
+    ),
+    (
+        5,
+        Failing::Once,
+        [false, false, false, false, true, false],
+        1,
+    ),
+    (
+        6,
+        Failing::Once,
+        [false, false, false, false, false, true],
+        1,
+    ),
+    (
+        7,
+        Failing::Once,
+        [false, false, false, false, false, false],
+        0,
+    ),
+    (0, Failing::Always, [true, true, true, true, true, true], 6),
+    (1, Failing::Always, [true, true, true, true, true, true], 6),
+    (2, Failing::Always, [false, true, true, true, true, true], 5),
+    (
+        3,
+        Failing::Always,
+        [false, false, true, true, true, true],
+        4,
+    ),
+    (
+        4,
+        Failing::Always,
+        [false, false, false, true, true, true],
+        3,
+    ),
+    (
+        5,
+        Failing::Always,
+        [false, false, false, false, true, true],
+        2,
+    ),
+    (
+        6,
+        Failing::Always,
+        [false, false, false, false, false, true],
+        1,
+    ),
+    (
+        7,
+        Failing::Always,
+        [false, false, false, false, false, false],
+        0,
+    ),
+];
+
+/// Whether the calls fail that are named, and none within.
+fn is_failing(
+    alloc: Global,
+    call: u64,
+    failing: Failing,
+    want: [bool; 6],
+    failures: u64,
+) -> Result<bool, AllocError> {
+    let mut disk = FailingDisk::new(MemoryDisk::new(alloc, 2, 6)?, call, failing);
+    let same = disk.sectors() == 2 && are_failing(&mut disk, want);
+    Ok(same && disk.failures() == failures && disk.into_inner().failures() == 0)
 }
 
 #[test]
 fn the_call_of_the_number_fails(rt: HostRuntime) -> Result<(), Fail> {
-    for call in 0..8 {
-        for (failing, always) in [(Failing::Once, false), (Failing::Always, true)] {
-            let inner = MemoryDisk::new(rt.alloc(), 2, 6)?;
-            let mut disk = FailingDisk::new(inner, call, failing);
-            assert_eq!(rt; disk.sectors(), 2);
-            let mut want = [false; 6];
-            for k in 0..6u64 {
-                want[k as usize] = k + 1 == call || always && call <= k;
-            }
-            assert_eq!(rt; failing_calls(&mut disk), want, "call {call}");
-            let failures = want.iter().filter(|fails| **fails).count();
-            assert_eq!(rt; disk.failures(), failures as u64, "call {call}");
-            assert_eq!(rt; disk.into_inner().failures(), 0, "call {call}");
-        }
+    for (call, failing, want, failures) in FAILING {
+        assert!(rt;
+            is_failing(rt.alloc(), call, failing, want, failures)?,
+            "call {call}"
+        );
     }
     Ok(())
+}
+
+/// The second call fails within.
+fn is_passed_on(alloc: Global) -> Result<bool, AllocError> {
+    let inner = FailingDisk::new(MemoryDisk::new(alloc, 2, 5)?, 2, Failing::Once);
+    let mut disk = FailingDisk::new(inner, 0, Failing::Once);
+    let same = are_failing(&mut disk, [false, true, false, false, false, false]);
+    Ok(same && disk.failures() == 1)
 }
 
 #[test]
 fn a_failure_within_is_passed_on(rt: HostRuntime) -> Result<(), Fail> {
-    let memory = MemoryDisk::new(rt.alloc(), 2, 5)?;
-    let inner = FailingDisk::new(memory, 2, Failing::Once);
-    let mut disk = FailingDisk::new(inner, 0, Failing::Once);
-    let want = [false, true, false, false, false, false];
-    assert_eq!(rt; failing_calls(&mut disk), want);
-    assert_eq!(rt; disk.failures(), 1);
+    assert!(rt; is_passed_on(rt.alloc())?);
     Ok(())
 }
 
-// The first bytes of three sectors after writing in order, a call of that number failing and all later ones, and a stop that
-// leaves 9 in each pending sector.
-fn after_stop<A: Allocator + Clone>(alloc: A, call: u64) -> Result<[u8; 3], Fail> {
-    let inner = MemoryDisk::new(alloc, 3, 20)?;
-    let mut disk = FailingDisk::new(inner, call, Failing::Always);
-    let result = write_in_order(&mut disk, &[1; 512], &[2; 512], &[3; 512]);
-    if result.is_ok() != (call > 4) {
-        return Err("result".into());
-    }
-    let mut disk = disk
-        .into_inner()
-        .crash(&[(0, [9; 512]), (1, [9; 512]), (2, [9; 512])]);
-    Ok([
-        byte_of(&mut disk, 0)?,
-        byte_of(&mut disk, 1)?,
-        byte_of(&mut disk, 2)?,
-    ])
+const NINES: [(u64, [u8; 512]); 3] = [(0, [9; 512]), (1, [9; 512]), (2, [9; 512])];
+
+fn are_bytes<D: Disk>(disk: &mut D, want: [u8; 3]) -> bool {
+    let [first, second, third] = want;
+    byte_of(disk, 0) == Ok(first) && byte_of(disk, 1) == Ok(second) && byte_of(disk, 2) == Ok(third)
 }
+
+/// Whether three sectors hold these bytes after writing in order, a call of that number failing and all later ones, and a stop
+/// that leaves 9 in each pending sector.
+fn is_in_order(alloc: Global, call: u64, want: [u8; 3]) -> Result<bool, AllocError> {
+    let mut disk = FailingDisk::new(MemoryDisk::new(alloc, 3, 20)?, call, Failing::Always);
+    let written = write_in_order(&mut disk, &[1; 512], &[2; 512], &[3; 512]).is_ok();
+    let mut disk = disk.into_inner().crash(&NINES);
+    Ok(written == (call > 4) && are_bytes(&mut disk, want))
+}
+
+const ORDER: [(u64, [u8; 3]); 5] = [
+    (1, [0, 0, 0]),
+    (2, [9, 0, 0]),
+    (3, [9, 9, 0]),
+    (4, [1, 2, 0]),
+    (5, [1, 2, 9]),
+];
 
 #[test]
 fn a_stop_keeps_the_order(rt: HostRuntime) -> Result<(), Fail> {
-    for (call, want) in [
-        (1, [0, 0, 0]),
-        (2, [9, 0, 0]),
-        (3, [9, 9, 0]),
-        (4, [1, 2, 0]),
-        (5, [1, 2, 9]),
-    ] {
-        assert_eq!(rt; after_stop(rt.alloc(), call)?, want, "call {call}");
+    for (call, want) in ORDER {
+        assert!(rt; is_in_order(rt.alloc(), call, want)?, "call {call}");
     }
     Ok(())
 }
 
+const DEAD: [Call; 2] = [Call::Sync(Err(FAULT)), Call::Failures(u64::MAX)];
+
+/// Its failures are the most that can be counted.
+const STILL_DEAD: [Call; 2] = [Call::Read(4, Err(OUT)), Call::Failures(u64::MAX)];
+
+fn is_dead<D: Disk>(disk: &mut D) -> bool {
+    are_answered(disk, &DEAD)
+        && disk.sectors() > 2
+        && write_in_order(disk, &[1; 512], &[2; 512], &[3; 512]) == Err(FAULT)
+        && are_answered(disk, &STILL_DEAD)
+}
+
 #[test]
-fn a_dead_disk_is_a_disk(rt: HostRuntime) -> Result<(), Fail> {
+fn a_dead_disk_is_a_disk(rt: HostRuntime) {
     let dead = DeadDisk {
         sectors: 4,
         failures: u64::MAX - 1,
     };
-    let mut disk = FailingDisk::new(dead, 1, Failing::Once);
-    assert_eq!(rt; disk.sync(), Err(DiskError::DiskFault));
-    assert_eq!(rt; disk.failures(), u64::MAX);
-    assert_eq!(rt;
-        write_in_order(&mut disk, &[1; 512], &[2; 512], &[3; 512]),
-        Err(DiskError::DiskFault)
-    );
-    assert_eq!(rt; disk.read(4, &mut [0; 512]), Err(DiskError::OutOfRange));
-    assert_eq!(rt; disk.failures(), u64::MAX);
-    Ok(())
+    assert!(rt; is_dead(&mut FailingDisk::new(dead, 1, Failing::Once)));
 }

@@ -22,39 +22,54 @@ fn set(tree: &mut Tree, prefix: Prefix) -> usize {
 
 // How many nodes an empty tree has, the same tree with a network, then with one and two of its radios, and
 // once the first of them is taken out.
-fn counts(alloc: Global) -> Result<[usize; 5], Fail> {
+fn counts(tree: &mut Tree, network: Prefix, radio: Prefix, other: Prefix) -> [usize; 5] {
+    let empty = tree.nodes();
+    let one = set(tree, network);
+    let two = set(tree, radio);
+    let three = set(tree, other);
+    tree.take(&radio);
+    [empty, one, two, three, tree.nodes()]
+}
+
+fn are_counted(alloc: Global) -> Result<bool, Fail> {
     let network = first_bits(0, 24)?;
     let (radio, other) = (first_bits(2001, 48)?, first_bits(2002, 48)?);
-    let mut tree: Tree = PrefixTree::new_in(alloc);
-    let empty = tree.nodes();
-    let one = set(&mut tree, network);
-    let two = set(&mut tree, radio);
-    let three = set(&mut tree, other);
-    tree.take(&radio);
-    Ok([empty, one, two, three, tree.nodes()])
+    let mut tree = PrefixTree::new_in(alloc);
+    Ok(counts(&mut tree, network, radio, other) == [1, 2, 3, 5, 3])
 }
 
 #[test]
 fn nodes_stand_where_prefixes_part(rt: HostRuntime) -> Result<(), Fail> {
-    assert_eq!(rt; counts(rt.alloc())?, [1, 2, 3, 5, 3]);
+    assert!(rt; are_counted(rt.alloc())?);
     Ok(())
 }
 
-// The prefixes of a tree, set in another order than theirs.
-fn grown(alloc: Global) -> Result<Tree, Fail> {
-    let mut tree: Tree = PrefixTree::new_in(alloc);
-    for (ssi, len) in [
-        (2001, 48),
-        (0, 24),
-        (2002, 48),
-        (0, 0),
-        (2001, 44),
-        (2000, 48),
-        (0, 48),
-    ] {
-        set(&mut tree, first_bits(ssi, len)?);
+const SET: [(u32, u32); 7] = [
+    (2001, 48),
+    (0, 24),
+    (2002, 48),
+    (0, 0),
+    (2001, 44),
+    (2000, 48),
+    (0, 48),
+];
+
+const ORDERED: [(u32, u32); 7] = [
+    (0, 0),
+    (0, 24),
+    (0, 48),
+    (2001, 44),
+    (2000, 48),
+    (2001, 48),
+    (2002, 48),
+];
+
+// Sets the prefixes of a tree, in another order than theirs.
+fn grow(tree: &mut Tree) -> Result<(), Fail> {
+    for (ssi, len) in SET {
+        set(tree, first_bits(ssi, len)?);
     }
-    Ok(tree)
+    Ok(())
 }
 
 // Whether the entry after this prefix, or the first of all, is the one of these bits.
@@ -66,11 +81,11 @@ fn is_next(tree: &Tree, after: Option<Prefix>, want: Option<Prefix>) -> bool {
     }
 }
 
-// Whether the tree gives these prefixes one after the other, and then none.
-fn is_in_order(tree: &Tree, wants: &[(u32, u32)]) -> Result<bool, Fail> {
+// Whether the tree gives its prefixes one after the other, and then none.
+fn is_in_order(tree: &Tree) -> Result<bool, Fail> {
     let mut after = None;
-    for (ssi, len) in wants {
-        let want = Some(first_bits(*ssi, *len)?);
+    for (ssi, len) in ORDERED {
+        let want = Some(first_bits(ssi, len)?);
         if !is_next(tree, after, want) {
             return Ok(false);
         }
@@ -79,38 +94,34 @@ fn is_in_order(tree: &Tree, wants: &[(u32, u32)]) -> Result<bool, Fail> {
     Ok(is_next(tree, after, None))
 }
 
-#[test]
-fn one_entry_follows_the_other(rt: HostRuntime) -> Result<(), Fail> {
-    let tree = grown(rt.alloc())?;
-    let wants = [
-        (0, 0),
-        (0, 24),
-        (0, 48),
-        (2001, 44),
-        (2000, 48),
-        (2001, 48),
-        (2002, 48),
-    ];
-    assert!(rt; is_in_order(&tree, &wants)?);
-    Ok(())
+// A prefix that is no entry, and the entry after it.
+const BETWEEN: [(u32, u32, u32, u32); 5] = [
+    (0, 23, 0, 24),
+    (0, 25, 0, 48),
+    (1, 48, 2001, 44),
+    (2001, 47, 2000, 48),
+    (2000, 47, 2000, 48),
+];
+
+fn has_next(tree: &Tree) -> Result<bool, Fail> {
+    for (ssi, len, next_ssi, next_len) in BETWEEN {
+        let next = first_bits(next_ssi, next_len)?;
+        if !is_next(tree, Some(first_bits(ssi, len)?), Some(next)) {
+            return Ok(false);
+        }
+    }
+    Ok(is_next(tree, Some(first_bits(2003, 48)?), None))
+}
+
+// Whether the entries follow one another, and what is no entry.
+fn follow(alloc: Global) -> Result<[bool; 2], Fail> {
+    let mut tree = PrefixTree::new_in(alloc);
+    grow(&mut tree)?;
+    Ok([is_in_order(&tree)?, has_next(&tree)?])
 }
 
 #[test]
-fn what_is_no_entry_has_a_next_one(rt: HostRuntime) -> Result<(), Fail> {
-    let tree = grown(rt.alloc())?;
-    for (ssi, len, next_ssi, next_len) in [
-        (0, 23, 0, 24),
-        (0, 25, 0, 48),
-        (1, 48, 2001, 44),
-        (2001, 47, 2000, 48),
-        (2000, 47, 2000, 48),
-    ] {
-        let next = first_bits(next_ssi, next_len)?;
-        assert!(rt;
-            is_next(&tree, Some(first_bits(ssi, len)?), Some(next)),
-            "{ssi}/{len}"
-        );
-    }
-    assert!(rt; is_next(&tree, Some(first_bits(2003, 48)?), None));
+fn an_entry_follows_each_prefix(rt: HostRuntime) -> Result<(), Fail> {
+    assert!(rt; follow(rt.alloc())? == [true, true]);
     Ok(())
 }

@@ -5,8 +5,10 @@ use prefix_tree::{PrefixTree, TryCopy};
 use std::alloc::Global;
 use std::test::Fail;
 
+type Tree<'a> = PrefixTree<Number, &'a LocalHeap>;
+
 // The entries' 48 bits and numbers, in the order of the walk.
-fn listed(alloc: Global, tree: &PrefixTree<Number, &LocalHeap>) -> Result<Vec<(u64, u64)>, Fail> {
+fn listed(alloc: Global, tree: &Tree) -> Result<Vec<(u64, u64)>, Fail> {
     let mut list = Vec::new(alloc);
     for (prefix, number) in tree.walk(alloc)? {
         list.push((prefix.bits(), number.0))?;
@@ -14,121 +16,152 @@ fn listed(alloc: Global, tree: &PrefixTree<Number, &LocalHeap>) -> Result<Vec<(u
     Ok(list)
 }
 
-fn is_copied(tree: &PrefixTree<Number, &LocalHeap>) -> bool {
+// Whether the tree has these entries, and as much of its heap is in use.
+fn is_same(
+    alloc: Global,
+    heap: &LocalHeap,
+    tree: &Tree,
+    list: &[(u64, u64)],
+    used: usize,
+) -> Result<bool, Fail> {
+    Ok(listed(alloc, tree)?.as_slice() == list && heap.used() == used)
+}
+
+fn is_copied(tree: &Tree) -> bool {
     tree.try_copy().is_ok()
 }
 
-// An insert that was refused, with the entries before and after it.
-#[derive(Drop)]
-struct Refused {
-    prefix: Prefix,
-    number: Number,
-    back: (Prefix, Number),
-    before: Vec<(u64, u64)>,
-    after: Vec<(u64, u64)>,
+// Whether the tree takes a number, or hands the pair back.
+fn is_taken(tree: &mut Tree, prefix: Prefix, number: u64) -> Option<bool> {
+    match tree.insert(prefix, Number(number)) {
+        Ok(_) => Some(true),
+        Err((back, value)) => (back.same(&prefix) && value == Number(number)).then_some(false),
+    }
 }
 
-// Sets numbers from 0 upward until one is refused.
-fn fill(alloc: Global, tree: &mut PrefixTree<Number, &LocalHeap>) -> Result<Option<Refused>, Fail> {
+// Whether the tree takes a number, or is as it was; nothing where a refusal changes something.
+fn tried(
+    alloc: Global,
+    heap: &LocalHeap,
+    tree: &mut Tree,
+    prefix: Prefix,
+    number: u64,
+) -> Result<Option<bool>, Fail> {
+    let (before, used) = (listed(alloc, tree)?, heap.used());
+    if is_taken(tree, prefix, number) == Some(true) {
+        return Ok(Some(true));
+    }
+    Ok(is_same(alloc, heap, tree, &before, used)?.then_some(false))
+}
+
+// Whether the tree can be copied; nothing where that changes something.
+fn copied(alloc: Global, heap: &LocalHeap, tree: &Tree) -> Result<Option<bool>, Fail> {
+    let (before, used) = (listed(alloc, tree)?, heap.used());
+    let copied = is_copied(tree);
+    Ok(is_same(alloc, heap, tree, &before, used)?.then_some(copied))
+}
+
+// Whether numbers from 0 upward are taken until one is refused, which changes nothing.
+fn is_filled(alloc: Global, heap: &LocalHeap, tree: &mut Tree) -> Result<bool, Fail> {
     for number in 0..4096u64 {
-        let prefix = Prefix::whole(number);
-        let before = listed(alloc, tree)?;
-        if let Err(back) = tree.insert(prefix, Number(number)) {
-            let after = listed(alloc, tree)?;
-            return Ok(Some(Refused {
-                prefix,
-                number: Number(number),
-                back,
-                before,
-                after,
-            }));
+        if tried(alloc, heap, tree, Prefix::whole(number), number)? != Some(true) {
+            return Ok(number > 0);
         }
     }
-    Ok(None)
+    Ok(false)
+}
+
+fn is_full(alloc: Global, heap: &LocalHeap) -> Result<bool, Fail> {
+    let mut tree = PrefixTree::new_in(heap);
+    let filled = is_filled(alloc, heap, &mut tree)?;
+    Ok(filled && copied(alloc, heap, &tree)? == Some(false))
 }
 
 #[test]
 fn a_full_heap_hands_the_pair_back(rt: HostRuntime) -> Result<(), Fail> {
     let heap = LocalHeap::new(rt.alloc(), 4096)?;
-    let mut tree = PrefixTree::new_in(&heap);
-    let refused = fill(rt.alloc(), &mut tree)?.ok_or("nothing was refused")?;
-    assert!(rt; refused.back.0.same(&refused.prefix));
-    assert_eq!(rt; refused.back.1, refused.number);
-    assert!(rt; !refused.before.is_empty());
-    assert_eq!(rt; refused.after, refused.before);
-    assert!(rt; !is_copied(&tree));
-    assert_eq!(rt; listed(rt.alloc(), &tree)?, refused.before);
+    assert!(rt; is_full(rt.alloc(), &heap)?);
     Ok(())
 }
 
-// What came of four inserts in a heap of this size.
-#[derive(Clone, Copy)]
-struct Outcome {
-    taken: usize,
-    copied: bool,
-    kept: bool,
+const LENS: [u32; 4] = [0, 1, 3, 6];
+
+// How many of four prefixes are set until one is refused; nothing where a refusal changes something.
+fn taken(alloc: Global, heap: &LocalHeap, tree: &mut Tree) -> Result<Option<usize>, Fail> {
+    let mut count = 0usize;
+    for len in LENS {
+        match tried(alloc, heap, tree, Prefix::of(0x6000_0000_0000, len), 7)? {
+            Some(true) => count = count.saturating_add(1),
+            Some(false) => return Ok(Some(count)),
+            None => return Ok(None),
+        }
+    }
+    Ok(Some(count))
 }
 
-// Sets four prefixes until one is refused, and copies the tree. `kept`: a refused pair came back, and it and
-// the copy left the tree and the heap as they were.
-fn four_inserts(alloc: Global, size: usize) -> Result<Outcome, Fail> {
+// The same in a heap of this size, and whether the tree can then be copied.
+fn taken_in(alloc: Global, size: usize) -> Result<Option<(usize, bool)>, Fail> {
     let heap = LocalHeap::new(alloc, size)?;
     let mut tree = PrefixTree::new_in(&heap);
-    let mut taken = 0usize;
-    let mut kept = true;
-    for len in [0, 1, 3, 6] {
-        let prefix = Prefix::of(0x6000_0000_0000, len);
-        let (before, used) = (listed(alloc, &tree)?, heap.used());
-        if let Err((back, value)) = tree.insert(prefix, Number(7)) {
-            let same = back.same(&prefix) && value == Number(7);
-            kept = same && listed(alloc, &tree)? == before && heap.used() == used;
-            break;
+    let count = taken(alloc, &heap, &mut tree)?;
+    let copied = copied(alloc, &heap, &tree)?;
+    Ok(count.zip(copied))
+}
+
+// Whether heaps of rising size take one prefix after the other, and in the end a copy.
+fn are_taken_in_turn(alloc: Global) -> Result<bool, Fail> {
+    let (mut last, mut all) = (0usize, false);
+    for size in 1..64usize {
+        let Some((count, copied)) = taken_in(alloc, 16 * size)? else {
+            return Ok(false);
+        };
+        if count < last || count - last > 1 {
+            return Ok(false);
         }
-        taken = taken.saturating_add(1);
+        last = count;
+        all = count == 4 && copied;
     }
-    let (before, used) = (listed(alloc, &tree)?, heap.used());
-    let copied = is_copied(&tree);
-    kept = kept && listed(alloc, &tree)? == before && heap.used() == used;
-    Ok(Outcome {
-        taken,
-        copied,
-        kept,
-    })
+    Ok(all)
 }
 
 #[test]
 fn each_growth_is_refused_in_turn(rt: HostRuntime) -> Result<(), Fail> {
-    let mut last = four_inserts(rt.alloc(), 16)?;
-    assert!(rt; last.kept);
-    for size in 2..64usize {
-        let next = four_inserts(rt.alloc(), 16 * size)?;
-        assert!(rt; next.kept, "{size}");
-        assert!(rt;
-            next.taken >= last.taken && next.taken - last.taken <= 1,
-            "{size}"
-        );
-        last = next;
-    }
-    assert!(rt; last.taken == 4 && last.copied);
+    assert!(rt; are_taken_in_turn(rt.alloc())?);
     Ok(())
+}
+
+const DEEP: [u32; 4] = [0, 48, 47, 3];
+
+fn are_set(tree: &mut Tree) -> bool {
+    let mut all = true;
+    for len in DEEP {
+        all = tree
+            .insert(Prefix::of(0x6000_0000_0001, len), Number(7))
+            .is_ok()
+            && all;
+    }
+    all
+}
+
+fn are_removed(tree: &mut Tree) -> bool {
+    let mut all = true;
+    for len in DEEP {
+        all = tree.take(&Prefix::of(0x6000_0000_0001, len)).is_some() && all;
+    }
+    all
+}
+
+// Whether prefixes are set in the heap, and give all of it back once they are removed.
+fn is_given_back(heap: &LocalHeap) -> bool {
+    let used = heap.used();
+    let mut tree = PrefixTree::new_in(heap);
+    let grown = are_set(&mut tree) && heap.used() > used;
+    grown && are_removed(&mut tree) && heap.used() == used
 }
 
 #[test]
 fn removal_gives_all_nodes_back(rt: HostRuntime) -> Result<(), Fail> {
     let heap = LocalHeap::new(rt.alloc(), 16384)?;
-    let mut tree = PrefixTree::new_in(&heap);
-    let used = heap.used();
-    let lens = [0, 48, 47, 3];
-    for len in lens {
-        assert!(rt;
-            tree.insert(Prefix::of(0x6000_0000_0001, len), Number(7))
-                .is_ok()
-        );
-    }
-    assert!(rt; heap.used() > used);
-    for len in lens {
-        assert!(rt; tree.take(&Prefix::of(0x6000_0000_0001, len)).is_some());
-    }
-    assert_eq!(rt; heap.used(), used);
+    assert!(rt; is_given_back(&heap));
     Ok(())
 }

@@ -1,0 +1,99 @@
+//! A register and its console in a heap of fixed size: rounds of 12 commands, more than 10,000 in all, end where they began and
+//! take no more of it than the first round does; and once the register is gone every byte is free again.
+
+use crate::limits::usual;
+use crate::served::are_answered;
+use centre_core::Register;
+use identity::print_number;
+use linked_list_allocator::LocalHeap;
+use std::alloc::Global;
+use std::test::Fail;
+
+/// The commands of a round behind their sequence, and what each is answered behind its number: a rule comes and goes, a radio
+/// is attached and detached, joins a group and leaves all, and messages end by a report that is acknowledged, by their
+/// deadline and by deletion.
+const ROUND: [(&str, &str); 12] = [
+    (" 0 rule 234-14-0/24 1 99 1 3600\n", " -\n"),
+    (" 10 mm 234-14-2001 7 10:260\n", " 8:56\n"),
+    (
+        " 20 mm 234-14-2001 7 60:7380480A00007D0\n",
+        " 62:B3704C0980001F40\n",
+    ),
+    (" 100 sds 234-14-2001 234-14-2002 48:820405014849\n", " -\n"),
+    (" 100 sds 234-14-2001 234-14-2001 48:820405014849\n", " -\n"),
+    (" 110 sds 234-14-2001 234-14-2001 32:82100005\n", " -\n"),
+    (" 120 sds 234-14-2001 234-14-2001 32:82200005\n", " -\n"),
+    (" 3700 expire\n", " -\n"),
+    (" 130 mm 234-14-2001 7 7:74\n", " 7:B0\n"),
+    (" 140 mm 234-14-2001 0 5:10\n", " -\n"),
+    (" 150 rule 234-14-2001/48 1 1 0 0\n", " -\n"),
+    (" 160 unrule 234-14-2001/48\n", " -\n"),
+];
+
+/// Lines, and what is answered to them.
+#[derive(Drop)]
+struct Talk {
+    lines: Vec<u8>,
+    answers: Vec<u8>,
+}
+
+/// Adds the command of this sequence, which is accepted under the same number.
+fn add(talk: &mut Talk, number: u64, line: &str, answer: &str) -> Result<(), Fail> {
+    print_number(&mut talk.lines, number)?;
+    talk.lines.extend_from_slice(line.as_bytes())?;
+    print_number(&mut talk.answers, number)?;
+    talk.answers.extend_from_slice(b" ok ")?;
+    print_number(&mut talk.answers, number)?;
+    talk.answers.extend_from_slice(answer.as_bytes())?;
+    Ok(())
+}
+
+/// Adds so many rounds, after so many commands.
+fn add_rounds(talk: &mut Talk, before: u64, rounds: u32) -> Result<(), Fail> {
+    let mut number = before;
+    for _ in 0..rounds {
+        for (line, answer) in ROUND {
+            number = number.saturating_add(1);
+            add(talk, number, line, answer)?;
+        }
+    }
+    Ok(())
+}
+
+fn rounds_after(alloc: Global, before: u64, rounds: u32) -> Result<Talk, Fail> {
+    let mut talk = Talk {
+        lines: Vec::new(alloc),
+        answers: Vec::new(alloc),
+    };
+    add_rounds(&mut talk, before, rounds)?;
+    Ok(talk)
+}
+
+/// Whether all is answered so, and the second talk leaves the heap as the first.
+fn is_even(alloc: Global, heap: &LocalHeap, first: &Talk, second: &Talk) -> Result<bool, Fail> {
+    let mut desk = Register::new(heap, usual()?)?;
+    let once = are_answered(alloc, heap, &mut desk, &first.lines, &first.answers);
+    let used = heap.used();
+    Ok(
+        once && are_answered(alloc, heap, &mut desk, &second.lines, &second.answers)
+            && heap.used() == used,
+    )
+}
+
+fn is_free_again(alloc: Global, heap: &LocalHeap) -> Result<bool, Fail> {
+    let empty = heap.used();
+    let even = is_even(
+        alloc,
+        heap,
+        &rounds_after(alloc, 0, 1)?,
+        &rounds_after(alloc, 12, 900)?,
+    )?;
+    Ok(even && heap.used() == empty)
+}
+
+#[test]
+fn ten_thousand_commands_leave_no_trace(rt: HostRuntime) -> Result<(), Fail> {
+    let heap = LocalHeap::new(rt.alloc(), 1 << 16)?;
+    assert!(rt; is_free_again(rt.alloc(), &heap)?);
+    Ok(())
+}

@@ -1,0 +1,85 @@
+//! A run in heaps of rising size, its own or its register's: each growth is refused in turn, and the answer says so.
+
+use crate::limits::usual;
+use crate::served::answers;
+use centre_core::Register;
+use linked_list_allocator::LocalHeap;
+use std::alloc::Global;
+use std::test::Fail;
+
+const LINES: &str = "1 0 rule 234-14-0/24 1 99 1 3600\n\
+     2 10 mm 234-14-2001 7 10:260\n\
+     3 20 mm 234-14-2001 7 60:7380480A00007D0\n\
+     4 30 sds 234-14-2001 234-14-2002 48:820405014849\n\
+     groups 234-14-2001\n\
+     mail 234-14-2002\n";
+
+/// How the answers begin where memory is wanted for the first line, for the second and so on, and where it is for none.
+const FRONTS: [&str; 7] = [
+    "1 no memory\n",
+    "1 ok 1 -\n2 no memory\n",
+    "1 ok 1 -\n2 ok 2 8:56\n3 no memory\n",
+    "1 ok 1 -\n2 ok 2 8:56\n3 ok 3 62:B3704C0980001F40\n4 no memory\n",
+    "1 ok 1 -\n2 ok 2 8:56\n3 ok 3 62:B3704C0980001F40\n4 ok 4 -\nline 5 no memory\n",
+    "1 ok 1 -\n2 ok 2 8:56\n3 ok 3 62:B3704C0980001F40\n4 ok 4 -\ngroups 234-14-2001 1\ngroup 234-14-1000 4 1\n\
+     line 6 no memory\n",
+    "1 ok 1 -\n2 ok 2 8:56\n3 ok 3 62:B3704C0980001F40\n4 ok 4 -\ngroups 234-14-2001 1\ngroup 234-14-1000 4 1\n\
+     mail 234-14-2002 1\nitem 4 m 234-14-2001 5 3630 48:820405014849\n",
+];
+
+/// Which of the fronts this text begins with; 8 where it is none.
+fn front_of(text: &[u8]) -> usize {
+    for (at, front) in FRONTS.iter().enumerate() {
+        if text.starts_with(front.as_bytes()) {
+            return at.saturating_add(1);
+        }
+    }
+    8
+}
+
+/// How the answers begin where the run's memory and the register's have so many bytes; 0 where one of them can't be made.
+fn reached(alloc: Global, own: usize, kept: usize) -> Result<usize, Fail> {
+    let limits = usual()?;
+    let (own, kept) = (LocalHeap::new(alloc, own)?, LocalHeap::new(alloc, kept)?);
+    let Ok(mut desk) = Register::new(&kept, limits) else {
+        return Ok(0);
+    };
+    Ok(answers(alloc, &own, &mut desk, LINES.as_bytes()).map_or(0, |out| front_of(&out)))
+}
+
+/// Where runs end whose register has a heap of rising size.
+fn ends_of_registers(alloc: Global) -> Result<[bool; 9], Fail> {
+    let mut ends = [false; 9];
+    for step in 0..512usize {
+        ends[reached(alloc, 1 << 16, 64 * step)?.min(8)] = true;
+    }
+    Ok(ends)
+}
+
+/// Where runs end whose own heap is of rising size.
+fn ends_of_runs(alloc: Global) -> Result<[bool; 9], Fail> {
+    let mut ends = [false; 9];
+    for step in 0..512usize {
+        ends[reached(alloc, 8 * step, 1 << 16)?.min(8)] = true;
+    }
+    Ok(ends)
+}
+
+/// Whether runs end in each of these ways, and in none that is no want of memory.
+fn are_seen(ends: [bool; 9], ways: &[usize]) -> bool {
+    !ends[8] && ways.iter().all(|way| ends.get(*way) == Some(&true))
+}
+
+/// A rule, a radio, its groups and a message take memory of the register.
+#[test]
+fn a_little_register_goes_on(rt: HostRuntime) -> Result<(), Fail> {
+    assert!(rt; are_seen(ends_of_registers(rt.alloc())?, &[0, 1, 2, 3, 4, 7]));
+    Ok(())
+}
+
+/// A PDU, a longer one with its answer, and a list with an item take memory of the run.
+#[test]
+fn little_memory_is_told(rt: HostRuntime) -> Result<(), Fail> {
+    assert!(rt; are_seen(ends_of_runs(rt.alloc())?, &[0, 2, 3, 6, 7]));
+    Ok(())
+}

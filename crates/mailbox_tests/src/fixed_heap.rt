@@ -1,0 +1,106 @@
+//! Mail in a heap of fixed size: rounds of 12 changes, more than 10,000 in all, end with nothing that waits and take no more
+//! of it than the first round does; and once the mail is gone every byte is free again.
+
+use crate::fixture::{Call, Made, called, envelope, limits, pdu, registry};
+use crate::to_group::{MESSAGE, post_group};
+use linked_list_allocator::LocalHeap;
+use mailbox::{Kind, Mail, Stamp};
+use registration::Registry;
+use std::alloc::Global;
+use std::test::Fail;
+
+/// The changes of a round, each with its source, destination and reference: items end by an acknowledgement, by having been
+/// sent, by deletion and by their deadline.
+const ROUND: [(Call, u32, u32, u8); 10] = [
+    (Call::Post(1), 1, 2, 5),
+    (Call::Report(0, true), 2, 1, 5),
+    (Call::Ack, 1, 2, 5),
+    (Call::Post(0), 2, 3, 6),
+    (Call::Sent(Kind::Message), 2, 3, 6),
+    (Call::Post(3), 1, 1, 7),
+    (Call::Delete(Kind::Message), 1, 1, 7),
+    (Call::Post(3), 3, 2, 8),
+    (Call::Post(2), 3, 1, 8),
+    (Call::Expire(3700), 1, 1, 0),
+];
+
+/// The changes of a round, after so many others; whether each is made.
+fn is_round_made<'a>(
+    heap: &'a LocalHeap,
+    registry: &Registry<&'a LocalHeap>,
+    mail: &mut Mail<&'a LocalHeap>,
+    before: u64,
+) -> Result<bool, Fail> {
+    let mut number = before;
+    for (call, source, destination, reference) in ROUND {
+        number = number.saturating_add(1);
+        let made = Made {
+            call,
+            envelope: envelope(source, destination, reference)?,
+            stamp: Stamp {
+                number,
+                moment: 100,
+            },
+        };
+        if called(registry, mail, &made, pdu(heap, call)?).is_err() {
+            return Ok(false);
+        }
+    }
+    Ok(true)
+}
+
+/// Whether a message to a group is put, and its copies end.
+fn is_group_told<'a>(
+    alloc: Global,
+    heap: &'a LocalHeap,
+    registry: &Registry<&'a LocalHeap>,
+    mail: &mut Mail<&'a LocalHeap>,
+) -> Result<bool, Fail> {
+    let pdu = pdu(heap, Call::Post(3))?;
+    let is_put = post_group(alloc, registry, mail, &MESSAGE, pdu).is_ok();
+    mail.expire(3700);
+    Ok(is_put)
+}
+
+/// Whether so many rounds are made, and each leaves the heap as the first.
+fn is_even<'a>(
+    alloc: Global,
+    heap: &'a LocalHeap,
+    registry: &Registry<&'a LocalHeap>,
+    mail: &mut Mail<&'a LocalHeap>,
+    rounds: u64,
+) -> Result<bool, Fail> {
+    let mut used = None;
+    for round in 0..rounds {
+        if !is_group_told(alloc, heap, registry, mail)?
+            || !is_round_made(heap, registry, mail, round.saturating_mul(10))?
+            || *used.get_or_insert(heap.used()) != heap.used()
+        {
+            return Ok(false);
+        }
+    }
+    Ok(true)
+}
+
+/// The register lies in another heap.
+fn is_kept_even<'a>(
+    alloc: Global,
+    heap: &'a LocalHeap,
+    other: &'a LocalHeap,
+) -> Result<bool, Fail> {
+    let limits = limits(16)?;
+    let registry = registry(other)?;
+    let mut mail = Mail::new(heap, limits);
+    is_even(alloc, heap, &registry, &mut mail, 900)
+}
+
+#[test]
+fn ten_thousand_changes_leave_no_trace(rt: HostRuntime) -> Result<(), Fail> {
+    let (heap, other) = (
+        LocalHeap::new(rt.alloc(), 4096)?,
+        LocalHeap::new(rt.alloc(), 4096)?,
+    );
+    let empty = heap.used();
+    assert!(rt; is_kept_even(rt.alloc(), &heap, &other)? && heap.used() == empty);
+    Ok(())
+}

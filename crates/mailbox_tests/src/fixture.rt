@@ -1,0 +1,159 @@
+//! Radios, a register, and calls of the mail.
+
+use identity::{Bits, Itsi, Prefix, parse_bits};
+use mailbox::{Envelope, Kind, Mail, MailFault, Stamp};
+use mm_pdus::{Lifetime, LocationUpdateType};
+use registration::{Limits, LocationArea, Registry, Rule};
+use sds_tl::DeliveryStatus;
+use std::alloc::Allocator;
+use std::test::Fail;
+
+/// A call of the mail.
+#[derive(Clone, Copy)]
+pub enum Call {
+    /// A message with this delivery report request, 0 to 3.
+    Post(u8),
+    /// A report of this status, with or without an acknowledgement required.
+    Report(u8, bool),
+    Ack,
+    Sent(Kind),
+    Delete(Kind),
+    /// The moment in seconds.
+    Expire(u32),
+}
+
+/// A call, who makes it of whom and about which message, and the number and moment of its command.
+#[derive(Clone, Copy)]
+pub struct Made {
+    pub call: Call,
+    pub envelope: Envelope,
+    pub stamp: Stamp,
+}
+
+/// With room for so many items.
+pub fn limits(mail: u32) -> Result<Limits, Fail> {
+    Ok(Limits::new(16, 16, mail, 4).ok_or("limits")?)
+}
+
+/// A radio of network 234-14; from 100 on one of network 235-14.
+pub fn radio(number: u32) -> Result<Itsi, Fail> {
+    let mcc = if number < 100 { 234 } else { 235 };
+    Ok(Itsi::new(mcc, 14, number).ok_or("an identity")?)
+}
+
+pub fn envelope(source: u32, destination: u32, reference: u8) -> Result<Envelope, Fail> {
+    Ok(Envelope {
+        source: radio(source)?,
+        destination: radio(destination)?,
+        reference,
+    })
+}
+
+fn rule(area: LocationArea) -> Result<Rule, Fail> {
+    Ok(Rule::new(area, area, Lifetime::NextItsiAttach, 3600).ok_or("a rule")?)
+}
+
+fn fill<A: Allocator + Clone>(registry: &mut Registry<A>, rule: Rule) -> Result<(), Fail> {
+    let _ = registry.set_rule(Prefix::of(radio(0)?.number(), 24), rule);
+    for number in 1..4 {
+        let _ = registry.locate(
+            radio(number)?,
+            1,
+            rule.low(),
+            LocationUpdateType::ItsiAttach,
+        );
+    }
+    Ok(())
+}
+
+/// A register whose one rule, for network 234-14, keeps messages for an hour; radios 1, 2 and 3 are present.
+pub fn registry<A: Allocator + Clone>(alloc: A) -> Result<Registry<A>, Fail> {
+    let area = LocationArea::new(7).ok_or("a location area")?;
+    let (limits, rule) = (limits(16)?, rule(area)?);
+    let mut registry = Registry::new(alloc, limits)?;
+    fill(&mut registry, rule)?;
+    Ok(registry)
+}
+
+/// The PDU of a call: an SDS-TRANSFER of one character, or an SDS-REPORT.
+pub fn text(call: Call) -> &'static str {
+    match call {
+        Call::Post(0) => "32:82000549",
+        Call::Post(1) => "32:82040549",
+        Call::Post(2) => "32:82080549",
+        Call::Post(_) => "32:820C0549",
+        Call::Report(_, true) => "32:82180005",
+        _ => "32:82100005",
+    }
+}
+
+pub fn pdu<A: Allocator>(alloc: A, call: Call) -> Result<Bits<A>, Fail> {
+    Ok(parse_bits(alloc, text(call).as_bytes())?)
+}
+
+/// Why the call would be refused.
+pub fn refusal<A: Allocator + Clone>(
+    registry: &Registry<A>,
+    mail: &Mail<A>,
+    made: &Made,
+) -> Option<MailFault> {
+    let envelope = &made.envelope;
+    match made.call {
+        Call::Post(_) => mail.post_refusal(registry, envelope),
+        Call::Report(code, _) => mail.report_refusal(registry, envelope, DeliveryStatus::new(code)),
+        Call::Ack => mail.ack_refusal(registry, envelope),
+        Call::Sent(kind) => mail.sent_refusal(registry, &envelope.key(kind)),
+        Call::Delete(kind) => mail.delete_refusal(&envelope.key(kind)),
+        Call::Expire(_) => None,
+    }
+}
+
+/// Puts a message, whose number is above those of all that wait.
+fn post<A: Allocator + Clone>(
+    registry: &Registry<A>,
+    mail: &mut Mail<A>,
+    made: &Made,
+    pdu: Bits<A>,
+) -> Result<(), MailFault> {
+    let (envelope, stamp) = (&made.envelope, made.stamp);
+    if !mail.is_next(stamp.number, &envelope.key(Kind::Message)) {
+        return Err(MailFault::NoMembers);
+    }
+    mail.post(registry, envelope, stamp, pdu)
+}
+
+/// Takes a report, whose number is above those of all that wait.
+fn report<A: Allocator + Clone>(
+    registry: &Registry<A>,
+    mail: &mut Mail<A>,
+    made: &Made,
+    code: u8,
+    pdu: Bits<A>,
+) -> Result<(), MailFault> {
+    let (envelope, stamp) = (&made.envelope, made.stamp);
+    if !mail.is_next(stamp.number, &envelope.key(Kind::Report)) {
+        return Err(MailFault::NoMembers);
+    }
+    mail.report(registry, envelope, DeliveryStatus::new(code), stamp, pdu)
+}
+
+/// What the call is answered.
+pub fn called<A: Allocator + Clone>(
+    registry: &Registry<A>,
+    mail: &mut Mail<A>,
+    made: &Made,
+    pdu: Bits<A>,
+) -> Result<(), MailFault> {
+    let envelope = &made.envelope;
+    match made.call {
+        Call::Post(_) => post(registry, mail, made, pdu),
+        Call::Report(code, _) => report(registry, mail, made, code, pdu),
+        Call::Ack => mail.ack(registry, envelope),
+        Call::Sent(kind) => mail.sent(registry, &envelope.key(kind)),
+        Call::Delete(kind) => mail.delete(&envelope.key(kind)),
+        Call::Expire(moment) => {
+            mail.expire(moment);
+            Ok(())
+        }
+    }
+}

@@ -1,0 +1,18 @@
+//! Tests of the public calls of `mailbox`. What messages, reports and acknowledgements are answered is shown by the program's
+//! rows too, in tests/rows.
+#![tactic(auto)]
+
+#[cfg(test)]
+mod fixed_heap;
+#[cfg(test)]
+mod fixture;
+#[cfg(test)]
+mod groups;
+#[cfg(test)]
+mod plain;
+#[cfg(test)]
+mod side_by_side;
+#[cfg(test)]
+mod small_heap;
+#[cfg(test)]
+mod to_group;

@@ -1,0 +1,185 @@
+//! Mail in heaps of rising size: each growth is refused in turn, and then nothing is changed.
+
+use crate::fixture::{Call, Made, called, envelope, limits, pdu, radio, registry};
+use crate::to_group::{MESSAGE, post_group};
+use linked_list_allocator::LocalHeap;
+use mailbox::{Mail, MailFault, Stamp};
+use prefix_tree::TryCopy;
+use registration::Registry;
+use std::alloc::Global;
+use std::test::Fail;
+
+/// Eight messages for radio 2, and then a report on each for radio 1.
+fn made_at(turn: u8) -> Result<Made, Fail> {
+    let stamp = Stamp {
+        number: u64::from(turn) + 1,
+        moment: 100,
+    };
+    let (call, envelope) = if turn < 8 {
+        (Call::Post(3), envelope(1, 2, turn)?)
+    } else {
+        (Call::Report(0, false), envelope(2, 1, turn - 8)?)
+    };
+    Ok(Made {
+        call,
+        envelope,
+        stamp,
+    })
+}
+
+/// The numbers of what waits, in order.
+fn numbers<'a>(alloc: Global, mail: &Mail<&'a LocalHeap>) -> Result<Vec<u64>, Fail> {
+    let mut numbers = Vec::new(alloc);
+    for item in mail.items(alloc)? {
+        numbers.push(item.number())?;
+    }
+    Ok(numbers)
+}
+
+/// Nothing where the call of this turn is carried out, or else whether it left all as it was. Its PDU lies in an ample heap.
+fn tried<'a>(
+    alloc: Global,
+    ample: &'a LocalHeap,
+    registry: &Registry<&'a LocalHeap>,
+    mail: &mut Mail<&'a LocalHeap>,
+    turn: u8,
+) -> Result<Option<bool>, Fail> {
+    let (made, before) = (made_at(turn)?, numbers(alloc, mail)?);
+    match called(registry, mail, &made, pdu(ample, made.call)?) {
+        Ok(()) => Ok(None),
+        Err(fault) => { Ok(Some(fault == MailFault::NoMemory && numbers(alloc, mail)? == before)) }
+    }
+}
+
+/// How many calls are carried out until one is refused, and one more where the mail can then be copied; nothing where the
+/// refusal changed something.
+fn taken<'a>(
+    alloc: Global,
+    ample: &'a LocalHeap,
+    registry: &Registry<&'a LocalHeap>,
+    mail: &mut Mail<&'a LocalHeap>,
+) -> Result<Option<usize>, Fail> {
+    for turn in 0..16u8 {
+        if let Some(kept) = tried(alloc, ample, registry, mail, turn)? {
+            return Ok(kept.then_some(usize::from(turn)));
+        }
+    }
+    Ok(Some(16 + usize::from(mail.try_copy().is_ok())))
+}
+
+/// The same of a new mail in this heap.
+fn taken_in<'a>(
+    alloc: Global,
+    ample: &'a LocalHeap,
+    heap: &'a LocalHeap,
+) -> Result<Option<usize>, Fail> {
+    let limits = limits(16)?;
+    let registry = registry(ample)?;
+    let mut mail = Mail::new(heap, limits);
+    taken(alloc, ample, &registry, &mut mail)
+}
+
+/// Which numbers of calls heaps of rising size carry out.
+fn ends(alloc: Global, ample: &LocalHeap) -> Result<[bool; 18], Fail> {
+    let mut seen = [false; 18];
+    for size in 1..320usize {
+        let heap = LocalHeap::new(alloc, 64 * size)?;
+        let Some(count) = taken_in(alloc, ample, &heap)? else {
+            return Err(Fail::from("a refusal changed something"));
+        };
+        seen[count.min(17)] = true;
+    }
+    Ok(seen)
+}
+
+/// The first message and the first report need an inbox, the fifth of each a longer one, and the order of all has its places
+/// for four, eight and sixteen; then there is no memory for a copy, and then for all.
+const ENDS: [usize; 6] = [0, 4, 8, 12, 16, 17];
+
+fn are_seen(alloc: Global) -> Result<bool, Fail> {
+    let ample = LocalHeap::new(alloc, 1 << 16)?;
+    let seen = ends(alloc, &ample)?;
+    Ok(ENDS.iter().all(|end| seen.get(*end) == Some(&true)))
+}
+
+#[test]
+fn each_growth_is_refused_in_turn(rt: HostRuntime) -> Result<(), Fail> {
+    assert!(rt; are_seen(rt.alloc())?);
+    Ok(())
+}
+
+/// Whether a message to a group was put into this mail for both its receivers; nothing where it waits for one of them, or was
+/// refused and waits, or for another reason than want of memory.
+fn is_posted<'a>(
+    alloc: Global,
+    ample: &'a LocalHeap,
+    registry: &Registry<&'a LocalHeap>,
+    mail: &mut Mail<&'a LocalHeap>,
+) -> Result<Option<bool>, Fail> {
+    let answer = post_group(alloc, registry, mail, &MESSAGE, pdu(ample, Call::Post(3))?);
+    match (answer, mail.items(alloc)?.len()) {
+        (Ok(()), 2) => Ok(Some(true)),
+        (Err(MailFault::NoMemory), 0) => Ok(Some(false)),
+        _ => Ok(None),
+    }
+}
+
+/// The same of a new mail in this heap.
+fn is_posted_in<'a>(
+    alloc: Global,
+    ample: &'a LocalHeap,
+    heap: &'a LocalHeap,
+) -> Result<Option<bool>, Fail> {
+    let limits = limits(16)?;
+    let registry = registry(ample)?;
+    let mut mail = Mail::new(heap, limits);
+    is_posted(alloc, ample, &registry, &mut mail)
+}
+
+/// Whether heaps of rising size take the message for nobody, and then for all.
+fn are_all_or_nobody(alloc: Global, ample: &LocalHeap) -> Result<[bool; 2], Fail> {
+    let mut seen = [false; 2];
+    for size in 1..64usize {
+        let heap = LocalHeap::new(alloc, 32 * size)?;
+        let Some(posted) = is_posted_in(alloc, ample, &heap)? else {
+            return Err(Fail::from("not all or nobody"));
+        };
+        seen[usize::from(posted)] = true;
+    }
+    Ok(seen)
+}
+
+#[test]
+fn all_have_a_copy_or_nobody(rt: HostRuntime) -> Result<(), Fail> {
+    let ample = LocalHeap::new(rt.alloc(), 1 << 16)?;
+    assert!(rt; are_all_or_nobody(rt.alloc(), &ample)? == [true, true]);
+    Ok(())
+}
+
+fn put_eight(
+    alloc: Global,
+    registry: &Registry<Global>,
+    mail: &mut Mail<Global>,
+) -> Result<(), Fail> {
+    for turn in 0..8u8 {
+        let made = made_at(turn)?;
+        let _ = called(registry, mail, &made, pdu(alloc, made.call)?);
+    }
+    Ok(())
+}
+
+/// Whether neither list of what waits, eight items, finds memory in this heap.
+fn are_lists_refused(alloc: Global, heap: &LocalHeap) -> Result<bool, Fail> {
+    let (limits, itsi) = (limits(16)?, radio(2)?);
+    let registry = registry(alloc)?;
+    let mut mail = Mail::new(alloc, limits);
+    put_eight(alloc, &registry, &mut mail)?;
+    Ok(mail.items(heap).is_err() && mail.waiting(heap, itsi).is_err())
+}
+
+#[test]
+fn lists_may_be_refused(rt: HostRuntime) -> Result<(), Fail> {
+    let heap = LocalHeap::new(rt.alloc(), 32)?;
+    assert!(rt; are_lists_refused(rt.alloc(), &heap)?);
+    Ok(())
+}
