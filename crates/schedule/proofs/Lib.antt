@@ -1,0 +1,11 @@
+pub mod Lists
+pub mod Stepping
+pub mod Keeping
+pub mod Later
+pub mod Sealing
+pub mod Running
+pub mod Rounding
+pub mod Messages
+pub mod Placing
+pub mod Judging
+pub mod Limits

@@ -1,0 +1,24 @@
+-- The greatest limits are one value.
+use Rattle.std.proofs.Common.{◌≡◌}
+use Rattle.std.specs.Coded.{le_prop}
+use Rattle.registration.specs.declared.limits.Limits.{Limits}
+use Rattle.registration.specs.Limits.{AreLimits}
+use Rattle.schedule.specs.World.{greatest}
+
+same_ranges : (p q : AreLimits 4096 65536 65536 64) → p ≡ q
+same_ranges p q = λ i. record {
+  some_rules = le_prop p.some_rules q.some_rules i;
+  most_rules = le_prop p.most_rules q.most_rules i;
+  some_radios = le_prop p.some_radios q.some_radios i;
+  most_radios = le_prop p.most_radios q.most_radios i;
+  some_mail = le_prop p.some_mail q.some_mail i;
+  most_mail = le_prop p.most_mail q.most_mail i;
+  some_stations = le_prop p.some_stations q.some_stations i;
+  most_stations = le_prop p.most_stations q.most_stations i;
+}
+
+abbrev made : AreLimits 4096 65536 65536 64 → Limits
+made p = record { rules = 4096; radios = 65536; mail = 65536; stations = 64; in_range = p }
+
+pub greatest_made : (p : AreLimits 4096 65536 65536 64) → made p ≡ greatest
+greatest_made p = λ i. made (same_ranges p greatest.in_range i)

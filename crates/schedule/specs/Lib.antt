@@ -1,0 +1,5 @@
+pub mod World
+pub mod Next
+pub mod Clauses
+pub mod Laws
+pub mod Rounds

@@ -1,0 +1,182 @@
+-- What may happen next, and what it does.
+use Rattle.std.specs.Prelude.{◌≡◌, ℕ, ◌==◌, Bool, true, false, not, cond, ◌&&◌, nat_lt, nat_le, is_none, is_some, option_map, find, reverse, List, [], ◌∷◌, ◌++◌, length, take, drop, map, Option, Some, None}
+use Rattle.centre_core.specs.declared.command.Command.{Command}
+use Rattle.centre_core.specs.declared.reply.Reply.{Reply}
+use Rattle.centre_core.specs.declared.reply.Reply.TheVariants.{Accepted, Kept, Refused}
+use Rattle.centre_core.specs.State.{State}
+use Rattle.centre_core.specs.History.{is_acceptance, next, after}
+use Rattle.centre_core.specs.InTurn.{reply_to}
+use Rattle.schedule.specs.declared.event.Event.{Event}
+use Rattle.schedule.specs.declared.event.Event.TheVariants.{Submit, Seal, CommitBegin, CommitEnd, Publish, Answer, Read, CheckpointBegin, CheckpointEnd, Crash, Reopen}
+use Rattle.schedule.specs.declared.fault.StepFault.{StepFault}
+use Rattle.schedule.specs.declared.fault.StepFault.TheVariants.{NotNow, NoMemory}
+use Rattle.schedule.specs.World.{World, Line, line, with_line, queue_of, seen_of, Entry}
+
+abbrev pub is_empty : {X : Type 0} → List X → Bool
+is_empty [] = true
+is_empty (x ∷ xs) = false
+
+-- the first of a list, as a list of one; nothing of the empty one
+abbrev pub front : {X : Type 0} → List X → List X
+front [] = []
+front (x ∷ xs) = x ∷ []
+
+-- there is a line of this station
+abbrev pub is_place : {A : Type 0} → List (Line A) → ℕ → Bool
+is_place lines s = nat_lt 0 s && nat_le s (length lines)
+
+module _ {A : Type 0} where
+  -- a batch in turn, each command with its reply
+  abbrev pub replies : State → List (Command A) → List (Entry A)
+  replies s [] = []
+  replies s (c ∷ cs) = (c, reply_to s c) ∷ replies (next s c) cs
+
+  -- the commands that are accepted
+  abbrev pub accepted_of : List (Entry A) → List (Command A)
+  accepted_of [] = []
+  accepted_of (x ∷ xs) = cond (is_acceptance x.1) (x.0 ∷ accepted_of xs) (accepted_of xs)
+
+  -- those of a batch that are accepted in turn
+  abbrev pub taken : State → List (Command A) → List (Command A)
+  taken s cs = accepted_of (replies s cs)
+
+  -- the accepted commands of a commit as records: one of them all, and none where nothing was accepted
+  abbrev pub cut : List (Command A) → List (List (Command A))
+  cut [] = []
+  cut (c ∷ cs) = (c ∷ cs) ∷ []
+
+  -- the commands of records, in order
+  abbrev pub joined : List (List (Command A)) → List (Command A)
+  joined [] = []
+  joined (r ∷ rs) = r ++ joined rs
+
+  -- the records of the commit at work
+  abbrev pub records_of : Option (List (Entry A)) → List (List (Command A))
+  records_of None = []
+  records_of (Some xs) = cut (accepted_of xs)
+
+  abbrev pub replies_of : Option (List (Entry A)) → List (Entry A)
+  replies_of None = []
+  replies_of (Some xs) = xs
+
+  -- the first entry of a station, as a list of one, and the entries without it
+  abbrev pub first_of : ℕ → List (Entry A) → List (Entry A)
+  first_of s [] = []
+  first_of s (x ∷ xs) = cond (x.0.station == s) (x ∷ []) (first_of s xs)
+
+  abbrev pub without_first : ℕ → List (Entry A) → List (Entry A)
+  without_first s [] = []
+  without_first s (x ∷ xs) = cond (x.0.station == s) xs (x ∷ without_first s xs)
+
+  -- how a reply is answered: an acceptance as one only where all is published
+  abbrev pub told : Bool → Reply A → Reply A
+  told all (Accepted n p) = cond all (Accepted n p) (Kept n p)
+  told all (Kept n p) = Kept n p
+  told all (Refused r) = Refused r
+
+  abbrev pub answered : Bool → List (Entry A) → List (Entry A)
+  answered all [] = []
+  answered all (x ∷ xs) = (x.0, told all x.1) ∷ answered all xs
+
+  -- how much a station has seen once it has this answer
+  abbrev pub seen_after : ℕ → ℕ → List (Entry A) → ℕ
+  seen_after seen published [] = seen
+  seen_after seen published (x ∷ xs) = cond (is_acceptance x.1) published seen
+
+  -- the last reply to a station among these
+  abbrev pub last_answer : ℕ → List (Entry A) → Option (Reply A)
+  last_answer s xs = option_map (λ x. x.1) (find (λ x. x.0.station == s) (reverse xs))
+
+  -- the lines with nothing queued
+  abbrev pub emptied : List (Line A) → List (Line A)
+  emptied xs = map (λ x. line [] x.seen) xs
+
+  -- the lines with nothing seen
+  abbrev pub unread : List (Line A) → List (Line A)
+  unread xs = map (λ x. line x.queue 0) xs
+
+  abbrev pub is_station : World A → ℕ → Bool
+  is_station w s = is_place w.lines s
+
+  -- not down, and nothing flying
+  abbrev pub is_still : World A → Bool
+  is_still w = not w.down && is_none w.flying
+
+  -- the condition of an event
+  abbrev pub may : World A → Event A → Bool
+  may w (Submit s c) = is_station w s && (not w.down && (c.station == s))
+  may w (Seal s) = is_station w s && (is_still w && (is_empty w.owed && (nat_lt (length w.batch) 64 && not (is_empty (queue_of w s)))))
+  may w CommitBegin = is_still w && (not w.checking && (not (is_empty w.batch) && (w.published == w.durable)))
+  may w CommitEnd = is_some w.flying
+  may w Publish = is_still w
+  may w (Answer s) = is_station w s && (not w.down && not (is_empty (first_of s w.owed)))
+  may w (Read s) = is_station w s
+  may w CheckpointBegin = is_still w && not w.checking
+  may w CheckpointEnd = w.checking
+  may w (Crash k) = not w.down && nat_le k (length (records_of w.flying))
+  may w Reopen = w.down
+
+  -- its effect, over the base from which the accepted commands are counted
+  abbrev pub effect : State → World A → Event A → World A
+  effect base w (Submit s c) = record w { lines = with_line w.lines s (line (queue_of w s ++ c ∷ []) (seen_of w s)) }
+  effect base w (Seal s) = record w {
+    lines = with_line w.lines s (line (drop 1 (queue_of w s)) (seen_of w s));
+    batch = w.batch ++ front (queue_of w s);
+  }
+  effect base w CommitBegin = record w {
+    accepted = w.accepted ++ taken (after base w.accepted) w.batch;
+    flying = Some (replies (after base w.accepted) w.batch);
+  }
+  effect base w CommitEnd = record w { durable = length w.accepted; flying = None; owed = replies_of w.flying; batch = [] }
+  effect base w Publish = record w { published = w.durable }
+  effect base w (Answer s) = record w {
+    lines = with_line w.lines s (line (queue_of w s) (seen_after (seen_of w s) w.published (answered (w.published == w.durable) (first_of s w.owed))));
+    owed = without_first s w.owed;
+    answers = w.answers ++ answered (w.published == w.durable) (first_of s w.owed);
+  }
+  effect base w (Read s) = record w { lines = with_line w.lines s (line (queue_of w s) w.published) }
+  effect base w CheckpointBegin = record w { checking = true }
+  effect base w CheckpointEnd = record w { checking = false }
+  effect base w (Crash k) = record w {
+    lines = emptied w.lines;
+    batch = [];
+    accepted = take w.durable w.accepted ++ joined (take k (records_of w.flying));
+    flying = None;
+    owed = [];
+    checking = false;
+    down = true;
+  }
+  effect base w Reopen = record w { lines = unread w.lines; durable = length w.accepted; published = length w.accepted; down = false }
+
+  -- the relation of one event: it may happen, and this is the world after it
+  abbrev pub Next : State → World A → Event A → World A → Type 0
+  Next base w e w' = (may w e ≡ true) × (w' ≡ effect base w e)
+
+  -- from w these events run, one after the other, to w'
+  abbrev pub Run : State → World A → List (Event A) → World A → Type 0
+  Run base w [] w' = w' ≡ w
+  Run base w (e ∷ es) w' = (m : World A) × Next base w e m × Run base m es w'
+
+  -- where nothing flies, and the centre is not down, all that is accepted is durable; else what flies is all that is not
+  abbrev pub IsFlown : Bool → ℕ → List (Command A) → Option (List (Entry A)) → Type 0
+  IsFlown down durable acc None = down ≡ false → durable ≡ length acc
+  IsFlown down durable acc (Some xs) = (acc ≡ take durable acc ++ accepted_of xs) × (down ≡ false)
+
+  -- whether an event takes memory
+  abbrev pub grows : Event A → Bool
+  grows (Submit s c) = true
+  grows (Seal s) = true
+  grows CommitBegin = true
+  grows CommitEnd = false
+  grows Publish = false
+  grows (Answer s) = true
+  grows (Read s) = false
+  grows CheckpointBegin = false
+  grows CheckpointEnd = false
+  grows (Crash k) = true
+  grows Reopen = false
+
+  -- an event is not now where its condition fails; else there was no memory for it, and it takes some
+  abbrev pub IsRefused : World A → Event A → StepFault → Type 0
+  IsRefused w e NotNow = may w e ≡ false
+  IsRefused w e NoMemory = (may w e ≡ true) × (grows e ≡ true)

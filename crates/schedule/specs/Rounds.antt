@@ -1,0 +1,80 @@
+-- A round of the flusher, over the record of the world: whatever waits behind what it popped.
+use Rattle.std.specs.Prelude.{◌≡◌, ◌==◌, ◌≤◌, Bool, true, false, cond, List, [], ◌∷◌, ◌++◌, length, None}
+use Rattle.std.specs.List.{AllByRecursion}
+use Rattle.centre_core.specs.declared.command.Command.{Command}
+use Rattle.centre_core.specs.State.{State}
+use Rattle.centre_core.specs.History.{after}
+use Rattle.schedule.specs.declared.event.Event.{Event}
+use Rattle.schedule.specs.declared.event.Event.TheVariants.{Seal, CommitBegin, CommitEnd, Publish, Answer, CheckpointBegin, CheckpointEnd}
+use Rattle.schedule.specs.World.{World, Line, line, line_of, with_line}
+use Rattle.schedule.specs.Next.{Run, is_place, replies, taken, answered}
+
+-- how a round went: whether a checkpoint was made before its commit, whether one was made behind it, and whether what it committed was published
+pub record Round : Type 0 where
+  pub made_room : Bool
+  pub tidied : Bool
+  pub shown : Bool
+
+module _ {A : Type 0} where
+  -- the world with these lines
+  abbrev pub at : World A → List (Line A) → World A
+  at f xs = record f { lines = xs }
+
+  -- the lines with these commands before what waits
+  abbrev pub fed : List (Command A) → List (Line A) → List (Line A)
+  fed [] xs = xs
+  fed (c ∷ cs) xs = with_line (fed cs xs) c.station (line (c ∷ (line_of (fed cs xs) c.station).queue) (line_of (fed cs xs) c.station).seen)
+
+  -- each is of one of these stations
+  abbrev pub AreOf : List (Line A) → List (Command A) → Type 0
+  AreOf xs ps = AllByRecursion (λ (c : Command A). is_place xs c.station ≡ true) ps
+
+  -- whatever waits, these events pop these commands and go from f to g
+  abbrev pub Goes : State → List (Command A) → List (Event A) → World A → World A → Type 0
+  Goes base popped es f g = (xs : List (Line A)) → AreOf xs popped → (later : List (Line A)) × Run base (at f (fed popped xs)) es (at g later)
+
+  -- the flusher is between two rounds: nothing is down, at work, sealed or owed; what is published may be less than what is durable
+  abbrev pub IsIdle : World A → Type 0
+  IsIdle f = (f.down ≡ false) × (f.flying ≡ None) × (f.checking ≡ false) × (f.batch ≡ []) × (f.owed ≡ [])
+
+  -- each command is sealed
+  abbrev pub seals : List (Command A) → List (Event A)
+  seals [] = []
+  seals (c ∷ cs) = Seal c.station ∷ seals cs
+
+  -- each command is answered
+  abbrev pub answers_to : List (Command A) → List (Event A)
+  answers_to [] = []
+  answers_to (c ∷ cs) = Answer c.station ∷ answers_to cs
+
+  abbrev pub checkpoint_if : Bool → List (Event A)
+  checkpoint_if true = CheckpointBegin ∷ CheckpointEnd ∷ []
+  checkpoint_if false = []
+
+  abbrev pub publish_if : Bool → List (Event A)
+  publish_if true = Publish ∷ []
+  publish_if false = []
+
+  -- the events of a round that popped these commands: what was durable before is published first
+  abbrev pub events_of : Round → List (Command A) → List (Event A)
+  events_of how popped = Publish ∷ seals popped ++ (checkpoint_if how.made_room ++ (CommitBegin ∷ CommitEnd ∷ checkpoint_if how.tidied ++ (publish_if how.shown ++ answers_to popped)))
+
+  -- after a round that popped these commands: all is published, or else what was durable before
+  abbrev pub after_round : State → World A → List (Command A) → Bool → World A
+  after_round base f popped shown =
+      let log = f.accepted ++ taken (after base f.accepted) popped in
+      let seen = cond shown (length log) f.durable in
+      record f { accepted = log; durable = length log; published = seen; answers = f.answers ++ answered (seen == length log) (replies (after base f.accepted) popped) }
+
+  -- after a round that popped nothing
+  abbrev pub after_idle_round : World A → Bool → World A
+  after_idle_round f shown = record f { published = cond shown f.durable f.published }
+
+module _ (A : Type 0) where
+  -- from whatever is idle, a round of 1 to 64 commands goes by a run
+  abbrev pub RoundsRun : Type 0
+  RoundsRun = (base : State) (f : World A) (how : Round) (c : Command A) (cs : List (Command A)) → IsIdle f → length (c ∷ cs) ≤ 64 → Goes base (c ∷ cs) (events_of how (c ∷ cs)) f (after_round base f (c ∷ cs) how.shown)
+
+  -- a round that popped nothing publishes what is durable, or does nothing; a checkpoint may be made in it
+  abbrev pub IdleRoundsRun : Type 0
+  IdleRoundsRun = (base : State) (f : World A) (how : Round) → IsIdle f → Goes base [] (publish_if how.shown ++ checkpoint_if how.tidied) f (after_idle_round f how.shown)

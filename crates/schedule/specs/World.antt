@@ -1,0 +1,87 @@
+-- The centre as a machine over events: its world.
+use Rattle.std.specs.Prelude.{ℕ, zero, suc, Bool, false, List, [], replicate, slice_index_or, slice_set, Option, None}
+use Rattle.std.proofs.Common.{arith}
+use Rattle.registration.specs.declared.limits.Limits.{Limits}
+use Rattle.centre_core.specs.declared.command.Command.{Command}
+use Rattle.centre_core.specs.declared.reply.Reply.{Reply}
+use Rattle.centre_core.specs.State.{State, empty}
+
+-- the greatest limits that a register may have
+abbrev pub greatest : Limits
+greatest = record {
+  rules = 4096;
+  radios = 65536;
+  mail = 65536;
+  stations = 64;
+  in_range = record {
+    some_rules = omega arith;
+    most_rules = omega arith;
+    some_radios = omega arith;
+    most_radios = omega arith;
+    some_mail = omega arith;
+    most_mail = omega arith;
+    some_stations = omega arith;
+    most_stations = omega arith;
+  };
+}
+
+-- the state from which the running world starts
+abbrev pub ground : State
+ground = empty greatest
+
+-- a command with its reply
+abbrev pub Entry : Type 0 → Type 0
+Entry A = Command A × Reply A
+
+-- a station's part: what it submitted that is not sealed, oldest first, and how many accepted commands it has seen
+pub record Line (A : Type 0) : Type 0 where
+  pub queue : List (Command A)
+  pub seen : ℕ
+
+-- the lines of the stations from 1 on, the batch that is sealed, and the commands accepted since the base; how many of these are durable and how many are published; the batch of a commit at work with its replies, if one is; what is to be answered, and all that was answered; whether a checkpoint is at work, and whether the centre is down
+pub record World (A : Type 0) : Type 0 where
+  pub lines : List (Line A)
+  pub batch : List (Command A)
+  pub accepted : List (Command A)
+  pub durable : ℕ
+  pub published : ℕ
+  pub flying : Option (List (Entry A))
+  pub owed : List (Entry A)
+  pub answers : List (Entry A)
+  pub checking : Bool
+  pub down : Bool
+
+module _ {A : Type 0} where
+  abbrev pub line : List (Command A) → ℕ → Line A
+  line q s = record { queue = q; seen = s }
+
+  -- the world at the start
+  abbrev pub opening : ℕ → World A
+  opening sessions = record {
+    lines = replicate sessions (line [] 0);
+    batch = [];
+    accepted = [];
+    durable = 0;
+    published = 0;
+    flying = None;
+    owed = [];
+    answers = [];
+    checking = false;
+    down = false;
+  }
+
+  -- the line of a station, counted from 1; an empty one where there is no such station
+  abbrev pub line_of : List (Line A) → ℕ → Line A
+  line_of lines zero = line [] 0
+  line_of lines (suc k) = slice_index_or lines k (line [] 0)
+
+  -- the lines with another one for this station
+  abbrev pub with_line : List (Line A) → ℕ → Line A → List (Line A)
+  with_line lines zero x = lines
+  with_line lines (suc k) x = slice_set lines k x
+
+  abbrev pub queue_of : World A → ℕ → List (Command A)
+  queue_of w s = (line_of w.lines s).queue
+
+  abbrev pub seen_of : World A → ℕ → ℕ
+  seen_of w s = (line_of w.lines s).seen

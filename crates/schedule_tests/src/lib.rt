@@ -1,0 +1,13 @@
+//! Tests of the public calls of `schedule`.
+#![tactic(auto)]
+
+#[cfg(test)]
+mod commands;
+#[cfg(test)]
+mod plain;
+#[cfg(test)]
+mod random;
+#[cfg(test)]
+mod row;
+#[cfg(test)]
+mod small_heap;
