@@ -119,7 +119,7 @@ same_from (suc fuel) old new at end entries gate e same =
 pub same_half : (old new : List (List ℕ)) (at end : ℕ) (entries : List Entry) (gate : ℕ) → half_of old at end ≡ Ok (entries, gate) → ((k : ℕ) → at ≤ k → k ≤ gate → sector new k ≡ sector old k) → half_of new at end ≡ Ok (entries, gate)
 same_half old new at end entries gate e same = same_from (end - at) old new at end entries gate e same
 
-last_gate : (fuel : ℕ) (new : List (List ℕ)) (next end : ℕ) → IsClosed (sector new next) → half_from fuel new next end ≡ Ok ([], next)
+pub last_gate : (fuel : ℕ) (new : List (List ℕ)) (next end : ℕ) → IsClosed (sector new next) → half_from fuel new next end ≡ Ok ([], next)
 unfolding half_from
 last_gate zero new next end closed = refl
 last_gate (suc fuel) new next end closed = rw (shut new next end closed) refl

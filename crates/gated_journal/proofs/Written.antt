@@ -1,18 +1,18 @@
 -- A record that stands on the disk is read back.
-use Rattle.std.proofs.Common.{add-zero, leb, ltb, length, map, replicate, drop, ◌≡◌, ℕ, zero, suc, ◌-◌, ◌+◌, ◌*◌, ◌^◌, ◌<◌, ◌≤◌, List, [], ◌∷◌, ◌++◌, slice_index, true, false, Bool, Some, refl, sym, ap, ◌∙◌, append_assoc, arith, inl, inr}
+use Rattle.std.proofs.Common.{add-zero, leb, length, map, replicate, drop, ◌≡◌, ℕ, zero, suc, ◌-◌, ◌+◌, ◌*◌, ◌^◌, ◌<◌, ◌≤◌, List, [], ◌∷◌, ◌++◌, slice_index, true, false, Bool, Some, refl, sym, ap, ◌∙◌, append_assoc, arith, inl, inr}
 use Rattle.std.specs.List.{range_with_len, list_all}
 use Rattle.std.specs.Prelude.{◌&&◌}
 use Rattle.std.proofs.lemmas.List.{append-nil, length-append, length-replicate, get_or_past, get_or_append_left, get_or-append_right, take_at, drop_at}
 use Rattle.std.proofs.lemmas.List.FromFn.{get_or-map-range_with_len, map-range_with_len_more, fill_by_all}
-use Rattle.std.proofs.lemmas.Bool.{cases_lt, le-ltb}
-use Rattle.std.specs.Int.{bytes_high_first}
+use Rattle.std.proofs.lemmas.Bool.{cases_lt}
 use Rattle.std.proofs.lemmas.Bool.Decides.{nat_tests}
 use Rattle.byteorder.specs.Endian.{big_from}
-use Rattle.byteorder.specs.Numbers.{big_number-reads_back, length-bytes_high_first}
+use Rattle.byteorder.specs.Numbers.{big_number-reads_back}
 use Rattle.sector_disk.specs.Disk.{sector}
-use Rattle.gated_journal.specs.Record.{Commands, IsRecord, big, data_sector, data_size, is_in_range, is_zero, longest_command, most_commands, most_sectors, number_at, record_of, record_text}
+use Rattle.gated_journal.specs.Record.{Commands, IsRecord, big, data_sector, data_size, is_in_range, is_zero, longest_command, most_commands, most_sectors, record_of, record_text}
 use Rattle.gated_journal.specs.Half.{IsOpen, data_from, told_size}
 use Rattle.gated_journal.proofs.Halves.{Opened}
+use Rattle.gated_journal.proofs.Numbers.{length-big, number_again}
 
 -- ---- the bytes
 
@@ -24,17 +24,6 @@ zeros_at : (z i : ℕ) → slice_index (replicate z 0) i ≡ 0
 zeros_at zero i = refl
 zeros_at (suc z) zero = refl
 zeros_at (suc z) (suc i) = zeros_at z i
-
-pub length-big : (w n : ℕ) → length (big w n) ≡ w
-unfolding big
-length-big w n = length-bytes_high_first w n
-
-number_again : (w n : ℕ) (rest : List ℕ) → n < 256 ^ w → number_at w (big w n ++ rest) ≡ Some (n, rest)
-unfolding number_at big
-number_again w n rest lt =
-    let len : length (bytes_high_first w n) ≡ w = length-bytes_high_first w n in
-    let long : ltb (length (bytes_high_first w n ++ rest)) w ≡ false = le-ltb _ _ (omega (arith, length-append (bytes_high_first w n) rest)) in
-    rw (long, drop_at (bytes_high_first w n) rest w len, big_number-reads_back w n rest lt) refl
 
 all_good : (a b c : Bool) → a ≡ true → b ≡ true → c ≡ true → (a && b && c) ≡ true
 all_good true true true a b c = refl
@@ -55,9 +44,9 @@ in_range commands is =
 pub record_again : (commands : Commands) (z : ℕ) → IsRecord commands → record_of (record_text commands ++ replicate z 0) ≡ Some commands
 unfolding record_of record_text
 record_again commands z is =
-    let count = commands.count in
-    let body = commands.bytes in
-    let filling = replicate z 0 in
+    let count : ℕ = commands.count in
+    let body : List ℕ = commands.bytes in
+    let filling : List ℕ = replicate z 0 in
     let regrouped : (big 2 count ++ (big 4 (length body) ++ body)) ++ filling ≡ big 2 count ++ (big 4 (length body) ++ (body ++ filling)) = simp append_assoc in
     let room : leb (length body) (length (body ++ filling)) ≡ true = let e = length-append body filling in grind (arith, nat_tests) in
     let after = drop_at body filling (length body) refl in

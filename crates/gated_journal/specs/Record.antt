@@ -1,5 +1,5 @@
 -- One record: the commands that it has, and its bytes.
-use Rattle.std.specs.Prelude.{ℕ, ◌+◌, ◌*◌, ◌/◌, ◌==◌, ◌&&◌, ◌≤◌, Bool, List, ◌++◌, length, map, take, drop, slice_index, Option, Some, None, nat_le, nat_lt, if◌then◌else◌}
+use Rattle.std.specs.Prelude.{ℕ, ◌+◌, ◌*◌, ◌/◌, ◌==◌, ◌&&◌, ◌≤◌, ◌<◌, Bool, List, ◌++◌, length, map, take, drop, slice_index, Option, Some, None, nat_le, nat_lt, if◌then◌else◌}
 use Rattle.std.specs.List.{range_with_len, list_all, flat_map}
 use Rattle.byteorder.specs.Endian.{big_bytes, big_number}
 
@@ -34,6 +34,10 @@ big width n = big_bytes width n
 -- the number in the first bytes, and the bytes after it
 unfoldable pub number_at : ℕ → List ℕ → Option (ℕ × List ℕ)
 number_at width bytes = if nat_lt (length bytes) width then None else Some (big_number width bytes, drop width bytes)
+
+-- each number is a byte
+pub record IsBytes (bytes : List ℕ) : Type 0 where
+  pub each : (i : ℕ) → slice_index bytes i < 256
 
 -- ---- writing
 
