@@ -23,8 +23,11 @@ const SHORT: [u8; 11] = [0, 1, 0, 0, 0, 3, 0, 0, 0, 11, 7];
 /// A command of the greatest length.
 const LONG: [u8; 281] = [9; 281];
 
-/// The first bytes of a record of a rule's command.
-const RULE_HEAD: [u8; 6] = [0, 1, 0, 0, 0, 27];
+/// The front of the data sector of a record of a rule's command.
+const RULE_TEXT: [u8; 33] = [
+    0, 1, 0, 0, 0, 27, 0, 1, 0, 0, 0, 1, 0, 0, 0, 0, 1, 0x18, 0x3a, 0x80, 0x0e, 0, 0, 0, 0, 1, 0,
+    0x63, 1, 0, 0, 0x0e, 0x10,
+];
 
 /// The first bytes of a record of 27, 23 and 11 bytes.
 const THREE_HEAD: [u8; 6] = [0, 3, 0, 0, 0, 61];
@@ -73,15 +76,26 @@ fn add_rule<D: Disk>(journal: &mut Journal<Global>, disk: &mut D) -> Result<(), 
     journal.append(disk, &[&RULE])
 }
 
+/// Whether a half of 39 sectors is read as one record of a rule's command.
+fn reads_the_rule<D: Disk>(alloc: Global, disk: &mut D) -> bool {
+    if disk.sectors() < 39 {
+        return false;
+    }
+    match Journal::replay(alloc, disk, 0, 39) {
+        Ok((_, records)) => records.len() == 1 && records[0].1.bytes.as_slice() == RULE.as_slice(),
+        Err(_) => false,
+    }
+}
+
 fn one_is_kept<D: Disk>(alloc: Global, disk: &mut D) -> Result<bool, AllocError> {
     let mut journal = Journal::start(alloc, 0, 39)?;
     let before = journal.room() == 37;
     let added = add_rule(&mut journal, disk).is_ok() && journal.room() == 35;
-    Ok(before && added && reads_as(alloc, disk, &[(1, 1, 27)]))
+    Ok(before && added && reads_as(alloc, disk, &[(1, 1, 27)]) && reads_the_rule(alloc, disk))
 }
 
 fn stands<D: Disk>(disk: &mut D) -> Result<bool, DiskError> {
-    Ok(begins(disk, 0, &[1])? && begins(disk, 1, &RULE_HEAD)? && begins(disk, 2, &[0; 512])?)
+    Ok(begins(disk, 0, &[1])? && begins(disk, 1, &RULE_TEXT)? && begins(disk, 2, &[0; 512])?)
 }
 
 #[test]
