@@ -1,0 +1,10 @@
+pub mod Adding
+pub mod Append
+pub mod Began
+pub mod Chain
+pub mod Fill
+pub mod Halves
+pub mod Numbers
+pub mod Steps
+pub mod Taken
+pub mod Written

@@ -1,0 +1,91 @@
+-- Reading commands one after another, as a loop does, and sectors.
+use Rattle.std.proofs.Common.{add-one, eqb, leb, ltb, slice_index, take, drop, true, false, Bool, ◌⊎◌, Ok, Err, ◌≡◌, ℕ, ◌+◌, ◌≤◌, ◌<◌, List, [], ◌++◌, Some, None, Result, refl, ◌∙◌, arith, inl, inr, ⊎_elim}
+use Rattle.std.proofs.lemmas.List.{get_or-take, get_or-drop}
+use Rattle.std.specs.Prelude.{◌&&◌}
+use Rattle.byteorder.specs.Endian.{big_from}
+use Rattle.std.proofs.lemmas.Bool.Decides.{nat_tests}
+use Rattle.sector_disk.specs.Disk.{View, HasRead, sector}
+use Rattle.sector_disk.specs.declared.disk.DiskError.{DiskError}
+use Rattle.gated_journal.specs.Half.{data_from, record_at, told_size, HasLooked}
+use Rattle.gated_journal.specs.Record.{Commands, most_sectors, record_of}
+use Rattle.gated_journal.proofs.Halves.{both}
+
+-- ---- looking
+
+pub not_looked : (disk : View) → disk.honest → HasLooked disk disk
+not_looked disk honest = record {
+  honest = honest;
+  reads = refl;
+  pending = refl;
+  time = record { later = omega arith; keeps = λ t image le was. was; nothing_else = λ t image le was. inl was };
+}
+
+pub looked_on : (old mid new : View) → HasLooked old mid → HasLooked mid new → HasLooked old new
+looked_on old mid new first second = record {
+  honest = second.honest;
+  reads = second.reads ∙ first.reads;
+  pending = second.pending ∙ first.pending;
+  time = record {
+    later = omega (arith, first.time.later, second.time.later);
+    keeps = λ t image le was. second.time.keeps t image (omega (arith, le, first.time.later)) (first.time.keeps t image le was);
+    nothing_else = λ t image le left. ⊎_elim (λ mid_left. ⊎_elim inl (λ now. inr (rw (second.reads, second.pending) now)) (first.time.nothing_else t image le mid_left)) inr
+        (second.time.nothing_else t image (omega (arith, le, first.time.later)) left);
+  };
+}
+
+pub one_look : (old new : View) (at : ℕ) (bytes : List ℕ) (result : Result Unit DiskError) → HasRead old new at bytes result → HasLooked old new
+one_look old new at bytes result read = record { honest = read.honest; reads = read.reads; pending = read.pending; time = read.time }
+
+pub data_more : (image : List (List ℕ)) (at k : ℕ) (bytes more : List ℕ) → bytes ≡ data_from image at k → more ≡ sector image (at + k) → bytes ++ more ≡ data_from image at (k + 1)
+unfolding data_from
+data_more image at k bytes more was is = rw (add-one, was, is) refl
+
+pub data_none : (image : List (List ℕ)) (at : ℕ) → [] ≡ data_from image at 0
+unfolding data_from
+data_none image at = refl
+
+-- ---- one record, as it is read
+
+no_and : (a b : Bool) → (a ≡ false) ⊎ (b ≡ false) → (a && b) ≡ false
+no_and false b e = refl
+no_and true false e = refl
+no_and true true (inl e) = absurd cc
+no_and true true (inr e) = absurd cc
+
+not_both : (size next end : ℕ) → (most_sectors < size) ⊎ (end ≤ next) → (leb size most_sectors && ltb next end) ≡ false
+not_both size next end (inl many) = no_and (leb size most_sectors) (ltb next end) (inl (grind (arith, nat_tests)))
+not_both size next end (inr past) = no_and (leb size most_sectors) (ltb next end) (inr (grind (arith, nat_tests)))
+
+pub too_long : (image : List (List ℕ)) (at end size : ℕ) → at + 1 < end → slice_index (sector image at) 0 ≡ 1 → told_size (sector image (at + 1)) ≡ size → (most_sectors < size) ⊎ (end ≤ at + 1 + size) → record_at image at end ≡ Err (at + 1)
+unfolding record_at
+too_long image at end size lt gate told past =
+    let a : eqb (slice_index (sector image at) 0) 1 ≡ true = grind (arith, nat_tests) in
+    let b : eqb (at + 1) end ≡ false = grind (arith, nat_tests) in
+    let d : (leb size most_sectors && ltb (at + 1 + size) end) ≡ false = not_both size (at + 1 + size) end past in
+    rw (a, b, told, d) refl
+
+pub no_record : (image : List (List ℕ)) (at end size : ℕ) → size ≤ most_sectors → at + 1 + size < end → slice_index (sector image at) 0 ≡ 1 → told_size (sector image (at + 1)) ≡ size → record_of (data_from image (at + 1) size) ≡ None → record_at image at end ≡ Err (at + 1)
+unfolding record_at
+no_record image at end size few lt gate told none =
+    let a : eqb (slice_index (sector image at) 0) 1 ≡ true = grind (arith, nat_tests) in
+    let b : eqb (at + 1) end ≡ false = grind (arith, nat_tests) in
+    let d : (leb size most_sectors && ltb (at + 1 + size) end) ≡ true = both size (at + 1 + size) end few lt in
+    rw (a, b, told, d, none) refl
+
+pub some_record : (image : List (List ℕ)) (at end size : ℕ) (commands : Commands) → size ≤ most_sectors → at + 1 + size < end → slice_index (sector image at) 0 ≡ 1 → told_size (sector image (at + 1)) ≡ size → record_of (data_from image (at + 1) size) ≡ Some commands
+    → record_at image at end ≡ Ok (Some (commands, at + 1 + size))
+unfolding record_at
+some_record image at end size commands few lt gate told read =
+    let a : eqb (slice_index (sector image at) 0) 1 ≡ true = grind (arith, nat_tests) in
+    let b : eqb (at + 1) end ≡ false = grind (arith, nat_tests) in
+    let d : (leb size most_sectors && ltb (at + 1 + size) end) ≡ true = both size (at + 1 + size) end few lt in
+    rw (a, b, told, d, read) refl
+
+-- four bytes from the third on
+pub told_from : (bytes : List ℕ) (n : ℕ) → 4 ≤ n → big_from 0 4 (take n (drop 2 bytes)) ≡ big_from 2 4 bytes
+told_from bytes n le =
+    let zero = get_or-take n (drop 2 bytes) 0 0 (omega (arith, le)) ∙ get_or-drop 2 bytes 0 0 in
+    let one = get_or-take n (drop 2 bytes) 1 0 (omega (arith, le)) ∙ get_or-drop 2 bytes 1 0 in
+    let two = get_or-take n (drop 2 bytes) 2 0 (omega (arith, le)) ∙ get_or-drop 2 bytes 2 0 in
+    let three = get_or-take n (drop 2 bytes) 3 0 (omega (arith, le)) ∙ get_or-drop 2 bytes 3 0 in
+    rw (zero, one, two, three) refl

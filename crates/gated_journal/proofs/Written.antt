@@ -1,0 +1,119 @@
+-- A record that stands on the disk is read back.
+use Rattle.std.proofs.Common.{add-zero, leb, length, map, replicate, drop, ◌≡◌, ℕ, zero, suc, ◌-◌, ◌+◌, ◌*◌, ◌^◌, ◌<◌, ◌≤◌, List, [], ◌∷◌, ◌++◌, slice_index, true, false, Bool, Some, refl, sym, ap, ◌∙◌, append_assoc, arith, inl, inr}
+use Rattle.std.specs.List.{range_with_len, list_all}
+use Rattle.std.specs.Prelude.{◌&&◌}
+use Rattle.std.proofs.lemmas.List.{append-nil, length-append, length-replicate, get_or_past, get_or_append_left, get_or-append_right, take_at, drop_at}
+use Rattle.std.proofs.lemmas.List.FromFn.{get_or-map-range_with_len, map-range_with_len_more, fill_by_all}
+use Rattle.std.proofs.lemmas.Bool.{cases_lt}
+use Rattle.std.proofs.lemmas.Bool.Decides.{nat_tests}
+use Rattle.byteorder.specs.Endian.{big_from}
+use Rattle.byteorder.specs.Numbers.{big_number-reads_back}
+use Rattle.sector_disk.specs.Disk.{sector}
+use Rattle.gated_journal.specs.Record.{Commands, IsRecord, big, data_sector, data_size, is_in_range, is_zero, longest_command, most_commands, most_sectors, record_of, record_text}
+use Rattle.gated_journal.specs.Half.{IsOpen, data_from, told_size}
+use Rattle.gated_journal.proofs.Halves.{Opened}
+use Rattle.gated_journal.proofs.Numbers.{length-big, number_again}
+
+-- ---- the bytes
+
+zeros_are : (z : ℕ) → list_all is_zero (replicate z 0) ≡ true
+zeros_are zero = refl
+zeros_are (suc z) = zeros_are z
+
+zeros_at : (z i : ℕ) → slice_index (replicate z 0) i ≡ 0
+zeros_at zero i = refl
+zeros_at (suc z) zero = refl
+zeros_at (suc z) (suc i) = zeros_at z i
+
+all_good : (a b c : Bool) → a ≡ true → b ≡ true → c ≡ true → (a && b && c) ≡ true
+all_good true true true a b c = refl
+all_good false p q a b c = absurd cc
+all_good true false q a b c = absurd cc
+all_good true true false a b c = absurd cc
+
+in_range : (commands : Commands) → IsRecord commands → is_in_range commands.count (length commands.bytes) ≡ true
+in_range commands is =
+    let some = is.some in
+    let few = is.few in
+    let short = is.short in
+    let low : leb 1 commands.count ≡ true = grind (arith, nat_tests) in
+    let high : leb commands.count most_commands ≡ true = grind (arith, nat_tests) in
+    let room : leb (length commands.bytes) (longest_command * commands.count) ≡ true = grind (arith, nat_tests) in
+    all_good (leb 1 commands.count) (leb commands.count most_commands) (leb (length commands.bytes) (longest_command * commands.count)) low high room
+
+pub record_again : (commands : Commands) (z : ℕ) → IsRecord commands → record_of (record_text commands ++ replicate z 0) ≡ Some commands
+unfolding record_of record_text
+record_again commands z is =
+    let count : ℕ = commands.count in
+    let body : List ℕ = commands.bytes in
+    let filling : List ℕ = replicate z 0 in
+    let regrouped : (big 2 count ++ (big 4 (length body) ++ body)) ++ filling ≡ big 2 count ++ (big 4 (length body) ++ (body ++ filling)) = simp append_assoc in
+    let room : leb (length body) (length (body ++ filling)) ≡ true = let e = length-append body filling in grind (arith, nat_tests) in
+    let after = drop_at body filling (length body) refl in
+    let zeros : list_all is_zero (drop (length body) (body ++ filling)) ≡ true = rw after (zeros_are z) in
+    let good = all_good (is_in_range count (length body)) (leb (length body) (length (body ++ filling))) (list_all is_zero (drop (length body) (body ++ filling))) (in_range commands is) room zeros in
+    let small : count < 256 ^ 2 = omega (arith, is.few) in
+    let short : length body < 256 ^ 4 = omega (arith, is.short, is.few) in
+    ap record_of regrouped ∙ rw (number_again 2 count (big 4 (length body) ++ (body ++ filling)) small, number_again 4 (length body) (body ++ filling) short, good, take_at body filling (length body) refl) refl
+
+-- ---- the sectors
+
+ranges : (f : ℕ → ℕ) (a b : ℕ) → map f (range_with_len 0 (a + b)) ≡ map f (range_with_len 0 a) ++ map (λ i. f (a + i)) (range_with_len 0 b)
+ranges f a zero = rw (append-nil, add-zero) refl
+ranges f a (suc b) =
+    let longer : a + suc b ≡ (a + b) + 1 = omega arith in
+    let one : b + 1 ≡ suc b = omega arith in
+    let here : 0 + b ≡ b = omega arith in
+    let there : 0 + (a + b) ≡ a + b = omega arith in
+    ap (λ (n : ℕ). map f (range_with_len 0 n)) longer ∙ map-range_with_len_more f 0 (a + b) (a + b) there ∙ ap (λ (l : List ℕ). l ++ f (a + b) ∷ []) (ranges f a b)
+    ∙ append_assoc (map f (range_with_len 0 a)) (map (λ i. f (a + i)) (range_with_len 0 b)) (f (a + b) ∷ [])
+    ∙ ap (λ (l : List ℕ). map f (range_with_len 0 a) ++ l) (sym (map-range_with_len_more (λ (i : ℕ). f (a + i)) 0 b b here) ∙ ap (λ (n : ℕ). map (λ (i : ℕ). f (a + i)) (range_with_len 0 n)) one)
+
+data_text : (image : List (List ℕ)) (at n : ℕ) (text : List ℕ) → ((k : ℕ) → k < n → sector image (at + k) ≡ data_sector text k) → data_from image at n ≡ map (slice_index text) (range_with_len 0 (512 * n))
+unfolding data_from data_sector
+data_text image at zero text are = refl
+data_text image at (suc n) text are =
+    let longer : 512 * suc n ≡ 512 * n + 512 = omega arith in
+    rw (longer, ranges (slice_index text) (512 * n) 512, data_text image at n text (λ k lt. are k (omega (arith, lt))), are n (omega arith)) refl
+
+padded : (text : List ℕ) (z n : ℕ) → length text + z ≡ n → text ++ replicate z 0 ≡ map (slice_index text) (range_with_len 0 n)
+padded text z n e = fill_by_all (slice_index text) (text ++ replicate z 0) n 0 (length-append text (replicate z 0) ∙ ap (λ (k : ℕ). length text + k) (length-replicate {A = ℕ} z 0) ∙ e)
+    (λ k lt. elim (cases_lt k (length text)) [
+      | inl within ↦ get_or_append_left text (replicate z 0) 0 k within
+      | inr past ↦ get_or-append_right text (replicate z 0) (length text) k 0 refl past ∙ zeros_at z (k - length text) ∙ sym (get_or_past text k 0 past)
+    ])
+
+pub length-record : (cs : Commands) → length (record_text cs) ≡ length (cs.bytes) + 6
+unfolding record_text
+length-record cs = omega (arith, length-append (big 2 (cs.count)) (big 4 (length (cs.bytes)) ++ cs.bytes), length-append (big 4 (length (cs.bytes))) (cs.bytes), length-big 2 cs.count, length-big 4 (length (cs.bytes)))
+
+told_text : (cs : Commands) → length cs.bytes < 2 ^ 31 → big_from 2 4 (record_text cs) ≡ length (cs.bytes)
+unfolding record_text big
+told_text cs short = big_number-reads_back 4 (length (cs.bytes)) (cs.bytes) (omega (arith, short))
+
+sector_byte : (text : List ℕ) (i : ℕ) → i < 512 → slice_index (data_sector text 0) i ≡ slice_index text i
+unfolding data_sector
+sector_byte text i lt = let here : 512 * 0 + i ≡ i = omega arith in get_or-map-range_with_len (λ (j : ℕ). slice_index text (512 * 0 + j)) 0 512 i i 0 lt (omega arith) ∙ ap (slice_index text) here
+
+told_sector : (text : List ℕ) → big_from 2 4 (data_sector text 0) ≡ big_from 2 4 text
+told_sector text =
+    let two = sector_byte text 2 (omega arith) in
+    let three = sector_byte text 3 (omega arith) in
+    let four = sector_byte text 4 (omega arith) in
+    let five = sector_byte text 5 (omega arith) in
+    rw (two, three, four, five) refl
+
+-- the data sectors of a record behind an open gate are read
+pub record_written : (image : List (List ℕ)) (at end : ℕ) (cs : Commands) → IsRecord cs → (text : List ℕ) → text ≡ record_text cs → IsOpen (sector image at) → ((k : ℕ) → k < data_size text → sector image (at + 1 + k) ≡ data_sector text k)
+    → at + 1 + data_size text < end → Opened image at end cs (at + 1 + data_size text)
+record_written image at end cs is text text_is opened are within =
+    let long : length text ≡ length (cs.bytes) + 6 = ap length text_is ∙ length-record cs in
+    let here : at + 1 + 0 ≡ at + 1 = omega arith in
+    let first : sector image (at + 1) ≡ data_sector text 0 = rw here at (are 0 (omega (arith, long))) in
+    let told : big_from 2 4 (sector image (at + 1)) ≡ length (cs.bytes) = ap (big_from 2 4) first ∙ told_sector text ∙ ap (big_from 2 4) text_is ∙ told_text cs (omega (arith, is.short, is.few)) in
+    let size : told_size (sector image (at + 1)) ≡ data_size text = omega (arith, told, long) in
+    let few : data_size text ≤ most_sectors = omega (arith, long, is.short, is.few) in
+    let z = 512 * data_size text - length text in
+    let whole : data_from image (at + 1) (data_size text) ≡ record_text cs ++ replicate z 0 =
+    data_text image (at + 1) (data_size text) text are ∙ sym (padded text z (512 * data_size text) (omega arith)) ∙ ap (λ (t : List ℕ). t ++ replicate z 0) text_is in
+    record { gate = opened; next_is = rw size refl; few = rw size few; within = within; read = rw (size, whole) (record_again cs z is) }

@@ -1,0 +1,14 @@
+use Rattle.std.proofs.Common.{◌≡◌, ◌≤◌, Ok}
+use Rattle.sector_disk.specs.Disk.{View}
+use Rattle.gated_journal.specs.Settled.{HasFilled}
+use Rattle.gated_journal.proofs.place.fill.Given as goal
+
+abbrev pub invariant-loop-k : goal.invariant-loop-k
+invariant-loop-k g l =
+    let old : View = g.D.Disk.view l.initial.disk in
+    let now : View = g.D.Disk.view l.disk in
+    record {
+      sectors : now.sectors ≡ old.sectors;
+      failures : old.failures ≤ now.failures;
+      filled : old.honest → HasFilled old now l.at l.k l.text (Ok tt);
+    }

@@ -1,0 +1,16 @@
+use Rattle.std.proofs.Common.{◌≡◌, ◌≤◌, vec_capacity}
+use Rattle.sector_disk.specs.Disk.{View}
+use Rattle.gated_journal.specs.Half.{HasLooked, data_from}
+use Rattle.gated_journal.proofs.reading.read_sectors.Given as goal
+
+abbrev pub invariant-loop-k : goal.invariant-loop-k
+invariant-loop-k g l =
+    let old : View = g.D.Disk.view l.initial.disk in
+    let now : View = g.D.Disk.view l.disk in
+    record {
+      sectors : now.sectors ≡ old.sectors;
+      capacity : vec_capacity l.initial.buffer ≤ vec_capacity l.buffer;
+      later : old.failures ≤ now.failures;
+      looked : old.honest → HasLooked old now;
+      bytes : old.honest → l.buffer.items ≡ data_from old.reads l.at l.k;
+    }

@@ -1,0 +1,4 @@
+pub mod Half
+pub mod Reading
+pub mod Record
+pub mod Settled

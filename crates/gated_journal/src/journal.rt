@@ -1,0 +1,183 @@
+// A journal: a place on a disk, and a buffer for the records' bytes.
+ghost use Rattle.std.specs.Prelude.{◌≡◌, ◌<◌, ◌≤◌, ◌+◌, ◌*◌, ◌^◌, ◌-◌, ℕ, List, [], ◌∷◌, ◌++◌, Err, IfErr, IfOk, IsErrOf, OnErr, OnOk, length, vec_capacity, vec_len};
+ghost use Rattle.std.specs.List.{flat_map};
+ghost use Rattle.sector_disk.specs.Disk.{HasFailed, IsImageOf};
+ghost use Rattle.sector_disk.specs.Run.{LeavesOnly};
+ghost use Rattle.gated_journal.specs.declared.fault.JournalError.TheVariants.{DiskFault, Damaged, JournalFull, NoMemory};
+ghost use Rattle.gated_journal.specs.declared.place.Place.{Place};
+ghost use Rattle.gated_journal.specs.Half.{Entry, HasLooked, half_of};
+ghost use Rattle.gated_journal.specs.Reading.{Answers, entries_view};
+ghost use Rattle.gated_journal.specs.Record.{IsRecord, big, data_size, joined, most_sectors, record_text};
+ghost use Rattle.gated_journal.specs.Settled.{IsSettled, Leaves, room_of};
+
+use crate::reading::{MOST_SECTORS, read_half};
+use crate::{JournalError, Place, Record};
+use sector_disk::Disk;
+use std::alloc::{AllocError, Allocator};
+use std::marker::Model;
+
+/// Adds records to a half of a disk.
+#[derive(Debug, Drop)]
+pub struct Journal<A: Allocator> {
+    place: Place,
+    text: Vec<u8, A>,
+}
+
+impl<A: Allocator> Model for Journal<A> {
+    ghost Value = { Place };
+
+    ghost view = { λ journal. journal.place };
+
+    // there is room for the greatest record
+    ghost invariant = { λ journal. 512 * most_sectors ≤ vec_capacity journal.text };
+}
+
+impl<A: Allocator> Journal<A> {
+    /// A journal with no record, whose first gate stands closed on the disk.
+    ///
+    /// `first` is its half's first sector, `sectors` how many it has. Takes the memory of all later calls of `append`.
+    pub fn start(alloc: A, first: u64, sectors: u64) -> Result<Journal<A>, AllocError>
+        requires fits { first + sectors < 2 ^ 64 }
+        ensures { IfOk result (λ journal. journal ≡ record { first = first; end = first + sectors; next = first }) }
+    {
+        let text = Vec::with_capacity(alloc, MOST_SECTORS as usize * 512)?;
+        let place = Place {
+            first,
+            end: first + sectors,
+            next: first,
+        };
+        Ok(Journal { place, text })
+    }
+
+    /// Makes it a journal with no record, as `start` does. Takes no memory.
+    pub fn restart(&mut self, first: u64, sectors: u64)
+        requires fits { first + sectors < 2 ^ 64 }
+        ensures { self.new ≡ record { first = first; end = first + sectors; next = first } }
+    {
+        self.place = Place {
+            first,
+            end: first + sectors,
+            next: first,
+        };
+    }
+
+    /// How many data sectors the next record may have.
+    pub fn room(&self) -> u64
+        ensures { result ≡ room_of self.now }
+    {
+        self.place.room()
+    }
+
+    /// Adds these commands, 1 to 64 of at most 281 bytes each, as one record. Takes no memory.
+    ///
+    /// At `Ok` each stop leaves it. At `DiskFault` the half is to be read again. `JournalFull` comes where the record
+    /// has more data sectors than `room`; nothing is then written.
+    pub fn append<D: Disk>(&mut self, disk: &mut D, commands: &[&[u8]]) -> Result<(), JournalError>
+        requires within { self.old.end ≤ (D.view disk.old).sectors }
+        requires fit { IsRecord (joined (λ command. command.now) commands.now) }
+
+        // A stop at any moment of the call leaves the records from before it, with the new one whole or without it, and
+        // all other sectors as they were.
+        ensures any_moment { (entries : List Entry) → (D.view disk.old).honest → IsSettled (D.view disk.old) self.old entries
+            → LeavesOnly (D.view disk.old) (D.view disk.new) (Leaves (D.view disk.old) self.old entries (self.old.next + 1, joined (λ command. command.now) commands.now)) }
+
+        // At `Ok` each stop leaves it.
+        ensures acknowledged { OnOk result ((entries : List Entry) → (D.view disk.old).honest → IsSettled (D.view disk.old) self.old entries
+            → IsSettled (D.view disk.new) self.new (entries ++ (self.old.next + 1, joined (λ command. command.now) commands.now) ∷ [])) }
+        ensures next { OnOk result (self.new ≡ record { first = self.old.first; end = self.old.end; next = self.old.next + data_size (record_text (joined (λ command. command.now) commands.now)) + 1 }) }
+
+        // It does not give up by itself.
+        ensures fault { IsErrOf result JournalError.DiskFault → HasFailed (D.view disk.old) (D.view disk.new) }
+        ensures full { IsErrOf result JournalError.JournalFull → room_of self.old < data_size (record_text (joined (λ command. command.now) commands.now)) }
+        ensures no_room { room_of self.old < data_size (record_text (joined (λ command. command.now) commands.now))
+            → (result ≡ Err JournalError.JournalFull) × (disk.new ≡ disk.old) }
+        ensures same { OnErr result (self.new ≡ self.old) }
+        ensures damaged { (s : ℕ) → IsErrOf result (JournalError.Damaged s) → ⊥ }
+        ensures memory { IsErrOf result JournalError.NoMemory → ⊥ }
+        ensures sectors { (D.view disk.new).sectors ≡ (D.view disk.old).sectors }
+        ensures later { (D.view disk.old).failures ≤ (D.view disk.new).failures }
+        ensures honest { (D.view disk.old).honest → (D.view disk.new).honest }
+    {
+        put_record(&mut self.text, commands);
+        self.place.append_text(disk, &self.text)
+    }
+}
+
+impl<A: Allocator + Clone> Journal<A> {
+    /// Reads a half, and gives the journal that goes on behind its records, and these: of each its first data sector,
+    /// and its commands.
+    ///
+    /// `first` is the half's first sector, `sectors` how many it has. `Damaged` names the first sector at fault.
+    pub fn replay<D: Disk>(
+        alloc: A,
+        disk: &mut D,
+        first: u64,
+        sectors: u64,
+    ) -> Result<(Journal<A>, Vec<(u64, Record<A>), A>), JournalError>
+        requires some { 0 < sectors }
+        requires within { first + sectors ≤ (D.view disk.old).sectors }
+        requires fits { first + sectors < 2 ^ 64 }
+        ensures exact { (D.view disk.old).honest → Answers (λ x. (entries_view x.1.items, x.0.next)) result (half_of (D.view disk.old).reads first (first + sectors)) }
+        ensures looked { (D.view disk.old).honest → HasLooked (D.view disk.old) (D.view disk.new) }
+        ensures place { IfOk result (λ x. (x.0.first ≡ first) × (x.0.end ≡ first + sectors) × (x.0.next < first + sectors)) }
+        ensures sectors { (D.view disk.new).sectors ≡ (D.view disk.old).sectors }
+        ensures later { (D.view disk.old).failures ≤ (D.view disk.new).failures }
+        ensures fault { IsErrOf result JournalError.DiskFault → HasFailed (D.view disk.old) (D.view disk.new) }
+        ensures damaged { (s : ℕ) → IsErrOf result (JournalError.Damaged s) → s < first + sectors }
+        ensures full { IsErrOf result JournalError.JournalFull → ⊥ }
+    {
+        let mut text = Vec::with_capacity(alloc.clone()?, MOST_SECTORS as usize * 512)?;
+        let end = first + sectors;
+        let (entries, next) = read_half(alloc, disk, first, end, &mut text)?;
+        let place = Place { first, end, next };
+        Ok((Journal { place, text }, entries))
+    }
+}
+
+// Adds bytes for which there is room.
+fn add<A: Allocator>(out: &mut Vec<u8, A>, bytes: &[u8])
+    requires { vec_len out.old + length bytes.now ≤ vec_capacity out.old }
+    ensures items { out.new.items ≡ out.old.items ++ bytes.now }
+    ensures capacity { vec_capacity out.old ≤ vec_capacity out.new }
+{
+    out.extend_from_slice(bytes).unwrap();
+}
+
+// How many bytes the commands have.
+fn size_of(commands: &[&[u8]]) -> usize
+    requires { length (flat_map (λ command. command.now) commands.now) < 2 ^ 32 }
+    ensures { result ≡ length (flat_map (λ command. command.now) commands.now) }
+{
+    let mut size = 0;
+    for command in commands {
+        size += command.len();
+    }
+    size
+}
+
+// Adds the commands' bytes, for which there is room.
+fn add_all<A: Allocator>(out: &mut Vec<u8, A>, commands: &[&[u8]])
+    requires { vec_len out.old + length (flat_map (λ command. command.now) commands.now) ≤ vec_capacity out.old }
+    ensures items { out.new.items ≡ out.old.items ++ flat_map (λ command. command.now) commands.now }
+    ensures capacity { vec_capacity out.old ≤ vec_capacity out.new }
+{
+    for command in commands {
+        add(out, command);
+    }
+}
+
+// The text of a record, in a buffer with room for it.
+#[tactic(auto, unfolding(crate::specs::Record::record_text, crate::specs::Record::big))]
+fn put_record<A: Allocator>(out: &mut Vec<u8, A>, commands: &[&[u8]])
+    requires room { 512 * most_sectors ≤ vec_capacity out.old }
+    requires fit { IsRecord (joined (λ command. command.now) commands.now) }
+    ensures items { out.new.items ≡ record_text (joined (λ command. command.now) commands.now) }
+    ensures capacity { 512 * most_sectors ≤ vec_capacity out.new }
+{
+    let count = commands.len() as u16;
+    let size = size_of(commands) as u32;
+    out.clear();
+    add(out, &count.to_be_bytes());
+    add(out, &size.to_be_bytes());
+    add_all(out, commands);
+}

@@ -1,0 +1,14 @@
+//! A journal of records on a disk of sectors: each counts once its gate, one byte, is open on the disk.
+#![tactic(auto)]
+
+mod fault;
+mod journal;
+pub mod laws;
+mod place;
+mod reading;
+mod record;
+
+pub use fault::JournalError;
+pub use journal::Journal;
+pub use place::Place;
+pub use record::{Record, decode_record};

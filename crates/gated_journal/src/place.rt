@@ -1,0 +1,109 @@
+// Where a journal stands on its disk, and how a record is written there.
+ghost use Rattle.std.specs.Prelude.{◌≡◌, ◌⊎◌, ◌+◌, ◌*◌, ◌<◌, ◌≤◌, ◌^◌, ℕ, List, [], ◌∷◌, ◌++◌, Err, length, IsErr, IsErrOf, OnOk, OnErr};
+ghost use Rattle.sector_disk.specs.Disk.{HasFailed};
+ghost use Rattle.sector_disk.specs.Run.{LeavesOnly};
+ghost use Rattle.sector_disk.specs.declared.disk.DiskError.TheVariants.{OutOfRange};
+ghost use Rattle.gated_journal.specs.declared.fault.JournalError.TheVariants.{DiskFault, Damaged, JournalFull, NoMemory};
+ghost use Rattle.gated_journal.specs.Half.{Entry};
+ghost use Rattle.gated_journal.specs.Record.{Commands, IsRecord, data_sector, data_size, record_text};
+ghost use Rattle.gated_journal.specs.Settled.{HasFilled, IsSettled, Leaves, room_of};
+
+use crate::JournalError;
+use sector_disk::{Disk, DiskError};
+
+/// The place of a half of a disk, and of the gate at which the next record goes.
+#[derive(Clone, Copy, Debug, PartialEq, Eq, Drop)]
+pub struct Place {
+    /// The half's first sector.
+    pub first: u64,
+    /// The sector after its last.
+    pub end: u64,
+    /// The next record's gate.
+    pub next: u64,
+}
+
+impl Place {
+    // How many data sectors the next record may have.
+    pub(crate) fn room(self) -> u64
+        ensures { result ≡ room_of self }
+    {
+        self.end.saturating_sub(self.next).saturating_sub(2)
+    }
+
+    // Adds a record with this text.
+    pub(crate) fn append_text<D: Disk>(
+        &mut self,
+        disk: &mut D,
+        text: &[u8],
+    ) -> Result<(), JournalError>
+        requires within { self.old.end ≤ (D.view disk.old).sectors }
+        requires some { 0 < length text.now }
+        requires small { length text.now < 2 ^ 32 }
+
+        // A stop at any moment of the call leaves the records from before it, with the new one or without.
+        ensures any_moment { (entries : List Entry) (commands : Commands) → IsRecord commands → text.now ≡ record_text commands → (D.view disk.old).honest → IsSettled (D.view disk.old) self.old entries
+            → LeavesOnly (D.view disk.old) (D.view disk.new) (Leaves (D.view disk.old) self.old entries (self.old.next + 1, commands)) }
+
+        // At `Ok` each stop leaves it.
+        ensures acknowledged { OnOk result ((entries : List Entry) (commands : Commands) → IsRecord commands → text.now ≡ record_text commands → (D.view disk.old).honest → IsSettled (D.view disk.old) self.old entries
+            → IsSettled (D.view disk.new) self.new (entries ++ (self.old.next + 1, commands) ∷ [])) }
+        ensures next { OnOk result (self.new ≡ record (self.old) { next = self.old.next + data_size text.now + 1 }) }
+
+        // It does not give up by itself.
+        ensures fault { IsErrOf result JournalError.DiskFault → HasFailed (D.view disk.old) (D.view disk.new) }
+        ensures sectors { (D.view disk.new).sectors ≡ (D.view disk.old).sectors }
+        ensures later { (D.view disk.old).failures ≤ (D.view disk.new).failures }
+        ensures full { IsErrOf result JournalError.JournalFull → room_of self.old < data_size text.now }
+        ensures no_room { room_of self.old < data_size text.now → (result ≡ Err JournalError.JournalFull) × (disk.new ≡ disk.old) }
+        ensures same { OnErr result (self.new ≡ self.old) }
+        ensures damaged { (s : ℕ) → IsErrOf result (JournalError.Damaged s) → ⊥ }
+        ensures memory { IsErrOf result JournalError.NoMemory → ⊥ }
+        ensures honest { (D.view disk.old).honest → (D.view disk.new).honest }
+    {
+        let size = (text.len() as u64 + 511) / 512;
+        if self.room() < size {
+            return Err(JournalError::JournalFull);
+        }
+        // The text's sectors, and the next gate, closed.
+        fill(disk, self.next + 1, size + 1, text)?;
+        disk.sync()?; // The data, before the gate.
+        let mut gate = [0; 512];
+        gate[0] = 1;
+        disk.write(self.next, &gate)?;
+        disk.sync()?; // The gate, before the answer.
+        self.next += size + 1;
+        Ok(())
+    }
+}
+
+// The sector k of a text.
+fn sector_of(text: &[u8], k: usize) -> [u8; 512]
+    requires { k < 2 ^ 32 }
+    ensures { result ≡ data_sector text.now k }
+{
+    let mut bytes = [0; 512];
+    for i in 0..512 {
+        let at = 512 * k + i;
+        if at < text.len() {
+            bytes[i] = text[at];
+        }
+    }
+    bytes
+}
+
+// Writes the first n sectors of a text from a sector on.
+fn fill<D: Disk>(disk: &mut D, at: u64, n: u64, text: &[u8]) -> Result<(), DiskError>
+    requires room { at + n ≤ (D.view disk.old).sectors }
+    requires fits { at + n < 2 ^ 64 }
+    requires small { n < 2 ^ 32 }
+    ensures effect { (D.view disk.old).honest → HasFilled (D.view disk.old) (D.view disk.new) at n text.now result }
+    ensures sectors { (D.view disk.new).sectors ≡ (D.view disk.old).sectors }
+    ensures later { (D.view disk.old).failures ≤ (D.view disk.new).failures }
+    ensures fault { IsErr result → HasFailed (D.view disk.old) (D.view disk.new) }
+    ensures in_range { IsErrOf result OutOfRange → ⊥ }
+{
+    for k in 0..n {
+        disk.write(at + k, &sector_of(text, k as usize))?;
+    }
+    Ok(())
+}

@@ -1,0 +1,66 @@
+//! Heaps of rising size: each growth of a replay is refused in turn, and then another replay gives all.
+ghost use Rattle.std.specs.Prelude.{◌≡◌};
+
+use gated_journal::{Journal, JournalError};
+use linked_list_allocator::LocalHeap;
+use sector_disk::{Disk, MemoryDisk};
+use std::alloc::Global;
+use std::test::Fail;
+
+/// Adds three records of one command of one byte.
+fn are_added<D: Disk>(alloc: Global, disk: &mut D) -> bool {
+    let Ok(mut journal) = Journal::start(alloc, 0, 9) else {
+        return false;
+    };
+    add(&mut journal, disk) && add(&mut journal, disk) && add(&mut journal, disk)
+}
+
+fn add<D: Disk>(journal: &mut Journal<Global>, disk: &mut D) -> bool
+    requires { journal.old.end ≡ 9 }
+    ensures { journal.new.end ≡ 9 }
+{
+    disk.sectors() >= 9 && journal.append(disk, &[&[7]]).is_ok()
+}
+
+/// Nothing where memory is wanted, else whether three records are read.
+fn are_read<'a, D: Disk>(heap: &'a LocalHeap, disk: &mut D) -> Option<bool> {
+    if disk.sectors() < 9 {
+        return Some(false);
+    }
+    match Journal::replay(heap, disk, 0, 9) {
+        Ok((_, records)) => Some(records.len() == 3),
+        Err(fault) => (fault != JournalError::NoMemory).then_some(false),
+    }
+}
+
+/// How many heaps were too small before three records were read.
+fn refused<D: Disk>(alloc: Global, disk: &mut D) -> Result<Option<usize>, Fail> {
+    for k in 0..200 {
+        let heap = LocalHeap::new(alloc, 18_000 + 16 * k)?;
+        match are_read(&heap, disk) {
+            None => {}
+            Some(true) => return Ok(Some(k)),
+            Some(false) => return Ok(None),
+        }
+    }
+    Ok(None)
+}
+
+fn is_refused_in_turn(alloc: Global) -> Result<bool, Fail> {
+    let mut disk = MemoryDisk::new(alloc, 9, 2_999)?;
+    let added = are_added(alloc, &mut disk);
+    Ok(added && refused(alloc, &mut disk)?.is_some_and(|heaps| heaps > 5))
+}
+
+#[test]
+fn each_growth_is_refused_in_turn(rt: HostRuntime) -> Result<(), Fail> {
+    assert!(rt; is_refused_in_turn(rt.alloc())?);
+    Ok(())
+}
+
+#[test]
+fn a_small_heap_starts_no_journal(rt: HostRuntime) -> Result<(), Fail> {
+    let heap = LocalHeap::new(rt.alloc(), 1_000)?;
+    assert!(rt; Journal::start(&heap, 0, 39).is_err());
+    Ok(())
+}

@@ -1,0 +1,9 @@
+//! Tests of the public calls of `gated_journal`, on a disk in memory.
+#![tactic(auto)]
+
+#[cfg(test)]
+mod damaged;
+#[cfg(test)]
+mod growths;
+#[cfg(test)]
+mod records;
