@@ -5,9 +5,9 @@ import itertools
 import random
 
 import reading
-from streams import RULE, SERVED, U, binary, bits_of, changed, damaged, demand, detach, numbered, text
+from streams import SERVED, U, binary, bits_of, changed, damaged, demand, detach, numbered
 from streams.groups import attaching, grouping, leaving
-from streams.messages import ABSENT, ALL_OUT, STRANGER, UNSERVED, V, W, WORKED, acknowledgement, mails, message, report, sds
+from streams.messages import ABSENT, ALL_OUT, STRANGER, UNSERVED, V, W, WORKED, acknowledgement, life, mails, message, report, sds
 
 G, OTHER, UNRULED = '234-14-1000', '234-14-1001', '235-14-1000'
 # U, V, W and one that then leaves its cell are attached to G; W alone to OTHER
@@ -134,19 +134,13 @@ def random_body(dice, radios, groups):
 
 
 def group_message_lives():
-    """Random rules, attaches, detaches, group changes, messages to groups and radios, reports, expiries and resends."""
+    """Random rules, attaches, detaches, group changes, messages to groups and radios, reports and expiries."""
     for seed in range(24):
         dice = random.Random(500 + seed)
         radios = [U, V, W, UNSERVED, '234-14-2005'][:3 + seed % 3]
         groups = [G, G, OTHER, UNRULED][:2 + seed % 3]
-        said, sequence, moment = [RULE] + [f'{k} 0 {demand(3, name)}' for k, name in enumerate(radios, 2)], 10, 0
-        for _ in range(500):
-            sequence += dice.choice([1, 1, 1, 1, 1, 1, 1, 5, 0, -1])
-            moment = max(moment + dice.choice([0, 1, 1, 2, 9, -3]), 0)
-            command = f'{sequence} {moment} {random_body(dice, radios, groups)}'
-            query = dice.choice([f'mail {dice.choice(radios)}'] * 3 + [f'members {dice.choice(groups)}'])
-            said.append(dice.choice([command] * 6 + [query] * 3 + [dice.choice(said[-30:]), dice.choice(said[-30:])[:-1], 'count']))
-        yield text(said + mails(*radios))
+        query = lambda: dice.choice([f'mail {dice.choice(radios)}'] * 3 + [f'members {dice.choice(groups)}'])
+        yield life(dice, radios, lambda: random_body(dice, radios, groups), query)
 
 
 KINDS = [changed_group_messages, heads_to_groups, who_to_which, copies_apart, kept_for_groups, all_or_none, many_copies, group_message_lives]

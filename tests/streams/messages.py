@@ -4,7 +4,7 @@ import itertools
 import random
 
 import reading
-from streams import RULE, SERVED, U, binary, bits_of, changed, damaged, demand, detach, mobility_body, numbered, text
+from streams import RULE, SERVED, U, binary, bits_of, changed, damaged, demand, detach, numbered, text
 
 V, W, ABSENT, STRANGER, UNSERVED = '234-14-2002', '234-14-2003', '234-14-2004', '234-14-9', '235-1-1'
 WORKED = ['48:820405014849', '48:820C05014849', '32:82100005', '32:82100205', '32:82200005']
@@ -164,19 +164,23 @@ def random_body(dice, radios):
     return sds(source, destination, damaged(dice, bits) if dice.randrange(10) == 0 else bits)
 
 
+def life(dice, radios, body, query):
+    """The radios attach, and 500 random lines: commands in order and out of it, queries, resends and bad lines."""
+    said, sequence, moment = [RULE] + [f'{k} 0 {demand(3, name)}' for k, name in enumerate(radios, 2)], 10, 0
+    for _ in range(500):
+        sequence += dice.choice([1, 1, 1, 1, 1, 1, 1, 5, 0, -1])
+        moment = max(moment + dice.choice([0, 1, 1, 2, 9, -3]), 0)
+        command = f'{sequence} {moment} {body()}'
+        said.append(dice.choice([command] * 6 + [query()] * 3 + [dice.choice(said[-30:]), dice.choice(said[-30:])[:-1], 'count']))
+    return text(said + mails(*radios))
+
+
 def message_lives():
-    """Random rules, attaches, detaches, messages, reports, expiries, queries, resends and bad lines."""
+    """Random rules, attaches, detaches, messages, reports and expiries."""
     for seed in range(24):
         dice = random.Random(300 + seed)
         radios = [U, V, W, UNSERVED][:2 + seed % 3]
-        said, sequence, moment = [RULE] + [f'{k} 0 {demand(3, name)}' for k, name in enumerate(radios, 2)], 10, 0
-        for _ in range(500):
-            sequence += dice.choice([1, 1, 1, 1, 1, 1, 1, 5, 0, -1])
-            moment = max(moment + dice.choice([0, 1, 1, 2, 9, -3]), 0)
-            command = f'{sequence} {moment} {random_body(dice, radios)}'
-            query = f'mail {dice.choice(radios)}'
-            said.append(dice.choice([command] * 6 + [query] * 3 + [dice.choice(said[-30:]), dice.choice(said[-30:])[:-1], 'count']))
-        yield text(said + mails(*radios))
+        yield life(dice, radios, lambda: random_body(dice, radios), lambda: f'mail {dice.choice(radios)}')
 
 
 KINDS = [changed_sds_pdus, heads, long_pdus, who_to_whom, reports, keys, full_mailboxes, deadlines, message_lives]
