@@ -10,15 +10,27 @@ use std::io;
 use std::io::{ErrorKind, Read, Write};
 use std::test::Fail;
 
+/// How a run ends over a new register, with so many turns, and how many commands it then holds.
+fn over<R: Read, W: Write>(
+    alloc: Global,
+    turns: u32,
+    reader: &mut R,
+    writer: &mut W,
+) -> Result<(Result<Ran, RunFault>, u64), Fail> {
+    let limits = usual()?;
+    let mut desk = Register::new(alloc, limits)?;
+    let ran = run(alloc, reader, writer, 1, turns, &mut desk);
+    Ok((ran, desk.count()))
+}
+
 /// Whether a line of so many bytes, with this behind it, is answered so.
 fn is_answered(alloc: Global, length: usize, end: &str, answer: &str) -> Result<bool, Fail> {
     let mut lines = Vec::new(alloc);
     lines.resize(length, b'#')?;
     lines.extend_from_slice(end.as_bytes())?;
     let mut reader = lines.as_slice();
-    let mut desk = Register::new(alloc, usual()?)?;
     let mut out = Vec::new(alloc);
-    let ran = run(alloc, &mut reader, &mut out, 1, 9, &mut desk);
+    let (ran, _) = over(alloc, 9, &mut reader, &mut out)?;
     Ok(ran.is_ok() && out.as_slice() == answer.as_bytes())
 }
 
@@ -95,14 +107,13 @@ fn over_a_slow_reader(
     turns: u32,
     interrupts: bool,
 ) -> Result<(Result<Ran, RunFault>, usize), Fail> {
-    let mut desk = Register::new(alloc, usual()?)?;
     let mut reader = Slow {
         rest: b"count\n",
         interrupts,
         due: false,
     };
     let mut out = Vec::new(alloc);
-    let ran = run(alloc, &mut reader, &mut out, 1, turns, &mut desk);
+    let (ran, _) = over(alloc, turns, &mut reader, &mut out)?;
     Ok((ran, out.len()))
 }
 
@@ -131,10 +142,9 @@ fn turns_bound_the_calls(rt: HostRuntime) -> Result<(), Fail> {
 
 /// Whether a run ends so whose writer has room for so many bytes, and takes them all.
 fn fails_when_full(alloc: Global, room: usize) -> Result<bool, Fail> {
-    let mut desk = Register::new(alloc, usual()?)?;
     let mut reader = b"count\n".as_slice();
     let mut out = Full { room, taken: 0 };
-    let ran = run(alloc, &mut reader, &mut out, 1, 9, &mut desk);
+    let (ran, _) = over(alloc, 9, &mut reader, &mut out)?;
     Ok(ran == Err(RunFault::Write) && out.taken == room)
 }
 
@@ -191,7 +201,6 @@ impl<'a> Write for Counting<'a> {
 }
 
 fn over_five_lines(alloc: Global) -> Result<Result<Ran, RunFault>, Fail> {
-    let mut desk = Register::new(alloc, usual()?)?;
     let answered = Cell::new(0);
     let mut reader = Asking {
         calls: 0,
@@ -201,7 +210,8 @@ fn over_five_lines(alloc: Global) -> Result<Result<Ran, RunFault>, Fail> {
         lines: 0,
         answered: &answered,
     };
-    Ok(run(alloc, &mut reader, &mut writer, 1, 99, &mut desk))
+    let (ran, _) = over(alloc, 99, &mut reader, &mut writer)?;
+    Ok(ran)
 }
 
 #[test]
@@ -236,17 +246,12 @@ impl<'a> Read for Broken<'a> {
 
 /// Whether what was read is answered, and kept.
 fn fails_when_broken(alloc: Global) -> Result<bool, Fail> {
-    let mut desk = Register::new(alloc, usual()?)?;
     let mut reader = Broken {
         parts: &["1 0 rule 234-14-0/24 1 99 1 3600\n", "2 10 mm 234-14"],
     };
     let mut out = Vec::new(alloc);
-    let ran = run(alloc, &mut reader, &mut out, 1, 9, &mut desk);
-    Ok(
-        ran == Err(RunFault::Read)
-            && out.as_slice() == b"1 ok 1 -\n".as_slice()
-            && desk.count() == 1,
-    )
+    let (ran, count) = over(alloc, 9, &mut reader, &mut out)?;
+    Ok(ran == Err(RunFault::Read) && out.as_slice() == b"1 ok 1 -\n".as_slice() && count == 1)
 }
 
 #[test]
