@@ -5,6 +5,7 @@ use Rattle.std.proofs.lemmas.List.{append-nil}
 use Rattle.mm_pdus.specs.declared.fault.MmFault.{MmFault}
 use Rattle.mm_pdus.specs.declared.fault.MmFault.TheVariants.{Short, UnknownType}
 use Rattle.mm_pdus.specs.declared.update.AcceptType.{AcceptType}
+use Rattle.mm_pdus.specs.declared.update.LocationUpdateType.{LocationUpdateType}
 use Rattle.mm_pdus.specs.declared.group.GroupDown.{GroupDown}
 use Rattle.mm_pdus.specs.declared.downlink.MmDown.{MmDown}
 use Rattle.mm_pdus.specs.declared.downlink.MmDown.TheVariants.{Accept, Reject, Acknowledge}
@@ -14,12 +15,8 @@ use Rattle.mm_pdus.specs.Reading.{◌>>=◌, known, needs, bit_at, clear_at, fie
 use Rattle.mm_pdus.specs.GroupReading.{group_down_at, body_at}
 use Rattle.mm_pdus.specs.DownlinkReading.{one_element_at, answers_at, accept_at, reject_at, acknowledge_at, down_at, reading_down}
 use Rattle.mm_pdus.proofs.Steps.{ok_is}
-use Rattle.mm_pdus.proofs.CutLaws.{Cut, cut_bind, on, value_on, field_cut, piece_cut, bit_cut, clear_cut, whole_missing}
+use Rattle.mm_pdus.proofs.CutLaws.{Cut, cut_bind, same_bind, on, value_on, field_cut, piece_cut, bit_cut, clear_cut, whole_missing}
 use Rattle.mm_pdus.proofs.DownlinkLaws.{down_again}
-
--- a step that reads no bits
-same_bind : {X Y : Type 0} (ey : Y → Y) (r : Result X MmFault) (f g : X → Result Y MmFault) (z : Y) → ((y : X) → r ≡ Ok y → g y ≡ Ok z → Cut ey (f y) z) → (r >>= g) ≡ Ok z → Cut ey (r >>= f) z
-same_bind ey r f g z = cut_bind (λ x. x) ey r r f g z (λ x k. inr (x, k, refl))
 
 module _ (more : List Bool) where
   -- ---- the groups of an acknowledgement
@@ -80,26 +77,30 @@ module _ (more : List Bool) where
     accept_cut : (bits : List Bool) (x : Read A) → accept_at {A = A} (bits ++ more) ≡ Ok x → Cut back (accept_at bits) x
     unfolding accept_at
     accept_cut bits x e =
-        let third : AcceptType → List Bool → Result (Read A) MmFault = λ update rest. Ok ((Accept update, true), rest) in
-        let second : List Bool → AcceptType → Result (Read A) MmFault = λ bits update. clear_at bits >>= third update in
-        let first : ℕ × List Bool → Result (Read A) MmFault = λ n. known (accept_of (update_of n.0)) >>= second n.1 in
+        let fourth : AcceptType → List Bool → Result (Read A) MmFault = λ accept rest. Ok ((Accept accept, true), rest) in
+        let third : List Bool → AcceptType → Result (Read A) MmFault = λ bits accept. clear_at bits >>= fourth accept in
+        let second : List Bool → LocationUpdateType → Result (Read A) MmFault = λ bits update. known (accept_of update) >>= third bits in
+        let first : ℕ × List Bool → Result (Read A) MmFault = λ n. known (update_of n.0) >>= second n.1 in
         cut_bind (value_on more) back (field_at 3 bits) (field_at 3 (bits ++ more)) first first x (field_cut more 3 bits) (λ n is h.
-        same_bind back (known (accept_of (update_of n.0))) (second n.1) (second (n.1 ++ more)) x (λ a is h.
-        cut_bind (on more) back (clear_at n.1) (clear_at (n.1 ++ more)) (third a) (third a) x (clear_cut more n.1) (λ y is h.
-        inr (((Accept a, true), y), refl, sym (ok_is ((Accept a, true), y ++ more) x h))) h) h) e
+        same_bind back (known (update_of n.0)) (second n.1) (second (n.1 ++ more)) x (λ u is h.
+        same_bind back (known (accept_of u)) (third n.1) (third (n.1 ++ more)) x (λ a is h.
+        cut_bind (on more) back (clear_at n.1) (clear_at (n.1 ++ more)) (fourth a) (fourth a) x (clear_cut more n.1) (λ y is h.
+        inr (((Accept a, true), y), refl, sym (ok_is ((Accept a, true), y ++ more) x h))) h) h) h) e
 
     reject_cut : (bits : List Bool) (x : Read A) → reject_at {A = A} (bits ++ more) ≡ Ok x → Cut back (reject_at bits) x
     unfolding reject_at
     reject_cut bits x e =
         let third : MmDown A → List Bool → Result (Read A) MmFault = λ pdu rest. clear_at rest >>= λ rest. Ok ((pdu, true), rest) in
-        let second : ℕ → ℕ × List Bool → Result (Read A) MmFault = λ n cause. clear_at cause.1 >>= third (Reject (update_of n) cause.0) in
-        let first : ℕ × List Bool → Result (Read A) MmFault = λ n. field_at 5 n.1 >>= second n.0 in
+        let second : LocationUpdateType → ℕ × List Bool → Result (Read A) MmFault = λ update cause. clear_at cause.1 >>= third (Reject update cause.0) in
+        let named : List Bool → LocationUpdateType → Result (Read A) MmFault = λ bits update. field_at 5 bits >>= second update in
+        let first : ℕ × List Bool → Result (Read A) MmFault = λ n. known (update_of n.0) >>= named n.1 in
         cut_bind (value_on more) back (field_at 3 bits) (field_at 3 (bits ++ more)) first first x (field_cut more 3 bits) (λ n is h.
-        cut_bind (value_on more) back (field_at 5 n.1) (field_at 5 (n.1 ++ more)) (second n.0) (second n.0) x (field_cut more 5 n.1) (λ c is h.
-        let pdu = Reject (update_of n.0) c.0 in
+        same_bind back (known (update_of n.0)) (named n.1) (named (n.1 ++ more)) x (λ u is h.
+        cut_bind (value_on more) back (field_at 5 n.1) (field_at 5 (n.1 ++ more)) (second u) (second u) x (field_cut more 5 n.1) (λ c is h.
+        let pdu = Reject u c.0 in
         cut_bind (on more) back (clear_at c.1) (clear_at (c.1 ++ more)) (third pdu) (third pdu) x (clear_cut more c.1) (λ y is h.
         cut_bind (on more) back (clear_at y) (clear_at (y ++ more)) (λ rest. Ok ((pdu, true), rest)) (λ rest. Ok ((pdu, true), rest)) x (clear_cut more y) (λ z is h.
-        inr (((pdu, true), z), refl, sym (ok_is ((pdu, true), z ++ more) x h))) h) h) h) e
+        inr (((pdu, true), z), refl, sym (ok_is ((pdu, true), z ++ more) x h))) h) h) h) h) e
 
     acknowledge_cut : (bits : List Bool) (x : Read A) → acknowledge_at {A = A} (bits ++ more) ≡ Ok x → Cut back (acknowledge_at bits) x
     unfolding acknowledge_at

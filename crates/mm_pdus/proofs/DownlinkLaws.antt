@@ -9,6 +9,7 @@ use Rattle.identity.specs.Number.{num}
 use Rattle.mm_pdus.specs.declared.fault.MmFault.{MmFault}
 use Rattle.mm_pdus.specs.declared.fault.MmFault.TheVariants.{Trailing, UnknownType, BadElement}
 use Rattle.mm_pdus.specs.declared.update.AcceptType.{AcceptType}
+use Rattle.mm_pdus.specs.declared.update.LocationUpdateType.{LocationUpdateType}
 use Rattle.mm_pdus.specs.declared.group.GroupDown.{GroupDown}
 use Rattle.mm_pdus.specs.declared.downlink.MmDown.{MmDown}
 use Rattle.mm_pdus.specs.declared.downlink.MmDown.TheVariants.{Accept, Reject, Acknowledge}
@@ -20,7 +21,7 @@ use Rattle.mm_pdus.specs.Reading.{◌>>=◌, known, needs, clear_at, field_at, p
 use Rattle.mm_pdus.specs.GroupReading.{group_down_at, body_at}
 use Rattle.mm_pdus.specs.DownlinkReading.{one_element_at, answers_at, accept_at, reject_at, acknowledge_at, down_at, reading_down}
 use Rattle.mm_pdus.proofs.Steps.{bind_ok, ok_is, chosen, join, err_ok, whole_takes, whole_behind}
-use Rattle.mm_pdus.proofs.ValueLaws.{update_number-update_of, update_of-update_number, update_number-lt, accept_of-update_accepted, update_accepted-accept_of}
+use Rattle.mm_pdus.proofs.ValueLaws.{update_named, update_of-update_number, update_number-lt, accept_of-update_accepted, update_accepted-accept_of}
 use Rattle.mm_pdus.proofs.FieldLaws.{known_takes, clear_takes, field_takes, field_again, piece_takes, piece_again}
 use Rattle.mm_pdus.proofs.GroupLaws as groups
 use Rattle.mm_pdus.proofs.GroupSteps.{group_down_short, groups_body_short}
@@ -146,14 +147,16 @@ module _ {A : Type 0} where
   accept_takes : (bits : List Bool) (x : (MmDown A × Bool) × List Bool) → accept_at {A = A} bits ≡ Ok x → Taken (num 4 5 ++ bits) x
   unfolding accept_at
   accept_takes bits x h =
-      let third : AcceptType → List Bool → Result ((MmDown A × Bool) × List Bool) MmFault = λ update rest. Ok ((Accept update, true), rest) in
-      let second : List Bool → AcceptType → Result ((MmDown A × Bool) × List Bool) MmFault = λ bits update. clear_at bits >>= third update in
-      let a = bind_ok (field_at 3 bits) (λ number. known (accept_of (update_of number.0)) >>= second number.1) x h in
-      let b = bind_ok (known (accept_of (update_of a.0.0))) (second a.0.1) x a.2 in
-      let d = bind_ok (clear_at a.0.1) (third b.0) x b.2 in
+      let fourth : AcceptType → List Bool → Result ((MmDown A × Bool) × List Bool) MmFault = λ accept rest. Ok ((Accept accept, true), rest) in
+      let third : List Bool → AcceptType → Result ((MmDown A × Bool) × List Bool) MmFault = λ bits accept. clear_at bits >>= fourth accept in
+      let second : List Bool → LocationUpdateType → Result ((MmDown A × Bool) × List Bool) MmFault = λ bits update. known (accept_of update) >>= third bits in
+      let a = bind_ok (field_at 3 bits) (λ number. known (update_of number.0) >>= second number.1) x h in
+      let k = bind_ok (known (update_of a.0.0)) (second a.0.1) x a.2 in
+      let b = bind_ok (known (accept_of k.0)) (third a.0.1) x k.2 in
+      let d = bind_ok (clear_at a.0.1) (fourth b.0) x b.2 in
       let t1 = field_takes 3 bits a.0.0 a.0.1 a.1 in
-      let is_update = update_accepted-accept_of (update_of a.0.0) b.0 (known_takes (accept_of (update_of a.0.0)) b.0 b.1) in
-      let code : num 3 a.0.0 ≡ num 3 (update_number (update_accepted b.0)) = ap (num 3) (sym (ap update_number is_update ∙ update_number-update_of a.0.0 t1.1)) in
+      let is_update = update_accepted-accept_of k.0 b.0 (known_takes (accept_of k.0) b.0 b.1) in
+      let code : num 3 a.0.0 ≡ num 3 (update_number (update_accepted b.0)) = ap (num 3) (update_named a.0.0 k.0 (known_takes (update_of a.0.0) k.0 k.1) ∙ sym (ap update_number is_update)) in
       let t2 = clear_takes a.0.1 d.0 d.1 in
       let start : num 4 5 ++ bits ≡ (num 4 5 ++ num 3 (update_number (update_accepted b.0))) ++ a.0.1 = join (num 4 5 ++ bits) (num 4 5) bits (num 3 (update_number (update_accepted b.0))) a.0.1 refl (t1.0 ∙ ap (λ (t : List Bool). t ++ a.0.1) code) in
       let is : num 4 5 ++ bits ≡ accept_text b.0 ++ d.0 = join (num 4 5 ++ bits) (num 4 5 ++ num 3 (update_number (update_accepted b.0))) a.0.1 (false ∷ []) d.0 start t2 in
@@ -162,17 +165,19 @@ module _ {A : Type 0} where
   reject_takes : (bits : List Bool) (x : (MmDown A × Bool) × List Bool) → reject_at {A = A} bits ≡ Ok x → Taken (num 4 7 ++ bits) x
   unfolding reject_at
   reject_takes bits x h =
-      let fourth : ℕ → ℕ → List Bool → Result ((MmDown A × Bool) × List Bool) MmFault = λ n cause rest. Ok ((Reject (update_of n) cause, true), rest) in
-      let a = bind_ok (field_at 3 bits) (λ update. field_at 5 update.1 >>= λ cause. clear_at cause.1 >>= λ rest. clear_at rest >>= fourth update.0 cause.0) x h in
-      let b = bind_ok (field_at 5 a.0.1) (λ cause. clear_at cause.1 >>= λ rest. clear_at rest >>= fourth a.0.0 cause.0) x a.2 in
-      let d = bind_ok (clear_at b.0.1) (λ rest. clear_at rest >>= fourth a.0.0 b.0.0) x b.2 in
-      let e = bind_ok (clear_at d.0) (fourth a.0.0 b.0.0) x d.2 in
+      let fourth : LocationUpdateType → ℕ → List Bool → Result ((MmDown A × Bool) × List Bool) MmFault = λ update cause rest. Ok ((Reject update cause, true), rest) in
+      let third : LocationUpdateType → ℕ × List Bool → Result ((MmDown A × Bool) × List Bool) MmFault = λ update cause. clear_at cause.1 >>= λ rest. clear_at rest >>= fourth update cause.0 in
+      let a = bind_ok (field_at 3 bits) (λ number. known (update_of number.0) >>= λ update. field_at 5 number.1 >>= third update) x h in
+      let k = bind_ok (known (update_of a.0.0)) (λ update. field_at 5 a.0.1 >>= third update) x a.2 in
+      let update = k.0 in
+      let b = bind_ok (field_at 5 a.0.1) (third update) x k.2 in
+      let d = bind_ok (clear_at b.0.1) (λ rest. clear_at rest >>= fourth update b.0.0) x b.2 in
+      let e = bind_ok (clear_at d.0) (fourth update b.0.0) x d.2 in
       let t1 = field_takes 3 bits a.0.0 a.0.1 a.1 in
       let t2 = field_takes 5 a.0.1 b.0.0 b.0.1 b.1 in
       let t3 = clear_takes b.0.1 d.0 d.1 in
       let t4 = clear_takes d.0 e.0 e.1 in
-      let update = update_of a.0.0 in
-      let code : num 3 a.0.0 ≡ num 3 (update_number update) = ap (num 3) (sym (update_number-update_of a.0.0 t1.1)) in
+      let code : num 3 a.0.0 ≡ num 3 (update_number update) = ap (num 3) (update_named a.0.0 update (known_takes (update_of a.0.0) update k.1)) in
       let start : num 4 7 ++ bits ≡ (num 4 7 ++ num 3 (update_number update)) ++ a.0.1 = join (num 4 7 ++ bits) (num 4 7) bits (num 3 (update_number update)) a.0.1 refl (t1.0 ∙ ap (λ (t : List Bool). t ++ a.0.1) code) in
       let middle : num 4 7 ++ bits ≡ (num 4 7 ++ num 3 (update_number update) ++ num 5 b.0.0) ++ b.0.1 = join (num 4 7 ++ bits) (num 4 7 ++ num 3 (update_number update)) a.0.1 (num 5 b.0.0) b.0.1 start t2.0 in
       let last : b.0.1 ≡ (false ∷ false ∷ []) ++ e.0 = t3 ∙ ap (λ (t : List Bool). false ∷ t) t4 in

@@ -3,15 +3,16 @@ use Rattle.std.proofs.Common.{◌≡◌, ℕ, Bool, true, false, cond, List, [],
 use Rattle.std.proofs.lemmas.List.{append-nil}
 use Rattle.mm_pdus.specs.declared.fault.MmFault.{MmFault}
 use Rattle.mm_pdus.specs.declared.fault.MmFault.TheVariants.{Short, UnknownType}
+use Rattle.mm_pdus.specs.declared.update.LocationUpdateType.{LocationUpdateType}
 use Rattle.mm_pdus.specs.declared.group.GroupUp.{GroupUp}
 use Rattle.mm_pdus.specs.declared.uplink.MmUp.{MmUp}
 use Rattle.mm_pdus.specs.declared.uplink.MmUp.TheVariants.{Demand, Detach, Groups}
 use Rattle.mm_pdus.specs.Values.{update_of, mode_of}
 use Rattle.mm_pdus.specs.Uplink.{detach_widths, demand_widths, SpellsUp}
-use Rattle.mm_pdus.specs.Reading.{◌>>=◌, bit_at, field_at, optional_at, extension_at}
+use Rattle.mm_pdus.specs.Reading.{◌>>=◌, known, bit_at, field_at, optional_at, extension_at}
 use Rattle.mm_pdus.specs.UplinkReading.{join_groups, all_groups_at, groups_up_at, detach_at, demand_at, up_at, reading_up}
 use Rattle.mm_pdus.proofs.Steps.{ok_is}
-use Rattle.mm_pdus.proofs.CutLaws.{Cut, on, value_on, cut_bind, field_cut, bit_cut, optional_cut, elements_cut, extension_cut, whole_missing}
+use Rattle.mm_pdus.proofs.CutLaws.{Cut, on, value_on, cut_bind, same_bind, field_cut, bit_cut, optional_cut, elements_cut, extension_cut, whole_missing}
 use Rattle.mm_pdus.proofs.UplinkLaws.{up_again}
 
 module _ (more : List Bool) where
@@ -30,14 +31,16 @@ module _ (more : List Bool) where
     demand_cut : (bits : List Bool) (x : MmUp A × List Bool) → demand_at (bits ++ more) ≡ Ok x → Cut (value_on more) (demand_at bits) x
     unfolding demand_at
     demand_cut bits x e =
-        let third : ℕ → List Bool → Result (MmUp A × List Bool) MmFault = λ n rest. extension_at demand_widths rest >>= λ rest. Ok (Demand (update_of n), rest) in
-        let second : ℕ → Bool × List Bool → Result (MmUp A × List Bool) MmFault = λ n append. optional_at 10 append.1 >>= third n in
-        let first : ℕ × List Bool → Result (MmUp A × List Bool) MmFault = λ update. bit_at update.1 >>= second update.0 in
-        cut_bind (value_on more) (value_on more) (field_at 3 bits) (field_at 3 (bits ++ more)) first first x (field_cut more 3 bits) (λ u is h.
-        cut_bind (value_on more) (value_on more) (bit_at u.1) (bit_at (u.1 ++ more)) (second u.0) (second u.0) x (bit_cut more u.1) (λ a is h.
-        cut_bind (on more) (value_on more) (optional_at 10 a.1) (optional_at 10 (a.1 ++ more)) (third u.0) (third u.0) x (optional_cut more 10 a.1) (λ y is h.
-        cut_bind (on more) (value_on more) (extension_at demand_widths y) (extension_at demand_widths (y ++ more)) (λ rest. Ok (Demand (update_of u.0), rest)) (λ rest. Ok (Demand (update_of u.0), rest)) x (extension_cut more demand_widths y) (λ z is h.
-        inr ((Demand (update_of u.0), z), refl, sym (ok_is (Demand (update_of u.0), z ++ more) x h))) h) h) h) e
+        let third : LocationUpdateType → List Bool → Result (MmUp A × List Bool) MmFault = λ update rest. extension_at demand_widths rest >>= λ rest. Ok (Demand update, rest) in
+        let second : LocationUpdateType → Bool × List Bool → Result (MmUp A × List Bool) MmFault = λ update append. optional_at 10 append.1 >>= third update in
+        let named : List Bool → LocationUpdateType → Result (MmUp A × List Bool) MmFault = λ bits update. bit_at bits >>= second update in
+        let first : ℕ × List Bool → Result (MmUp A × List Bool) MmFault = λ number. known (update_of number.0) >>= named number.1 in
+        cut_bind (value_on more) (value_on more) (field_at 3 bits) (field_at 3 (bits ++ more)) first first x (field_cut more 3 bits) (λ n is h.
+        same_bind (value_on more) (known (update_of n.0)) (named n.1) (named (n.1 ++ more)) x (λ u is h.
+        cut_bind (value_on more) (value_on more) (bit_at n.1) (bit_at (n.1 ++ more)) (second u) (second u) x (bit_cut more n.1) (λ a is h.
+        cut_bind (on more) (value_on more) (optional_at 10 a.1) (optional_at 10 (a.1 ++ more)) (third u) (third u) x (optional_cut more 10 a.1) (λ y is h.
+        cut_bind (on more) (value_on more) (extension_at demand_widths y) (extension_at demand_widths (y ++ more)) (λ rest. Ok (Demand u, rest)) (λ rest. Ok (Demand u, rest)) x (extension_cut more demand_widths y) (λ z is h.
+        inr ((Demand u, z), refl, sym (ok_is (Demand u, z ++ more) x h))) h) h) h) h) e
 
     groups_cut : (bits : List Bool) (x : MmUp A × List Bool) → groups_up_at (bits ++ more) ≡ Ok x → Cut (value_on more) (groups_up_at bits) x
     unfolding groups_up_at

@@ -7,6 +7,7 @@ use Rattle.std.proofs.lemmas.List.{append-nil}
 use Rattle.identity.specs.Number.{num}
 use Rattle.mm_pdus.specs.declared.fault.MmFault.{MmFault}
 use Rattle.mm_pdus.specs.declared.fault.MmFault.TheVariants.{Trailing, UnknownType}
+use Rattle.mm_pdus.specs.declared.update.LocationUpdateType.{LocationUpdateType}
 use Rattle.mm_pdus.specs.declared.group.GroupUp.{GroupUp}
 use Rattle.mm_pdus.specs.declared.uplink.MmUp.{MmUp}
 use Rattle.mm_pdus.specs.declared.uplink.MmUp.TheVariants.{Demand, Detach, Groups}
@@ -14,12 +15,12 @@ use Rattle.mm_pdus.specs.Values.{update_of, update_number, mode_of, mode_bit, mo
 use Rattle.mm_pdus.specs.Syntax.{optional, Element, element, IsElement, Extension, extension, IsExtension}
 use Rattle.mm_pdus.specs.Groups.{group_up, IsGroupUp, groups_body, groups_extension}
 use Rattle.mm_pdus.specs.Uplink.{detach_widths, demand_widths, identity_uplink, GroupsOf, elements_of, SpellsUp, canon_up, demand_text, IsUp}
-use Rattle.mm_pdus.specs.Reading.{◌>>=◌, bit_at, field_at, optional_at, extension_at, whole, Gives}
+use Rattle.mm_pdus.specs.Reading.{◌>>=◌, known, bit_at, field_at, optional_at, extension_at, whole, Gives}
 use Rattle.mm_pdus.specs.GroupReading.{group_up_at, body_at, behind}
 use Rattle.mm_pdus.specs.UplinkReading.{join_groups, all_groups_at, groups_up_at, detach_at, demand_at, up_at, reading_up}
 use Rattle.mm_pdus.proofs.Steps.{bind_ok, ok_is, chosen, join, err_ok, whole_takes, whole_behind}
-use Rattle.mm_pdus.proofs.ValueLaws.{update_number-update_of, update_of-update_number, update_number-lt, mode_bit-mode_of, mode_of-mode_bit}
-use Rattle.mm_pdus.proofs.FieldLaws.{bit_takes, field_takes, field_again, optional_takes, optional_again}
+use Rattle.mm_pdus.proofs.ValueLaws.{update_named, update_of-update_number, update_number-lt, mode_bit-mode_of, mode_of-mode_bit}
+use Rattle.mm_pdus.proofs.FieldLaws.{bit_takes, field_takes, field_again, known_takes, optional_takes, optional_again}
 use Rattle.mm_pdus.proofs.ExtensionLaws.{all_into, elements_take, elements_again, elements_long, extension_takes, extension_again}
 use Rattle.mm_pdus.proofs.GroupLaws.{up_text, body_takes, body_again}
 use Rattle.mm_pdus.proofs.GroupSteps.{groups_body_short, group_up_short}
@@ -111,16 +112,20 @@ module _ {A : Type 0} where
   demand_takes : (bits : List Bool) (p : MmUp A) (rest : List Bool) → demand_at bits ≡ Ok (p, rest) → (text : List Bool) × (num 4 2 ++ bits ≡ text ++ rest) × SpellsUp p text
   unfolding demand_at
   demand_takes bits p rest h =
-      let a = bind_ok (field_at 3 bits) (λ update. bit_at update.1 >>= λ append. optional_at 10 append.1 >>= λ rest. extension_at demand_widths rest >>= λ rest. Ok (Demand (update_of update.0), rest)) (p, rest) h in
-      let b = bind_ok (bit_at a.0.1) (λ append. optional_at 10 append.1 >>= λ rest. extension_at demand_widths rest >>= λ rest. Ok (Demand (update_of a.0.0), rest)) (p, rest) a.2 in
-      let d = bind_ok (optional_at 10 b.0.1) (λ rest. extension_at demand_widths rest >>= λ rest. Ok (Demand (update_of a.0.0), rest)) (p, rest) b.2 in
-      let e = bind_ok (extension_at demand_widths d.0) (λ rest. Ok (Demand (update_of a.0.0), rest)) (p, rest) d.2 in
+      let fourth : LocationUpdateType → List Bool → Result (MmUp A × List Bool) MmFault = λ update rest. Ok (Demand update, rest) in
+      let third : LocationUpdateType → List Bool → Result (MmUp A × List Bool) MmFault = λ update rest. extension_at demand_widths rest >>= fourth update in
+      let second : LocationUpdateType → Bool × List Bool → Result (MmUp A × List Bool) MmFault = λ update append. optional_at 10 append.1 >>= third update in
+      let a = bind_ok (field_at 3 bits) (λ number. known (update_of number.0) >>= λ update. bit_at number.1 >>= second update) (p, rest) h in
+      let k = bind_ok (known (update_of a.0.0)) (λ update. bit_at a.0.1 >>= second update) (p, rest) a.2 in
+      let update = k.0 in
+      let b = bind_ok (bit_at a.0.1) (second update) (p, rest) k.2 in
+      let d = bind_ok (optional_at 10 b.0.1) (third update) (p, rest) b.2 in
+      let e = bind_ok (extension_at demand_widths d.0) (fourth update) (p, rest) d.2 in
       let t1 = field_takes 3 bits a.0.0 a.0.1 a.1 in
       let t2 = bit_takes a.0.1 b.0.0 b.0.1 b.1 in
       let t3 = optional_takes 10 b.0.1 d.0 d.1 in
       let t4 = extension_takes demand_widths d.0 e.0 e.1 in
-      let update = update_of a.0.0 in
-      let code : num 3 a.0.0 ≡ num 3 (update_number update) = ap (num 3) (sym (update_number-update_of a.0.0 t1.1)) in
+      let code : num 3 a.0.0 ≡ num 3 (update_number update) = ap (num 3) (update_named a.0.0 update (known_takes (update_of a.0.0) update k.1)) in
       let text = num 4 2 ++ num 3 (update_number update) ++ b.0.0 ∷ optional t3.0 ++ extension t4.0 in
       let start : num 4 2 ++ bits ≡ (num 4 2 ++ num 3 (update_number update)) ++ a.0.1 = join (num 4 2 ++ bits) (num 4 2) bits (num 3 (update_number update)) a.0.1 refl (t1.0 ∙ ap (λ (t : List Bool). t ++ a.0.1) code) in
       let middle : a.0.1 ≡ (b.0.0 ∷ optional t3.0) ++ d.0 = t2 ∙ ap (λ (t : List Bool). b.0.0 ∷ t) t3.1 in

@@ -41,18 +41,20 @@ module _ {A : Type 0} where
   unfoldable pub accept_at : List Bool → Result ((MmDown A × Bool) × List Bool) MmFault
   accept_at bits = do
     number ← field_at 3 bits
-    update ← known (accept_of (update_of number.0))
+    update ← known (update_of number.0)
+    accept ← known (accept_of update)
     rest ← clear_at number.1
-    Ok ((Accept update, true), rest)
+    Ok ((Accept accept, true), rest)
 
   -- behind the cause cipher control and the O-bit
   unfoldable pub reject_at : List Bool → Result ((MmDown A × Bool) × List Bool) MmFault
   reject_at bits = do
-    update ← field_at 3 bits
-    cause ← field_at 5 update.1
+    number ← field_at 3 bits
+    update ← known (update_of number.0)
+    cause ← field_at 5 number.1
     rest ← clear_at cause.1
     rest ← clear_at rest
-    Ok ((Reject (update_of update.0) cause.0, true), rest)
+    Ok ((Reject update cause.0, true), rest)
 
   -- the reserved bit is ignored
   unfoldable pub acknowledge_at : List Bool → Result ((MmDown A × Bool) × List Bool) MmFault

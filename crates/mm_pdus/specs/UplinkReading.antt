@@ -9,7 +9,7 @@ use Rattle.mm_pdus.specs.declared.uplink.MmUp.TheVariants.{Demand, Detach, Group
 use Rattle.mm_pdus.specs.Values.{update_of, mode_of}
 use Rattle.mm_pdus.specs.Syntax.{Element}
 use Rattle.mm_pdus.specs.Uplink.{detach_widths, demand_widths, identity_uplink}
-use Rattle.mm_pdus.specs.Reading.{◌>>=◌, bit_at, field_at, optional_at, extension_at, elements_at, whole}
+use Rattle.mm_pdus.specs.Reading.{◌>>=◌, known, bit_at, field_at, optional_at, extension_at, elements_at, whole}
 use Rattle.mm_pdus.specs.GroupReading.{group_up_at, body_at, behind}
 
 -- elements with groups are joined, and other elements are skipped
@@ -33,11 +33,12 @@ module _ {A : Type 0} where
 
   unfoldable pub demand_at : List Bool → Result (MmUp A × List Bool) MmFault
   demand_at bits = do
-    update ← field_at 3 bits
-    append ← bit_at update.1
+    number ← field_at 3 bits
+    update ← known (update_of number.0)
+    append ← bit_at number.1
     rest ← optional_at 10 append.1
     rest ← extension_at demand_widths rest
-    Ok (Demand (update_of update.0), rest)
+    Ok (Demand update, rest)
 
   unfoldable pub groups_up_at : List Bool → Result (MmUp A × List Bool) MmFault
   groups_up_at bits = do

@@ -43,8 +43,8 @@ pub enum MmDown<A: Allocator> {
 fn accept<A: Allocator>(reader: &mut BitReader<'_>) -> Result<(MmDown<A>, bool), MmFault>
     ensures { accept_at reader.old ≡ with_rest result reader.new }
 {
-    let number = field(reader, 3)?;
-    let Some(update) = LocationUpdateType::from_number(number as u8).accept_type() else {
+    let update = LocationUpdateType::from_number(field(reader, 3)? as u8);
+    let Some(update) = update.accept_type() else {
         return Err(MmFault::BadElement);
     };
     clear_bit(reader)?; // O-bit
@@ -55,15 +55,11 @@ fn accept<A: Allocator>(reader: &mut BitReader<'_>) -> Result<(MmDown<A>, bool),
 fn reject<A: Allocator>(reader: &mut BitReader<'_>) -> Result<(MmDown<A>, bool), MmFault>
     ensures { reject_at reader.old ≡ with_rest result reader.new }
 {
-    let update = field(reader, 3)?;
-    let cause = field(reader, 5)?;
+    let update = LocationUpdateType::from_number(field(reader, 3)? as u8);
+    let cause = RejectCause::new(field(reader, 5)? as u8);
     clear_bit(reader)?; // cipher control
     clear_bit(reader)?; // O-bit
-    let pdu = MmDown::Reject {
-        update: LocationUpdateType::from_number(update as u8),
-        cause: RejectCause::new(cause as u8),
-    };
-    Ok((pdu, true))
+    Ok((MmDown::Reject { update, cause }, true))
 }
 
 /// Reads the one element with groups, at least one, and the end behind it.

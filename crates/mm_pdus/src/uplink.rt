@@ -41,13 +41,11 @@ pub enum MmUp<A: Allocator> {
 fn demand<A: Allocator>(reader: &mut BitReader<'_>) -> Result<MmUp<A>, MmFault>
     ensures { demand_at reader.old ≡ with_rest result reader.new }
 {
-    let update = field(reader, 3)?;
+    let update = LocationUpdateType::from_number(field(reader, 3)? as u8);
     let _append = bit(reader)?;
     skip_optional(reader, 10)?;
     skip_extension(reader, &[24, 3, 15, 24, 24])?;
-    Ok(MmUp::Demand {
-        update: LocationUpdateType::from_number(update as u8),
-    })
+    Ok(MmUp::Demand { update })
 }
 
 #[tactic(auto, unfolding(crate::specs::UplinkReading::detach_at))]
