@@ -39,7 +39,7 @@ module _ (more : List Bool) where
   abbrev there_at : Bool × List Bool → Answers
   there_at m = needs m.0 >>= λ there. field_at 4 m.1 >>= named_at
 
-  one_element_cut : (bits : List Bool) (x : List GroupDown × List Bool) → one_element_at (bits ++ more) ≡ Ok x → Cut (value_on more) (one_element_at bits) x
+  one_element_cut : (bits : List Bool) (x : List GroupDown × List Bool) → one_element_at group_down_at (bits ++ more) ≡ Ok x → Cut (value_on more) (one_element_at group_down_at bits) x
   unfolding one_element_at
   one_element_cut bits x e =
       let back : List GroupDown × List Bool → List GroupDown × List Bool = value_on more in
@@ -55,13 +55,13 @@ module _ (more : List Bool) where
       inr ((items, y), refl, sym (ok_is (items, y ++ more) x h))) h) h) h) h) h) h) h) h) e
 
   abbrev some_at : Bool × List Bool → Answers
-  some_at m = cond m.0 (one_element_at m.1) (Ok ([], m.1))
+  some_at m = cond m.0 (one_element_at group_down_at m.1) (Ok ([], m.1))
 
   some_cut : (b : Bool) (bits : List Bool) (x : List GroupDown × List Bool) → some_at (b, bits ++ more) ≡ Ok x → Cut (value_on more) (some_at (b, bits)) x
   some_cut true bits x e = one_element_cut bits x e
   some_cut false bits x e = inr (([], bits), refl, sym (ok_is ([], bits ++ more) x e))
 
-  answers_cut : (bits : List Bool) (x : List GroupDown × List Bool) → answers_at (bits ++ more) ≡ Ok x → Cut (value_on more) (answers_at bits) x
+  answers_cut : (bits : List Bool) (x : List GroupDown × List Bool) → answers_at group_down_at (bits ++ more) ≡ Ok x → Cut (value_on more) (answers_at group_down_at bits) x
   unfolding answers_at
   answers_cut bits x e = cut_bind (value_on more) (value_on more) (bit_at bits) (bit_at (bits ++ more)) some_at some_at x (bit_cut more bits) (λ m is h. some_cut m.0 m.1 x h) e
 
@@ -102,17 +102,17 @@ module _ (more : List Bool) where
         cut_bind (on more) back (clear_at y) (clear_at (y ++ more)) (λ rest. Ok ((pdu, true), rest)) (λ rest. Ok ((pdu, true), rest)) x (clear_cut more y) (λ z is h.
         inr (((pdu, true), z), refl, sym (ok_is ((pdu, true), z ++ more) x h))) h) h) h) h) e
 
-    acknowledge_cut : (bits : List Bool) (x : Read A) → acknowledge_at {A = A} (bits ++ more) ≡ Ok x → Cut back (acknowledge_at bits) x
+    acknowledge_cut : (bits : List Bool) (x : Read A) → acknowledge_at {A = A} group_down_at (bits ++ more) ≡ Ok x → Cut back (acknowledge_at group_down_at bits) x
     unfolding acknowledge_at
     acknowledge_cut [] x e = inl refl
     acknowledge_cut (rejected ∷ []) x e = inl refl
     acknowledge_cut (rejected ∷ reserved ∷ bits) x e =
         let made : List GroupDown × List Bool → Result (Read A) MmFault = λ items. Ok ((Acknowledge items.0, beq rejected (rejects items.0)), items.1) in
-        cut_bind (value_on more) back (answers_at bits) (answers_at (bits ++ more)) made made x (answers_cut bits) (λ y is h.
+        cut_bind (value_on more) back (answers_at group_down_at bits) (answers_at group_down_at (bits ++ more)) made made x (answers_cut bits) (λ y is h.
         inr (((Acknowledge y.0, beq rejected (rejects y.0)), y.1), refl, sym (ok_is ((Acknowledge y.0, beq rejected (rejects y.0)), y.1 ++ more) x h))) e
 
     abbrev by : Bool → Bool → Bool → List Bool → Result (Read A) MmFault
-    by five seven eleven bits = cond five (accept_at bits) (cond seven (reject_at bits) (cond eleven (acknowledge_at bits) (Err UnknownType)))
+    by five seven eleven bits = cond five (accept_at bits) (cond seven (reject_at bits) (cond eleven (acknowledge_at group_down_at bits) (Err UnknownType)))
 
     by_cut : (five seven eleven : Bool) (bits : List Bool) (x : Read A) → by five seven eleven (bits ++ more) ≡ Ok x → Cut back (by five seven eleven bits) x
     by_cut true seven eleven bits x e = accept_cut bits x e
@@ -120,7 +120,7 @@ module _ (more : List Bool) where
     by_cut false false true bits x e = acknowledge_cut bits x e
     by_cut false false false bits x e = absurd cc
 
-    pub down_cut : (bits : List Bool) (x : Read A) → down_at {A = A} (bits ++ more) ≡ Ok x → Cut back (down_at bits) x
+    pub down_cut : (bits : List Bool) (x : Read A) → down_at {A = A} group_down_at (bits ++ more) ≡ Ok x → Cut back (down_at group_down_at bits) x
     unfolding down_at
     down_cut bits x e =
         let kind_of : ℕ × List Bool → Result (Read A) MmFault = λ kind. by (eqb kind.0 5) (eqb kind.0 7) (eqb kind.0 11) kind.1 in
@@ -129,5 +129,5 @@ module _ (more : List Bool) where
 pub missing : {A : Type 0} (p : MmDown A) (bits rest : List Bool) (b : Bool) → SpellsDown p (bits ++ b ∷ rest) → reading_down {A = A} bits ≡ Err Short
 unfolding reading_down
 missing {A} p bits rest b spells =
-    let all : down_at (bits ++ b ∷ rest) ≡ Ok ((p, true), []) = ap down_at (spells.2 ∙ sym (append-nil (down_text spells.1 p))) ∙ down_again p spells.1 [] spells.0 in
-    ap (λ (r : Result (MmDown A × Bool) MmFault). r >>= λ read. needs read.1 >>= λ said. Ok read.0) (whole_missing (down_at bits) (p, true) b rest (down_cut (b ∷ rest) bits ((p, true), []) all))
+    let all : down_at group_down_at (bits ++ b ∷ rest) ≡ Ok ((p, true), []) = ap (down_at group_down_at) (spells.2 ∙ sym (append-nil (down_text spells.1 p))) ∙ down_again p spells.1 [] spells.0 in
+    ap (λ (r : Result (MmDown A × Bool) MmFault). r >>= λ read. needs read.1 >>= λ said. Ok read.0) (whole_missing (down_at group_down_at bits) (p, true) b rest (down_cut (b ∷ rest) bits ((p, true), []) all))

@@ -49,6 +49,10 @@ abbrev pub read_inside : {X : Type 0} → Result X MmFault → Result X MmFault
 read_inside (Ok x) = Ok x
 read_inside (Err f) = Err (inside f)
 
+-- a group that is read, and there is no memory to keep it
+abbrev pub unkept : {T : Type 0} → (List Bool → Result (T × List Bool) MmFault) → List Bool → Result (T × List Bool) MmFault
+unkept group_at bits = group_at bits >>= λ group. Err fault.NoMemory
+
 -- Groups one after the other, each read by this function.
 module _ {T : Type 0} (group_at : List Bool → Result (T × List Bool) MmFault) where
   unfoldable pub groups_at : ℕ → List Bool → Result (List T × List Bool) MmFault
