@@ -22,6 +22,10 @@ cut_bind {X} {Y} ex ey r s f g z first second h =
       | inr found ↦ subst (λ (q : Result Y MmFault). Cut ey q z) (sym (ap (λ (q : Result X MmFault). q >>= f) found.1)) (second found.0 found.1 (ap g (sym found.2) ∙ a.2))
     ]
 
+-- a step that reads no bits
+pub same_bind : {X Y : Type 0} (ey : Y → Y) (r : Result X MmFault) (f g : X → Result Y MmFault) (z : Y) → ((y : X) → r ≡ Ok y → g y ≡ Ok z → Cut ey (f y) z) → (r >>= g) ≡ Ok z → Cut ey (r >>= f) z
+same_bind ey r f g z = cut_bind (λ x. x) ey r r f g z (λ x k. inr (x, k, refl))
+
 module _ (more : List Bool) where
   abbrev pub on : List Bool → List Bool
   on rest = rest ++ more

@@ -5,6 +5,7 @@ use Rattle.std.proofs.lemmas.List.{append-nil}
 use Rattle.mm_pdus.specs.declared.fault.MmFault.{MmFault}
 use Rattle.mm_pdus.specs.declared.fault.MmFault.TheVariants.{Short, UnknownType}
 use Rattle.mm_pdus.specs.declared.update.AcceptType.{AcceptType}
+use Rattle.mm_pdus.specs.declared.update.LocationUpdateType.{LocationUpdateType}
 use Rattle.mm_pdus.specs.declared.group.GroupDown.{GroupDown}
 use Rattle.mm_pdus.specs.declared.downlink.MmDown.{MmDown}
 use Rattle.mm_pdus.specs.declared.downlink.MmDown.TheVariants.{Accept, Reject, Acknowledge}
@@ -14,12 +15,8 @@ use Rattle.mm_pdus.specs.Reading.{◌>>=◌, known, needs, bit_at, clear_at, fie
 use Rattle.mm_pdus.specs.GroupReading.{group_down_at, body_at}
 use Rattle.mm_pdus.specs.DownlinkReading.{one_element_at, answers_at, accept_at, reject_at, acknowledge_at, down_at, reading_down}
 use Rattle.mm_pdus.proofs.Steps.{ok_is}
-use Rattle.mm_pdus.proofs.CutLaws.{Cut, cut_bind, on, value_on, field_cut, piece_cut, bit_cut, clear_cut, whole_missing}
+use Rattle.mm_pdus.proofs.CutLaws.{Cut, cut_bind, same_bind, on, value_on, field_cut, piece_cut, bit_cut, clear_cut, whole_missing}
 use Rattle.mm_pdus.proofs.DownlinkLaws.{down_again}
-
--- a step that reads no bits
-same_bind : {X Y : Type 0} (ey : Y → Y) (r : Result X MmFault) (f g : X → Result Y MmFault) (z : Y) → ((y : X) → r ≡ Ok y → g y ≡ Ok z → Cut ey (f y) z) → (r >>= g) ≡ Ok z → Cut ey (r >>= f) z
-same_bind ey r f g z = cut_bind (λ x. x) ey r r f g z (λ x k. inr (x, k, refl))
 
 module _ (more : List Bool) where
   -- ---- the groups of an acknowledgement
@@ -42,7 +39,7 @@ module _ (more : List Bool) where
   abbrev there_at : Bool × List Bool → Answers
   there_at m = needs m.0 >>= λ there. field_at 4 m.1 >>= named_at
 
-  one_element_cut : (bits : List Bool) (x : List GroupDown × List Bool) → one_element_at (bits ++ more) ≡ Ok x → Cut (value_on more) (one_element_at bits) x
+  one_element_cut : (bits : List Bool) (x : List GroupDown × List Bool) → one_element_at group_down_at (bits ++ more) ≡ Ok x → Cut (value_on more) (one_element_at group_down_at bits) x
   unfolding one_element_at
   one_element_cut bits x e =
       let back : List GroupDown × List Bool → List GroupDown × List Bool = value_on more in
@@ -58,13 +55,13 @@ module _ (more : List Bool) where
       inr ((items, y), refl, sym (ok_is (items, y ++ more) x h))) h) h) h) h) h) h) h) h) e
 
   abbrev some_at : Bool × List Bool → Answers
-  some_at m = cond m.0 (one_element_at m.1) (Ok ([], m.1))
+  some_at m = cond m.0 (one_element_at group_down_at m.1) (Ok ([], m.1))
 
   some_cut : (b : Bool) (bits : List Bool) (x : List GroupDown × List Bool) → some_at (b, bits ++ more) ≡ Ok x → Cut (value_on more) (some_at (b, bits)) x
   some_cut true bits x e = one_element_cut bits x e
   some_cut false bits x e = inr (([], bits), refl, sym (ok_is ([], bits ++ more) x e))
 
-  answers_cut : (bits : List Bool) (x : List GroupDown × List Bool) → answers_at (bits ++ more) ≡ Ok x → Cut (value_on more) (answers_at bits) x
+  answers_cut : (bits : List Bool) (x : List GroupDown × List Bool) → answers_at group_down_at (bits ++ more) ≡ Ok x → Cut (value_on more) (answers_at group_down_at bits) x
   unfolding answers_at
   answers_cut bits x e = cut_bind (value_on more) (value_on more) (bit_at bits) (bit_at (bits ++ more)) some_at some_at x (bit_cut more bits) (λ m is h. some_cut m.0 m.1 x h) e
 
@@ -80,38 +77,42 @@ module _ (more : List Bool) where
     accept_cut : (bits : List Bool) (x : Read A) → accept_at {A = A} (bits ++ more) ≡ Ok x → Cut back (accept_at bits) x
     unfolding accept_at
     accept_cut bits x e =
-        let third : AcceptType → List Bool → Result (Read A) MmFault = λ update rest. Ok ((Accept update, true), rest) in
-        let second : List Bool → AcceptType → Result (Read A) MmFault = λ bits update. clear_at bits >>= third update in
-        let first : ℕ × List Bool → Result (Read A) MmFault = λ n. known (accept_of (update_of n.0)) >>= second n.1 in
+        let fourth : AcceptType → List Bool → Result (Read A) MmFault = λ accept rest. Ok ((Accept accept, true), rest) in
+        let third : List Bool → AcceptType → Result (Read A) MmFault = λ bits accept. clear_at bits >>= fourth accept in
+        let second : List Bool → LocationUpdateType → Result (Read A) MmFault = λ bits update. known (accept_of update) >>= third bits in
+        let first : ℕ × List Bool → Result (Read A) MmFault = λ n. known (update_of n.0) >>= second n.1 in
         cut_bind (value_on more) back (field_at 3 bits) (field_at 3 (bits ++ more)) first first x (field_cut more 3 bits) (λ n is h.
-        same_bind back (known (accept_of (update_of n.0))) (second n.1) (second (n.1 ++ more)) x (λ a is h.
-        cut_bind (on more) back (clear_at n.1) (clear_at (n.1 ++ more)) (third a) (third a) x (clear_cut more n.1) (λ y is h.
-        inr (((Accept a, true), y), refl, sym (ok_is ((Accept a, true), y ++ more) x h))) h) h) e
+        same_bind back (known (update_of n.0)) (second n.1) (second (n.1 ++ more)) x (λ u is h.
+        same_bind back (known (accept_of u)) (third n.1) (third (n.1 ++ more)) x (λ a is h.
+        cut_bind (on more) back (clear_at n.1) (clear_at (n.1 ++ more)) (fourth a) (fourth a) x (clear_cut more n.1) (λ y is h.
+        inr (((Accept a, true), y), refl, sym (ok_is ((Accept a, true), y ++ more) x h))) h) h) h) e
 
     reject_cut : (bits : List Bool) (x : Read A) → reject_at {A = A} (bits ++ more) ≡ Ok x → Cut back (reject_at bits) x
     unfolding reject_at
     reject_cut bits x e =
         let third : MmDown A → List Bool → Result (Read A) MmFault = λ pdu rest. clear_at rest >>= λ rest. Ok ((pdu, true), rest) in
-        let second : ℕ → ℕ × List Bool → Result (Read A) MmFault = λ n cause. clear_at cause.1 >>= third (Reject (update_of n) cause.0) in
-        let first : ℕ × List Bool → Result (Read A) MmFault = λ n. field_at 5 n.1 >>= second n.0 in
+        let second : LocationUpdateType → ℕ × List Bool → Result (Read A) MmFault = λ update cause. clear_at cause.1 >>= third (Reject update cause.0) in
+        let named : List Bool → LocationUpdateType → Result (Read A) MmFault = λ bits update. field_at 5 bits >>= second update in
+        let first : ℕ × List Bool → Result (Read A) MmFault = λ n. known (update_of n.0) >>= named n.1 in
         cut_bind (value_on more) back (field_at 3 bits) (field_at 3 (bits ++ more)) first first x (field_cut more 3 bits) (λ n is h.
-        cut_bind (value_on more) back (field_at 5 n.1) (field_at 5 (n.1 ++ more)) (second n.0) (second n.0) x (field_cut more 5 n.1) (λ c is h.
-        let pdu = Reject (update_of n.0) c.0 in
+        same_bind back (known (update_of n.0)) (named n.1) (named (n.1 ++ more)) x (λ u is h.
+        cut_bind (value_on more) back (field_at 5 n.1) (field_at 5 (n.1 ++ more)) (second u) (second u) x (field_cut more 5 n.1) (λ c is h.
+        let pdu = Reject u c.0 in
         cut_bind (on more) back (clear_at c.1) (clear_at (c.1 ++ more)) (third pdu) (third pdu) x (clear_cut more c.1) (λ y is h.
         cut_bind (on more) back (clear_at y) (clear_at (y ++ more)) (λ rest. Ok ((pdu, true), rest)) (λ rest. Ok ((pdu, true), rest)) x (clear_cut more y) (λ z is h.
-        inr (((pdu, true), z), refl, sym (ok_is ((pdu, true), z ++ more) x h))) h) h) h) e
+        inr (((pdu, true), z), refl, sym (ok_is ((pdu, true), z ++ more) x h))) h) h) h) h) e
 
-    acknowledge_cut : (bits : List Bool) (x : Read A) → acknowledge_at {A = A} (bits ++ more) ≡ Ok x → Cut back (acknowledge_at bits) x
+    acknowledge_cut : (bits : List Bool) (x : Read A) → acknowledge_at {A = A} group_down_at (bits ++ more) ≡ Ok x → Cut back (acknowledge_at group_down_at bits) x
     unfolding acknowledge_at
     acknowledge_cut [] x e = inl refl
     acknowledge_cut (rejected ∷ []) x e = inl refl
     acknowledge_cut (rejected ∷ reserved ∷ bits) x e =
         let made : List GroupDown × List Bool → Result (Read A) MmFault = λ items. Ok ((Acknowledge items.0, beq rejected (rejects items.0)), items.1) in
-        cut_bind (value_on more) back (answers_at bits) (answers_at (bits ++ more)) made made x (answers_cut bits) (λ y is h.
+        cut_bind (value_on more) back (answers_at group_down_at bits) (answers_at group_down_at (bits ++ more)) made made x (answers_cut bits) (λ y is h.
         inr (((Acknowledge y.0, beq rejected (rejects y.0)), y.1), refl, sym (ok_is ((Acknowledge y.0, beq rejected (rejects y.0)), y.1 ++ more) x h))) e
 
     abbrev by : Bool → Bool → Bool → List Bool → Result (Read A) MmFault
-    by five seven eleven bits = cond five (accept_at bits) (cond seven (reject_at bits) (cond eleven (acknowledge_at bits) (Err UnknownType)))
+    by five seven eleven bits = cond five (accept_at bits) (cond seven (reject_at bits) (cond eleven (acknowledge_at group_down_at bits) (Err UnknownType)))
 
     by_cut : (five seven eleven : Bool) (bits : List Bool) (x : Read A) → by five seven eleven (bits ++ more) ≡ Ok x → Cut back (by five seven eleven bits) x
     by_cut true seven eleven bits x e = accept_cut bits x e
@@ -119,7 +120,7 @@ module _ (more : List Bool) where
     by_cut false false true bits x e = acknowledge_cut bits x e
     by_cut false false false bits x e = absurd cc
 
-    pub down_cut : (bits : List Bool) (x : Read A) → down_at {A = A} (bits ++ more) ≡ Ok x → Cut back (down_at bits) x
+    pub down_cut : (bits : List Bool) (x : Read A) → down_at {A = A} group_down_at (bits ++ more) ≡ Ok x → Cut back (down_at group_down_at bits) x
     unfolding down_at
     down_cut bits x e =
         let kind_of : ℕ × List Bool → Result (Read A) MmFault = λ kind. by (eqb kind.0 5) (eqb kind.0 7) (eqb kind.0 11) kind.1 in
@@ -128,5 +129,5 @@ module _ (more : List Bool) where
 pub missing : {A : Type 0} (p : MmDown A) (bits rest : List Bool) (b : Bool) → SpellsDown p (bits ++ b ∷ rest) → reading_down {A = A} bits ≡ Err Short
 unfolding reading_down
 missing {A} p bits rest b spells =
-    let all : down_at (bits ++ b ∷ rest) ≡ Ok ((p, true), []) = ap down_at (spells.2 ∙ sym (append-nil (down_text spells.1 p))) ∙ down_again p spells.1 [] spells.0 in
-    ap (λ (r : Result (MmDown A × Bool) MmFault). r >>= λ read. needs read.1 >>= λ said. Ok read.0) (whole_missing (down_at bits) (p, true) b rest (down_cut (b ∷ rest) bits ((p, true), []) all))
+    let all : down_at group_down_at (bits ++ b ∷ rest) ≡ Ok ((p, true), []) = ap (down_at group_down_at) (spells.2 ∙ sym (append-nil (down_text spells.1 p))) ∙ down_again p spells.1 [] spells.0 in
+    ap (λ (r : Result (MmDown A × Bool) MmFault). r >>= λ read. needs read.1 >>= λ said. Ok read.0) (whole_missing (down_at group_down_at bits) (p, true) b rest (down_cut (b ∷ rest) bits ((p, true), []) all))

@@ -18,7 +18,7 @@ use Rattle.mm_pdus.specs.Groups.{address, IsAddress, group_up, IsGroupUp, group_
 use Rattle.mm_pdus.specs.Reading.{◌>>=◌, known, field_at}
 use Rattle.mm_pdus.specs.GroupReading.{address_at, group_up_at, group_down_at, read_inside, groups_at, counted_at, body_at}
 use Rattle.mm_pdus.proofs.Steps.{bind_ok, guard_ended, ok_is, chosen, join, err_ok}
-use Rattle.mm_pdus.proofs.ValueLaws.{leave_number-leave_of, leave_of-leave_number, leave_number-lt, detach_number-detach_of, detach_of-detach_number, detach_number-lt, lifetime_number-lt, lifetime_named, lifetime_of-lifetime_number}
+use Rattle.mm_pdus.proofs.ValueLaws.{leave_named, leave_of-leave_number, leave_number-lt, detach_named, detach_of-detach_number, detach_number-lt, lifetime_number-lt, lifetime_named, lifetime_of-lifetime_number}
 use Rattle.mm_pdus.proofs.FieldLaws.{field_takes, field_again, known_takes}
 
 -- an identity's number has the three that it was made of
@@ -94,12 +94,13 @@ group_up_takes : (bits : List Bool) (g : GroupUp) (rest : List Bool) → group_u
 unfolding group_up_at
 group_up_takes [] g rest h = absurd cc
 group_up_takes (true ∷ bits) g rest h =
-    let r = bind_ok (field_at 2 bits) (λ reason. address_at reason.1 >>= λ a. Ok (up.Leave (leave_of reason.0) a.0, a.1)) (g, rest) h in
-    let a = bind_ok (address_at r.0.1) (λ a. Ok (up.Leave (leave_of r.0.0) a.0, a.1)) (g, rest) r.2 in
+    let r = bind_ok (field_at 2 bits) (λ number. known (leave_of number.0) >>= λ reason. address_at number.1 >>= λ a. Ok (up.Leave reason a.0, a.1)) (g, rest) h in
+    let k = bind_ok (known (leave_of r.0.0)) (λ reason. address_at r.0.1 >>= λ a. Ok (up.Leave reason a.0, a.1)) (g, rest) r.2 in
+    let a = bind_ok (address_at r.0.1) (λ a. Ok (up.Leave k.0 a.0, a.1)) (g, rest) k.2 in
     let t0 = field_takes 2 bits r.0.0 r.0.1 r.1 in
     let t1 = address_takes r.0.1 a.0.0 a.0.1 a.1 in
-    let reason = leave_of r.0.0 in
-    let code : num 2 r.0.0 ≡ num 2 (leave_number reason) = ap (num 2) (sym (leave_number-leave_of r.0.0 t0.1)) in
+    let reason = k.0 in
+    let code : num 2 r.0.0 ≡ num 2 (leave_number reason) = ap (num 2) (leave_named r.0.0 reason (known_takes (leave_of r.0.0) reason k.1)) in
     let is : true ∷ bits ≡ group_up (up.Leave reason a.0.0) ++ a.0.1 = ap (λ (t : List Bool). true ∷ t) (join bits (num 2 (leave_number reason)) r.0.1 (address a.0.0) a.0.1 (t0.0 ∙ ap (λ (t : List Bool). t ++ r.0.1) code) t1.0) in
     subst (λ (x : GroupUp × List Bool). (true ∷ bits ≡ group_up x.0 ++ x.1) × IsGroupUp x.0) (ok_is (up.Leave reason a.0.0, a.0.1) (g, rest) a.2) (is, t1.1)
 group_up_takes (false ∷ bits) g rest h =
@@ -127,12 +128,13 @@ group_down_takes : (bits : List Bool) (g : GroupDown) (rest : List Bool) → gro
 unfolding group_down_at
 group_down_takes [] g rest h = absurd cc
 group_down_takes (true ∷ bits) g rest h =
-    let r = bind_ok (field_at 2 bits) (λ reason. address_at reason.1 >>= λ a. Ok (down.Detach (detach_of reason.0) a.0, a.1)) (g, rest) h in
-    let a = bind_ok (address_at r.0.1) (λ a. Ok (down.Detach (detach_of r.0.0) a.0, a.1)) (g, rest) r.2 in
+    let r = bind_ok (field_at 2 bits) (λ number. known (detach_of number.0) >>= λ reason. address_at number.1 >>= λ a. Ok (down.Detach reason a.0, a.1)) (g, rest) h in
+    let k = bind_ok (known (detach_of r.0.0)) (λ reason. address_at r.0.1 >>= λ a. Ok (down.Detach reason a.0, a.1)) (g, rest) r.2 in
+    let a = bind_ok (address_at r.0.1) (λ a. Ok (down.Detach k.0 a.0, a.1)) (g, rest) k.2 in
     let t0 = field_takes 2 bits r.0.0 r.0.1 r.1 in
     let t1 = address_takes r.0.1 a.0.0 a.0.1 a.1 in
-    let reason = detach_of r.0.0 in
-    let code : num 2 r.0.0 ≡ num 2 (detach_number reason) = ap (num 2) (sym (detach_number-detach_of r.0.0 t0.1)) in
+    let reason = k.0 in
+    let code : num 2 r.0.0 ≡ num 2 (detach_number reason) = ap (num 2) (detach_named r.0.0 reason (known_takes (detach_of r.0.0) reason k.1)) in
     let is : true ∷ bits ≡ group_down (down.Detach reason a.0.0) ++ a.0.1 = ap (λ (t : List Bool). true ∷ t) (join bits (num 2 (detach_number reason)) r.0.1 (address a.0.0) a.0.1 (t0.0 ∙ ap (λ (t : List Bool). t ++ r.0.1) code) t1.0) in
     subst (λ (x : GroupDown × List Bool). (true ∷ bits ≡ group_down x.0 ++ x.1) × IsGroupDown x.0) (ok_is (down.Detach reason a.0.0, a.0.1) (g, rest) a.2) (is, t1.1)
 group_down_takes (false ∷ bits) g rest h =

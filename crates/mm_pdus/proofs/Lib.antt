@@ -6,6 +6,7 @@ pub mod ValueLaws
 pub mod FieldLaws
 pub mod ExtensionLaws
 pub mod GroupLaws
+pub mod Unkept
 pub mod CutLaws
 pub mod UplinkLaws
 pub mod UplinkCutLaws

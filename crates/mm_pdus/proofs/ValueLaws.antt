@@ -15,18 +15,21 @@ use Rattle.mm_pdus.specs.declared.group.GroupMode.{GroupMode}
 use Rattle.mm_pdus.specs.declared.group.GroupMode.TheVariants.{Amendment, DetachAllFirst}
 use Rattle.mm_pdus.specs.Values.{update_number, update_of, accept_of, update_accepted, lifetime_number, lifetime_of, leave_number, leave_of, detach_number, detach_of, mode_bit, mode_of}
 
-pub update_number-update_of : (n : ℕ) → n < 8 → update_number (update_of n) ≡ n
-update_number-update_of zero lt = refl
-update_number-update_of (suc zero) lt = refl
-update_number-update_of (suc (suc zero)) lt = refl
-update_number-update_of (suc (suc (suc zero))) lt = refl
-update_number-update_of (suc (suc (suc (suc zero)))) lt = refl
-update_number-update_of (suc (suc (suc (suc (suc zero))))) lt = refl
-update_number-update_of (suc (suc (suc (suc (suc (suc zero)))))) lt = refl
-update_number-update_of (suc (suc (suc (suc (suc (suc (suc zero))))))) lt = refl
-update_number-update_of (suc (suc (suc (suc (suc (suc (suc (suc n)))))))) lt = absurd (omega arith)
+some_is : {A : Type 0} (a b : A) → ◌≡◌ {A = Option A} (Some a) (Some b) → a ≡ b
+some_is a b e = cc
 
-pub update_of-update_number : (u : LocationUpdateType) → update_of (update_number u) ≡ u
+pub update_named : (n : ℕ) (u : LocationUpdateType) → update_of n ≡ Some u → n ≡ update_number u
+update_named zero u e = ap update_number (some_is Roaming u e)
+update_named (suc zero) u e = ap update_number (some_is Migrating u e)
+update_named (suc (suc zero)) u e = ap update_number (some_is Periodic u e)
+update_named (suc (suc (suc zero))) u e = ap update_number (some_is ItsiAttach u e)
+update_named (suc (suc (suc (suc zero)))) u e = ap update_number (some_is ServiceRestorationRoaming u e)
+update_named (suc (suc (suc (suc (suc zero))))) u e = ap update_number (some_is ServiceRestorationMigrating u e)
+update_named (suc (suc (suc (suc (suc (suc zero)))))) u e = ap update_number (some_is Demand u e)
+update_named (suc (suc (suc (suc (suc (suc (suc zero))))))) u e = ap update_number (some_is DisabledMs u e)
+update_named (suc (suc (suc (suc (suc (suc (suc (suc n)))))))) u e = absurd cc
+
+pub update_of-update_number : (u : LocationUpdateType) → update_of (update_number u) ≡ Some u
 update_of-update_number Roaming = refl
 update_of-update_number Migrating = refl
 update_of-update_number Periodic = refl
@@ -53,9 +56,6 @@ accept_of-update_accepted accept.ItsiAttach = refl
 accept_of-update_accepted accept.ServiceRestorationRoaming = refl
 accept_of-update_accepted accept.Demand = refl
 
-some_is : (a b : AcceptType) → ◌≡◌ {A = Option AcceptType} (Some a) (Some b) → a ≡ b
-some_is a b e = cc
-
 -- an update is accepted as itself
 pub update_accepted-accept_of : (u : LocationUpdateType) (a : AcceptType) → accept_of u ≡ Some a → update_accepted a ≡ u
 update_accepted-accept_of Roaming a e = ap update_accepted (sym (some_is accept.Roaming a e))
@@ -73,18 +73,15 @@ lifetime_of-lifetime_number NextItsiAttach = refl
 lifetime_of-lifetime_number NotAllowedAtNextItsiAttach = refl
 lifetime_of-lifetime_number NextLocationUpdate = refl
 
-pub update_numbered : (n : ℕ) → n < 8 → (u : LocationUpdateType) → (update_of n ≡ u) ↔ (n ≡ update_number u)
-update_numbered n lt u = (λ e. sym (update_number-update_of n lt) ∙ ap update_number e, λ e. ap update_of e ∙ update_of-update_number u)
-
-lifetime_is : (a b : Lifetime) → ◌≡◌ {A = Option Lifetime} (Some a) (Some b) → a ≡ b
-lifetime_is a b e = cc
-
 pub lifetime_named : (n : ℕ) (l : Lifetime) → lifetime_of n ≡ Some l → n ≡ lifetime_number l
-lifetime_named zero l e = ap lifetime_number (lifetime_is NotNeeded l e)
-lifetime_named (suc zero) l e = ap lifetime_number (lifetime_is NextItsiAttach l e)
-lifetime_named (suc (suc zero)) l e = ap lifetime_number (lifetime_is NotAllowedAtNextItsiAttach l e)
-lifetime_named (suc (suc (suc zero))) l e = ap lifetime_number (lifetime_is NextLocationUpdate l e)
+lifetime_named zero l e = ap lifetime_number (some_is NotNeeded l e)
+lifetime_named (suc zero) l e = ap lifetime_number (some_is NextItsiAttach l e)
+lifetime_named (suc (suc zero)) l e = ap lifetime_number (some_is NotAllowedAtNextItsiAttach l e)
+lifetime_named (suc (suc (suc zero))) l e = ap lifetime_number (some_is NextLocationUpdate l e)
 lifetime_named (suc (suc (suc (suc n)))) l e = absurd cc
+
+pub update_numbered : (n : ℕ) (u : LocationUpdateType) → (update_of n ≡ Some u) ↔ (n ≡ update_number u)
+update_numbered n u = (update_named n u, λ e. ap update_of e ∙ update_of-update_number u)
 
 pub lifetime_numbered : (n : ℕ) (l : Lifetime) → (lifetime_of n ≡ Some l) ↔ (n ≡ lifetime_number l)
 lifetime_numbered n l = (lifetime_named n l, λ e. ap lifetime_of e ∙ lifetime_of-lifetime_number l)
@@ -94,14 +91,14 @@ accepted_as_asked u a = (λ e. sym (update_accepted-accept_of u a e), λ e. ap a
 
 -- ---- why a group is detached, and the mode
 
-pub leave_number-leave_of : (n : ℕ) → n < 4 → leave_number (leave_of n) ≡ n
-leave_number-leave_of zero lt = refl
-leave_number-leave_of (suc zero) lt = refl
-leave_number-leave_of (suc (suc zero)) lt = refl
-leave_number-leave_of (suc (suc (suc zero))) lt = refl
-leave_number-leave_of (suc (suc (suc (suc n)))) lt = absurd (omega arith)
+pub leave_named : (n : ℕ) (r : LeaveReason) → leave_of n ≡ Some r → n ≡ leave_number r
+leave_named zero r e = ap leave_number (some_is leave.UnknownGroup r e)
+leave_named (suc zero) r e = ap leave_number (some_is leave.NoValidEncryptionKey r e)
+leave_named (suc (suc zero)) r e = ap leave_number (some_is leave.UserInitiated r e)
+leave_named (suc (suc (suc zero))) r e = ap leave_number (some_is leave.CapacityExceeded r e)
+leave_named (suc (suc (suc (suc n)))) r e = absurd cc
 
-pub leave_of-leave_number : (r : LeaveReason) → leave_of (leave_number r) ≡ r
+pub leave_of-leave_number : (r : LeaveReason) → leave_of (leave_number r) ≡ Some r
 leave_of-leave_number leave.UnknownGroup = refl
 leave_of-leave_number leave.NoValidEncryptionKey = refl
 leave_of-leave_number leave.UserInitiated = refl
@@ -113,14 +110,14 @@ leave_number-lt leave.NoValidEncryptionKey = omega arith
 leave_number-lt leave.UserInitiated = omega arith
 leave_number-lt leave.CapacityExceeded = omega arith
 
-pub detach_number-detach_of : (n : ℕ) → n < 4 → detach_number (detach_of n) ≡ n
-detach_number-detach_of zero lt = refl
-detach_number-detach_of (suc zero) lt = refl
-detach_number-detach_of (suc (suc zero)) lt = refl
-detach_number-detach_of (suc (suc (suc zero))) lt = refl
-detach_number-detach_of (suc (suc (suc (suc n)))) lt = absurd (omega arith)
+pub detach_named : (n : ℕ) (r : DetachReason) → detach_of n ≡ Some r → n ≡ detach_number r
+detach_named zero r e = ap detach_number (some_is detach.UnknownGroup r e)
+detach_named (suc zero) r e = ap detach_number (some_is detach.TemporaryFirst r e)
+detach_named (suc (suc zero)) r e = ap detach_number (some_is detach.TemporarySecond r e)
+detach_named (suc (suc (suc zero))) r e = ap detach_number (some_is detach.Permanent r e)
+detach_named (suc (suc (suc (suc n)))) r e = absurd cc
 
-pub detach_of-detach_number : (r : DetachReason) → detach_of (detach_number r) ≡ r
+pub detach_of-detach_number : (r : DetachReason) → detach_of (detach_number r) ≡ Some r
 detach_of-detach_number detach.UnknownGroup = refl
 detach_of-detach_number detach.TemporaryFirst = refl
 detach_of-detach_number detach.TemporarySecond = refl
@@ -132,11 +129,11 @@ detach_number-lt detach.TemporaryFirst = omega arith
 detach_number-lt detach.TemporarySecond = omega arith
 detach_number-lt detach.Permanent = omega arith
 
-pub leave_numbered : (n : ℕ) → n < 4 → (r : LeaveReason) → (leave_of n ≡ r) ↔ (n ≡ leave_number r)
-leave_numbered n lt r = (λ e. sym (leave_number-leave_of n lt) ∙ ap leave_number e, λ e. ap leave_of e ∙ leave_of-leave_number r)
+pub leave_numbered : (n : ℕ) (r : LeaveReason) → (leave_of n ≡ Some r) ↔ (n ≡ leave_number r)
+leave_numbered n r = (leave_named n r, λ e. ap leave_of e ∙ leave_of-leave_number r)
 
-pub detach_numbered : (n : ℕ) → n < 4 → (r : DetachReason) → (detach_of n ≡ r) ↔ (n ≡ detach_number r)
-detach_numbered n lt r = (λ e. sym (detach_number-detach_of n lt) ∙ ap detach_number e, λ e. ap detach_of e ∙ detach_of-detach_number r)
+pub detach_numbered : (n : ℕ) (r : DetachReason) → (detach_of n ≡ Some r) ↔ (n ≡ detach_number r)
+detach_numbered n r = (detach_named n r, λ e. ap detach_of e ∙ detach_of-detach_number r)
 
 pub mode_bit-mode_of : (b : Bool) → mode_bit (mode_of b) ≡ b
 mode_bit-mode_of true = refl

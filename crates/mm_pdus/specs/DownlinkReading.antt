@@ -10,26 +10,28 @@ use Rattle.mm_pdus.specs.declared.downlink.MmDown.TheVariants.{Accept, Reject, A
 use Rattle.mm_pdus.specs.Values.{update_of, accept_of}
 use Rattle.mm_pdus.specs.Downlink.{identity_downlink, rejects}
 use Rattle.mm_pdus.specs.Reading.{◌>>=◌, known, needs, bit_at, clear_at, field_at, piece_at, whole}
-use Rattle.mm_pdus.specs.GroupReading.{group_down_at, body_at}
+use Rattle.mm_pdus.specs.GroupReading.{group_down_at, unkept, body_at}
 
--- the one element with groups, at least one, and no element behind it
-unfoldable pub one_element_at : List Bool → Result (List GroupDown × List Bool) MmFault
-one_element_at bits = do
-  more ← bit_at bits
-  there ← needs more.0
-  identifier ← field_at 4 more.1
-  known ← needs (identifier.0 == identity_downlink)
-  len ← field_at 11 identifier.1
-  body ← piece_at len.0 len.1
-  items ← body_at group_down_at 0 body.0
-  some ← needs (nat_lt 0 (length items))
-  rest ← clear_at body.1
-  Ok (items, rest)
+-- Each group is read by this function.
+module _ (group_at : List Bool → Result (GroupDown × List Bool) MmFault) where
+  -- the one element with groups, at least one, and no element behind it
+  unfoldable pub one_element_at : List Bool → Result (List GroupDown × List Bool) MmFault
+  one_element_at bits = do
+    more ← bit_at bits
+    there ← needs more.0
+    identifier ← field_at 4 more.1
+    known ← needs (identifier.0 == identity_downlink)
+    len ← field_at 11 identifier.1
+    body ← piece_at len.0 len.1
+    items ← body_at group_at 0 body.0
+    some ← needs (nat_lt 0 (length items))
+    rest ← clear_at body.1
+    Ok (items, rest)
 
-unfoldable pub answers_at : List Bool → Result (List GroupDown × List Bool) MmFault
-answers_at bits = do
-  more ← bit_at bits
-  if more.0 then one_element_at more.1 else Ok ([], more.1)
+  unfoldable pub answers_at : List Bool → Result (List GroupDown × List Bool) MmFault
+  answers_at bits = do
+    more ← bit_at bits
+    if more.0 then one_element_at more.1 else Ok ([], more.1)
 
 -- whether the PDU type is D-ATTACH/DETACH GROUP IDENTITY ACKNOWLEDGEMENT, whose groups need memory
 abbrev pub names_groups : List Bool → Bool
@@ -41,35 +43,45 @@ module _ {A : Type 0} where
   unfoldable pub accept_at : List Bool → Result ((MmDown A × Bool) × List Bool) MmFault
   accept_at bits = do
     number ← field_at 3 bits
-    update ← known (accept_of (update_of number.0))
+    update ← known (update_of number.0)
+    accept ← known (accept_of update)
     rest ← clear_at number.1
-    Ok ((Accept update, true), rest)
+    Ok ((Accept accept, true), rest)
 
   -- behind the cause cipher control and the O-bit
   unfoldable pub reject_at : List Bool → Result ((MmDown A × Bool) × List Bool) MmFault
   reject_at bits = do
-    update ← field_at 3 bits
-    cause ← field_at 5 update.1
+    number ← field_at 3 bits
+    update ← known (update_of number.0)
+    cause ← field_at 5 number.1
     rest ← clear_at cause.1
     rest ← clear_at rest
-    Ok ((Reject (update_of update.0) cause.0, true), rest)
+    Ok ((Reject update cause.0, true), rest)
 
-  -- the reserved bit is ignored
-  unfoldable pub acknowledge_at : List Bool → Result ((MmDown A × Bool) × List Bool) MmFault
-  acknowledge_at bits = do
-    rejected ← bit_at bits
-    reserved ← bit_at rejected.1
-    items ← answers_at reserved.1
-    Ok ((Acknowledge items.0, beq rejected.0 (rejects items.0)), items.1)
+  module _ (group_at : List Bool → Result (GroupDown × List Bool) MmFault) where
+    -- the reserved bit is ignored
+    unfoldable pub acknowledge_at : List Bool → Result ((MmDown A × Bool) × List Bool) MmFault
+    acknowledge_at bits = do
+      rejected ← bit_at bits
+      reserved ← bit_at rejected.1
+      items ← answers_at group_at reserved.1
+      Ok ((Acknowledge items.0, beq rejected.0 (rejects items.0)), items.1)
 
-  unfoldable pub down_at : List Bool → Result ((MmDown A × Bool) × List Bool) MmFault
-  down_at bits = do
-    kind ← field_at 4 bits
-    if kind.0 == 5 then accept_at kind.1 else if kind.0 == 7 then reject_at kind.1 else if kind.0 == 11 then acknowledge_at kind.1 else Err UnknownType
+    unfoldable pub down_at : List Bool → Result ((MmDown A × Bool) × List Bool) MmFault
+    down_at bits = do
+      kind ← field_at 4 bits
+      if kind.0 == 5 then accept_at kind.1 else if kind.0 == 7 then reject_at kind.1 else if kind.0 == 11 then acknowledge_at kind.1 else Err UnknownType
 
   -- judged last: whether an acknowledgement says rightly that a group is rejected
-  unfoldable pub reading_down : List Bool → Result (MmDown A) MmFault
-  reading_down bits = do
-    read ← whole (down_at bits)
+  abbrev pub judged : Result (MmDown A × Bool) MmFault → Result (MmDown A) MmFault
+  judged all = do
+    read ← all
     said ← needs read.1
     Ok read.0
+
+  unfoldable pub reading_down : List Bool → Result (MmDown A) MmFault
+  reading_down bits = judged (whole (down_at group_down_at bits))
+
+  -- the same where no group can be kept
+  unfoldable pub unkept_down : List Bool → Result (MmDown A) MmFault
+  unkept_down bits = judged (whole (down_at (unkept group_down_at) bits))

@@ -25,14 +25,14 @@ unfoldable pub group_up_at : List Bool → Result (GroupUp × List Bool) MmFault
 group_up_at bits = do
   leaves ← bit_at bits
   if leaves.0
-      then (field_at 2 leaves.1 >>= λ reason. address_at reason.1 >>= λ a. Ok (up.Leave (leave_of reason.0) a.0, a.1))
+      then (field_at 2 leaves.1 >>= λ number. known (leave_of number.0) >>= λ reason. address_at number.1 >>= λ a. Ok (up.Leave reason a.0, a.1))
       else (field_at 3 leaves.1 >>= λ class. address_at class.1 >>= λ a. Ok (up.Attach class.0 a.0, a.1))
 
 unfoldable pub group_down_at : List Bool → Result (GroupDown × List Bool) MmFault
 group_down_at bits = do
   detached ← bit_at bits
   if detached.0
-      then (field_at 2 detached.1 >>= λ reason. address_at reason.1 >>= λ a. Ok (down.Detach (detach_of reason.0) a.0, a.1))
+      then (field_at 2 detached.1 >>= λ number. known (detach_of number.0) >>= λ reason. address_at number.1 >>= λ a. Ok (down.Detach reason a.0, a.1))
       else (field_at 2 detached.1 >>= λ number. known (lifetime_of number.0) >>= λ lifetime. field_at 3 number.1 >>= λ class. address_at class.1 >>= λ a. Ok (down.Attach lifetime class.0 a.0, a.1))
 
 -- inside an element its length is known, so bits that are missing there are its fault
@@ -48,6 +48,10 @@ inside fault.NoMemory = fault.NoMemory
 abbrev pub read_inside : {X : Type 0} → Result X MmFault → Result X MmFault
 read_inside (Ok x) = Ok x
 read_inside (Err f) = Err (inside f)
+
+-- a group that is read, and there is no memory to keep it
+abbrev pub unkept : {T : Type 0} → (List Bool → Result (T × List Bool) MmFault) → List Bool → Result (T × List Bool) MmFault
+unkept group_at bits = group_at bits >>= λ group. Err fault.NoMemory
 
 -- Groups one after the other, each read by this function.
 module _ {T : Type 0} (group_at : List Bool → Result (T × List Bool) MmFault) where

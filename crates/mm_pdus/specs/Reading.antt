@@ -103,3 +103,8 @@ whole read = read >>= λ p. if length p.1 == 0 then Ok p.0 else Err Trailing
 abbrev pub Gives : {A : Type 0} → Result A MmFault → Result A MmFault → Type 0
 Gives (Ok x) read = read ≡ Ok x
 Gives (Err f) read = (f ≡ NoMemory → ⊥) → read ≡ Err f
+
+-- Want of memory is answered only where it is met when there is no memory at all.
+abbrev pub WantsMemory : {A B : Type 0} → Result A MmFault → Result B MmFault → Type 0
+WantsMemory (Ok x) without = Unit {0}
+WantsMemory (Err f) without = f ≡ NoMemory → without ≡ Err f

@@ -9,17 +9,19 @@ use Rattle.mm_pdus.specs.declared.uplink.MmUp.TheVariants.{Demand, Detach, Group
 use Rattle.mm_pdus.specs.Values.{update_of, mode_of}
 use Rattle.mm_pdus.specs.Syntax.{Element}
 use Rattle.mm_pdus.specs.Uplink.{detach_widths, demand_widths, identity_uplink}
-use Rattle.mm_pdus.specs.Reading.{◌>>=◌, bit_at, field_at, optional_at, extension_at, elements_at, whole}
-use Rattle.mm_pdus.specs.GroupReading.{group_up_at, body_at, behind}
+use Rattle.mm_pdus.specs.Reading.{◌>>=◌, known, bit_at, field_at, optional_at, extension_at, elements_at, whole}
+use Rattle.mm_pdus.specs.GroupReading.{group_up_at, unkept, body_at, behind}
 
--- elements with groups are joined, and other elements are skipped
-abbrev pub join_groups : List GroupUp → Element → Result (List GroupUp) MmFault
-join_groups items e = if e.identifier == identity_uplink then behind items (body_at group_up_at (length items) e.body) else Ok items
+-- Each group is read by this function.
+module _ (group_at : List Bool → Result (GroupUp × List Bool) MmFault) where
+  -- elements with groups are joined, and other elements are skipped
+  abbrev pub join_groups : List GroupUp → Element → Result (List GroupUp) MmFault
+  join_groups items e = if e.identifier == identity_uplink then behind items (body_at group_at (length items) e.body) else Ok items
 
-unfoldable pub all_groups_at : List Bool → Result (List GroupUp × List Bool) MmFault
-all_groups_at bits = do
-  more ← bit_at bits
-  if more.0 then elements_at join_groups (length more.1) [] more.1 else Ok ([], more.1)
+  unfoldable pub all_groups_at : List Bool → Result (List GroupUp × List Bool) MmFault
+  all_groups_at bits = do
+    more ← bit_at bits
+    if more.0 then elements_at join_groups (length more.1) [] more.1 else Ok ([], more.1)
 
 -- whether the PDU type is U-ATTACH/DETACH GROUP IDENTITY, whose groups need memory
 abbrev pub names_groups : List Bool → Bool
@@ -33,23 +35,29 @@ module _ {A : Type 0} where
 
   unfoldable pub demand_at : List Bool → Result (MmUp A × List Bool) MmFault
   demand_at bits = do
-    update ← field_at 3 bits
-    append ← bit_at update.1
+    number ← field_at 3 bits
+    update ← known (update_of number.0)
+    append ← bit_at number.1
     rest ← optional_at 10 append.1
     rest ← extension_at demand_widths rest
-    Ok (Demand (update_of update.0), rest)
+    Ok (Demand update, rest)
 
-  unfoldable pub groups_up_at : List Bool → Result (MmUp A × List Bool) MmFault
-  groups_up_at bits = do
-    report ← bit_at bits
-    mode ← bit_at report.1
-    items ← all_groups_at mode.1
-    Ok (Groups (mode_of mode.0) items.0, items.1)
+  module _ (group_at : List Bool → Result (GroupUp × List Bool) MmFault) where
+    unfoldable pub groups_up_at : List Bool → Result (MmUp A × List Bool) MmFault
+    groups_up_at bits = do
+      report ← bit_at bits
+      mode ← bit_at report.1
+      items ← all_groups_at group_at mode.1
+      Ok (Groups (mode_of mode.0) items.0, items.1)
 
-  unfoldable pub up_at : List Bool → Result (MmUp A × List Bool) MmFault
-  up_at bits = do
-    kind ← field_at 4 bits
-    if kind.0 == 1 then detach_at kind.1 else if kind.0 == 2 then demand_at kind.1 else if kind.0 == 7 then groups_up_at kind.1 else Err UnknownType
+    unfoldable pub up_at : List Bool → Result (MmUp A × List Bool) MmFault
+    up_at bits = do
+      kind ← field_at 4 bits
+      if kind.0 == 1 then detach_at kind.1 else if kind.0 == 2 then demand_at kind.1 else if kind.0 == 7 then groups_up_at kind.1 else Err UnknownType
 
   unfoldable pub reading_up : List Bool → Result (MmUp A) MmFault
-  reading_up bits = whole (up_at bits)
+  reading_up bits = whole (up_at group_up_at bits)
+
+  -- the same where no group can be kept
+  unfoldable pub unkept_up : List Bool → Result (MmUp A) MmFault
+  unkept_up bits = whole (up_at (unkept group_up_at) bits)

@@ -23,16 +23,17 @@ update_number ServiceRestorationMigrating = 5
 update_number Demand = 6
 update_number DisabledMs = 7
 
--- the type that three bits name
-abbrev pub update_of : ℕ → LocationUpdateType
-update_of zero = Roaming
-update_of (suc zero) = Migrating
-update_of (suc (suc zero)) = Periodic
-update_of (suc (suc (suc zero))) = ItsiAttach
-update_of (suc (suc (suc (suc zero)))) = ServiceRestorationRoaming
-update_of (suc (suc (suc (suc (suc zero))))) = ServiceRestorationMigrating
-update_of (suc (suc (suc (suc (suc (suc zero)))))) = Demand
-update_of (suc (suc (suc (suc (suc (suc (suc n))))))) = DisabledMs
+-- the type of a number, if there is one
+abbrev pub update_of : ℕ → Option LocationUpdateType
+update_of zero = Some Roaming
+update_of (suc zero) = Some Migrating
+update_of (suc (suc zero)) = Some Periodic
+update_of (suc (suc (suc zero))) = Some ItsiAttach
+update_of (suc (suc (suc (suc zero)))) = Some ServiceRestorationRoaming
+update_of (suc (suc (suc (suc (suc zero))))) = Some ServiceRestorationMigrating
+update_of (suc (suc (suc (suc (suc (suc zero)))))) = Some Demand
+update_of (suc (suc (suc (suc (suc (suc (suc zero))))))) = Some DisabledMs
+update_of (suc (suc (suc (suc (suc (suc (suc (suc n)))))))) = None
 
 -- The type with which an update is accepted. Migration is not supported, and a disabled radio is not served.
 abbrev pub accept_of : LocationUpdateType → Option AcceptType
@@ -59,6 +60,7 @@ lifetime_number NextItsiAttach = 1
 lifetime_number NotAllowedAtNextItsiAttach = 2
 lifetime_number NextLocationUpdate = 3
 
+-- the lifetime of a number, if there is one
 abbrev pub lifetime_of : ℕ → Option Lifetime
 lifetime_of zero = Some NotNeeded
 lifetime_of (suc zero) = Some NextItsiAttach
@@ -72,12 +74,13 @@ leave_number leave.NoValidEncryptionKey = 1
 leave_number leave.UserInitiated = 2
 leave_number leave.CapacityExceeded = 3
 
--- the reason that two bits name
-abbrev pub leave_of : ℕ → LeaveReason
-leave_of zero = leave.UnknownGroup
-leave_of (suc zero) = leave.NoValidEncryptionKey
-leave_of (suc (suc zero)) = leave.UserInitiated
-leave_of (suc (suc (suc n))) = leave.CapacityExceeded
+-- the reason of a number, if there is one
+abbrev pub leave_of : ℕ → Option LeaveReason
+leave_of zero = Some leave.UnknownGroup
+leave_of (suc zero) = Some leave.NoValidEncryptionKey
+leave_of (suc (suc zero)) = Some leave.UserInitiated
+leave_of (suc (suc (suc zero))) = Some leave.CapacityExceeded
+leave_of (suc (suc (suc (suc n)))) = None
 
 abbrev pub detach_number : DetachReason → ℕ
 detach_number detach.UnknownGroup = 0
@@ -85,12 +88,13 @@ detach_number detach.TemporaryFirst = 1
 detach_number detach.TemporarySecond = 2
 detach_number detach.Permanent = 3
 
--- the reason that two bits name
-abbrev pub detach_of : ℕ → DetachReason
-detach_of zero = detach.UnknownGroup
-detach_of (suc zero) = detach.TemporaryFirst
-detach_of (suc (suc zero)) = detach.TemporarySecond
-detach_of (suc (suc (suc n))) = detach.Permanent
+-- the reason of a number, if there is one
+abbrev pub detach_of : ℕ → Option DetachReason
+detach_of zero = Some detach.UnknownGroup
+detach_of (suc zero) = Some detach.TemporaryFirst
+detach_of (suc (suc zero)) = Some detach.TemporarySecond
+detach_of (suc (suc (suc zero))) = Some detach.Permanent
+detach_of (suc (suc (suc (suc n)))) = None
 
 -- the mode as its bit
 abbrev pub mode_bit : GroupMode → Bool

@@ -1,6 +1,6 @@
 //! Why a group is detached, as a radio and as the network says it.
 
-ghost use Rattle.std.specs.Prelude.{◌≡◌, ◌<◌};
+ghost use Rattle.std.specs.Prelude.{◌≡◌, ◌<◌, Some};
 ghost use Rattle.mm_pdus.specs.Values.{leave_number, leave_of, detach_number, detach_of};
 
 /// Why a radio leaves a group (clause 16.10, group identity detachment uplink).
@@ -20,7 +20,7 @@ impl LeaveReason {
     /// The reason that two bits name.
     pub fn from_number(number: u8) -> LeaveReason
         requires { number < 4 }
-        ensures { result ≡ leave_of number }
+        ensures { leave_of number ≡ Some result }
     {
         match number {
             0 => LeaveReason::UnknownGroup,
@@ -62,7 +62,7 @@ impl DetachReason {
     /// The reason that two bits name.
     pub fn from_number(number: u8) -> DetachReason
         requires { number < 4 }
-        ensures { result ≡ detach_of number }
+        ensures { detach_of number ≡ Some result }
     {
         match number {
             0 => DetachReason::UnknownGroup,

@@ -7,8 +7,9 @@ ghost use Rattle.std.specs.List.{AllByRecursion};
 ghost use Rattle.mm_pdus.specs.Values.{most_groups};
 ghost use Rattle.mm_pdus.specs.Groups.{IsGroupDown};
 ghost use Rattle.mm_pdus.specs.Downlink.{SpellsDown, IsDown, canon_down, rejects, accept_text, reject_text, acknowledge_text};
-ghost use Rattle.mm_pdus.specs.Reading.{with_rest, Gives};
-ghost use Rattle.mm_pdus.specs.DownlinkReading.{names_groups, one_element_at, answers_at, accept_at, reject_at, acknowledge_at, down_at, reading_down};
+ghost use Rattle.mm_pdus.specs.Reading.{with_rest, Gives, WantsMemory};
+ghost use Rattle.mm_pdus.specs.GroupReading.{group_down_at, unkept};
+ghost use Rattle.mm_pdus.specs.DownlinkReading.{names_groups, one_element_at, answers_at, accept_at, reject_at, acknowledge_at, down_at, reading_down, unkept_down};
 
 use crate::fields::{bit, clear_bit, field, need, piece};
 use crate::group_fields::{body_into, put_groups};
@@ -43,8 +44,8 @@ pub enum MmDown<A: Allocator> {
 fn accept<A: Allocator>(reader: &mut BitReader<'_>) -> Result<(MmDown<A>, bool), MmFault>
     ensures { accept_at reader.old ≡ with_rest result reader.new }
 {
-    let number = field(reader, 3)?;
-    let Some(update) = LocationUpdateType::from_number(number as u8).accept_type() else {
+    let update = LocationUpdateType::from_number(field(reader, 3)? as u8);
+    let Some(update) = update.accept_type() else {
         return Err(MmFault::BadElement);
     };
     clear_bit(reader)?; // O-bit
@@ -55,15 +56,11 @@ fn accept<A: Allocator>(reader: &mut BitReader<'_>) -> Result<(MmDown<A>, bool),
 fn reject<A: Allocator>(reader: &mut BitReader<'_>) -> Result<(MmDown<A>, bool), MmFault>
     ensures { reject_at reader.old ≡ with_rest result reader.new }
 {
-    let update = field(reader, 3)?;
-    let cause = field(reader, 5)?;
+    let update = LocationUpdateType::from_number(field(reader, 3)? as u8);
+    let cause = RejectCause::new(field(reader, 5)? as u8);
     clear_bit(reader)?; // cipher control
     clear_bit(reader)?; // O-bit
-    let pdu = MmDown::Reject {
-        update: LocationUpdateType::from_number(update as u8),
-        cause: RejectCause::new(cause as u8),
-    };
-    Ok((pdu, true))
+    Ok((MmDown::Reject { update, cause }, true))
 }
 
 /// Reads the one element with groups, at least one, and the end behind it.
@@ -72,7 +69,8 @@ fn one_element<A: Allocator>(
     alloc: A,
     reader: &mut BitReader<'_>,
 ) -> Result<GroupItems<GroupDown, A>, MmFault>
-    ensures { Gives (with_rest result reader.new) (one_element_at reader.old) }
+    ensures given { Gives (with_rest result reader.new) (one_element_at group_down_at reader.old) }
+    ensures memory { WantsMemory result (one_element_at (unkept group_down_at) reader.old) }
 {
     need(bit(reader)?)?; // an element
     need(field(reader, 4)? == GROUP_IDENTITY_DOWNLINK)?;
@@ -90,7 +88,8 @@ fn answers<A: Allocator>(
     alloc: A,
     reader: &mut BitReader<'_>,
 ) -> Result<GroupItems<GroupDown, A>, MmFault>
-    ensures { Gives (with_rest result reader.new) (answers_at reader.old) }
+    ensures given { Gives (with_rest result reader.new) (answers_at group_down_at reader.old) }
+    ensures memory { WantsMemory result (answers_at (unkept group_down_at) reader.old) }
 {
     if bit(reader)? {
         one_element(alloc, reader)
@@ -111,7 +110,8 @@ fn acknowledge<A: Allocator>(
     alloc: A,
     reader: &mut BitReader<'_>,
 ) -> Result<(MmDown<A>, bool), MmFault>
-    ensures { Gives (with_rest result reader.new) (acknowledge_at reader.old) }
+    ensures given { Gives (with_rest result reader.new) (acknowledge_at group_down_at reader.old) }
+    ensures memory { WantsMemory result (acknowledge_at {A = A} (unkept group_down_at) reader.old) }
 {
     let rejected = bit(reader)?;
     let _reserved = bit(reader)?;
@@ -123,8 +123,9 @@ fn acknowledge<A: Allocator>(
 /// The PDU, and whether what it says of its groups is so.
 #[tactic(auto, unfolding(crate::specs::DownlinkReading::down_at))]
 fn down<A: Allocator>(alloc: A, reader: &mut BitReader<'_>) -> Result<(MmDown<A>, bool), MmFault>
-    ensures given { Gives (with_rest result reader.new) (down_at reader.old) }
-    ensures exact { names_groups reader.old ≡ false → down_at reader.old ≡ with_rest result reader.new }
+    ensures given { Gives (with_rest result reader.new) (down_at group_down_at reader.old) }
+    ensures memory { WantsMemory result (down_at {A = A} (unkept group_down_at) reader.old) }
+    ensures exact { names_groups reader.old ≡ false → down_at group_down_at reader.old ≡ with_rest result reader.new }
 {
     match field(reader, 4)? {
         5 => accept(reader),
@@ -134,9 +135,10 @@ fn down<A: Allocator>(alloc: A, reader: &mut BitReader<'_>) -> Result<(MmDown<A>
     }
 }
 
-#[tactic(auto, unfolding(crate::specs::DownlinkReading::reading_down))]
+#[tactic(auto, unfolding(crate::specs::DownlinkReading::reading_down, crate::specs::DownlinkReading::unkept_down))]
 fn whole_down<A: Allocator, B: Allocator>(alloc: A, bits: &Bits<B>) -> Result<MmDown<A>, MmFault>
     ensures given { Gives result (reading_down bits.now) }
+    ensures memory { WantsMemory result (unkept_down {A = A} bits.now) }
     ensures exact { names_groups bits.now ≡ false → result ≡ reading_down bits.now }
 {
     let mut reader = BitReader::new(bits);
@@ -157,7 +159,8 @@ pub fn read_down<A: Allocator, B: Allocator>(alloc: A, bits: &Bits<B>) -> Result
     ensures found { (pdu : MmDown A) → SpellsDown pdu bits.now → Gives result (Ok pdu) }
     // Else it is the first fault.
     ensures fault { Gives result (reading_down bits.now) }
-    // Memory is needed for groups alone.
+    // Memory is wanted only where a group is read, and before any other fault; so for groups alone.
+    ensures memory { WantsMemory result (unkept_down {A = A} bits.now) }
     ensures exact { names_groups bits.now ≡ false → result ≡ reading_down bits.now }
 {
     whole_down(alloc, bits)

@@ -5,10 +5,10 @@ ghost use Rattle.std.specs.List.{flat_map, AllByRecursion};
 ghost use Rattle.mm_pdus.specs.declared.fault.MmFault.{MmFault};
 ghost use Rattle.mm_pdus.specs.declared.fault.MmFault.TheVariants.{NoMemory};
 ghost use Rattle.mm_pdus.specs.Values.{most_groups};
-ghost use Rattle.mm_pdus.specs.Reading.{with_rest, giving, Gives, made_element};
+ghost use Rattle.mm_pdus.specs.Reading.{with_rest, giving, Gives, WantsMemory, made_element};
 ghost use Rattle.mm_pdus.specs.Syntax.{element, extension};
 ghost use Rattle.mm_pdus.specs.Groups.{groups_body, groups_extension};
-ghost use Rattle.mm_pdus.specs.GroupReading.{groups_at, counted_at, body_at, behind, with_front};
+ghost use Rattle.mm_pdus.specs.GroupReading.{unkept, groups_at, counted_at, body_at, behind, with_front};
 
 use crate::fields::field;
 use crate::writing::{put, put_bit};
@@ -47,7 +47,8 @@ fn groups_into<T: GroupText, A: Allocator>(
     items: &mut GroupItems<T, A>,
 ) -> Result<(), MmFault>
     requires { length items.now + count ≤ most_groups }
-    ensures { Gives (giving result (items.new, reader.new)) (with_front items.old (groups_at T.group_at count reader.old)) }
+    ensures given { Gives (giving result (items.new, reader.new)) (with_front items.old (groups_at T.group_at count reader.old)) }
+    ensures memory { WantsMemory result (groups_at (unkept T.group_at) count reader.old) }
 {
     for _ in 0..count {
         items.add(T::read(reader)?)?;
@@ -60,7 +61,8 @@ fn counted_into<T: GroupText, A: Allocator>(
     reader: &mut BitReader<'_>,
     items: &mut GroupItems<T, A>,
 ) -> Result<(), MmFault>
-    ensures { Gives (giving result items.new) (behind items.old (counted_at T.group_at (length items.old) reader.old)) }
+    ensures given { Gives (giving result items.new) (behind items.old (counted_at T.group_at (length items.old) reader.old)) }
+    ensures memory { WantsMemory result (counted_at (unkept T.group_at) (length items.old) reader.old) }
 {
     let count = field(reader, 6)?;
     if items.len() as u64 + count > MOST_GROUPS as u64 {
@@ -78,7 +80,8 @@ pub fn body_into<T: GroupText, A: Allocator>(
     mut body: BitReader<'_>,
     items: &mut GroupItems<T, A>,
 ) -> Result<(), MmFault>
-    ensures { Gives (giving result items.new) (behind items.old (body_at T.group_at (length items.old) body.entry)) }
+    ensures given { Gives (giving result items.new) (behind items.old (body_at T.group_at (length items.old) body.entry)) }
+    ensures memory { WantsMemory result (body_at (unkept T.group_at) (length items.old) body.entry) }
 {
     match counted_into(&mut body, items) {
         Err(MmFault::Short) => Err(MmFault::BadElement),

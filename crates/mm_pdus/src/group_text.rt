@@ -74,12 +74,9 @@ impl GroupText for GroupUp {
     #[tactic(auto, unfolding(crate::specs::GroupReading::group_up_at))]
     fn read(reader: &mut BitReader<'_>) -> Result<GroupUp, MmFault> {
         if bit(reader)? {
-            let reason = field(reader, 2)? as u8;
+            let reason = LeaveReason::from_number(field(reader, 2)? as u8);
             let address = read_address(reader)?;
-            Ok(GroupUp::Leave {
-                reason: LeaveReason::from_number(reason),
-                address,
-            })
+            Ok(GroupUp::Leave { reason, address })
         } else {
             let class = field(reader, 3)? as u8;
             let address = read_address(reader)?;
@@ -124,12 +121,9 @@ impl GroupText for GroupDown {
     #[tactic(auto, unfolding(crate::specs::GroupReading::group_down_at))]
     fn read(reader: &mut BitReader<'_>) -> Result<GroupDown, MmFault> {
         if bit(reader)? {
-            let reason = field(reader, 2)? as u8;
+            let reason = DetachReason::from_number(field(reader, 2)? as u8);
             let address = read_address(reader)?;
-            Ok(GroupDown::Detach {
-                reason: DetachReason::from_number(reason),
-                address,
-            })
+            Ok(GroupDown::Detach { reason, address })
         } else {
             let number = field(reader, 2)? as u8;
             let Some(lifetime) = Lifetime::from_number(number) else {

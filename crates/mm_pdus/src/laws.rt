@@ -38,10 +38,10 @@ pub fn used_causes() -> [RejectCause; 4]
 
 /// Each value is named by its number, and by no other.
 pub fn numbers_name_values()
-    ensures update { (n : ℕ) → n < 8 → (update : LocationUpdateType) → (update_of n ≡ update) ↔ (n ≡ update_number update) }
+    ensures update { (n : ℕ) (update : LocationUpdateType) → (update_of n ≡ Some update) ↔ (n ≡ update_number update) }
     ensures lifetime { (n : ℕ) (lifetime : Lifetime) → (lifetime_of n ≡ Some lifetime) ↔ (n ≡ lifetime_number lifetime) }
-    ensures leave { (n : ℕ) → n < 4 → (reason : LeaveReason) → (leave_of n ≡ reason) ↔ (n ≡ leave_number reason) }
-    ensures detach { (n : ℕ) → n < 4 → (reason : DetachReason) → (detach_of n ≡ reason) ↔ (n ≡ detach_number reason) }
+    ensures leave { (n : ℕ) (reason : LeaveReason) → (leave_of n ≡ Some reason) ↔ (n ≡ leave_number reason) }
+    ensures detach { (n : ℕ) (reason : DetachReason) → (detach_of n ≡ Some reason) ↔ (n ≡ detach_number reason) }
 {}
 
 /// An update is accepted as what it is.

@@ -1,6 +1,6 @@
 //! The types of location updates, asked for and accepted.
 
-ghost use Rattle.std.specs.Prelude.{◌≡◌, ◌<◌};
+ghost use Rattle.std.specs.Prelude.{◌≡◌, ◌<◌, Some};
 ghost use Rattle.mm_pdus.specs.Values.{update_number, update_of, accept_of, update_accepted};
 
 /// Why a radio asks for a location update (clause 16.10, location update type).
@@ -28,7 +28,7 @@ impl LocationUpdateType {
     /// The type that three bits name.
     pub fn from_number(number: u8) -> LocationUpdateType
         requires { number < 8 }
-        ensures { result ≡ update_of number }
+        ensures { update_of number ≡ Some result }
     {
         match number {
             0 => LocationUpdateType::Roaming,

@@ -7,8 +7,9 @@ ghost use Rattle.std.specs.List.{AllByRecursion};
 ghost use Rattle.mm_pdus.specs.Values.{most_groups};
 ghost use Rattle.mm_pdus.specs.Groups.{IsGroupUp};
 ghost use Rattle.mm_pdus.specs.Uplink.{SpellsUp, IsUp, canon_up, detach_text, demand_text, groups_text};
-ghost use Rattle.mm_pdus.specs.Reading.{with_rest, giving, Gives, elements_at, made_element};
-ghost use Rattle.mm_pdus.specs.UplinkReading.{names_groups, join_groups, all_groups_at, groups_up_at, detach_at, demand_at, up_at, reading_up};
+ghost use Rattle.mm_pdus.specs.Reading.{with_rest, giving, Gives, WantsMemory, elements_at, made_element};
+ghost use Rattle.mm_pdus.specs.GroupReading.{group_up_at, unkept};
+ghost use Rattle.mm_pdus.specs.UplinkReading.{names_groups, join_groups, all_groups_at, groups_up_at, detach_at, demand_at, up_at, reading_up, unkept_up};
 
 use crate::elements::{element, skip_extension, skip_optional};
 use crate::fields::{bit, field};
@@ -41,13 +42,11 @@ pub enum MmUp<A: Allocator> {
 fn demand<A: Allocator>(reader: &mut BitReader<'_>) -> Result<MmUp<A>, MmFault>
     ensures { demand_at reader.old ≡ with_rest result reader.new }
 {
-    let update = field(reader, 3)?;
+    let update = LocationUpdateType::from_number(field(reader, 3)? as u8);
     let _append = bit(reader)?;
     skip_optional(reader, 10)?;
     skip_extension(reader, &[24, 3, 15, 24, 24])?;
-    Ok(MmUp::Demand {
-        update: LocationUpdateType::from_number(update as u8),
-    })
+    Ok(MmUp::Demand { update })
 }
 
 #[tactic(auto, unfolding(crate::specs::UplinkReading::detach_at))]
@@ -64,7 +63,8 @@ fn join_element<A: Allocator>(
     body: BitReader<'_>,
     items: &mut GroupItems<GroupUp, A>,
 ) -> Result<(), MmFault>
-    ensures { Gives (giving result items.new) (join_groups items.old (made_element identifier body.entry)) }
+    ensures given { Gives (giving result items.new) (join_groups group_up_at items.old (made_element identifier body.entry)) }
+    ensures memory { WantsMemory result (join_groups (unkept group_up_at) items.old (made_element identifier body.entry)) }
 {
     if identifier == GROUP_IDENTITY_UPLINK {
         body_into(body, items)?;
@@ -76,7 +76,8 @@ fn join_elements<A: Allocator>(
     reader: &mut BitReader<'_>,
     items: &mut GroupItems<GroupUp, A>,
 ) -> Result<(), MmFault>
-    ensures { Gives (giving result (items.new, reader.new)) (elements_at join_groups (length reader.old) items.old reader.old) }
+    ensures given { Gives (giving result (items.new, reader.new)) (elements_at (join_groups group_up_at) (length reader.old) items.old reader.old) }
+    ensures memory { WantsMemory result (elements_at (join_groups (unkept group_up_at)) (length reader.old) items.old reader.old) }
 {
     while let Some((identifier, body)) = element(reader)? {
         join_element(identifier, body, items)?;
@@ -89,7 +90,8 @@ fn all_groups<A: Allocator>(
     alloc: A,
     reader: &mut BitReader<'_>,
 ) -> Result<GroupItems<GroupUp, A>, MmFault>
-    ensures { Gives (with_rest result reader.new) (all_groups_at reader.old) }
+    ensures given { Gives (with_rest result reader.new) (all_groups_at group_up_at reader.old) }
+    ensures memory { WantsMemory result (all_groups_at (unkept group_up_at) reader.old) }
 {
     let mut items = GroupItems::new(alloc);
     if bit(reader)? {
@@ -100,7 +102,8 @@ fn all_groups<A: Allocator>(
 
 #[tactic(auto, unfolding(crate::specs::UplinkReading::groups_up_at))]
 fn groups<A: Allocator>(alloc: A, reader: &mut BitReader<'_>) -> Result<MmUp<A>, MmFault>
-    ensures { Gives (with_rest result reader.new) (groups_up_at reader.old) }
+    ensures given { Gives (with_rest result reader.new) (groups_up_at group_up_at reader.old) }
+    ensures memory { WantsMemory result (groups_up_at {A = A} (unkept group_up_at) reader.old) }
 {
     let _report = bit(reader)?;
     let mode = GroupMode::from_bit(bit(reader)?);
@@ -110,8 +113,9 @@ fn groups<A: Allocator>(alloc: A, reader: &mut BitReader<'_>) -> Result<MmUp<A>,
 
 #[tactic(auto, unfolding(crate::specs::UplinkReading::up_at))]
 fn up<A: Allocator>(alloc: A, reader: &mut BitReader<'_>) -> Result<MmUp<A>, MmFault>
-    ensures given { Gives (with_rest result reader.new) (up_at reader.old) }
-    ensures exact { names_groups reader.old ≡ false → up_at reader.old ≡ with_rest result reader.new }
+    ensures given { Gives (with_rest result reader.new) (up_at group_up_at reader.old) }
+    ensures memory { WantsMemory result (up_at {A = A} (unkept group_up_at) reader.old) }
+    ensures exact { names_groups reader.old ≡ false → up_at group_up_at reader.old ≡ with_rest result reader.new }
 {
     match field(reader, 4)? {
         1 => detach(reader),
@@ -121,9 +125,10 @@ fn up<A: Allocator>(alloc: A, reader: &mut BitReader<'_>) -> Result<MmUp<A>, MmF
     }
 }
 
-#[tactic(auto, unfolding(crate::specs::UplinkReading::reading_up))]
+#[tactic(auto, unfolding(crate::specs::UplinkReading::reading_up, crate::specs::UplinkReading::unkept_up))]
 fn whole_up<A: Allocator, B: Allocator>(alloc: A, bits: &Bits<B>) -> Result<MmUp<A>, MmFault>
     ensures given { Gives result (reading_up bits.now) }
+    ensures memory { WantsMemory result (unkept_up {A = A} bits.now) }
     ensures exact { names_groups bits.now ≡ false → result ≡ reading_up bits.now }
 {
     let mut reader = BitReader::new(bits);
@@ -143,7 +148,8 @@ pub fn read_up<A: Allocator, B: Allocator>(alloc: A, bits: &Bits<B>) -> Result<M
     ensures found { (pdu : MmUp A) → SpellsUp pdu bits.now → Gives result (Ok pdu) }
     // Else it is the first fault.
     ensures fault { Gives result (reading_up bits.now) }
-    // Memory is needed for groups alone.
+    // Memory is wanted only where a group is read, and before any other fault; so for groups alone.
+    ensures memory { WantsMemory result (unkept_up {A = A} bits.now) }
     ensures exact { names_groups bits.now ≡ false → result ≡ reading_up bits.now }
 {
     whole_up(alloc, bits)

@@ -1,5 +1,5 @@
 -- The two laws: what is read is spelt so, and what is spelt so is read.
-use Rattle.std.proofs.Common.{◌≡◌, ℕ, zero, suc, ◌<◌, ◌≤◌, Bool, false, cond, eqb, List, [], ◌∷◌, ◌++◌, length, drop, Option, Some, None, Result, Ok, Err, refl, sym, ap, subst, ◌∙◌, arith, length-append, append_assoc}
+use Rattle.std.proofs.Common.{◌≡◌, ℕ, ◌≤◌, Bool, true, false, cond, eqb, List, [], ◌∷◌, ◌++◌, length, drop, Option, Some, None, Result, Ok, Err, refl, sym, ap, subst, ◌∙◌, arith, length-append, append_assoc}
 use Rattle.std.specs.Prelude.{IfOk}
 use Rattle.std.proofs.lemmas.Bool.{cond_both, eqb-true, eqb-false}
 use Rattle.std.proofs.lemmas.List.{append-nil, drop_all, length-drop}
@@ -16,18 +16,19 @@ use Rattle.sds_tl.specs.Reading.{field, flag, type_of, transfer, report, ack, fa
 use Rattle.sds_tl.proofs.Places.{field_small, split, split_bit, found, found_bit, skipped}
 use Rattle.sds_tl.proofs.Fitting.{Passes, passes, passed_on, transfer_fits, report_fits, ack_room, data_passes, ack_passes}
 
-code_back : (n : ℕ) → n < 4 → code_of (request_of n) ≡ n
-code_back zero lt = refl
-code_back (suc zero) lt = refl
-code_back (suc (suc zero)) lt = refl
-code_back (suc (suc (suc zero))) lt = refl
-code_back (suc (suc (suc (suc n)))) lt = absurd (omega arith)
+request_text : (a b : Bool) → num 2 (code_of (request_of a b)) ≡ a ∷ b ∷ []
+unfolding num
+request_text false false = refl
+request_text false true = refl
+request_text true false = refl
+request_text true true = refl
 
-request_back : (q : DeliveryReportRequest) → (request_of (code_of q) ≡ q) × (code_of q < 4)
-request_back requests.None = (refl, omega arith)
-request_back requests.Received = (refl, omega arith)
-request_back requests.Consumed = (refl, omega arith)
-request_back requests.Both = (refl, omega arith)
+request_back : (q : DeliveryReportRequest) → (a : Bool) × (b : Bool) × (num 2 (code_of q) ≡ a ∷ b ∷ []) × (request_of a b ≡ q)
+unfolding num
+request_back requests.None = (false, false, refl, refl)
+request_back requests.Received = (false, true, refl, refl)
+request_back requests.Consumed = (true, false, refl, refl)
+request_back requests.Both = (true, true, refl, refl)
 
 -- ---- the parts of a text, one inside the other
 
@@ -57,16 +58,18 @@ module _ (A : Type 0) where
   transfer_text bits kind control room =
       let f0 = split 0 8 bits (omega arith) in
       let f8 = split 8 4 bits (omega arith) in
-      let f12 = split 12 2 bits (omega arith) in
+      let f12 = split_bit 12 bits (omega arith) in
+      let f13 = split_bit 13 bits (omega arith) in
       let f14 = split_bit 14 bits (omega arith) in
       let f15 = split_bit 15 bits (omega arith) in
       let f16 = split 16 8 bits (omega arith) in
-      let request : num 2 (field 12 2 bits) ≡ num 2 (code_of (request_of (field 12 2 bits))) = ap (num 2) (sym (code_back (field 12 2 bits) (field_small 12 2 bits (omega arith)))) in
+      let request = request_of (flag 12 bits) (flag 13 bits) in
+      let asked : drop 12 bits ≡ num 2 (code_of request) ++ drop 14 bits = f12 ∙ put_behind (flag 12 bits ∷ []) f13 ∙ ap (λ (t : List Bool). t ++ drop 14 bits) (sym (request_text (flag 12 bits) (flag 13 bits))) in
       f0
       ∙ put_behind (num 8 (field 0 8 bits)) (f8 ∙ ap (λ (n : ℕ). num 4 n ++ drop 12 bits) kind)
-      ∙ put_behind (num 8 (field 0 8 bits)) (put_behind (num 4 0) (f12 ∙ ap (λ (t : List Bool). t ++ drop 14 bits) request))
-      ∙ put_behind (num 8 (field 0 8 bits)) (put_behind (num 4 0) (put_behind (num 2 (code_of (request_of (field 12 2 bits)))) (f14 ∙ put_behind (flag 14 bits ∷ []) (f15 ∙ ap (λ (b : Bool). b ∷ drop 16 bits) control ∙ put_behind (false ∷ []) f16))))
-      ∙ sym (nested_transfer (num 8 (field 0 8 bits)) (num 4 0) (num 2 (code_of (request_of (field 12 2 bits)))) (num 8 (field 16 8 bits)) (drop 24 bits) (flag 14 bits) false)
+      ∙ put_behind (num 8 (field 0 8 bits)) (put_behind (num 4 0) asked)
+      ∙ put_behind (num 8 (field 0 8 bits)) (put_behind (num 4 0) (put_behind (num 2 (code_of request)) (f14 ∙ put_behind (flag 14 bits ∷ []) (f15 ∙ ap (λ (b : Bool). b ∷ drop 16 bits) control ∙ put_behind (false ∷ []) f16))))
+      ∙ sym (nested_transfer (num 8 (field 0 8 bits)) (num 4 0) (num 2 (code_of request)) (num 8 (field 16 8 bits)) (drop 24 bits) (flag 14 bits) false)
 
   report_text : (bits : List Bool) → type_of bits ≡ 1 → flag 15 bits ≡ false → 32 ≤ length bits → bits ≡ text {A = A} (report bits) (num 2 (field 13 2 bits))
   report_text bits kind control room =
@@ -175,13 +178,14 @@ module _ (A : Type 0) where
       let q-is = request_back q in
       let f0 = found 0 8 i bits (num 4 0 ++ (num 2 (code_of q) ++ (s ∷ false ∷ (num 8 r ++ d)))) range.identifier_fits (is ∙ nested_transfer (num 8 i) (num 4 0) (num 2 (code_of q)) (num 8 r) d s false) in
       let f8 = found 8 4 0 bits (num 2 (code_of q) ++ (s ∷ false ∷ (num 8 r ++ d))) (omega arith) f0.1 in
-      let f12 = found 12 2 (code_of q) bits (s ∷ false ∷ (num 8 r ++ d)) q-is.1 f8.1 in
-      let f14 = found_bit 14 s bits (false ∷ (num 8 r ++ d)) f12.1 in
+      let f12 = found_bit 12 q-is.0 bits (q-is.1 ∷ s ∷ false ∷ (num 8 r ++ d)) (f8.1 ∙ ap (λ (t : List Bool). t ++ (s ∷ false ∷ (num 8 r ++ d))) q-is.2) in
+      let f13 = found_bit 13 q-is.1 bits (s ∷ false ∷ (num 8 r ++ d)) f12.1 in
+      let f14 = found_bit 14 s bits (false ∷ (num 8 r ++ d)) f13.1 in
       let f15 = found_bit 15 false bits (num 8 r ++ d) f14.1 in
       let f16 = found 16 8 r bits d range.reference_fits f15.1 in
       let room : 24 ≤ length bits = omega (arith, length-drop 16 bits, ap length f15.1, length-append (num 8 r) d, length-num 8 r) in
       let kind : type_of bits ≡ 0 = f8.0 in
-      let request : request_of (field 12 2 bits) ≡ q = ap request_of f12.0 ∙ q-is.0 in
+      let request : request_of (flag 12 bits) (flag 13 bits) ≡ q = ap (λ (a : Bool). request_of a (flag 13 bits)) f12.0 ∙ ap (request_of q-is.0) f13.0 ∙ q-is.3 in
       let layer : 128 ≤ field 0 8 bits = rw f0.0 range.layer in
       let fits : Passes bits = record { most = most; layer = layer; known = omega arith; header = omega arith; left = rw kind (data_passes 24 bits f15.0 room) } in
       (passed_on bits fits, rw kind (cc (f0.0, request, f14.0, f16.0, f16.1)), kind)

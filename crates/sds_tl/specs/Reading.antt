@@ -44,7 +44,7 @@ fault bits =
     else ack_fault bits
 
 abbrev pub transfer : {A : Type 0} → List Bool → Sds A
-transfer bits = Transfer (field 0 8 bits) (request_of (field 12 2 bits)) (flag 14 bits) (field 16 8 bits) (drop 24 bits)
+transfer bits = Transfer (field 0 8 bits) (request_of (flag 12 bits) (flag 13 bits)) (flag 14 bits) (field 16 8 bits) (drop 24 bits)
 
 abbrev pub report : {A : Type 0} → List Bool → Sds A
 report bits = Report (field 0 8 bits) (flag 12 bits) (field 16 8 bits) (field 24 8 bits) (drop 32 bits)
@@ -73,7 +73,7 @@ head_of (Ack identifier status reference) = heads.Ack status reference
 -- The head of what bits without a fault stand for.
 unfoldable pub head_value : List Bool → Head
 head_value bits =
-    if type_of bits == 0 then heads.Transfer (request_of (field 12 2 bits)) (field 16 8 bits)
+    if type_of bits == 0 then heads.Transfer (request_of (flag 12 bits) (flag 13 bits)) (field 16 8 bits)
     else if type_of bits == 1 then heads.Report (flag 12 bits) (field 16 8 bits) (field 24 8 bits)
     else heads.Ack (field 16 8 bits) (field 24 8 bits)
 

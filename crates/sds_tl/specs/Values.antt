@@ -1,5 +1,5 @@
 -- The numbers that stand for values.
-use Rattle.std.specs.Prelude.{ℕ, zero, suc}
+use Rattle.std.specs.Prelude.{ℕ, Bool, true, false}
 use Rattle.sds_tl.specs.declared.pdu.DeliveryReportRequest.{DeliveryReportRequest}
 use Rattle.sds_tl.specs.declared.pdu.DeliveryReportRequest.TheVariants as requests
 
@@ -10,8 +10,8 @@ code_of requests.Consumed = 2
 code_of requests.Both = 3
 
 -- the request of two bits
-abbrev pub request_of : ℕ → DeliveryReportRequest
-request_of zero = requests.None
-request_of (suc zero) = requests.Received
-request_of (suc (suc zero)) = requests.Consumed
-request_of (suc (suc (suc n))) = requests.Both
+abbrev pub request_of : Bool → Bool → DeliveryReportRequest
+request_of false false = requests.None
+request_of false true = requests.Received
+request_of true false = requests.Consumed
+request_of true true = requests.Both

@@ -104,13 +104,13 @@ fn identifier<A: Allocator>(bits: &Bits<A>) -> ProtocolIdentifier
 
 fn request<A: Allocator>(bits: &Bits<A>) -> DeliveryReportRequest
     requires { 14 ≤ length bits.now }
-    ensures { result ≡ request_of (field 12 2 bits.now) }
+    ensures { result ≡ request_of (flag 12 bits.now) (flag 13 bits.now) }
 {
-    match field(bits, 12, 2) {
-        0 => DeliveryReportRequest::None,
-        1 => DeliveryReportRequest::Received,
-        2 => DeliveryReportRequest::Consumed,
-        _ => DeliveryReportRequest::Both,
+    match (flag(bits, 12), flag(bits, 13)) {
+        (false, false) => DeliveryReportRequest::None,
+        (false, true) => DeliveryReportRequest::Received,
+        (true, false) => DeliveryReportRequest::Consumed,
+        (true, true) => DeliveryReportRequest::Both,
     }
 }
 
