@@ -83,14 +83,14 @@ fn a_rule_has_its_areas_in_order(rt: HostRuntime) -> Result<(), Fail> {
     Ok(())
 }
 
-/// All rules and radios: the bits of each prefix with two numbers of what stands there.
+/// All rules and radios: the bits of each prefix, or identity, with two numbers of what stands there.
 fn listed(alloc: Global, registry: &Registry<&LocalHeap>) -> Result<Vec<(u64, u32, u32)>, Fail> {
     let mut list = Vec::new(alloc);
     for (prefix, rule) in registry.rules(alloc)? {
         list.push((prefix.bits(), prefix.len(), rule.keep()))?;
     }
-    for (prefix, radio) in registry.radios(alloc)? {
-        list.push((prefix.bits(), u32::from(radio.station), radio.area.number()))?;
+    for (itsi, radio) in registry.radios(alloc)? {
+        list.push((itsi.number(), u32::from(radio.station), radio.area.number()))?;
     }
     Ok(list)
 }

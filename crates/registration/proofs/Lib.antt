@@ -1,1 +1,2 @@
 mod TypeLaws
+mod Whole

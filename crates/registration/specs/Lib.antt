@@ -1,3 +1,4 @@
 pub mod Terms
 pub mod Limits
 pub mod Registered
+pub mod Listed

@@ -1,5 +1,5 @@
 -- The rules and the radios of a register, and what each call makes of them.
-use Rattle.std.specs.Prelude.{ℕ, nat_le, nat_lt, Bool, true, false, ◌&&◌, Option, Some, None, if◌then◌else◌, refl}
+use Rattle.std.specs.Prelude.{◌≡◌, ℕ, nat_le, nat_lt, Bool, true, false, ◌&&◌, length, Option, Some, None, IsSome, if◌then◌else◌, refl}
 use Rattle.std.specs.Option.{option_map, is_some}
 use Rattle.std.specs.Coded.{Coded, code_by, coded×}
 use Rattle.std.specs.FinMap as map
@@ -38,6 +38,10 @@ longest_rule s identity = longest s.rules (id_path identity)
 
 abbrev pub rule_of : Registered → ℕ → Option Rule
 rule_of s identity = option_map (λ e. e.1) (longest_rule s identity)
+
+-- radios stand under all 48 bits of an identity, and under no other prefix
+abbrev pub AreWhole : PathMap Radio → Type 0
+AreWhole radios = (p : Path) → IsSome (map.get radios p) → length p ≡ 48
 
 -- where a radio is, or was
 abbrev pub radio_of : Registered → ℕ → Option Radio

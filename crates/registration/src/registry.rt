@@ -1,7 +1,10 @@
 //! The register: rules, radios, and the calls that change them.
 
-ghost use Rattle.std.specs.Prelude.{◌≡◌, None, Some, OnOk, IfOk, IfErr, IsOk, IsSome, unwrap_or};
+ghost use Rattle.std.specs.Prelude.{◌≡◌, length, None, Some, OnOk, IfOk, IfErr, IsOk, IsSome, unwrap_or};
+ghost use Rattle.std.specs.List.{All};
 ghost use Rattle.std.specs.FinMap as map;
+ghost use Rattle.identity.specs.Path.{id_path};
+ghost use Rattle.registration.specs.Listed.{under_bits};
 ghost use Rattle.registration.specs.Registered.{has_rule, longest_rule, rule_of, radio_of, type_refusal, area_refusal, room_refusal, locate_refusal, located, detach_refusal, detached, is_present, set_refusal, with_rule, without_rule, empty_registered};
 ghost use Rattle.registration.specs.declared.fault.RegFault.TheVariants.{NoMemory};
 
@@ -23,7 +26,7 @@ pub struct Registry<A: Allocator> {
 }
 
 impl<A: Allocator> Model for Registry<A> {
-    ghost use Rattle.registration.specs.Registered.{Registered, coded_registered};
+    ghost use Rattle.registration.specs.Registered.{Registered, AreWhole, coded_registered};
 
     ghost Value = { Registered };
 
@@ -34,7 +37,7 @@ impl<A: Allocator> Model for Registry<A> {
     ghost use Rattle.std.specs.Prelude.{◌≡◌};
     ghost use Rattle.std.specs.FinMap as map;
 
-    ghost invariant = { λ r. (r.rule_count ≡ map.len r.rules) × (r.radio_count ≡ map.len r.radios) };
+    ghost invariant = { λ r. (r.rule_count ≡ map.len r.rules) × (r.radio_count ≡ map.len r.radios) × AreWhole r.radios };
 }
 
 impl<A: Allocator + Clone> Registry<A> {
@@ -100,11 +103,15 @@ impl<A: Allocator + Clone> Registry<A> {
         self.rules.entries(alloc)
     }
 
-    /// All radios, each under the 48 bits of its identity, in order of these.
-    pub fn radios<B: Allocator>(&self, alloc: B) -> Result<Vec<(Prefix, Radio), B>, AllocError>
-        ensures { IfOk result (λ list. list.items ≡ map.entries self.now.radios) }
+    /// All radios with their identities, in order of their bits. It takes memory for two such lists.
+    pub fn radios<B: Allocator + Clone>(
+        &self,
+        alloc: B,
+    ) -> Result<Vec<(Itsi, Radio), B>, AllocError>
+        ensures { IfOk result (λ list. under_bits list.items ≡ map.entries self.now.radios) }
     {
-        self.radios.entries(alloc)
+        let entries = self.radios.entries(alloc.clone()?)?;
+        with_identities(alloc, &entries)
     }
 
     /// Why `set_rule` would refuse a rule under this prefix, memory aside.
@@ -251,6 +258,29 @@ impl<A: Allocator + Clone> TryCopy for Registry<A> {
             radio_count: self.radio_count,
         })
     }
+}
+
+/// The radio whose 48 bits these are.
+#[tactic(auto, unfolding(identity::specs::Path::id_path))]
+fn itsi_of(bits: &Prefix) -> Itsi
+    requires { length bits.now ≡ 48 }
+    ensures { id_path result ≡ bits.now }
+{
+    Itsi::from_number(bits.number()).unwrap()
+}
+
+fn with_identities<A: Allocator>(
+    alloc: A,
+    entries: &[(Prefix, Radio)],
+) -> Result<Vec<(Itsi, Radio), A>, AllocError>
+    requires { All (λ e. length e.0 ≡ 48) entries.now }
+    ensures { IfOk result (λ list. under_bits list.items ≡ entries.now) }
+{
+    let mut list = Vec::with_capacity(alloc, entries.len())?;
+    for (bits, radio) in entries {
+        list.push((itsi_of(bits), *radio))?;
+    }
+    Ok(list)
 }
 
 fn type_refusal(update: LocationUpdateType) -> Option<RegFault>
