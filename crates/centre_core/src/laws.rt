@@ -5,7 +5,7 @@ mod in_turn;
 
 ghost use Rattle.centre_core.specs.Ranges.{InRange};
 ghost use Rattle.centre_core.specs.State.{IsState};
-ghost use Rattle.centre_core.specs.Laws.{AcceptedAreAnswered, AcceptedAreNumbered, AcceptedAreKept, HistoriesAreNumbered, ServedAreLast, SameAgain, NamesAreSame, AcceptsAreSame, AfterIsSame, FreshIsSame, HistoriesAreSame, StepIsSame, EmptyIsState, StepKeepsState, NoneLost, NoneLostMade, OnlyAcceptedChange, StepIsNext, ResendsAreAnswered, ResendsAreIdle};
+ghost use Rattle.centre_core.specs.Laws.{AcceptedAreAnswered, AcceptedAreNumbered, AcceptedAreKept, HistoriesAreNumbered, ServedAreLast, SameAgain, NamesAreSame, AcceptsAreSame, AfterIsSame, FreshIsSame, HistoriesAreSame, StepIsSame, EmptyIsState, StepKeepsState, EmptyIsInRange, StepKeepsRanges, NoneLost, NoneLostMade, OnlyAcceptedChange, StepIsNext, ResendsAreAnswered, ResendsAreIdle};
 
 use crate::{Command, Register};
 pub use in_turn::{accepted_in_turn, replies_say};
@@ -15,6 +15,12 @@ use std::alloc::Allocator;
 pub fn states<A: Allocator>()
     ensures empty { EmptyIsState }
     ensures step { StepKeepsState A }
+{}
+
+/// A new register's state is in range, and a command keeps it so.
+pub fn ranges<A: Allocator>()
+    ensures empty { EmptyIsInRange }
+    ensures step { StepKeepsRanges A }
 {}
 
 /// What holds of every state holds of each register.
