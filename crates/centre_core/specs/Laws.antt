@@ -13,7 +13,7 @@ use Rattle.centre_core.specs.declared.command.Command.{Command}
 use Rattle.centre_core.specs.declared.reply.Reply.TheVariants.{Accepted, Kept}
 use Rattle.centre_core.specs.State.{State, IsState, empty}
 use Rattle.centre_core.specs.Ranges.{InRange}
-use Rattle.centre_core.specs.StateRanges.{IsInRange}
+use Rattle.centre_core.specs.StateRanges.{StateInRange}
 use Rattle.centre_core.specs.Step.{step, accept_pdu, kept_at}
 use Rattle.centre_core.specs.History.{is_acceptance, accepts, next, after, names, ended, made, fresh}
 use Rattle.centre_core.specs.Histories.{IsHistory, numbered, served_by, last_served}
@@ -32,7 +32,7 @@ abbrev pub EmptyIsState : Type 0
 EmptyIsState = (limits : Limits) → IsState (empty limits)
 
 abbrev pub EmptyIsInRange : Type 0
-EmptyIsInRange = (limits : Limits) → IsInRange (empty limits)
+EmptyIsInRange = (limits : Limits) → StateInRange (empty limits)
 
 -- a message of the old mail is in the new one, unless the command was accepted and ends it
 abbrev pub KeepsMessages : Mailed → Mailed → Bool → (Waiting → Bool) → Type 0
@@ -43,7 +43,7 @@ module _ (A : Type 0) where
   StepKeepsState = (s : State) (c : Command A) → IsState s → IsState (next s c)
 
   abbrev pub StepKeepsRanges : Type 0
-  StepKeepsRanges = (s : State) (c : Command A) → InRange c → IsInRange s → IsInRange (next s c)
+  StepKeepsRanges = (s : State) (c : Command A) → InRange c → StateInRange s → StateInRange (next s c)
 
   -- a message that waits is missing after a list of commands exactly where one of them is accepted and ends it
   abbrev pub NoneLost : Type 0

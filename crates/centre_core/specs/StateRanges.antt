@@ -43,7 +43,7 @@ pub record ServedInRange (last : Served) : Type 0 where
   pub pdu : IsShort last.pdu
 
 -- each part of a state is in its range; its numbers are from 1 to the count, as what holds of every state says
-pub record IsInRange (s : State) : Type 0 where
+pub record StateInRange (s : State) : Type 0 where
   pub limits : AreLimits s.registered.limits.rules s.registered.limits.radios s.registered.limits.mail s.registered.limits.stations
   pub rules : AllEntries RuleEntryInRange s.registered.rules
   pub radios : AllEntries (RadioInRange s.registered.limits.stations) s.registered.radios

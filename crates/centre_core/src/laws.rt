@@ -5,6 +5,7 @@ mod in_turn;
 
 ghost use Rattle.centre_core.specs.Ranges.{InRange};
 ghost use Rattle.centre_core.specs.State.{IsState};
+ghost use Rattle.centre_core.specs.StateRanges.{StateInRange};
 ghost use Rattle.centre_core.specs.Laws.{AcceptedAreAnswered, AcceptedAreNumbered, AcceptedAreKept, HistoriesAreNumbered, ServedAreLast, SameAgain, NamesAreSame, AcceptsAreSame, AfterIsSame, FreshIsSame, HistoriesAreSame, StepIsSame, EmptyIsState, StepKeepsState, EmptyIsInRange, StepKeepsRanges, NoneLost, NoneLostMade, OnlyAcceptedChange, StepIsNext, ResendsAreAnswered, ResendsAreIdle};
 
 use crate::{Command, Register};
@@ -23,9 +24,10 @@ pub fn ranges<A: Allocator>()
     ensures step { StepKeepsRanges A }
 {}
 
-/// What holds of every state holds of each register.
+/// What holds of every state holds of each register, and its state is in range.
 pub fn registers<A: Allocator>(register: &Register<A>)
-    ensures { IsState register.now }
+    ensures state { IsState register.now }
+    ensures ranges { StateInRange register.now }
 {
     register.keep_state()
 }
