@@ -7,7 +7,7 @@ use Rattle.std.specs.List.{AllByRecursion, flat_map, filter_map, cons_option}
 use Rattle.std.proofs.lemmas.List.{length-append}
 use Rattle.identity.specs.Number.{num}
 use Rattle.identity.specs.NumberLaws.{length-num}
-use Rattle.identity.specs.Identity.{identity_number, mcc_of, mnc_of, ssi_of}
+use Rattle.identity.specs.Identity.{mcc_of, mnc_of, ssi_of}
 use Rattle.identity.proofs.Identities.{number_of_fields}
 use Rattle.mm_pdus.specs.declared.update.AcceptType.{AcceptType}
 use Rattle.mm_pdus.specs.declared.address.GroupAddress.{GroupAddress}
@@ -16,7 +16,6 @@ use Rattle.mm_pdus.specs.declared.group.GroupMode.{GroupMode}
 use Rattle.mm_pdus.specs.declared.group.GroupUp.{GroupUp}
 use Rattle.mm_pdus.specs.declared.group.GroupDown.{GroupDown}
 use Rattle.mm_pdus.specs.declared.group.GroupDown.TheVariants as down
-use Rattle.mm_pdus.specs.declared.uplink.MmUp.{MmUp}
 use Rattle.mm_pdus.specs.declared.uplink.MmUp.TheVariants as up
 use Rattle.mm_pdus.specs.Values.{update_number, update_accepted, lifetime_number, detach_number, most_groups}
 use Rattle.mm_pdus.specs.Syntax.{Element, element, extension}

@@ -1,6 +1,6 @@
 -- What a command makes of a state stays in its ranges.
-use Rattle.std.proofs.Common.{◌≡◌, ℕ, suc, ◌+◌, ◌-◌, ◌<◌, ◌≤◌, ◌^◌, Bool, true, false, List, [], ◌∷◌, length, map, refl, sym, ap, ◌∙◌, subst, arith, Option, Some, None, Result, Ok, Err}
-use Rattle.std.specs.Prelude.{◌==◌, ◌&&◌, nat_lt, nat_le, not, if◌then◌else◌, IfSome, IfOk, OnErr, slice_set, replicate}
+use Rattle.std.proofs.Common.{◌≡◌, ℕ, ◌+◌, ◌-◌, ◌<◌, ◌≤◌, ◌^◌, Bool, true, false, List, [], ◌∷◌, length, map, refl, sym, ap, subst, arith, Option, Some, None, Result, Ok, Err}
+use Rattle.std.specs.Prelude.{◌==◌, ◌&&◌, nat_lt, nat_le, not, if◌then◌else◌, IfSome, IfOk, OnErr}
 use Rattle.std.specs.Option.{option_map}
 use Rattle.std.specs.List.{All, AllByRecursion, filter, fold}
 use Rattle.std.specs.Cmp.{IsTotalOrder, then_total, on_total, nat_cmp_total}
@@ -12,7 +12,7 @@ use Rattle.std.proofs.lemmas.Bool.Decides.{nat_tests}
 use Rattle.std.proofs.lemmas.List.Elements.{All-nil, All-cons, All-append, All-filter, All-map, All-set, All-replicate, All-weaker}
 use Rattle.identity.specs.Path.{Path, path_cmp, id_path}
 use Rattle.identity.specs.PathLaws.{paths_total, paths_exact, length-id_path}
-use Rattle.prefix_tree.specs.Table.{longest, NamesLongest}
+use Rattle.prefix_tree.specs.Table.{NamesLongest}
 use Rattle.prefix_tree.proofs.Longest.{names_longest}
 use Rattle.mm_pdus.specs.declared.fault.MmFault.{MmFault}
 use Rattle.mm_pdus.specs.declared.update.LocationUpdateType.{LocationUpdateType}
@@ -26,21 +26,19 @@ use Rattle.mm_pdus.specs.Values.{accept_of, most_groups}
 use Rattle.mm_pdus.specs.Address.{gtsi_of}
 use Rattle.mm_pdus.specs.Groups.{IsGroupUp}
 use Rattle.mm_pdus.specs.UplinkReading.{reading_up}
-use Rattle.registration.specs.declared.limits.Limits.{Limits}
 use Rattle.registration.specs.declared.rule.Rule.{Rule}
 use Rattle.registration.specs.declared.radio.Radio.{Radio}
 use Rattle.registration.specs.declared.fault.RegFault.{RegFault}
-use Rattle.registration.specs.Registered.{Registered, longest_rule, rule_of, radio_of, set_refusal, locate_refusal, detach_refusal, detached_at, detached, absent}
+use Rattle.registration.specs.Registered.{Registered, longest_rule, rule_of, radio_of, set_refusal, locate_refusal, detach_refusal, detached_at, absent}
 use Rattle.group_attach.specs.Attached.{Pair, Usage, Attached, pair_cmp, attachment_of, of_group}
 use Rattle.group_attach.specs.Applied.{after_update, is_dropped, attached_by, changed_by, at_start, answer, answers, apply_refusal}
 use Rattle.sds_tl.specs.declared.fault.SdsFault.{SdsFault}
 use Rattle.sds_tl.specs.declared.pdu.Head.{Head}
 use Rattle.sds_tl.specs.declared.pdu.Head.TheVariants as heads
-use Rattle.sds_tl.specs.Reading.{heading, cleared}
+use Rattle.sds_tl.specs.Reading.{heading}
 use Rattle.sds_tl.specs.Transfers.{transfer_reference}
 use Rattle.mailbox.specs.declared.fault.MailFault.{MailFault}
-use Rattle.mailbox.specs.declared.key.Key.{Key}
-use Rattle.mailbox.specs.declared.key.Kind.TheVariants.{Message, Report}
+use Rattle.mailbox.specs.declared.key.Kind.TheVariants.{Report}
 use Rattle.mailbox.specs.declared.key.Envelope.{Envelope}
 use Rattle.mailbox.specs.declared.key.GroupEnvelope.{GroupEnvelope}
 use Rattle.mailbox.specs.Values.{Waiting, Mailed, latest_deadline}
@@ -55,14 +53,12 @@ use Rattle.centre_core.specs.declared.reply.Reply.{Reply}
 use Rattle.centre_core.specs.declared.reply.Refusal.{Refusal}
 use Rattle.centre_core.specs.declared.reply.Refusal.TheVariants.{Registration, Mail}
 use Rattle.centre_core.specs.Ranges.{IsShort, BodyInRange, InRange}
-use Rattle.centre_core.specs.State.{State, Served, last_number, empty}
+use Rattle.centre_core.specs.State.{State, Served, last_number}
 use Rattle.centre_core.specs.StateRanges.{AllEntries, RuleEntryInRange, RadioInRange, AttachmentInRange, ItemInRange, ServedInRange, StateInRange}
 use Rattle.centre_core.specs.Step.{step, step_new, step_after, step_body, step_made, step_mm, step_sds, step_group_sds, accepted, kept_at, is_station, rule_set, rule_cleared, radio_located, radio_detached, groups_changed, mail_changed, envelope, message_of, report_of, group_envelope, members, copies_of, IsOfStation}
-use Rattle.centre_core.specs.History.{next}
 use Rattle.centre_core.specs.Laws.{EmptyIsInRange, StepKeepsRanges}
 use Rattle.centre_core.proofs.EntriesLaws.{insert_all, retain_all, remove_all, kept_all, found_in, empty_all}
 use Rattle.centre_core.proofs.PduRanges.{IsShortData, head_read, transfer_read, groups_read, gtsi_fits, acknowledge_short, accept_short, no_more}
-use Rattle.centre_core.proofs.StateLaws.{step_is_next}
 
 -- ---- rules and radios
 
