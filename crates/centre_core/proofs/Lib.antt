@@ -16,3 +16,6 @@ pub mod UpdateLaws
 pub mod ReplyLaws
 pub mod RepliesSay
 pub mod InTurnLaws
+pub mod EntriesLaws
+pub mod PduRanges
+pub mod RangeLaws

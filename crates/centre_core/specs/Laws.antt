@@ -12,6 +12,8 @@ use Rattle.mailbox.specs.Tests.{is_message}
 use Rattle.centre_core.specs.declared.command.Command.{Command}
 use Rattle.centre_core.specs.declared.reply.Reply.TheVariants.{Accepted, Kept}
 use Rattle.centre_core.specs.State.{State, IsState, empty}
+use Rattle.centre_core.specs.Ranges.{InRange}
+use Rattle.centre_core.specs.StateRanges.{StateInRange}
 use Rattle.centre_core.specs.Step.{step, accept_pdu, kept_at}
 use Rattle.centre_core.specs.History.{is_acceptance, accepts, next, after, names, ended, made, fresh}
 use Rattle.centre_core.specs.Histories.{IsHistory, numbered, served_by, last_served}
@@ -29,6 +31,9 @@ AcceptedAreAnswered = (update : LocationUpdateType) → type_refusal update ≡ 
 abbrev pub EmptyIsState : Type 0
 EmptyIsState = (limits : Limits) → IsState (empty limits)
 
+abbrev pub EmptyIsInRange : Type 0
+EmptyIsInRange = (limits : Limits) → StateInRange (empty limits)
+
 -- a message of the old mail is in the new one, unless the command was accepted and ends it
 abbrev pub KeepsMessages : Mailed → Mailed → Bool → (Waiting → Bool) → Type 0
 KeepsMessages old new accepted ends = (m : Waiting) → IsTrue (is_message m) → Contains old.items m → Contains new.items m ⊎ (IsTrue accepted × IsTrue (ends m))
@@ -36,6 +41,9 @@ KeepsMessages old new accepted ends = (m : Waiting) → IsTrue (is_message m) �
 module _ (A : Type 0) where
   abbrev pub StepKeepsState : Type 0
   StepKeepsState = (s : State) (c : Command A) → IsState s → IsState (next s c)
+
+  abbrev pub StepKeepsRanges : Type 0
+  StepKeepsRanges = (s : State) (c : Command A) → InRange c → StateInRange s → StateInRange (next s c)
 
   -- a message that waits is missing after a list of commands exactly where one of them is accepted and ends it
   abbrev pub NoneLost : Type 0

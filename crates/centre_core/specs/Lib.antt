@@ -1,6 +1,7 @@
 pub mod Asked
 pub mod Ranges
 pub mod State
+pub mod StateRanges
 pub mod Step
 pub mod Tell
 pub mod History

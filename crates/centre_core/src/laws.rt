@@ -5,7 +5,8 @@ mod in_turn;
 
 ghost use Rattle.centre_core.specs.Ranges.{InRange};
 ghost use Rattle.centre_core.specs.State.{IsState};
-ghost use Rattle.centre_core.specs.Laws.{AcceptedAreAnswered, AcceptedAreNumbered, AcceptedAreKept, HistoriesAreNumbered, ServedAreLast, SameAgain, NamesAreSame, AcceptsAreSame, AfterIsSame, FreshIsSame, HistoriesAreSame, StepIsSame, EmptyIsState, StepKeepsState, NoneLost, NoneLostMade, OnlyAcceptedChange, StepIsNext, ResendsAreAnswered, ResendsAreIdle};
+ghost use Rattle.centre_core.specs.StateRanges.{StateInRange};
+ghost use Rattle.centre_core.specs.Laws.{AcceptedAreAnswered, AcceptedAreNumbered, AcceptedAreKept, HistoriesAreNumbered, ServedAreLast, SameAgain, NamesAreSame, AcceptsAreSame, AfterIsSame, FreshIsSame, HistoriesAreSame, StepIsSame, EmptyIsState, StepKeepsState, EmptyIsInRange, StepKeepsRanges, NoneLost, NoneLostMade, OnlyAcceptedChange, StepIsNext, ResendsAreAnswered, ResendsAreIdle};
 
 use crate::{Command, Register};
 pub use in_turn::{accepted_in_turn, replies_say};
@@ -17,9 +18,16 @@ pub fn states<A: Allocator>()
     ensures step { StepKeepsState A }
 {}
 
-/// What holds of every state holds of each register.
+/// A new register's state is in range, and a command keeps it so.
+pub fn ranges<A: Allocator>()
+    ensures empty { EmptyIsInRange }
+    ensures step { StepKeepsRanges A }
+{}
+
+/// What holds of every state holds of each register, and its state is in range.
 pub fn registers<A: Allocator>(register: &Register<A>)
-    ensures { IsState register.now }
+    ensures state { IsState register.now }
+    ensures ranges { StateInRange register.now }
 {
     register.keep_state()
 }

@@ -12,6 +12,7 @@ pub mod laws;
 mod query;
 mod register;
 mod reply;
+mod tables;
 
 pub use command::{Body, Command};
 pub use query::{Attachments, Items, Query, Told};

@@ -1,5 +1,6 @@
-use Rattle.centre_core.proofs.MailLaws.{keeps_by_reply}
+use Rattle.centre_core.proofs.RangeLaws.{applied_ranges}
 use Rattle.centre_core.proofs.register.Register.apply.Goals as goal
 
-pub returns-clause-messages : goal.returns-clause-messages
-returns-clause-messages g c = keeps_by_reply c.args.self.now c.step.new.self c.args.command.now c.step.result c.step.ensures.ok
+pub invariant_of-self : goal.invariant_of-self
+invariant_of-self g c =
+    applied_ranges _ c.self.inside.tables _ c.args.command.now c.apply.result c.keep_ranges.ensures c.apply.ensures.ok c.apply.ensures.err c.self.invariant

@@ -1,0 +1,18 @@
+use Rattle.std.proofs.Common.{◌≡◌, rules, sym, subst, Ok}
+use Rattle.std.specs.Prelude.{IfOk}
+use Rattle.sds_tl.specs.declared.pdu.Head.TheVariants.{Transfer, Report}
+use Rattle.sds_tl.specs.Reading.{heading}
+use Rattle.centre_core.specs.Step.{message_of, report_of, step_sds, step_message, step_report}
+use Rattle.centre_core.proofs.tables.Tables.short_data.Goals as goal
+
+pub returns-in-Transfer-clause-ok : goal.returns-in-Transfer-clause-ok
+returns-in-Transfer-clause-ok g c =
+    let read : heading c.args.pdu.now ≡ Ok (Transfer c.in-Transfer.request c.in-Transfer.reference) = search rules in
+    subst (λ head. IfOk c.post.result (λ reply. (c.post.new.self, reply) ≡ step_sds c.args.self.now c.args.command.now c.args.source c.args.destination c.args.pdu.now head)) (sym read)
+    (subst (λ e. IfOk c.post.result (λ reply. (c.post.new.self, reply) ≡ step_message c.args.self.now c.args.command.now (message_of c.args.self.now c.args.command.now.moment e c.args.pdu.now))) c.envelope-envelope.ensures c.post.ensures.ok)
+
+pub returns-in-Report-clause-ok : goal.returns-in-Report-clause-ok
+returns-in-Report-clause-ok g c =
+    let read : heading c.args.pdu.now ≡ Ok (Report c.in-Report.acknowledge c.in-Report.status c.in-Report.reference) = search rules in
+    subst (λ head. IfOk c.report.result (λ reply. (c.report.new.self, reply) ≡ step_sds c.args.self.now c.args.command.now c.args.source c.args.destination c.args.pdu.now head)) (sym read)
+    (subst (λ e. IfOk c.report.result (λ reply. (c.report.new.self, reply) ≡ step_report c.args.self.now c.args.command.now e c.in-Report.status (report_of c.args.self.now c.args.command.now.moment e c.args.pdu.now))) c.envelope-envelope-in-Report.ensures c.report.ensures.ok)

@@ -1,0 +1,383 @@
+//! What a register holds, and what its calls make of it.
+
+mod group_messages;
+mod messages;
+
+ghost use Rattle.std.specs.Prelude.{◌≡◌, ◌<◌, ◌≤◌, ◌+◌, IfOk, OnErr, None};
+ghost use Rattle.mm_pdus.specs.UplinkReading.{reading_up};
+ghost use Rattle.group_attach.specs.Attached.{groups_of};
+ghost use Rattle.centre_core.specs.State.{empty, IsState};
+ghost use Rattle.centre_core.specs.Step.{step, step_new, step_mm, step_rule, step_clear, step_locate, step_detach, step_groups, accept_pdu, acknowledge_pdu, accepted, IsOfStation, CanBeAccepted};
+ghost use Rattle.centre_core.specs.Tell.{AsksForList, present_members, tell};
+ghost use Rattle.centre_core.specs.History.{is_acceptance, names};
+ghost use Rattle.centre_core.specs.Laws.{KeepsMessages};
+
+use crate::answers::{
+    accept_pdu, acknowledge_pdu, groups_refusal, location_refusal, registration_refusal,
+};
+use crate::last_accepted::{LastAccepted, bits_copy, copied, copy_of, keep, none_accepted};
+use crate::{Attachments, Body, Command, Query, Refusal, Reply, Told};
+use group_attach::{Attachment, Groups};
+use identity::{Bits, Gtsi, Itsi, Prefix};
+use mailbox::Mail;
+use mm_pdus::{GroupItems, GroupMode, GroupUp, LocationUpdateType, MmFault, MmUp, read_up};
+use prefix_tree::TryCopy;
+use registration::{Limits, LocationArea, Registry, Rule};
+use std::alloc::{AllocError, Allocator};
+use std::marker::Model;
+
+/// The greatest number of an accepted command, 2 to the 62nd.
+const LAST_NUMBER: u64 = 4_611_686_018_427_387_904;
+
+/// What a register holds: rules, radios and their groups, what waits in the mail, and of each station
+/// what was answered to its last accepted command.
+#[derive(Drop)]
+pub(crate) struct Tables<A: Allocator> {
+    alloc: A,
+    registry: Registry<A>,
+    groups: Groups<A>,
+    mail: Mail<A>,
+    // The entry of station 1 comes first. There is one for each station from the start, so that an
+    // accepted command is written without memory.
+    served: Vec<Option<LastAccepted<A>>, A>,
+    count: u64,
+}
+
+impl<A: Allocator> Model for Tables<A> {
+    ghost use Rattle.centre_core.specs.State.{State, coded_state, IsState};
+
+    ghost Value = { State };
+
+    ghost coded = { coded_state };
+
+    ghost view = { λ r. record { registered = r.registry; groups = r.groups; mail = r.mail; served = r.served.items; count = r.count } };
+
+    ghost invariant = { λ r. IsState (record { registered = r.registry; groups = r.groups; mail = r.mail; served = r.served.items; count = r.count }) };
+}
+
+impl<A: Allocator> Tables<A> {
+    // What its fields keep, as a clause.
+    pub(crate) fn keep_state(&self)
+        ensures { IsState self.now }
+    {
+        let _count = self.count;
+    }
+}
+
+impl<A: Allocator + Clone> Tables<A> {
+    // No rules, no radios, no attachments, nothing that waits and no command accepted.
+    pub(crate) fn new(alloc: A, limits: Limits) -> Result<Self, AllocError>
+        ensures { IfOk result (λ tables. tables ≡ empty limits) }
+    {
+        Ok(Tables {
+            registry: Registry::new(alloc.clone()?, limits)?,
+            groups: Groups::new(alloc.clone()?),
+            mail: Mail::new(alloc.clone()?, limits),
+            served: none_accepted(&alloc, limits.stations)?,
+            count: 0,
+            alloc,
+        })
+    }
+
+    pub(crate) fn limits(&self) -> Limits
+        ensures { result ≡ self.now.registered.limits }
+    {
+        self.registry.limits()
+    }
+
+    pub(crate) fn count(&self) -> u64
+        ensures { result ≡ self.now.count }
+    {
+        self.count
+    }
+
+    pub(crate) fn query<C: Allocator + Copy>(
+        &self,
+        alloc: C,
+        query: &Query,
+    ) -> Result<Told<C>, AllocError>
+        ensures ok { IfOk result (λ told. told ≡ tell self.now query.now) }
+        ensures memory { OnErr result (AsksForList query.now) }
+    {
+        match *query {
+            Query::Whereabouts(itsi) => Ok(Told::Whereabouts {
+                itsi,
+                radio: self.registry.where_is(itsi),
+            }),
+            Query::Look(itsi) => Ok(Told::Look {
+                itsi,
+                rule: self.registry.longest_rule(itsi.number()),
+            }),
+            Query::GroupsOf(itsi) => Ok(Told::Groups {
+                itsi,
+                groups: Attachments {
+                    items: self.attachments_of(alloc, itsi)?,
+                },
+            }),
+            Query::MembersOf(gtsi) => Ok(Told::Members {
+                gtsi,
+                members: Attachments {
+                    items: self.present_members(alloc, gtsi)?,
+                },
+            }),
+            Query::Waiting(itsi) => Ok(Told::Waiting {
+                itsi,
+                items: self.waiting(alloc, itsi)?,
+            }),
+            Query::Total => Ok(Told::Total(self.count)),
+        }
+    }
+
+    // The attachments of a radio.
+    fn attachments_of<C: Allocator>(
+        &self,
+        alloc: C,
+        itsi: Itsi,
+    ) -> Result<Vec<Attachment, C>, AllocError>
+        ensures { IfOk result (λ list. list.items ≡ groups_of self.now.groups itsi) }
+    {
+        self.groups.groups_of(alloc, itsi)
+    }
+
+    // The attachments to a group whose radios are present.
+    fn present_members<C: Allocator>(
+        &self,
+        alloc: C,
+        gtsi: Gtsi,
+    ) -> Result<Vec<Attachment, C>, AllocError>
+        ensures { IfOk result (λ list. list.items ≡ present_members self.now gtsi) }
+    {
+        let mut members = self.groups.members_of(alloc, gtsi)?;
+        members.retain(|member| self.registry.is_present(member.itsi));
+        Ok(members)
+    }
+
+    pub(crate) fn apply<B: Allocator, C: Allocator + Copy>(
+        &mut self,
+        alloc: C,
+        command: &Command<B>,
+    ) -> Result<Reply<C>, AllocError>
+        ensures ok { IfOk result (λ reply. (self.new, reply) ≡ step self.old command.now) }
+        // No message is lost, but for what the command ends.
+        ensures messages { IfOk result (λ reply. KeepsMessages self.old.mail self.new.mail (is_acceptance reply) (names command.now)) }
+        ensures err { OnErr result (self.new ≡ self.old) }
+    {
+        self.step(alloc, command)
+    }
+
+    #[tactic(auto, unfolding(crate::specs::Step::step))]
+    fn step<B: Allocator, C: Allocator + Copy>(
+        &mut self,
+        alloc: C,
+        command: &Command<B>,
+    ) -> Result<Reply<C>, AllocError>
+        ensures ok { IfOk result (λ reply. (self.new, reply) ≡ step self.old command.now) }
+        ensures err { OnErr result (self.new ≡ self.old) }
+    {
+        if command.station == 0 || u32::from(command.station) > self.registry.limits().stations {
+            return Ok(Reply::Refused(Refusal::UnknownStation));
+        }
+        if let Some(last) = &self.served[command.station as usize - 1] {
+            if command.sequence < last.sequence {
+                return Ok(Reply::Refused(Refusal::OldSequence {
+                    last: last.sequence,
+                }));
+            }
+            if command.sequence == last.sequence {
+                return last.again(alloc);
+            }
+        }
+        self.apply_new(alloc, command)
+    }
+
+    // A command that is new to its station.
+    fn apply_new<B: Allocator, C: Allocator + Copy>(
+        &mut self,
+        alloc: C,
+        command: &Command<B>,
+    ) -> Result<Reply<C>, AllocError>
+        requires { IsOfStation self.old command.now }
+        ensures ok { IfOk result (λ reply. (self.new, reply) ≡ step_new self.old command.now) }
+        ensures err { OnErr result (self.new ≡ self.old) }
+    {
+        if self.count >= LAST_NUMBER {
+            return Ok(Reply::Refused(Refusal::NumbersUsedUp));
+        }
+        match &command.body {
+            Body::RuleSet { prefix, rule } => self.set_rule(command, *prefix, *rule),
+            Body::RuleClear { prefix } => Ok(self.clear_rule(command, prefix)),
+            Body::Mm { itsi, area, pdu } => self.mobility(alloc, command, *itsi, *area, pdu),
+            Body::Sds {
+                source,
+                destination,
+                pdu,
+            } => self.short_data(command, *source, *destination, pdu),
+            Body::GroupSds { source, group, pdu } => {
+                self.group_short_data(alloc, command, *source, *group, pdu)
+            }
+            Body::Sent(key) => Ok(self.sent(command, key)),
+            Body::Expire => Ok(self.expire(command)),
+            Body::Delete(key) => Ok(self.delete(command, key)),
+        }
+    }
+
+    fn set_rule<B: Allocator, C: Allocator>(
+        &mut self,
+        command: &Command<B>,
+        prefix: Prefix,
+        rule: Rule,
+    ) -> Result<Reply<C>, AllocError>
+        requires { CanBeAccepted self.old command.now }
+        ensures ok { IfOk result (λ reply. (self.new, reply) ≡ step_rule self.old command.now prefix rule) }
+        ensures err { OnErr result (self.new ≡ self.old) }
+    {
+        if let Err(fault) = self.registry.set_rule(prefix, rule) {
+            return Ok(Reply::Refused(registration_refusal(fault)?));
+        }
+        let number = self.accept(command, None);
+        Ok(Reply::Accepted { number, pdu: None })
+    }
+
+    // It takes no memory.
+    fn clear_rule<B: Allocator, C: Allocator>(
+        &mut self,
+        command: &Command<B>,
+        prefix: &Prefix,
+    ) -> Reply<C>
+        requires { CanBeAccepted self.old command.now }
+        ensures { (self.new, result) ≡ step_clear self.old command.now prefix.now }
+    {
+        self.registry.clear_rule(prefix);
+        let number = self.accept(command, None);
+        Reply::Accepted { number, pdu: None }
+    }
+
+    fn mobility<B: Allocator, C: Allocator + Copy>(
+        &mut self,
+        alloc: C,
+        command: &Command<B>,
+        itsi: Itsi,
+        area: LocationArea,
+        pdu: &Bits<B>,
+    ) -> Result<Reply<C>, AllocError>
+        requires { CanBeAccepted self.old command.now }
+        ensures ok { IfOk result (λ reply. (self.new, reply) ≡ step_mm self.old command.now itsi area (reading_up pdu.now)) }
+        ensures err { OnErr result (self.new ≡ self.old) }
+    {
+        match read_up(alloc, pdu) {
+            Err(MmFault::NoMemory) => Err(AllocError),
+            Err(fault) => Ok(Reply::Refused(Refusal::Pdu(fault))),
+            Ok(MmUp::Demand { update }) => self.locate(alloc, command, itsi, area, update),
+            Ok(MmUp::Detach) => Ok(self.detach(command, itsi)),
+            Ok(MmUp::Groups { mode, items }) => {
+                self.change_groups(alloc, command, itsi, mode, &items)
+            }
+        }
+    }
+
+    fn locate<B: Allocator, C: Allocator + Copy>(
+        &mut self,
+        alloc: C,
+        command: &Command<B>,
+        itsi: Itsi,
+        area: LocationArea,
+        update: LocationUpdateType,
+    ) -> Result<Reply<C>, AllocError>
+        requires { CanBeAccepted self.old command.now }
+        ensures ok { IfOk result (λ reply. (self.new, reply) ≡ step_locate self.old command.now itsi area update) }
+        ensures err { OnErr result (self.new ≡ self.old) }
+    {
+        let (kept, pdu) = self.accept_pdus(alloc, update)?;
+        if let Err(fault) = self.registry.locate(itsi, command.station, area, update) {
+            return Ok(Reply::Refused(location_refusal(alloc, update, fault)?));
+        }
+        self.groups.on_update(itsi, update);
+        let number = self.accept(command, kept);
+        Ok(Reply::Accepted { number, pdu })
+    }
+
+    // A location update's acceptance, once to keep and once to answer.
+    fn accept_pdus<C: Allocator>(
+        &self,
+        alloc: C,
+        update: LocationUpdateType,
+    ) -> Result<(Option<Bits<A>>, Option<Bits<C>>), AllocError>
+        ensures { IfOk result (λ pdus. pdus ≡ (accept_pdu update, accept_pdu update)) }
+    {
+        let kept = accept_pdu(self.alloc.clone()?, update)?;
+        let pdu = copy_of(alloc, &kept)?;
+        Ok((kept, pdu))
+    }
+
+    fn change_groups<B: Allocator, C: Allocator + Copy>(
+        &mut self,
+        alloc: C,
+        command: &Command<B>,
+        itsi: Itsi,
+        mode: GroupMode,
+        items: &GroupItems<GroupUp, C>,
+    ) -> Result<Reply<C>, AllocError>
+        requires { CanBeAccepted self.old command.now }
+        ensures ok { IfOk result (λ reply. (self.new, reply) ≡ step_groups self.old command.now itsi mode items.now) }
+        ensures err { OnErr result (self.new ≡ self.old) }
+    {
+        let (kept, pdu) = self.acknowledge_pdus(alloc, itsi, items)?;
+        if let Err(fault) = self.groups.change(&self.registry, itsi, mode, items) {
+            return Ok(Reply::Refused(groups_refusal(fault)?));
+        }
+        let number = self.accept(command, Some(kept));
+        Ok(Reply::Accepted {
+            number,
+            pdu: Some(pdu),
+        })
+    }
+
+    // An acknowledgement, once to keep and once to answer.
+    fn acknowledge_pdus<C: Allocator + Copy>(
+        &self,
+        alloc: C,
+        itsi: Itsi,
+        items: &GroupItems<GroupUp, C>,
+    ) -> Result<(Bits<A>, Bits<C>), AllocError>
+        ensures { let text = acknowledge_pdu self.now.registered itsi items.now in IfOk result (λ pdus. pdus ≡ (text, text)) }
+    {
+        let kept = acknowledge_pdu(self.alloc.clone()?, alloc, &self.registry, itsi, items)?;
+        let pdu = bits_copy(alloc, &kept)?;
+        Ok((kept, pdu))
+    }
+
+    // It takes no memory.
+    fn detach<B: Allocator, C: Allocator>(&mut self, command: &Command<B>, itsi: Itsi) -> Reply<C>
+        requires { CanBeAccepted self.old command.now }
+        ensures { (self.new, result) ≡ step_detach self.old command.now itsi }
+    {
+        if let Err(fault) = self.registry.detach(itsi) {
+            return Reply::Refused(Refusal::Registration(fault));
+        }
+        let number = self.accept(command, None);
+        Reply::Accepted { number, pdu: None }
+    }
+
+    // Counts an accepted command and keeps its reply, without memory. The number is its own.
+    fn accept<B: Allocator>(&mut self, command: &Command<B>, pdu: Option<Bits<A>>) -> u64
+        requires { CanBeAccepted self.old command.now }
+        ensures number { result ≡ self.old.count + 1 }
+        ensures kept { self.new ≡ accepted self.old command.now pdu }
+    {
+        keep(&mut self.served, &mut self.count, command, pdu);
+        self.count
+    }
+}
+
+impl<A: Allocator + Clone> TryCopy for Tables<A> {
+    fn try_copy(&self) -> Result<Self, AllocError> {
+        Ok(Tables {
+            alloc: self.alloc.clone()?,
+            registry: self.registry.try_copy()?,
+            groups: self.groups.try_copy()?,
+            mail: self.mail.try_copy()?,
+            served: copied(&self.alloc, &self.served)?,
+            count: self.count,
+        })
+    }
+}
