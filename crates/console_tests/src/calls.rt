@@ -1,16 +1,10 @@
 //! Single calls: a line is read, an answer is printed.
 
+use crate::served::order;
 use centre_core::{Body, Command, Query, Told};
 use console::{Answer, Line, LineFault, Service, laws, parse_line, print_answer};
 use std::alloc::Global;
 use std::test::Fail;
-
-fn order(alloc: Global, line: &str) -> Result<Command<Global>, Fail> {
-    match parse_line(alloc, 3, line.as_bytes()) {
-        Ok(Line::Order(command)) => Ok(command),
-        _ => Err(Fail::from("no command")),
-    }
-}
 
 fn is_attach(command: &Command<Global>) -> bool {
     let Body::Mm { itsi, area, pdu } = &command.body else {
@@ -22,7 +16,7 @@ fn is_attach(command: &Command<Global>) -> bool {
 
 #[test]
 fn lines_are_read(rt: HostRuntime) -> Result<(), Fail> {
-    assert!(rt; is_attach(&order(rt.alloc(), "2 10 mm 234-14-2001 7 10:260")?));
+    assert!(rt; is_attach(&order(rt.alloc(), 3, "2 10 mm 234-14-2001 7 10:260")?));
     let query = parse_line(rt.alloc(), 3, b"where 234-14-2001");
     assert!(rt; matches!(query, Ok(Line::Ask(Query::Whereabouts(_)))));
     let bad = parse_line(rt.alloc(), 3, b"x");

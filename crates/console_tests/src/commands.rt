@@ -1,7 +1,7 @@
 //! Commands by themselves: what can be one, and copies of one.
 
+use crate::served::order;
 use centre_core::{Body, Command};
-use console::{Line, parse_line};
 use identity::{BitWriter, Bits, Itsi};
 use linked_list_allocator::LocalHeap;
 use std::alloc::Global;
@@ -37,16 +37,9 @@ fn a_command_has_a_sequence_and_a_pdu_in_range(rt: HostRuntime) -> Result<(), Fa
     Ok(())
 }
 
-fn order(alloc: Global, line: &str) -> Result<Command<Global>, Fail> {
-    match parse_line(alloc, 4, line.as_bytes()) {
-        Ok(Line::Order(command)) => Ok(command),
-        _ => Err(Fail::from("no command")),
-    }
-}
-
 /// Whether the copy of this order in a heap has its head.
 fn is_copied_with_its_head(alloc: Global, heap: &LocalHeap, line: &str) -> Result<bool, Fail> {
-    let copy = order(alloc, line)?.try_copy(heap)?;
+    let copy = order(alloc, 4, line)?.try_copy(heap)?;
     Ok((copy.station, copy.sequence, copy.moment) == (4, 7, 100))
 }
 

@@ -1,62 +1,45 @@
 //! Runs over registers with room for one item and for two: a message to a group of two waits for both or for nobody.
 
 use crate::limits::limits;
+use crate::served::answers;
 use centre_core::Register;
-use console::run;
 use std::alloc::Global;
 use std::test::Fail;
 
-const LINES: [&str; 10] = [
-    "1 0 rule 234-14-0/24 1 99 1 3600\n",
-    "2 10 mm 234-14-2001 7 10:260\n",
-    "3 20 mm 234-14-2001 7 60:7380480A00007D0\n",
-    "4 21 mm 234-14-2002 7 10:260\n",
-    "5 22 mm 234-14-2002 7 60:7380480A00007D0\n",
-    "6 23 mm 234-14-2003 7 10:260\n",
-    "7 100 gsds 234-14-2003 234-14-1000 48:820405014849\n",
-    "mail 234-14-2001\n",
-    "mail 234-14-2002\n",
-    "count\n",
-];
+const LINES: &str = "1 0 rule 234-14-0/24 1 99 1 3600\n\
+     2 10 mm 234-14-2001 7 10:260\n\
+     3 20 mm 234-14-2001 7 60:7380480A00007D0\n\
+     4 21 mm 234-14-2002 7 10:260\n\
+     5 22 mm 234-14-2002 7 60:7380480A00007D0\n\
+     6 23 mm 234-14-2003 7 10:260\n\
+     7 100 gsds 234-14-2003 234-14-1000 48:820405014849\n\
+     mail 234-14-2001\n\
+     mail 234-14-2002\n\
+     count\n";
 
-const FOR_NOBODY: [&str; 4] = [
-    "7 no centre-full\n",
-    "mail 234-14-2001 0\n",
-    "mail 234-14-2002 0\n",
-    "count 6\n",
-];
+const FOR_NOBODY: &str = "7 no centre-full\n\
+     mail 234-14-2001 0\n\
+     mail 234-14-2002 0\n\
+     count 6\n";
 
-const FOR_BOTH: [&str; 6] = [
-    "7 ok 7 -\n",
-    "mail 234-14-2001 1\n",
-    "item 7 m 234-14-2003 5 3700 48:820405014849 234-14-1000\n",
-    "mail 234-14-2002 1\n",
-    "item 7 m 234-14-2003 5 3700 48:820405014849 234-14-1000\n",
-    "count 7\n",
-];
-
-fn joined(alloc: Global, parts: &[&str]) -> Result<Vec<u8>, Fail> {
-    let mut text = Vec::new(alloc);
-    for part in parts {
-        text.extend_from_slice(part.as_bytes())?;
-    }
-    Ok(text)
-}
+const FOR_BOTH: &str = "7 ok 7 -\n\
+     mail 234-14-2001 1\n\
+     item 7 m 234-14-2003 5 3700 48:820405014849 234-14-1000\n\
+     mail 234-14-2002 1\n\
+     item 7 m 234-14-2003 5 3700 48:820405014849 234-14-1000\n\
+     count 7\n";
 
 /// Whether the answers end so where this many items may wait.
-fn end_so(alloc: Global, room: u32, answers: &[&str]) -> Result<bool, Fail> {
-    let lines = joined(alloc, &LINES)?;
-    let end = joined(alloc, answers)?;
-    let mut reader = lines.as_slice();
-    let mut desk = Register::new(alloc, limits(16, 16, room)?)?;
-    let mut out = Vec::new(alloc);
-    let ran = run(alloc, &mut reader, &mut out, 1, 9, &mut desk);
-    Ok(ran.is_ok() && out.as_slice().ends_with(end.as_slice()))
+fn end_so(alloc: Global, room: u32, end: &str) -> Result<bool, Fail> {
+    let limits = limits(16, 16, room)?;
+    let mut desk = Register::new(alloc, limits)?;
+    let said = answers(alloc, alloc, &mut desk, LINES.as_bytes());
+    Ok(said.map_or(false, |out| out.as_slice().ends_with(end.as_bytes())))
 }
 
 #[test]
 fn a_message_waits_for_both_or_for_nobody(rt: HostRuntime) -> Result<(), Fail> {
     let alloc = rt.alloc();
-    assert!(rt; end_so(alloc, 1, &FOR_NOBODY)? && end_so(alloc, 2, &FOR_BOTH)?);
+    assert!(rt; end_so(alloc, 1, FOR_NOBODY)? && end_so(alloc, 2, FOR_BOTH)?);
     Ok(())
 }

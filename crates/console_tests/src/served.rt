@@ -1,8 +1,9 @@
 //! Lines that are served one after the other, and what a register answers to them.
 
-use centre_core::Register;
-use console::run;
+use centre_core::{Command, Register};
+use console::{Line, parse_line, run};
 use std::alloc::{Allocator, Global};
+use std::test::Fail;
 
 /// What a register answers to these lines, where the run's own memory lies under `own`; nothing where the run failed.
 pub fn answers<A: Allocator + Clone, B: Allocator + Copy + Drop>(
@@ -30,5 +31,13 @@ pub fn are_answered<A: Allocator + Clone, B: Allocator + Copy + Drop>(
     match answers(alloc, own, desk, lines) {
         Some(out) => out.as_slice() == want,
         None => false,
+    }
+}
+
+/// The command that a station's line spells.
+pub fn order(alloc: Global, station: u16, line: &str) -> Result<Command<Global>, Fail> {
+    match parse_line(alloc, station, line.as_bytes()) {
+        Ok(Line::Order(command)) => Ok(command),
+        _ => Err(Fail::from("no command")),
     }
 }
