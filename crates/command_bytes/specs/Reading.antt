@@ -1,0 +1,143 @@
+-- Reading commands from bytes: the fields of the table one after the other, each judged by its range.
+use Rattle.std.specs.Prelude.{ℕ, ◌^◌, ◌==◌, Bool, List, [], ◌∷◌, Option, Some, None, nat_le, nat_lt, if◌then◌else◌}
+use Rattle.mm_pdus.specs.declared.lifetime.Lifetime.{Lifetime}
+use Rattle.mm_pdus.specs.Values.{lifetime_of}
+use Rattle.registration.specs.declared.rule.Rule.{Rule}
+use Rattle.mailbox.specs.declared.key.Key.{Key}
+use Rattle.mailbox.specs.declared.key.Kind.{Kind}
+use Rattle.mailbox.specs.declared.key.Kind.TheVariants.{Message, Report}
+use Rattle.centre_core.specs.declared.command.Body.{Body}
+use Rattle.centre_core.specs.declared.command.Body.TheVariants.{RuleSet, RuleClear, Mm, Sds, GroupSds, Sent, Expire, Delete}
+use Rattle.centre_core.specs.Asked.{Asked}
+use Rattle.command_bytes.specs.Fields.{◌>>=◌, number_at, left_at, bytes_for}
+
+-- what was read of the first bytes, and the bytes after it
+abbrev pub Read : Type 0 → Type 0
+Read X = Option (X × List ℕ)
+
+-- ---- the parts
+
+-- a prefix: at most 48 bits from the left of 48
+unfoldable pub prefix_at : List ℕ → Read (List Bool)
+prefix_at bytes = do
+  len ← number_at 1 bytes
+  if nat_le len.0 48 then left_at 6 len.0 len.1 else None
+
+-- a string of at most 2,048 bits
+unfoldable pub bits_at : List ℕ → Read (List Bool)
+bits_at bytes = do
+  len ← number_at 2 bytes
+  if nat_le len.0 2048 then left_at (bytes_for len.0) len.0 len.1 else None
+
+-- a location area, below 2^14
+unfoldable pub area_at : List ℕ → Read ℕ
+area_at bytes = do
+  area ← number_at 2 bytes
+  if nat_lt area.0 (2 ^ 14) then Some area else None
+
+unfoldable pub lifetime_at : List ℕ → Read Lifetime
+lifetime_at bytes = do
+  number ← number_at 1 bytes
+  lifetime ← lifetime_of number.0
+  Some (lifetime, number.1)
+
+-- a rule, low not above high
+unfoldable pub rule_at : List ℕ → Read Rule
+rule_at bytes = do
+  low ← area_at bytes
+  high ← area_at low.1
+  lifetime ← lifetime_at high.1
+  keep ← number_at 4 lifetime.1
+  if nat_le low.0 high.0 then Some (record { low = low.0; high = high.0; lifetime = lifetime.0; keep = keep.0 }, keep.1) else None
+
+abbrev pub kind_of : ℕ → Option Kind
+kind_of number = if number == 0 then Some Message else if number == 1 then Some Report else None
+
+unfoldable pub key_at : List ℕ → Read Key
+key_at bytes = do
+  destination ← number_at 6 bytes
+  source ← number_at 6 destination.1
+  reference ← number_at 1 source.1
+  number ← number_at 1 reference.1
+  kind ← kind_of number.0
+  Some (record { destination = destination.0; source = source.0; reference = reference.0; kind = kind }, number.1)
+
+-- ---- the bodies
+
+module _ {A : Type 0} where
+  unfoldable pub rule_set_at : List ℕ → Read (Body A)
+  rule_set_at bytes = do
+    prefix ← prefix_at bytes
+    rule ← rule_at prefix.1
+    Some (RuleSet prefix.0 rule.0, rule.1)
+
+  unfoldable pub rule_clear_at : List ℕ → Read (Body A)
+  rule_clear_at bytes = do
+    prefix ← prefix_at bytes
+    Some (RuleClear prefix.0, prefix.1)
+
+  unfoldable pub mm_at : List ℕ → Read (Body A)
+  mm_at bytes = do
+    itsi ← number_at 6 bytes
+    area ← area_at itsi.1
+    pdu ← bits_at area.1
+    Some (Mm itsi.0 area.0 pdu.0, pdu.1)
+
+  unfoldable pub sds_at : List ℕ → Read (Body A)
+  sds_at bytes = do
+    source ← number_at 6 bytes
+    destination ← number_at 6 source.1
+    pdu ← bits_at destination.1
+    Some (Sds source.0 destination.0 pdu.0, pdu.1)
+
+  unfoldable pub sent_at : List ℕ → Read (Body A)
+  sent_at bytes = do
+    key ← key_at bytes
+    Some (Sent key.0, key.1)
+
+  unfoldable pub delete_at : List ℕ → Read (Body A)
+  delete_at bytes = do
+    key ← key_at bytes
+    Some (Delete key.0, key.1)
+
+  unfoldable pub group_sds_at : List ℕ → Read (Body A)
+  group_sds_at bytes = do
+    source ← number_at 6 bytes
+    group ← number_at 6 source.1
+    pdu ← bits_at group.1
+    Some (GroupSds source.0 group.0 pdu.0, pdu.1)
+
+  -- the body behind a tag
+  unfoldable pub body_at : ℕ → List ℕ → Read (Body A)
+  body_at tag bytes =
+      if tag == 1 then rule_set_at bytes
+      else if tag == 2 then rule_clear_at bytes
+      else if tag == 3 then mm_at bytes
+      else if tag == 4 then sds_at bytes
+      else if tag == 5 then sent_at bytes
+      else if tag == 6 then Some (Expire, bytes)
+      else if tag == 7 then delete_at bytes
+      else if tag == 8 then group_sds_at bytes
+      else None
+
+  -- ---- the whole
+
+  -- the command with which bytes begin, and the bytes after it; sequences count from 1
+  unfoldable pub first_command : List ℕ → Read (Asked A)
+  first_command bytes = do
+    station ← number_at 2 bytes
+    sequence ← number_at 4 station.1
+    moment ← number_at 4 sequence.1
+    tag ← number_at 1 moment.1
+    body ← body_at tag.0 tag.1
+    if sequence.0 == 0 then None else Some (record { station = station.0; sequence = sequence.0; moment = moment.0; body = body.0 }, body.1)
+
+  -- what was read, if it was all
+  abbrev pub whole : Read (Asked A) → Option (Asked A)
+  whole None = None
+  whole (Some (c, [])) = Some c
+  whole (Some (c, b ∷ rest)) = None
+
+  -- the command that bytes spell, all of them
+  abbrev pub command_of : List ℕ → Option (Asked A)
+  command_of bytes = whole (first_command bytes)
