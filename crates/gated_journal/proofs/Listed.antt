@@ -9,7 +9,8 @@ use Rattle.identity.specs.Packed.{AreBytes}
 use Rattle.command_bytes.specs.Fields.{◌>>=◌}
 use Rattle.command_bytes.specs.Text.{IsCommand, command_text, longest}
 use Rattle.command_bytes.specs.Reading.{first_command}
-use Rattle.command_bytes.proofs.Laws.{command_again, command_short, command_takes}
+use Rattle.command_bytes.proofs.BodyLaws.{command_again, command_takes}
+use Rattle.command_bytes.proofs.Sizes.{command_short}
 use Rattle.gated_journal.specs.Record.{Packed, IsRecord, commands_in, pack, packed_of, packed_text, record_of, record_text}
 use Rattle.gated_journal.proofs.Packed.{IsPacked, packed_again}
 use Rattle.gated_journal.proofs.Taken.{bind_some, packed_taken}
