@@ -1,15 +1,15 @@
 -- The two laws of a body, and of a command.
-use Rattle.std.proofs.Common.{◌≡◌, ℕ, zero, suc, ◌+◌, ◌^◌, ◌<◌, ◌≤◌, Bool, true, false, cond, eqb, List, [], ◌∷◌, ◌++◌, length, Option, Some, None, refl, sym, ap, subst, ◌∙◌, arith}
+use Rattle.std.proofs.Common.{◌≡◌, ℕ, zero, suc, ◌^◌, ◌<◌, ◌≤◌, Bool, true, false, cond, eqb, List, ◌++◌, length, Some, None, refl, sym, ap, subst, arith}
 use Rattle.std.proofs.lemmas.Bool.{eqb-true, ne_eqb}
 use Rattle.registration.specs.declared.rule.Rule.{Rule}
 use Rattle.mailbox.specs.declared.key.Key.{Key}
 use Rattle.centre_core.specs.declared.command.Body.{Body}
 use Rattle.centre_core.specs.declared.command.Body.TheVariants.{RuleSet, RuleClear, Mm, Sds, GroupSds, Sent, Expire, Delete}
 use Rattle.centre_core.specs.Asked.{Asked}
-use Rattle.centre_core.specs.Ranges.{BodyInRange, InRange}
+use Rattle.centre_core.specs.Ranges.{BodyInRange}
 use Rattle.identity.specs.Packed.{AreBytes}
 use Rattle.command_bytes.specs.Fields.{◌>>=◌, big, number_at}
-use Rattle.command_bytes.specs.Text.{prefix_text, rule_text, bits_text, key_text, tag_of, body_text, command_text, IsCommand}
+use Rattle.command_bytes.specs.Text.{prefix_text, rule_text, bits_text, tag_of, body_text, command_text, IsCommand}
 use Rattle.command_bytes.specs.Reading.{Read, prefix_at, rule_at, bits_at, area_at, key_at, rule_set_at, rule_clear_at, mm_at, sds_at, sent_at, delete_at, group_sds_at, body_at, first_command}
 use Rattle.command_bytes.proofs.Numbers.{number_small, number_again}
 use Rattle.command_bytes.proofs.Steps.{Takes, behind, bind_some, some_is, some_unless, then_again, last_again}
@@ -220,11 +220,14 @@ module _ {A : Type 0} where
       (behind (big 4 sequence.0) (big 4 moment.0 ++ (big 1 (tag_of body.0) ++ body_text body.0)) second
       (behind (big 4 moment.0) (big 1 (tag_of body.0) ++ body_text body.0) third
       (behind (big 1 (tag_of body.0)) (body_text body.0) named fifth.takes))) in
-      subst (λ (y : Asked A × List ℕ). IsCommand y.0 × (bytes ≡ command_text y.0 ++ y.1) × AreBytes y.1) (some_is (record { station = station.0; sequence = sequence.0; moment = moment.0; body = body.0 }, body.1) (c, rest) h.1)
-      (record {
-        station = number_small 2 bytes station are a.1;
-        range = record { above = above; sequence = number_small 4 station.1 sequence first.are b.1; moment = number_small 4 sequence.1 moment second.are d.1; body = fifth.fits };
-      }, text.is, text.are)
+      subst (λ (y : Asked A × List ℕ). IsCommand y.0 × (bytes ≡ command_text y.0 ++ y.1) × AreBytes y.1) (some_is (record { station = station.0; sequence = sequence.0; moment = moment.0; body = body.0 }, body.1) (c, rest) h.1) (
+        record {
+          station = number_small 2 bytes station are a.1;
+          range = record { above = above; sequence = number_small 4 station.1 sequence first.are b.1; moment = number_small 4 sequence.1 moment second.are d.1; body = fifth.fits };
+        },
+        text.is,
+        text.are,
+      )
     where
       not_zero : (n : ℕ) → eqb n 0 ≡ false → 0 < n
       not_zero zero e = absurd cc

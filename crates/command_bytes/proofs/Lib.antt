@@ -7,3 +7,4 @@ pub mod Putting
 pub mod PartLaws
 pub mod Sizes
 pub mod BodyLaws
+pub mod Spelled

@@ -1,19 +1,19 @@
 -- Bits in bytes: the front of some bytes, what fills the last one, and bytes as one number.
-use Rattle.std.proofs.Common.{◌≡◌, ℕ, zero, suc, ◌+◌, ◌-◌, ◌*◌, ◌/◌, ◌%◌, ◌^◌, ◌<◌, ◌≤◌, min, Bool, true, false, cond, eqb, ltb, List, [], ◌∷◌, ◌++◌, length, get_or, slice_index, take, drop, replicate, Option, Some, None, refl, sym, ap, subst, ◌∙◌, arith, append_assoc, inl, inr}
+use Rattle.std.proofs.Common.{◌≡◌, ℕ, zero, suc, ◌+◌, ◌-◌, ◌*◌, ◌/◌, ◌%◌, ◌^◌, ◌<◌, ◌≤◌, min, Bool, true, false, List, [], ◌∷◌, ◌++◌, length, slice_index, take, drop, replicate, Some, None, refl, sym, ap, subst, ◌∙◌, arith, append_assoc, inl, inr}
 use Rattle.std.specs.Prelude.{not, ◌==◌}
 use Rattle.std.specs.List.{list_all, flat_map}
-use Rattle.std.specs.Int.{byte_at, bytes_high_first}
+use Rattle.std.specs.Int.{byte_at}
 use Rattle.std.proofs.lemmas.Bool.{cases_eq, eq-eqb, ne_eqb, le-ltb, lt-ltb}
-use Rattle.std.proofs.lemmas.List.{append-nil, take_at, drop_at, take_all, take_more, length-append, length-take, length-drop, take-append-drop, get_or-drop}
+use Rattle.std.proofs.lemmas.List.{append-nil, take_all}
 use Rattle.std.proofs.lemmas.Nat.{shr_below}
-use Rattle.byteorder.specs.Endian.{big_from, big_number}
+use Rattle.byteorder.specs.Endian.{big_number}
 use Rattle.identity.specs.Number.{num, number}
-use Rattle.identity.specs.NumberLaws.{length-num, num-append, num-mod, take-num, drop-num, zeros_if, zeros_then, number-lt, num-number, number-num}
-use Rattle.identity.specs.Packed.{AreBytes, IsPacked, bits_of}
+use Rattle.identity.specs.NumberLaws.{length-num, num-append, num-mod, take-num, drop-num, zeros_if, zeros_then, num-number}
+use Rattle.identity.specs.Packed.{AreBytes, bits_of}
 use Rattle.identity.proofs.Bytes.{length-bits_of}
 use Rattle.identity.proofs.SameBytes.{bytes_from_bits}
-use Rattle.command_bytes.specs.Fields.{◌>>=◌, big, left, bytes_for, front, number_at, left_at}
-use Rattle.command_bytes.proofs.Numbers.{are-big, length-big, big-read, bytes-take}
+use Rattle.command_bytes.specs.Fields.{◌>>=◌, big, left, front, number_at, left_at}
+use Rattle.command_bytes.proofs.Numbers.{are-big, big-read}
 use Rattle.command_bytes.proofs.Lefts.{all_zeros, zeros_all, pow_256}
 
 -- ---- bytes as one number
@@ -50,6 +50,7 @@ front_byte byte left width v small is_width is_v = (rw is_v (sym (take-num width
   where
     whole : 8 ≡ width + (8 - width)
     whole = omega arith
+
     same : take width (num 8 byte) ≡ take left (num 8 byte)
     same = elim (cases_eq width left) [
       | inl e ↦ ap (λ (n : ℕ). take n (num 8 byte)) e
@@ -128,6 +129,7 @@ last_bits (b ∷ c ∷ bytes) len some room tight =
   where
     less : 8 * length (c ∷ bytes) - (len - 8) ≡ 8 * length (b ∷ c ∷ bytes) - len
     less = omega arith
+
     last : suc (length (c ∷ bytes) - 1) ≡ length (b ∷ c ∷ bytes) - 1
     last = omega arith
 

@@ -1,5 +1,5 @@
 -- The two laws of each part of a command: what is read of it is its text, in its range, and its text is read again.
-use Rattle.std.proofs.Common.{◌≡◌, ℕ, zero, suc, ◌+◌, ◌*◌, ◌/◌, ◌^◌, ◌<◌, ◌≤◌, Bool, true, false, cond, leb, ltb, eqb, List, [], ◌∷◌, ◌++◌, length, Option, Some, None, refl, sym, ap, subst, ◌∙◌, arith}
+use Rattle.std.proofs.Common.{◌≡◌, ℕ, zero, suc, ◌^◌, ◌<◌, ◌≤◌, Bool, true, false, cond, leb, ltb, eqb, List, ◌++◌, length, Some, None, refl, sym, ap, subst, ◌∙◌, arith}
 use Rattle.std.proofs.lemmas.Bool.{eqb-true, leb-true, ltb-true, le-leb, lt-ltb}
 use Rattle.mm_pdus.specs.declared.lifetime.Lifetime.{Lifetime}
 use Rattle.mm_pdus.specs.declared.lifetime.Lifetime.TheVariants.{NotNeeded, NextItsiAttach, NotAllowedAtNextItsiAttach, NextLocationUpdate}
@@ -145,10 +145,12 @@ rule_takes bytes x are e =
     let fourth = number_read 4 lifetime.1 keep third.are d.1 in
     let small = number_small 4 lifetime.1 keep third.are d.1 in
     let f = some_where (leb low.0 high.0) (Some (record { low = low.0; high = high.0; lifetime = lifetime.0; keep = keep.0 }, keep.1)) x d.2 in
-    subst (λ (y : Rule × List ℕ). Takes bytes (rule_text y.0) y.1 × RuleInRange y.0) (some_is (record { low = low.0; high = high.0; lifetime = lifetime.0; keep = keep.0 }, keep.1) x f.1)
-    (behind (big 2 low.0) (big 2 high.0 ++ big 1 (lifetime_number lifetime.0) ++ big 4 keep.0) first.0
-    (behind (big 2 high.0) (big 1 (lifetime_number lifetime.0) ++ big 4 keep.0) second.0
-    (behind (big 1 (lifetime_number lifetime.0)) (big 4 keep.0) third fourth)), (leb-true _ _ f.0, second.1, small))
+    subst (λ (y : Rule × List ℕ). Takes bytes (rule_text y.0) y.1 × RuleInRange y.0) (some_is (record { low = low.0; high = high.0; lifetime = lifetime.0; keep = keep.0 }, keep.1) x f.1) (
+      behind (big 2 low.0) (big 2 high.0 ++ big 1 (lifetime_number lifetime.0) ++ big 4 keep.0) first.0
+          (behind (big 2 high.0) (big 1 (lifetime_number lifetime.0) ++ big 4 keep.0) second.0
+          (behind (big 1 (lifetime_number lifetime.0)) (big 4 keep.0) third fourth)),
+      (leb-true _ _ f.0, second.1, small),
+    )
 
 pub rule_again : (rule : Rule) (rest : List ℕ) → RuleInRange rule → rule_at (rule_text rule ++ rest) ≡ Some (rule, rest)
 unfolding rule_at low_step high_step lifetime_step keep_step big
@@ -209,11 +211,12 @@ key_takes bytes x are e =
     let f = bind_some (kind_of number.0) (kind_step destination.0 source.0 reference.0 number.1) x d.2 in
     let kind : Kind = f.0 in
     let named : Takes reference.1 (big 1 (kind_number kind)) number.1 = subst (λ (n : ℕ). Takes reference.1 (big 1 n) number.1) (sym (kind_is number.0 kind f.1)) fourth in
-    subst (λ (y : Key × List ℕ). Takes bytes (key_text y.0) y.1 × KeyInRange y.0) (some_is (record { destination = destination.0; source = source.0; reference = reference.0; kind = kind }, number.1) x f.2)
-    (behind (big 6 destination.0) (big 6 source.0 ++ big 1 reference.0 ++ big 1 (kind_number kind)) first
-    (behind (big 6 source.0) (big 1 reference.0 ++ big 1 (kind_number kind)) second
-    (behind (big 1 reference.0) (big 1 (kind_number kind)) third named)),
-        (number_small 6 bytes destination are a.1, number_small 6 destination.1 source first.are b.1, number_small 1 source.1 reference second.are c.1))
+    subst (λ (y : Key × List ℕ). Takes bytes (key_text y.0) y.1 × KeyInRange y.0) (some_is (record { destination = destination.0; source = source.0; reference = reference.0; kind = kind }, number.1) x f.2) (
+      behind (big 6 destination.0) (big 6 source.0 ++ big 1 reference.0 ++ big 1 (kind_number kind)) first
+          (behind (big 6 source.0) (big 1 reference.0 ++ big 1 (kind_number kind)) second
+          (behind (big 1 reference.0) (big 1 (kind_number kind)) third named)),
+      (number_small 6 bytes destination are a.1, number_small 6 destination.1 source first.are b.1, number_small 1 source.1 reference second.are c.1),
+    )
 
 pub key_again : (key : Key) (rest : List ℕ) → KeyInRange key → key_at (key_text key ++ rest) ≡ Some (key, rest)
 unfolding key_at destination_step source_step reference_step number_step kind_step big

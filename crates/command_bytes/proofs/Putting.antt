@@ -1,11 +1,10 @@
 -- Fields as they are written.
-use Rattle.std.proofs.Common.{◌≡◌, ℕ, zero, suc, get_or, ◌+◌, ◌-◌, ◌*◌, ◌/◌, ◌<◌, ◌≤◌, Bool, false, List, ◌++◌, length, take, drop, replicate, refl, sym, ap, subst, ◌∙◌, arith}
+use Rattle.std.proofs.Common.{◌≡◌, ℕ, zero, suc, get_or, ◌+◌, ◌-◌, ◌*◌, ◌≤◌, Bool, false, List, ◌++◌, length, take, drop, replicate, refl, sym, ap, subst, ◌∙◌, arith}
 use Rattle.std.specs.Int.{bytes_high_first}
 use Rattle.std.proofs.lemmas.List.{take_all, take-append-drop, length-drop, ext_get_or, get_or-drop, length-replicate}
-use Rattle.identity.specs.Number.{num, number}
 use Rattle.identity.specs.Packed.{AreBytes, IsPacked, bits_of}
 use Rattle.identity.specs.Path.{left_aligned}
-use Rattle.identity.proofs.Bytes.{length-bits_of, length_packed}
+use Rattle.identity.proofs.Bytes.{length-bits_of}
 use Rattle.command_bytes.specs.Fields.{big, left, bytes_for}
 use Rattle.command_bytes.proofs.Numbers.{drop-big, length-big}
 use Rattle.command_bytes.proofs.Packed.{is_left}
@@ -25,10 +24,12 @@ packed_left bytes bits are packed is = (is_left (bytes_for (length bits)) bytes 
   where
     long : length bytes ≡ bytes_for (length bits)
     long = let room = packed.room in let tight = packed.tight in omega (arith, room, tight)
+
     rest : drop (length bits) (bits_of bytes) ≡ replicate (8 * bytes_for (length bits) - length bits) false
     rest =
         let len : length (drop (length bits) (bits_of bytes)) ≡ length (replicate (8 * bytes_for (length bits) - length bits) false) = omega (arith, length-drop (length bits) (bits_of bytes), length-bits_of bytes, length-replicate (8 * bytes_for (length bits) - length bits) false, long) in
         ext_get_or false (drop (length bits) (bits_of bytes)) (replicate (8 * bytes_for (length bits) - length bits) false) len (λ i lt. rw get_or-drop (packed.fill (length bits + i) (omega arith)) ∙ sym (all_false (8 * bytes_for (length bits) - length bits) i))
+
     whole : bits_of bytes ≡ bits ++ replicate (8 * bytes_for (length bits) - length bits) false
     whole = sym (take-append-drop (length bits) (bits_of bytes)) ∙ ap (λ (l : List Bool). l ++ drop (length bits) (bits_of bytes)) is ∙ ap (λ (l : List Bool). bits ++ l) rest
 

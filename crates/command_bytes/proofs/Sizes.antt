@@ -1,5 +1,5 @@
 -- How long the texts of commands are.
-use Rattle.std.proofs.Common.{◌≡◌, ℕ, ◌+◌, ◌≤◌, Bool, List, [], ◌++◌, length, refl, sym, ap, ◌∙◌, arith}
+use Rattle.std.proofs.Common.{◌≡◌, ℕ, ◌+◌, ◌≤◌, Bool, List, [], ◌++◌, length, refl, sym, arith}
 use Rattle.std.proofs.lemmas.List.{append-nil, length-append}
 use Rattle.registration.specs.declared.rule.Rule.{Rule}
 use Rattle.mailbox.specs.declared.key.Key.{Key}
@@ -54,6 +54,7 @@ module _ {A : Type 0} where
   command_size c =
       let head = big 2 c.station ++ big 4 c.sequence ++ big 4 c.moment ++ big 1 (tag_of c.body) in
       omega (arith, length-append head (body_text c.body), length-head c, length-body c.body)
+
   body_short : (body : Body A) → BodyInRange body → body_size body ≤ 270
   body_short (RuleSet prefix rule) fits = omega arith
   body_short (RuleClear prefix) fits = omega arith

@@ -1,5 +1,4 @@
 -- What was read, its bits still in the bytes, as a value.
-use Rattle.std.specs.Prelude.{List, ℕ}
 use Rattle.centre_core.specs.declared.command.Body.{Body}
 use Rattle.centre_core.specs.declared.command.Body.TheVariants.{RuleSet, RuleClear, Mm, Sds, GroupSds, Sent, Expire, Delete}
 use Rattle.centre_core.specs.Asked.{Asked}

@@ -23,7 +23,6 @@ pub struct PackedBits<'a> {
 
 impl<'a> Model for PackedBits<'a> {
     ghost use Rattle.std.specs.Prelude.{List, Bool, length, take, ◌≤◌, ◌*◌};
-
     ghost use Rattle.identity.specs.Packed.{bits_of};
 
     ghost Value = { List Bool };

@@ -59,9 +59,5 @@ pub fn whole<A: Allocator>(bytes: &[u8]) -> Option<ReadCommand<'_>>
     ensures above { IfSome result (λ c. 0 < c.sequence) }
 {
     let (command, rest) = first::<A>(bytes)?;
-    if rest.is_empty() {
-        Some(command)
-    } else {
-        None
-    }
+    if rest.is_empty() { Some(command) } else { None }
 }

@@ -10,5 +10,8 @@ mod command;
 mod decoding;
 mod encoding;
 mod fields;
+pub mod laws;
 mod put;
 
+pub use decoding::{decode, decode_first};
+pub use encoding::{append, encode, text_len};

@@ -75,7 +75,9 @@ fn reads_the_rule<D: Disk>(alloc: Global, disk: &mut D) -> bool {
         return false;
     }
     match Journal::replay(alloc, disk, 0, 39) {
-        Ok((_, records)) => records.len() == 1 && records[0].1.len() == 1 && is_the_rule(&records[0].1[0]),
+        Ok((_, records)) => records.len() == 1
+            && records[0].1.len() == 1
+            && is_the_rule(&records[0].1[0]),
         Err(_) => false,
     }
 }
@@ -85,7 +87,11 @@ fn is_the_rule(command: &Command<Global>) -> bool {
     match &command.body {
         Body::RuleSet { prefix, rule } => {
             let areas = (rule.low().number(), rule.high().number());
-            is_its_head && prefix.len() == 24 && prefix.bits() == 0x3a80_0e00_0000 && areas == (1, 99) && rule.keep() == 3_600
+            is_its_head
+                && prefix.len() == 24
+                && prefix.bits() == 0x3a80_0e00_0000
+                && areas == (1, 99)
+                && rule.keep() == 3_600
         }
         _ => false,
     }
@@ -223,11 +229,7 @@ fn the_longest_commands_take_36_sectors(rt: HostRuntime) -> Result<(), Fail> {
 }
 
 /// Whether a command is added to a disk with room for so many calls.
-fn is_added_in(
-    alloc: Global,
-    command: &Command<Global>,
-    calls: usize,
-) -> Result<bool, AllocError> {
+fn is_added_in(alloc: Global, command: &Command<Global>, calls: usize) -> Result<bool, AllocError> {
     let mut disk = MemoryDisk::new(alloc, 39, calls)?;
     are_kept(alloc, &mut disk, &[command])
 }

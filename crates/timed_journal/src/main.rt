@@ -1,6 +1,7 @@
 //! Fills a half of a disk in memory with records and reads them back, again and again, and tells how long each took,
 //! for `bench/journal`. With no word behind its name it does nothing.
 #![tactic(auto)]
+
 ghost use Rattle.std.specs.Prelude.{◌≡◌, ◌≤◌, length};
 
 use centre_core::{Body, Command};
@@ -35,11 +36,7 @@ fn update(alloc: Global) -> Option<Command<Global>> {
 }
 
 /// Adds records of these commands while there is room. How many they were.
-fn fill<D: Disk>(
-    journal: &mut Journal<Global>,
-    disk: &mut D,
-    commands: &[&Command<Global>],
-) -> u64
+fn fill<D: Disk>(journal: &mut Journal<Global>, disk: &mut D, commands: &[&Command<Global>]) -> u64
     requires end { journal.old.end ≡ 39 }
     requires some { 1 ≤ length commands.now }
     requires few { length commands.now ≤ 64 }

@@ -1,4 +1,4 @@
-use Rattle.std.proofs.Common.{◌≡◌, ◌-◌, ◌*◌, ◌<◌, ◌%◌, ◌^◌, ◌∙◌, get_or, length, arith, sym, ap, refl}
+use Rattle.std.proofs.Common.{◌≡◌, ◌-◌, ◌*◌, ◌<◌, ◌∙◌, get_or, length, arith, refl}
 use Rattle.std.proofs.lemmas.Grind.{common_steps}
 use Rattle.command_bytes.proofs.Packed.{fill_test, no_fill, power}
 use Rattle.command_bytes.proofs.bits.ends_in_zeros.Goals as goal

@@ -1,7 +1,7 @@
-use Rattle.std.proofs.Common.{◌≡◌, ◌≤◌, ◌∙◌, ℕ, Bool, false, true, List, Option, Some, length, take, drop, arith, sym, ap, refl}
+use Rattle.std.proofs.Common.{◌≡◌, ◌≤◌, ◌∙◌, false, true, length, drop, arith, sym}
 use Rattle.std.specs.Prelude.{not}
 use Rattle.std.specs.List.{list_all}
-use Rattle.identity.specs.Packed.{AreBytes, bits_of}
+use Rattle.identity.specs.Packed.{bits_of}
 use Rattle.command_bytes.specs.Fields.{bytes_for}
 use Rattle.command_bytes.proofs.Packed.{left_short, left_unfilled, left_found}
 use Rattle.command_bytes.proofs.bits.left.Goals as goal

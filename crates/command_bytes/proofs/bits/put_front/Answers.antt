@@ -1,4 +1,4 @@
-use Rattle.std.proofs.Common.{◌≡◌, ◌-◌, ◌/◌, ◌^◌, ◌<◌, ◌∙◌, min, arith, sym, ap, rules}
+use Rattle.std.proofs.Common.{◌≡◌, ◌-◌, ◌/◌, ◌^◌, min, arith, ap, rules}
 use Rattle.command_bytes.proofs.Packed.{front_byte}
 use Rattle.command_bytes.proofs.bits.put_front.Goals as goal
 

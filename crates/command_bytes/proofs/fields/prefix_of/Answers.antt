@@ -1,8 +1,3 @@
-use Rattle.std.proofs.Common.{◌-◌, ◌∙◌, arith}
-use Rattle.std.proofs.lemmas.List.{length-drop}
-use Rattle.identity.specs.Number.{num}
-use Rattle.identity.specs.NumberLaws.{length-num}
-use Rattle.identity.specs.Path.{id_path}
 use Rattle.command_bytes.proofs.Fronts.{prefix_front}
 use Rattle.command_bytes.proofs.fields.prefix_of.Goals as goal
 

@@ -1,5 +1,5 @@
-use Rattle.std.proofs.Common.{ℕ, List, ◌++◌, ◌∙◌, ap, arith, append_assoc, length}
-use Rattle.command_bytes.specs.Fields.{big, left, bytes_for}
+use Rattle.std.proofs.Common.{ℕ, List, ◌++◌, ◌∙◌, ap, append_assoc, length}
+use Rattle.command_bytes.specs.Fields.{big}
 use Rattle.command_bytes.proofs.Putting.{packed_left}
 use Rattle.command_bytes.proofs.put.put_bits.Goals as goal
 
