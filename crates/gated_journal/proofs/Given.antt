@@ -1,5 +1,5 @@
 -- Commands that are given under another allocator: the same text.
-use Rattle.std.proofs.Common.{◌≡◌, ℕ, ◌+◌, ◌<◌, ◌≤◌, List, [], ◌∷◌, ◌++◌, length, map, take, get_or, refl, sym, ap, subst, ◌∙◌, append_assoc, arith}
+use Rattle.std.proofs.Common.{◌≡◌, ℕ, ◌+◌, ◌<◌, ◌≤◌, List, [], ◌∷◌, ◌++◌, length, take, get_or, refl, sym, ap, subst, ◌∙◌, append_assoc, arith}
 use Rattle.std.specs.Borrow.{Bor}
 use Rattle.std.specs.List.{All, flat_map}
 use Rattle.std.proofs.lemmas.List.{flat_map_more, length-append, length-map, take_more}
@@ -13,7 +13,7 @@ use Rattle.centre_core.specs.Same.{body_under, under}
 use Rattle.command_bytes.specs.Fields.{big}
 use Rattle.command_bytes.specs.Text.{IsCommand, body_text, command_text, tag_of}
 use Rattle.command_bytes.proofs.Numbers.{length-big}
-use Rattle.gated_journal.specs.Record.{IsRecord, given, most_commands, pack, packed_text, record_text}
+use Rattle.gated_journal.specs.Record.{IsRecord, given, most_commands, packed_text, record_text}
 
 pub head_length : (count size : ℕ) (head : List ℕ) → head ≡ big 2 count ++ big 4 size → length head ≡ 6
 head_length count size head is = ap length is ∙ omega (arith, length-append (big 2 count) (big 4 size), length-big 2 count, length-big 4 size)

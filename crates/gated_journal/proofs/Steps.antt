@@ -1,5 +1,5 @@
 -- Reading commands one after another, as a loop does, and sectors.
-use Rattle.std.proofs.Common.{add-one, append_assoc, option_map, length, zero, suc, ◌∷◌, ◌≢◌, Option, ap, sym, eqb, leb, ltb, slice_index, take, drop, true, false, Bool, ◌⊎◌, Ok, Err, ◌≡◌, ℕ, ◌+◌, ◌≤◌, ◌<◌, List, [], ◌++◌, Some, None, Result, refl, ◌∙◌, arith, inl, inr, ⊎_elim}
+use Rattle.std.proofs.Common.{add-one, append_assoc, option_map, length, suc, ◌∷◌, ◌≢◌, Option, ap, sym, eqb, leb, ltb, slice_index, take, drop, true, false, Bool, ◌⊎◌, Ok, Err, ◌≡◌, ℕ, ◌+◌, ◌≤◌, ◌<◌, List, [], ◌++◌, Some, None, Result, refl, ◌∙◌, arith, inl, inr, ⊎_elim}
 use Rattle.std.proofs.lemmas.List.{append-nil, get_or-take, get_or-drop}
 use Rattle.std.specs.Prelude.{◌&&◌}
 use Rattle.byteorder.specs.Endian.{big_from}

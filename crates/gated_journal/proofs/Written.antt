@@ -1,11 +1,9 @@
 -- A record that stands on the disk is read back.
-use Rattle.std.proofs.Common.{add-zero, leb, length, map, replicate, drop, ◌≡◌, ℕ, zero, suc, ◌-◌, ◌+◌, ◌*◌, ◌^◌, ◌<◌, ◌≤◌, List, [], ◌∷◌, ◌++◌, slice_index, true, false, Bool, Some, refl, sym, ap, ◌∙◌, append_assoc, arith, inl, inr}
-use Rattle.std.specs.List.{range_with_len, list_all}
-use Rattle.std.specs.Prelude.{◌&&◌}
-use Rattle.std.proofs.lemmas.List.{append-nil, length-append, length-replicate, get_or_past, get_or_append_left, get_or-append_right, take_at, drop_at}
+use Rattle.std.proofs.Common.{add-zero, length, map, replicate, ◌≡◌, ℕ, zero, suc, ◌-◌, ◌+◌, ◌*◌, ◌^◌, ◌<◌, ◌≤◌, List, [], ◌∷◌, ◌++◌, slice_index, refl, sym, ap, ◌∙◌, append_assoc, arith, inl, inr}
+use Rattle.std.specs.List.{range_with_len}
+use Rattle.std.proofs.lemmas.List.{append-nil, length-append, length-replicate, get_or_past, get_or_append_left, get_or-append_right}
 use Rattle.std.proofs.lemmas.List.FromFn.{get_or-map-range_with_len, map-range_with_len_more, fill_by_all}
 use Rattle.std.proofs.lemmas.Bool.{cases_lt}
-use Rattle.std.proofs.lemmas.Bool.Decides.{nat_tests}
 use Rattle.byteorder.specs.Endian.{big_from}
 use Rattle.byteorder.specs.Numbers.{big_number-reads_back}
 use Rattle.sector_disk.specs.Disk.{sector}
@@ -16,7 +14,6 @@ use Rattle.gated_journal.specs.Half.{IsOpen, data_from, told_size}
 use Rattle.gated_journal.proofs.Halves.{Opened}
 use Rattle.gated_journal.proofs.Listed.{fits, record_again}
 use Rattle.command_bytes.proofs.Numbers.{length-big}
-use Rattle.gated_journal.proofs.Packed.{IsPacked}
 
 -- ---- the bytes
 
