@@ -1,0 +1,10 @@
+pub mod Numbers
+pub mod Lefts
+pub mod Steps
+pub mod Fronts
+pub mod Packed
+pub mod Putting
+pub mod PartLaws
+pub mod Sizes
+pub mod BodyLaws
+pub mod Spelled

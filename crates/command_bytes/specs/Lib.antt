@@ -1,3 +1,5 @@
 pub mod Fields
 pub mod Text
 pub mod Reading
+pub mod Views
+pub mod Sizes

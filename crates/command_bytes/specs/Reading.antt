@@ -9,6 +9,7 @@ use Rattle.mailbox.specs.declared.key.Kind.TheVariants.{Message, Report}
 use Rattle.centre_core.specs.declared.command.Body.{Body}
 use Rattle.centre_core.specs.declared.command.Body.TheVariants.{RuleSet, RuleClear, Mm, Sds, GroupSds, Sent, Expire, Delete}
 use Rattle.centre_core.specs.Asked.{Asked}
+use Rattle.centre_core.specs.Ranges.{pdu_of}
 use Rattle.command_bytes.specs.Fields.{◌>>=◌, number_at, left_at, bytes_for}
 
 -- what was read of the first bytes, and the bytes after it
@@ -141,3 +142,8 @@ module _ {A : Type 0} where
   -- the command that bytes spell, all of them
   abbrev pub command_of : List ℕ → Option (Asked A)
   command_of bytes = whole (first_command bytes)
+
+  -- the PDU of a command, if there is a command and it has one
+  abbrev pub pdu_in : Option (Asked A) → Option (List Bool)
+  pdu_in None = None
+  pdu_in (Some c) = pdu_of c.body

@@ -1,2 +1,17 @@
-//! Commands as bytes: one text for each command, no text of which begins another's.
+//! Commands as bytes: each has one text, and no text of a command begins another's.
+//!
+//! What the bytes of a command are is the function `command_text` of `specs/Text.antt`, a table of its fields and
+//! their widths; what they are read as is `first_command` of `specs/Reading.antt`.
 #![tactic(auto)]
+
+mod bits;
+mod body;
+mod command;
+mod decoding;
+mod encoding;
+mod fields;
+pub mod laws;
+mod put;
+
+pub use decoding::{decode, decode_first};
+pub use encoding::{append, encode, text_len};

@@ -6,13 +6,14 @@ use Rattle.sector_disk.specs.Run.{LeavesOnly, IsTornImage}
 use Rattle.sector_disk.specs.declared.disk.DiskError.{DiskError}
 use Rattle.sector_disk.proofs.Moments.{goes_on, weaker, torn_by, synced_images, durable_image}
 use Rattle.gated_journal.specs.Half.{Entry, IsOpen, IsClosed, half_of}
-use Rattle.gated_journal.specs.Record.{Commands, IsRecord, data_sector, data_size, record_text}
+use Rattle.centre_core.specs.Asked.{Asked}
+use Rattle.gated_journal.specs.Record.{IsRecord, data_sector, data_size, record_text}
 use Rattle.gated_journal.specs.Settled.{IsSettled, IsWithOrWithout, Leaves, HasFilled}
 use Rattle.gated_journal.specs.declared.place.Place.{Place}
 use Rattle.gated_journal.proofs.Chain.{half_up, same_half, still_shut, half_more, closed_behind}
 use Rattle.gated_journal.proofs.Written.{record_written}
 
-module _ (place : Place) (entries : List Entry) (commands : Commands) (record_is : IsRecord commands) (text : List ℕ) (text_is : text ≡ record_text commands) (room : place.next + data_size text + 2 ≤ place.end) where
+module _ {A : Type 0} (place : Place) (entries : List (Entry A)) (commands : List (Asked A)) (record_is : IsRecord commands) (text : List ℕ) (text_is : text ≡ record_text commands) (room : place.next + data_size text + 2 ≤ place.end) where
   abbrev Left : View → List (List ℕ) → Type 0
   Left old = Leaves old place entries (place.next + 1, commands)
 

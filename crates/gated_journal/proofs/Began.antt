@@ -7,16 +7,17 @@ use Rattle.gated_journal.specs.Settled.{IsSettled}
 use Rattle.gated_journal.specs.declared.place.Place.{Place}
 use Rattle.gated_journal.proofs.Chain.{last_gate}
 
-pub begun : (disk : View) (first end : ℕ) → first < end → ((image : List (List ℕ)) → IsImageOf disk image → IsClosed (sector image first)) → IsSettled disk (record { first = first; end = end; next = first }) []
-begun disk first end lt closed = record { begins = lt; within = lt; half = λ image is. last_gate (end - first) image first end (closed image is) }
+module _ {A : Type 0} where
+  pub begun : (disk : View) (first end : ℕ) → first < end → ((image : List (List ℕ)) → IsImageOf disk image → IsClosed (sector image first)) → IsSettled {A = A} disk (record { first = first; end = end; next = first }) []
+  begun disk first end lt closed = record { begins = lt; within = lt; half = λ image is. last_gate (end - first) image first end (closed image is) }
 
-pub was_read : (disk : View) (place : Place) (entries : List Entry) → place.first < place.end → place.next < place.end → ((k : ℕ) → disk.pending k ≡ false) → half_of disk.reads place.first place.end ≡ Ok (entries, place.next)
-    → IsSettled disk place entries
-was_read disk place entries begins within durable reads = record {
-  begins = begins;
-  within = within;
-  half = λ image is. rw (only_image disk durable image is) reads;
-}
+  pub was_read : (disk : View) (place : Place) (entries : List (Entry A)) → place.first < place.end → place.next < place.end → ((k : ℕ) → disk.pending k ≡ false) → half_of disk.reads place.first place.end ≡ Ok (entries, place.next)
+      → IsSettled disk place entries
+  was_read disk place entries begins within durable reads = record {
+    begins = begins;
+    within = within;
+    half = λ image is. rw (only_image disk durable image is) reads;
+  }
 
-pub reads_so : (disk : View) (place : Place) (entries : List Entry) → IsSound disk → IsSettled disk place entries → half_of disk.reads place.first place.end ≡ Ok (entries, place.next)
-reads_so disk place entries sound settled = settled.half disk.reads sound.reads_left
+  pub reads_so : (disk : View) (place : Place) (entries : List (Entry A)) → IsSound disk → IsSettled disk place entries → half_of disk.reads place.first place.end ≡ Ok (entries, place.next)
+  reads_so disk place entries sound settled = settled.half disk.reads sound.reads_left

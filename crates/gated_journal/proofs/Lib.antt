@@ -1,10 +1,11 @@
-pub mod Adding
 pub mod Append
 pub mod Began
 pub mod Chain
 pub mod Fill
+pub mod Given
 pub mod Halves
-pub mod Numbers
+pub mod Listed
+pub mod Packed
 pub mod Steps
 pub mod Taken
 pub mod Written

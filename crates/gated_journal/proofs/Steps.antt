@@ -1,13 +1,16 @@
 -- Reading commands one after another, as a loop does, and sectors.
-use Rattle.std.proofs.Common.{add-one, eqb, leb, ltb, slice_index, take, drop, true, false, Bool, ◌⊎◌, Ok, Err, ◌≡◌, ℕ, ◌+◌, ◌≤◌, ◌<◌, List, [], ◌++◌, Some, None, Result, refl, ◌∙◌, arith, inl, inr, ⊎_elim}
-use Rattle.std.proofs.lemmas.List.{get_or-take, get_or-drop}
+use Rattle.std.proofs.Common.{add-one, append_assoc, option_map, length, suc, ◌∷◌, ◌≢◌, Option, ap, sym, eqb, leb, ltb, slice_index, take, drop, true, false, Bool, ◌⊎◌, Ok, Err, ◌≡◌, ℕ, ◌+◌, ◌≤◌, ◌<◌, List, [], ◌++◌, Some, None, Result, refl, ◌∙◌, arith, inl, inr, ⊎_elim}
+use Rattle.std.proofs.lemmas.List.{append-nil, get_or-take, get_or-drop}
 use Rattle.std.specs.Prelude.{◌&&◌}
 use Rattle.byteorder.specs.Endian.{big_from}
 use Rattle.std.proofs.lemmas.Bool.Decides.{nat_tests}
 use Rattle.sector_disk.specs.Disk.{View, HasRead, sector}
 use Rattle.sector_disk.specs.declared.disk.DiskError.{DiskError}
 use Rattle.gated_journal.specs.Half.{data_from, record_at, told_size, HasLooked}
-use Rattle.gated_journal.specs.Record.{Commands, most_sectors, record_of}
+use Rattle.centre_core.specs.Asked.{Asked}
+use Rattle.command_bytes.specs.Fields.{◌>>=◌}
+use Rattle.command_bytes.specs.Reading.{first_command}
+use Rattle.gated_journal.specs.Record.{commands_in, most_sectors, record_of}
 use Rattle.gated_journal.proofs.Halves.{both}
 
 -- ---- looking
@@ -56,7 +59,7 @@ not_both : (size next end : ℕ) → (most_sectors < size) ⊎ (end ≤ next) �
 not_both size next end (inl many) = no_and (leb size most_sectors) (ltb next end) (inl (grind (arith, nat_tests)))
 not_both size next end (inr past) = no_and (leb size most_sectors) (ltb next end) (inr (grind (arith, nat_tests)))
 
-pub too_long : (image : List (List ℕ)) (at end size : ℕ) → at + 1 < end → slice_index (sector image at) 0 ≡ 1 → told_size (sector image (at + 1)) ≡ size → (most_sectors < size) ⊎ (end ≤ at + 1 + size) → record_at image at end ≡ Err (at + 1)
+pub too_long : {A : Type 0} (image : List (List ℕ)) (at end size : ℕ) → at + 1 < end → slice_index (sector image at) 0 ≡ 1 → told_size (sector image (at + 1)) ≡ size → (most_sectors < size) ⊎ (end ≤ at + 1 + size) → record_at {A = A} image at end ≡ Err (at + 1)
 unfolding record_at
 too_long image at end size lt gate told past =
     let a : eqb (slice_index (sector image at) 0) 1 ≡ true = grind (arith, nat_tests) in
@@ -64,7 +67,7 @@ too_long image at end size lt gate told past =
     let d : (leb size most_sectors && ltb (at + 1 + size) end) ≡ false = not_both size (at + 1 + size) end past in
     rw (a, b, told, d) refl
 
-pub no_record : (image : List (List ℕ)) (at end size : ℕ) → size ≤ most_sectors → at + 1 + size < end → slice_index (sector image at) 0 ≡ 1 → told_size (sector image (at + 1)) ≡ size → record_of (data_from image (at + 1) size) ≡ None → record_at image at end ≡ Err (at + 1)
+pub no_record : {A : Type 0} (image : List (List ℕ)) (at end size : ℕ) → size ≤ most_sectors → at + 1 + size < end → slice_index (sector image at) 0 ≡ 1 → told_size (sector image (at + 1)) ≡ size → record_of {A = A} (data_from image (at + 1) size) ≡ None → record_at {A = A} image at end ≡ Err (at + 1)
 unfolding record_at
 no_record image at end size few lt gate told none =
     let a : eqb (slice_index (sector image at) 0) 1 ≡ true = grind (arith, nat_tests) in
@@ -72,7 +75,7 @@ no_record image at end size few lt gate told none =
     let d : (leb size most_sectors && ltb (at + 1 + size) end) ≡ true = both size (at + 1 + size) end few lt in
     rw (a, b, told, d, none) refl
 
-pub some_record : (image : List (List ℕ)) (at end size : ℕ) (commands : Commands) → size ≤ most_sectors → at + 1 + size < end → slice_index (sector image at) 0 ≡ 1 → told_size (sector image (at + 1)) ≡ size → record_of (data_from image (at + 1) size) ≡ Some commands
+pub some_record : {A : Type 0} (image : List (List ℕ)) (at end size : ℕ) (commands : List (Asked A)) → size ≤ most_sectors → at + 1 + size < end → slice_index (sector image at) 0 ≡ 1 → told_size (sector image (at + 1)) ≡ size → record_of (data_from image (at + 1) size) ≡ Some commands
     → record_at image at end ≡ Ok (Some (commands, at + 1 + size))
 unfolding record_at
 some_record image at end size commands few lt gate told read =
@@ -89,3 +92,42 @@ told_from bytes n le =
     let two = get_or-take n (drop 2 bytes) 2 0 (omega (arith, le)) ∙ get_or-drop 2 bytes 2 0 in
     let three = get_or-take n (drop 2 bytes) 3 0 (omega (arith, le)) ∙ get_or-drop 2 bytes 3 0 in
     rw (zero, one, two, three) refl
+
+-- ---- commands
+
+option_front : {X : Type 0} (o : Option (List X)) → option_map (λ others. [] ++ others) o ≡ o
+option_front (Some others) = refl
+option_front None = refl
+
+option_joined : {X : Type 0} (front : List X) (x : X) (o : Option (List X)) → option_map (λ others. (front ++ x ∷ []) ++ others) o ≡ option_map (λ others. front ++ others) (o >>= λ others. Some (x ∷ others))
+option_joined front x (Some others) = ap Some (append_assoc front (x ∷ []) others)
+option_joined front x None = refl
+
+module _ {A : Type 0} where
+  -- before the first of them
+  pub commands_none : (n : ℕ) (bytes : List ℕ) → option_map (λ others. [] ++ others) (commands_in {A = A} n bytes) ≡ commands_in n bytes
+  commands_none n bytes = option_front (commands_in n bytes)
+
+  -- one of them more
+  pub commands_more : (front : List (Asked A)) (n : ℕ) (bytes rest : List ℕ) (c : Asked A) (all : Option (List (Asked A))) → first_command bytes ≡ Some (c, rest)
+      → option_map (λ others. front ++ others) (commands_in (suc n) bytes) ≡ all → option_map (λ others. (front ++ c ∷ []) ++ others) (commands_in n rest) ≡ all
+  unfolding commands_in
+  commands_more front n bytes rest c all e so_far =
+      option_joined front c (commands_in n rest) ∙ rw e at so_far
+
+  -- one of them is none
+  pub commands_fault : (front : List (Asked A)) (n : ℕ) (bytes : List ℕ) (all : Option (List (Asked A))) → first_command {A = A} bytes ≡ None
+      → option_map (λ others. front ++ others) (commands_in (suc n) bytes) ≡ all → None ≡ all
+  unfolding commands_in
+  commands_fault front n bytes all e so_far = rw e at so_far
+
+  -- behind the last of them: no byte, or others
+  pub commands_end : (front : List (Asked A)) (bytes : List ℕ) (all : Option (List (Asked A))) → length bytes ≡ 0 → option_map (λ others. front ++ others) (commands_in 0 bytes) ≡ all → Some front ≡ all
+  unfolding commands_in
+  commands_end front [] all none so_far = ap Some (sym (append-nil front)) ∙ so_far
+  commands_end front (b ∷ bytes) all none so_far = absurd (omega (arith, none))
+
+  pub commands_past : (front : List (Asked A)) (bytes : List ℕ) (all : Option (List (Asked A))) → length bytes ≢ 0 → option_map (λ others. front ++ others) (commands_in {A = A} 0 bytes) ≡ all → None ≡ all
+  unfolding commands_in
+  commands_past front [] all some so_far = absurd (some refl)
+  commands_past front (b ∷ bytes) all some so_far = so_far

@@ -1,13 +1,17 @@
--- What is read as a record is the record's text, with zeros behind it.
+-- Commands as bytes that are read in a record: the record is their text, with zeros behind it.
 use Rattle.std.proofs.Common.{◌≡◌, ℕ, ◌*◌, ◌≤◌, Bool, true, false, cond, eqb, leb, List, [], ◌∷◌, ◌++◌, length, take, drop, replicate, Option, Some, None, refl, sym, ap, subst, ◌∙◌, append_assoc, arith}
 use Rattle.std.specs.Prelude.{◌&&◌}
 use Rattle.std.specs.List.{list_all}
 use Rattle.std.proofs.lemmas.Bool.{leb-true, eqb-true}
 use Rattle.std.proofs.lemmas.List.{take-append-drop, length-take}
-use Rattle.gated_journal.specs.Record.{◌>>=◌, Commands, IsBytes, IsRecord, big, is_in_range, is_zero, longest_command, most_commands, number_at, record_of, record_text}
-use Rattle.gated_journal.proofs.Numbers.{number_takes}
+use Rattle.identity.specs.Packed.{AreBytes}
+use Rattle.command_bytes.specs.Fields.{◌>>=◌, big, number_at}
+use Rattle.command_bytes.specs.Text.{longest}
+use Rattle.gated_journal.specs.Record.{Packed, is_in_range, is_zero, most_commands, packed_of, packed_text}
+use Rattle.command_bytes.proofs.Numbers.{bytes-take, number_takes}
+use Rattle.gated_journal.proofs.Packed.{IsPacked}
 
-bind_some : {A B : Type 0} (r : Option A) (f : A → Option B) (y : B) → (r >>= f) ≡ Some y → (x : A) × (r ≡ Some x) × (f x ≡ Some y)
+pub bind_some : {A B : Type 0} (r : Option A) (f : A → Option B) (y : B) → (r >>= f) ≡ Some y → (x : A) × (r ≡ Some x) × (f x ≡ Some y)
 bind_some (Some x) f y e = (x, refl, e)
 bind_some None f y e = absurd cc
 
@@ -35,16 +39,17 @@ all_zeros (b ∷ bytes) e =
     both false b e = absurd cc
 
 -- what a record's bytes are
-pub record IsRead (bytes : List ℕ) (commands : Commands) : Type 0 where
-  pub fit : IsRecord commands
-  pub spelt : (z : ℕ) × (bytes ≡ record_text commands ++ replicate z 0)
+pub record IsUnpacked (bytes : List ℕ) (commands : Packed) : Type 0 where
+  pub fit : IsPacked commands
+  pub spelt : (z : ℕ) × (bytes ≡ packed_text commands ++ replicate z 0)
+  pub are_bytes : AreBytes commands.bytes
 
-judged : ℕ → ℕ × List ℕ → Option Commands
+judged : ℕ → ℕ × List ℕ → Option Packed
 judged count size = cond (is_in_range count size.0 && leb size.0 (length size.1) && list_all is_zero (drop size.0 size.1)) (Some (record { count = count; bytes = take size.0 size.1 })) None
 
-pub record_taken : (bytes : List ℕ) (commands : Commands) → IsBytes bytes → record_of bytes ≡ Some commands → IsRead bytes commands
-unfolding record_of record_text judged
-record_taken bytes commands is e =
+pub packed_taken : (bytes : List ℕ) (commands : Packed) → AreBytes bytes → packed_of bytes ≡ Some commands → IsUnpacked bytes commands
+unfolding packed_of packed_text judged
+packed_taken bytes commands is e =
     let a = bind_some (number_at 2 bytes) (λ (count : ℕ × List ℕ). number_at 4 count.1 >>= judged count.0) commands e in
     let count : ℕ × List ℕ = a.0 in
     let b = bind_some (number_at 4 count.1) (judged count.0) commands a.2 in
@@ -53,13 +58,14 @@ record_taken bytes commands is e =
     let second = number_takes 4 count.1 size first.1 b.1 in
     let last = some_where (is_in_range count.0 size.0 && leb size.0 (length size.1) && list_all is_zero (drop size.0 size.1)) (record { count = count.0; bytes = take size.0 size.1 }) commands b.2 in
     let good = three (is_in_range count.0 size.0) (leb size.0 (length size.1)) (list_all is_zero (drop size.0 size.1)) last.0 in
-    let range = three (leb 1 count.0) (leb count.0 most_commands) (leb size.0 (longest_command * count.0)) good.0 in
+    let range = three (leb 1 count.0) (leb count.0 most_commands) (leb size.0 (longest * count.0)) good.0 in
     let within : size.0 ≤ length size.1 = leb-true _ _ good.1 in
     let long : length (take size.0 size.1) ≡ size.0 = omega (arith, length-take size.0 size.1, within) in
     let zeros = all_zeros (drop size.0 size.1) good.2 in
-    subst (λ (c : Commands). IsRead bytes c) last.1 (record {
+    subst (λ (c : Packed). IsUnpacked bytes c) last.1 (record {
       fit = record { some = leb-true _ _ range.0; few = leb-true _ _ range.1; short = rw long (leb-true _ _ range.2) };
       spelt = (length (drop size.0 size.1), rw long (whole count size first.0 second.0 zeros));
+      are_bytes = bytes-take size.0 size.1 second.1;
     })
   where
     whole : (count size : ℕ × List ℕ) → bytes ≡ big 2 count.0 ++ count.1 → count.1 ≡ big 4 size.0 ++ size.1 → drop size.0 size.1 ≡ replicate (length (drop size.0 size.1)) 0

@@ -1,60 +1,26 @@
 -- A record that stands on the disk is read back.
-use Rattle.std.proofs.Common.{add-zero, leb, length, map, replicate, drop, ◌≡◌, ℕ, zero, suc, ◌-◌, ◌+◌, ◌*◌, ◌^◌, ◌<◌, ◌≤◌, List, [], ◌∷◌, ◌++◌, slice_index, true, false, Bool, Some, refl, sym, ap, ◌∙◌, append_assoc, arith, inl, inr}
-use Rattle.std.specs.List.{range_with_len, list_all}
-use Rattle.std.specs.Prelude.{◌&&◌}
-use Rattle.std.proofs.lemmas.List.{append-nil, length-append, length-replicate, get_or_past, get_or_append_left, get_or-append_right, take_at, drop_at}
+use Rattle.std.proofs.Common.{add-zero, length, map, replicate, ◌≡◌, ℕ, zero, suc, ◌-◌, ◌+◌, ◌*◌, ◌^◌, ◌<◌, ◌≤◌, List, [], ◌∷◌, ◌++◌, slice_index, refl, sym, ap, ◌∙◌, append_assoc, arith, inl, inr}
+use Rattle.std.specs.List.{range_with_len}
+use Rattle.std.proofs.lemmas.List.{append-nil, length-append, length-replicate, get_or_past, get_or_append_left, get_or-append_right}
 use Rattle.std.proofs.lemmas.List.FromFn.{get_or-map-range_with_len, map-range_with_len_more, fill_by_all}
 use Rattle.std.proofs.lemmas.Bool.{cases_lt}
-use Rattle.std.proofs.lemmas.Bool.Decides.{nat_tests}
 use Rattle.byteorder.specs.Endian.{big_from}
 use Rattle.byteorder.specs.Numbers.{big_number-reads_back}
 use Rattle.sector_disk.specs.Disk.{sector}
-use Rattle.gated_journal.specs.Record.{Commands, IsRecord, big, data_sector, data_size, is_in_range, is_zero, longest_command, most_commands, most_sectors, record_of, record_text}
+use Rattle.centre_core.specs.Asked.{Asked}
+use Rattle.command_bytes.specs.Fields.{big}
+use Rattle.gated_journal.specs.Record.{Packed, IsRecord, data_sector, data_size, most_sectors, pack, packed_text, record_text}
 use Rattle.gated_journal.specs.Half.{IsOpen, data_from, told_size}
 use Rattle.gated_journal.proofs.Halves.{Opened}
-use Rattle.gated_journal.proofs.Numbers.{length-big, number_again}
+use Rattle.gated_journal.proofs.Listed.{fits, record_again}
+use Rattle.command_bytes.proofs.Numbers.{length-big}
 
 -- ---- the bytes
-
-zeros_are : (z : ℕ) → list_all is_zero (replicate z 0) ≡ true
-zeros_are zero = refl
-zeros_are (suc z) = zeros_are z
 
 zeros_at : (z i : ℕ) → slice_index (replicate z 0) i ≡ 0
 zeros_at zero i = refl
 zeros_at (suc z) zero = refl
 zeros_at (suc z) (suc i) = zeros_at z i
-
-all_good : (a b c : Bool) → a ≡ true → b ≡ true → c ≡ true → (a && b && c) ≡ true
-all_good true true true a b c = refl
-all_good false p q a b c = absurd cc
-all_good true false q a b c = absurd cc
-all_good true true false a b c = absurd cc
-
-in_range : (commands : Commands) → IsRecord commands → is_in_range commands.count (length commands.bytes) ≡ true
-in_range commands is =
-    let some = is.some in
-    let few = is.few in
-    let short = is.short in
-    let low : leb 1 commands.count ≡ true = grind (arith, nat_tests) in
-    let high : leb commands.count most_commands ≡ true = grind (arith, nat_tests) in
-    let room : leb (length commands.bytes) (longest_command * commands.count) ≡ true = grind (arith, nat_tests) in
-    all_good (leb 1 commands.count) (leb commands.count most_commands) (leb (length commands.bytes) (longest_command * commands.count)) low high room
-
-pub record_again : (commands : Commands) (z : ℕ) → IsRecord commands → record_of (record_text commands ++ replicate z 0) ≡ Some commands
-unfolding record_of record_text
-record_again commands z is =
-    let count : ℕ = commands.count in
-    let body : List ℕ = commands.bytes in
-    let filling : List ℕ = replicate z 0 in
-    let regrouped : (big 2 count ++ (big 4 (length body) ++ body)) ++ filling ≡ big 2 count ++ (big 4 (length body) ++ (body ++ filling)) = simp append_assoc in
-    let room : leb (length body) (length (body ++ filling)) ≡ true = let e = length-append body filling in grind (arith, nat_tests) in
-    let after = drop_at body filling (length body) refl in
-    let zeros : list_all is_zero (drop (length body) (body ++ filling)) ≡ true = rw after (zeros_are z) in
-    let good = all_good (is_in_range count (length body)) (leb (length body) (length (body ++ filling))) (list_all is_zero (drop (length body) (body ++ filling))) (in_range commands is) room zeros in
-    let small : count < 256 ^ 2 = omega (arith, is.few) in
-    let short : length body < 256 ^ 4 = omega (arith, is.short, is.few) in
-    ap record_of regrouped ∙ rw (number_again 2 count (big 4 (length body) ++ (body ++ filling)) small, number_again 4 (length body) (body ++ filling) short, good, take_at body filling (length body) refl) refl
 
 -- ---- the sectors
 
@@ -83,12 +49,12 @@ padded text z n e = fill_by_all (slice_index text) (text ++ replicate z 0) n 0 (
       | inr past ↦ get_or-append_right text (replicate z 0) (length text) k 0 refl past ∙ zeros_at z (k - length text) ∙ sym (get_or_past text k 0 past)
     ])
 
-pub length-record : (cs : Commands) → length (record_text cs) ≡ length (cs.bytes) + 6
-unfolding record_text
-length-record cs = omega (arith, length-append (big 2 (cs.count)) (big 4 (length (cs.bytes)) ++ cs.bytes), length-append (big 4 (length (cs.bytes))) (cs.bytes), length-big 2 cs.count, length-big 4 (length (cs.bytes)))
+pub length-packed : (cs : Packed) → length (packed_text cs) ≡ length (cs.bytes) + 6
+unfolding packed_text
+length-packed cs = omega (arith, length-append (big 2 (cs.count)) (big 4 (length (cs.bytes)) ++ cs.bytes), length-append (big 4 (length (cs.bytes))) (cs.bytes), length-big 2 cs.count, length-big 4 (length (cs.bytes)))
 
-told_text : (cs : Commands) → length cs.bytes < 2 ^ 31 → big_from 2 4 (record_text cs) ≡ length (cs.bytes)
-unfolding record_text big
+told_text : (cs : Packed) → length cs.bytes < 2 ^ 31 → big_from 2 4 (packed_text cs) ≡ length (cs.bytes)
+unfolding packed_text big
 told_text cs short = big_number-reads_back 4 (length (cs.bytes)) (cs.bytes) (omega (arith, short))
 
 sector_byte : (text : List ℕ) (i : ℕ) → i < 512 → slice_index (data_sector text 0) i ≡ slice_index text i
@@ -104,15 +70,16 @@ told_sector text =
     rw (two, three, four, five) refl
 
 -- the data sectors of a record behind an open gate are read
-pub record_written : (image : List (List ℕ)) (at end : ℕ) (cs : Commands) → IsRecord cs → (text : List ℕ) → text ≡ record_text cs → IsOpen (sector image at) → ((k : ℕ) → k < data_size text → sector image (at + 1 + k) ≡ data_sector text k)
+pub record_written : {A : Type 0} (image : List (List ℕ)) (at end : ℕ) (cs : List (Asked A)) → IsRecord cs → (text : List ℕ) → text ≡ record_text cs → IsOpen (sector image at) → ((k : ℕ) → k < data_size text → sector image (at + 1 + k) ≡ data_sector text k)
     → at + 1 + data_size text < end → Opened image at end cs (at + 1 + data_size text)
 record_written image at end cs is text text_is opened are within =
-    let long : length text ≡ length (cs.bytes) + 6 = ap length text_is ∙ length-record cs in
+    let packed = fits cs is in
+    let long : length text ≡ length ((pack cs).bytes) + 6 = ap length text_is ∙ length-packed (pack cs) in
     let here : at + 1 + 0 ≡ at + 1 = omega arith in
     let first : sector image (at + 1) ≡ data_sector text 0 = rw here at (are 0 (omega (arith, long))) in
-    let told : big_from 2 4 (sector image (at + 1)) ≡ length (cs.bytes) = ap (big_from 2 4) first ∙ told_sector text ∙ ap (big_from 2 4) text_is ∙ told_text cs (omega (arith, is.short, is.few)) in
+    let told : big_from 2 4 (sector image (at + 1)) ≡ length ((pack cs).bytes) = ap (big_from 2 4) first ∙ told_sector text ∙ ap (big_from 2 4) text_is ∙ told_text (pack cs) (omega (arith, packed.short, packed.few)) in
     let size : told_size (sector image (at + 1)) ≡ data_size text = omega (arith, told, long) in
-    let few : data_size text ≤ most_sectors = omega (arith, long, is.short, is.few) in
+    let few : data_size text ≤ most_sectors = omega (arith, long, packed.short, packed.few) in
     let z = 512 * data_size text - length text in
     let whole : data_from image (at + 1) (data_size text) ≡ record_text cs ++ replicate z 0 =
     data_text image (at + 1) (data_size text) text are ∙ sym (padded text z (512 * data_size text) (omega arith)) ∙ ap (λ (t : List ℕ). t ++ replicate z 0) text_is in

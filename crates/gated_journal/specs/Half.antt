@@ -2,7 +2,8 @@
 use Rattle.std.specs.Prelude.{◌≡◌, ◌≢◌, ℕ, zero, suc, ◌+◌, ◌-◌, ◌/◌, ◌==◌, ◌&&◌, List, [], ◌∷◌, ◌++◌, slice_index, Option, Some, None, Result, Ok, Err, nat_le, nat_lt, if◌then◌else◌}
 use Rattle.byteorder.specs.Endian.{big_from}
 use Rattle.sector_disk.specs.Disk.{View, Elapses, sector}
-use Rattle.gated_journal.specs.Record.{Commands, most_sectors, record_of}
+use Rattle.centre_core.specs.Asked.{Asked}
+use Rattle.gated_journal.specs.Record.{most_sectors, record_of}
 
 -- a gate is open where its first byte is 1
 abbrev pub IsOpen : List ℕ → Type 0
@@ -20,50 +21,51 @@ unfoldable pub data_from : List (List ℕ) → ℕ → ℕ → List ℕ
 data_from image at zero = []
 data_from image at (suc n) = data_from image at n ++ sector image (at + n)
 
+-- a record of a half: its first data sector and its commands, with the bits in them under the allocator A
+abbrev pub Entry : Type 0 → Type 0
+Entry A = ℕ × List (Asked A)
+
 -- what stands at a gate: nothing, or a record and the place of the next gate; or the sector at fault
-abbrev pub Found : Type 0
-Found = Result (Option (Commands × ℕ)) ℕ
+abbrev pub Found : Type 0 → Type 0
+Found A = Result (Option (List (Asked A) × ℕ)) ℕ
 
-abbrev pub found : ℕ → ℕ → Option Commands → Found
-found at next None = Err at
-found at next (Some commands) = Ok (Some (commands, next))
+-- the records of a half, and the first closed gate; or the sector at fault
+abbrev pub Half : Type 0 → Type 0
+Half A = Result (List (Entry A) × ℕ) ℕ
 
--- At a gate: nothing where it is closed, else its record and the next gate. An open gate in the half's last sector
--- is itself at fault; all that is wrong with a record is a fault of its first data sector.
-unfoldable pub record_at : List (List ℕ) → ℕ → ℕ → Found
-record_at image at end =
-    if slice_index (sector image at) 0 == 1
-    then (if at + 1 == end
-    then Err at
-    else (let size = told_size (sector image (at + 1)) in
-    if nat_le size most_sectors && nat_lt (at + 1 + size) end then found (at + 1) (at + 1 + size) (record_of (data_from image (at + 1) size)) else Err (at + 1)))
-    else Ok None
+module _ {A : Type 0} where
+  abbrev pub found : ℕ → ℕ → Option (List (Asked A)) → Found A
+  found at next None = Err at
+  found at next (Some commands) = Ok (Some (commands, next))
 
--- a record of a half: its first data sector and its commands
-abbrev pub Entry : Type 0
-Entry = ℕ × Commands
+  -- At a gate: nothing where it is closed, else its record and the next gate. An open gate in the half's last sector
+  -- is itself at fault; all that is wrong with a record is a fault of its first data sector.
+  unfoldable pub record_at : List (List ℕ) → ℕ → ℕ → Found A
+  record_at image at end =
+      if slice_index (sector image at) 0 == 1
+      then (if at + 1 == end
+      then Err at
+      else (let size = told_size (sector image (at + 1)) in
+      if nat_le size most_sectors && nat_lt (at + 1 + size) end then found (at + 1) (at + 1 + size) (record_of (data_from image (at + 1) size)) else Err (at + 1)))
+      else Ok None
 
--- the records, and the first closed gate; or the sector at fault
-abbrev pub Half : Type 0
-Half = Result (List Entry × ℕ) ℕ
+  -- more records before those of a half
+  abbrev pub with_front : List (Entry A) → Half A → Half A
+  with_front front (Ok half) = Ok (front ++ half.0, half.1)
+  with_front front (Err at) = Err at
 
--- more records before those of a half
-abbrev pub with_front : List Entry → Half → Half
-with_front front (Ok half) = Ok (front ++ half.0, half.1)
-with_front front (Err at) = Err at
+  abbrev pub half_on : ℕ → Found A → (ℕ → Half A) → Half A
+  half_on at (Err fault) go = Err fault
+  half_on at (Ok None) go = Ok ([], at)
+  half_on at (Ok (Some record_and_next)) go = with_front ((at + 1, record_and_next.0) ∷ []) (go record_and_next.1)
 
-abbrev pub half_on : ℕ → Found → (ℕ → Half) → Half
-half_on at (Err fault) go = Err fault
-half_on at (Ok None) go = Ok ([], at)
-half_on at (Ok (Some record_and_next)) go = with_front ((at + 1, record_and_next.0) ∷ []) (go record_and_next.1)
+  unfoldable pub half_from : ℕ → List (List ℕ) → ℕ → ℕ → Half A
+  half_from zero image at end = Ok ([], at)
+  half_from (suc fuel) image at end = half_on at (record_at image at end) (λ next. half_from fuel image next end)
 
-unfoldable pub half_from : ℕ → List (List ℕ) → ℕ → ℕ → Half
-half_from zero image at end = Ok ([], at)
-half_from (suc fuel) image at end = half_on at (record_at image at end) (λ next. half_from fuel image next end)
-
--- the sectors from first to end: each record takes two at least, so there is always fuel
-abbrev pub half_of : List (List ℕ) → ℕ → ℕ → Half
-half_of image first end = half_from (end - first) image first end
+  -- the sectors from first to end: each record takes two at least, so there is always fuel
+  abbrev pub half_of : List (List ℕ) → ℕ → ℕ → Half A
+  half_of image first end = half_from (end - first) image first end
 
 -- Reading changes no image.
 pub record HasLooked (old new : View) : Type 0 where

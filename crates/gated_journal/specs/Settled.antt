@@ -11,24 +11,25 @@ use Rattle.gated_journal.specs.declared.place.Place.{Place}
 abbrev pub room_of : Place → ℕ
 room_of place = place.end - place.next - 2
 
--- the half reads as these records
-abbrev pub IsHalf : List (List ℕ) → ℕ → ℕ → List Entry → Type 0
-IsHalf image first end entries = (gate : ℕ) × (half_of image first end ≡ Ok (entries, gate))
+module _ {A : Type 0} where
+  -- the half reads as these records
+  abbrev pub IsHalf : List (List ℕ) → ℕ → ℕ → List (Entry A) → Type 0
+  IsHalf image first end entries = (gate : ℕ) × (half_of image first end ≡ Ok (entries, gate))
 
--- it reads as these, with one more or without it
-abbrev pub IsWithOrWithout : ℕ → ℕ → List Entry → Entry → List (List ℕ) → Type 0
-IsWithOrWithout first end entries last image = IsHalf image first end entries ⊎ IsHalf image first end (entries ++ last ∷ [])
+  -- it reads as these, with one more or without it
+  abbrev pub IsWithOrWithout : ℕ → ℕ → List (Entry A) → Entry A → List (List ℕ) → Type 0
+  IsWithOrWithout first end entries last image = IsHalf image first end entries ⊎ IsHalf image first end (entries ++ last ∷ [])
 
--- an image of the disk before, but for the half; there it reads as these records, with one more or without it
-pub record Leaves (old : View) (place : Place) (entries : List Entry) (last : Entry) (image : List (List ℕ)) : Type 0 where
-  pub elsewhere : IsTornImage old place.first (place.end - place.first) image
-  pub half : IsWithOrWithout place.first place.end entries last image
+  -- an image of the disk before, but for the half; there it reads as these records, with one more or without it
+  pub record Leaves (old : View) (place : Place) (entries : List (Entry A)) (last : Entry A) (image : List (List ℕ)) : Type 0 where
+    pub elsewhere : IsTornImage old place.first (place.end - place.first) image
+    pub half : IsWithOrWithout place.first place.end entries last image
 
--- in every image the half reads as these records, and they end at the next gate
-pub record IsSettled (disk : View) (place : Place) (entries : List Entry) : Type 0 where
-  pub begins : place.first < place.end
-  pub within : place.next < place.end
-  pub half : (image : List (List ℕ)) → IsImageOf disk image → half_of image place.first place.end ≡ Ok (entries, place.next)
+  -- in every image the half reads as these records, and they end at the next gate
+  pub record IsSettled (disk : View) (place : Place) (entries : List (Entry A)) : Type 0 where
+    pub begins : place.first < place.end
+    pub within : place.next < place.end
+    pub half : (image : List (List ℕ)) → IsImageOf disk image → half_of image place.first place.end ≡ Ok (entries, place.next)
 
 -- Sectors from at on were being written with a text, n of them.
 pub record HasFilled (old new : View) (at n : ℕ) (text : List ℕ) (result : Result Unit DiskError) : Type 0 where

@@ -1,17 +1,21 @@
 // A journal: a place on a disk, and a buffer for the records' bytes.
-ghost use Rattle.std.specs.Prelude.{◌≡◌, ◌<◌, ◌≤◌, ◌+◌, ◌*◌, ◌^◌, ◌-◌, ℕ, List, [], ◌∷◌, ◌++◌, Err, IfErr, IfOk, IsErrOf, OnErr, OnOk, length, vec_capacity, vec_len};
-ghost use Rattle.std.specs.List.{flat_map};
+ghost use Rattle.std.specs.Prelude.{◌≡◌, ◌<◌, ◌≤◌, ◌+◌, ◌*◌, ◌^◌, ◌-◌, ℕ, List, [], ◌∷◌, ◌++◌, Err, IfErr, IfOk, IsErrOf, OnErr, OnOk, length, map, vec_capacity, vec_len};
+ghost use Rattle.std.specs.List.{All, flat_map};
+ghost use Rattle.command_bytes.specs.Fields.{big};
+ghost use Rattle.command_bytes.specs.Text.{IsCommand, command_text, longest};
 ghost use Rattle.sector_disk.specs.Disk.{HasFailed, IsImageOf};
 ghost use Rattle.sector_disk.specs.Run.{LeavesOnly};
 ghost use Rattle.gated_journal.specs.declared.fault.JournalError.TheVariants.{DiskFault, Damaged, JournalFull, NoMemory};
 ghost use Rattle.gated_journal.specs.declared.place.Place.{Place};
 ghost use Rattle.gated_journal.specs.Half.{Entry, HasLooked, half_of};
 ghost use Rattle.gated_journal.specs.Reading.{Answers, entries_view};
-ghost use Rattle.gated_journal.specs.Record.{IsRecord, big, data_size, joined, most_sectors, record_text};
+ghost use Rattle.gated_journal.specs.Record.{IsRecord, data_size, given, most_commands, most_sectors, record_text};
 ghost use Rattle.gated_journal.specs.Settled.{IsSettled, Leaves, room_of};
 
 use crate::reading::{MOST_SECTORS, read_half};
-use crate::{JournalError, Place, Record};
+use crate::{JournalError, Place};
+use centre_core::Command;
+use command_bytes::text_len;
 use sector_disk::Disk;
 use std::alloc::{AllocError, Allocator};
 use std::marker::Model;
@@ -68,28 +72,33 @@ impl<A: Allocator> Journal<A> {
         self.place.room()
     }
 
-    /// Adds these commands, 1 to 64 of at most 281 bytes each, as one record. Takes no memory.
+    /// Adds these commands, 1 to 64, as one record. Takes no memory.
     ///
     /// At `Ok` each stop leaves it. At `DiskFault` the half is to be read again. `JournalFull` comes where the record
     /// has more data sectors than `room`; nothing is then written.
-    pub fn append<D: Disk>(&mut self, disk: &mut D, commands: &[&[u8]]) -> Result<(), JournalError>
+    pub fn append<D: Disk, B: Allocator>(
+        &mut self,
+        disk: &mut D,
+        commands: &[&Command<B>],
+    ) -> Result<(), JournalError>
         requires within { self.old.end ≤ (D.view disk.old).sectors }
-        requires fit { IsRecord (joined (λ command. command.now) commands.now) }
+        requires some { 1 ≤ length commands.now }
+        requires few { length commands.now ≤ most_commands }
 
         // A stop at any moment of the call leaves the records from before it, with the new one whole or without it, and
         // all other sectors as they were.
-        ensures any_moment { (entries : List Entry) → (D.view disk.old).honest → IsSettled (D.view disk.old) self.old entries
-            → LeavesOnly (D.view disk.old) (D.view disk.new) (Leaves (D.view disk.old) self.old entries (self.old.next + 1, joined (λ command. command.now) commands.now)) }
+        ensures any_moment { (entries : List (Entry A)) → (D.view disk.old).honest → IsSettled (D.view disk.old) self.old entries
+            → LeavesOnly (D.view disk.old) (D.view disk.new) (Leaves (D.view disk.old) self.old entries (self.old.next + 1, given A commands.now)) }
 
         // At `Ok` each stop leaves it.
-        ensures acknowledged { OnOk result ((entries : List Entry) → (D.view disk.old).honest → IsSettled (D.view disk.old) self.old entries
-            → IsSettled (D.view disk.new) self.new (entries ++ (self.old.next + 1, joined (λ command. command.now) commands.now) ∷ [])) }
-        ensures next { OnOk result (self.new ≡ record { first = self.old.first; end = self.old.end; next = self.old.next + data_size (record_text (joined (λ command. command.now) commands.now)) + 1 }) }
+        ensures acknowledged { OnOk result ((entries : List (Entry A)) → (D.view disk.old).honest → IsSettled (D.view disk.old) self.old entries
+            → IsSettled (D.view disk.new) self.new (entries ++ (self.old.next + 1, given A commands.now) ∷ [])) }
+        ensures next { OnOk result (self.new ≡ record { first = self.old.first; end = self.old.end; next = self.old.next + data_size (record_text (given A commands.now)) + 1 }) }
 
         // It does not give up by itself.
         ensures fault { IsErrOf result JournalError.DiskFault → HasFailed (D.view disk.old) (D.view disk.new) }
-        ensures full { IsErrOf result JournalError.JournalFull → room_of self.old < data_size (record_text (joined (λ command. command.now) commands.now)) }
-        ensures no_room { room_of self.old < data_size (record_text (joined (λ command. command.now) commands.now))
+        ensures full { IsErrOf result JournalError.JournalFull → room_of self.old < data_size (record_text (given A commands.now)) }
+        ensures no_room { room_of self.old < data_size (record_text (given A commands.now))
             → (result ≡ Err JournalError.JournalFull) × (disk.new ≡ disk.old) }
         ensures same { OnErr result (self.new ≡ self.old) }
         ensures damaged { (s : ℕ) → IsErrOf result (JournalError.Damaged s) → ⊥ }
@@ -99,7 +108,7 @@ impl<A: Allocator> Journal<A> {
         ensures honest { (D.view disk.old).honest → (D.view disk.new).honest }
     {
         put_record(&mut self.text, commands);
-        self.place.append_text(disk, &self.text)
+        self.place.append_text::<A, D>(disk, &self.text)
     }
 }
 
@@ -113,7 +122,7 @@ impl<A: Allocator + Clone> Journal<A> {
         disk: &mut D,
         first: u64,
         sectors: u64,
-    ) -> Result<(Journal<A>, Vec<(u64, Record<A>), A>), JournalError>
+    ) -> Result<(Journal<A>, Vec<(u64, Vec<Command<A>, A>), A>), JournalError>
         requires some { 0 < sectors }
         requires within { first + sectors ≤ (D.view disk.old).sectors }
         requires fits { first + sectors < 2 ^ 64 }
@@ -143,41 +152,52 @@ fn add<A: Allocator>(out: &mut Vec<u8, A>, bytes: &[u8])
     out.extend_from_slice(bytes).unwrap();
 }
 
-// How many bytes the commands have.
-fn size_of(commands: &[&[u8]]) -> usize
-    requires { length (flat_map (λ command. command.now) commands.now) < 2 ^ 32 }
-    ensures { result ≡ length (flat_map (λ command. command.now) commands.now) }
+// How many bytes the commands take.
+fn size_of<B: Allocator>(commands: &[&Command<B>]) -> usize
+    requires few { length commands.now ≤ most_commands }
+    ensures size { result ≡ length (flat_map (λ command. command_text command.now) commands.now) }
+    ensures most { result ≤ longest * length commands.now }
 {
     let mut size = 0;
     for command in commands {
-        size += command.len();
+        size += text_len(command);
     }
     size
 }
 
 // Adds the commands' bytes, for which there is room.
-fn add_all<A: Allocator>(out: &mut Vec<u8, A>, commands: &[&[u8]])
-    requires { vec_len out.old + length (flat_map (λ command. command.now) commands.now) ≤ vec_capacity out.old }
-    ensures items { out.new.items ≡ out.old.items ++ flat_map (λ command. command.now) commands.now }
+fn add_all<A: Allocator, B: Allocator>(out: &mut Vec<u8, A>, commands: &[&Command<B>])
+    requires room { vec_len out.old + length (flat_map (λ command. command_text command.now) commands.now) ≤ vec_capacity out.old }
+    ensures items { out.new.items ≡ out.old.items ++ flat_map (λ command. command_text command.now) commands.now }
     ensures capacity { vec_capacity out.old ≤ vec_capacity out.new }
+    ensures are_commands { All (λ command. IsCommand command.now) commands.now }
 {
     for command in commands {
-        add(out, command);
+        command_bytes::append(out, command);
     }
 }
 
-// The text of a record, in a buffer with room for it.
-#[tactic(auto, unfolding(crate::specs::Record::record_text, crate::specs::Record::big))]
-fn put_record<A: Allocator>(out: &mut Vec<u8, A>, commands: &[&[u8]])
-    requires room { 512 * most_sectors ≤ vec_capacity out.old }
-    requires fit { IsRecord (joined (λ command. command.now) commands.now) }
-    ensures items { out.new.items ≡ record_text (joined (λ command. command.now) commands.now) }
-    ensures capacity { 512 * most_sectors ≤ vec_capacity out.new }
+// How many commands there are, and how many bytes they take, at the head of a buffer with room for it.
+#[tactic(auto, unfolding(command_bytes::specs::Fields::big))]
+fn put_head<A: Allocator>(out: &mut Vec<u8, A>, count: u16, size: u32)
+    requires { 6 ≤ vec_capacity out.old }
+    ensures items { out.new.items ≡ big 2 count ++ big 4 size }
+    ensures capacity { vec_capacity out.old ≤ vec_capacity out.new }
 {
-    let count = commands.len() as u16;
-    let size = size_of(commands) as u32;
     out.clear();
     add(out, &count.to_be_bytes());
     add(out, &size.to_be_bytes());
+}
+
+// The text of a record, in a buffer with room for it.
+fn put_record<A: Allocator, B: Allocator>(out: &mut Vec<u8, A>, commands: &[&Command<B>])
+    requires room { 512 * most_sectors ≤ vec_capacity out.old }
+    requires some { 1 ≤ length commands.now }
+    requires few { length commands.now ≤ most_commands }
+    ensures items { out.new.items ≡ record_text (given A commands.now) }
+    ensures fit { IsRecord (given A commands.now) }
+    ensures capacity { 512 * most_sectors ≤ vec_capacity out.new }
+{
+    put_head(out, commands.len() as u16, size_of(commands) as u32);
     add_all(out, commands);
 }

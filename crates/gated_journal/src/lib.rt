@@ -11,4 +11,4 @@ mod record;
 pub use fault::JournalError;
 pub use journal::Journal;
 pub use place::Place;
-pub use record::{Record, decode_record};
+pub use record::decode_record;

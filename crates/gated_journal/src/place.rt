@@ -5,11 +5,13 @@ ghost use Rattle.sector_disk.specs.Run.{LeavesOnly};
 ghost use Rattle.sector_disk.specs.declared.disk.DiskError.TheVariants.{OutOfRange};
 ghost use Rattle.gated_journal.specs.declared.fault.JournalError.TheVariants.{DiskFault, Damaged, JournalFull, NoMemory};
 ghost use Rattle.gated_journal.specs.Half.{Entry};
-ghost use Rattle.gated_journal.specs.Record.{Commands, IsRecord, data_sector, data_size, record_text};
+ghost use Rattle.centre_core.specs.Asked.{Asked};
+ghost use Rattle.gated_journal.specs.Record.{IsRecord, data_sector, data_size, record_text};
 ghost use Rattle.gated_journal.specs.Settled.{HasFilled, IsSettled, Leaves, room_of};
 
 use crate::JournalError;
 use sector_disk::{Disk, DiskError};
+use std::alloc::Allocator;
 
 /// The place of a half of a disk, and of the gate at which the next record goes.
 #[derive(Clone, Copy, Debug, PartialEq, Eq, Drop)]
@@ -30,8 +32,8 @@ impl Place {
         self.end.saturating_sub(self.next).saturating_sub(2)
     }
 
-    // Adds a record with this text.
-    pub(crate) fn append_text<D: Disk>(
+    // Adds a record with this text, of commands under the allocator A.
+    pub(crate) fn append_text<A: Allocator, D: Disk>(
         &mut self,
         disk: &mut D,
         text: &[u8],
@@ -41,11 +43,11 @@ impl Place {
         requires small { length text.now < 2 ^ 32 }
 
         // A stop at any moment of the call leaves the records from before it, with the new one or without.
-        ensures any_moment { (entries : List Entry) (commands : Commands) → IsRecord commands → text.now ≡ record_text commands → (D.view disk.old).honest → IsSettled (D.view disk.old) self.old entries
+        ensures any_moment { (entries : List (Entry A)) (commands : List (Asked A)) → IsRecord commands → text.now ≡ record_text commands → (D.view disk.old).honest → IsSettled (D.view disk.old) self.old entries
             → LeavesOnly (D.view disk.old) (D.view disk.new) (Leaves (D.view disk.old) self.old entries (self.old.next + 1, commands)) }
 
         // At `Ok` each stop leaves it.
-        ensures acknowledged { OnOk result ((entries : List Entry) (commands : Commands) → IsRecord commands → text.now ≡ record_text commands → (D.view disk.old).honest → IsSettled (D.view disk.old) self.old entries
+        ensures acknowledged { OnOk result ((entries : List (Entry A)) (commands : List (Asked A)) → IsRecord commands → text.now ≡ record_text commands → (D.view disk.old).honest → IsSettled (D.view disk.old) self.old entries
             → IsSettled (D.view disk.new) self.new (entries ++ (self.old.next + 1, commands) ∷ [])) }
         ensures next { OnOk result (self.new ≡ record (self.old) { next = self.old.next + data_size text.now + 1 }) }
 

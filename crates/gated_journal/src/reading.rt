@@ -5,8 +5,9 @@ ghost use Rattle.gated_journal.specs.declared.fault.JournalError.TheVariants.{Di
 ghost use Rattle.gated_journal.specs.Half.{HasLooked, data_from, half_of, record_at};
 ghost use Rattle.gated_journal.specs.Reading.{Answers, entries_view, found_view};
 
-use crate::{JournalError, Record};
+use crate::{JournalError, decode_record};
 use byteorder::{BigEndian, ByteOrder};
+use centre_core::Command;
 use sector_disk::Disk;
 use std::alloc::Allocator;
 
@@ -47,7 +48,7 @@ fn read_record<A: Allocator + Clone, D: Disk>(
     at: u64,
     end: u64,
     buffer: &mut Vec<u8, A>,
-) -> Result<Option<(Record<A>, u64)>, JournalError>
+) -> Result<Option<(Vec<Command<A>, A>, u64)>, JournalError>
     requires before { at < end }
     requires within { end ≤ (D.view disk.old).sectors }
     ensures effect { (D.view disk.old).honest → HasLooked (D.view disk.old) (D.view disk.new) × Answers found_view result (record_at (D.view disk.old).reads at end) }
@@ -76,20 +77,20 @@ fn read_record<A: Allocator + Clone, D: Disk>(
         return Err(JournalError::Damaged(at + 1));
     }
     read_sectors(disk, at + 1, size, buffer)?;
-    match Record::read(alloc.clone()?, buffer)? {
+    match decode_record(alloc.clone()?, buffer)? {
         None => Err(JournalError::Damaged(at + 1)),
-        Some(record) => Ok(Some((record, at + 1 + size))),
+        Some(commands) => Ok(Some((commands, at + 1 + size))),
     }
 }
 
-// The records of a half, of each its first data sector and it, and the gate behind them.
+// The records of a half, of each its first data sector and its commands, and the gate behind them.
 pub(crate) fn read_half<A: Allocator + Clone, D: Disk>(
     alloc: A,
     disk: &mut D,
     first: u64,
     end: u64,
     buffer: &mut Vec<u8, A>,
-) -> Result<(Vec<(u64, Record<A>), A>, u64), JournalError>
+) -> Result<(Vec<(u64, Vec<Command<A>, A>), A>, u64), JournalError>
     requires some { first < end }
     requires within { end ≤ (D.view disk.old).sectors }
     ensures exact { (D.view disk.old).honest → Answers (λ x. (entries_view x.0.items, x.1)) result (half_of (D.view disk.old).reads first end) }
@@ -104,8 +105,8 @@ pub(crate) fn read_half<A: Allocator + Clone, D: Disk>(
 {
     let mut entries = Vec::new(alloc.clone()?);
     let mut next = first;
-    while let Some((record, after)) = read_record(&alloc, disk, next, end, buffer)? {
-        entries.push((next + 1, record))?;
+    while let Some((commands, after)) = read_record(&alloc, disk, next, end, buffer)? {
+        entries.push((next + 1, commands))?;
         next = after;
     }
     Ok((entries, next))

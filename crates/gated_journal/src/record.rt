@@ -1,44 +1,22 @@
 // One record's bytes.
-ghost use Rattle.std.specs.Prelude.{◌≡◌, ◌≤◌, ◌<◌, ◌^◌, IfOk, IfSome, option_map};
+ghost use Rattle.std.specs.Prelude.{◌≡◌, ◌≤◌, ◌<◌, ◌^◌, IfOk, IfSome, IsSome, OnErr, option_map};
 ghost use Rattle.std.specs.List.{list_all};
-ghost use Rattle.gated_journal.specs.Record.{is_in_range, is_zero, number_at, record_of};
+ghost use Rattle.command_bytes.specs.Fields.{number_at};
+ghost use Rattle.gated_journal.specs.Record.{commands_in, is_in_range, is_zero, packed_of, record_of};
 
 use byteorder::{BigEndian, ByteOrder};
+use centre_core::Command;
+use command_bytes::decode_first;
 use std::alloc::{AllocError, Allocator};
 
 /// How many commands a record may have.
-pub(crate) const MOST_COMMANDS: u64 = 64;
+const MOST_COMMANDS: u64 = 64;
 
 /// How many bytes a command may have.
-pub(crate) const LONGEST_COMMAND: u64 = 281;
-
-/// A record that was read: its commands' bytes.
-#[derive(Debug, Drop)]
-pub struct Record<A: Allocator> {
-    /// How many commands it has, from 1 to 64.
-    pub count: u64,
-    /// Their bytes, one command after the other.
-    pub bytes: Vec<u8, A>,
-}
-
-impl<A: Allocator> Record<A> {
-    ghost use Rattle.gated_journal.specs.Reading.{commands_view};
-
-    // The record in these data sectors, with bytes of its own.
-    pub(crate) fn read(alloc: A, bytes: &[u8]) -> Result<Option<Record<A>>, AllocError>
-        ensures { IfOk result (λ found. option_map commands_view found ≡ record_of bytes.now) }
-    {
-        let Some((count, commands)) = decode_record(bytes) else {
-            return Ok(None);
-        };
-        let mut bytes = Vec::with_capacity(alloc, commands.len())?;
-        bytes.extend_from_slice(commands)?;
-        Ok(Some(Record { count, bytes }))
-    }
-}
+const LONGEST_COMMAND: u64 = 281;
 
 // The number in the first bytes, and the bytes after it.
-#[tactic(auto, unfolding(crate::specs::Record::number_at))]
+#[tactic(auto, unfolding(command_bytes::specs::Fields::number_at))]
 fn number(bytes: &[u8], width: usize) -> Option<(u64, &[u8])>
     requires low { 1 ≤ width }
     requires high { width ≤ 8 }
@@ -63,11 +41,10 @@ fn is_in_range(count: u64, size: u64) -> bool
     1 <= count && count <= MOST_COMMANDS && size <= LONGEST_COMMAND * count
 }
 
-/// The commands in a record's data sectors, given whole: how many (1 to 64), and their bytes, at most 281 for each,
-/// one command after the other. `None` where the bytes are not a record's.
-#[tactic(auto, unfolding(crate::specs::Record::record_of))]
-pub fn decode_record(bytes: &[u8]) -> Option<(u64, &[u8])>
-    ensures { option_map (λ x. record { count = x.0; bytes = x.1.now }) result ≡ record_of bytes.now }
+// How many commands a record's data sectors tell, and their bytes.
+#[tactic(auto, unfolding(crate::specs::Record::packed_of))]
+fn packed(bytes: &[u8]) -> Option<(u64, &[u8])>
+    ensures { option_map (λ x. record { count = x.0; bytes = x.1.now }) result ≡ packed_of bytes.now }
 {
     let (count, rest) = number(bytes, 2)?;
     let (size, rest) = number(rest, 4)?;
@@ -79,4 +56,43 @@ pub fn decode_record(bytes: &[u8]) -> Option<(u64, &[u8])>
         return None;
     }
     Some((count, commands))
+}
+
+// So many commands, one after the other, where no byte stands behind them.
+fn commands_in<A: Allocator + Clone>(
+    alloc: A,
+    count: u64,
+    bytes: &[u8],
+) -> Result<Option<Vec<Command<A>, A>>, AllocError>
+    ensures { IfOk result (λ found. option_map (λ commands. commands.items) found ≡ commands_in count bytes.now) }
+{
+    let mut commands = Vec::with_capacity(alloc.clone()?, count as usize)?;
+    let mut rest = bytes;
+    for _ in 0..count {
+        let Some((command, after)) = decode_first(alloc.clone()?, rest)? else {
+            return Ok(None);
+        };
+        commands.push(command)?;
+        rest = after;
+    }
+    if rest.is_empty() {
+        Ok(Some(commands))
+    } else {
+        Ok(None)
+    }
+}
+
+/// The commands in a record's data sectors, given whole: how many (1 to 64), how many bytes, and they, one after the
+/// other, at most 281 bytes each, with zeros behind the last. `None` where the bytes are not a record's.
+pub fn decode_record<A: Allocator + Clone>(
+    alloc: A,
+    bytes: &[u8],
+) -> Result<Option<Vec<Command<A>, A>>, AllocError>
+    ensures exact { IfOk result (λ found. option_map (λ commands. commands.items) found ≡ record_of bytes.now) }
+    ensures memory { OnErr result (IsSome (packed_of bytes.now)) }
+{
+    match packed(bytes) {
+        None => Ok(None),
+        Some((count, commands)) => commands_in(alloc, count, commands),
+    }
 }

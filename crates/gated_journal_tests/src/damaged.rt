@@ -1,90 +1,213 @@
 //! Halves that no journal left: each is read up to the first sector at fault, and that is told.
 
 use gated_journal::{Journal, JournalError, decode_record};
-use sector_disk::{Disk, MemoryDisk};
+use sector_disk::{Disk, DiskError, MemoryDisk};
 use std::alloc::{AllocError, Global};
 use std::test::Fail;
 
-/// A half of four sectors, by the front of each, and what it is read as: how many records, or the sector at fault.
+/// A half of four sectors: the front of its first gate, the text behind it with the byte `byte` at the place `at`, and byte 0 of
+/// the gate behind that. And what it is read as: how many records, or the sector at fault.
 struct Row {
-    fronts: [[u8; 8]; 4],
+    gate: [u8; 2],
+    text: [u8; 32],
+    at: usize,
+    byte: u8,
+    next: u8,
     want: Result<usize, u64>,
 }
 
-const OPEN: [u8; 8] = [1, 0, 0, 0, 0, 0, 0, 0];
+const OPEN: [u8; 2] = [1, 0];
 
-const ZEROS: [u8; 8] = [0; 8];
+/// A record of one command of 11 bytes.
+const ONE: [u8; 32] = [
+    0, 1, 0, 0, 0, 11, 0, 1, 0, 0, 0, 1, 0, 0, 0, 0, 6, 0, 0, 0, 0, 0, 0, 0, 0, 0, 0, 0, 0, 0, 0, 0,
+];
 
-/// A record of one command of one byte.
-const ONE: [u8; 8] = [0, 1, 0, 0, 0, 1, 9, 0];
+/// A record of two of them.
+const TWO: [u8; 32] = [
+    0, 2, 0, 0, 0, 22, 0, 1, 0, 0, 0, 1, 0, 0, 0, 0, 6, 0, 1, 0, 0, 0, 2, 0, 0, 0, 0, 6, 0, 0, 0, 0,
+];
 
-const ROWS: [Row; 11] = [
+/// A record of 64 commands, of 1,035 bytes.
+const MANY: [u8; 32] = [
+    0, 64, 0, 0, 4, 11, 0, 1, 0, 0, 0, 1, 0, 0, 0, 0, 6, 0, 0, 0, 0, 0, 0, 0, 0, 0, 0, 0, 0, 0, 0,
+    0,
+];
+
+const ROWS: [Row; 17] = [
+    // A closed gate, by 0 and by another byte.
     Row {
-        fronts: [ZEROS; 4],
+        gate: [0, 0],
+        text: ONE,
+        at: 0,
+        byte: 0,
+        next: 0,
         want: Ok(0),
     },
     Row {
-        fronts: [[2, 0, 0, 0, 0, 0, 0, 0], ONE, OPEN, OPEN],
+        gate: [2, 0],
+        text: ONE,
+        at: 0,
+        byte: 0,
+        next: 1,
         want: Ok(0),
     },
+    // An open one, whatever stands behind byte 0.
     Row {
-        fronts: [OPEN, ONE, ZEROS, OPEN],
+        gate: OPEN,
+        text: ONE,
+        at: 0,
+        byte: 0,
+        next: 0,
         want: Ok(1),
     },
     Row {
-        fronts: [[1, 9, 9, 9, 9, 9, 9, 9], ONE, ZEROS, ZEROS],
+        gate: [1, 9],
+        text: ONE,
+        at: 0,
+        byte: 0,
+        next: 77,
         want: Ok(1),
     },
-    // No command, 65 of them, and more bytes than they can have.
     Row {
-        fronts: [OPEN, ZEROS, ZEROS, ZEROS],
+        gate: OPEN,
+        text: TWO,
+        at: 0,
+        byte: 0,
+        next: 0,
+        want: Ok(1),
+    },
+    // No command, 65 of them, and more bytes than one can have.
+    Row {
+        gate: OPEN,
+        text: ONE,
+        at: 1,
+        byte: 0,
+        next: 0,
         want: Err(1),
     },
     Row {
-        fronts: [OPEN, [0, 65, 0, 0, 0, 1, 9, 0], ZEROS, ZEROS],
+        gate: OPEN,
+        text: ONE,
+        at: 1,
+        byte: 65,
+        next: 0,
         want: Err(1),
     },
     Row {
-        fronts: [OPEN, [0, 1, 0, 0, 1, 26, 9, 0], ZEROS, ZEROS],
+        gate: OPEN,
+        text: ONE,
+        at: 4,
+        byte: 2,
+        next: 0,
         want: Err(1),
     },
     // The next gate would lie behind the half.
     Row {
-        fronts: [OPEN, [0, 64, 0, 0, 4, 251, 9, 0], ZEROS, ZEROS],
+        gate: OPEN,
+        text: MANY,
+        at: 0,
+        byte: 0,
+        next: 0,
         want: Err(1),
     },
     Row {
-        fronts: [OPEN, [0, 64, 255, 255, 255, 255, 9, 0], ZEROS, ZEROS],
+        gate: OPEN,
+        text: MANY,
+        at: 2,
+        byte: 255,
+        next: 0,
         want: Err(1),
     },
-    // A byte behind the commands.
+    // A byte behind the commands, and one more that is told as theirs.
     Row {
-        fronts: [OPEN, [0, 1, 0, 0, 0, 1, 9, 1], ZEROS, ZEROS],
+        gate: OPEN,
+        text: ONE,
+        at: 17,
+        byte: 1,
+        next: 0,
         want: Err(1),
     },
-    // An open gate behind a record, with no sectors for another.
     Row {
-        fronts: [OPEN, ONE, OPEN, ONE],
+        gate: OPEN,
+        text: ONE,
+        at: 5,
+        byte: 12,
+        next: 0,
+        want: Err(1),
+    },
+    // No such tag, and a sequence of 0.
+    Row {
+        gate: OPEN,
+        text: ONE,
+        at: 16,
+        byte: 9,
+        next: 0,
+        want: Err(1),
+    },
+    Row {
+        gate: OPEN,
+        text: ONE,
+        at: 11,
+        byte: 0,
+        next: 0,
+        want: Err(1),
+    },
+    // Two commands told as one, and one told as two.
+    Row {
+        gate: OPEN,
+        text: TWO,
+        at: 1,
+        byte: 1,
+        next: 0,
+        want: Err(1),
+    },
+    Row {
+        gate: OPEN,
+        text: ONE,
+        at: 1,
+        byte: 2,
+        next: 0,
+        want: Err(1),
+    },
+    // An open gate behind a record, with a record of no command behind it.
+    Row {
+        gate: OPEN,
+        text: ONE,
+        at: 0,
+        byte: 0,
+        next: 1,
         want: Err(3),
     },
 ];
 
-fn sector(front: &[u8; 8]) -> [u8; 512] {
+fn gate(front: [u8; 2]) -> [u8; 512] {
     let mut bytes = [0; 512];
-    for k in 0..8 {
-        bytes[k] = front[k];
+    bytes[0] = front[0];
+    bytes[1] = front[1];
+    bytes
+}
+
+/// A sector that begins with a text, with another byte at a place from 1 on.
+fn text(front: &[u8; 32], at: usize, byte: u8) -> [u8; 512] {
+    let mut bytes = [0; 512];
+    for k in 0..32 {
+        bytes[k] = if k == at && 0 < k { byte } else { front[k] };
     }
     bytes
 }
 
+/// Writes a row's half.
+fn stands<D: Disk>(disk: &mut D, row: &Row) -> Result<(), DiskError> {
+    disk.write(0, &gate(row.gate))?;
+    disk.write(1, &text(&row.text, row.at, row.byte))?;
+    disk.write(2, &gate([row.next, 0]))?;
+    disk.write(3, &[0; 512])
+}
+
 /// Whether a half is read so.
 fn is_read<D: Disk>(alloc: Global, disk: &mut D, row: &Row) -> bool {
-    for k in 0..4 {
-        if disk.write(k as u64, &sector(&row.fronts[k])).is_err() {
-            return false;
-        }
-    }
-    if disk.sectors() < 4 {
+    if stands(disk, row).is_err() || disk.sectors() < 4 {
         return false;
     }
     match (Journal::replay(alloc, disk, 0, 4), row.want) {
@@ -97,7 +220,7 @@ fn is_read<D: Disk>(alloc: Global, disk: &mut D, row: &Row) -> bool {
 /// The first row that is read otherwise.
 fn first_wrong(alloc: Global) -> Result<Option<usize>, AllocError> {
     let mut disk = MemoryDisk::new(alloc, 4, 999)?;
-    for k in 0..11 {
+    for k in 0..17 {
         if !is_read(alloc, &mut disk, &ROWS[k]) {
             return Ok(Some(k));
         }
@@ -129,30 +252,36 @@ fn an_open_gate_in_the_last_sector_is_damage(rt: HostRuntime) -> Result<(), Fail
     Ok(())
 }
 
-/// Bytes, and how many commands and how many bytes of theirs a record of them has.
-const TEXTS: [(&[u8], Option<(u64, usize)>); 7] = [
-    (&[], None),
-    (&[0, 1, 0, 0, 0], None),
-    (&[0, 1, 0, 0, 0, 0], Some((1, 0))),
-    (&[0, 1, 0, 0, 0, 2, 9], None),
-    (&[0, 1, 0, 0, 0, 2, 9, 9], Some((1, 2))),
-    (&[0, 2, 0, 0, 0, 1, 9, 0, 0], Some((2, 1))),
-    (&[0, 2, 0, 0, 0, 1, 9, 0, 8], None),
+/// A record's bytes by how many there are, with the byte `byte` at the place `at`, and how many commands they are read as.
+const TEXTS: [(usize, usize, u8, Option<usize>); 8] = [
+    (0, 0, 0, None),
+    (5, 0, 0, None),
+    (16, 0, 0, None),
+    (17, 0, 0, Some(1)),
+    (32, 0, 0, Some(1)),
+    (32, 31, 8, None),
+    (17, 1, 0, None),
+    (17, 16, 9, None),
 ];
 
-fn first_misread() -> Option<usize> {
-    for k in 0..7 {
-        let (text, want) = TEXTS[k];
-        let found = decode_record(text).map(|(count, bytes)| (count, bytes.len()));
+/// The first text that is read otherwise.
+fn first_misread(alloc: Global) -> Result<Option<usize>, AllocError> {
+    for k in 0..8 {
+        let (len, at, byte, want) = TEXTS[k];
+        let sector = text(&ONE, at, byte);
+        let Some(bytes) = sector.get(..len) else {
+            return Ok(Some(k));
+        };
+        let found = decode_record(alloc, bytes)?.map(|commands| commands.len());
         if found != want {
-            return Some(k);
+            return Ok(Some(k));
         }
     }
-    None
+    Ok(None)
 }
 
 #[test]
 fn a_record_is_read_from_its_bytes(rt: HostRuntime) -> Result<(), Fail> {
-    assert_eq!(rt; first_misread(), None);
+    assert_eq!(rt; first_misread(rt.alloc())?, None);
     Ok(())
 }

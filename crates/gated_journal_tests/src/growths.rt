@@ -1,25 +1,29 @@
 //! Heaps of rising size: each growth of a replay is refused in turn, and then another replay gives all.
 ghost use Rattle.std.specs.Prelude.{◌≡◌};
 
+use crate::made;
+use centre_core::Command;
 use gated_journal::{Journal, JournalError};
 use linked_list_allocator::LocalHeap;
 use sector_disk::{Disk, MemoryDisk};
 use std::alloc::Global;
 use std::test::Fail;
 
-/// Adds three records of one command of one byte.
+/// Adds three records of one location update.
 fn are_added<D: Disk>(alloc: Global, disk: &mut D) -> bool {
-    let Ok(mut journal) = Journal::start(alloc, 0, 9) else {
+    let (Ok(mut journal), Some(update)) = (Journal::start(alloc, 0, 9), made::update(alloc)) else {
         return false;
     };
-    add(&mut journal, disk) && add(&mut journal, disk) && add(&mut journal, disk)
+    add(&mut journal, disk, &update)
+        && add(&mut journal, disk, &update)
+        && add(&mut journal, disk, &update)
 }
 
-fn add<D: Disk>(journal: &mut Journal<Global>, disk: &mut D) -> bool
+fn add<D: Disk>(journal: &mut Journal<Global>, disk: &mut D, command: &Command<Global>) -> bool
     requires { journal.old.end ≡ 9 }
     ensures { journal.new.end ≡ 9 }
 {
-    disk.sectors() >= 9 && journal.append(disk, &[&[7]]).is_ok()
+    disk.sectors() >= 9 && journal.append(disk, &[command]).is_ok()
 }
 
 /// Nothing where memory is wanted, else whether three records are read.

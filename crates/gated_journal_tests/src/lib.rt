@@ -6,4 +6,6 @@ mod damaged;
 #[cfg(test)]
 mod growths;
 #[cfg(test)]
+mod made;
+#[cfg(test)]
 mod records;

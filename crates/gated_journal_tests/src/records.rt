@@ -1,27 +1,12 @@
 //! Records that are written and read back.
-ghost use Rattle.std.specs.Prelude.{◌≡◌};
+ghost use Rattle.std.specs.Prelude.{◌≡◌, ◌≤◌, length};
 
-use gated_journal::{Journal, JournalError, Record};
+use crate::made;
+use centre_core::{Body, Command};
+use gated_journal::{Journal, JournalError};
 use sector_disk::{Disk, DiskError, Failing, FailingDisk, MemoryDisk};
 use std::alloc::{AllocError, Global};
 use std::test::Fail;
-
-/// A rule's command.
-const RULE: [u8; 27] = [
-    0, 1, 0, 0, 0, 1, 0, 0, 0, 0, 1, 0x18, 0x3a, 0x80, 0x0e, 0, 0, 0, 0, 1, 0, 0x63, 1, 0, 0, 0x0e,
-    0x10,
-];
-
-/// A location update's command.
-const UPDATE: [u8; 23] = [
-    0, 1, 0, 0, 0, 2, 0, 0, 0, 10, 3, 0x3a, 0x80, 0x0e, 0, 7, 0xd1, 0, 7, 0, 10, 0x26, 0,
-];
-
-/// A command of 11 bytes.
-const SHORT: [u8; 11] = [0, 1, 0, 0, 0, 3, 0, 0, 0, 11, 7];
-
-/// A command of the greatest length.
-const LONG: [u8; 281] = [9; 281];
 
 /// The front of the data sector of a record of a rule's command.
 const RULE_TEXT: [u8; 33] = [
@@ -38,8 +23,11 @@ fn begins<D: Disk>(disk: &mut D, at: u64, head: &[u8]) -> Result<bool, DiskError
     Ok(bytes.starts_with(head))
 }
 
-/// Whether a half of 39 sectors is read as these: of each the first data sector, how many commands, and how many bytes.
-fn reads_as<D: Disk>(alloc: Global, disk: &mut D, want: &[(u64, u64, usize)]) -> bool {
+/// A record as it is read: its first data sector and its commands.
+type Entry = (u64, Vec<Command<Global>>);
+
+/// Whether a half of 39 sectors is read as these: of each the first data sector, how many commands, and the last one's sequence.
+fn reads_as<D: Disk>(alloc: Global, disk: &mut D, want: &[(u64, usize, u32)]) -> bool {
     if disk.sectors() < 39 {
         return false;
     }
@@ -49,7 +37,7 @@ fn reads_as<D: Disk>(alloc: Global, disk: &mut D, want: &[(u64, u64, usize)]) ->
     }
 }
 
-fn are(records: &[(u64, Record<Global>)], want: &[(u64, u64, usize)]) -> bool {
+fn are(records: &[Entry], want: &[(u64, usize, u32)]) -> bool {
     if records.len() != want.len() {
         return false;
     }
@@ -61,19 +49,24 @@ fn are(records: &[(u64, Record<Global>)], want: &[(u64, u64, usize)]) -> bool {
     true
 }
 
-fn is(record: &(u64, Record<Global>), want: &(u64, u64, usize)) -> bool {
-    record.0 == want.0 && record.1.count == want.1 && record.1.bytes.len() == want.2
+fn is(record: &Entry, want: &(u64, usize, u32)) -> bool {
+    let last = record.1.last().map(|command| command.sequence);
+    record.0 == want.0 && record.1.len() == want.1 && last == Some(want.2)
 }
 
-/// Adds one record of a rule's command.
-fn add_rule<D: Disk>(journal: &mut Journal<Global>, disk: &mut D) -> Result<(), JournalError>
+/// Adds one record of one command.
+fn add<D: Disk>(
+    journal: &mut Journal<Global>,
+    disk: &mut D,
+    command: &Command<Global>,
+) -> Result<(), JournalError>
     requires { journal.old.end ≡ 39 }
     ensures { journal.new.end ≡ 39 }
 {
     if disk.sectors() < 39 {
         return Err(JournalError::NoMemory);
     }
-    journal.append(disk, &[&RULE])
+    journal.append(disk, &[command])
 }
 
 /// Whether a half of 39 sectors is read as one record of a rule's command.
@@ -82,16 +75,37 @@ fn reads_the_rule<D: Disk>(alloc: Global, disk: &mut D) -> bool {
         return false;
     }
     match Journal::replay(alloc, disk, 0, 39) {
-        Ok((_, records)) => records.len() == 1 && records[0].1.bytes.as_slice() == RULE.as_slice(),
+        Ok((_, records)) => records.len() == 1
+            && records[0].1.len() == 1
+            && is_the_rule(&records[0].1[0]),
         Err(_) => false,
     }
 }
 
-fn one_is_kept<D: Disk>(alloc: Global, disk: &mut D) -> Result<bool, AllocError> {
+fn is_the_rule(command: &Command<Global>) -> bool {
+    let is_its_head = command.station == 1 && command.sequence == 1 && command.moment == 0;
+    match &command.body {
+        Body::RuleSet { prefix, rule } => {
+            let areas = (rule.low().number(), rule.high().number());
+            is_its_head
+                && prefix.len() == 24
+                && prefix.bits() == 0x3a80_0e00_0000
+                && areas == (1, 99)
+                && rule.keep() == 3_600
+        }
+        _ => false,
+    }
+}
+
+fn one_is_kept<D: Disk>(
+    alloc: Global,
+    disk: &mut D,
+    rule: &Command<Global>,
+) -> Result<bool, AllocError> {
     let mut journal = Journal::start(alloc, 0, 39)?;
     let before = journal.room() == 37;
-    let added = add_rule(&mut journal, disk).is_ok() && journal.room() == 35;
-    Ok(before && added && reads_as(alloc, disk, &[(1, 1, 27)]) && reads_the_rule(alloc, disk))
+    let added = add(&mut journal, disk, rule).is_ok() && journal.room() == 35;
+    Ok(before && added && reads_the_rule(alloc, disk))
 }
 
 fn stands<D: Disk>(disk: &mut D) -> Result<bool, DiskError> {
@@ -100,18 +114,23 @@ fn stands<D: Disk>(disk: &mut D) -> Result<bool, DiskError> {
 
 #[test]
 fn one_command_in_one_record(rt: HostRuntime) -> Result<(), Fail> {
+    let rule = made::rule().ok_or("a rule")?;
     let mut disk = MemoryDisk::new(rt.alloc(), 39, 99)?;
-    assert!(rt; one_is_kept(rt.alloc(), &mut disk)? && stands(&mut disk) == Ok(true));
+    assert!(rt; one_is_kept(rt.alloc(), &mut disk, &rule)? && stands(&mut disk) == Ok(true));
     Ok(())
 }
 
 /// Adds 19 records; then there is room for none.
-fn is_filled<D: Disk>(journal: &mut Journal<Global>, disk: &mut D) -> bool
+fn is_filled<D: Disk>(
+    journal: &mut Journal<Global>,
+    disk: &mut D,
+    command: &Command<Global>,
+) -> bool
     requires { journal.old.end ≡ 39 }
     ensures { journal.new.end ≡ 39 }
 {
     for _ in 0..19 {
-        if add_rule(journal, disk).is_err() {
+        if add(journal, disk, command).is_err() {
             return false;
         }
     }
@@ -119,102 +138,121 @@ fn is_filled<D: Disk>(journal: &mut Journal<Global>, disk: &mut D) -> bool
 }
 
 /// The records of a full half.
-fn nineteen(alloc: Global) -> Result<Vec<(u64, u64, usize)>, AllocError> {
+fn nineteen(alloc: Global) -> Result<Vec<(u64, usize, u32)>, AllocError> {
     let mut want = Vec::new(alloc);
     for k in 0..19 {
-        want.push((2 * k + 1, 1, 27))?;
+        want.push((2 * k + 1, 1, 3))?;
     }
     Ok(want)
 }
 
-fn is_full(alloc: Global) -> Result<bool, AllocError> {
+fn is_full(alloc: Global, command: &Command<Global>) -> Result<bool, AllocError> {
     let mut disk = MemoryDisk::new(alloc, 39, 199)?;
     let mut journal = Journal::start(alloc, 0, 39)?;
-    let filled = is_filled(&mut journal, &mut disk);
-    let refused = add_rule(&mut journal, &mut disk) == Err(JournalError::JournalFull);
+    let filled = is_filled(&mut journal, &mut disk, command);
+    let refused = add(&mut journal, &mut disk, command) == Err(JournalError::JournalFull);
     let untouched = disk.pending(alloc)?.is_empty() && journal.room() == 0;
     Ok(filled && refused && untouched && reads_as(alloc, &mut disk, &nineteen(alloc)?))
 }
 
 #[test]
 fn a_full_journal_writes_nothing(rt: HostRuntime) -> Result<(), Fail> {
-    assert!(rt; is_full(rt.alloc())?);
+    let expiry = made::expiry().ok_or("an expiry")?;
+    assert!(rt; is_full(rt.alloc(), &expiry)?);
     Ok(())
 }
 
 /// What a stop leaves of one record whose gate was written and not synced: byte 0 of the gate, and whether the record counts.
-fn counts(alloc: Global, gate: u8) -> Result<bool, AllocError> {
+fn counts(alloc: Global, rule: &Command<Global>, gate: u8) -> Result<bool, AllocError> {
     let mut disk = FailingDisk::new(MemoryDisk::new(alloc, 39, 99)?, 5, Failing::Once);
     let mut journal = Journal::start(alloc, 0, 39)?;
-    let failed = add_rule(&mut journal, &mut disk) == Err(JournalError::DiskFault);
+    let failed = add(&mut journal, &mut disk, rule) == Err(JournalError::DiskFault);
     let mut disk = disk.into_inner().crash(&[(0, [gate; 512])]);
-    let want: &[(u64, u64, usize)] = if gate == 1 { &[(1, 1, 27)] } else { &[] };
-    Ok(failed && reads_as(alloc, &mut disk, want))
+    if gate == 1 {
+        Ok(failed && reads_the_rule(alloc, &mut disk))
+    } else {
+        Ok(failed && reads_as(alloc, &mut disk, &[]))
+    }
+}
+
+fn count_so(alloc: Global, rule: &Command<Global>) -> Result<bool, AllocError> {
+    Ok(counts(alloc, rule, 0)? && counts(alloc, rule, 1)? && counts(alloc, rule, 77)?)
 }
 
 #[test]
 fn a_record_counts_once_its_gate_is_open(rt: HostRuntime) -> Result<(), Fail> {
-    assert!(rt; counts(rt.alloc(), 0)? && counts(rt.alloc(), 1)? && counts(rt.alloc(), 77)?);
+    let rule = made::rule().ok_or("a rule")?;
+    assert!(rt; count_so(rt.alloc(), &rule)?);
     Ok(())
 }
 
-fn three_are_kept<D: Disk>(alloc: Global, disk: &mut D) -> Result<bool, AllocError> {
+fn are_kept<D: Disk>(
+    alloc: Global,
+    disk: &mut D,
+    commands: &[&Command<Global>],
+) -> Result<bool, AllocError>
+    requires some { 1 ≤ length commands.now }
+    requires few { length commands.now ≤ 64 }
+{
     let mut journal = Journal::start(alloc, 0, 39)?;
-    if disk.sectors() < 39 {
-        return Ok(false);
-    }
-    let added = journal.append(disk, &[&RULE, &UPDATE, &SHORT]).is_ok() && journal.room() == 35;
-    Ok(added && reads_as(alloc, disk, &[(1, 3, 61)]))
+    Ok(disk.sectors() >= 39 && journal.append(disk, commands).is_ok())
+}
+
+fn three_are_kept(alloc: Global) -> Result<bool, Fail> {
+    let rule = made::rule().ok_or("a rule")?;
+    let update = made::update(alloc).ok_or("an update")?;
+    let expiry = made::expiry().ok_or("an expiry")?;
+    let mut disk = MemoryDisk::new(alloc, 39, 99)?;
+    let added = are_kept(alloc, &mut disk, &[&rule, &update, &expiry])?;
+    let begun = begins(&mut disk, 1, &THREE_HEAD) == Ok(true);
+    Ok(added && begun && reads_as(alloc, &mut disk, &[(1, 3, 3)]))
 }
 
 #[test]
 fn three_commands_in_one_record(rt: HostRuntime) -> Result<(), Fail> {
-    let mut disk = MemoryDisk::new(rt.alloc(), 39, 99)?;
-    assert!(rt;
-        three_are_kept(rt.alloc(), &mut disk)? && begins(&mut disk, 1, &THREE_HEAD) == Ok(true)
-    );
+    assert!(rt; three_are_kept(rt.alloc())?);
     Ok(())
 }
 
-fn longest_are_kept<D: Disk>(alloc: Global, disk: &mut D) -> Result<bool, AllocError> {
-    let mut journal = Journal::start(alloc, 0, 39)?;
-    if disk.sectors() < 39 {
-        return Ok(false);
-    }
-    let commands: [&[u8]; 64] = [&LONG; 64];
-    let added = journal.append(disk, &commands).is_ok() && journal.room() == 0;
-    Ok(added && reads_as(alloc, disk, &[(1, 64, 17_984)]))
+/// Whether 64 of the longest commands are added to a disk with room for so many calls, and read back.
+fn longest_are_kept(alloc: Global, calls: usize) -> Result<bool, Fail> {
+    let longest = made::longest(alloc).ok_or("a short data PDU")?;
+    let mut disk = MemoryDisk::new(alloc, 39, calls)?;
+    let added = are_kept(alloc, &mut disk, &[&longest; 64])?;
+    Ok(added && reads_as(alloc, &mut disk, &[(1, 64, 4)]))
 }
 
 #[test]
 fn the_longest_commands_take_36_sectors(rt: HostRuntime) -> Result<(), Fail> {
-    let mut disk = MemoryDisk::new(rt.alloc(), 39, 199)?;
-    assert!(rt; longest_are_kept(rt.alloc(), &mut disk)?);
+    assert!(rt; longest_are_kept(rt.alloc(), 199)?);
     Ok(())
 }
 
-/// Whether a rule's command is added to a disk with room for so many calls.
-fn is_added_in(alloc: Global, calls: usize) -> Result<bool, AllocError> {
+/// Whether a command is added to a disk with room for so many calls.
+fn is_added_in(alloc: Global, command: &Command<Global>, calls: usize) -> Result<bool, AllocError> {
     let mut disk = MemoryDisk::new(alloc, 39, calls)?;
-    let mut journal = Journal::start(alloc, 0, 39)?;
-    Ok(add_rule(&mut journal, &mut disk).is_ok())
+    are_kept(alloc, &mut disk, &[command])
 }
 
-/// Whether 64 of the longest commands are.
-fn are_added_in(alloc: Global, calls: usize) -> Result<bool, AllocError> {
+/// Whether 64 of them are.
+fn are_added_in(
+    alloc: Global,
+    command: &Command<Global>,
+    calls: usize,
+) -> Result<bool, AllocError> {
     let mut disk = MemoryDisk::new(alloc, 39, calls)?;
-    let mut journal = Journal::start(alloc, 0, 39)?;
-    if disk.sectors() < 39 {
-        return Ok(false);
-    }
-    let commands: [&[u8]; 64] = [&LONG; 64];
-    Ok(journal.append(&mut disk, &commands).is_ok())
+    are_kept(alloc, &mut disk, &[command; 64])
+}
+
+/// One data sector, a gate and the gate before it in two syncs; and so with 36 data sectors.
+fn are_each_written_once(alloc: Global) -> Result<bool, Fail> {
+    let longest = made::longest(alloc).ok_or("a short data PDU")?;
+    let one = !is_added_in(alloc, &longest, 4)? && is_added_in(alloc, &longest, 5)?;
+    Ok(one && !are_added_in(alloc, &longest, 39)? && are_added_in(alloc, &longest, 40)?)
 }
 
 #[test]
 fn each_sector_is_written_once_in_two_syncs(rt: HostRuntime) -> Result<(), Fail> {
-    let alloc = rt.alloc();
-    assert!(rt; !is_added_in(alloc, 4)? && is_added_in(alloc, 5)?);
-    assert!(rt; !are_added_in(alloc, 39)? && are_added_in(alloc, 40)?);
+    assert!(rt; are_each_written_once(rt.alloc())?);
     Ok(())
 }

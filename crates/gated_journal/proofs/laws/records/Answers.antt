@@ -1,12 +1,11 @@
-use Rattle.gated_journal.proofs.Written.{record_again}
-use Rattle.gated_journal.proofs.Taken.{record_taken}
+use Rattle.gated_journal.proofs.Listed.{record_again, record_taken}
 use Rattle.gated_journal.proofs.laws.records.Goals as goal
 
 pub returns-clause-read_back : goal.returns-clause-read_back
-returns-clause-read_back c = record_again
+returns-clause-read_back g c = record_again
 
 pub returns-clause-in_range : goal.returns-clause-in_range
-returns-clause-in_range c commands bytes is read = (record_taken bytes commands is read).fit
+returns-clause-in_range g c commands bytes is read = (record_taken bytes commands is read).fit
 
 pub returns-clause-spelt : goal.returns-clause-spelt
-returns-clause-spelt c commands bytes is read = (record_taken bytes commands is read).spelt
+returns-clause-spelt g c commands bytes is read = (record_taken bytes commands is read).spelt

@@ -3,42 +3,42 @@ use Rattle.std.proofs.lemmas.Result.{err_from_is_err_and}
 use Rattle.std.proofs.lemmas.List.{map_push}
 use Rattle.sector_disk.specs.Disk.{View}
 use Rattle.gated_journal.specs.Half.{half_of}
-use Rattle.gated_journal.specs.Reading.{commands_view, entry_view, entries_view}
+use Rattle.gated_journal.specs.Reading.{entry_view, entries_view}
 use Rattle.gated_journal.proofs.Steps.{looked_on}
 use Rattle.gated_journal.proofs.Halves.{front_more, front_closed, error_on}
 use Rattle.gated_journal.proofs.reading.read_half.Goals as goal
 
-pub returns-in_err-record-clause-exact : goal.returns-in_err-record-clause-exact
-returns-in_err-record-clause-exact g c honest =
+pub returns-in_err-commands-clause-exact : goal.returns-in_err-commands-clause-exact
+returns-in_err-commands-clause-exact g c honest =
     let old : View = g.D.Disk.view c.args.disk.now in
     let looked = c.loop-entries.invariant.looked honest in
-    let p = err_from_is_err_and c.from_residual-in_err-record.result c.from_residual-in_err-record.ensures.1 in
-    let read = rw looked.reads at ((c.in_err-record.ensures.effect looked.honest).1) in
-    rw (p.1, p.2) (error_on c.in_err-record.field-0.0 old.reads c.loop-entries.next c.args.end (entries_view c.loop-entries.entries.items) (half_of old.reads c.args.first c.args.end) c.loop-entries.invariant.within read (c.loop-entries.invariant.so_far honest))
+    let p = err_from_is_err_and c.from_residual-in_err-commands.result c.from_residual-in_err-commands.ensures.1 in
+    let read = rw looked.reads at ((c.in_err-commands.ensures.effect looked.honest).1) in
+    rw (p.1, p.2) (error_on c.in_err-commands.field-0.0 old.reads c.loop-entries.next c.args.end (entries_view c.loop-entries.entries.items) (half_of old.reads c.args.first c.args.end) c.loop-entries.invariant.within read (c.loop-entries.invariant.so_far honest))
 
 pub loop-entries-preserved : goal.loop-entries-preserved
 loop-entries-preserved g c =
     let old : View = g.D.Disk.view c.args.disk.now in
     let mid : View = g.D.Disk.view c.loop-entries.disk in
-    let on = rw c.in-Some.is at c.in_ok-record.ensures.on in
+    let on = rw c.in-Some.is at c.in_ok-commands.ensures.on in
     record {
       within = on.1;
-      sectors = c.in_ok-record.ensures.sectors ∙ c.loop-entries.invariant.sectors;
-      capacity = omega (arith, c.in_ok-record.ensures.capacity, c.loop-entries.invariant.capacity);
-      later = omega (arith, c.in_ok-record.ensures.later, c.loop-entries.invariant.later);
+      sectors = c.in_ok-commands.ensures.sectors ∙ c.loop-entries.invariant.sectors;
+      capacity = omega (arith, c.in_ok-commands.ensures.capacity, c.loop-entries.invariant.capacity);
+      later = omega (arith, c.in_ok-commands.ensures.later, c.loop-entries.invariant.later);
       looked = λ honest.
           let looked = c.loop-entries.invariant.looked honest in
-          looked_on _ mid _ looked ((c.in_ok-record.ensures.effect looked.honest).0);
+          looked_on _ mid _ looked ((c.in_ok-commands.ensures.effect looked.honest).0);
       so_far = λ honest.
           let looked = c.loop-entries.invariant.looked honest in
-          let read = rw (c.in-Some.is, looked.reads) at ((c.in_ok-record.ensures.effect looked.honest).1) in
-          let pushed : entries_view c.push.new.self.items ≡ entries_view c.loop-entries.entries.items ++ (c.loop-entries.next + 1, (commands_view c.in-Some.record)) ∷ [] = rw c.in_ok-push.ensures.items (map_push entry_view c.loop-entries.entries.items (c.loop-entries.next + 1, c.in-Some.record)) in
-          rw pushed (front_more old.reads c.loop-entries.next c.args.end (entries_view c.loop-entries.entries.items) (commands_view c.in-Some.record) c.in-Some.after (half_of old.reads c.args.first c.args.end) c.loop-entries.invariant.within read (c.loop-entries.invariant.so_far honest));
+          let read = rw (c.in-Some.is, looked.reads) at ((c.in_ok-commands.ensures.effect looked.honest).1) in
+          let pushed : entries_view c.push.new.self.items ≡ entries_view c.loop-entries.entries.items ++ (c.loop-entries.next + 1, c.in-Some.commands.items) ∷ [] = rw c.in_ok-push.ensures.items (map_push entry_view c.loop-entries.entries.items (c.loop-entries.next + 1, c.in-Some.commands)) in
+          rw pushed (front_more old.reads c.loop-entries.next c.args.end (entries_view c.loop-entries.entries.items) c.in-Some.commands.items c.in-Some.after (half_of old.reads c.args.first c.args.end) c.loop-entries.invariant.within read (c.loop-entries.invariant.so_far honest));
     }
 
 pub returns-clause-exact : goal.returns-clause-exact
 returns-clause-exact g c honest =
     let old : View = g.D.Disk.view c.args.disk.now in
     let looked = c.loop-entries.invariant.looked honest in
-    let read = rw (c.in_default.is, looked.reads) at ((c.in_ok-record.ensures.effect looked.honest).1) in
+    let read = rw (c.in_default.is, looked.reads) at ((c.in_ok-commands.ensures.effect looked.honest).1) in
     front_closed old.reads c.loop-entries.next c.args.end (entries_view c.loop-entries.entries.items) (half_of old.reads c.args.first c.args.end) c.loop-entries.invariant.within read (c.loop-entries.invariant.so_far honest)

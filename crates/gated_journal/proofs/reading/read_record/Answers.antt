@@ -2,7 +2,6 @@ use Rattle.std.proofs.Common.{◌≡◌, ◌+◌, ◌/◌, ◌<◌, ◌≤◌, i
 use Rattle.sector_disk.specs.Disk.{View, sector}
 use Rattle.gated_journal.specs.Half.{told_size, data_from}
 use Rattle.gated_journal.specs.Record.{most_sectors, record_of}
-use Rattle.gated_journal.specs.Reading.{commands_view}
 use Rattle.gated_journal.proofs.Steps.{looked_on, one_look, told_from, too_long, no_record, some_record}
 use Rattle.gated_journal.proofs.reading.read_record.Goals as goal
 
@@ -59,7 +58,7 @@ returns-in-None-clause-effect g c honest =
     let within : c.args.at + 1 + size < c.args.end = omega (arith, lt, c.if-end-at.false) in
     let text : c.deref.result.now ≡ data_from old.reads (c.args.at + 1) size = c.deref.ensures.value ∙ all.1 ∙ ap (λ (reads : List (List ℕ)). data_from reads (c.args.at + 1) size) looked.reads in
     let few : size ≤ most_sectors = omega (arith, c.if-size-gt-MOST_SECTORS.false) in
-    let none : record_of (data_from old.reads (c.args.at + 1) size) ≡ None = ap record_of (sym text) ∙ sym (c.in_ok-read-3.ensures) ∙ ap (option_map commands_view) c.in-None.is in
+    let none : record_of (data_from old.reads (c.args.at + 1) size) ≡ None = ap record_of (sym text) ∙ sym (c.in_ok-decode_record.ensures.exact) ∙ ap (option_map (λ commands. commands.items)) c.in-None.is in
     (looked_on old next _ looked all.0, no_record old.reads c.args.at c.args.end size few within gate told none)
 
 pub returns-in-Some-clause-effect : goal.returns-in-Some-clause-effect
@@ -81,5 +80,5 @@ returns-in-Some-clause-effect g c honest =
     let within : c.args.at + 1 + size < c.args.end = omega (arith, lt, c.if-end-at.false) in
     let text : c.deref.result.now ≡ data_from old.reads (c.args.at + 1) size = c.deref.ensures.value ∙ all.1 ∙ ap (λ (reads : List (List ℕ)). data_from reads (c.args.at + 1) size) looked.reads in
     let few : size ≤ most_sectors = omega (arith, c.if-size-gt-MOST_SECTORS.false) in
-    let some : record_of (data_from old.reads (c.args.at + 1) size) ≡ Some (commands_view c.in-Some.record) = ap record_of (sym text) ∙ sym (c.in_ok-read-3.ensures) ∙ ap (option_map commands_view) c.in-Some.is in
-    (looked_on old next _ looked all.0, some_record old.reads c.args.at c.args.end size (commands_view c.in-Some.record) few within gate told some)
+    let some : record_of (data_from old.reads (c.args.at + 1) size) ≡ Some c.in-Some.commands.items = ap record_of (sym text) ∙ sym (c.in_ok-decode_record.ensures.exact) ∙ ap (option_map (λ commands. commands.items)) c.in-Some.is in
+    (looked_on old next _ looked all.0, some_record old.reads c.args.at c.args.end size c.in-Some.commands.items few within gate told some)

@@ -1,0 +1,172 @@
+-- Bits in bytes: the front of some bytes, what fills the last one, and bytes as one number.
+use Rattle.std.proofs.Common.{◌≡◌, ℕ, zero, suc, ◌+◌, ◌-◌, ◌*◌, ◌/◌, ◌%◌, ◌^◌, ◌<◌, ◌≤◌, min, Bool, true, false, List, [], ◌∷◌, ◌++◌, length, slice_index, take, drop, replicate, Some, None, refl, sym, ap, subst, ◌∙◌, arith, append_assoc, inl, inr}
+use Rattle.std.specs.Prelude.{not, ◌==◌}
+use Rattle.std.specs.List.{list_all, flat_map}
+use Rattle.std.specs.Int.{byte_at}
+use Rattle.std.proofs.lemmas.Bool.{cases_eq, eq-eqb, ne_eqb, le-ltb, lt-ltb}
+use Rattle.std.proofs.lemmas.List.{append-nil, take_all}
+use Rattle.std.proofs.lemmas.Nat.{shr_below}
+use Rattle.byteorder.specs.Endian.{big_number}
+use Rattle.identity.specs.Number.{num, number}
+use Rattle.identity.specs.NumberLaws.{length-num, num-append, num-mod, take-num, drop-num, zeros_if, zeros_then, num-number}
+use Rattle.identity.specs.Packed.{AreBytes, bits_of}
+use Rattle.identity.proofs.Bytes.{length-bits_of}
+use Rattle.identity.proofs.SameBytes.{bytes_from_bits}
+use Rattle.command_bytes.specs.Fields.{◌>>=◌, big, left, front, number_at, left_at}
+use Rattle.command_bytes.proofs.Numbers.{are-big, big-read}
+use Rattle.command_bytes.proofs.Lefts.{all_zeros, zeros_all, pow_256}
+
+-- ---- bytes as one number
+
+bits_of-big : (w v : ℕ) → bits_of (big w v) ≡ num (8 * w) v
+unfolding bits_of big num
+bits_of-big zero v = refl
+bits_of-big (suc w) v =
+    let whole : 8 * suc w ≡ 8 + 8 * w = omega arith in
+    let first : num 8 (byte_at w v) ≡ num 8 (v / 2 ^ (8 * w)) = byte w in
+    ap (λ (l : List Bool). num 8 (byte_at w v) ++ l) (bits_of-big w v) ∙ ap (λ (l : List Bool). l ++ num (8 * w) v) first ∙ sym (num-append 8 (8 * w) v) ∙ ap (λ (n : ℕ). num n v) (sym whole)
+  where
+    byte : (k : ℕ) → num 8 (byte_at k v) ≡ num 8 (v / 2 ^ (8 * k))
+    byte zero = num-mod 8 v ∙ ap (num 8) (omega arith)
+    byte (suc k) = num-mod 8 (v / 256 ^ suc k) ∙ ap (λ (n : ℕ). num 8 (v / n)) (pow_256 (suc k))
+
+-- the bits of the first bytes
+pub number_bits : (w : ℕ) (bytes : List ℕ) → AreBytes bytes → w ≤ length bytes → num (8 * w) (big_number w bytes) ≡ bits_of (take w bytes)
+number_bits w bytes are le = sym (bits_of-big w (big_number w bytes)) ∙ ap bits_of (big-read w bytes are le)
+
+-- bytes that hold just these bits and zeros are these bits from the left
+pub is_left : (w : ℕ) (bytes : List ℕ) (bits : List Bool) → AreBytes bytes → length bytes ≡ w → length bits ≤ 8 * w → bits_of bytes ≡ bits ++ replicate (8 * w - length bits) false → bytes ≡ left w bits
+unfolding left
+is_left w bytes bits are long le is =
+    let filled = bits ++ replicate (8 * w - length bits) false in
+    let len : length filled ≡ 8 * w = sym (ap length is) ∙ length-bits_of bytes ∙ ap (λ (n : ℕ). 8 * n) long in
+    let back : num (8 * w) (number filled) ≡ filled = subst (λ (n : ℕ). num n (number filled) ≡ filled) len (num-number filled) in
+    bytes_from_bits bytes (big w (number filled)) are (are-big w (number filled)) (is ∙ sym back ∙ sym (bits_of-big w (number filled)))
+
+-- ---- a byte's first bits
+
+pub front_byte : (byte left width v : ℕ) → byte < 2 ^ 8 → width ≡ min left 8 → v ≡ byte / 2 ^ (8 - width) → (num width v ≡ take left (num 8 byte)) × (v < 2 ^ width)
+front_byte byte left width v small is_width is_v = (rw is_v (sym (take-num width 8 byte (omega arith))) ∙ same, rw is_v (shr_below byte width (8 - width) (subst (λ (n : ℕ). byte < 2 ^ n) whole small)))
+  where
+    whole : 8 ≡ width + (8 - width)
+    whole = omega arith
+
+    same : take width (num 8 byte) ≡ take left (num 8 byte)
+    same = elim (cases_eq width left) [
+      | inl e ↦ ap (λ (n : ℕ). take n (num 8 byte)) e
+      | inr other ↦ take_all width (num 8 byte) (omega (arith, length-num 8 byte)) ∙ sym (take_all left (num 8 byte) (omega (arith, length-num 8 byte)))
+    ]
+
+-- ---- the first bits of bytes, one byte after the other
+
+take_as : (n m : ℕ) (bits : List Bool) → n ≡ m → take n bits ≡ take m bits
+take_as n m bits e = ap (λ (k : ℕ). take k bits) e
+
+drop_as : (n m : ℕ) (bits : List Bool) → n ≡ m → drop n bits ≡ drop m bits
+drop_as n m bits e = ap (λ (k : ℕ). drop k bits) e
+
+take_behind : (n : ℕ) (ahead behind : List Bool) → take n (ahead ++ behind) ≡ take n ahead ++ take (n - length ahead) behind
+take_behind zero [] behind = take_as 0 (0 - 0) behind (omega arith)
+take_behind (suc n) [] behind = take_as (suc n) (suc n - 0) behind (omega arith)
+take_behind zero (b ∷ ahead) behind = take_as 0 (0 - suc (length ahead)) behind (omega arith)
+take_behind (suc n) (b ∷ ahead) behind = ap (λ (l : List Bool). b ∷ l) (take_behind n ahead behind ∙ ap (λ (l : List Bool). take n ahead ++ l) (take_as (n - length ahead) (suc n - suc (length ahead)) behind (omega arith)))
+
+-- what was put, and what is still to be put of the bytes from a place on
+pub next_bits : (out now : List Bool) (bytes : List ℕ) (i n m : ℕ) → i < length bytes → m ≡ n - 8 → now ≡ out ++ take n (num 8 (slice_index bytes i)) → now ++ take m (bits_of (drop (i + 1) bytes)) ≡ out ++ take n (bits_of (drop i bytes))
+unfolding bits_of
+next_bits out now [] i n m lt is put = absurd (omega arith)
+next_bits out now (b ∷ bytes) zero n m lt is put =
+    let rest = take m (flat_map (num 8) bytes) in
+    let part : take n (num 8 b ++ flat_map (num 8) bytes) ≡ take n (num 8 b) ++ rest = take_behind n (num 8 b) (flat_map (num 8) bytes) ∙ ap (λ (l : List Bool). take n (num 8 b) ++ l) (take_as (n - length (num 8 b)) m (flat_map (num 8) bytes) (omega (arith, length-num 8 b, is))) in
+    ap (λ (l : List Bool). l ++ rest) put ∙ append_assoc out (take n (num 8 b)) rest ∙ ap (λ (l : List Bool). out ++ l) (sym part)
+next_bits out now (b ∷ bytes) (suc i) n m lt is put =
+    let on : suc i + 1 ≡ suc (i + 1) = omega arith in
+    subst (λ (k : ℕ). now ++ take m (flat_map (num 8) (drop k (b ∷ bytes))) ≡ out ++ take n (flat_map (num 8) (drop i bytes))) (sym on) (next_bits out now bytes i n m (omega arith) is put)
+
+no_bits : List Bool
+no_bits = []
+
+take_none : (n : ℕ) → take n no_bits ≡ []
+unfolding no_bits
+take_none zero = refl
+take_none (suc n) = refl
+
+pub done_bits : (out : List Bool) (bytes : List ℕ) (i n : ℕ) → length bytes ≤ i → out ++ take n (bits_of (drop i bytes)) ≡ out
+unfolding bits_of no_bits
+done_bits out [] zero n le = ap (λ (l : List Bool). out ++ l) (take_none n) ∙ append-nil out
+done_bits out [] (suc i) n le = ap (λ (l : List Bool). out ++ l) (take_none n) ∙ append-nil out
+done_bits out (b ∷ bytes) zero n le = absurd (omega arith)
+done_bits out (b ∷ bytes) (suc i) n le = done_bits out bytes i n (omega arith)
+
+-- ---- what fills the last byte
+
+test : (k v : ℕ) → (v % 2 ^ k == 0) ≡ list_all not (num k v)
+test k v =
+    elim (cases_eq (v % 2 ^ k) 0) [
+      | inl e ↦ eq-eqb _ _ e ∙ sym (ap (list_all not) (zeros_if k v e) ∙ zeros_all k)
+      | inr other ↦ ne_eqb _ _ other ∙ not_all (list_all not (num k v)) refl other
+    ]
+  where
+    not_all : (b : Bool) → list_all not (num k v) ≡ b → (v % 2 ^ k ≡ 0 → ⊥) → false ≡ list_all not (num k v)
+    not_all true e other = absurd (other (zeros_then k v (all_zeros (num k v) e ∙ ap (λ (n : ℕ). replicate n false) (length-num k v))))
+    not_all false e other = sym e
+
+drop_on : (n : ℕ) (ahead behind : List Bool) → length ahead ≤ n → drop n (ahead ++ behind) ≡ drop (n - length ahead) behind
+drop_on n [] behind le = drop_as n (n - 0) behind (omega arith)
+drop_on zero (b ∷ ahead) behind le = absurd (omega arith)
+drop_on (suc n) (b ∷ ahead) behind le = drop_on n ahead behind (omega arith) ∙ drop_as (n - length ahead) (suc n - suc (length ahead)) behind (omega arith)
+
+-- the bits behind the first ones, where these end in the last byte
+last_bits : (bytes : List ℕ) (len : ℕ) → 0 < length bytes → len ≤ 8 * length bytes → 8 * length bytes < len + 8 → drop len (bits_of bytes) ≡ num (8 * length bytes - len) (slice_index bytes (length bytes - 1))
+unfolding bits_of
+last_bits [] len some room tight = absurd (omega arith)
+last_bits (b ∷ []) len some room tight =
+    ap (drop len) (append-nil (num 8 b)) ∙ drop-num len 8 b (omega arith)
+last_bits (b ∷ c ∷ bytes) len some room tight =
+    let long = length-num 8 b in
+    drop_on len (num 8 b) (flat_map (num 8) (c ∷ bytes)) (omega arith) ∙ drop_as (len - length (num 8 b)) (len - 8) (flat_map (num 8) (c ∷ bytes)) (omega (arith, long)) ∙ last_bits (c ∷ bytes) (len - 8) (omega arith) (omega arith) (omega arith)
+    ∙ (λ i. num (less i) (slice_index (b ∷ c ∷ bytes) (last i)))
+  where
+    less : 8 * length (c ∷ bytes) - (len - 8) ≡ 8 * length (b ∷ c ∷ bytes) - len
+    less = omega arith
+
+    last : suc (length (c ∷ bytes) - 1) ≡ length (b ∷ c ∷ bytes) - 1
+    last = omega arith
+
+pub fill_test : (bytes : List ℕ) (len last k : ℕ) → 0 < length bytes → len ≤ 8 * length bytes → 8 * length bytes < len + 8 → k ≡ 8 * length bytes - len → last ≡ slice_index bytes (length bytes - 1)
+    → (last % 2 ^ k == 0) ≡ list_all not (drop len (bits_of bytes))
+fill_test bytes len last k some room tight is_k is_last =
+    test k last ∙ ap (list_all not) ((λ i. num (is_k i) (is_last i)) ∙ sym (last_bits bytes len some room tight))
+
+pub no_fill : (bytes : List ℕ) (len : ℕ) → length bytes ≡ 0 → true ≡ list_all not (drop len (bits_of bytes))
+unfolding bits_of
+no_fill [] zero e = refl
+no_fill [] (suc len) e = refl
+no_fill (b ∷ bytes) len e = absurd (omega arith)
+
+-- ---- bits that are read
+
+pub left_short : (w n : ℕ) (bytes : List ℕ) → length bytes < w → left_at w n bytes ≡ None
+unfolding left_at number_at
+left_short w n bytes short = rw (lt-ltb (length bytes) w short) refl
+
+left_cut : (w n : ℕ) (bytes : List ℕ) → AreBytes bytes → w ≤ length bytes → left_at w n bytes ≡ (front n (bits_of (take w bytes)) >>= λ bits. Some (bits, drop w bytes))
+unfolding left_at number_at
+left_cut w n bytes are le = rw (le-ltb (length bytes) w le) (ap (λ (l : List Bool). front n l >>= λ bits. Some (bits, drop w bytes)) (number_bits w bytes are le))
+
+pub left_unfilled : (w n : ℕ) (bytes : List ℕ) → AreBytes bytes → w ≤ length bytes → list_all not (drop n (bits_of (take w bytes))) ≡ false → left_at w n bytes ≡ None
+left_unfilled w n bytes are le e = left_cut w n bytes are le ∙ rw e refl
+
+pub left_found : (w n : ℕ) (bytes : List ℕ) → AreBytes bytes → w ≤ length bytes → list_all not (drop n (bits_of (take w bytes))) ≡ true → left_at w n bytes ≡ Some (take n (bits_of (take w bytes)), drop w bytes)
+left_found w n bytes are le e = left_cut w n bytes are le ∙ rw e refl
+
+pub power : (v k : ℕ) → k < 8 → (v % (1 * 2 ^ k % 18446744073709551616) == 0) ≡ (v % 2 ^ k == 0)
+power v zero lt = refl
+power v (suc zero) lt = refl
+power v (suc (suc zero)) lt = refl
+power v (suc (suc (suc zero))) lt = refl
+power v (suc (suc (suc (suc zero)))) lt = refl
+power v (suc (suc (suc (suc (suc zero))))) lt = refl
+power v (suc (suc (suc (suc (suc (suc zero)))))) lt = refl
+power v (suc (suc (suc (suc (suc (suc (suc zero))))))) lt = refl
+power v (suc (suc (suc (suc (suc (suc (suc (suc k)))))))) lt = absurd (omega arith)

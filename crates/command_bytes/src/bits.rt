@@ -1,0 +1,123 @@
+// Strings of bits that still lie in the bytes they are read from.
+ghost use Rattle.std.specs.Prelude.{◌≡◌, ◌≤◌, ◌<◌, ◌+◌, ◌-◌, ◌*◌, ◌^◌, ◌++◌, IfOk, OnOk, length, drop, not, option_map, take};
+ghost use Rattle.std.specs.List.{list_all};
+ghost use Rattle.identity.specs.Number.{num};
+ghost use Rattle.identity.specs.Packed.{bits_of};
+ghost use Rattle.command_bytes.specs.Fields.{bytes_for, left_at};
+ghost use Rattle.command_bytes.specs.Reading.{bits_at};
+
+use crate::fields::number;
+use identity::{BitWriter, Bits};
+use std::alloc::{AllocError, Allocator};
+use std::marker::Model;
+
+/// The most bits of a PDU.
+const MOST_BITS: u64 = 2048;
+
+/// A PDU's bits, at most 2,048, that still lie in the bytes they are read from.
+#[derive(Drop)]
+pub struct PackedBits<'a> {
+    bytes: &'a [u8],
+    len: usize,
+}
+
+impl<'a> Model for PackedBits<'a> {
+    ghost use Rattle.std.specs.Prelude.{List, Bool, length, take, ◌≤◌, ◌*◌};
+    ghost use Rattle.identity.specs.Packed.{bits_of};
+
+    ghost Value = { List Bool };
+
+    ghost view = { λ p. take p.len (bits_of p.bytes.now) };
+
+    ghost invariant = { λ p. (p.len ≤ 2048) × (p.len ≤ 8 * length p.bytes.now) };
+}
+
+// Puts bits of a number at the end.
+fn put<A: Allocator>(writer: &mut BitWriter<A>, value: u64, width: u32) -> Result<(), AllocError>
+    requires width { width ≤ 48 }
+    requires fits { value < 2 ^ width }
+    ensures { OnOk result (writer.new ≡ writer.old ++ num width value) }
+{
+    writer.put(value, width).or(Err(AllocError))
+}
+
+// Puts the first `left` bits of a byte at the end, or all of them.
+fn put_front<A: Allocator>(
+    writer: &mut BitWriter<A>,
+    byte: u8,
+    left: usize,
+) -> Result<(), AllocError>
+    ensures { OnOk result (writer.new ≡ writer.old ++ take left (num 8 byte)) }
+{
+    let width = left.min(8) as u32;
+    put(writer, u64::from(byte) >> (8 - width), width)
+}
+
+// Puts the first `len` bits of bytes at the end.
+fn put_bits<A: Allocator>(
+    writer: &mut BitWriter<A>,
+    bytes: &[u8],
+    len: usize,
+) -> Result<(), AllocError>
+    ensures { OnOk result (writer.new ≡ writer.old ++ take len (bits_of bytes.now)) }
+{
+    let mut left = len;
+    for byte in bytes {
+        put_front(writer, *byte, left)?;
+        left = left.saturating_sub(8);
+    }
+    Ok(())
+}
+
+impl<'a> PackedBits<'a> {
+    /// The bits with memory of their own.
+    pub fn copy<A: Allocator>(&self, alloc: A) -> Result<Bits<A>, AllocError>
+        ensures bits { IfOk result (λ bits. bits ≡ self.now) }
+        ensures short { length self.now ≤ 2048 }
+    {
+        let mut writer = BitWriter::new(alloc);
+        put_bits(&mut writer, self.bytes, self.len)?;
+        Ok(writer.finish())
+    }
+}
+
+// Whether the bits behind the first `len` are all 0.
+fn ends_in_zeros(bytes: &[u8], len: usize) -> bool
+    requires room { len ≤ 8 * length bytes.now }
+    requires tight { 8 * length bytes.now < len + 8 }
+    requires few { len ≤ 2048 }
+    ensures { result ≡ list_all not (drop len (bits_of bytes.now)) }
+{
+    match bytes.last() {
+        None => true,
+        Some(last) => u64::from(*last) % (1 << (8 * bytes.len() - len)) == 0,
+    }
+}
+
+// The first `len` bits, where what fills the last byte is 0.
+fn left(bytes: &[u8], len: usize) -> Option<(PackedBits<'_>, &[u8])>
+    requires { len ≤ 2048 }
+    ensures { option_map (λ x. (x.0, x.1.now)) result ≡ left_at (bytes_for len) len bytes.now }
+{
+    let width = (len + 7) / 8;
+    if bytes.len() < width {
+        return None;
+    }
+    let (text, rest) = bytes.split_at(width);
+    if !ends_in_zeros(text, len) {
+        return None;
+    }
+    Some((PackedBits { bytes: text, len }, rest))
+}
+
+/// A string of at most 2,048 bits: how many they are, and they.
+#[tactic(auto, unfolding(crate::specs::Reading::bits_at))]
+pub fn bits(bytes: &[u8]) -> Option<(PackedBits<'_>, &[u8])>
+    ensures { option_map (λ x. (x.0, x.1.now)) result ≡ bits_at bytes.now }
+{
+    let (len, rest) = number(bytes, 2)?;
+    if len > MOST_BITS {
+        return None;
+    }
+    left(rest, len as usize)
+}

@@ -1,0 +1,130 @@
+// Commands as they are written.
+ghost use Rattle.std.specs.Prelude.{◌≡◌, ◌≤◌, ◌+◌, ◌++◌, IfOk, length, vec_capacity, vec_len};
+ghost use Rattle.centre_core.specs.Ranges.{BodyInRange};
+ghost use Rattle.command_bytes.specs.Fields.{bytes_for};
+ghost use Rattle.command_bytes.specs.Sizes.{body_size};
+ghost use Rattle.command_bytes.specs.Text.{IsCommand, Spells, body_text, command_text, longest, tag_of};
+
+use crate::put::{put_bits, put_key, put_number, put_prefix, put_rule};
+use centre_core::{Body, Command};
+use std::alloc::{AllocError, Allocator};
+
+fn tag<A: Allocator>(body: &Body<A>) -> u64
+    ensures { result ≡ tag_of body.now }
+{
+    match body {
+        Body::RuleSet { .. } => 1,
+        Body::RuleClear { .. } => 2,
+        Body::Mm { .. } => 3,
+        Body::Sds { .. } => 4,
+        Body::Sent(_) => 5,
+        Body::Expire => 6,
+        Body::Delete(_) => 7,
+        Body::GroupSds { .. } => 8,
+    }
+}
+
+// How many bytes a string of so many bits has.
+fn bits_len(bits: usize) -> usize
+    requires { bits ≤ 2048 }
+    ensures { result ≡ 2 + bytes_for bits }
+{
+    2 + (bits + 7) / 8
+}
+
+// How many bytes stand behind the tag.
+fn body_len<A: Allocator>(body: &Body<A>) -> usize
+    requires { BodyInRange body.now }
+    ensures { result ≡ body_size body.now }
+{
+    match body {
+        Body::RuleSet { .. } => 16,
+        Body::RuleClear { .. } => 7,
+        Body::Mm { pdu, .. } => 8 + bits_len(pdu.len()),
+        Body::Sds { pdu, .. } | Body::GroupSds { pdu, .. } => 12 + bits_len(pdu.len()),
+        Body::Sent(_) | Body::Delete(_) => 14,
+        Body::Expire => 0,
+    }
+}
+
+#[tactic(auto, using(std::proofs::Common::append_assoc, crate::proofs::Sizes::nothing))]
+fn put_body<A: Allocator, B: Allocator>(out: &mut Vec<u8, A>, body: &Body<B>)
+    requires range { BodyInRange body.now }
+    requires room { vec_len out.old + body_size body.now ≤ vec_capacity out.old }
+    ensures items { out.new.items ≡ out.old.items ++ body_text body.now }
+    ensures capacity { vec_capacity out.old ≤ vec_capacity out.new }
+{
+    match body {
+        Body::RuleSet { prefix, rule } => {
+            put_prefix(out, prefix);
+            put_rule(out, rule);
+        }
+        Body::RuleClear { prefix } => put_prefix(out, prefix),
+        Body::Mm { itsi, area, pdu } => {
+            put_number(out, 6, itsi.number());
+            put_number(out, 2, u64::from(area.number()));
+            put_bits(out, pdu);
+        }
+        Body::Sds {
+            source,
+            destination,
+            pdu,
+        } => {
+            put_number(out, 6, source.number());
+            put_number(out, 6, destination.number());
+            put_bits(out, pdu);
+        }
+        Body::GroupSds { source, group, pdu } => {
+            put_number(out, 6, source.number());
+            put_number(out, 6, group.number());
+            put_bits(out, pdu);
+        }
+        Body::Sent(key) | Body::Delete(key) => put_key(out, key),
+        Body::Expire => {}
+    }
+}
+
+/// How many bytes the command's text has.
+#[tactic(auto, using(crate::proofs::Sizes::command_size, crate::proofs::Sizes::command_short))]
+pub fn text_len<A: Allocator>(command: &Command<A>) -> usize
+    ensures value { result ≡ length (command_text command.now) }
+    ensures most { result ≤ longest }
+{
+    keep_ranges(command);
+    11 + body_len(&command.body)
+}
+
+// What its fields keep, as a clause.
+fn keep_ranges<A: Allocator>(command: &Command<A>)
+    ensures { IsCommand command.now }
+{
+    let _station = command.station;
+}
+
+/// Puts the command's text at the end of bytes that have room for it. Takes no memory.
+#[tactic(auto, unfolding(crate::specs::Text::command_text), using(std::proofs::Common::append_assoc, crate::proofs::Sizes::command_size))]
+pub fn append<A: Allocator, B: Allocator>(out: &mut Vec<u8, A>, command: &Command<B>)
+    requires room { vec_len out.old + length (command_text command.now) ≤ vec_capacity out.old }
+    ensures items { out.new.items ≡ out.old.items ++ command_text command.now }
+    ensures capacity { vec_capacity out.old ≤ vec_capacity out.new }
+    ensures is_command { IsCommand command.now }
+{
+    keep_ranges(command);
+    put_number(out, 2, u64::from(command.station));
+    put_number(out, 4, u64::from(command.sequence));
+    put_number(out, 4, u64::from(command.moment));
+    put_number(out, 1, tag(&command.body));
+    put_body(out, &command.body);
+}
+
+/// The command's text, in memory of its own.
+pub fn encode<A: Allocator, B: Allocator>(
+    alloc: A,
+    command: &Command<B>,
+) -> Result<Vec<u8, A>, AllocError>
+    ensures spelt { IfOk result (λ bytes. Spells command.now bytes.items) }
+{
+    let mut out = Vec::with_capacity(alloc, text_len(command))?;
+    append(&mut out, command);
+    Ok(out)
+}

@@ -1,0 +1,52 @@
+//! The commands of the tests.
+
+use centre_core::{Body, Command};
+use identity::{BitWriter, Itsi, Prefix};
+use mm_pdus::Lifetime;
+use registration::{LocationArea, Rule};
+use std::alloc::Global;
+
+/// A rule for the radios of a network: 27 bytes.
+pub fn rule() -> Option<Command<Global>> {
+    let prefix = Prefix::new(0x3a80_0e00_0000, 24)?;
+    let low = LocationArea::new(1)?;
+    let high = LocationArea::new(99)?;
+    let rule = Rule::new(low, high, Lifetime::NextItsiAttach, 3_600)?;
+    Command::new(1, 1, 0, Body::RuleSet { prefix, rule })
+}
+
+/// A location update: 23 bytes.
+pub fn update(alloc: Global) -> Option<Command<Global>> {
+    let itsi = Itsi::from_number(0x3a80_0e00_07d1)?;
+    let area = LocationArea::new(7)?;
+    let mut writer = BitWriter::new(alloc);
+    writer.put(0x98, 10).ok()?;
+    let pdu = writer.finish();
+    Command::new(1, 2, 10, Body::Mm { itsi, area, pdu })
+}
+
+/// 11 bytes.
+pub fn expiry() -> Option<Command<Global>> {
+    Command::new(1, 3, 11, Body::Expire)
+}
+
+/// A short data PDU of 2,047 bits: 281 bytes.
+pub fn longest(alloc: Global) -> Option<Command<Global>> {
+    let source = Itsi::from_number(1)?;
+    let destination = Itsi::from_number(2)?;
+    let mut writer = BitWriter::new(alloc);
+    for _ in 0..89 {
+        writer.put(1, 23).ok()?;
+    }
+    let pdu = writer.finish();
+    Command::new(
+        1,
+        4,
+        12,
+        Body::Sds {
+            source,
+            destination,
+            pdu,
+        },
+    )
+}
