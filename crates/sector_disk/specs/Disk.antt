@@ -1,7 +1,8 @@
 -- What a disk of sectors is: what reading gives, what a stop may leave, and how each call changes both.
-use Rattle.std.specs.Prelude.{◌≡◌, ◌≢◌, ◌⊎◌, ℕ, ◌<◌, ◌≤◌, ◌+◌, ◌^◌, ◌-◌, min, Bool, true, false, List, [], length, slice_index, slice_index_or, Result, IsErrOf, OnOk, OnErr}
+use Rattle.std.specs.Prelude.{◌≡◌, ◌≢◌, ◌⊎◌, ℕ, ◌<◌, ◌≤◌, ◌+◌, ◌^◌, ◌-◌, min, Bool, true, false, List, [], ◌∷◌, ◌++◌, length, slice_index, slice_index_or, Result, IsErrOf, OnOk, OnErr}
 use Rattle.sector_disk.specs.declared.disk.DiskError.{DiskError}
 use Rattle.sector_disk.specs.declared.disk.DiskError.TheVariants.{DiskFault}
+use Rattle.sector_disk.specs.declared.record.Call.{Call}
 
 -- the sector at a place, empty past the end
 abbrev pub sector : List (List ℕ) → ℕ → List ℕ
@@ -27,6 +28,8 @@ pub record View : Type 1 where
   pub moment : ℕ
   -- the images of all moments from that one to now, those within a call too
   pub since : ℕ → List (List ℕ) → Type 0
+  -- the calls `read`, `write` and `sync` that it has had, the last one last
+  pub calls : List Call
   -- how often the device has failed
   pub failures : ℕ
   -- the device keeps what is said of the rest
@@ -85,6 +88,11 @@ pub record HasSynced (old new : View) (result : Result Unit DiskError) : Type 0 
   pub reads : new.reads ≡ old.reads
   pub pending : OnErr result (new.pending ≡ old.pending)
   pub durable : OnOk result ((k : ℕ) → new.pending k ≡ false)
+
+-- A call that answers `Ok` is one call of the disk, with these numbers and bytes, and one that fails is one or none.
+pub record IsCalled (old new : View) (call : Call) (result : Result Unit DiskError) : Type 0 where
+  pub made : OnOk result (new.calls ≡ old.calls ++ call ∷ [])
+  pub tried : OnErr result ((new.calls ≡ old.calls) ⊎ (new.calls ≡ old.calls ++ call ∷ []))
 
 -- the failures counted, after one more
 abbrev pub one_failure_more : ℕ → ℕ

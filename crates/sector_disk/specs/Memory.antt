@@ -45,6 +45,7 @@ memory_view disk = record {
   pending = is_pending disk.pending.items;
   moment = length disk.record.calls.items;
   since = left_since (began disk) disk.record.calls.items;
+  calls = disk.record.calls.items;
   failures = disk.record.failures;
   honest = IsReplayed disk;
 }

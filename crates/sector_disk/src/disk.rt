@@ -1,6 +1,7 @@
 // A disk as its users see it.
 ghost use Rattle.std.specs.Prelude.{◌≡◌, ◌<◌, ◌≤◌, ℕ, Err, IsErrOf};
-ghost use Rattle.sector_disk.specs.Disk.{View, IsSound, HasRead, HasWritten, HasSynced, HasCause};
+ghost use Rattle.sector_disk.specs.Disk.{View, IsSound, HasRead, HasWritten, HasSynced, HasCause, IsCalled};
+ghost use Rattle.sector_disk.specs.declared.record.Call.TheVariants.{Read, Sync, Write};
 ghost use Rattle.sector_disk.specs.declared.disk.DiskError.TheVariants.{OutOfRange};
 
 use thiserror::Error;
@@ -34,6 +35,7 @@ pub trait Disk {
         ensures effect { at < (view self.old).sectors → (view self.old).honest
             → HasRead (view self.old) (view self.new) at bytes.new result }
         ensures cause { HasCause (view self.old) (view self.new) result }
+        ensures called { IsCalled (view self.old) (view self.new) (Read at) result }
         ensures out_of_range { (view self.old).sectors ≤ at
             → (result ≡ Err OutOfRange) × (self.new ≡ self.old) }
         ensures in_range { IsErrOf result OutOfRange → (view self.old).sectors ≤ at };
@@ -45,6 +47,7 @@ pub trait Disk {
         ensures effect { at < (view self.old).sectors → (view self.old).honest
             → HasWritten (view self.old) (view self.new) at bytes.now result }
         ensures cause { HasCause (view self.old) (view self.new) result }
+        ensures called { IsCalled (view self.old) (view self.new) (Write at bytes.now) result }
         ensures out_of_range { (view self.old).sectors ≤ at
             → (result ≡ Err OutOfRange) × (self.new ≡ self.old) }
         ensures in_range { IsErrOf result OutOfRange → (view self.old).sectors ≤ at };
@@ -55,6 +58,7 @@ pub trait Disk {
     fn sync(&mut self) -> Result<(), DiskError>
         ensures effect { (view self.old).honest → HasSynced (view self.old) (view self.new) result }
         ensures cause { HasCause (view self.old) (view self.new) result }
+        ensures called { IsCalled (view self.old) (view self.new) Sync result }
         ensures in_range { IsErrOf result OutOfRange → ⊥ };
 
     /// How often the device has failed, up to the greatest `u64`.

@@ -1,6 +1,7 @@
 // A disk that fails a call.
 ghost use Rattle.std.specs.Prelude.{◌≡◌, ◌<◌, ◌≤◌, ◌+◌, ◌-◌, ◌^◌, true, false, min, Err, IsErrOf, Ok};
-ghost use Rattle.sector_disk.specs.Disk.{HasCause, HasRead, HasSynced, HasWritten};
+ghost use Rattle.sector_disk.specs.Disk.{HasCause, IsCalled, HasRead, HasSynced, HasWritten};
+ghost use Rattle.sector_disk.specs.declared.record.Call.TheVariants.{Read, Sync, Write};
 ghost use Rattle.sector_disk.specs.declared.disk.DiskError.TheVariants.{DiskFault, OutOfRange};
 
 use crate::{Disk, DiskError};
@@ -99,6 +100,7 @@ impl<D: Disk> Disk for FailingDisk<D> {
         ensures effect { at < (failing_view D.view self.old).sectors → (failing_view D.view self.old).honest
             → HasRead (failing_view D.view self.old) (failing_view D.view self.new) at bytes.new result }
         ensures cause { HasCause (failing_view D.view self.old) (failing_view D.view self.new) result }
+        ensures called { IsCalled (failing_view D.view self.old) (failing_view D.view self.new) (Read at) result }
         ensures out_of_range { (failing_view D.view self.old).sectors ≤ at
             → (result ≡ Err OutOfRange) × (self.new ≡ self.old) }
         ensures in_range { IsErrOf result OutOfRange → (failing_view D.view self.old).sectors ≤ at }
@@ -115,6 +117,7 @@ impl<D: Disk> Disk for FailingDisk<D> {
         ensures effect { at < (failing_view D.view self.old).sectors → (failing_view D.view self.old).honest
             → HasWritten (failing_view D.view self.old) (failing_view D.view self.new) at bytes.now result }
         ensures cause { HasCause (failing_view D.view self.old) (failing_view D.view self.new) result }
+        ensures called { IsCalled (failing_view D.view self.old) (failing_view D.view self.new) (Write at bytes.now) result }
         ensures out_of_range { (failing_view D.view self.old).sectors ≤ at
             → (result ≡ Err OutOfRange) × (self.new ≡ self.old) }
         ensures in_range { IsErrOf result OutOfRange → (failing_view D.view self.old).sectors ≤ at }
@@ -131,6 +134,7 @@ impl<D: Disk> Disk for FailingDisk<D> {
         ensures effect { (failing_view D.view self.old).honest
             → HasSynced (failing_view D.view self.old) (failing_view D.view self.new) result }
         ensures cause { HasCause (failing_view D.view self.old) (failing_view D.view self.new) result }
+        ensures called { IsCalled (failing_view D.view self.old) (failing_view D.view self.new) Sync result }
         ensures in_range { IsErrOf result OutOfRange → ⊥ }
         ensures counted { HasCounted D.view self.old self.new result }
     {

@@ -2,7 +2,8 @@
 ghost use Rattle.std.specs.Prelude.{◌≡◌, ◌<◌, ◌≤◌, ◌==◌, ℕ, Err, IfOk, IsErrOf, false, true, filter, if◌then◌else◌, length, map, replicate, set, vec_len};
 ghost use Rattle.std.specs.List.{range_with_len};
 ghost use Rattle.sector_disk.specs.Crash.{IsFilled, is_pending};
-ghost use Rattle.sector_disk.specs.Disk.{AreSectors, HasCause, HasRead, HasSynced, HasWritten, sector};
+ghost use Rattle.sector_disk.specs.Disk.{AreSectors, HasCause, IsCalled, HasRead, HasSynced, HasWritten, sector};
+ghost use Rattle.sector_disk.specs.declared.record.Call.TheVariants.{Read, Sync, Write};
 ghost use Rattle.sector_disk.specs.declared.disk.DiskError.TheVariants.{OutOfRange};
 
 use crate::record::{Call, Record};
@@ -161,6 +162,7 @@ impl<A: Allocator> Disk for MemoryDisk<A> {
         ensures effect { at < (memory_view self.old).sectors → (memory_view self.old).honest
             → HasRead (memory_view self.old) (memory_view self.new) at bytes.new result }
         ensures cause { HasCause (memory_view self.old) (memory_view self.new) result }
+        ensures called { IsCalled (memory_view self.old) (memory_view self.new) (Read at) result }
         ensures out_of_range { (memory_view self.old).sectors ≤ at
             → (result ≡ Err OutOfRange) × (self.new ≡ self.old) }
         ensures in_range { IsErrOf result OutOfRange → (memory_view self.old).sectors ≤ at }
@@ -178,6 +180,7 @@ impl<A: Allocator> Disk for MemoryDisk<A> {
         ensures effect { at < (memory_view self.old).sectors → (memory_view self.old).honest
             → HasWritten (memory_view self.old) (memory_view self.new) at bytes.now result }
         ensures cause { HasCause (memory_view self.old) (memory_view self.new) result }
+        ensures called { IsCalled (memory_view self.old) (memory_view self.new) (Write at bytes.now) result }
         ensures out_of_range { (memory_view self.old).sectors ≤ at
             → (result ≡ Err OutOfRange) × (self.new ≡ self.old) }
         ensures in_range { IsErrOf result OutOfRange → (memory_view self.old).sectors ≤ at }
@@ -196,6 +199,7 @@ impl<A: Allocator> Disk for MemoryDisk<A> {
         ensures effect { (memory_view self.old).honest
             → HasSynced (memory_view self.old) (memory_view self.new) result }
         ensures cause { HasCause (memory_view self.old) (memory_view self.new) result }
+        ensures called { IsCalled (memory_view self.old) (memory_view self.new) Sync result }
         ensures in_range { IsErrOf result OutOfRange → ⊥ }
         ensures recorded { HasRecorded self.old self.new result }
     {
