@@ -26,6 +26,15 @@ pub fn decode_first<A: Allocator>(
     Ok(Some((found.copy(alloc)?, rest)))
 }
 
+/// The bytes after the command with which these begin, as `decode_first` gives them; `None` where they begin with no
+/// command's text. Takes no memory.
+pub fn after_first<A: Allocator>(bytes: &[u8]) -> Option<&[u8]>
+    ensures { option_map (λ rest. rest.now) result ≡ option_map (λ x. x.1) (first_command {A = A} bytes.now) }
+{
+    let (_, rest) = first::<A>(bytes)?;
+    Some(rest)
+}
+
 // The command that all of the bytes are, as it is read.
 fn decoded<A: Allocator>(alloc: A, bytes: &[u8]) -> Result<Option<Command<A>>, AllocError>
     ensures exact { IfOk result (λ found. found ≡ command_of bytes.now) }

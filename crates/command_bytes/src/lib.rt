@@ -13,5 +13,6 @@ mod fields;
 pub mod laws;
 mod put;
 
-pub use decoding::{decode, decode_first};
+pub use decoding::{after_first, decode, decode_first};
 pub use encoding::{append, encode, text_len};
+pub use fields::number;

@@ -1,6 +1,6 @@
 //! Each worked command is written and read as its bytes, and all others are none.
 use crate::rows::{COMMANDS, OTHERS, bytes_of, command};
-use command_bytes::{append, decode, decode_first, encode, text_len};
+use command_bytes::{after_first, append, decode, decode_first, encode, text_len};
 use std::alloc::Global;
 use std::test::Fail;
 
@@ -18,7 +18,9 @@ fn is_read_first(alloc: Global, bytes: &[u8]) -> Result<bool, Fail> {
     more.extend_from_slice(&[9, 1])?;
     match decode_first(alloc, &more)? {
         Some((command, rest)) => Ok(
-            rest == [9, 1].as_slice() && encode(alloc, &command)?.as_slice() == bytes,
+            rest == [9, 1].as_slice()
+                && after_first::<Global>(&more).is_some_and(|after| after == rest)
+                && encode(alloc, &command)?.as_slice() == bytes,
         ),
         None => Ok(false),
     }

@@ -2,13 +2,13 @@
 use Rattle.std.proofs.Common.{◌≡◌, ◌≢◌, ◌⊎◌, inl, inr, ℕ, ◌+◌, ◌-◌, ◌<◌, ◌≤◌, List, [], ◌∷◌, ◌++◌, length, slice_index, Result, Ok, sym, ◌∙◌, ap, arith}
 use Rattle.std.proofs.lemmas.Bool.{cases_eq, cases_lt}
 use Rattle.sector_disk.specs.Disk.{View, IsImageOf, IsSound, HasWritten, HasSynced, sector}
-use Rattle.sector_disk.specs.Run.{LeavesOnly, IsTornImage}
+use Rattle.sector_disk.specs.Run.{HasFilled, LeavesOnly, IsTornImage}
 use Rattle.sector_disk.specs.declared.disk.DiskError.{DiskError}
 use Rattle.sector_disk.proofs.Moments.{goes_on, weaker, torn_by, synced_images, durable_image}
 use Rattle.gated_journal.specs.Half.{Entry, IsOpen, IsClosed, half_of}
 use Rattle.centre_core.specs.Asked.{Asked}
 use Rattle.gated_journal.specs.Record.{IsRecord, data_sector, data_size, record_text}
-use Rattle.gated_journal.specs.Settled.{IsSettled, IsWithOrWithout, Leaves, HasFilled}
+use Rattle.gated_journal.specs.Settled.{IsSettled, IsWithOrWithout, Leaves}
 use Rattle.gated_journal.specs.declared.place.Place.{Place}
 use Rattle.gated_journal.proofs.Chain.{half_up, same_half, still_shut, half_more, closed_behind}
 use Rattle.gated_journal.proofs.Written.{record_written}
@@ -43,7 +43,7 @@ module _ {A : Type 0} (place : Place) (entries : List (Entry A)) (commands : Lis
         half = inl (place.next, same_half was image place.first place.end entries place.next (settled.half was is) (λ k le lt. same k (omega (arith, lt))));
       }
 
-  staged : (old mid : View) → IsImageOf old old.reads → IsSettled old place entries → HasFilled old mid (place.next + 1) (data_size text + 1) text (Ok tt) → IsStaged mid.reads
+  staged : (old mid : View) → IsImageOf old old.reads → IsSettled old place entries → HasFilled old mid (place.next + 1) (data_size text + 1) (data_sector text) (Ok tt) → IsStaged mid.reads
   staged old mid whole settled filled =
       let same = λ (k : ℕ) (lt : k < place.next + 1). filled.others k (inl lt) in
       record {
@@ -70,18 +70,18 @@ module _ {A : Type 0} (place : Place) (entries : List (Entry A)) (commands : Lis
   ]
 
   -- the sectors are being written
-  pub in_fill : (old filled : View) (result : Result Unit DiskError) → IsSettled old place entries → HasFilled old filled (place.next + 1) (data_size text + 1) text result → LeavesOnly old filled (Left old)
+  pub in_fill : (old filled : View) (result : Result Unit DiskError) → IsSettled old place entries → HasFilled old filled (place.next + 1) (data_size text + 1) (data_sector text) result → LeavesOnly old filled (Left old)
   in_fill old filled result settled has = weaker old filled (IsTornImage old (place.next + 1) (data_size text + 1)) (Left old) has.crash (behind old (data_size text + 1) (omega arith) settled)
 
   -- and synced
-  pub in_sync : (old filled synced : View) (result : Result Unit DiskError) → IsSettled old place entries → HasFilled old filled (place.next + 1) (data_size text + 1) text (Ok tt)
+  pub in_sync : (old filled synced : View) (result : Result Unit DiskError) → IsSettled old place entries → HasFilled old filled (place.next + 1) (data_size text + 1) (data_sector text) (Ok tt)
       → HasSynced filled synced result → LeavesOnly old synced (Left old)
   in_sync old filled synced result settled has syncs =
       goes_on old filled synced (Left old) (in_fill old filled (Ok tt) settled has) syncs.time
       (λ image is. behind old (data_size text + 1) (omega arith) settled image (has.now image (synced_images filled synced result syncs image is)))
 
   module _ (old filled synced : View) (whole : IsImageOf old old.reads) (settled : IsSettled old place entries)
-      (has : HasFilled old filled (place.next + 1) (data_size text + 1) text (Ok tt)) (syncs : HasSynced filled synced (Ok tt)) where
+      (has : HasFilled old filled (place.next + 1) (data_size text + 1) (data_sector text) (Ok tt)) (syncs : HasSynced filled synced (Ok tt)) where
     on_disk : IsStaged synced.reads
     on_disk = rw syncs.reads (staged old filled whole settled has)
 

@@ -1,7 +1,8 @@
 pub mod Append
 pub mod Began
+pub mod Called
 pub mod Chain
-pub mod Fill
+pub mod Cut
 pub mod Given
 pub mod Halves
 pub mod Listed

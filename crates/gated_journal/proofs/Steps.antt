@@ -1,43 +1,19 @@
 -- Reading commands one after another, as a loop does, and sectors.
-use Rattle.std.proofs.Common.{add-one, append_assoc, option_map, length, suc, ◌∷◌, ◌≢◌, Option, ap, sym, eqb, leb, ltb, slice_index, take, drop, true, false, Bool, ◌⊎◌, Ok, Err, ◌≡◌, ℕ, ◌+◌, ◌≤◌, ◌<◌, List, [], ◌++◌, Some, None, Result, refl, ◌∙◌, arith, inl, inr, ⊎_elim}
+use Rattle.std.proofs.Common.{add-one, append_assoc, option_map, length, suc, ◌∷◌, ◌≢◌, Option, ap, sym, eqb, leb, ltb, slice_index, take, drop, true, false, Bool, ◌⊎◌, Ok, Err, ◌≡◌, ℕ, ◌+◌, ◌≤◌, ◌<◌, List, [], ◌++◌, Some, None, refl, ◌∙◌, arith, inl, inr}
 use Rattle.std.proofs.lemmas.List.{append-nil, get_or-take, get_or-drop}
-use Rattle.std.specs.Prelude.{◌&&◌}
+use Rattle.std.specs.Prelude.{◌&&◌, ◌==◌}
+use Rattle.std.specs.Option.{is_some}
 use Rattle.byteorder.specs.Endian.{big_from}
 use Rattle.std.proofs.lemmas.Bool.Decides.{nat_tests}
-use Rattle.sector_disk.specs.Disk.{View, HasRead, sector}
-use Rattle.sector_disk.specs.declared.disk.DiskError.{DiskError}
-use Rattle.gated_journal.specs.Half.{data_from, record_at, told_size, HasLooked}
+use Rattle.sector_disk.specs.Disk.{sector}
+use Rattle.gated_journal.specs.Half.{data_from, record_at, told_size}
 use Rattle.centre_core.specs.Asked.{Asked}
 use Rattle.command_bytes.specs.Fields.{◌>>=◌}
 use Rattle.command_bytes.specs.Reading.{first_command}
 use Rattle.gated_journal.specs.Record.{commands_in, most_sectors, record_of}
 use Rattle.gated_journal.proofs.Halves.{both}
 
--- ---- looking
-
-pub not_looked : (disk : View) → disk.honest → HasLooked disk disk
-not_looked disk honest = record {
-  honest = honest;
-  reads = refl;
-  pending = refl;
-  time = record { later = omega arith; keeps = λ t image le was. was; nothing_else = λ t image le was. inl was };
-}
-
-pub looked_on : (old mid new : View) → HasLooked old mid → HasLooked mid new → HasLooked old new
-looked_on old mid new first second = record {
-  honest = second.honest;
-  reads = second.reads ∙ first.reads;
-  pending = second.pending ∙ first.pending;
-  time = record {
-    later = omega (arith, first.time.later, second.time.later);
-    keeps = λ t image le was. second.time.keeps t image (omega (arith, le, first.time.later)) (first.time.keeps t image le was);
-    nothing_else = λ t image le left. ⊎_elim (λ mid_left. ⊎_elim inl (λ now. inr (rw (second.reads, second.pending) now)) (first.time.nothing_else t image le mid_left)) inr
-        (second.time.nothing_else t image (omega (arith, le, first.time.later)) left);
-  };
-}
-
-pub one_look : (old new : View) (at : ℕ) (bytes : List ℕ) (result : Result Unit DiskError) → HasRead old new at bytes result → HasLooked old new
-one_look old new at bytes result read = record { honest = read.honest; reads = read.reads; pending = read.pending; time = read.time }
+-- ---- sectors
 
 pub data_more : (image : List (List ℕ)) (at k : ℕ) (bytes more : List ℕ) → bytes ≡ data_from image at k → more ≡ sector image (at + k) → bytes ++ more ≡ data_from image at (k + 1)
 unfolding data_from
@@ -131,3 +107,36 @@ module _ {A : Type 0} where
   unfolding commands_in
   commands_past front [] all some so_far = absurd (some refl)
   commands_past front (b ∷ bytes) all some so_far = so_far
+
+-- ---- whether they are commands
+
+only_rest : {X Y : Type 0} (read : Option (X × Y)) (rest : Y) → option_map (λ x. x.1) read ≡ Some rest → (x : X) × (read ≡ Some (x, rest))
+only_rest (Some x) rest e = let same : x.1 ≡ rest = cc in (x.0, rw (← same) refl)
+only_rest None rest e = absurd cc
+
+no_rest : {X Y : Type 0} (read : Option (X × Y)) → option_map (λ x. x.1) read ≡ None → read ≡ None
+no_rest (Some x) e = absurd cc
+no_rest None e = refl
+
+is_some_joined : {X : Type 0} (x : X) (o : Option (List X)) → is_some (o >>= λ others. Some (x ∷ others)) ≡ is_some o
+is_some_joined x (Some others) = refl
+is_some_joined x None = refl
+
+module _ (A : Type 0) where
+  -- one of them more
+  pub are_more : (n : ℕ) (bytes rest : List ℕ) → option_map (λ x. x.1) (first_command {A = A} bytes) ≡ Some rest → is_some (commands_in {A = A} (suc n) bytes) ≡ is_some (commands_in {A = A} n rest)
+  unfolding commands_in
+  are_more n bytes rest e =
+      let read = only_rest (first_command {A = A} bytes) rest e in
+      rw read.1 (is_some_joined read.0 (commands_in {A = A} n rest))
+
+  -- one of them is none
+  pub are_not : (n : ℕ) (bytes : List ℕ) → option_map (λ x. x.1) (first_command {A = A} bytes) ≡ None → is_some (commands_in {A = A} (suc n) bytes) ≡ false
+  unfolding commands_in
+  are_not n bytes e = rw (no_rest (first_command {A = A} bytes) e) refl
+
+  -- behind the last of them
+  pub are_all : (bytes : List ℕ) → is_some (commands_in {A = A} 0 bytes) ≡ (length bytes == 0)
+  unfolding commands_in
+  are_all [] = refl
+  are_all (b ∷ bytes) = let some : eqb (suc (length bytes)) 0 ≡ false = grind (arith, nat_tests) in sym some

@@ -14,13 +14,7 @@ use Rattle.gated_journal.specs.Half.{IsOpen, data_from, told_size}
 use Rattle.gated_journal.proofs.Halves.{Opened}
 use Rattle.gated_journal.proofs.Listed.{fits, record_again}
 use Rattle.command_bytes.proofs.Numbers.{length-big}
-
--- ---- the bytes
-
-zeros_at : (z i : ℕ) → slice_index (replicate z 0) i ≡ 0
-zeros_at zero i = refl
-zeros_at (suc z) zero = refl
-zeros_at (suc z) (suc i) = zeros_at z i
+use Rattle.gated_journal.proofs.Cut.{zeros_at}
 
 -- ---- the sectors
 

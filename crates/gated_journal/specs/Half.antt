@@ -1,7 +1,7 @@
 -- What a half of a disk reads as: its records up to the first closed gate, or the first sector at fault.
 use Rattle.std.specs.Prelude.{◌≡◌, ◌≢◌, ℕ, zero, suc, ◌+◌, ◌-◌, ◌/◌, ◌==◌, ◌&&◌, List, [], ◌∷◌, ◌++◌, slice_index, Option, Some, None, Result, Ok, Err, nat_le, nat_lt, if◌then◌else◌}
 use Rattle.byteorder.specs.Endian.{big_from}
-use Rattle.sector_disk.specs.Disk.{View, Elapses, sector}
+use Rattle.sector_disk.specs.Disk.{sector}
 use Rattle.centre_core.specs.Asked.{Asked}
 use Rattle.gated_journal.specs.Record.{most_sectors, record_of}
 
@@ -66,10 +66,3 @@ module _ {A : Type 0} where
   -- the sectors from first to end: each record takes two at least, so there is always fuel
   abbrev pub half_of : List (List ℕ) → ℕ → ℕ → Half A
   half_of image first end = half_from (end - first) image first end
-
--- Reading changes no image.
-pub record HasLooked (old new : View) : Type 0 where
-  pub honest : new.honest
-  pub reads : new.reads ≡ old.reads
-  pub pending : new.pending ≡ old.pending
-  pub time : Elapses old new

@@ -1,3 +1,4 @@
+pub mod Calls
 pub mod Half
 pub mod Reading
 pub mod Record

@@ -1,9 +1,7 @@
 -- What a half of a disk holds in each image that a stop may leave, before, during and after an append.
-use Rattle.std.specs.Prelude.{◌≡◌, ◌⊎◌, ℕ, ◌+◌, ◌-◌, ◌<◌, ◌≤◌, List, [], ◌∷◌, ◌++◌, length, Result, Ok, OnOk}
-use Rattle.sector_disk.specs.Disk.{View, IsImageOf, sector}
-use Rattle.sector_disk.specs.Run.{LeavesOnly, IsTornImage}
-use Rattle.sector_disk.specs.declared.disk.DiskError.{DiskError}
-use Rattle.gated_journal.specs.Record.{data_sector}
+use Rattle.std.specs.Prelude.{◌≡◌, ◌⊎◌, ℕ, ◌-◌, ◌<◌, List, [], ◌∷◌, ◌++◌, Ok}
+use Rattle.sector_disk.specs.Disk.{View, IsImageOf}
+use Rattle.sector_disk.specs.Run.{IsTornImage}
 use Rattle.gated_journal.specs.Half.{Entry, half_of}
 use Rattle.gated_journal.specs.declared.place.Place.{Place}
 
@@ -30,12 +28,3 @@ module _ {A : Type 0} where
     pub begins : place.first < place.end
     pub within : place.next < place.end
     pub half : (image : List (List ℕ)) → IsImageOf disk image → half_of image place.first place.end ≡ Ok (entries, place.next)
-
--- Sectors from at on were being written with a text, n of them.
-pub record HasFilled (old new : View) (at n : ℕ) (text : List ℕ) (result : Result Unit DiskError) : Type 0 where
-  pub honest : new.honest
-  pub crash : LeavesOnly old new (IsTornImage old at n)
-  pub now : (image : List (List ℕ)) → IsImageOf new image → IsTornImage old at n image
-  pub count : length new.reads ≡ length old.reads
-  pub others : (k : ℕ) → (k < at) ⊎ (at + n ≤ k) → sector new.reads k ≡ sector old.reads k
-  pub written : OnOk result ((k : ℕ) → k < n → sector new.reads (at + k) ≡ data_sector text k)

@@ -4,10 +4,11 @@ ghost use Rattle.std.specs.List.{All, flat_map};
 ghost use Rattle.command_bytes.specs.Fields.{big};
 ghost use Rattle.command_bytes.specs.Text.{IsCommand, command_text, longest};
 ghost use Rattle.sector_disk.specs.Disk.{HasFailed, IsImageOf};
-ghost use Rattle.sector_disk.specs.Run.{LeavesOnly};
+ghost use Rattle.sector_disk.specs.Run.{HasLooked, HasMade, LeavesOnly};
 ghost use Rattle.gated_journal.specs.declared.fault.JournalError.TheVariants.{DiskFault, Damaged, JournalFull, NoMemory};
 ghost use Rattle.gated_journal.specs.declared.place.Place.{Place};
-ghost use Rattle.gated_journal.specs.Half.{Entry, HasLooked, half_of};
+ghost use Rattle.gated_journal.specs.Calls.{append_calls};
+ghost use Rattle.gated_journal.specs.Half.{Entry, half_of};
 ghost use Rattle.gated_journal.specs.Reading.{Answers, entries_view};
 ghost use Rattle.gated_journal.specs.Record.{IsRecord, data_size, given, most_commands, most_sectors, record_text};
 ghost use Rattle.gated_journal.specs.Settled.{IsSettled, Leaves, room_of};
@@ -94,6 +95,10 @@ impl<A: Allocator> Journal<A> {
         ensures acknowledged { OnOk result ((entries : List (Entry A)) → (D.view disk.old).honest → IsSettled (D.view disk.old) self.old entries
             → IsSettled (D.view disk.new) self.new (entries ++ (self.old.next + 1, given A commands.now) ∷ [])) }
         ensures next { OnOk result (self.new ≡ record { first = self.old.first; end = self.old.end; next = self.old.next + data_size (record_text (given A commands.now)) + 1 }) }
+
+        // Each data sector and each gate is written once, with two syncs, and nothing is read; a call that fails is the last.
+        ensures calls { OnOk result ((D.view disk.new).calls ≡ (D.view disk.old).calls ++ append_calls self.old.next (record_text (given A commands.now))) }
+        ensures some_calls { HasMade (D.view disk.old) (D.view disk.new) (append_calls self.old.next (record_text (given A commands.now))) }
 
         // It does not give up by itself.
         ensures fault { IsErrOf result JournalError.DiskFault → HasFailed (D.view disk.old) (D.view disk.new) }

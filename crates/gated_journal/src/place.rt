@@ -1,13 +1,14 @@
 // Where a journal stands on its disk, and how a record is written there.
-ghost use Rattle.std.specs.Prelude.{◌≡◌, ◌⊎◌, ◌+◌, ◌*◌, ◌<◌, ◌≤◌, ◌^◌, ℕ, List, [], ◌∷◌, ◌++◌, Err, length, IsErr, IsErrOf, OnOk, OnErr};
+ghost use Rattle.std.specs.Prelude.{◌≡◌, ◌⊎◌, ◌+◌, ◌-◌, ◌*◌, ◌<◌, ◌≤◌, ◌^◌, ℕ, List, [], ◌∷◌, ◌++◌, Err, drop, length, replicate, IsErr, IsErrOf, OnOk, OnErr};
 ghost use Rattle.sector_disk.specs.Disk.{HasFailed};
-ghost use Rattle.sector_disk.specs.Run.{LeavesOnly};
+ghost use Rattle.sector_disk.specs.Run.{HasFilled, HasMade, LeavesOnly, writes};
 ghost use Rattle.sector_disk.specs.declared.disk.DiskError.TheVariants.{OutOfRange};
 ghost use Rattle.gated_journal.specs.declared.fault.JournalError.TheVariants.{DiskFault, Damaged, JournalFull, NoMemory};
+ghost use Rattle.gated_journal.specs.Calls.{append_calls};
 ghost use Rattle.gated_journal.specs.Half.{Entry};
 ghost use Rattle.centre_core.specs.Asked.{Asked};
 ghost use Rattle.gated_journal.specs.Record.{IsRecord, data_sector, data_size, record_text};
-ghost use Rattle.gated_journal.specs.Settled.{HasFilled, IsSettled, Leaves, room_of};
+ghost use Rattle.gated_journal.specs.Settled.{IsSettled, Leaves, room_of};
 
 use crate::JournalError;
 use sector_disk::{Disk, DiskError};
@@ -51,6 +52,10 @@ impl Place {
             → IsSettled (D.view disk.new) self.new (entries ++ (self.old.next + 1, commands) ∷ [])) }
         ensures next { OnOk result (self.new ≡ record (self.old) { next = self.old.next + data_size text.now + 1 }) }
 
+        // Each data sector and each gate is written once, with two syncs, and nothing is read; a call that fails is the last.
+        ensures calls { OnOk result ((D.view disk.new).calls ≡ (D.view disk.old).calls ++ append_calls self.old.next text.now) }
+        ensures some_calls { HasMade (D.view disk.old) (D.view disk.new) (append_calls self.old.next text.now) }
+
         // It does not give up by itself.
         ensures fault { IsErrOf result JournalError.DiskFault → HasFailed (D.view disk.old) (D.view disk.new) }
         ensures sectors { (D.view disk.new).sectors ≡ (D.view disk.old).sectors }
@@ -78,19 +83,31 @@ impl Place {
     }
 }
 
+// A sector that begins with these bytes, with zeros behind them.
+fn padded(front: &[u8]) -> [u8; 512]
+    requires { length front.now ≤ 512 }
+    ensures { result ≡ front.now ++ replicate (512 - length front.now) 0 }
+{
+    let mut bytes = [0; 512];
+    put_front(&mut bytes, front);
+    bytes
+}
+
+fn put_front(bytes: &mut [u8], front: &[u8])
+    requires { length front.now ≤ length bytes.old }
+    ensures { bytes.new ≡ front.now ++ drop (length front.now) bytes.old }
+{
+    bytes[..front.len()].copy_from_slice(front);
+}
+
 // The sector k of a text.
 fn sector_of(text: &[u8], k: usize) -> [u8; 512]
     requires { k < 2 ^ 32 }
     ensures { result ≡ data_sector text.now k }
 {
-    let mut bytes = [0; 512];
-    for i in 0..512 {
-        let at = 512 * k + i;
-        if at < text.len() {
-            bytes[i] = text[at];
-        }
-    }
-    bytes
+    let begin = text.len().min(512 * k);
+    let end = text.len().min(512 * k + 512);
+    padded(&text[begin..end])
 }
 
 // Writes the first n sectors of a text from a sector on.
@@ -98,7 +115,9 @@ fn fill<D: Disk>(disk: &mut D, at: u64, n: u64, text: &[u8]) -> Result<(), DiskE
     requires room { at + n ≤ (D.view disk.old).sectors }
     requires fits { at + n < 2 ^ 64 }
     requires small { n < 2 ^ 32 }
-    ensures effect { (D.view disk.old).honest → HasFilled (D.view disk.old) (D.view disk.new) at n text.now result }
+    ensures effect { (D.view disk.old).honest → HasFilled (D.view disk.old) (D.view disk.new) at n (data_sector text.now) result }
+    ensures calls { OnOk result ((D.view disk.new).calls ≡ (D.view disk.old).calls ++ writes at n (data_sector text.now)) }
+    ensures some_calls { HasMade (D.view disk.old) (D.view disk.new) (writes at n (data_sector text.now)) }
     ensures sectors { (D.view disk.new).sectors ≡ (D.view disk.old).sectors }
     ensures later { (D.view disk.old).failures ≤ (D.view disk.new).failures }
     ensures fault { IsErr result → HasFailed (D.view disk.old) (D.view disk.new) }

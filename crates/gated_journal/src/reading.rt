@@ -2,7 +2,8 @@
 ghost use Rattle.std.specs.Prelude.{◌≡◌, ◌+◌, ◌<◌, ◌≤◌, ◌^◌, ℕ, List, length, IsErrOf, OnOk, IfOk, IfSome, vec_capacity};
 ghost use Rattle.sector_disk.specs.Disk.{HasFailed};
 ghost use Rattle.gated_journal.specs.declared.fault.JournalError.TheVariants.{DiskFault, JournalFull, Damaged};
-ghost use Rattle.gated_journal.specs.Half.{HasLooked, data_from, half_of, record_at};
+ghost use Rattle.sector_disk.specs.Run.{HasLooked};
+ghost use Rattle.gated_journal.specs.Half.{data_from, half_of, record_at};
 ghost use Rattle.gated_journal.specs.Reading.{Answers, entries_view, found_view};
 
 use crate::{JournalError, decode_record};

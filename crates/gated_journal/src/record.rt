@@ -1,12 +1,10 @@
 // One record's bytes.
-ghost use Rattle.std.specs.Prelude.{◌≡◌, ◌≤◌, ◌<◌, ◌^◌, IfOk, IfSome, IsSome, OnErr, option_map};
+ghost use Rattle.std.specs.Prelude.{◌≡◌, IfOk, IsSome, OnErr, is_some, option_map};
 ghost use Rattle.std.specs.List.{list_all};
-ghost use Rattle.command_bytes.specs.Fields.{number_at};
 ghost use Rattle.gated_journal.specs.Record.{commands_in, is_in_range, is_zero, packed_of, record_of};
 
-use byteorder::{BigEndian, ByteOrder};
 use centre_core::Command;
-use command_bytes::decode_first;
+use command_bytes::{after_first, decode_first, number};
 use std::alloc::{AllocError, Allocator};
 
 /// How many commands a record may have.
@@ -14,20 +12,6 @@ const MOST_COMMANDS: u64 = 64;
 
 /// How many bytes a command may have.
 const LONGEST_COMMAND: u64 = 281;
-
-// The number in the first bytes, and the bytes after it.
-#[tactic(auto, unfolding(command_bytes::specs::Fields::number_at))]
-fn number(bytes: &[u8], width: usize) -> Option<(u64, &[u8])>
-    requires low { 1 ≤ width }
-    requires high { width ≤ 8 }
-    ensures value { option_map (λ x. (x.0, x.1.now)) result ≡ number_at width bytes.now }
-    ensures small { IfSome result (λ x. x.0 < 256 ^ width) }
-{
-    if bytes.len() < width {
-        return None;
-    }
-    Some((BigEndian::read_uint(bytes, width), &bytes[width..]))
-}
 
 fn are_zeros(bytes: &[u8]) -> bool
     ensures { result ≡ list_all is_zero bytes.now }
@@ -58,6 +42,20 @@ fn packed(bytes: &[u8]) -> Option<(u64, &[u8])>
     Some((count, commands))
 }
 
+// Are these so many commands, one after the other, and no byte behind them?
+fn are_commands<A: Allocator>(count: u64, bytes: &[u8]) -> bool
+    ensures { result ≡ is_some (commands_in {A = A} count bytes.now) }
+{
+    let mut rest = bytes;
+    for _ in 0..count {
+        match after_first::<A>(rest) {
+            None => return false,
+            Some(after) => rest = after,
+        }
+    }
+    rest.is_empty()
+}
+
 // So many commands, one after the other, where no byte stands behind them.
 fn commands_in<A: Allocator + Clone>(
     alloc: A,
@@ -84,15 +82,19 @@ fn commands_in<A: Allocator + Clone>(
 
 /// The commands in a record's data sectors, given whole: how many (1 to 64), how many bytes, and they, one after the
 /// other, at most 281 bytes each, with zeros behind the last. `None` where the bytes are not a record's.
+///
+/// `AllocError` comes only where they are.
 pub fn decode_record<A: Allocator + Clone>(
     alloc: A,
     bytes: &[u8],
 ) -> Result<Option<Vec<Command<A>, A>>, AllocError>
     ensures exact { IfOk result (λ found. option_map (λ commands. commands.items) found ≡ record_of bytes.now) }
-    ensures memory { OnErr result (IsSome (packed_of bytes.now)) }
+    ensures memory { OnErr result (IsSome (record_of {A = A} bytes.now)) }
 {
     match packed(bytes) {
-        None => Ok(None),
-        Some((count, commands)) => commands_in(alloc, count, commands),
+        Some((count, commands)) if are_commands::<A>(count, commands) => {
+            commands_in(alloc, count, commands)
+        }
+        _ => Ok(None),
     }
 }

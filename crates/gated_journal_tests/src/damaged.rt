@@ -1,6 +1,7 @@
 //! Halves that no journal left: each is read up to the first sector at fault, and that is told.
 
 use gated_journal::{Journal, JournalError, decode_record};
+use linked_list_allocator::LocalHeap;
 use sector_disk::{Disk, DiskError, MemoryDisk};
 use std::alloc::{AllocError, Global};
 use std::test::Fail;
@@ -283,5 +284,31 @@ fn first_misread(alloc: Global) -> Result<Option<usize>, AllocError> {
 #[test]
 fn a_record_is_read_from_its_bytes(rt: HostRuntime) -> Result<(), Fail> {
     assert_eq!(rt; first_misread(rt.alloc())?, None);
+    Ok(())
+}
+
+/// The first text that in a heap with no room is not refused as it should be: only a record's bytes want memory.
+fn first_wrongly_refused(alloc: Global) -> Result<Option<usize>, Fail> {
+    let heap = LocalHeap::new(alloc, 64)?;
+    for k in 0..8 {
+        let (len, at, byte, want) = TEXTS[k];
+        let sector = text(&ONE, at, byte);
+        let Some(bytes) = sector.get(..len) else {
+            return Ok(Some(k));
+        };
+        let told = match decode_record(&heap, bytes) {
+            Ok(found) => found.is_none() && want.is_none(),
+            Err(_) => want.is_some(),
+        };
+        if !told {
+            return Ok(Some(k));
+        }
+    }
+    Ok(None)
+}
+
+#[test]
+fn only_a_record_wants_memory(rt: HostRuntime) -> Result<(), Fail> {
+    assert_eq!(rt; first_wrongly_refused(rt.alloc())?, None);
     Ok(())
 }

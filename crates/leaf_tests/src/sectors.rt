@@ -22,6 +22,7 @@ impl Disk for DeadDisk {
       pending = λ k. false;
       moment = 0;
       since = λ t image. ⊥;
+      calls = [];
       failures = disk.failures;
       honest = ⊥;
     } };

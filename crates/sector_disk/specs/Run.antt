@@ -1,6 +1,9 @@
 -- What a stop may leave at some moment of a run of calls.
-use Rattle.std.specs.Prelude.{◌≡◌, ◌⊎◌, ℕ, ◌<◌, ◌≤◌, ◌+◌, List, length}
-use Rattle.sector_disk.specs.Disk.{View, IsImageOf, sector}
+use Rattle.std.specs.Prelude.{◌≡◌, ◌⊎◌, ℕ, zero, suc, ◌<◌, ◌≤◌, ◌+◌, List, [], ◌∷◌, ◌++◌, length, OnOk, Result}
+use Rattle.sector_disk.specs.Disk.{View, Elapses, IsImageOf, sector}
+use Rattle.sector_disk.specs.declared.disk.DiskError.{DiskError}
+use Rattle.sector_disk.specs.declared.record.Call.{Call}
+use Rattle.sector_disk.specs.declared.record.Call.TheVariants.{Write}
 
 -- A stop at any moment from old to new leaves an image with P.
 pub record LeavesOnly (old new : View) (P : List (List ℕ) → Type 0) : Type 0 where
@@ -17,3 +20,31 @@ pub record IsTorn (at n : ℕ) (old new : List (List ℕ)) : Type 0 where
 -- an image of the disk with any sectors in the place of n of them, from at on
 abbrev pub IsTornImage : View → ℕ → ℕ → List (List ℕ) → Type 0
 IsTornImage disk at n image = (was : List (List ℕ)) × IsImageOf disk was × IsTorn at n was image
+
+-- A run of reads: what reading gives, what is pending and the images stay.
+pub record HasLooked (old new : View) : Type 0 where
+  pub honest : new.honest
+  pub reads : new.reads ≡ old.reads
+  pub pending : new.pending ≡ old.pending
+  pub time : Elapses old new
+
+-- A run of writes: n sectors from at on, the k-th of them with these bytes. Up to its end any bytes may stand in them.
+pub record HasFilled (old new : View) (at n : ℕ) (bytes : ℕ → List ℕ) (result : Result Unit DiskError) : Type 0 where
+  pub honest : new.honest
+  pub crash : LeavesOnly old new (IsTornImage old at n)
+  pub now : (image : List (List ℕ)) → IsImageOf new image → IsTornImage old at n image
+  pub count : length new.reads ≡ length old.reads
+  pub others : (k : ℕ) → (k < at) ⊎ (at + n ≤ k) → sector new.reads k ≡ sector old.reads k
+  pub written : OnOk result ((k : ℕ) → k < n → sector new.reads (at + k) ≡ bytes k)
+
+-- the calls of such a run: each sector is written once, in order
+unfoldable pub writes : ℕ → ℕ → (ℕ → List ℕ) → List Call
+writes at zero bytes = []
+writes at (suc n) bytes = writes at n bytes ++ Write (at + n) (bytes n) ∷ []
+
+-- Of these calls the disk has had some, from the first on, and no others.
+pub record HasMade (old new : View) (calls : List Call) : Type 0 where
+  pub made : List Call
+  pub left : List Call
+  pub front : calls ≡ made ++ left
+  pub now : new.calls ≡ old.calls ++ made

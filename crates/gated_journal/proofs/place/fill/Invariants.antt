@@ -1,6 +1,7 @@
-use Rattle.std.proofs.Common.{◌≡◌, ◌≤◌, Ok}
+use Rattle.std.proofs.Common.{◌≡◌, ◌≤◌, ◌++◌, Ok}
 use Rattle.sector_disk.specs.Disk.{View}
-use Rattle.gated_journal.specs.Settled.{HasFilled}
+use Rattle.sector_disk.specs.Run.{HasFilled, writes}
+use Rattle.gated_journal.specs.Record.{data_sector}
 use Rattle.gated_journal.proofs.place.fill.Given as goal
 
 abbrev pub invariant-loop-k : goal.invariant-loop-k
@@ -10,5 +11,6 @@ invariant-loop-k g l =
     record {
       sectors : now.sectors ≡ old.sectors;
       failures : old.failures ≤ now.failures;
-      filled : old.honest → HasFilled old now l.at l.k l.text (Ok tt);
+      calls : now.calls ≡ old.calls ++ writes l.at l.k (data_sector l.text);
+      filled : old.honest → HasFilled old now l.at l.k (data_sector l.text) (Ok tt);
     }

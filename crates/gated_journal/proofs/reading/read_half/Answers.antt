@@ -4,7 +4,7 @@ use Rattle.std.proofs.lemmas.List.{map_push}
 use Rattle.sector_disk.specs.Disk.{View}
 use Rattle.gated_journal.specs.Half.{half_of}
 use Rattle.gated_journal.specs.Reading.{entry_view, entries_view}
-use Rattle.gated_journal.proofs.Steps.{looked_on}
+use Rattle.sector_disk.proofs.Looked.{looked_on}
 use Rattle.gated_journal.proofs.Halves.{front_more, front_closed, error_on}
 use Rattle.gated_journal.proofs.reading.read_half.Goals as goal
 

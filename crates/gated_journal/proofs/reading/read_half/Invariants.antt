@@ -1,6 +1,7 @@
 use Rattle.std.proofs.Common.{◌≡◌, ◌≤◌, ◌<◌, ◌-◌, vec_capacity}
 use Rattle.sector_disk.specs.Disk.{View}
-use Rattle.gated_journal.specs.Half.{HasLooked, half_of, with_front}
+use Rattle.sector_disk.specs.Run.{HasLooked}
+use Rattle.gated_journal.specs.Half.{half_of, with_front}
 use Rattle.gated_journal.specs.Reading.{entries_view}
 use Rattle.gated_journal.proofs.reading.read_half.Given as goal
 

@@ -2,7 +2,8 @@ use Rattle.std.proofs.Common.{◌≡◌, ◌+◌, ◌/◌, ◌<◌, ◌≤◌, i
 use Rattle.sector_disk.specs.Disk.{View, sector}
 use Rattle.gated_journal.specs.Half.{told_size, data_from}
 use Rattle.gated_journal.specs.Record.{most_sectors, record_of}
-use Rattle.gated_journal.proofs.Steps.{looked_on, one_look, told_from, too_long, no_record, some_record}
+use Rattle.sector_disk.proofs.Looked.{looked_on, one_look}
+use Rattle.gated_journal.proofs.Steps.{told_from, too_long, no_record, some_record}
 use Rattle.gated_journal.proofs.reading.read_record.Goals as goal
 
 pub returns-then-size-gt-MOST_SECTORS-clause-effect : goal.returns-then-size-gt-MOST_SECTORS-clause-effect

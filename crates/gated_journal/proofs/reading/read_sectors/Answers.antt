@@ -1,6 +1,7 @@
 use Rattle.std.proofs.Common.{◌≡◌, ◌+◌, ◌<◌, ℕ, List, ap, refl, ◌∙◌, arith}
 use Rattle.sector_disk.specs.Disk.{View, sector}
-use Rattle.gated_journal.proofs.Steps.{not_looked, looked_on, one_look, data_more, data_none}
+use Rattle.sector_disk.proofs.Looked.{not_looked, looked_on, one_look}
+use Rattle.gated_journal.proofs.Steps.{data_more, data_none}
 use Rattle.gated_journal.proofs.reading.read_sectors.Goals as goal
 
 pub loop-k-init : goal.loop-k-init

@@ -1,6 +1,7 @@
 use Rattle.std.proofs.Common.{◌≡◌, ◌≤◌, vec_capacity}
 use Rattle.sector_disk.specs.Disk.{View}
-use Rattle.gated_journal.specs.Half.{HasLooked, data_from}
+use Rattle.sector_disk.specs.Run.{HasLooked}
+use Rattle.gated_journal.specs.Half.{data_from}
 use Rattle.gated_journal.proofs.reading.read_sectors.Given as goal
 
 abbrev pub invariant-loop-k : goal.invariant-loop-k

@@ -1,0 +1,19 @@
+-- The calls of the disk that an append makes.
+use Rattle.std.specs.Prelude.{ℕ, ◌+◌, List, [], ◌∷◌, ◌++◌, replicate}
+use Rattle.sector_disk.specs.Run.{writes}
+use Rattle.sector_disk.specs.declared.record.Call.{Call}
+use Rattle.sector_disk.specs.declared.record.Call.TheVariants.{Sync, Write}
+use Rattle.gated_journal.specs.Record.{data_sector, data_size}
+
+-- the sector of a gate that is closed
+abbrev pub closed_gate : List ℕ
+closed_gate = replicate 512 0
+
+-- and of one that is open
+abbrev pub open_gate : List ℕ
+open_gate = 1 ∷ replicate 511 0
+
+-- Each data sector is written, the next gate closed, and both synced; then the record's gate opened, and synced. Nothing is read.
+abbrev pub append_calls : ℕ → List ℕ → List Call
+append_calls gate text =
+    writes (gate + 1) (data_size text) (data_sector text) ++ Write (gate + 1 + data_size text) closed_gate ∷ Sync ∷ Write gate open_gate ∷ Sync ∷ []

@@ -1,0 +1,32 @@
+-- Runs of reads.
+use Rattle.std.proofs.Common.{ℕ, List, Result, refl, ◌∙◌, arith, inl, inr, ⊎_elim}
+use Rattle.sector_disk.specs.Disk.{View, HasRead}
+use Rattle.sector_disk.specs.Run.{HasLooked}
+use Rattle.sector_disk.specs.declared.disk.DiskError.{DiskError}
+
+-- before the first of them
+pub not_looked : (disk : View) → disk.honest → HasLooked disk disk
+not_looked disk honest = record {
+  honest = honest;
+  reads = refl;
+  pending = refl;
+  time = record { later = omega arith; keeps = λ t image le was. was; nothing_else = λ t image le was. inl was };
+}
+
+-- one run after another
+pub looked_on : (old mid new : View) → HasLooked old mid → HasLooked mid new → HasLooked old new
+looked_on old mid new first second = record {
+  honest = second.honest;
+  reads = second.reads ∙ first.reads;
+  pending = second.pending ∙ first.pending;
+  time = record {
+    later = omega (arith, first.time.later, second.time.later);
+    keeps = λ t image le was. second.time.keeps t image (omega (arith, le, first.time.later)) (first.time.keeps t image le was);
+    nothing_else = λ t image le left. ⊎_elim (λ mid_left. ⊎_elim inl (λ now. inr (rw (second.reads, second.pending) now)) (first.time.nothing_else t image le mid_left)) inr
+        (second.time.nothing_else t image (omega (arith, le, first.time.later)) left);
+  };
+}
+
+-- one read
+pub one_look : (old new : View) (at : ℕ) (bytes : List ℕ) (result : Result Unit DiskError) → HasRead old new at bytes result → HasLooked old new
+one_look old new at bytes result read = record { honest = read.honest; reads = read.reads; pending = read.pending; time = read.time }
