@@ -214,45 +214,16 @@ fn three_commands_in_one_record(rt: HostRuntime) -> Result<(), Fail> {
     Ok(())
 }
 
-/// Whether 64 of the longest commands are added to a disk with room for so many calls, and read back.
-fn longest_are_kept(alloc: Global, calls: usize) -> Result<bool, Fail> {
+/// Whether 64 of the longest commands are added, and read back.
+fn longest_are_kept(alloc: Global) -> Result<bool, Fail> {
     let longest = made::longest(alloc).ok_or("a short data PDU")?;
-    let mut disk = MemoryDisk::new(alloc, 39, calls)?;
+    let mut disk = MemoryDisk::new(alloc, 39, 199)?;
     let added = are_kept(alloc, &mut disk, &[&longest; 64])?;
     Ok(added && reads_as(alloc, &mut disk, &[(1, 64, 4)]))
 }
 
 #[test]
 fn the_longest_commands_take_36_sectors(rt: HostRuntime) -> Result<(), Fail> {
-    assert!(rt; longest_are_kept(rt.alloc(), 199)?);
-    Ok(())
-}
-
-/// Whether a command is added to a disk with room for so many calls.
-fn is_added_in(alloc: Global, command: &Command<Global>, calls: usize) -> Result<bool, AllocError> {
-    let mut disk = MemoryDisk::new(alloc, 39, calls)?;
-    are_kept(alloc, &mut disk, &[command])
-}
-
-/// Whether 64 of them are.
-fn are_added_in(
-    alloc: Global,
-    command: &Command<Global>,
-    calls: usize,
-) -> Result<bool, AllocError> {
-    let mut disk = MemoryDisk::new(alloc, 39, calls)?;
-    are_kept(alloc, &mut disk, &[command; 64])
-}
-
-/// One data sector, a gate and the gate before it in two syncs; and so with 36 data sectors.
-fn are_each_written_once(alloc: Global) -> Result<bool, Fail> {
-    let longest = made::longest(alloc).ok_or("a short data PDU")?;
-    let one = !is_added_in(alloc, &longest, 4)? && is_added_in(alloc, &longest, 5)?;
-    Ok(one && !are_added_in(alloc, &longest, 39)? && are_added_in(alloc, &longest, 40)?)
-}
-
-#[test]
-fn each_sector_is_written_once_in_two_syncs(rt: HostRuntime) -> Result<(), Fail> {
-    assert!(rt; are_each_written_once(rt.alloc())?);
+    assert!(rt; longest_are_kept(rt.alloc())?);
     Ok(())
 }

@@ -3,6 +3,7 @@
 #![tactic(auto)]
 
 ghost use Rattle.std.specs.Prelude.{◌≡◌, ◌≤◌, length};
+ghost use Rattle.gated_journal.specs.Record.{most_commands};
 
 use centre_core::{Body, Command};
 use gated_journal::Journal;
@@ -39,7 +40,7 @@ fn update(alloc: Global) -> Option<Command<Global>> {
 fn fill<D: Disk>(journal: &mut Journal<Global>, disk: &mut D, commands: &[&Command<Global>]) -> u64
     requires end { journal.old.end ≡ 39 }
     requires some { 1 ≤ length commands.now }
-    requires few { length commands.now ≤ 64 }
+    requires few { length commands.now ≤ most_commands }
     ensures { journal.new.end ≡ 39 }
 {
     let mut records = 0;
@@ -77,7 +78,7 @@ fn round<D: Disk>(
 ) -> Option<Timed>
     requires end { journal.old.end ≡ 39 }
     requires some { 1 ≤ length commands.now }
-    requires few { length commands.now ≤ 64 }
+    requires few { length commands.now ≤ most_commands }
 {
     let start = Instant::now(rt).ok()?;
     let records = fill(journal, disk, commands);
@@ -103,7 +104,7 @@ fn more(all: Timed, one: Timed) -> Option<Timed> {
 /// All rounds.
 fn measured(rt: &HostRuntime, commands: &[&Command<Global>]) -> Option<Timed>
     requires some { 1 ≤ length commands.now }
-    requires few { length commands.now ≤ 64 }
+    requires few { length commands.now ≤ most_commands }
 {
     let mut disk = MemoryDisk::new(rt.alloc(), 39, 999).ok()?;
     let mut all = Timed {
