@@ -1,6 +1,7 @@
 pub mod RegisteredLaws
 pub mod EffectLaws
 pub mod ReadingLaws
+pub mod MemoryLaws
 pub mod SpeltLaws
 pub mod MembersLaws
 pub mod Changed

@@ -3,6 +3,7 @@ pub mod Ranges
 pub mod State
 pub mod StateRanges
 pub mod Step
+pub mod Memory
 pub mod Tell
 pub mod History
 pub mod Histories

@@ -1,40 +1,36 @@
 //! The PDUs that answer a radio, and how its PDUs are refused.
-ghost use Rattle.std.specs.Prelude.{◌≡◌, ◌≢◌, IfOk};
-ghost use Rattle.mm_pdus.specs.Downlink.{canon_down};
+ghost use Rattle.std.specs.Prelude.{◌≡◌, ◌≢◌, IfOk, OnErr, None};
+ghost use Rattle.mm_pdus.specs.Downlink.{canon_down, accept_text};
 ghost use Rattle.registration.specs.declared.fault.RegFault.TheVariants as registration;
-ghost use Rattle.group_attach.specs.declared.fault.GroupFault.TheVariants as groups;
-ghost use Rattle.centre_core.specs.declared.reply.Refusal.TheVariants.{Registration, Groups};
-ghost use Rattle.centre_core.specs.Step.{cause_of, accept_pdu, acknowledge_pdu, location_refusal};
+ghost use Rattle.centre_core.specs.declared.reply.Refusal.TheVariants.{Registration};
+ghost use Rattle.centre_core.specs.Step.{cause_of, acknowledge_pdu, location_refusal};
 
 use crate::Refusal;
-use group_attach::{GroupFault, answers};
+use group_attach::answers;
 use identity::{Bits, Itsi};
-use mm_pdus::{GroupItems, GroupUp, LocationUpdateType, MmDown, RejectCause, write_down};
+use mm_pdus::{
+    AcceptType, GroupItems, GroupUp, LocationUpdateType, MmDown, RejectCause, write_down,
+};
 use registration::{RegFault, Registry};
 use std::alloc::{AllocError, Allocator};
 
-/// The D-LOCATION UPDATE ACCEPT of an update that may be accepted.
-pub(crate) fn accept_pdu<A: Allocator>(
-    alloc: A,
-    update: LocationUpdateType,
-) -> Result<Option<Bits<A>>, AllocError>
-    ensures { IfOk result (λ pdu. pdu ≡ accept_pdu update) }
+/// The D-LOCATION UPDATE ACCEPT of an update that is accepted so.
+pub(crate) fn accept_pdu<A: Allocator>(alloc: A, update: AcceptType) -> Result<Bits<A>, AllocError>
+    ensures { IfOk result (λ pdu. pdu ≡ accept_text update) }
 {
-    let Some(update) = update.accept_type() else {
-        return Ok(None);
-    };
     let pdu: MmDown<A> = MmDown::Accept { update };
-    Ok(Some(written(alloc, &pdu)?))
+    written(alloc, &pdu)
 }
 
-/// The refusal of a location update, with its D-LOCATION UPDATE REJECT where it has a cause. Want of
-/// memory is no refusal.
+/// The refusal of a location update, with its D-LOCATION UPDATE REJECT where it has a cause; that alone
+/// needs memory. Want of memory is no refusal.
 pub(crate) fn location_refusal<A: Allocator>(
     alloc: A,
     update: LocationUpdateType,
     fault: RegFault,
 ) -> Result<Refusal<A>, AllocError>
-    ensures { IfOk result (λ refusal. (fault ≢ registration.NoMemory) × (refusal ≡ location_refusal update fault)) }
+    ensures ok { IfOk result (λ refusal. (fault ≢ registration.NoMemory) × (refusal ≡ location_refusal update fault)) }
+    ensures memory { OnErr result (cause_of fault ≡ None → fault ≡ registration.NoMemory) }
 {
     let Some(cause) = cause_of(fault) else {
         return registration_refusal(fault);
@@ -46,7 +42,8 @@ pub(crate) fn location_refusal<A: Allocator>(
 
 /// The refusal of a change of rules or radios that has no PDU. Want of memory is no refusal.
 pub(crate) fn registration_refusal<A: Allocator>(fault: RegFault) -> Result<Refusal<A>, AllocError>
-    ensures { IfOk result (λ refusal. (fault ≢ registration.NoMemory) × (refusal ≡ Registration fault)) }
+    ensures ok { IfOk result (λ refusal. (fault ≢ registration.NoMemory) × (refusal ≡ Registration fault)) }
+    ensures memory { OnErr result (fault ≡ registration.NoMemory) }
 {
     if fault == RegFault::NoMemory {
         return Err(AllocError);
@@ -83,16 +80,6 @@ pub(crate) fn acknowledge_pdu<A: Allocator, R: Allocator + Clone, B: Allocator, 
 {
     let items = answers(scratch, registry, itsi, items)?;
     written(alloc, &MmDown::Acknowledge { items })
-}
-
-/// The refusal of a change of groups. Want of memory is no refusal.
-pub(crate) fn groups_refusal<A: Allocator>(fault: GroupFault) -> Result<Refusal<A>, AllocError>
-    ensures { IfOk result (λ refusal. (fault ≢ groups.NoMemory) × (refusal ≡ Groups fault)) }
-{
-    if fault == GroupFault::NoMemory {
-        return Err(AllocError);
-    }
-    Ok(Refusal::Groups(fault))
 }
 
 fn written<A: Allocator, B: Allocator>(alloc: A, pdu: &MmDown<B>) -> Result<Bits<A>, AllocError>

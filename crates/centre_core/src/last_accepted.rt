@@ -1,5 +1,6 @@
 //! What is kept of each station.
-ghost use Rattle.std.specs.Prelude.{◌≡◌, ◌<◌, ◌≤◌, ◌+◌, ◌-◌, ◌^◌, IfOk, replicate, slice_set, vec_len, None, Some};
+ghost use Rattle.std.specs.Prelude.{◌≡◌, ◌<◌, ◌≤◌, ◌+◌, ◌-◌, ◌^◌, IfOk, OnErr, IsTrue, replicate, slice_set, vec_len, None, Some};
+ghost use Rattle.std.specs.Option.{is_some};
 ghost use Rattle.centre_core.specs.declared.reply.Reply.TheVariants.{Kept};
 
 use crate::{Command, Reply};
@@ -26,9 +27,10 @@ impl<A: Allocator> Model for LastAccepted<A> {
 }
 
 impl<A: Allocator> LastAccepted<A> {
-    /// The reply to the same command once more.
+    /// The reply to the same command once more. Only its PDU takes memory.
     pub(crate) fn again<B: Allocator>(&self, alloc: B) -> Result<Reply<B>, AllocError>
-        ensures { IfOk result (λ reply. reply ≡ Kept self.now.number self.now.pdu) }
+        ensures ok { IfOk result (λ reply. reply ≡ Kept self.now.number self.now.pdu) }
+        ensures memory { OnErr result (IsTrue (is_some self.now.pdu)) }
     {
         Ok(Reply::Kept {
             number: self.number,
@@ -114,7 +116,8 @@ pub(crate) fn copy_of<A: Allocator, B: Allocator>(
     alloc: B,
     pdu: &Option<Bits<A>>,
 ) -> Result<Option<Bits<B>>, AllocError>
-    ensures { IfOk result (λ copy. copy ≡ pdu.now) }
+    ensures ok { IfOk result (λ copy. copy ≡ pdu.now) }
+    ensures memory { OnErr result (IsTrue (is_some pdu.now)) }
 {
     match pdu {
         None => Ok(None),

@@ -1,8 +1,9 @@
 //! The register and its calls.
-ghost use Rattle.std.specs.Prelude.{◌≡◌, IfOk, OnErr};
+ghost use Rattle.std.specs.Prelude.{◌≡◌, IfOk, OnErr, IsTrue};
 ghost use Rattle.centre_core.specs.State.{empty, IsState};
 ghost use Rattle.centre_core.specs.StateRanges.{StateInRange};
 ghost use Rattle.centre_core.specs.Step.{step};
+ghost use Rattle.centre_core.specs.Memory.{needs_memory};
 ghost use Rattle.centre_core.specs.Tell.{AsksForList, tell};
 ghost use Rattle.centre_core.specs.History.{is_acceptance, names};
 ghost use Rattle.centre_core.specs.Laws.{KeepsMessages};
@@ -76,7 +77,8 @@ impl<A: Allocator + Clone> Register<A> {
         self.tables.query(alloc, query)
     }
 
-    /// The reply to a command, kept under `alloc`. For want of memory nothing is changed.
+    /// The reply to a command, kept under `alloc`. For want of memory nothing is changed; only a command
+    /// that needs memory is answered so.
     pub fn apply<B: Allocator, C: Allocator + Copy>(
         &mut self,
         alloc: C,
@@ -86,6 +88,7 @@ impl<A: Allocator + Clone> Register<A> {
         // No message is lost, but for what the command ends.
         ensures messages { IfOk result (λ reply. KeepsMessages self.old.mail self.new.mail (is_acceptance reply) (names command.now)) }
         ensures err { OnErr result (self.new ≡ self.old) }
+        ensures memory { OnErr result (IsTrue (needs_memory self.old command.now)) }
     {
         command.keep_ranges();
         self.tables.apply(alloc, command)

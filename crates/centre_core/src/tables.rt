@@ -3,19 +3,23 @@
 mod group_messages;
 mod messages;
 
-ghost use Rattle.std.specs.Prelude.{◌≡◌, ◌<◌, ◌≤◌, ◌+◌, IfOk, OnErr, None};
+ghost use Rattle.std.specs.Prelude.{◌≡◌, ◌<◌, ◌≤◌, ◌+◌, IfOk, OnErr, IsTrue, IsSome, None};
+ghost use Rattle.std.specs.Option.{is_none};
+ghost use Rattle.mm_pdus.specs.Values.{accept_of};
 ghost use Rattle.mm_pdus.specs.UplinkReading.{reading_up};
+ghost use Rattle.registration.specs.Registered.{locate_refusal};
 ghost use Rattle.group_attach.specs.Attached.{groups_of};
+ghost use Rattle.group_attach.specs.Applied.{apply_refusal};
 ghost use Rattle.centre_core.specs.State.{empty, IsState};
 ghost use Rattle.centre_core.specs.Step.{step, step_new, step_mm, step_rule, step_clear, step_locate, step_detach, step_groups, accept_pdu, acknowledge_pdu, accepted, IsOfStation, CanBeAccepted};
+ghost use Rattle.centre_core.specs.declared.command.Body.TheVariants.{Mm};
+ghost use Rattle.centre_core.specs.Memory.{needs_rule, needs_update, needs_body, needs_new, needs_memory};
 ghost use Rattle.centre_core.specs.Tell.{AsksForList, present_members, tell};
 ghost use Rattle.centre_core.specs.History.{is_acceptance, names};
 ghost use Rattle.centre_core.specs.Laws.{KeepsMessages};
 
-use crate::answers::{
-    accept_pdu, acknowledge_pdu, groups_refusal, location_refusal, registration_refusal,
-};
-use crate::last_accepted::{LastAccepted, bits_copy, copied, copy_of, keep, none_accepted};
+use crate::answers::{accept_pdu, acknowledge_pdu, location_refusal, registration_refusal};
+use crate::last_accepted::{LastAccepted, bits_copy, copied, keep, none_accepted};
 use crate::{Attachments, Body, Command, Query, Refusal, Reply, Told};
 use group_attach::{Attachment, Groups};
 use identity::{Bits, Gtsi, Itsi, Prefix};
@@ -161,11 +165,12 @@ impl<A: Allocator + Clone> Tables<A> {
         // No message is lost, but for what the command ends.
         ensures messages { IfOk result (λ reply. KeepsMessages self.old.mail self.new.mail (is_acceptance reply) (names command.now)) }
         ensures err { OnErr result (self.new ≡ self.old) }
+        ensures memory { OnErr result (IsTrue (needs_memory self.old command.now)) }
     {
         self.step(alloc, command)
     }
 
-    #[tactic(auto, unfolding(crate::specs::Step::step))]
+    #[tactic(auto, unfolding(crate::specs::Step::step, crate::specs::Memory::needs_memory))]
     fn step<B: Allocator, C: Allocator + Copy>(
         &mut self,
         alloc: C,
@@ -173,6 +178,7 @@ impl<A: Allocator + Clone> Tables<A> {
     ) -> Result<Reply<C>, AllocError>
         ensures ok { IfOk result (λ reply. (self.new, reply) ≡ step self.old command.now) }
         ensures err { OnErr result (self.new ≡ self.old) }
+        ensures memory { OnErr result (IsTrue (needs_memory self.old command.now)) }
     {
         if command.station == 0 || u32::from(command.station) > self.registry.limits().stations {
             return Ok(Reply::Refused(Refusal::UnknownStation));
@@ -199,6 +205,7 @@ impl<A: Allocator + Clone> Tables<A> {
         requires { IsOfStation self.old command.now }
         ensures ok { IfOk result (λ reply. (self.new, reply) ≡ step_new self.old command.now) }
         ensures err { OnErr result (self.new ≡ self.old) }
+        ensures memory { OnErr result (IsTrue (needs_new self.old command.now)) }
     {
         if self.count >= LAST_NUMBER {
             return Ok(Reply::Refused(Refusal::NumbersUsedUp));
@@ -230,6 +237,7 @@ impl<A: Allocator + Clone> Tables<A> {
         requires { CanBeAccepted self.old command.now }
         ensures ok { IfOk result (λ reply. (self.new, reply) ≡ step_rule self.old command.now prefix rule) }
         ensures err { OnErr result (self.new ≡ self.old) }
+        ensures memory { OnErr result (IsTrue (needs_rule self.old prefix)) }
     {
         if let Err(fault) = self.registry.set_rule(prefix, rule) {
             return Ok(Reply::Refused(registration_refusal(fault)?));
@@ -263,6 +271,7 @@ impl<A: Allocator + Clone> Tables<A> {
         requires { CanBeAccepted self.old command.now }
         ensures ok { IfOk result (λ reply. (self.new, reply) ≡ step_mm self.old command.now itsi area (reading_up pdu.now)) }
         ensures err { OnErr result (self.new ≡ self.old) }
+        ensures memory { OnErr result (IsTrue (needs_body {A = B} self.old command.now.moment (Mm itsi area pdu.now))) }
     {
         match read_up(alloc, pdu) {
             Err(MmFault::NoMemory) => Err(AllocError),
@@ -286,6 +295,7 @@ impl<A: Allocator + Clone> Tables<A> {
         requires { CanBeAccepted self.old command.now }
         ensures ok { IfOk result (λ reply. (self.new, reply) ≡ step_locate self.old command.now itsi area update) }
         ensures err { OnErr result (self.new ≡ self.old) }
+        ensures memory { OnErr result (IsTrue (needs_update (locate_refusal self.old.registered itsi area update))) }
     {
         let (kept, pdu) = self.accept_pdus(alloc, update)?;
         if let Err(fault) = self.registry.locate(itsi, command.station, area, update) {
@@ -296,17 +306,22 @@ impl<A: Allocator + Clone> Tables<A> {
         Ok(Reply::Accepted { number, pdu })
     }
 
-    // A location update's acceptance, once to keep and once to answer.
+    // A location update's acceptance, once to keep and once to answer; none for a type that is never
+    // accepted.
     fn accept_pdus<C: Allocator>(
         &self,
         alloc: C,
         update: LocationUpdateType,
     ) -> Result<(Option<Bits<A>>, Option<Bits<C>>), AllocError>
-        ensures { IfOk result (λ pdus. pdus ≡ (accept_pdu update, accept_pdu update)) }
+        ensures ok { IfOk result (λ pdus. pdus ≡ (accept_pdu update, accept_pdu update)) }
+        ensures memory { OnErr result (IsSome (accept_of update)) }
     {
-        let kept = accept_pdu(self.alloc.clone()?, update)?;
-        let pdu = copy_of(alloc, &kept)?;
-        Ok((kept, pdu))
+        let Some(accepted) = update.accept_type() else {
+            return Ok((None, None));
+        };
+        let kept = accept_pdu(self.alloc.clone()?, accepted)?;
+        let pdu = bits_copy(alloc, &kept)?;
+        Ok((Some(kept), Some(pdu)))
     }
 
     fn change_groups<B: Allocator, C: Allocator + Copy>(
@@ -320,11 +335,15 @@ impl<A: Allocator + Clone> Tables<A> {
         requires { CanBeAccepted self.old command.now }
         ensures ok { IfOk result (λ reply. (self.new, reply) ≡ step_groups self.old command.now itsi mode items.now) }
         ensures err { OnErr result (self.new ≡ self.old) }
+        ensures memory { OnErr result (IsTrue (is_none (apply_refusal self.old.registered self.old.groups itsi mode items.now))) }
     {
-        let (kept, pdu) = self.acknowledge_pdus(alloc, itsi, items)?;
-        if let Err(fault) = self.groups.change(&self.registry, itsi, mode, items) {
-            return Ok(Reply::Refused(groups_refusal(fault)?));
+        if let Some(fault) = self.groups.apply_refusal(&self.registry, itsi, mode, items) {
+            return Ok(Reply::Refused(Refusal::Groups(fault)));
         }
+        let (kept, pdu) = self.acknowledge_pdus(alloc, itsi, items)?;
+        let Ok(()) = self.groups.change(&self.registry, itsi, mode, items) else {
+            return Err(AllocError);
+        };
         let number = self.accept(command, Some(kept));
         Ok(Reply::Accepted {
             number,

@@ -1,11 +1,12 @@
 -- Which answers may be given to which lines. A is the allocator that the bits of commands and replies
 -- lie under: nothing depends on it.
-use Rattle.std.specs.Prelude.{◌≡◌, ◌⊎◌, ℕ, ◌+◌, ◌≤◌, Bool, true, false, List, [], ◌∷◌, ◌++◌, length, Option, Some, Result, Ok, Err}
+use Rattle.std.specs.Prelude.{◌≡◌, ◌⊎◌, ℕ, ◌+◌, ◌≤◌, Bool, true, false, List, [], ◌∷◌, ◌++◌, length, Option, Some, Result, Ok, Err, IsTrue}
 use Rattle.std.specs.List.{list_any}
 use Rattle.std.specs.Str.Lines.{lines}
 use Rattle.centre_core.specs.State.{State}
 use Rattle.centre_core.specs.Step.{step}
-use Rattle.centre_core.specs.Tell.{tell}
+use Rattle.centre_core.specs.Memory.{needs_memory}
+use Rattle.centre_core.specs.Tell.{tell, AsksForList}
 use Rattle.centre_core.specs.declared.command.Command.{Command}
 use Rattle.centre_core.specs.declared.reply.Reply.{Reply}
 use Rattle.centre_core.specs.declared.query.Query.{Query}
@@ -26,14 +27,14 @@ pub record Rules (W : Type 0) : Type 1 where
   pub applies : {A B : Type 0} → W → Command A → Result (Reply B) Service → W → Type 0
   pub tells : {B : Type 0} → W → Query → Result (Told B) Service → W → Type 0
 
--- the register does a command as step says, or for want of memory does nothing; it has no other word
+-- the register does a command as step says, or for want of memory, which the command needs, does nothing; it has no other word
 abbrev pub Applies : {A B : Type 0} → State → Command A → Result (Reply B) Service → State → Type 0
 Applies s c (Ok reply) t = (t, reply) ≡ step s c
-Applies s c (Err word) t = (word ≡ Memory) × (t ≡ s)
+Applies s c (Err word) t = (word ≡ Memory) × (t ≡ s) × IsTrue (needs_memory s c)
 
 abbrev pub Tells : {B : Type 0} → State → Query → Result (Told B) Service → State → Type 0
 Tells s q (Ok told) t = (t ≡ s) × (told ≡ tell s q)
-Tells s q (Err word) t = (word ≡ Memory) × (t ≡ s)
+Tells s q (Err word) t = (word ≡ Memory) × (t ≡ s) × AsksForList q
 
 -- a register that nobody else changes
 abbrev pub of_register : Rules State

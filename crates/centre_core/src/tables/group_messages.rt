@@ -5,6 +5,7 @@ ghost use Rattle.sds_tl.specs.Transfers.{transfer_reference};
 ghost use Rattle.mailbox.specs.declared.key.Kind.TheVariants as kind;
 ghost use Rattle.mailbox.specs.Kept.{is_head_of};
 ghost use Rattle.centre_core.specs.Step.{CanBeAccepted, members, copies_of, step_copies, step_group_sds};
+ghost use Rattle.centre_core.specs.Memory.{needs_reference};
 
 use crate::last_accepted::{bits_copy, keep};
 use crate::tables::Tables;
@@ -27,6 +28,7 @@ impl<A: Allocator + Clone> Tables<A> {
         requires { CanBeAccepted self.old command.now }
         ensures ok { IfOk result (λ reply. (self.new, reply) ≡ step_group_sds self.old command.now source group pdu.now (transfer_reference (heading pdu.now))) }
         ensures err { OnErr result (self.new ≡ self.old) }
+        ensures memory { OnErr result (IsTrue (needs_reference (transfer_reference (heading pdu.now)))) }
     {
         match sds_tl::transfer_reference(pdu) {
             Ok(reference) => {

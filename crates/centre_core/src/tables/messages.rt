@@ -1,10 +1,13 @@
 //! Short messages in the tables.
 ghost use Rattle.std.specs.Prelude.{◌≡◌, ◌+◌, IfOk, OnErr, IsTrue, map, None};
+ghost use Rattle.std.specs.Option.{is_none};
 ghost use Rattle.sds_tl.specs.Reading.{heading, cleared};
 ghost use Rattle.mailbox.specs.declared.key.Kind.TheVariants as kind;
 ghost use Rattle.mailbox.specs.Mail.{waiting};
+ghost use Rattle.mailbox.specs.Refusals.{post_refusal, report_refusal};
 ghost use Rattle.mailbox.specs.Kept.{is_head_of};
 ghost use Rattle.centre_core.specs.Step.{CanBeAccepted, envelope, message_of, step_made, report_of, step_sds, step_message, step_report, step_ack, step_sent, step_expire, step_delete};
+ghost use Rattle.centre_core.specs.Memory.{needs_head};
 
 use crate::last_accepted::{bits_copy, keep};
 use crate::tables::Tables;
@@ -40,6 +43,7 @@ impl<A: Allocator + Clone> Tables<A> {
         requires { CanBeAccepted self.old command.now }
         ensures ok { IfOk result (λ reply. (self.new, reply) ≡ step_sds self.old command.now source destination pdu.now (heading pdu.now)) }
         ensures err { OnErr result (self.new ≡ self.old) }
+        ensures memory { OnErr result (IsTrue (needs_head self.old command.now.moment source destination pdu.now (heading pdu.now))) }
     {
         let head = match sds_tl::head(pdu) {
             Ok(head) => head,
@@ -75,6 +79,7 @@ impl<A: Allocator + Clone> Tables<A> {
         requires pdu { IsTrue (is_head_of kind.Message envelope.now.reference (heading pdu.now)) }
         ensures ok { IfOk result (λ reply. (self.new, reply) ≡ step_message self.old command.now (message_of self.old command.now.moment envelope.now pdu.now)) }
         ensures err { OnErr result (self.new ≡ self.old) }
+        ensures memory { OnErr result (IsTrue (is_none (post_refusal self.old.registered self.old.mail (message_of self.old command.now.moment envelope.now pdu.now)))) }
     {
         if let Some(fault) = self.mail.post_refusal(&self.registry, envelope) {
             return Ok(Reply::Refused(Refusal::Mail(fault)));
@@ -103,6 +108,7 @@ impl<A: Allocator + Clone> Tables<A> {
         requires pdu { IsTrue (is_head_of kind.Report envelope.now.reference (heading pdu.now)) }
         ensures ok { IfOk result (λ reply. (self.new, reply) ≡ step_report self.old command.now envelope.now status (report_of self.old command.now.moment envelope.now pdu.now)) }
         ensures err { OnErr result (self.new ≡ self.old) }
+        ensures memory { OnErr result (IsTrue (is_none (report_refusal self.old.registered self.old.mail envelope.now status (report_of self.old command.now.moment envelope.now pdu.now)))) }
     {
         if let Some(fault) = self.mail.report_refusal(&self.registry, envelope, status) {
             return Ok(Reply::Refused(Refusal::Mail(fault)));

@@ -7,7 +7,7 @@ use Rattle.centre_core.proofs.tables.Tables.locate.Goals as goal
 
 pub returns-in-Err-clause-ok : goal.returns-in-Err-clause-ok
 returns-in-Err-clause-ok g c =
-    let told = is_refused NoMemory (locate_refusal c.self.inside.registry c.args.itsi c.args.area c.args.update) _ c.in-Err.ensures.err.0 c.in_ok-location_refusal.ensures.0 in
+    let told = is_refused NoMemory (locate_refusal c.self.inside.registry c.args.itsi c.args.area c.args.update) _ c.in-Err.ensures.err.0 c.in_ok-location_refusal.ensures.ok.0 in
     search rules
 
 pub invariant_of-self-2 : goal.invariant_of-self-2

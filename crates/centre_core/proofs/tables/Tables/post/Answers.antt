@@ -24,3 +24,13 @@ pub post-requires : goal.post-requires
 post-requires g c =
     let later : c.self.inside.count < c.stamp-stamp.result.number = search rules in
     new_comes_last c.self.inside.count c.self.inside.mail c.stamp-stamp.result.number (key_of c.args.envelope.now Message) c.self.invariant.2.0 later
+
+pub returns-in_err-clone-clause-memory : goal.returns-in_err-clone-clause-memory
+returns-in_err-clone-clause-memory g c =
+    let told = c.in_default.ensures (record { number = c.self.inside.count + 1; moment = c.args.command.now.moment }) c.args.pdu.now in
+    search rules
+
+pub returns-in_err-kept-clause-memory : goal.returns-in_err-kept-clause-memory
+returns-in_err-kept-clause-memory g c =
+    let told = c.in_default.ensures (record { number = c.self.inside.count + 1; moment = c.args.command.now.moment }) c.args.pdu.now in
+    search rules
