@@ -10,4 +10,5 @@ mod Moves
 mod BothSides
 mod Answering
 mod Steps
+mod Rising
 pub mod KeptLaws

@@ -1,7 +1,9 @@
 //! The attachments of all radios, and the calls that change them.
 
 ghost use Rattle.std.specs.Prelude.{◌≡◌, None, OnOk, OnErr, IfOk, IfErr, unwrap_or};
+ghost use Rattle.std.specs.Ordering.{nat_cmp};
 ghost use Rattle.std.specs.FinMap as finite;
+ghost use Rattle.prefix_tree.specs.Following.{next_of};
 ghost use Rattle.group_attach.specs.Attached.{no_groups, of_radio, groups_of, members_of};
 ghost use Rattle.group_attach.specs.Applied.{after_update, applied, answers, apply_refusal};
 ghost use Rattle.group_attach.specs.Filed.{AllHave, IsReplaced};
@@ -11,6 +13,7 @@ use crate::answer::answers;
 use crate::attachments::{AttachmentList, slice_of};
 use crate::count::count_after;
 use crate::index::Index;
+use crate::list::first_after;
 use crate::side::{ByGroup, ByRadio};
 use crate::{Attachment, GroupFault};
 use identity::{Gtsi, Itsi};
@@ -65,6 +68,14 @@ impl<A: Allocator> Groups<A> {
         ensures { IfOk result (λ list. list.items ≡ groups_of self.now itsi) }
     {
         Vec::from_slice(alloc, self.by_radio.part(itsi.number()))
+    }
+
+    /// The radio's first attachment after this group, in order of the groups, also where it has none to this one, or
+    /// its first of all. It takes no memory.
+    pub fn next_of(&self, itsi: Itsi, after: Option<Gtsi>) -> Option<Attachment>
+        ensures { result ≡ next_of nat_cmp (λ a. a.gtsi) (groups_of self.now itsi) after }
+    {
+        first_after(self.by_radio.part(itsi.number()), after).copied()
     }
 
     /// The attachments to a group in order of their radios, be these present or not.

@@ -1,5 +1,9 @@
 //! What holds of the definitions alone: each law is the contract of a function that does nothing.
 
+ghost use Rattle.std.specs.Prelude.{◌≡◌, ◌≤◌, ℕ, None, length};
+ghost use Rattle.std.specs.Ordering.{nat_cmp};
+ghost use Rattle.prefix_tree.specs.Following.{next_of, one_by_one};
+ghost use Rattle.group_attach.specs.Attached.{Attached, groups_of};
 ghost use Rattle.group_attach.specs.Kept.{EmptyIsKept, UpdatesKeep, PdusKeep};
 
 /// No radio has too many groups, and the radios of all attachments are known to the register: this
@@ -8,4 +12,10 @@ pub fn effects_keep()
     ensures empty { EmptyIsKept }
     ensures updates { UpdatesKeep }
     ensures pdus { PdusKeep }
+{}
+
+/// From none to a radio's first attachment, and from each by its group to the next, one comes to all its
+/// attachments in order, to each once.
+pub fn next_comes_to_all_of_a_radio()
+    ensures { (m : Attached) (itsi : ℕ) (n : _) → length (groups_of m itsi) ≤ n → one_by_one (next_of nat_cmp (λ a. a.gtsi) (groups_of m itsi)) (λ a. a.gtsi) n None ≡ groups_of m itsi }
 {}

@@ -3,8 +3,10 @@
 ghost use Rattle.std.specs.Prelude.{◌≡◌, ◌==◌, ◌≤◌, length};
 ghost use Rattle.std.specs.List.{filter, count_by};
 ghost use Rattle.std.specs.List.Sorted.{IsBinarySearchResult, IsSearchInRange};
-ghost use Rattle.std.specs.Option.{is_some, option_map};
+ghost use Rattle.std.specs.Option.{is_some, option_copied, option_map};
 ghost use Rattle.std.specs.FinMap as finite;
+ghost use Rattle.std.specs.Ordering.{nat_cmp};
+ghost use Rattle.prefix_tree.specs.Following.{is_after, next_of};
 ghost use Rattle.group_attach.specs.Attached.{pair_cmp, attachment_of};
 ghost use Rattle.group_attach.specs.InOrder.{IsInOrder, map_of, pair_of};
 
@@ -40,6 +42,25 @@ pub(crate) fn has(entries: &[Attachment], itsi: Itsi, gtsi: Gtsi) -> bool
     ensures { result ≡ is_some (finite.get (map_of entries.now) (itsi, gtsi)) }
 {
     place(entries, itsi, gtsi).is_ok()
+}
+
+// The first attachment after the group, or the first of all.
+pub(crate) fn first_after(entries: &[Attachment], after: Option<Gtsi>) -> Option<&Attachment>
+    ensures { option_copied result ≡ next_of nat_cmp (λ a. a.gtsi) entries.now after }
+{
+    entries
+        .iter()
+        .find(|attachment| is_after(attachment, after))
+}
+
+// Whether the attachment comes after the group.
+fn is_after(attachment: &Attachment, after: Option<Gtsi>) -> bool
+    ensures { result ≡ is_after nat_cmp (λ (a : Attachment). a.gtsi) after attachment.now }
+{
+    match after {
+        Some(gtsi) => gtsi.number() < attachment.gtsi.number(),
+        None => true,
+    }
 }
 
 // Where the radio's attachment to the group stands, or would go.

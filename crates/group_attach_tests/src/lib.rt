@@ -7,6 +7,8 @@ mod fixed_heap;
 #[cfg(test)]
 mod fixture;
 #[cfg(test)]
+mod one_by_one;
+#[cfg(test)]
 mod plain;
 #[cfg(test)]
 mod side_by_side;

@@ -7,6 +7,8 @@ mod identities;
 #[cfg(test)]
 mod mobility;
 #[cfg(test)]
+mod one_by_one;
+#[cfg(test)]
 mod prefix_list;
 #[cfg(test)]
 mod rules_and_radios;

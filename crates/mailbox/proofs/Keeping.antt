@@ -34,7 +34,7 @@ none_kept boxes order empty none = record {
 }
 
 -- the index gives the items
-found_each : (ws : List Waiting) (boxes : Boxes) (order : List Place) → AreKept ws boxes order → All (λ w. item_at boxes w.key ≡ Some w) ws
+pub found_each : (ws : List Waiting) (boxes : Boxes) (order : List Place) → AreKept ws boxes order → All (λ w. item_at boxes w.key ≡ Some w) ws
 found_each ws boxes order kept =
     All-weaker (λ w. find (is_at w.key) ws ≡ Some w) (λ w. item_at boxes w.key ≡ Some w)
     (λ w found. ap (find (is_at w.key)) (items_boxed ws boxes (id_path w.key.destination) kept.boxed) ∙ find_within (is_at w.key) (is_under (id_path w.key.destination)) (at_is_under w.key) ws ∙ found)

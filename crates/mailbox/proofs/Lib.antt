@@ -10,3 +10,4 @@ pub mod CopiesKept
 pub mod Newest
 pub mod Texts
 pub mod Next
+pub mod NextItem

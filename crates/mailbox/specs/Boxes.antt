@@ -71,6 +71,10 @@ is_kept boxes k = list_any (is_at k) (items_under boxes (id_path k.destination))
 abbrev pub place_of : Waiting → Place
 place_of w = record { number = w.number; key = w.key }
 
+-- the number and the key of a place
+abbrev pub name_of : Place → ℕ × Key
+name_of p = (p.number, p.key)
+
 -- the items in the index's order
 abbrev pub in_order : Boxes → List Place → List Waiting
 in_order boxes order = filter_map (λ place. item_at boxes place.key) order

@@ -1,9 +1,11 @@
 -- In which order the items wait: by the number of the command that made them, then by key.
-use Rattle.std.specs.Prelude.{◌≡◌, ℕ, List, [], ◌∷◌}
+use Rattle.std.specs.Prelude.{◌≡◌, ℕ, List, [], ◌∷◌, Option}
 use Rattle.std.specs.List.{All}
 use Rattle.std.specs.Ordering.{nat_cmp}
+use Rattle.std.specs.declared.cmp.Ordering.{Ordering}
 use Rattle.std.specs.declared.cmp.Ordering.TheVariants.{Less}
 use Rattle.std.specs.Cmp.Lexicographic.{slice_cmp}
+use Rattle.prefix_tree.specs.Following.{next_of}
 use Rattle.mailbox.specs.declared.key.Key.{Key}
 use Rattle.mailbox.specs.declared.key.Kind.{Kind}
 use Rattle.mailbox.specs.declared.key.Kind.TheVariants.{Message, Report}
@@ -23,3 +25,15 @@ IsBefore a b = slice_cmp nat_cmp (place_at a.number a.key) (place_at b.number b.
 -- this number and key come after those of all that wait
 abbrev pub ComesLast : Mailed → ℕ → Key → Type 0
 ComesLast m number k = All (λ o. slice_cmp nat_cmp (place_at o.number o.key) (place_at number k) ≡ Less) m.items
+
+-- the order of two numbers with their keys
+abbrev pub named_cmp : ℕ × Key → ℕ × Key → Ordering
+named_cmp a b = slice_cmp nat_cmp (place_at a.0 a.1) (place_at b.0 b.1)
+
+-- an item's number and key
+abbrev pub named : Waiting → ℕ × Key
+named w = (w.number, w.key)
+
+-- the first item after this number and key, or the first of all
+abbrev pub next_item : Mailed → Option (ℕ × Key) → Option Waiting
+next_item m after = next_of named_cmp named m.items after

@@ -1,7 +1,11 @@
 //! What holds of the definitions alone: each law is the contract of a function that does nothing.
 
+ghost use Rattle.std.specs.Prelude.{◌≡◌, ◌≤◌, ℕ, None, length};
 ghost use Rattle.std.specs.List.{AllPairs};
-ghost use Rattle.mailbox.specs.Order.{IsBefore};
+ghost use Rattle.prefix_tree.specs.Following.{one_by_one};
+ghost use Rattle.mailbox.specs.Values.{Mailed};
+ghost use Rattle.mailbox.specs.Order.{IsBefore, named, next_item};
+ghost use Rattle.mailbox.specs.Kept.{IsMail};
 ghost use Rattle.mailbox.specs.Laws.{EmptyIsMail, MoreIsMail, RemovalIsMail, PostIsMail, ReportIsMail, GroupPostIsMail, NewComesLast, ItemsAreTexts};
 
 use crate::Mail;
@@ -28,4 +32,10 @@ pub fn in_order<A: Allocator>(mail: &Mail<A>)
 /// Of the items of such a mail: the PDU is the written text of an SDS-TRANSFER or SDS-REPORT.
 pub fn items_are_texts<A: Allocator>()
     ensures { ItemsAreTexts A }
+{}
+
+/// From none to the first item, and from each by its number and key to the next, one comes to all that waits in
+/// order, to each once.
+pub fn next_comes_to_all()
+    ensures { (count : ℕ) (m : Mailed) (n : _) → IsMail count m → length m.items ≤ n → one_by_one (next_item m) named n None ≡ m.items }
 {}

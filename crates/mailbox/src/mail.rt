@@ -2,11 +2,12 @@
 
 ghost use Rattle.std.specs.Prelude.{◌≡◌, ◌↔◌, IsTrue, ◌<◌, ◌≤◌, ◌-◌, ◌++◌, ◌∷◌, [], length, count_by, false, not, map, None, OnOk, OnErr, IfOk, IfErr, unwrap_or, vec_len, vec_capacity};
 ghost use Rattle.std.specs.List.{AllPairs, filter, list_any};
+ghost use Rattle.std.specs.Option.{option_copied};
 ghost use Rattle.mailbox.specs.declared.fault.MailFault.TheVariants.{NoMemory};
 ghost use Rattle.mailbox.specs.declared.key.Kind.TheVariants as kind;
 ghost use Rattle.mailbox.specs.Values.{empty_mailed, latest_deadline};
 ghost use Rattle.mailbox.specs.Tests.{same_key, key_of, is_to, is_at, is_reported, is_ended_by};
-ghost use Rattle.mailbox.specs.Order.{IsBefore, ComesLast};
+ghost use Rattle.mailbox.specs.Order.{IsBefore, ComesLast, next_item};
 ghost use Rattle.mailbox.specs.Boxes.{is_kept};
 ghost use Rattle.mailbox.specs.Mail.{holds, without, with_item, deadline_by, waiting_for, posted, reported, acknowledged, confirmed, expired, deleted, waiting};
 ghost use Rattle.mailbox.specs.GroupPost.{shortened};
@@ -15,7 +16,7 @@ ghost use Rattle.mailbox.specs.Refusals.{post_refusal, report_refusal, ack_refus
 use crate::boxes::{Boxes, remove_expired};
 use crate::ending::Ending;
 use crate::items::{any_at, any_confirmed, any_reported, count_at, count_left, count_reported};
-use crate::place::Place;
+use crate::place::{Place, first_after, place_named};
 use crate::{Envelope, Item, Key, Kind, MailFault, Stamp};
 use identity::{Bits, Itsi};
 use prefix_tree::TryCopy;
@@ -143,6 +144,17 @@ impl<A: Allocator> Mail<A> {
             return true;
         };
         last.is_before(&Place { number, key: *key })
+    }
+
+    /// The first item after this number and key, in order of number, then key, also where no item waits there, or the
+    /// first of all. It takes no memory; its place is found by halving the order of all.
+    pub fn next(&self, after: Option<(u64, Key)>) -> Option<&Item<A>>
+        ensures { option_copied result ≡ next_item self.now after }
+    {
+        match first_after(&self.order, &place_named(after)) {
+            Some(place) => self.boxes.item_at(&place.key),
+            None => None,
+        }
     }
 
     /// Removes every item whose deadline is at most the moment. It takes no memory.

@@ -9,6 +9,8 @@ mod fixture;
 #[cfg(test)]
 mod groups;
 #[cfg(test)]
+mod one_by_one;
+#[cfg(test)]
 mod plain;
 #[cfg(test)]
 mod side_by_side;

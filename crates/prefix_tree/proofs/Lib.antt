@@ -1,5 +1,6 @@
 pub mod Begins
 pub mod CountLaws
+pub mod Following
 pub mod GrowLaws
 pub mod JoinLaws
 pub mod JoinedLaws

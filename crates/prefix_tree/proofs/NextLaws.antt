@@ -1,8 +1,8 @@
 -- The entry after a path.
-use Rattle.std.proofs.Common.{◌≡◌, suc, Bool, true, false, cond, List, [], ◌∷◌, ◌++◌, Option, Some, None, length, refl, sym, ap, subst, ◌∙◌, arith}
+use Rattle.std.proofs.Common.{◌≡◌, suc, ◌≤◌, Bool, true, false, cond, List, [], ◌∷◌, ◌++◌, Option, Some, None, length, refl, sym, ap, subst, ◌∙◌, arith}
 use mathlib.Core.Bool.{false≢true}
-use Rattle.std.specs.Prelude.{IsTrue}
-use Rattle.std.specs.Option.{option_or}
+use Rattle.std.specs.Prelude.{IsTrue, IfNone}
+use Rattle.std.specs.Option.{option_or, option_map, is_some}
 use Rattle.std.specs.Ordering.{is_lt}
 use Rattle.std.specs.FinMap as map
 use Rattle.std.specs.FinMap.{len-entries, len-empty}
@@ -11,9 +11,13 @@ use Rattle.prefix_tree.specs.declared.node.Node.TheInside.{Inside}
 use Rattle.identity.specs.Path.{Path, path_cmp, begins}
 use Rattle.prefix_tree.specs.Table.{PathMap}
 use Rattle.prefix_tree.specs.Paths.{common}
+use Rattle.prefix_tree.specs.Visits.{goes_on, any_under}
 use Rattle.prefix_tree.specs.Joined.{NodeSeen, own_entry, joined, KeysUnder, table_of, IsUnder, node_view}
 use Rattle.prefix_tree.specs.Next.{first_entry, entry_past}
-use Rattle.prefix_tree.proofs.NodeLaws.{at_is, table_is, zero_keys, one_keys}
+use Rattle.prefix_tree.proofs.Begins.{begins_length, side_begins}
+use Rattle.prefix_tree.proofs.Standing.{never_so, place_goes}
+use Rattle.prefix_tree.proofs.VisitLaws.{one_side}
+use Rattle.prefix_tree.proofs.NodeLaws.{at_is, table_is, firm_node, zero_keys, one_keys}
 use Rattle.prefix_tree.proofs.OrderLaws.{AllUnder, entries_under, entries_joined}
 
 -- what is under a path that does not begin q stands to q as the path itself does
@@ -65,6 +69,32 @@ side_before (true ∷ a) (false ∷ q) true off apart on = refl
 side_before (true ∷ a) (false ∷ q) false off apart on = absurd (false≢true on)
 side_before (false ∷ a) (true ∷ q) true off apart on = absurd (false≢true on)
 side_before (false ∷ a) (true ∷ q) false off apart on = refl
+
+-- what goes on with 1 comes after all that goes on with 0, and all else under a path before what goes on with 1
+zero_passed : (p q : Path) → begins (p ++ true ∷ []) q ≡ true → is_lt (path_cmp q (p ++ false ∷ [])) ≡ false
+zero_passed [] [] on = absurd (false≢true on)
+zero_passed [] (true ∷ q) on = refl
+zero_passed [] (false ∷ q) on = absurd (false≢true on)
+zero_passed (true ∷ p) [] on = absurd (false≢true on)
+zero_passed (false ∷ p) [] on = absurd (false≢true on)
+zero_passed (true ∷ p) (true ∷ q) on = zero_passed p q on
+zero_passed (false ∷ p) (false ∷ q) on = zero_passed p q on
+zero_passed (true ∷ p) (false ∷ q) on = absurd (false≢true on)
+zero_passed (false ∷ p) (true ∷ q) on = absurd (false≢true on)
+
+one_ahead : (p q : Path) → begins p q ≡ true → begins (p ++ true ∷ []) q ≡ false → is_lt (path_cmp q (p ++ true ∷ [])) ≡ true
+one_ahead [] [] on off = refl
+one_ahead [] (true ∷ q) on off = absurd (false≢true (sym off))
+one_ahead [] (false ∷ q) on off = refl
+one_ahead (true ∷ p) [] on off = absurd (false≢true on)
+one_ahead (false ∷ p) [] on off = absurd (false≢true on)
+one_ahead (true ∷ p) (true ∷ q) on off = one_ahead p q on off
+one_ahead (false ∷ p) (false ∷ q) on off = one_ahead p q on off
+one_ahead (true ∷ p) (false ∷ q) on off = absurd (false≢true on)
+one_ahead (false ∷ p) (true ∷ q) on off = absurd (false≢true on)
+
+not_both : (p q : Path) → begins (p ++ true ∷ []) q ≡ true → begins (p ++ false ∷ []) q ≡ false
+not_both p q on = never_so _ (λ zero. false≢true (sym (one_side p q zero) ∙ on))
 
 module _ {V : Type 0} where
   abbrev no_entry : Option (Path × V)
@@ -149,8 +179,43 @@ module _ {V A : Type 0} where
     pub past_zero : (q : Path) → begins d.at q ≡ true → (e : Path × V) → Some e ≡ entry_past q (map.entries (table_of n.zero)) → Some e ≡ entry_past q (map.entries d.table)
     past_zero q on e found = sym (past_node q on ∙ ap (λ o. option_or o (entry_past q (map.entries (table_of n.one)))) (sym found))
 
-    pub past_one : (q : Path) → begins d.at q ≡ true → (o : Option (Path × V)) → None ≡ entry_past q (map.entries (table_of n.zero)) → o ≡ entry_past q (map.entries (table_of n.one)) → o ≡ entry_past q (map.entries d.table)
-    past_one q on o none found = found ∙ sym (past_node q on ∙ ap (λ o. option_or o (entry_past q (map.entries (table_of n.one)))) (sym none))
+    -- a key that goes on with 1 is past all that goes on with 0
+    pub past_via_one : (q : Path) → begins (n.at ++ true ∷ []) q ≡ true → (o : Option (Path × V)) → o ≡ entry_past q (map.entries (table_of n.one)) → o ≡ entry_past q (map.entries d.table)
+    past_via_one q on o found =
+        let zero : entry_past q (map.entries (table_of n.zero)) ≡ None =
+        past_beside (n.at ++ false ∷ []) q (table_of n.zero) (zero_keys n d seen sound) (not_both n.at q on)
+        ∙ ap (λ t. cond t (first_entry (map.entries (table_of n.zero))) None) (zero_passed n.at q on) in
+        found ∙ sym (past_node q (ap (λ p. begins p q) (sym (at_is n d seen)) ∙ side_begins n.at q true on) ∙ ap (λ o. option_or o (entry_past q (map.entries (table_of n.one)))) zero)
+
+    -- for any other, all that goes on with 1 is still to come
+    pub past_then_one : (q : Path) → begins d.at q ≡ true → begins (n.at ++ true ∷ []) q ≡ false → (o : Option (Path × V)) → None ≡ entry_past q (map.entries (table_of n.zero)) → o ≡ first_entry (map.entries (table_of n.one)) → o ≡ entry_past q (map.entries d.table)
+    past_then_one q on off o none found =
+        let one : entry_past q (map.entries (table_of n.one)) ≡ first_entry (map.entries (table_of n.one)) =
+        past_beside (n.at ++ true ∷ []) q (table_of n.one) (one_keys n d seen sound) off
+        ∙ ap (λ t. cond t (first_entry (map.entries (table_of n.one))) None) (one_ahead n.at q (ap (λ p. begins p q) (at_is n d seen) ∙ on) off) in
+        found ∙ sym (past_node q on ∙ ap (λ o. option_or o (entry_past q (map.entries (table_of n.one)))) (sym none) ∙ one)
+
+module _ {V : Type 0} where
+  not_bare : (m : PathMap V) (p : Path) → goes_on m p ≡ true → no_entry ≡ first_entry (map.entries m) → ⊥
+  unfolding goes_on
+  not_bare m p goes none = bare (map.entries m) goes none
+    where
+      bare : (es : List (Path × V)) → any_under p es ≡ true → no_entry ≡ first_entry es → ⊥
+      bare [] goes none = false≢true goes
+      bare (e ∷ es) goes none = false≢true (ap is_some none)
+
+pub if_none : {R P Q : Type 0} → (r : Option R) → (P → Q) → IfNone r P → IfNone r Q
+if_none None f h = f h
+if_none (Some x) f h = tt
+
+module _ {V A : Type 0} (o : Option (Box (NodeSeen V) A)) (b : Box (NodeSeen V) A) (w : NodeSeen V) (is : o ≡ Some b) (at : w ≡ b.value) where
+  -- a node below a link has a first entry
+  pub first_is_there : {R : Type 0} (f : R → Path × V) (r : Option R) (P : Type 0) → IsUnder [] o → option_map f r ≡ first_entry (map.entries w.table) → IfNone r P
+  first_is_there f None P under found = absurd (not_bare w.table w.at (place_goes w.table w.at (firm_node [] o b w is at under).place) found)
+  first_is_there f (Some x) P under found = tt
+
+  pub longer_below : (p : Path) → IsUnder p o → length p ≤ length w.at
+  longer_below p under = begins_length p w.at (firm_node p o b w is at under).loose.extends
 
 module _ {V A : Type 0} (o : Option (Box (NodeSeen V) A)) (b : Box (NodeSeen V) A) (q : Path) (is : o ≡ Some b) (under : IsUnder [] o) (off : begins b.value.at q ≡ false) where
   beside : entry_past q (map.entries (table_of o)) ≡ cond (is_lt (path_cmp q b.value.at)) (first_entry (map.entries b.value.table)) None

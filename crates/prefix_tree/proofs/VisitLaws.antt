@@ -31,7 +31,7 @@ begins_both (false ∷ r) (d ∷ a) (true ∷ k) p q le = absurd (false≢true p
 begins_both (true ∷ r) (false ∷ a) (true ∷ k) p q le = absurd (false≢true q)
 begins_both (false ∷ r) (true ∷ a) (false ∷ k) p q le = absurd (false≢true q)
 
-one_side : (p a : Path) → begins (p ++ false ∷ []) a ≡ true → begins (p ++ true ∷ []) a ≡ false
+pub one_side : (p a : Path) → begins (p ++ false ∷ []) a ≡ true → begins (p ++ true ∷ []) a ≡ false
 one_side [] [] h = refl
 one_side [] (true ∷ a) h = absurd (false≢true h)
 one_side [] (false ∷ a) h = refl

@@ -4,6 +4,7 @@ pub mod Paths
 pub mod Visits
 pub mod Joined
 pub mod Lending
+pub mod Following
 pub mod Next
 pub mod Walk
 pub mod Counts

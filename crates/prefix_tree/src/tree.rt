@@ -97,14 +97,26 @@ impl<V, A: Allocator> PrefixTree<V, A> {
     }
 
     /// The first entry after this prefix in the order of `walk`, also where the prefix has none itself, or the
-    /// first of all. It takes no memory.
+    /// first of all. It takes no memory; each node that is visited is a step, 98 at most.
+    pub fn next_counted<L: Ledger>(
+        &self,
+        after: Option<Prefix>,
+        steps: &mut Steps<L>,
+    ) -> Option<(Prefix, &V)>
+        ensures found { option_map (λ e. (e.0, e.1.now)) result ≡ next_entry self.now after }
+        ensures cost { steps.new ≤ steps.old + 98 }
+    {
+        match after {
+            None => self.root.first(steps),
+            Some(prefix) => self.root.past(&prefix, steps),
+        }
+    }
+
+    /// As `next_counted`, for a caller that counts nothing.
     pub fn next(&self, after: Option<Prefix>) -> Option<(Prefix, &V)>
         ensures { option_map (λ e. (e.0, e.1.now)) result ≡ next_entry self.now after }
     {
-        match after {
-            None => self.root.first(),
-            Some(prefix) => self.root.past(&prefix),
-        }
+        next_from::<V, A, Brand>(self, after, Blank::new(1))
     }
 
     /// How many nodes there are, the root with them. It takes no memory.
@@ -228,6 +240,21 @@ fn find_longest_from<V, A: Allocator, L: Ledger>(
 {
     let mut steps = Steps::<L>::new(blank);
     tree.longest(identity, &mut steps)
+}
+
+// As `next_counted`, counted by this ledger.
+fn next_from<V, A: Allocator, L: Ledger>(
+    tree: &PrefixTree<V, A>,
+    after: Option<Prefix>,
+    blank: Blank,
+) -> Option<(Prefix, &V)>
+    requires name { blank.name ≡ L.name }
+    requires parts { blank.parts ≡ L.parts }
+    requires some { 0 < blank.parts }
+    ensures { option_map (λ e. (e.0, e.1.now)) result ≡ next_entry tree.now after }
+{
+    let mut steps = Steps::<L>::new(blank);
+    tree.next_counted(after, &mut steps)
 }
 
 // As `remove`, counted by this ledger.

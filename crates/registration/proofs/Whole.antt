@@ -1,15 +1,17 @@
 -- Radios stand under whole identities.
 use Rattle.std.proofs.Common.{◌≡◌, ℕ, Bool, true, false, cond, List, [], ◌∷◌, length, Option, Some, None, refl, sym, ap, subst, ◌∙◌}
 use mathlib.Core.Bool.{false≢true}
-use Rattle.std.specs.Prelude.{IsSome, OnSome, IfNone}
-use Rattle.std.specs.List.{All}
+use Rattle.std.specs.Prelude.{IsSome, OnSome, IfSome, IfNone}
+use Rattle.std.specs.List.{All, find as find_first}
 use Rattle.std.specs.Ordering.{eq_by_cmp}
 use Rattle.std.specs.FinMap as map
 use Rattle.std.specs.FinMap.Entries.{find}
-use Rattle.std.proofs.lemmas.List.Elements.{All-nil, All-cons}
+use Rattle.std.proofs.lemmas.List.Elements.{All-nil, All-cons, All-head, All-tail}
 use Rattle.identity.specs.Path.{Path, path_cmp, id_path}
 use Rattle.identity.specs.PathLaws.{length-id_path, paths_total, tied, tie_exact}
 use Rattle.prefix_tree.specs.Table.{PathMap}
+use Rattle.prefix_tree.specs.Following.{is_after}
+use Rattle.prefix_tree.specs.Next.{next_entry}
 use Rattle.registration.specs.declared.radio.Radio.{Radio}
 use Rattle.registration.specs.Registered.{AreWhole}
 
@@ -44,3 +46,15 @@ each_whole (e ∷ es) whole =
 
 pub entries_whole : (m : PathMap Radio) → AreWhole m → All (λ e. length e.0 ≡ 48) (map.entries m)
 entries_whole m whole = each_whole (map.entries m) (λ p some. whole p (subst IsSome (sym (map.get-entries m p)) some))
+
+-- so does the entry after another
+found_whole : (test : Path × Radio → Bool) (es : List (Path × Radio)) → All (λ e. length e.0 ≡ 48) es → IfSome (find_first test es) (λ e. length e.0 ≡ 48)
+found_whole test [] all = tt
+found_whole test (e ∷ es) all = by (test e) (found_whole test es (All-tail (λ e. length e.0 ≡ 48) e es all))
+  where
+    by : (b : Bool) → IfSome (find_first test es) (λ e. length e.0 ≡ 48) → IfSome (cond b (Some e) (find_first test es)) (λ e. length e.0 ≡ 48)
+    by true rest = All-head (λ e. length e.0 ≡ 48) e es all
+    by false rest = rest
+
+pub next_whole : (m : PathMap Radio) (after : Option Path) (e : Path × Radio) → AreWhole m → Some e ≡ next_entry m after → length e.0 ≡ 48
+next_whole m after e whole is = subst (λ (o : Option (Path × Radio)). IfSome o (λ e. length e.0 ≡ 48)) (sym is) (found_whole (is_after path_cmp (λ e. e.0) after) (map.entries m) (entries_whole m whole))

@@ -2,9 +2,11 @@
 
 ghost use Rattle.std.specs.Prelude.{◌≡◌, length, None, Some, OnOk, IfOk, IfErr, IsOk, IsSome, unwrap_or};
 ghost use Rattle.std.specs.List.{All};
+ghost use Rattle.std.specs.Option.{option_map};
 ghost use Rattle.std.specs.FinMap as map;
 ghost use Rattle.identity.specs.Path.{id_path};
-ghost use Rattle.registration.specs.Listed.{under_bits};
+ghost use Rattle.prefix_tree.specs.Next.{next_entry};
+ghost use Rattle.registration.specs.Listed.{under_bits, under_its_bits};
 ghost use Rattle.registration.specs.Registered.{has_rule, longest_rule, rule_of, radio_of, type_refusal, area_refusal, room_refusal, locate_refusal, located, detach_refusal, detached, is_present, set_refusal, with_rule, without_rule, empty_registered};
 ghost use Rattle.registration.specs.declared.fault.RegFault.TheVariants.{NoMemory};
 
@@ -112,6 +114,28 @@ impl<A: Allocator + Clone> Registry<A> {
     {
         let entries = self.radios.entries(alloc.clone()?)?;
         with_identities(alloc, &entries)
+    }
+
+    /// The first rule after this prefix in the order of `rules`, also where no rule stands under it, or the first of
+    /// all. It takes no memory.
+    pub fn next_rule(&self, after: Option<Prefix>) -> Option<(Prefix, Rule)>
+        ensures { result ≡ next_entry self.now.rules after }
+    {
+        match self.rules.next(after) {
+            Some((prefix, rule)) => Some((prefix, *rule)),
+            None => None,
+        }
+    }
+
+    /// The first radio after this one in the order of `radios`, also where this one never came, or the first of
+    /// all. It takes no memory.
+    pub fn next_radio(&self, after: Option<Itsi>) -> Option<(Itsi, Radio)>
+        ensures { option_map under_its_bits result ≡ next_entry self.now.radios (option_map id_path after) }
+    {
+        match self.radios.next(path_of(after)) {
+            Some((bits, radio)) => Some((itsi_of(&bits), *radio)),
+            None => None,
+        }
     }
 
     /// Why `set_rule` would refuse a rule under this prefix, memory aside.
@@ -257,6 +281,15 @@ impl<A: Allocator + Clone> TryCopy for Registry<A> {
             radios: self.radios.try_copy()?,
             radio_count: self.radio_count,
         })
+    }
+}
+
+fn path_of(itsi: Option<Itsi>) -> Option<Prefix>
+    ensures { result ≡ option_map id_path itsi }
+{
+    match itsi {
+        Some(itsi) => Some(itsi.path()),
+        None => None,
     }
 }
 

@@ -49,3 +49,16 @@ pub fn longest<L: Ledger>(tree: &Tree, identity: u64, blank: Blank) -> Option<(P
         None => None,
     }
 }
+
+/// The entry after a prefix, counted.
+pub fn next<L: Ledger>(tree: &Tree, after: Option<Prefix>, blank: Blank) -> Option<(Prefix, Number)>
+    requires name { blank.name ≡ L.name }
+    requires parts { blank.parts ≡ L.parts }
+    requires some { 0 < blank.parts }
+{
+    let mut steps = Steps::<L>::new(blank);
+    match tree.next_counted(after, &mut steps) {
+        Some((prefix, number)) => Some((prefix, *number)),
+        None => None,
+    }
+}

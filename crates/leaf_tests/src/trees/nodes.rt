@@ -1,7 +1,10 @@
+use crate::trees::counted::next;
 use crate::trees::number::Number;
 use identity::{Itsi, Prefix};
 use prefix_tree::PrefixTree;
 use std::alloc::Global;
+use std::marker::Brand;
+use std::sync::ledger::Blank;
 use std::test::Fail;
 
 type Tree = PrefixTree<Number, Global>;
@@ -81,12 +84,21 @@ fn is_next(tree: &Tree, after: Option<Prefix>, want: Option<Prefix>) -> bool {
     }
 }
 
+// As `is_next`, counted.
+fn is_next_counted(tree: &Tree, after: Option<Prefix>, want: Option<Prefix>) -> bool {
+    match (next::<Brand>(tree, after, Blank::new(1)), want) {
+        (Some((prefix, _)), Some(want)) => prefix.same(&want),
+        (None, None) => true,
+        _ => false,
+    }
+}
+
 // Whether the tree gives its prefixes one after the other, and then none.
 fn is_in_order(tree: &Tree) -> Result<bool, Fail> {
     let mut after = None;
     for (ssi, len) in ORDERED {
         let want = Some(first_bits(ssi, len)?);
-        if !is_next(tree, after, want) {
+        if !is_next(tree, after, want) || !is_next_counted(tree, after, want) {
             return Ok(false);
         }
         after = want;

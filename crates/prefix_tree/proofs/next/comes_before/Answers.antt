@@ -16,13 +16,13 @@ side-requires-clause-shorter c =
     let same : length c.common-common.result ≡ length (common c.args.at.now c.args.key.now) = ap length c.common-common.ensures in
     omega (arith, short, same)
 
-pub returns-then-len : goal.returns-then-len
-returns-then-len c =
-    let test : nat_eq c.len.result c.len-2.result ≡ true = grind (arith, nat_tests, c.if-len.true) in
-    test ∙ begun_before c.args.at.now c.args.key.now c.requires (ap length (sym c.common-common.ensures) ∙ sym c.len.ensures.value ∙ c.if-len.true ∙ c.len-2.ensures.value)
+pub returns-then-len-clause-before : goal.returns-then-len-clause-before
+returns-then-len-clause-before c =
+    let test : nat_eq c.len-2.result c.len-3.result ≡ true = grind (arith, nat_tests, c.if-len.true) in
+    test ∙ begun_before c.args.at.now c.args.key.now c.requires (ap length (sym c.common-common.ensures) ∙ sym c.len-2.ensures.value ∙ c.if-len.true ∙ c.len-3.ensures.value)
 
-pub returns-else-len : goal.returns-else-len
-returns-else-len c =
+pub returns-else-len-clause-before : goal.returns-else-len-clause-before
+returns-else-len-clause-before c =
     side_before c.args.at.now c.args.key.now _ c.requires
-    (λ same. grind (arith, nat_tests, c.if-len.false, c.len.ensures.value ∙ ap length c.common-common.ensures ∙ same ∙ sym c.len-2.ensures.value))
+    (λ same. grind (arith, nat_tests, c.if-len.false, c.len-2.ensures.value ∙ ap length c.common-common.ensures ∙ same ∙ sym c.len-3.ensures.value))
     (ap (λ z. begins (z ++ c.side.result ∷ []) c.args.at.now) (sym c.common-common.ensures) ∙ c.side.ensures)
