@@ -6,7 +6,7 @@ use Rattle.mailbox.specs.declared.key.Key.{Key}
 use Rattle.centre_core.specs.declared.command.Body.{Body}
 use Rattle.centre_core.specs.declared.command.Body.TheVariants.{RuleSet, RuleClear, Mm, Sds, GroupSds, Sent, Expire, Delete}
 use Rattle.centre_core.specs.Asked.{Asked}
-use Rattle.centre_core.specs.Ranges.{BodyInRange}
+use Rattle.centre_core.specs.Ranges.{BodyInRange, most_bits}
 use Rattle.identity.specs.Packed.{AreBytes}
 use Rattle.command_bytes.specs.Fields.{◌>>=◌, big, number_at}
 use Rattle.command_bytes.specs.Text.{prefix_text, rule_text, bits_text, tag_of, body_text, command_text, IsCommand}
@@ -62,7 +62,7 @@ module _ {A : Type 0} where
   -- two identities and a PDU
   three_takes : (make : ℕ → ℕ → List Bool → Body A) (tag : ℕ) (bytes : List ℕ) (x : Body A × List ℕ)
       → ((source other : ℕ) (pdu : List Bool) → (tag_of (make source other pdu) ≡ tag) × (body_text (make source other pdu) ≡ big 6 source ++ (big 6 other ++ bits_text pdu)))
-      → ((source other : ℕ) (pdu : List Bool) → source < 2 ^ 48 → other < 2 ^ 48 → length pdu ≤ 2048 → BodyInRange (make source other pdu))
+      → ((source other : ℕ) (pdu : List Bool) → source < 2 ^ 48 → other < 2 ^ 48 → length pdu ≤ most_bits → BodyInRange (make source other pdu))
       → AreBytes bytes → (number_at 6 bytes >>= λ source. number_at 6 source.1 >>= λ other. bits_at other.1 >>= λ pdu. Some (make source.0 other.0 pdu.0, pdu.1)) ≡ Some x → Reads tag bytes x
   three_takes make tag bytes x is fits are e =
       let a = bind_some (number_at 6 bytes) (λ source. number_at 6 source.1 >>= λ other. bits_at other.1 >>= λ pdu. Some (make source.0 other.0 pdu.0, pdu.1)) x e in
@@ -140,7 +140,7 @@ module _ {A : Type 0} where
   abbrev source_step : (ℕ → ℕ → List Bool → Body A) → ℕ × List ℕ → Read (Body A)
   source_step make source = number_at 6 source.1 >>= other_step make source.0
 
-  three_again : (make : ℕ → ℕ → List Bool → Body A) (source other : ℕ) (pdu : List Bool) (rest : List ℕ) → source < 2 ^ 48 → other < 2 ^ 48 → length pdu ≤ 2048
+  three_again : (make : ℕ → ℕ → List Bool → Body A) (source other : ℕ) (pdu : List Bool) (rest : List ℕ) → source < 2 ^ 48 → other < 2 ^ 48 → length pdu ≤ most_bits
       → (number_at 6 ((big 6 source ++ (big 6 other ++ bits_text pdu)) ++ rest) >>= source_step make) ≡ Some (make source other pdu, rest)
   three_again make source other pdu rest low high few =
       then_again (big 6 source) (big 6 other ++ bits_text pdu) rest (number_at 6) (source_step make) source (make source other pdu, rest)

@@ -9,7 +9,7 @@ use Rattle.mailbox.specs.declared.key.Key.{Key}
 use Rattle.mailbox.specs.declared.key.Kind.{Kind}
 use Rattle.mailbox.specs.declared.key.Kind.TheVariants.{Message, Report}
 use Rattle.mailbox.specs.Values.{KeyInRange}
-use Rattle.centre_core.specs.Ranges.{RuleInRange}
+use Rattle.centre_core.specs.Ranges.{RuleInRange, most_bits}
 use Rattle.identity.specs.Packed.{AreBytes}
 use Rattle.command_bytes.specs.Fields.{◌>>=◌, big, left, bytes_for, number_at, left_at}
 use Rattle.command_bytes.specs.Text.{prefix_text, rule_text, bits_text, kind_number, key_text}
@@ -46,23 +46,23 @@ prefix_again prefix rest few =
 
 -- ---- a string of bits
 
-pub bits_takes : (bytes : List ℕ) (x : List Bool × List ℕ) → AreBytes bytes → bits_at bytes ≡ Some x → Takes bytes (bits_text x.0) x.1 × (length x.0 ≤ 2048)
+pub bits_takes : (bytes : List ℕ) (x : List Bool × List ℕ) → AreBytes bytes → bits_at bytes ≡ Some x → Takes bytes (bits_text x.0) x.1 × (length x.0 ≤ most_bits)
 unfolding bits_at
 bits_takes bytes x are e =
-    let a = bind_some (number_at 2 bytes) (λ len. cond (leb len.0 2048) (left_at (bytes_for len.0) len.0 len.1) None) x e in
+    let a = bind_some (number_at 2 bytes) (λ len. cond (leb len.0 most_bits) (left_at (bytes_for len.0) len.0 len.1) None) x e in
     let len : ℕ × List ℕ = a.0 in
-    let b = some_where (leb len.0 2048) (left_at (bytes_for len.0) len.0 len.1) x a.2 in
-    let few : len.0 ≤ 2048 = leb-true _ _ b.0 in
+    let b = some_where (leb len.0 most_bits) (left_at (bytes_for len.0) len.0 len.1) x a.2 in
+    let few : len.0 ≤ most_bits = leb-true _ _ b.0 in
     let first = number_read 2 bytes len are a.1 in
     let bits = left_takes (bytes_for len.0) len.0 len.1 x first.are (omega arith) b.1 in
     let counted : Takes bytes (big 2 (length x.0)) len.1 = subst (λ (n : ℕ). Takes bytes (big 2 n) len.1) (sym bits.1) first in
     let packed : Takes len.1 (left (bytes_for (length x.0)) x.0) x.1 = subst (λ (n : ℕ). Takes len.1 (left (bytes_for n) x.0) x.1) (sym bits.1) bits.0 in
     (behind (big 2 (length x.0)) (left (bytes_for (length x.0)) x.0) counted packed, omega (arith, bits.1, few))
 
-pub bits_again : (bits : List Bool) (rest : List ℕ) → length bits ≤ 2048 → bits_at (bits_text bits ++ rest) ≡ Some (bits, rest)
+pub bits_again : (bits : List Bool) (rest : List ℕ) → length bits ≤ most_bits → bits_at (bits_text bits ++ rest) ≡ Some (bits, rest)
 unfolding bits_at
 bits_again bits rest few =
-    then_again (big 2 (length bits)) (left (bytes_for (length bits)) bits) rest (number_at 2) (λ len. cond (leb len.0 2048) (left_at (bytes_for len.0) len.0 len.1) None) (length bits) (bits, rest)
+    then_again (big 2 (length bits)) (left (bytes_for (length bits)) bits) rest (number_at 2) (λ len. cond (leb len.0 most_bits) (left_at (bytes_for len.0) len.0 len.1) None) (length bits) (bits, rest)
     (number_again 2 (length bits) (left (bytes_for (length bits)) bits ++ rest) (omega (arith, few)))
     (ap (λ (b : Bool). cond b (left_at (bytes_for (length bits)) (length bits) (left (bytes_for (length bits)) bits ++ rest)) None) (le-leb _ _ few) ∙ left_again (bytes_for (length bits)) bits rest (omega arith))
 

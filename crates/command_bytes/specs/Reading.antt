@@ -9,7 +9,7 @@ use Rattle.mailbox.specs.declared.key.Kind.TheVariants.{Message, Report}
 use Rattle.centre_core.specs.declared.command.Body.{Body}
 use Rattle.centre_core.specs.declared.command.Body.TheVariants.{RuleSet, RuleClear, Mm, Sds, GroupSds, Sent, Expire, Delete}
 use Rattle.centre_core.specs.Asked.{Asked}
-use Rattle.centre_core.specs.Ranges.{pdu_of}
+use Rattle.centre_core.specs.Ranges.{most_bits, pdu_of}
 use Rattle.command_bytes.specs.Fields.{◌>>=◌, number_at, left_at, bytes_for}
 
 -- what was read of the first bytes, and the bytes after it
@@ -24,11 +24,11 @@ prefix_at bytes = do
   len ← number_at 1 bytes
   if nat_le len.0 48 then left_at 6 len.0 len.1 else None
 
--- a string of at most 2,048 bits
+-- a string of bits, as long as a PDU may be
 unfoldable pub bits_at : List ℕ → Read (List Bool)
 bits_at bytes = do
   len ← number_at 2 bytes
-  if nat_le len.0 2048 then left_at (bytes_for len.0) len.0 len.1 else None
+  if nat_le len.0 most_bits then left_at (bytes_for len.0) len.0 len.1 else None
 
 -- a location area, below 2^14
 unfoldable pub area_at : List ℕ → Read ℕ

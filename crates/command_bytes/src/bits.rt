@@ -3,6 +3,7 @@ ghost use Rattle.std.specs.Prelude.{◌≡◌, ◌≤◌, ◌<◌, ◌+◌, ◌-
 ghost use Rattle.std.specs.List.{list_all};
 ghost use Rattle.identity.specs.Number.{num};
 ghost use Rattle.identity.specs.Packed.{bits_of};
+ghost use Rattle.centre_core.specs.Ranges.{most_bits};
 ghost use Rattle.command_bytes.specs.Fields.{bytes_for, left_at};
 ghost use Rattle.command_bytes.specs.Reading.{bits_at};
 
@@ -29,7 +30,7 @@ impl<'a> Model for PackedBits<'a> {
 
     ghost view = { λ p. take p.len (bits_of p.bytes.now) };
 
-    ghost invariant = { λ p. (p.len ≤ 2048) × (p.len ≤ 8 * length p.bytes.now) };
+    ghost invariant = { λ p. (p.len ≤ most_bits) × (p.len ≤ 8 * length p.bytes.now) };
 }
 
 // Puts bits of a number at the end.
@@ -73,7 +74,7 @@ impl<'a> PackedBits<'a> {
     /// The bits with memory of their own.
     pub fn copy<A: Allocator>(&self, alloc: A) -> Result<Bits<A>, AllocError>
         ensures bits { IfOk result (λ bits. bits ≡ self.now) }
-        ensures short { length self.now ≤ 2048 }
+        ensures short { length self.now ≤ most_bits }
     {
         let mut writer = BitWriter::new(alloc);
         put_bits(&mut writer, self.bytes, self.len)?;
@@ -85,7 +86,7 @@ impl<'a> PackedBits<'a> {
 fn ends_in_zeros(bytes: &[u8], len: usize) -> bool
     requires room { len ≤ 8 * length bytes.now }
     requires tight { 8 * length bytes.now < len + 8 }
-    requires few { len ≤ 2048 }
+    requires few { len ≤ most_bits }
     ensures { result ≡ list_all not (drop len (bits_of bytes.now)) }
 {
     match bytes.last() {
@@ -96,7 +97,7 @@ fn ends_in_zeros(bytes: &[u8], len: usize) -> bool
 
 // The first `len` bits, where what fills the last byte is 0.
 fn left(bytes: &[u8], len: usize) -> Option<(PackedBits<'_>, &[u8])>
-    requires { len ≤ 2048 }
+    requires { len ≤ most_bits }
     ensures { option_map (λ x. (x.0, x.1.now)) result ≡ left_at (bytes_for len) len bytes.now }
 {
     let width = (len + 7) / 8;

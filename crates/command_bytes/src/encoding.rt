@@ -1,6 +1,6 @@
 // Commands as they are written.
 ghost use Rattle.std.specs.Prelude.{◌≡◌, ◌≤◌, ◌+◌, ◌++◌, IfOk, length, vec_capacity, vec_len};
-ghost use Rattle.centre_core.specs.Ranges.{BodyInRange};
+ghost use Rattle.centre_core.specs.Ranges.{BodyInRange, most_bits};
 ghost use Rattle.command_bytes.specs.Fields.{bytes_for};
 ghost use Rattle.command_bytes.specs.Sizes.{body_size};
 ghost use Rattle.command_bytes.specs.Text.{IsCommand, Spells, body_text, command_text, longest, tag_of};
@@ -26,7 +26,7 @@ fn tag<A: Allocator>(body: &Body<A>) -> u64
 
 // How many bytes a string of so many bits has.
 fn bits_len(bits: usize) -> usize
-    requires { bits ≤ 2048 }
+    requires { bits ≤ most_bits }
     ensures { result ≡ 2 + bytes_for bits }
 {
     2 + (bits + 7) / 8

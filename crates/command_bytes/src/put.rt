@@ -1,6 +1,7 @@
 // The fields of the table, as they are written at the end of bytes that have room for them.
 ghost use Rattle.std.specs.Prelude.{◌≡◌, ◌≤◌, ◌<◌, ◌+◌, ◌^◌, ◌++◌, length, vec_capacity, vec_len};
 ghost use Rattle.identity.specs.Packed.{AreBytes};
+ghost use Rattle.centre_core.specs.Ranges.{most_bits};
 ghost use Rattle.command_bytes.specs.Fields.{big, bytes_for};
 ghost use Rattle.command_bytes.specs.Text.{bits_text, key_text, kind_number, prefix_text, rule_text};
 
@@ -83,7 +84,7 @@ pub fn put_key<A: Allocator>(out: &mut Vec<u8, A>, key: &Key)
 /// A string of bits.
 #[tactic(auto, using(std::proofs::Common::append_assoc))]
 pub fn put_bits<A: Allocator, B: Allocator>(out: &mut Vec<u8, A>, bits: &Bits<B>)
-    requires few { length bits.now ≤ 2048 }
+    requires few { length bits.now ≤ most_bits }
     requires room { vec_len out.old + 2 + bytes_for (length bits.now) ≤ vec_capacity out.old }
     ensures items { out.new.items ≡ out.old.items ++ bits_text bits.now }
     ensures len { vec_len out.new ≡ vec_len out.old + 2 + bytes_for (length bits.now) }
