@@ -156,19 +156,25 @@ fn a_writer_fails(rt: HostRuntime) -> Result<(), Fail> {
     Ok(())
 }
 
-/// Gives a line a call, once the one before it is answered.
+/// Gives a line a call, once the one before it is answered, and then the end; it tells whether it was asked after that.
 #[derive(Drop)]
 struct Asking<'a> {
     calls: usize,
+    ended: bool,
     answered: &'a Cell<usize>,
+    asked_late: &'a Cell<bool>,
 }
 
 impl<'a> Read for Asking<'a> {
     fn read(&mut self, buf: &mut [u8]) -> io::Result<usize> {
+        if self.ended {
+            self.asked_late.set(true);
+        }
         if self.answered.get() < self.calls {
             return Err(io::Error::from(ErrorKind::TimedOut));
         }
         if self.calls == 5 || buf.len() < 6 {
+            self.ended = true;
             return Ok(0);
         }
         self.calls = self.calls.saturating_add(1);
@@ -200,18 +206,22 @@ impl<'a> Write for Counting<'a> {
     }
 }
 
-fn over_five_lines(alloc: Global) -> Result<Result<Ran, RunFault>, Fail> {
+/// How a run over five lines ends, and whether its reader was asked after its end.
+fn over_five_lines(alloc: Global) -> Result<(Result<Ran, RunFault>, bool), Fail> {
     let answered = Cell::new(0);
+    let asked_late = Cell::new(false);
     let mut reader = Asking {
         calls: 0,
+        ended: false,
         answered: &answered,
+        asked_late: &asked_late,
     };
     let mut writer = Counting {
         lines: 0,
         answered: &answered,
     };
     let (ran, _) = over(alloc, 99, &mut reader, &mut writer)?;
-    Ok(ran)
+    Ok((ran, asked_late.get()))
 }
 
 #[test]
@@ -220,7 +230,8 @@ fn a_line_is_answered_before_the_next(rt: HostRuntime) -> Result<(), Fail> {
         lines: 5,
         troubled: false,
     };
-    assert!(rt; over_five_lines(rt.alloc())? == Ok(five));
+    let (ran, asked_late) = over_five_lines(rt.alloc())?;
+    assert!(rt; ran == Ok(five) && !asked_late);
     Ok(())
 }
 
