@@ -122,7 +122,7 @@ impl<A: Allocator + Clone> Registry<A> {
         ensures { result ≡ next_entry self.now.rules after }
     {
         match self.rules.next(after) {
-            Some((prefix, next)) => Some((prefix, *next)),
+            Some((next, rule)) => Some((next, *rule)),
             None => None,
         }
     }
