@@ -25,6 +25,7 @@ pub struct PackedBits<'a> {
 impl<'a> Model for PackedBits<'a> {
     ghost use Rattle.std.specs.Prelude.{List, Bool, length, take, ◌≤◌, ◌*◌};
     ghost use Rattle.identity.specs.Packed.{bits_of};
+    ghost use Rattle.centre_core.specs.Ranges.{most_bits};
 
     ghost Value = { List Bool };
 
