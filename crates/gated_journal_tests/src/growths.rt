@@ -1,4 +1,5 @@
-//! Heaps of rising size: each growth of a replay is refused in turn, and then another replay gives all.
+//! Heaps of rising size: each growth of a replay is refused in turn, all memory comes back, and then another replay gives
+//! all.
 ghost use Rattle.std.specs.Prelude.{◌≡◌};
 
 use crate::made;
@@ -37,14 +38,16 @@ fn are_read<'a, D: Disk>(heap: &'a LocalHeap, disk: &mut D) -> Option<bool> {
     }
 }
 
-/// How many heaps were too small before three records were read.
+/// How many heaps were too small before three records were read; nothing where one didn't get all of its memory back.
 fn refused<D: Disk>(alloc: Global, disk: &mut D) -> Result<Option<usize>, Fail> {
     for k in 0..200 {
         let heap = LocalHeap::new(alloc, 18_000 + 16 * k)?;
-        match are_read(&heap, disk) {
-            None => {}
-            Some(true) => return Ok(Some(k)),
-            Some(false) => return Ok(None),
+        let read = are_read(&heap, disk);
+        if heap.used() > 0 || read == Some(false) {
+            return Ok(None);
+        }
+        if read == Some(true) {
+            return Ok(Some(k));
         }
     }
     Ok(None)
