@@ -1,0 +1,3 @@
+mod Blank
+mod Parts
+mod Walks

@@ -1,0 +1,257 @@
+-- A sector that is moved part by part.
+use Rattle.std.proofs.Common.{◌≡◌, ◌⊎◌, inl, inr, ⊎_elim, ℕ, ◌+◌, ◌-◌, ◌^◌, ◌<◌, ◌≤◌, ◌==◌, Bool, true, false, List, ◌++◌, length, take, drop, if◌then◌else◌, Result, Ok, Err, refl, sym, ap, ◌∙◌, arith}
+use Rattle.std.specs.Result.{IfOk, IsErr}
+use Rattle.std.specs.Io.{ReadsAtMost}
+use Rattle.std.specs.IoError.{error_kind}
+use Rattle.std.specs.declared.io.Error.{Error}
+use Rattle.std.proofs.Math.Seq.{take-add, drop-append_seam}
+use Rattle.std.proofs.lemmas.List.{length-take-le, take-append-le, take_all}
+use Rattle.std.proofs.lemmas.Bool.{cases_eq, cases_lt, true≢false}
+use Rattle.std.proofs.lemmas.Result.{IfOk-from_err}
+use Rattle.sector_disk.specs.Disk.{View, HasCause, HasFailed, HasRead, HasWritten, IsImageOf, IsSound, sector}
+use Rattle.sector_disk.specs.Run.{HasLooked}
+use Rattle.sector_disk.specs.declared.disk.DiskError.{DiskError}
+use Rattle.sector_disk.specs.declared.disk.DiskError.TheVariants.{DiskFault}
+use Rattle.sector_disk.proofs.Looked.{looked_on}
+use Rattle.file_disk.specs.File.{HasGivenUp, HasReadPart, HasWrittenPart, HaveTurned, is_interrupted, moved, one_more}
+
+-- ---- how much a call moves
+
+none_or : (b : Bool) (n k : ℕ) → k ≤ n → IfOk (if b then Err DiskFault else Ok k) (λ k. k ≤ n)
+none_or true n k le = tt
+none_or false n k le = le
+
+or_none : (b : Bool) (n : ℕ) → IfOk (if b then Ok 0 else Err DiskFault) (λ k. k ≤ n)
+or_none true n = omega arith
+or_none false n = tt
+
+pub read_at_most : (bytes : List ℕ) (r : Result ℕ Error) → ReadsAtMost r bytes → IfOk (moved r) (λ k. k ≤ length bytes)
+read_at_most bytes (Ok k) bound = none_or (k == 0) (length bytes) k bound.0
+read_at_most bytes (Err e) bound = or_none (is_interrupted (error_kind e)) (length bytes)
+
+-- ---- calls of which none has failed
+
+pub record HasGoneOn (old now : View) (before turns calls : ℕ) : Type 0 where
+  pub sectors : now.sectors ≡ old.sectors
+  pub failures : old.failures ≤ now.failures
+  pub most : turns ≤ before + calls
+  pub least : HaveTurned calls before turns
+
+pub none_yet : (file : View) (turns : ℕ) → HasGoneOn file file turns turns 0
+none_yet file turns = record { sectors = refl; failures = omega arith; most = omega arith; least = inl (omega arith) }
+
+pub one_call : (old mid new : View) (before turns after calls : ℕ) (r : Result ℕ DiskError) → HasGoneOn old mid before turns calls → HasCause mid new r → after ≡ one_more turns
+    → HasGoneOn old new before after (calls + 1)
+one_call old mid new before turns after calls r gone cause is = record {
+  sectors = cause.sectors ∙ gone.sectors;
+  failures = omega (arith, cause.later, gone.failures);
+  most = omega (arith, gone.most, is);
+  least = elim gone.least [
+    | inl some ↦ elim (cases_lt turns (2 ^ 64 - 1)) [ inl less ↦ inl (omega (arith, some, less, is)) | inr full ↦ inr (omega (arith, full, is)) ]
+    | inr full ↦ inr (omega (arith, full, is))
+  ];
+}
+
+pub failed_at_last : (old mid new : View) (before turns calls after : ℕ) → HasGoneOn old mid before turns calls → HasFailed mid new → HasGivenUp old new before after
+failed_at_last old mid new before turns calls after gone (inl more) = inl (inl (omega (arith, more, gone.failures)))
+failed_at_last old mid new before turns calls after gone (inr full) = inl (inr full)
+
+-- ---- reading
+
+pub read_behind : (old new : View) (at done : ℕ) (b x y : List ℕ) (r : Result ℕ Error) → done ≤ length b → ReadsAtMost r x → HasReadPart old new at done x (moved r)
+    → HasReadPart old new at done (drop done (take done b ++ (x ++ y))) (moved r)
+read_behind old new at done b x y r le bound read =
+    let seam : drop done (take done b ++ (x ++ y)) ≡ x ++ y =
+    ap (λ n. drop n (take done b ++ (x ++ y))) (sym (length-take-le done b le)) ∙ drop-append_seam (take done b) (x ++ y) in
+    rw seam (record { looked = read.looked; given = given (moved r) (read_at_most x r bound) read.given })
+  where
+    given : (m : Result ℕ DiskError) → IfOk m (λ n. n ≤ length x) → IfOk m (λ n. take n x ≡ take n (drop done (sector old.reads at))) → IfOk m (λ n. take n (x ++ y) ≡ take n (drop done (sector old.reads at)))
+    given (Ok n) small is = take-append-le n x y small ∙ is
+    given (Err e) small is = tt
+
+-- the front of the sector has been read
+abbrev pub IsFront : List ℕ → List ℕ → ℕ → Type 0
+IsFront bytes whole done = take done bytes ≡ take done whole
+
+pub front_on : (bytes was whole : List ℕ) (done n : ℕ) → IsFront was whole done → take done bytes ≡ take done was → take n (drop done bytes) ≡ take n (drop done whole) → IsFront bytes whole (done + n)
+front_on bytes was whole done n front kept more =
+    take-add done n bytes ∙ ap (λ (l : List ℕ). l ++ take n (drop done bytes)) (kept ∙ front) ∙ ap (λ (l : List ℕ). take done whole ++ l) more ∙ sym (take-add done n whole)
+
+pub whole_front : (bytes whole : List ℕ) (done : ℕ) → IsFront bytes whole done → done ≡ 512 → length bytes ≡ 512 → length whole ≡ 512 → bytes ≡ whole
+whole_front bytes whole done front all size_bytes size_whole =
+    sym (take_all done bytes (omega (arith, all, size_bytes))) ∙ front ∙ take_all done whole (omega (arith, all, size_whole))
+
+-- one call more
+pub read_on : (old mid new : View) (at done n : ℕ) (was bytes : List ℕ) → HasLooked old mid → IsFront was (sector old.reads at) done → take done bytes ≡ take done was → HasReadPart mid new at done (drop done bytes) (Ok n)
+    → HasLooked old new × IsFront bytes (sector old.reads at) (done + n)
+read_on old mid new at done n was bytes looked front kept read =
+    let given : take n (drop done bytes) ≡ take n (drop done (sector old.reads at)) = rw (← looked.reads) read.given in
+    (looked_on old mid new looked read.looked, front_on bytes was (sector old.reads at) done n front kept given)
+
+-- the last one failed
+pub read_failed : (old mid new : View) (at done : ℕ) (some bytes : List ℕ) (r : Result ℕ DiskError) (result : Result Unit DiskError) → HasLooked old mid → HasReadPart mid new at done some r → IsErr result → HasRead old new at bytes result
+read_failed old mid new at done some bytes r result looked read err =
+    let all : HasLooked old new = looked_on old mid new looked read.looked in
+    record { honest = all.honest; time = all.time; reads = all.reads; pending = all.pending; given = IfOk-from_err result (λ u. bytes ≡ sector old.reads at) err }
+
+-- the sector has been read whole
+pub read_whole : (old new : View) (at done : ℕ) (bytes : List ℕ) → HasLooked old new × IsFront bytes (sector old.reads at) done → done ≡ 512 → length bytes ≡ 512 → IsSound old → at < old.sectors → HasRead old new at bytes (Ok tt)
+read_whole old new at done bytes (looked, front) all size sound within = record {
+  honest = looked.honest;
+  time = looked.time;
+  reads = looked.reads;
+  pending = looked.pending;
+  given = whole_front bytes (sector old.reads at) done front all size (sound.reads_left.whole at (omega (arith, within, sound.count))).size;
+}
+
+-- ---- writing
+
+module _ (at : ℕ) (bytes : List ℕ) where
+  -- the front of the sector has been written, and what has been changed is pending
+  pub record HasPut (old now : View) (done : ℕ) : Type 0 where
+    pub rest : HasWritten old now at bytes (Err DiskFault)
+    pub front : IsFront (sector now.reads at) bytes done
+    pub marked : (now.pending at ≡ true) ⊎ ((done ≡ 0) × (sector now.reads at ≡ sector old.reads at))
+
+  pub nothing_put : (file : View) → file.honest → HasPut file file 0
+  nothing_put file honest = record {
+    rest = record {
+      honest = honest;
+      time = record { later = omega arith; keeps = λ t image le was. was; nothing_else = λ t image le was. inl was };
+      count = refl;
+      others = λ k other. refl;
+      others_pending = λ k other. refl;
+      still_pending = λ is. is;
+      written = tt;
+    };
+    front = refl;
+    marked = inr (refl, refl);
+  }
+
+  not_both : {b : Bool} → b ≡ true → b ≡ false → ⊥
+  not_both on off = true≢false (sym on ∙ off)
+
+  -- an image from before a write is one after it, where the sector was pending, or is unchanged
+  image_on : (mid new : View) → HasWritten mid new at bytes (Err DiskFault) → (mid.pending at ≡ true) ⊎ ((new.pending at ≡ true) ⊎ (sector new.reads at ≡ sector mid.reads at))
+      → (image : List (List ℕ)) → IsImageOf mid image → IsImageOf new image
+  image_on mid new wrote marked image is = record {
+    count = is.count ∙ sym wrote.count;
+    whole = is.whole;
+    kept = λ k clear. elim (cases_eq k at) [ inl same ↦ here k same clear | inr other ↦ is.kept k (sym (wrote.others_pending k other) ∙ clear) ∙ sym (wrote.others k other) ];
+  }
+    where
+      was_clear : (b : Bool) → (b ≡ true → new.pending at ≡ true) → new.pending at ≡ false → b ≡ false
+      was_clear true stays clear = absurd (not_both (stays refl) clear)
+      was_clear false stays clear = refl
+
+      here : (k : ℕ) → k ≡ at → new.pending k ≡ false → sector image k ≡ sector new.reads k
+      here k same clear =
+          let off : new.pending at ≡ false = rw (← same) clear in
+          rw same (elim marked [
+            | inl was ↦ absurd (not_both (wrote.still_pending was) off)
+            | inr (inl on) ↦ absurd (not_both on off)
+            | inr (inr equal) ↦ is.kept at (was_clear (mid.pending at) wrote.still_pending off) ∙ sym equal
+          ])
+
+  -- one write after another, where each image between them is one of before or one of after
+  both : (old mid new : View) → HasWritten old mid at bytes (Err DiskFault) → HasWritten mid new at bytes (Err DiskFault)
+      → ((t : ℕ) (image : List (List ℕ)) → t ≤ old.moment → IsImageOf mid image → old.since t image ⊎ IsImageOf new image) → HasWritten old new at bytes (Err DiskFault)
+  both old mid new was wrote between = record {
+    honest = wrote.honest;
+    time = record {
+      later = omega (arith, was.time.later, wrote.time.later);
+      keeps = λ t image le left. wrote.time.keeps t image (omega (arith, le, was.time.later)) (was.time.keeps t image le left);
+      nothing_else = λ t image le left. ⊎_elim (λ earlier. ⊎_elim inl (between t image le) (was.time.nothing_else t image le earlier)) inr
+          (wrote.time.nothing_else t image (omega (arith, le, was.time.later)) left);
+    };
+    count = wrote.count ∙ was.count;
+    others = λ k other. wrote.others k other ∙ was.others k other;
+    others_pending = λ k other. wrote.others_pending k other ∙ was.others_pending k other;
+    still_pending = λ is. wrote.still_pending (was.still_pending is);
+    written = tt;
+  }
+
+  -- one call more
+  pub put_on : (old mid new : View) (done n : ℕ) → HasPut old mid done → HasWrittenPart mid new at done (drop done bytes) (Ok n) → HasPut old new (done + n)
+  put_on old mid new done n put wrote =
+      let rest : HasWritten mid new at bytes (Err DiskFault) = record {
+        honest = wrote.rest.honest;
+        time = wrote.rest.time;
+        count = wrote.rest.count;
+        others = wrote.rest.others;
+        others_pending = wrote.rest.others_pending;
+        still_pending = wrote.rest.still_pending;
+        written = tt;
+      } in
+      record {
+        rest = both old mid new put.rest rest (λ t image le is. inr (image_on mid new rest (inr (goes_on wrote.marked)) image is));
+        front = front_on (sector new.reads at) (sector mid.reads at) bytes done n put.front wrote.before wrote.written;
+        marked = elim wrote.marked [
+          | inl on ↦ inl on
+          | inr (none, same) ↦ elim put.marked [ inl on ↦ inl (wrote.rest.still_pending on) | inr (nothing, equal) ↦ inr (omega (arith, none, nothing), same ∙ equal) ]
+        ];
+      }
+    where
+      goes_on : (new.pending at ≡ true) ⊎ ((n ≡ 0) × (sector new.reads at ≡ sector mid.reads at)) → (new.pending at ≡ true) ⊎ (sector new.reads at ≡ sector mid.reads at)
+      goes_on (inl on) = inl on
+      goes_on (inr (none, same)) = inr same
+
+  pub put_in_part : (old new : View) (result : Result Unit DiskError) → HasWritten old new at bytes (Err DiskFault) → IsErr result → HasWritten old new at bytes result
+  put_in_part old new result has err = record {
+    honest = has.honest;
+    time = has.time;
+    count = has.count;
+    others = has.others;
+    others_pending = has.others_pending;
+    still_pending = has.still_pending;
+    written = IfOk-from_err result (λ u. (sector new.reads at ≡ bytes) × (new.pending at ≡ true)) err;
+  }
+
+  -- the last one failed
+  pub put_failed : (old mid new : View) (done : ℕ) (r : Result ℕ DiskError) (result : Result Unit DiskError) → IsSound old → HasPut old mid done → HasWrittenPart mid new at done (drop done bytes) r → IsErr result → HasWritten old new at bytes result
+  put_failed old mid new done r result sound put wrote err =
+      let rest : HasWritten mid new at bytes (Err DiskFault) = record {
+        honest = wrote.rest.honest;
+        time = wrote.rest.time;
+        count = wrote.rest.count;
+        others = wrote.rest.others;
+        others_pending = wrote.rest.others_pending;
+        still_pending = wrote.rest.still_pending;
+        written = tt;
+      } in
+      put_in_part old new result (both old mid new put.rest rest (λ t image le is. elim put.marked [
+        | inl on ↦ inr (image_on mid new rest (inl on) image is)
+        | inr (nothing, same) ↦ elim (mid.pending at) as (λ b. mid.pending at ≡ b → old.since t image ⊎ IsImageOf new image) [
+          | true ↦ λ on. inr (image_on mid new rest (inl on) image is)
+          | false ↦ λ off. inl (sound.counts_now t image le (unmoved off same image is))
+        ] refl
+      ])) err
+    where
+      -- nothing had been changed yet
+      unmoved : mid.pending at ≡ false → sector mid.reads at ≡ sector old.reads at → (image : List (List ℕ)) → IsImageOf mid image → IsImageOf old image
+      unmoved off same image is = record {
+        count = is.count ∙ put.rest.count;
+        whole = is.whole;
+        kept = λ k clear. elim (cases_eq k at) [
+          | inl here ↦ rw here (is.kept at off ∙ same)
+          | inr other ↦ is.kept k (put.rest.others_pending k other ∙ clear) ∙ put.rest.others k other
+        ];
+      }
+
+  -- the sector has been written whole
+  pub put_whole : (old new : View) (done : ℕ) → HasPut old new done → done ≡ 512 → length bytes ≡ 512 → IsSound new → at < length new.reads → HasWritten old new at bytes (Ok tt)
+  put_whole old new done put all size sound within =
+      let has = put.rest in
+      record {
+        honest = has.honest;
+        time = has.time;
+        count = has.count;
+        others = has.others;
+        others_pending = has.others_pending;
+        still_pending = has.still_pending;
+        written = (whole_front (sector new.reads at) bytes done put.front all (sound.reads_left.whole at within).size size, pending put.marked);
+      }
+    where
+      pending : (new.pending at ≡ true) ⊎ ((done ≡ 0) × (sector new.reads at ≡ sector old.reads at)) → new.pending at ≡ true
+      pending (inl on) = on
+      pending (inr (nothing, same)) = absurd (omega (arith, nothing, all))

@@ -1,0 +1,49 @@
+-- What a file is that a disk stands on: its whole sectors are seen as those of a disk, and each call moves some bytes of one sector.
+use Rattle.std.specs.Prelude.{◌≡◌, ◌⊎◌, ℕ, ◌+◌, ◌-◌, ◌^◌, ◌≤◌, ◌==◌, min, Bool, true, false, List, take, drop, if◌then◌else◌, Result, Ok, Err, IfOk}
+use Rattle.std.specs.IoError.{error_kind}
+use Rattle.std.specs.declared.io.Error.{Error}
+use Rattle.std.specs.declared.io.ErrorKind.{ErrorKind}
+use Rattle.std.specs.declared.io.ErrorKind.TheVariants.{Interrupted}
+use Rattle.sector_disk.specs.Disk.{View, HasFailed, HasWritten, sector}
+use Rattle.sector_disk.specs.Run.{HasLooked}
+use Rattle.sector_disk.specs.declared.disk.DiskError.{DiskError}
+use Rattle.sector_disk.specs.declared.disk.DiskError.TheVariants.{DiskFault}
+
+abbrev pub is_interrupted : ErrorKind → Bool
+is_interrupted Interrupted = true
+is_interrupted _ = false
+
+-- how many bytes a call has moved: none where it was interrupted; any other error, and no byte at all, is a fault
+abbrev pub moved : Result ℕ Error → Result ℕ DiskError
+moved (Ok n) = if n == 0 then Err DiskFault else Ok n
+moved (Err e) = if is_interrupted (error_kind e) then Ok 0 else Err DiskFault
+
+-- any error is a fault
+abbrev pub ended : Result Unit Error → Result Unit DiskError
+ended (Ok u) = Ok u
+ended (Err e) = Err DiskFault
+
+-- the calls counted, after one more
+abbrev pub one_more : ℕ → ℕ
+one_more turns = min (turns + 1) (2 ^ 64 - 1)
+
+-- so many calls were made in between, or as many as can be counted
+abbrev pub HaveTurned : ℕ → ℕ → ℕ → Type 0
+HaveTurned n old new = (old + n ≤ new) ⊎ (new ≡ 2 ^ 64 - 1)
+
+-- a call of the file has failed, or so many were not enough
+abbrev pub HasGivenUp : View → View → ℕ → ℕ → Type 0
+HasGivenUp old new turns_before turns_after = HasFailed old new ⊎ HaveTurned 1024 turns_before turns_after
+
+-- A read gives bytes of the sector from one of its bytes on, and changes no image.
+pub record HasReadPart (old new : View) (at from : ℕ) (bytes : List ℕ) (result : Result ℕ DiskError) : Type 0 where
+  pub looked : HasLooked old new
+  pub given : IfOk result (λ n. take n bytes ≡ take n (drop from (sector old.reads at)))
+
+-- A write puts bytes into the sector from one of its bytes on. What stands before these stays. What it has changed is pending, where it has not failed.
+pub record HasWrittenPart (old new : View) (at from : ℕ) (bytes : List ℕ) (result : Result ℕ DiskError) : Type 0 where
+  -- the rest of the file is as after a write of the sector that failed
+  pub rest : HasWritten old new at bytes (Err DiskFault)
+  pub before : IfOk result (λ n. take from (sector new.reads at) ≡ take from (sector old.reads at))
+  pub written : IfOk result (λ n. take n (drop from (sector new.reads at)) ≡ take n bytes)
+  pub marked : IfOk result (λ n. (new.pending at ≡ true) ⊎ ((n ≡ 0) × (sector new.reads at ≡ sector old.reads at)))

@@ -1,0 +1,20 @@
+-- A file of the operating system: nothing is known of it but how often it was called, and how often a call failed.
+use Rattle.std.specs.Prelude.{ℕ, false, []}
+use Rattle.sector_disk.specs.Disk.{View}
+use Rattle.file_disk.specs.declared.host.HostFile.{HostFile}
+
+-- it is never honest
+abbrev pub host_view : HostFile → View
+host_view file = record {
+  sectors = 0;
+  reads = [];
+  pending = λ k. false;
+  moment = 0;
+  since = λ t image. ⊥;
+  calls = [];
+  failures = file.failures;
+  honest = ⊥;
+}
+
+abbrev pub host_turns : HostFile → ℕ
+host_turns file = file.turns

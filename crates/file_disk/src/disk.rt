@@ -1,0 +1,190 @@
+// A disk over a file.
+ghost use Rattle.std.specs.Prelude.{◌≡◌, ◌⊎◌, ◌<◌, ◌≤◌, ◌+◌, ◌-◌, ◌*◌, ◌/◌, ◌^◌, true, false, Err, IfOk, IsErrOf, is_err};
+ghost use Rattle.sector_disk.specs.Disk.{HasCause, HasFailed, IsCalled, HasRead, HasSynced, HasWritten, one_failure_more};
+ghost use Rattle.sector_disk.specs.declared.record.Call.TheVariants.{Read, Sync, Write};
+ghost use Rattle.sector_disk.specs.declared.disk.DiskError.TheVariants.{DiskFault, OutOfRange};
+
+use crate::history::{History, Note};
+use crate::whole::{read_sector, write_sector};
+use crate::zeros::fill_with_zeros;
+use crate::{FileFault, SectorFile};
+use sector_disk::{Disk, DiskError};
+
+/// A disk whose sectors stand in a file, one after another from its beginning.
+///
+/// A sector is read and written whole, in at most 1,024 calls of the file. After a sync that failed every call in range is
+/// a `DiskFault`: an operating system may have dropped what it could not write, and call the next sync good.
+#[derive(Drop)]
+pub struct FileDisk<F> {
+    file: F,
+    sectors: u64,
+    lost: bool,
+    failures: u64,
+    history: History,
+    ghost fits: { 512 * sectors < 2 ^ 64 },
+    ghost counted: { failures < 2 ^ 64 },
+}
+
+impl<F: SectorFile> FileDisk<F> {
+    ghost use Rattle.file_disk.specs.declared.fault.FileFault.TheVariants.{NotOpened};
+    ghost use Rattle.file_disk.specs.Disk.{IsBlank, IsNew, file_of, file_view, is_lost};
+
+    /// The disk of a file as it stands: as many sectors as it has whole ones. A rest of its length is ignored.
+    pub fn over(file: F) -> Result<Self, FileFault>
+        ensures file { IfOk result (λ disk. file_of disk ≡ file) }
+        ensures sectors { (F.view file).honest → IfOk result (λ disk. disk.sectors ≡ (F.view file).sectors) }
+        ensures honest { (F.view file).honest → IfOk result (λ disk. (file_view F.view disk).honest) }
+        ensures refused { IsErrOf result NotOpened → ⊥ }
+        ensures new { IfOk result IsNew }
+    {
+        match file.len() {
+            Ok(bytes) => Ok(FileDisk {
+                file,
+                sectors: bytes / 512,
+                lost: false,
+                failures: 0,
+                history: History::new(),
+            }),
+            Err(error) => Err(FileFault::DiskFault.or_memory(error)),
+        }
+    }
+
+    /// The same, with zeros in each sector, which last.
+    pub fn blank(file: F) -> Result<Self, FileFault>
+        ensures blank { (F.view file).honest → IfOk result (IsBlank F.view (F.view file).sectors) }
+        ensures kept { IfOk result (λ disk. is_lost disk ≡ false) }
+        ensures refused { IsErrOf result NotOpened → ⊥ }
+    {
+        let mut disk = FileDisk::over(file)?;
+        let sectors = disk.sectors;
+        let Ok(()) = fill_with_zeros(&mut disk, 0, sectors) else {
+            return Err(FileFault::DiskFault);
+        };
+        match disk.sync() {
+            Ok(()) => Ok(disk),
+            Err(_) => Err(FileFault::DiskFault),
+        }
+    }
+
+    /// The file, as the calls left it.
+    pub fn into_file(self) -> F
+        ensures { result ≡ file_of self }
+    {
+        let FileDisk {
+            file,
+            sectors: _,
+            lost: _,
+            failures: _,
+            history: _,
+        } = self;
+        file
+    }
+
+    // Counts a failure.
+    fn fail(&mut self) -> DiskError
+        ensures fault { result ≡ DiskFault }
+        ensures counted { self.new.failures ≡ one_failure_more self.old.failures }
+        ensures file { (self.new.file ≡ self.old.file) × (self.new.sectors ≡ self.old.sectors) }
+        ensures kept { (self.new.lost ≡ self.old.lost) × (self.new.history ≡ self.old.history) }
+    {
+        self.failures = self.failures.saturating_add(1);
+        DiskError::DiskFault
+    }
+}
+
+impl<F: SectorFile> Disk for FileDisk<F> {
+    ghost use Rattle.file_disk.specs.Disk.{IsLost, failures_after, file_sound, file_view, is_lost};
+    ghost use Rattle.file_disk.specs.File.{HasGivenUp};
+
+    ghost view = { file_view F.view };
+
+    ghost sound = { λ disk honest. file_sound F.view disk (F.sound disk.file honest.0) honest.1 };
+
+    fn sectors(&self) -> u64 {
+        self.sectors
+    }
+
+    fn read(&mut self, at: u64, bytes: &mut [u8; 512]) -> Result<(), DiskError>
+        ensures effect { at < (file_view F.view self.old).sectors → (file_view F.view self.old).honest
+            → HasRead (file_view F.view self.old) (file_view F.view self.new) at bytes.new result }
+        ensures cause { HasCause (file_view F.view self.old) (file_view F.view self.new) result }
+        ensures called { IsCalled (file_view F.view self.old) (file_view F.view self.new) (Read at) result }
+        ensures out_of_range { (file_view F.view self.old).sectors ≤ at
+            → (result ≡ Err OutOfRange) × (self.new ≡ self.old) }
+        ensures in_range { IsErrOf result OutOfRange → (file_view F.view self.old).sectors ≤ at }
+        ensures counted { self.new.failures ≡ failures_after result self.old.failures }
+        ensures turns { F.turns self.new.file ≤ F.turns self.old.file + 1024 }
+        ensures lost { at < self.old.sectors → is_lost self.old ≡ true → IsLost self.old self.new result }
+        ensures kept { is_lost self.new ≡ is_lost self.old }
+        ensures given_up { IsErrOf result DiskFault → (is_lost self.old ≡ true)
+            ⊎ HasGivenUp (F.view self.old.file) (F.view self.new.file) (F.turns self.old.file) (F.turns self.new.file) }
+    {
+        if at >= self.sectors {
+            return Err(DiskError::OutOfRange);
+        }
+        self.history = self.history.then(&Note::Read(at));
+        if self.lost {
+            return Err(self.fail());
+        }
+        match read_sector(&mut self.file, at, bytes) {
+            Ok(()) => Ok(()),
+            Err(_) => Err(self.fail()),
+        }
+    }
+
+    fn write(&mut self, at: u64, bytes: &[u8; 512]) -> Result<(), DiskError>
+        ensures effect { at < (file_view F.view self.old).sectors → (file_view F.view self.old).honest
+            → HasWritten (file_view F.view self.old) (file_view F.view self.new) at bytes.now result }
+        ensures cause { HasCause (file_view F.view self.old) (file_view F.view self.new) result }
+        ensures called { IsCalled (file_view F.view self.old) (file_view F.view self.new) (Write at bytes.now) result }
+        ensures out_of_range { (file_view F.view self.old).sectors ≤ at
+            → (result ≡ Err OutOfRange) × (self.new ≡ self.old) }
+        ensures in_range { IsErrOf result OutOfRange → (file_view F.view self.old).sectors ≤ at }
+        ensures counted { self.new.failures ≡ failures_after result self.old.failures }
+        ensures turns { F.turns self.new.file ≤ F.turns self.old.file + 1024 }
+        ensures lost { at < self.old.sectors → is_lost self.old ≡ true → IsLost self.old self.new result }
+        ensures kept { is_lost self.new ≡ is_lost self.old }
+        ensures given_up { IsErrOf result DiskFault → (is_lost self.old ≡ true)
+            ⊎ HasGivenUp (F.view self.old.file) (F.view self.new.file) (F.turns self.old.file) (F.turns self.new.file) }
+    {
+        if at >= self.sectors {
+            return Err(DiskError::OutOfRange);
+        }
+        self.history = self.history.then(&Note::Write(at, bytes));
+        if self.lost {
+            return Err(self.fail());
+        }
+        match write_sector(&mut self.file, at, bytes) {
+            Ok(()) => Ok(()),
+            Err(_) => Err(self.fail()),
+        }
+    }
+
+    fn sync(&mut self) -> Result<(), DiskError>
+        ensures effect { (file_view F.view self.old).honest
+            → HasSynced (file_view F.view self.old) (file_view F.view self.new) result }
+        ensures cause { HasCause (file_view F.view self.old) (file_view F.view self.new) result }
+        ensures called { IsCalled (file_view F.view self.old) (file_view F.view self.new) Sync result }
+        ensures in_range { IsErrOf result OutOfRange → ⊥ }
+        ensures counted { self.new.failures ≡ failures_after result self.old.failures }
+        ensures failed { is_lost self.new ≡ is_err result }
+        ensures lost { is_lost self.old ≡ true → IsLost self.old self.new result }
+        ensures given_up { IsErrOf result DiskFault → (is_lost self.old ≡ true) ⊎ HasFailed (F.view self.old.file) (F.view self.new.file) }
+    {
+        self.history = self.history.then(&Note::Sync);
+        if self.lost {
+            return Err(self.fail());
+        }
+        match self.file.sync() {
+            Ok(()) => Ok(()),
+            Err(_) => {
+                self.lost = true;
+                Err(self.fail())
+            }
+        }
+    }
+
+    fn failures(&self) -> u64 {
+        self.failures
+    }
+}

@@ -1,0 +1,81 @@
+// A file of the operating system.
+ghost use Rattle.std.specs.Prelude.{◌≡◌, ◌^◌, ◌<◌};
+
+use crate::SectorFile;
+use crate::file::moved;
+use std::fs::File;
+use std::io;
+use std::os::unix::fs::FileExt;
+
+/// A file of the operating system, whose calls are those of Linux.
+///
+/// What it gives and keeps nobody can prove, so it is never honest here: that it keeps what an honest file keeps is the
+/// premise under which a disk over it keeps what was written. `sync` is `fdatasync`: on Linux it answers once the kernel
+/// has written the file's bytes, and the device has said that it holds them. A device that says so too early keeps nothing.
+#[derive(Drop)]
+pub struct HostFile {
+    file: File,
+    turns: u64,
+    failures: u64,
+    ghost turned: { turns < 2 ^ 64 },
+    ghost failed: { failures < 2 ^ 64 },
+}
+
+impl HostFile {
+    ghost use Rattle.sector_disk.specs.Disk.{HasCause};
+    ghost use Rattle.file_disk.specs.File.{moved, one_more};
+    ghost use Rattle.file_disk.specs.Host.{host_view};
+
+    pub(crate) fn new(file: File) -> HostFile {
+        HostFile {
+            file,
+            turns: 0,
+            failures: 0,
+        }
+    }
+
+    // Counts a call that reads or writes, and whether it failed.
+    fn count(&mut self, answer: io::Result<usize>)
+        ensures turns { self.new.turns ≡ one_more self.old.turns }
+        ensures cause { HasCause (host_view self.old) (host_view self.new) (moved answer) }
+    {
+        self.turns = self.turns.saturating_add(1);
+        if moved(answer).is_err() {
+            self.failures = self.failures.saturating_add(1);
+        }
+    }
+}
+
+impl SectorFile for HostFile {
+    ghost use Rattle.file_disk.specs.Host.{host_view, host_turns};
+
+    ghost view = { host_view };
+
+    ghost turns = { host_turns };
+
+    ghost sound = { λ file honest. absurd honest };
+
+    fn len(&self) -> io::Result<u64> {
+        Ok(self.file.metadata()?.len())
+    }
+
+    fn read_at(&mut self, bytes: &mut [u8], offset: u64) -> io::Result<usize> {
+        let answer = self.file.read_at(bytes, offset);
+        self.count(answer);
+        answer
+    }
+
+    fn write_at(&mut self, bytes: &[u8], offset: u64) -> io::Result<usize> {
+        let answer = self.file.write_at(bytes, offset);
+        self.count(answer);
+        answer
+    }
+
+    fn sync(&mut self) -> io::Result<()> {
+        let answer = self.file.sync_data();
+        if answer.is_err() {
+            self.failures = self.failures.saturating_add(1);
+        }
+        answer
+    }
+}

@@ -1,0 +1,96 @@
+//! Disks over files of the operating system.
+
+use crate::parts::pattern;
+use file_disk::{FileDisk, FileFault, HostFile};
+use sector_disk::{Disk, DiskError};
+use std::test::Fail;
+use std::{fs, io};
+
+fn fault(opened: Result<FileDisk<HostFile>, FileFault>) -> Option<FileFault> {
+    opened.err()
+}
+
+/// While the file is open it is opened by nobody else, and not made anew.
+fn is_held(rt: &HostRuntime, path: &str) -> bool {
+    let adopted = fault(FileDisk::adopt(rt, path)) == Some(FileFault::NotOpened);
+    adopted && fault(FileDisk::create(rt, path, 3)) == Some(FileFault::NotOpened)
+}
+
+/// A new disk of three sectors is zeros. Its middle sector is written and synced.
+fn is_made(rt: &HostRuntime, path: &str, bytes: &[u8; 512]) -> bool {
+    let Ok(mut disk) = FileDisk::create(rt, path, 3) else {
+        return false;
+    };
+    let mut middle = [9; 512];
+    let new = disk.sectors() == 3 && disk.read(1, &mut middle).is_ok() && middle == [0; 512];
+    let written = disk.write(1, bytes).is_ok() && disk.sync().is_ok() && disk.failures() == 0;
+    let none = disk.write(3, bytes) == Err(DiskError::OutOfRange);
+    new && written && none && is_held(rt, path)
+}
+
+/// Opened anew it holds what was written.
+fn is_adopted(rt: &HostRuntime, path: &str, bytes: &[u8; 512]) -> bool {
+    let Ok(mut disk) = FileDisk::adopt(rt, path) else {
+        return false;
+    };
+    let (mut middle, mut last) = ([9; 512], [9; 512]);
+    let read = disk.read(1, &mut middle).is_ok() && disk.read(2, &mut last).is_ok();
+    disk.sectors() == 3 && read && middle == *bytes && last == [0; 512]
+}
+
+fn length(rt: &HostRuntime, path: &str) -> io::Result<u64> {
+    Ok(fs::metadata(rt, path)?.len())
+}
+
+#[test]
+fn a_file_is_made_locked_and_adopted(rt: HostRuntime) -> Result<(), Fail> {
+    let _ = fs::remove_dir_all(&rt, "made");
+    let _ = fs::remove_file(&rt, "made.disk");
+    fs::create_dir(&rt, "made")?;
+    let bytes = pattern();
+    for path in ["made.disk", "made/in.disk"] {
+        let kept = is_made(&rt, path, &bytes) && is_adopted(&rt, path, &bytes);
+        assert_eq!(rt; (kept, length(&rt, path)?), (true, 1536));
+    }
+    let _ = fs::remove_dir_all(&rt, "made");
+    let _ = fs::remove_file(&rt, "made.disk");
+    Ok(())
+}
+
+/// A rest of the length is no sector. A file that is cut behind the disk's back is a fault where it is read.
+fn is_cut(rt: &HostRuntime, path: &str) -> io::Result<bool> {
+    fs::write(rt, path, [5; 1535].as_slice())?;
+    let Ok(mut disk) = FileDisk::adopt(rt, path) else {
+        return Ok(false);
+    };
+    let mut bytes = [0; 512];
+    let whole = disk.sectors() == 2 && disk.read(1, &mut bytes).is_ok() && bytes == [5; 512];
+    let rest = disk.read(2, &mut bytes) == Err(DiskError::OutOfRange);
+    fs::write(rt, path, [5; 700].as_slice())?;
+    let cut = disk.read(1, &mut bytes) == Err(DiskError::DiskFault) && disk.failures() == 1;
+    let kept = disk.read(0, &mut bytes).is_ok() && disk.failures() == 1;
+    Ok(whole && rest && cut && kept)
+}
+
+#[test]
+fn a_rest_is_ignored(rt: HostRuntime) -> Result<(), Fail> {
+    assert!(rt; is_cut(&rt, "cut.disk")?);
+    fs::remove_file(&rt, "cut.disk")?;
+    Ok(())
+}
+
+/// What is no file, or can't be one, is not opened; too many sectors are a fault, and leave no file.
+fn is_refused(rt: &HostRuntime) -> io::Result<bool> {
+    let missing = fault(FileDisk::adopt(rt, "missing.disk")) == Some(FileFault::NotOpened);
+    let folder = fault(FileDisk::adopt(rt, ".")) == Some(FileFault::NotOpened);
+    let nowhere = fault(FileDisk::create(rt, "missing/in.disk", 1)) == Some(FileFault::NotOpened);
+    let empty = fault(FileDisk::create(rt, "", 1)) == Some(FileFault::NotOpened);
+    let many = fault(FileDisk::create(rt, "many.disk", u64::MAX)) == Some(FileFault::DiskFault);
+    Ok(missing && folder && nowhere && empty && many && !fs::exists(rt, "many.disk")?)
+}
+
+#[test]
+fn what_is_no_file_is_refused(rt: HostRuntime) -> Result<(), Fail> {
+    assert!(rt; is_refused(&rt)?);
+    Ok(())
+}

@@ -1,0 +1,90 @@
+//! The five numbers of a settings file.
+ghost use Rattle.std.specs.Prelude.{◌≡◌, None, Err, IfOk, IfSome, IsUtf8};
+ghost use Rattle.toml.specs.Errors.{IsBlank};
+ghost use Rattle.toml.specs.View.{table_view};
+ghost use Rattle.settings.specs.Reading.{Holds, Has, integer_at, number_at};
+
+use std::alloc::Global;
+use thiserror::Error;
+use toml::Table;
+
+/// What a disk is made for: how many of each it holds at most, and how long its journal is. Each is any number from
+/// 0 to 4,294,967,295; whether a disk can be made for them is not judged here.
+#[derive(Clone, Copy, Debug, PartialEq, Eq)]
+pub struct Settings {
+    /// How many rules.
+    pub rules: u32,
+    /// How many radios.
+    pub radios: u32,
+    /// How many waiting messages and reports.
+    pub mail: u32,
+    /// How many stations.
+    pub stations: u32,
+    /// How many sectors each half of the journal has.
+    pub journal: u32,
+}
+
+/// Why a text gives no settings.
+#[derive(Clone, Copy, Debug, PartialEq, Eq, Drop, Error)]
+pub enum SettingsFault {
+    /// The text is no UTF-8 or no TOML, or one of the five keys is missing or has another value than an integer
+    /// from 0 to 4,294,967,295.
+    #[error("the settings are not five numbers in TOML")]
+    BadSettings,
+    /// Memory ran out.
+    #[error("out of memory")]
+    NoMemory,
+}
+
+/// The settings that a TOML text holds: the keys `rules`, `radios`, `mail`, `stations` and `journal` of its table,
+/// each an integer from 0 to 4,294,967,295. Other keys are ignored.
+///
+/// # Errors
+/// `BadSettings` where the text holds no settings. `NoMemory` where there was no memory to read it with, which tells
+/// nothing of its keys; a text that is no UTF-8, or that has only white space and comments, is never answered so.
+pub fn read_settings(alloc: Global, text: &[u8]) -> Result<Settings, SettingsFault>
+    ensures read { IfOk result (Holds text.now) }
+    ensures refused { result ≡ Err SettingsFault.BadSettings → (settings : Settings) → ¬ Holds text.now settings }
+    ensures memory { result ≡ Err SettingsFault.NoMemory → IsUtf8 text.now × ¬ IsBlank text.now }
+{
+    let Ok(text) = std::str::from_utf8(text) else {
+        return Err(SettingsFault::BadSettings);
+    };
+    match toml::table_from_str(alloc, text) {
+        Ok(table) => settings_of(&table).ok_or(SettingsFault::BadSettings),
+        Err(fault) if fault.is_memory() => Err(SettingsFault::NoMemory),
+        Err(_) => Err(SettingsFault::BadSettings),
+    }
+}
+
+/// The five numbers of a table, where it has them all.
+fn settings_of(table: &Table) -> Option<Settings>
+    ensures has { IfSome result (Has (table_view table.now)) }
+    ensures lacks { result ≡ None → (settings : Settings) → ¬ Has (table_view table.now) settings }
+{
+    Some(Settings {
+        rules: number_at(table, "rules")?,
+        radios: number_at(table, "radios")?,
+        mail: number_at(table, "mail")?,
+        stations: number_at(table, "stations")?,
+        journal: number_at(table, "journal")?,
+    })
+}
+
+/// The number of 32 bits under a key.
+fn number_at(table: &Table, key: &str) -> Option<u32>
+    ensures { result ≡ number_at key.now (table_view table.now) }
+{
+    let number = integer_at(table, key)?;
+    u32::try_from(number).ok()
+}
+
+/// The integer under a key.
+fn integer_at(table: &Table, key: &str) -> Option<i64>
+    ensures { result ≡ integer_at key.now (table_view table.now) }
+{
+    match table.get(key) {
+        Some(value) => value.as_integer(),
+        None => None,
+    }
+}
