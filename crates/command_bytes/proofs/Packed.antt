@@ -4,7 +4,7 @@ use Rattle.std.specs.Prelude.{not, ◌==◌}
 use Rattle.std.specs.List.{list_all, flat_map}
 use Rattle.std.specs.Int.{byte_at}
 use Rattle.std.proofs.lemmas.Bool.{cases_eq, eq-eqb, ne_eqb, le-ltb, lt-ltb}
-use Rattle.std.proofs.lemmas.List.{append-nil, take_all}
+use Rattle.std.proofs.lemmas.List.{append-nil, take_all, take_at, drop-take, take-take, length-take}
 use Rattle.std.proofs.lemmas.Nat.{shr_below}
 use Rattle.byteorder.specs.Endian.{big_number}
 use Rattle.identity.specs.Number.{num, number}
@@ -170,3 +170,26 @@ power v (suc (suc (suc (suc (suc zero))))) lt = refl
 power v (suc (suc (suc (suc (suc (suc zero)))))) lt = refl
 power v (suc (suc (suc (suc (suc (suc (suc zero))))))) lt = refl
 power v (suc (suc (suc (suc (suc (suc (suc (suc k)))))))) lt = absurd (omega arith)
+
+-- ---- an octet of bits
+
+octet_of : (bytes : List ℕ) (k : ℕ) → k < length bytes → take 8 (drop (8 * k) (bits_of bytes)) ≡ num 8 (slice_index bytes k)
+unfolding bits_of
+octet_of [] k lt = absurd (omega arith)
+octet_of (b ∷ bytes) zero lt = take_at (num 8 b) (flat_map (num 8) bytes) 8 (length-num 8 b)
+octet_of (b ∷ bytes) (suc k) lt =
+    let long = length-num 8 b in
+    ap (take 8) (drop_on (8 * suc k) (num 8 b) (flat_map (num 8) bytes) (omega (arith, long)) ∙ drop_as (8 * suc k - length (num 8 b)) (8 * k) (flat_map (num 8) bytes) (omega (arith, long)))
+    ∙ octet_of bytes k (omega arith)
+
+pub octet_in : (bytes : List ℕ) (len k : ℕ) → 8 * k + 8 ≤ len → len ≤ 8 * length bytes → take 8 (drop (8 * k) (take len (bits_of bytes))) ≡ num 8 (slice_index bytes k)
+octet_in bytes len k room le =
+    let cut : len ≡ 8 * k + (len - 8 * k) = omega (arith, room) in
+    let inside : take len (bits_of bytes) ≡ take (8 * k + (len - 8 * k)) (bits_of bytes) = ap (λ (n : ℕ). take n (bits_of bytes)) cut in
+    ap (λ (l : List Bool). take 8 (drop (8 * k) l)) inside
+    ∙ ap (take 8) (drop-take (8 * k) (len - 8 * k) (bits_of bytes))
+    ∙ take-take 8 (len - 8 * k) (drop (8 * k) (bits_of bytes)) (omega (arith, room))
+    ∙ octet_of bytes k (omega (arith, room, le))
+
+pub so_many : (bytes : List ℕ) (len : ℕ) (bits : List Bool) → take len (bits_of bytes) ≡ bits → len ≤ 8 * length bytes → len ≡ length bits
+so_many bytes len bits is le = omega (arith, length-take len (bits_of bytes), length-bits_of bytes, ap length is, le)

@@ -84,14 +84,14 @@ area_again area rest small =
 
 -- ---- a lifetime
 
-lifetime_is : (n : ℕ) (lifetime : Lifetime) → lifetime_of n ≡ Some lifetime → lifetime_number lifetime ≡ n
+pub lifetime_is : (n : ℕ) (lifetime : Lifetime) → lifetime_of n ≡ Some lifetime → lifetime_number lifetime ≡ n
 lifetime_is zero lifetime e = sym (ap lifetime_number (some_is NotNeeded lifetime e)) ∙ refl
 lifetime_is (suc zero) lifetime e = sym (ap lifetime_number (some_is NextItsiAttach lifetime e))
 lifetime_is (suc (suc zero)) lifetime e = sym (ap lifetime_number (some_is NotAllowedAtNextItsiAttach lifetime e))
 lifetime_is (suc (suc (suc zero))) lifetime e = sym (ap lifetime_number (some_is NextLocationUpdate lifetime e))
 lifetime_is (suc (suc (suc (suc n)))) lifetime e = absurd cc
 
-lifetime_back : (lifetime : Lifetime) → (lifetime_of (lifetime_number lifetime) ≡ Some lifetime) × (lifetime_number lifetime < 256 ^ 1)
+pub lifetime_back : (lifetime : Lifetime) → (lifetime_of (lifetime_number lifetime) ≡ Some lifetime) × (lifetime_number lifetime < 256 ^ 1)
 lifetime_back NotNeeded = (refl, omega arith)
 lifetime_back NextItsiAttach = (refl, omega arith)
 lifetime_back NotAllowedAtNextItsiAttach = (refl, omega arith)

@@ -16,17 +16,17 @@ length-left : (w : ℕ) (bits : List Bool) → length (left w bits) ≡ w
 unfolding left
 length-left w bits = length-big w _
 
-length-prefix : (prefix : List Bool) → length (prefix_text prefix) ≡ 7
+pub length-prefix : (prefix : List Bool) → length (prefix_text prefix) ≡ 7
 length-prefix prefix = omega (arith, length-append (big 1 (length prefix)) (left 6 prefix), length-big 1 (length prefix), length-left 6 prefix)
 
-length-bits : (bits : List Bool) → length (bits_text bits) ≡ 2 + bytes_for (length bits)
+pub length-bits : (bits : List Bool) → length (bits_text bits) ≡ 2 + bytes_for (length bits)
 length-bits bits = omega (arith, length-append (big 2 (length bits)) (left (bytes_for (length bits)) bits), length-big 2 (length bits), length-left (bytes_for (length bits)) bits)
 
-length-rule : (rule : Rule) → length (rule_text rule) ≡ 9
+pub length-rule : (rule : Rule) → length (rule_text rule) ≡ 9
 unfolding big
 length-rule rule = refl
 
-length-key : (key : Key) → length (key_text key) ≡ 14
+pub length-key : (key : Key) → length (key_text key) ≡ 14
 unfolding big
 length-key key = refl
 

@@ -72,6 +72,21 @@ fn put_bits<A: Allocator>(
 }
 
 impl<'a> PackedBits<'a> {
+    /// How many bits they are, at most 2,048.
+    pub fn len(&self) -> usize
+        ensures { result ≡ length self.now }
+    {
+        self.len
+    }
+
+    /// The eight bits from place 8 * `k` on, as a number.
+    pub fn octet(&self, k: usize) -> u8
+        requires { 8 * k + 8 ≤ length self.now }
+        ensures { take 8 (drop (8 * k) self.now) ≡ num 8 result }
+    {
+        self.bytes[k]
+    }
+
     /// The bits with memory of their own.
     pub fn copy<A: Allocator>(&self, alloc: A) -> Result<Bits<A>, AllocError>
         ensures bits { IfOk result (λ bits. bits ≡ self.now) }

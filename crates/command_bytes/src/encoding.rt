@@ -5,6 +5,7 @@ ghost use Rattle.command_bytes.specs.Fields.{bytes_for};
 ghost use Rattle.command_bytes.specs.Sizes.{body_size};
 ghost use Rattle.command_bytes.specs.Text.{IsCommand, Spells, body_text, command_text, longest, tag_of};
 
+use crate::Room;
 use crate::put::{put_bits, put_key, put_number, put_prefix, put_rule};
 use centre_core::{Body, Command};
 use std::alloc::{AllocError, Allocator};
@@ -48,11 +49,11 @@ fn body_len<A: Allocator>(body: &Body<A>) -> usize
 }
 
 #[tactic(auto, using(std::proofs::Common::append_assoc, crate::proofs::Sizes::nothing))]
-fn put_body<A: Allocator, B: Allocator>(out: &mut Vec<u8, A>, body: &Body<B>)
+fn put_body<R: Room, B: Allocator>(out: &mut R, body: &Body<B>)
     requires range { BodyInRange body.now }
-    requires room { vec_len out.old + body_size body.now ≤ vec_capacity out.old }
-    ensures items { out.new.items ≡ out.old.items ++ body_text body.now }
-    ensures capacity { vec_capacity out.old ≤ vec_capacity out.new }
+    requires room { body_size body.now ≤ R.room out.old }
+    ensures held { R.held out.new ≡ R.held out.old ++ body_text body.now }
+    ensures room { R.room out.old ≤ R.room out.new + body_size body.now }
 {
     match body {
         Body::RuleSet { prefix, rule } => {
@@ -101,12 +102,12 @@ fn keep_ranges<A: Allocator>(command: &Command<A>)
     let _station = command.station;
 }
 
-/// Puts the command's text at the end of bytes that have room for it. Takes no memory.
+// Puts the command's text at the end of what has room for it.
 #[tactic(auto, unfolding(crate::specs::Text::command_text), using(std::proofs::Common::append_assoc, crate::proofs::Sizes::command_size))]
-pub fn append<A: Allocator, B: Allocator>(out: &mut Vec<u8, A>, command: &Command<B>)
-    requires room { vec_len out.old + length (command_text command.now) ≤ vec_capacity out.old }
-    ensures items { out.new.items ≡ out.old.items ++ command_text command.now }
-    ensures capacity { vec_capacity out.old ≤ vec_capacity out.new }
+fn put_command<R: Room, B: Allocator>(out: &mut R, command: &Command<B>)
+    requires { length (command_text command.now) ≤ R.room out.old }
+    ensures held { R.held out.new ≡ R.held out.old ++ command_text command.now }
+    ensures room { R.room out.old ≤ R.room out.new + length (command_text command.now) }
     ensures is_command { IsCommand command.now }
 {
     keep_ranges(command);
@@ -115,6 +116,16 @@ pub fn append<A: Allocator, B: Allocator>(out: &mut Vec<u8, A>, command: &Comman
     put_number(out, 4, u64::from(command.moment));
     put_number(out, 1, tag(&command.body));
     put_body(out, &command.body);
+}
+
+/// Puts the command's text at the end of bytes that have room for it. Takes no memory.
+pub fn append<A: Allocator, B: Allocator>(out: &mut Vec<u8, A>, command: &Command<B>)
+    requires room { vec_len out.old + length (command_text command.now) ≤ vec_capacity out.old }
+    ensures items { out.new.items ≡ out.old.items ++ command_text command.now }
+    ensures capacity { vec_capacity out.old ≤ vec_capacity out.new }
+    ensures is_command { IsCommand command.now }
+{
+    put_command(out, command);
 }
 
 /// The command's text, in memory of its own.

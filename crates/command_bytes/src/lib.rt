@@ -4,15 +4,17 @@
 //! their widths; what they are read as is `first_command` of `specs/Reading.antt`.
 #![tactic(auto)]
 
-mod bits;
+pub mod bits;
 mod body;
 mod command;
 mod decoding;
 mod encoding;
-mod fields;
+pub mod fields;
 pub mod laws;
-mod put;
+pub mod put;
+mod room;
 
 pub use decoding::{after_first, decode, decode_first};
 pub use encoding::{append, encode, text_len};
 pub use fields::number;
+pub use room::Room;

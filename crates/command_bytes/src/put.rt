@@ -1,56 +1,42 @@
-// The fields of the table, as they are written at the end of bytes that have room for them.
-ghost use Rattle.std.specs.Prelude.{◌≡◌, ◌≤◌, ◌<◌, ◌+◌, ◌^◌, ◌++◌, length, vec_capacity, vec_len};
-ghost use Rattle.identity.specs.Packed.{AreBytes};
+// The fields of the table, as they are written at the end of what has room for them.
+ghost use Rattle.std.specs.Prelude.{◌≡◌, ◌≤◌, ◌+◌, ◌++◌, length};
 ghost use Rattle.centre_core.specs.Ranges.{most_bits};
 ghost use Rattle.command_bytes.specs.Fields.{big, bytes_for};
 ghost use Rattle.command_bytes.specs.Text.{bits_text, key_text, kind_number, prefix_text, rule_text};
 
+use crate::Room;
 use identity::{Bits, Prefix};
 use mailbox::{Key, Kind};
 use registration::Rule;
 use std::alloc::Allocator;
 
-// Bytes, for which there is room.
-fn put<A: Allocator>(out: &mut Vec<u8, A>, bytes: &[u8])
-    requires room { vec_len out.old + length bytes.now ≤ vec_capacity out.old }
-    ensures items { out.new.items ≡ out.old.items ++ bytes.now }
-    ensures len { vec_len out.new ≡ vec_len out.old + length bytes.now }
-    ensures capacity { vec_capacity out.old ≤ vec_capacity out.new }
-    ensures are { AreBytes bytes.now }
-{
-    out.extend_from_slice(bytes).unwrap();
-}
-
-/// A number in `width` bytes.
-pub fn put_number<A: Allocator>(out: &mut Vec<u8, A>, width: usize, number: u64)
+/// A number in `width` bytes, at most 8, the highest first.
+pub fn put_number<R: Room>(out: &mut R, width: usize, number: u64)
     requires width { width ≤ 8 }
-    requires room { vec_len out.old + width ≤ vec_capacity out.old }
-    ensures items { out.new.items ≡ out.old.items ++ big width number }
-    ensures len { vec_len out.new ≡ vec_len out.old + width }
-    ensures capacity { vec_capacity out.old ≤ vec_capacity out.new }
+    requires room { width ≤ R.room out.old }
+    ensures held { R.held out.new ≡ R.held out.old ++ big width number }
+    ensures room { R.room out.old ≤ R.room out.new + width }
 {
-    put(out, &number.to_be_bytes()[8 - width..]);
+    out.put(&number.to_be_bytes()[8 - width..]);
 }
 
-/// A prefix.
+/// A prefix, in 7 bytes.
 #[tactic(auto, using(std::proofs::Common::append_assoc, crate::proofs::Putting::prefix_bits))]
-pub fn put_prefix<A: Allocator>(out: &mut Vec<u8, A>, prefix: &Prefix)
-    requires room { vec_len out.old + 7 ≤ vec_capacity out.old }
-    ensures items { out.new.items ≡ out.old.items ++ prefix_text prefix.now }
-    ensures len { vec_len out.new ≡ vec_len out.old + 7 }
-    ensures capacity { vec_capacity out.old ≤ vec_capacity out.new }
+pub fn put_prefix<R: Room>(out: &mut R, prefix: &Prefix)
+    requires room { 7 ≤ R.room out.old }
+    ensures held { R.held out.new ≡ R.held out.old ++ prefix_text prefix.now }
+    ensures room { R.room out.old ≤ R.room out.new + 7 }
 {
     put_number(out, 1, u64::from(prefix.len()));
     put_number(out, 6, prefix.bits());
 }
 
-/// A rule.
+/// A rule, in 9 bytes.
 #[tactic(auto, using(std::proofs::Common::append_assoc))]
-pub fn put_rule<A: Allocator>(out: &mut Vec<u8, A>, rule: &Rule)
-    requires room { vec_len out.old + 9 ≤ vec_capacity out.old }
-    ensures items { out.new.items ≡ out.old.items ++ rule_text rule.now }
-    ensures len { vec_len out.new ≡ vec_len out.old + 9 }
-    ensures capacity { vec_capacity out.old ≤ vec_capacity out.new }
+pub fn put_rule<R: Room>(out: &mut R, rule: &Rule)
+    requires room { 9 ≤ R.room out.old }
+    ensures held { R.held out.new ≡ R.held out.old ++ rule_text rule.now }
+    ensures room { R.room out.old ≤ R.room out.new + 9 }
 {
     put_number(out, 2, u64::from(rule.low().number()));
     put_number(out, 2, u64::from(rule.high().number()));
@@ -67,13 +53,12 @@ fn number_of(kind: Kind) -> u64
     }
 }
 
-/// A key.
+/// A key, in 14 bytes.
 #[tactic(auto, using(std::proofs::Common::append_assoc))]
-pub fn put_key<A: Allocator>(out: &mut Vec<u8, A>, key: &Key)
-    requires room { vec_len out.old + 14 ≤ vec_capacity out.old }
-    ensures items { out.new.items ≡ out.old.items ++ key_text key.now }
-    ensures len { vec_len out.new ≡ vec_len out.old + 14 }
-    ensures capacity { vec_capacity out.old ≤ vec_capacity out.new }
+pub fn put_key<R: Room>(out: &mut R, key: &Key)
+    requires room { 14 ≤ R.room out.old }
+    ensures held { R.held out.new ≡ R.held out.old ++ key_text key.now }
+    ensures room { R.room out.old ≤ R.room out.new + 14 }
 {
     put_number(out, 6, key.destination.number());
     put_number(out, 6, key.source.number());
@@ -81,15 +66,14 @@ pub fn put_key<A: Allocator>(out: &mut Vec<u8, A>, key: &Key)
     put_number(out, 1, number_of(key.kind));
 }
 
-/// A string of bits.
+/// A string of at most 2,048 bits: how many they are, in 2 bytes, and they.
 #[tactic(auto, using(std::proofs::Common::append_assoc))]
-pub fn put_bits<A: Allocator, B: Allocator>(out: &mut Vec<u8, A>, bits: &Bits<B>)
+pub fn put_bits<R: Room, B: Allocator>(out: &mut R, bits: &Bits<B>)
     requires few { length bits.now ≤ most_bits }
-    requires room { vec_len out.old + 2 + bytes_for (length bits.now) ≤ vec_capacity out.old }
-    ensures items { out.new.items ≡ out.old.items ++ bits_text bits.now }
-    ensures len { vec_len out.new ≡ vec_len out.old + 2 + bytes_for (length bits.now) }
-    ensures capacity { vec_capacity out.old ≤ vec_capacity out.new }
+    requires room { 2 + bytes_for (length bits.now) ≤ R.room out.old }
+    ensures held { R.held out.new ≡ R.held out.old ++ bits_text bits.now }
+    ensures room { R.room out.old ≤ R.room out.new + (2 + bytes_for (length bits.now)) }
 {
     put_number(out, 2, bits.len() as u64);
-    put(out, bits.as_bytes());
+    out.put(bits.as_bytes());
 }

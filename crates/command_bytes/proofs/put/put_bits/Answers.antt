@@ -3,9 +3,10 @@ use Rattle.command_bytes.specs.Fields.{big}
 use Rattle.command_bytes.proofs.Putting.{packed_left}
 use Rattle.command_bytes.proofs.put.put_bits.Goals as goal
 
-pub returns-clause-items : goal.returns-clause-items
-returns-clause-items g c =
+pub returns-clause-held : goal.returns-clause-held
+returns-clause-held g c =
+    let out = g.R.Room.held c.args.out.now in
     let bytes = packed_left c.as_bytes.result.now c.args.bits.now c.put.ensures.are c.as_bytes.ensures.packed c.as_bytes.ensures.bits in
-    (rw c.len.ensures at (c.put.ensures.items ∙ ap (λ (l : List ℕ). l ++ c.as_bytes.result.now) c.put_number.ensures.items))
-    ∙ append_assoc c.args.out.now.items (big 2 (length c.args.bits.now)) c.as_bytes.result.now
-    ∙ ap (λ (l : List ℕ). c.args.out.now.items ++ (big 2 (length c.args.bits.now) ++ l)) bytes.0
+    (rw c.len.ensures at (c.put.ensures.held ∙ ap (λ (l : List ℕ). l ++ c.as_bytes.result.now) c.put_number.ensures.held))
+    ∙ append_assoc out (big 2 (length c.args.bits.now)) c.as_bytes.result.now
+    ∙ ap (λ (l : List ℕ). out ++ (big 2 (length c.args.bits.now) ++ l)) bytes.0

@@ -1,0 +1,8 @@
+use Rattle.image_rows.proofs.Worked.{empty_image, worked_image}
+use Rattle.image_rows.proofs.laws.worked_images.Goals as goal
+
+pub returns-clause-empty : goal.returns-clause-empty
+returns-clause-empty c = empty_image
+
+pub returns-clause-one : goal.returns-clause-one
+returns-clause-one c = worked_image

@@ -1,0 +1,15 @@
+pub mod Rows
+pub mod Loading
+pub mod RowText
+pub mod RowReading
+pub mod RowSizes
+pub mod Headers
+pub mod PduTest
+pub mod GroupViews
+pub mod ItemViews
+pub mod RowViews
+pub mod Walking
+pub mod Worked
+pub mod Parts
+pub mod Slot
+pub mod Image

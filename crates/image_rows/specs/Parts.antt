@@ -1,0 +1,45 @@
+-- The row after a place, as the tables tell it: the next entry of the place's part, or else the first one of a later part.
+use Rattle.std.specs.Prelude.{ℕ, ◌+◌, ◌<◌, ◌^◌, List, [], ◌∷◌, drop, Option, Some, None}
+use Rattle.std.specs.Option.{option_map, option_or}
+use Rattle.identity.specs.Path.{Path, id_path}
+use Rattle.prefix_tree.specs.Next.{next_entry}
+use Rattle.mailbox.specs.declared.key.Key.{Key}
+use Rattle.mailbox.specs.Order.{next_item}
+use Rattle.centre_core.specs.State.{State}
+use Rattle.image_rows.specs.declared.place.RowPlace.{RowPlace}
+use Rattle.image_rows.specs.declared.place.RowPlace.TheVariants as place
+use Rattle.image_rows.specs.Rows.{Row, HeaderRow, MailRow, rule_row, radio_row, served_rows, header_of}
+
+abbrev pub first : List Row → Option Row
+first [] = None
+first (row ∷ rows) = Some row
+
+-- of the stations behind this one the first of which something is kept
+abbrev pub after_station : State → ℕ → Option Row
+after_station s station = first (served_rows (station + 1) (drop station s.served))
+
+abbrev pub after_item : State → Option (ℕ × Key) → Option Row
+after_item s after = option_or (option_map MailRow (next_item s.mail after)) (after_station s 0)
+
+abbrev pub after_radio : State → Option ℕ → Option Row
+after_radio s after = option_or (option_map (radio_row s.groups) (next_entry s.registered.radios (option_map id_path after))) (after_item s None)
+
+abbrev pub after_rule : State → Option Path → Option Row
+after_rule s after = option_or (option_map rule_row (next_entry s.registered.rules after)) (after_radio s None)
+
+abbrev pub told_after : ℕ → State → Option RowPlace → Option Row
+told_after epoch s None = Some (HeaderRow (header_of epoch s))
+told_after epoch s (Some place.Header) = after_rule s None
+told_after epoch s (Some (place.Rule prefix)) = after_rule s (Some prefix)
+told_after epoch s (Some (place.Radio itsi)) = after_radio s (Some itsi)
+told_after epoch s (Some (place.Mail number key)) = after_item s (Some (number, key))
+told_after epoch s (Some (place.Served station)) = after_station s station
+
+-- a radio's number has 48 bits
+abbrev pub PlaceInRange : Option RowPlace → Type 0
+PlaceInRange None = Unit {0}
+PlaceInRange (Some place.Header) = Unit {0}
+PlaceInRange (Some (place.Rule prefix)) = Unit {0}
+PlaceInRange (Some (place.Radio itsi)) = itsi < 2 ^ 48
+PlaceInRange (Some (place.Mail number key)) = Unit {0}
+PlaceInRange (Some (place.Served station)) = Unit {0}

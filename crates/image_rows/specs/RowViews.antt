@@ -1,0 +1,11 @@
+-- What was read, its bits and its groups still in the bytes, as a value.
+use Rattle.image_rows.specs.Rows.{Row, HeaderRow, RuleRow, RadioRow, MailRow, ServedRow}
+use Rattle.image_rows.specs.declared.reading.ReadRow.{ReadRow}
+use Rattle.image_rows.specs.declared.reading.ReadRow.TheVariants as read
+
+abbrev pub row_view : ReadRow → Row
+row_view (read.Header header) = HeaderRow header
+row_view (read.Rule prefix rule) = RuleRow prefix rule
+row_view (read.Radio itsi radio groups) = RadioRow itsi radio groups
+row_view (read.Mail item) = MailRow item
+row_view (read.Served station sequence number pdu) = ServedRow station (record { sequence = sequence; number = number; pdu = pdu })

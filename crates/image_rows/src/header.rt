@@ -1,0 +1,32 @@
+//! The first row of an image.
+use std::marker::Model;
+
+/// What the first row of an image tells.
+#[derive(Clone, Copy, Debug)]
+pub struct Header {
+    /// The image's epoch, 1 to 2 to the 62nd.
+    pub epoch: u64,
+    /// How many commands were accepted.
+    pub count: u64,
+    /// How many rows of rules come.
+    pub rules: u32,
+    /// How many rows of radios come.
+    pub radios: u32,
+    /// How many rows of items come.
+    pub mail: u32,
+    /// How many rows of stations come.
+    pub served: u32,
+}
+
+impl Model for Header {
+    ghost use Rattle.image_rows.specs.Rows.{Header as HeaderValue};
+    ghost use Rattle.image_rows.specs.Headers.{coded_header};
+
+    ghost Value = { HeaderValue };
+
+    ghost coded = { coded_header };
+
+    ghost view = { λ h. record { epoch = h.epoch; count = h.count; rules = h.rules; radios = h.radios; mail = h.mail; served = h.served } };
+
+    ghost inverse = { λ h. record { epoch = h.epoch; count = h.count; rules = h.rules; radios = h.radios; mail = h.mail; served = h.served } };
+}

@@ -1,0 +1,21 @@
+//! A register as the rows of an image, one row a sector, and what rows stand for.
+#![tactic(auto)]
+
+mod header;
+mod item;
+pub mod laws;
+mod pdu;
+mod place;
+mod reading;
+mod row_groups;
+pub mod row_laws;
+mod sector;
+mod seen;
+mod writing;
+
+pub use header::Header;
+pub use item::ReadItem;
+pub use place::RowPlace;
+pub use reading::{ReadRow, read_row};
+pub use row_groups::PackedGroups;
+pub use writing::{header_row, mail_row, radio_row, rule_row, served_row};

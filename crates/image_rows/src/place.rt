@@ -1,0 +1,19 @@
+//! Where a row stands in an image.
+
+use identity::{Itsi, Prefix};
+use mailbox::Key;
+
+/// The place of a row: places rise from the header to the last station.
+#[derive(Clone, Copy, Debug)]
+pub enum RowPlace {
+    /// The first row.
+    Header,
+    /// The rule under this prefix.
+    Rule(Prefix),
+    /// The radio with its groups.
+    Radio(Itsi),
+    /// The item of this number and key.
+    Mail(u64, Key),
+    /// What is kept of this station.
+    Served(u16),
+}

@@ -1,0 +1,73 @@
+//! Each byte of a worked row changed: refused, or another row.
+use crate::rows::{again, sector};
+use std::alloc::Global;
+use std::test::Fail;
+
+/// A row's bytes; then what comes of each of them with its first bit changed, and with its last: `r` it is refused,
+/// `t` another row is taken and has these bytes, `s` one is taken that ends earlier. Written by hand from the table.
+const CHANGED: &str = "\
+10 0000000000000001 0000000000000000 00000000 00000000 00000000 00000000|r rttttttt tttttttt tttt tttt tttt tttt|r tttttttr tttttttt tttt tttt tttt tttt
+11 18 3a800e000000 0001 0063 01 00000e10|r r tttrrr rr rt r tttt|t t tttrrr rt tt t tttt
+12 3a800e0007d1 0001 0007 01 01 3a800e0003e8 13|r tttttt tt rt r r tttttt r|r tttttt tt tt t s tttttt t
+13 0000000000000008 0000000000000e74 3a800e0007d2 3a800e0007d1 05 00 0030 820405014849|r tttttttt rrrrtttt tttttt tttttt r r rt rrrttt|s tttttttt rrrttttt tttttt tttttt r r tt trrttt
+15 0000000000000006 0000000000000e74 3a800e0007d2 3a800e0007d1 05 00 3a800e0003e8 0030 820405014849|r tttttttt rrrrtttt tttttt tttttt r r tttttt rt rrrttt|r tttttttt rrrttttt tttttt tttttt r r tttttt tt trrttt
+14 0001 00000002 0000000000000002 0008 56|r tt tttt tttttttt rt t|r tt tttt tttttttt tt t";
+
+/// What comes of the bytes, as a letter.
+fn letter(alloc: Global, bytes: &[u8]) -> Result<u8, Fail> {
+    match again(alloc, bytes)? {
+        None => Ok(b'r'),
+        Some(row) => Ok(if row.as_slice() == bytes { b't' } else { b's' }),
+    }
+}
+
+/// What comes of the sector with its byte at this place changed by the mask, as a letter.
+fn changed(alloc: Global, text: &str, place: usize, mask: u8) -> Result<u8, Fail> {
+    let mut bytes = sector(alloc, text, 0)?;
+    if let Some(byte) = bytes.get_mut(place) {
+        *byte ^= mask;
+    }
+    letter(alloc, &bytes)
+}
+
+/// How many bytes come of what the letters say, one after the other, from the first on.
+fn right(alloc: Global, text: &str, letters: &str, mask: u8) -> Result<usize, Fail> {
+    let mut place = 0;
+    for expected in letters.bytes() {
+        if expected != b' ' {
+            if changed(alloc, text, place, mask)? != expected {
+                return Ok(place);
+            }
+            place = place.saturating_add(1);
+        }
+    }
+    Ok(place)
+}
+
+/// How many digits a text has, in pairs.
+fn len(text: &str) -> usize {
+    text.bytes().filter(|byte| *byte != b' ').count() / 2
+}
+
+fn is_right(alloc: Global, text: &str, first: &str, last: &str) -> Result<bool, Fail> {
+    Ok(right(alloc, text, first, 128)? == len(text) && right(alloc, text, last, 1)? == len(text))
+}
+
+fn first_wrong(alloc: Global) -> Result<Option<&'static str>, Fail> {
+    for row in CHANGED.lines() {
+        let Some((text, letters)) = row.split_once('|') else {
+            return Ok(Some(row));
+        };
+        match letters.split_once('|') {
+            Some((first, last)) if is_right(alloc, text, first, last)? => {}
+            _ => return Ok(Some(row)),
+        }
+    }
+    Ok(None)
+}
+
+#[test]
+fn each_byte_tells(rt: HostRuntime) -> Result<(), Fail> {
+    assert_eq!(rt; first_wrong(rt.alloc())?, None);
+    Ok(())
+}

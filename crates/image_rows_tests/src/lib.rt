@@ -1,0 +1,11 @@
+//! Tests of the bytes of `image_rows`: worked rows both ways, each of their bytes changed, and small heaps.
+#![tactic(auto)]
+
+#[cfg(test)]
+mod changed;
+#[cfg(test)]
+mod heaps;
+#[cfg(test)]
+mod rows;
+#[cfg(test)]
+mod spelled;

@@ -1,0 +1,100 @@
+//! Rows as texts of bytes, and rows written again as they were read.
+use command_bytes::bits::PackedBits;
+use identity::Itsi;
+use image_rows::{
+    PackedGroups, ReadRow, header_row, mail_row, radio_row, read_row, rule_row, served_row,
+};
+use registration::Radio;
+use std::alloc::Global;
+use std::test::Fail;
+
+/// The value of a hexadecimal digit.
+fn digit(byte: u8) -> Option<u8> {
+    match byte {
+        b'0'..=b'9' => Some(byte - b'0'),
+        b'a'..=b'f' => Some(byte - b'a' + 10),
+        _ => None,
+    }
+}
+
+/// The sector that begins with the bytes of hexadecimal digits, spaces left out, and has this byte behind them.
+pub fn sector(alloc: Global, text: &str, behind: u8) -> Result<Vec<u8>, Fail> {
+    let mut bytes = Vec::new(alloc);
+    let mut high: Option<u8> = None;
+    for byte in text.as_bytes() {
+        if let Some(value) = digit(*byte) {
+            match high.take() {
+                None => high = Some(value),
+                Some(first) => bytes.push((first << 4) | value)?,
+            }
+        }
+    }
+    bytes.resize(512, behind)?;
+    Ok(bytes)
+}
+
+/// The row of a radio and its groups, at most 32 of them.
+fn radio_again(
+    alloc: Global,
+    itsi: Itsi,
+    radio: &Radio,
+    groups: PackedGroups<'_>,
+) -> Result<Option<[u8; 512]>, Fail> {
+    let mut left = groups;
+    let mut list = Vec::new(alloc);
+    for _ in 0..255 {
+        if let Some(attachment) = left.next(itsi) {
+            list.push(attachment)?;
+        }
+    }
+    if list.len() > 32 {
+        return Ok(None);
+    }
+    Ok(Some(radio_row(itsi, radio, &list)))
+}
+
+fn served_again(
+    alloc: Global,
+    station: u16,
+    sequence: u32,
+    number: u64,
+    pdu: Option<PackedBits<'_>>,
+) -> Result<Option<[u8; 512]>, Fail> {
+    let Some(packed) = pdu else {
+        return Ok(Some(served_row::<Global>(station, sequence, number, &None)));
+    };
+    let bits = packed.copy(alloc)?;
+    if bits.len() > 2048 {
+        return Ok(None);
+    }
+    Ok(Some(served_row(station, sequence, number, &Some(bits))))
+}
+
+/// The row that is read from the bytes, written again; nothing where none is read.
+pub fn again(alloc: Global, bytes: &[u8]) -> Result<Option<[u8; 512]>, Fail> {
+    let Some(row) = read_row(bytes) else {
+        return Ok(None);
+    };
+    match row {
+        ReadRow::Header(header) => Ok(Some(header_row(&header))),
+        ReadRow::Rule { prefix, rule } => Ok(Some(rule_row(&prefix, &rule))),
+        ReadRow::Radio {
+            itsi,
+            radio,
+            groups,
+        } => radio_again(alloc, itsi, &radio, groups),
+        ReadRow::Mail(read) => {
+            let item = read.copy(&alloc)?;
+            if item.pdu().len() > 2048 {
+                return Ok(None);
+            }
+            Ok(Some(mail_row(&item)))
+        }
+        ReadRow::Served {
+            station,
+            sequence,
+            number,
+            pdu,
+        } => served_again(alloc, station, sequence, number, pdu),
+    }
+}

@@ -1,0 +1,144 @@
+//! Each worked row is read, whatever stands behind it, and written as its bytes; other bytes are no row.
+use crate::rows::{again, sector};
+use std::alloc::Global;
+use std::test::Fail;
+
+/// The bytes of rows, put together from the table by hand.
+const ROWS: &str = "\
+10 0000000000000001 0000000000000000 00000000 00000000 00000000 00000000=after a format
+10 4000000000000000 4000000000000000 00001000 00010000 00010000 00000040=the greatest numbers
+10 0000000000000002 ffffffffffffffff ffffffff ffffffff ffffffff ffffffff=more than any register has
+11 18 3a800e000000 0001 0063 01 00000e10=a rule
+11 00 000000000000 0000 3fff 03 ffffffff=a rule for all
+11 30 3a800e0007d1 0007 0007 00 00000000=a rule for one
+12 3a800e0007d1 0001 0007 01 01 3a800e0003e8 13=a radio in a group, class 4, lifetime 3
+12 3a800e0007d2 0040 3fff 00 00=a radio that left
+12 000000000000 0000 0000 01 02 000000000000 00 ffffffffffff 1f=the least and the greatest group
+13 0000000000000008 0000000000000e74 3a800e0007d2 3a800e0007d1 05 00 0030 820405014849=a message
+13 4000000000000000 00000001fffffffe 3a800e0007d2 3a800e0007d1 05 01 0020 82180005=a report
+13 0000000000000001 0000000000000000 000000000000 ffffffffffff ff 00 0018 ff00ff=a message of no text
+15 0000000000000006 0000000000000e74 3a800e0007d2 3a800e0007d1 05 00 3a800e0003e8 0030 820405014849=a copy
+14 0001 00000002 0000000000000002 0008 56=a reply
+14 0040 ffffffff 4000000000000000 0000=a reply without a PDU";
+
+/// Bytes that are no row.
+const OTHERS: &str = "\
+00=tag 0
+0f=tag 15
+16=tag 22
+10 0000000000000000 0000000000000000 00000000 00000000 00000000 00000000=epoch 0
+10 4000000000000001 0000000000000000 00000000 00000000 00000000 00000000=an epoch above the last
+11 18 3a800e000000 0064 0063 01 00000e10=low above high
+11 31 3a800e0007d1 0001 0063 01 00000e10=a prefix of 49 bits
+12 3a800e0007d1 0001 0007 02 00=neither present nor absent
+12 3a800e0007d1 0001 4000 01 00=area 16384
+12 3a800e0007d1 0001 0007 01 48=more groups than a sector holds
+12 3a800e0007d1 0001 0007 01 01 3a800e0003e8 20=class 8
+13 0000000000000008 00000001ffffffff 3a800e0007d2 3a800e0007d1 05 00 0030 820405014849=a deadline above the latest
+13 0000000000000008 0000000000000e74 3a800e0007d2 3a800e0007d1 05 02 0030 820405014849=kind 2
+13 0000000000000008 0000000000000e74 3a800e0007d2 3a800e0007d1 05 01 0030 820405014849=a message where a report is told
+13 0000000000000008 0000000000000e74 3a800e0007d2 3a800e0007d1 05 00 0020 82100005=a report where a message is told
+13 0000000000000008 0000000000000e74 3a800e0007d2 3a800e0007d1 05 01 0020 82200005=an acknowledgement
+13 0000000000000008 0000000000000e74 3a800e0007d2 3a800e0007d1 05 01 0018 821000=a report cut short
+13 0000000000000008 0000000000000e74 3a800e0007d2 3a800e0007d1 05 00 0000=no PDU
+13 0000000000000008 0000000000000e74 3a800e0007d2 3a800e0007d1 05 00 0800 820405=a PDU of 2048 bits
+14 0001 00000000 0000000000000002 0008 56=sequence 0
+14 0001 00000002 0000000000000002 0801 56=a reply of 2049 bits
+14 0001 00000002 0000000000000002 0007 57=a bit that fills";
+
+/// Rows with reserved bits 1, and as they are written.
+const RESERVED: &str = "\
+13 0000000000000009 0000000000000e74 3a800e0007d1 3a800e0007d2 05 01 0020 82160005=13 0000000000000009 0000000000000e74 3a800e0007d1 3a800e0007d2 05 01 0020 82100005
+13 0000000000000009 0000000000000e74 3a800e0007d1 3a800e0007d2 05 01 0028 821a0205ff=13 0000000000000009 0000000000000e74 3a800e0007d1 3a800e0007d2 05 01 0028 82180205ff";
+
+/// Whether the sector of one text, with this byte behind it, is read and written as the sector of the other.
+fn is_written(alloc: Global, text: &str, behind: u8, other: &str) -> Result<bool, Fail> {
+    let bytes = sector(alloc, text, behind)?;
+    let expected = sector(alloc, other, 0)?;
+    match again(alloc, &bytes)? {
+        Some(row) => Ok(row.as_slice() == expected.as_slice()),
+        None => Ok(false),
+    }
+}
+
+fn is_row(alloc: Global, text: &str) -> Result<bool, Fail> {
+    Ok(is_written(alloc, text, 0, text)? && is_written(alloc, text, 255, text)?)
+}
+
+fn first_wrong(alloc: Global) -> Result<Option<&'static str>, Fail> {
+    for row in ROWS.lines() {
+        match row.split_once('=') {
+            Some((text, _)) if is_row(alloc, text)? => {}
+            _ => return Ok(Some(row)),
+        }
+    }
+    Ok(None)
+}
+
+fn first_read(alloc: Global) -> Result<Option<&'static str>, Fail> {
+    for row in OTHERS.lines() {
+        match row.split_once('=') {
+            Some((text, _)) if again(alloc, &sector(alloc, text, 0)?)?.is_none() => {}
+            _ => return Ok(Some(row)),
+        }
+    }
+    Ok(None)
+}
+
+fn first_reserved(alloc: Global) -> Result<Option<&'static str>, Fail> {
+    for row in RESERVED.lines() {
+        match row.split_once('=') {
+            Some((text, other)) if is_written(alloc, text, 0, other)? => {}
+            _ => return Ok(Some(row)),
+        }
+    }
+    Ok(None)
+}
+
+/// A message of so many bits, all behind its reference 0.
+fn message(alloc: Global, bits: u16) -> Result<Vec<u8>, Fail> {
+    let mut bytes = sector(
+        alloc,
+        "13 0000000000000008 0000000000000e74 3a800e0007d2 3a800e0007d1 05 00 0000 820405",
+        0,
+    )?;
+    for (place, byte) in bits.to_be_bytes().iter().enumerate() {
+        if let Some(to) = bytes.get_mut(31 + place) {
+            *to = *byte;
+        }
+    }
+    Ok(bytes)
+}
+
+fn longest_is_read(alloc: Global) -> Result<bool, Fail> {
+    let bytes = message(alloc, 2047)?;
+    let too_long = message(alloc, 2048)?;
+    match again(alloc, &bytes)? {
+        Some(row) => Ok(row.as_slice() == bytes.as_slice() && again(alloc, &too_long)?.is_none()),
+        None => Ok(false),
+    }
+}
+
+#[test]
+fn rows_have_these_bytes(rt: HostRuntime) -> Result<(), Fail> {
+    assert_eq!(rt; first_wrong(rt.alloc())?, None);
+    Ok(())
+}
+
+#[test]
+fn other_bytes_are_no_row(rt: HostRuntime) -> Result<(), Fail> {
+    assert_eq!(rt; first_read(rt.alloc())?, None);
+    Ok(())
+}
+
+#[test]
+fn reserved_bits_are_taken_for_0(rt: HostRuntime) -> Result<(), Fail> {
+    assert_eq!(rt; first_reserved(rt.alloc())?, None);
+    Ok(())
+}
+
+#[test]
+fn what_waits_has_at_most_2047_bits(rt: HostRuntime) -> Result<(), Fail> {
+    assert!(rt; longest_is_read(rt.alloc())?);
+    Ok(())
+}
