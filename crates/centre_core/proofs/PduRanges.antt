@@ -37,7 +37,7 @@ use Rattle.sds_tl.specs.Transfers.{transfer_reference}
 use Rattle.sds_tl.proofs.Spelling.{value_takes}
 use Rattle.sds_tl.proofs.Cleared.{cleared_spells}
 use Rattle.sds_tl.proofs.Heads.{heads_agree}
-use Rattle.centre_core.specs.Ranges.{IsShort}
+use Rattle.centre_core.specs.StateRanges.{IsReply}
 
 -- ---- short data
 
@@ -144,16 +144,22 @@ extension_short (g ∷ items) few =
     omega (arith, length-append (element e ++ []) (false ∷ []), length-append (element e) [], element_short e, body_short (g ∷ items) few)
 
 -- an acknowledgement of at most 32 groups, and an acceptance
-pub acknowledge_short : (items : List GroupDown) → length items ≤ most_groups → IsShort (Some (acknowledge_text false items))
-acknowledge_short items few =
+pub acknowledge_fits : (items : List GroupDown) → length items ≤ most_groups → IsReply (Some (acknowledge_text false items))
+acknowledge_fits items few =
     let rest = extension (groups_extension group_down identity_downlink items) in
-    omega (arith, length-append (num 4 11) (rejects items ∷ false ∷ rest), length-num 4 11, extension_short items few)
+    let len = length-append (num 4 11) (rejects items ∷ false ∷ rest) in
+    let head = length-num 4 11 in
+    (omega (arith, len, head), omega (arith, len, head, extension_short items few))
 
-pub accept_short : (o : Option AcceptType) → IsShort (option_map accept_text o)
-accept_short None = tt
-accept_short (Some a) =
+pub accept_fits : (o : Option AcceptType) → IsReply (option_map accept_text o)
+accept_fits None = tt
+accept_fits (Some a) =
     let n = update_number (update_accepted a) in
-    omega (arith, length-append (num 4 5) (num 3 n), length-append (num 4 5 ++ num 3 n) (false ∷ []), length-num 4 5, length-num 3 n)
+    let front = length-append (num 4 5) (num 3 n) in
+    let all = length-append (num 4 5 ++ num 3 n) (false ∷ []) in
+    let kind = length-num 4 5 in
+    let update = length-num 3 n in
+    (omega (arith, front, all, kind, update), omega (arith, front, all, kind, update))
 
 one_by_one : {Y : Type 0} (o : Option Y) (ys : List Y) (n : ℕ) → length ys ≤ n → length (cons_option o ys) ≤ n + 1
 one_by_one None ys n h = omega (arith, h)

@@ -52,13 +52,13 @@ use Rattle.centre_core.specs.declared.command.Body.TheVariants.{RuleSet, RuleCle
 use Rattle.centre_core.specs.declared.reply.Reply.{Reply}
 use Rattle.centre_core.specs.declared.reply.Refusal.{Refusal}
 use Rattle.centre_core.specs.declared.reply.Refusal.TheVariants.{Registration, Mail}
-use Rattle.centre_core.specs.Ranges.{IsShort, BodyInRange, InRange}
+use Rattle.centre_core.specs.Ranges.{BodyInRange, InRange}
 use Rattle.centre_core.specs.State.{State, Served, last_number}
-use Rattle.centre_core.specs.StateRanges.{AllEntries, RuleEntryInRange, RadioInRange, AttachmentInRange, ItemInRange, ServedInRange, StateInRange}
+use Rattle.centre_core.specs.StateRanges.{AllEntries, RuleEntryInRange, RadioInRange, AttachmentInRange, ItemInRange, IsReply, ServedInRange, StateInRange}
 use Rattle.centre_core.specs.Step.{step, step_new, step_after, step_body, step_made, step_mm, step_sds, step_group_sds, accepted, kept_at, is_station, rule_set, rule_cleared, radio_located, radio_detached, groups_changed, mail_changed, envelope, message_of, report_of, group_envelope, members, copies_of, IsOfStation}
 use Rattle.centre_core.specs.Laws.{EmptyIsInRange, StepKeepsRanges}
 use Rattle.centre_core.proofs.EntriesLaws.{insert_all, retain_all, remove_all, kept_all, found_in, empty_all}
-use Rattle.centre_core.proofs.PduRanges.{IsShortData, head_read, transfer_read, groups_read, gtsi_fits, acknowledge_short, accept_short, no_more}
+use Rattle.centre_core.proofs.PduRanges.{IsShortData, head_read, transfer_read, groups_read, gtsi_fits, acknowledge_fits, accept_fits, no_more}
 
 -- ---- rules and radios
 
@@ -230,14 +230,14 @@ station_above : (n limit : ℕ) → (nat_lt 0 n && nat_le n limit) ≡ true → 
 station_above n limit e = grind (arith, nat_tests)
 
 module _ {A : Type 0} where
-  accepted_ranges : (t : State) (c : Command A) (pdu : Option (List Bool)) → InRange c → IsShort pdu → StateInRange t → StateInRange (accepted t c pdu)
-  accepted_ranges t c pdu given short h = record {
+  accepted_ranges : (t : State) (c : Command A) (pdu : Option (List Bool)) → InRange c → IsReply pdu → StateInRange t → StateInRange (accepted t c pdu)
+  accepted_ranges t c pdu given reply h = record {
     limits = h.limits;
     rules = h.rules;
     radios = h.radios;
     attachments = h.attachments;
     mail = h.mail;
-    served = All-set (λ last. IfSome last ServedInRange) t.served (c.station - 1) _ (record { above = given.above; sequence = given.sequence; pdu = short }) h.served;
+    served = All-set (λ last. IfSome last ServedInRange) t.served (c.station - 1) _ (record { above = given.above; sequence = given.sequence; pdu = reply }) h.served;
   }
 
 -- what a step makes of a state
@@ -249,19 +249,19 @@ by_test B true x y h k = h refl
 by_test B false x y h k = k
 
 module _ {A : Type 0} (B : Type 0) where
-  made : {F : Type 0} (s : State) (c : Command A) (new : State) (pdu : Option (List Bool)) (name : F → Refusal B) (refusal : Option F) → InRange c → IsShort pdu → StateInRange s → StateInRange new → Keeps B (step_made s c new pdu (option_map name refusal))
-  made s c new pdu name (Some fault) given short h k = h
-  made s c new pdu name None given short h k = accepted_ranges new c pdu given short k
+  made : {F : Type 0} (s : State) (c : Command A) (new : State) (pdu : Option (List Bool)) (name : F → Refusal B) (refusal : Option F) → InRange c → IsReply pdu → StateInRange s → StateInRange new → Keeps B (step_made s c new pdu (option_map name refusal))
+  made s c new pdu name (Some fault) given reply h k = h
+  made s c new pdu name None given reply h k = accepted_ranges new c pdu given reply k
 
   mm_ranges : (s : State) (c : Command A) (itsi area : ℕ) (pdu : List Bool) (read : Result (MmUp B) MmFault) → reading_up pdu ≡ read → InRange c → IsOfStation s c → itsi < 2 ^ 48 → area < 2 ^ 14 → StateInRange s → Keeps B (step_mm s c itsi area read)
   mm_ranges s c itsi area pdu (Err fault) is given of small near h = h
   mm_ranges s c itsi area pdu (Ok (up.Demand update)) is given of small near h =
-      made s c _ _ _ (locate_refusal s.registered itsi area update) given (accept_short (accept_of update)) h (radio_located_ranges s itsi c.station area update of.0 of.1 near h)
+      made s c _ _ _ (locate_refusal s.registered itsi area update) given (accept_fits (accept_of update)) h (radio_located_ranges s itsi c.station area update of.0 of.1 near h)
   mm_ranges s c itsi area pdu (Ok up.Detach) is given of small near h = made s c _ _ _ (detach_refusal s.registered itsi) given tt h (radio_detached_ranges s itsi h)
   mm_ranges s c itsi area pdu (Ok (up.Groups mode items)) is given of small near h =
       let groups = groups_read {A = B} pdu mode items is in
       let few : length (answers s.registered itsi items) ≤ most_groups = omega (arith, groups.0, no_more (answer s.registered itsi) items) in
-      made s c _ _ _ (apply_refusal s.registered s.groups itsi mode items) given (acknowledge_short (answers s.registered itsi items) few) h (groups_changed_ranges s itsi mode items small groups.1 h)
+      made s c _ _ _ (apply_refusal s.registered s.groups itsi mode items) given (acknowledge_fits (answers s.registered itsi items) few) h (groups_changed_ranges s itsi mode items small groups.1 h)
 
   sds_ranges : (s : State) (c : Command A) (source destination : ℕ) (pdu : List Bool) (head : Result Head SdsFault) → heading pdu ≡ head → InRange c → AreEnds source destination → StateInRange s → Keeps B (step_sds s c source destination pdu head)
   sds_ranges s c source destination pdu (Err fault) is given ends h = h

@@ -1,5 +1,5 @@
 -- What a state can hold.
-use Rattle.std.specs.Prelude.{◌<◌, ◌≤◌, ◌^◌, ℕ, length, IfSome, ◌≡◌}
+use Rattle.std.specs.Prelude.{◌<◌, ◌≤◌, ◌^◌, ℕ, Bool, List, length, Option, Some, None, IfSome, ◌≡◌}
 use Rattle.std.specs.List.{All}
 use Rattle.std.specs.declared.cmp.Ordering.{Ordering}
 use Rattle.std.specs.FinMap as map
@@ -10,7 +10,7 @@ use Rattle.registration.specs.declared.radio.Radio.{Radio}
 use Rattle.group_attach.specs.Attached.{Pair, Usage}
 use Rattle.sds_tl.specs.Syntax.{most_bits}
 use Rattle.mailbox.specs.Values.{Waiting, KeyInRange, latest_deadline}
-use Rattle.centre_core.specs.Ranges.{RuleInRange, IsShort}
+use Rattle.centre_core.specs.Ranges.{RuleInRange, most_bits as most_of_pdu}
 use Rattle.centre_core.specs.State.{State, Served}
 
 -- of each entry of a map this holds
@@ -36,11 +36,16 @@ pub record ItemInRange (w : Waiting) : Type 0 where
   pub pdu : length w.pdu ≤ most_bits
   pub group : IfSome w.group (λ gtsi. gtsi < 2 ^ 48)
 
--- what is kept of a station: a sequence from 1, of 32 bits, and a reply of at most 2,048
+-- the PDU of a reply, if it has one: 1 to 2,048 bits
+abbrev pub IsReply : Option (List Bool) → Type 0
+IsReply None = Unit {0}
+IsReply (Some bits) = (0 < length bits) × (length bits ≤ most_of_pdu)
+
+-- what is kept of a station: a sequence from 1, of 32 bits, and its reply
 pub record ServedInRange (last : Served) : Type 0 where
   pub above : 0 < last.sequence
   pub sequence : last.sequence < 2 ^ 32
-  pub pdu : IsShort last.pdu
+  pub pdu : IsReply last.pdu
 
 -- each part of a state is in its range; its numbers are from 1 to the count, as what holds of every state says
 pub record StateInRange (s : State) : Type 0 where

@@ -10,10 +10,13 @@ use std::marker::Model;
 
 /// What is kept of a station's last accepted command.
 #[derive(Drop)]
-pub(crate) struct LastAccepted<A: Allocator> {
-    pub(crate) sequence: u32,
-    pub(crate) number: u64,
-    pub(crate) pdu: Option<Bits<A>>,
+pub struct LastAccepted<A: Allocator> {
+    /// Its sequence.
+    pub sequence: u32,
+    /// Under which number it was accepted.
+    pub number: u64,
+    /// The PDU of its reply.
+    pub pdu: Option<Bits<A>>,
 }
 
 impl<A: Allocator> Model for LastAccepted<A> {
@@ -50,7 +53,7 @@ impl<A: Allocator> LastAccepted<A> {
 }
 
 /// As many entries as there are stations, with no command accepted.
-pub(crate) fn none_accepted<A: Allocator + Clone>(
+pub fn none_accepted<A: Allocator + Clone>(
     alloc: &A,
     stations: u32,
 ) -> Result<Vec<Option<LastAccepted<A>>, A>, AllocError>

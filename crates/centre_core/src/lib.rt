@@ -9,12 +9,15 @@ mod answers;
 mod command;
 mod last_accepted;
 pub mod laws;
+mod parts;
 mod query;
 mod register;
 mod reply;
 mod tables;
 
 pub use command::{Body, Command};
+pub use last_accepted::LastAccepted;
+pub use parts::Parts;
 pub use query::{Attachments, Items, Query, Told};
 pub use register::Register;
 pub use reply::{Refusal, Reply};

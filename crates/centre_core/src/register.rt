@@ -9,9 +9,11 @@ ghost use Rattle.centre_core.specs.History.{is_acceptance, names};
 ghost use Rattle.centre_core.specs.Laws.{KeepsMessages};
 
 use crate::tables::Tables;
-use crate::{Command, Query, Reply, Told};
+use crate::{Command, LastAccepted, Parts, Query, Reply, Told};
+use group_attach::Groups;
+use mailbox::Mail;
 use prefix_tree::TryCopy;
-use registration::Limits;
+use registration::{Limits, Registry};
 use std::alloc::{AllocError, Allocator};
 use std::marker::Model;
 
@@ -37,6 +39,45 @@ impl<A: Allocator> Model for Register<A> {
 }
 
 impl<A: Allocator> Register<A> {
+    /// The register of these parts, which make a state; each is in its range.
+    pub fn from_parts(parts: Parts<A>) -> Self
+        requires state { IsState parts }
+        requires ranges { StateInRange parts }
+        ensures { result ≡ parts }
+    {
+        Register {
+            tables: Tables::of(parts),
+        }
+    }
+
+    /// Its rules and radios.
+    pub fn registry(&self) -> &Registry<A>
+        ensures { result.now ≡ self.now.registered }
+    {
+        self.tables.registry()
+    }
+
+    /// To which groups its radios are attached.
+    pub fn groups(&self) -> &Groups<A>
+        ensures { result.now ≡ self.now.groups }
+    {
+        self.tables.groups()
+    }
+
+    /// What waits.
+    pub fn mail(&self) -> &Mail<A>
+        ensures { result.now ≡ self.now.mail }
+    {
+        self.tables.mail()
+    }
+
+    /// What is kept of each station's last accepted command, that of station 1 first.
+    pub fn served(&self) -> &[Option<LastAccepted<A>>]
+        ensures { result.now ≡ self.now.served }
+    {
+        self.tables.served()
+    }
+
     // What its tables keep, as clauses.
     pub(crate) fn keep_state(&self)
         ensures state { IsState self.now }

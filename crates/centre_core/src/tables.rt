@@ -20,7 +20,7 @@ ghost use Rattle.centre_core.specs.Laws.{KeepsMessages};
 
 use crate::answers::{accept_pdu, acknowledge_pdu, location_refusal, registration_refusal};
 use crate::last_accepted::{LastAccepted, bits_copy, copied, keep, none_accepted};
-use crate::{Attachments, Body, Command, Query, Refusal, Reply, Told};
+use crate::{Attachments, Body, Command, Parts, Query, Refusal, Reply, Told};
 use group_attach::{Attachment, Groups};
 use identity::{Bits, Gtsi, Itsi, Prefix};
 use mailbox::Mail;
@@ -60,6 +60,45 @@ impl<A: Allocator> Model for Tables<A> {
 }
 
 impl<A: Allocator> Tables<A> {
+    // Of these parts, which make a state.
+    pub(crate) fn of(parts: Parts<A>) -> Self
+        requires { IsState parts }
+        ensures { result ≡ parts }
+    {
+        Tables {
+            alloc: parts.alloc,
+            registry: parts.registry,
+            groups: parts.groups,
+            mail: parts.mail,
+            served: parts.served,
+            count: parts.count,
+        }
+    }
+
+    pub(crate) fn registry(&self) -> &Registry<A>
+        ensures { result.now ≡ self.now.registered }
+    {
+        &self.registry
+    }
+
+    pub(crate) fn groups(&self) -> &Groups<A>
+        ensures { result.now ≡ self.now.groups }
+    {
+        &self.groups
+    }
+
+    pub(crate) fn mail(&self) -> &Mail<A>
+        ensures { result.now ≡ self.now.mail }
+    {
+        &self.mail
+    }
+
+    pub(crate) fn served(&self) -> &[Option<LastAccepted<A>>]
+        ensures { result.now ≡ self.now.served }
+    {
+        &self.served
+    }
+
     // What its fields keep, as a clause.
     pub(crate) fn keep_state(&self)
         ensures { IsState self.now }

@@ -1,14 +1,15 @@
-mod Pairs
-mod Filtered
+pub mod Pairs
+pub mod Filtered
 mod Places
 mod Counting
 mod Endings
 mod FiledFacts
 mod Gathering
 mod IndexFacts
-mod Moves
+pub mod Moves
 mod BothSides
 mod Answering
 mod Steps
 mod Rising
 pub mod KeptLaws
+mod Restored

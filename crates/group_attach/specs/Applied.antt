@@ -1,5 +1,5 @@
 -- What a location update and a group PDU make of the attachments, and how the PDU is answered.
-use Rattle.std.specs.Prelude.{ℕ, ◌==◌, nat_lt, Bool, true, false, ◌&&◌, not, List, Option, Some, None, if◌then◌else◌}
+use Rattle.std.specs.Prelude.{ℕ, ◌==◌, nat_lt, Bool, true, false, ◌&&◌, not, List, length, Option, Some, None, if◌then◌else◌}
 use Rattle.std.specs.List.{filter, filter_map, fold}
 use Rattle.std.specs.FinMap as finite
 use Rattle.mm_pdus.specs.declared.update.LocationUpdateType.{LocationUpdateType}
@@ -19,7 +19,8 @@ use Rattle.registration.specs.declared.rule.Rule.{Rule}
 use Rattle.registration.specs.Registered.{Registered, rule_of, radio_of, is_present}
 use Rattle.group_attach.specs.declared.fault.GroupFault.{GroupFault}
 use Rattle.group_attach.specs.declared.fault.GroupFault.TheVariants.{NotAttached, TooManyGroups}
-use Rattle.group_attach.specs.Attached.{Attached, Pair, Usage, of_radio}
+use Rattle.group_attach.specs.declared.attachment.Attachment.{Attachment}
+use Rattle.group_attach.specs.Attached.{Attached, Pair, Usage, entry_of, of_radio}
 
 -- the attachments that pass the test
 abbrev pub kept_where : (Pair × Usage → Bool) → Attached → Attached
@@ -96,3 +97,11 @@ most_of_radio = 32
 abbrev pub apply_refusal : Registered → Attached → ℕ → GroupMode → List GroupUp → Option GroupFault
 apply_refusal s m itsi mode items =
     if is_present (radio_of s itsi) then (if nat_lt most_of_radio (finite.len (of_radio (applied s m itsi mode items) itsi)) then Some TooManyGroups else None) else Some NotAttached
+
+-- why the attachments of a radio are not restored: they are more than it may have
+abbrev pub restore_refusal : List Attachment → Option GroupFault
+restore_refusal list = if nat_lt most_of_radio (length list) then Some TooManyGroups else None
+
+-- a radio has the attachments of a list, and no other
+abbrev pub restored : Attached → ℕ → List Attachment → Attached
+restored m itsi list = fold (λ n a. finite.insert n (entry_of a).0 (entry_of a).1) (without_radio m itsi) list

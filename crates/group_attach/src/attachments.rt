@@ -5,7 +5,7 @@ ghost use Rattle.std.specs.Option.{option_copied, option_map};
 ghost use Rattle.std.specs.FinMap as finite;
 ghost use Rattle.group_attach.specs.Attached.{no_groups, listed, attachment_of};
 ghost use Rattle.group_attach.specs.Applied.{applied};
-ghost use Rattle.group_attach.specs.InOrder.{IsInOrder, pair_of};
+ghost use Rattle.group_attach.specs.InOrder.{IsInOrder, map_of, pair_of};
 ghost use Rattle.group_attach.specs.Filed.{attached, ended, held};
 
 use crate::Attachment;
@@ -55,6 +55,16 @@ impl<A: Allocator> AttachmentList<A> {
         let mut list = AttachmentList::new(alloc);
         list.attach(attachment)?;
         Ok(list)
+    }
+
+    /// These attachments, which are in order.
+    pub(crate) fn from_slice(alloc: A, attachments: &[Attachment]) -> Result<Self, AllocError>
+        requires { IsInOrder attachments.now }
+        ensures { IfOk result (λ list. list ≡ map_of attachments.now) }
+    {
+        Ok(AttachmentList {
+            entries: Vec::from_slice(alloc, attachments)?,
+        })
     }
 
     /// Its attachments in order.

@@ -1,12 +1,14 @@
 //! The attachments of all radios, and the calls that change them.
 
 ghost use Rattle.std.specs.Prelude.{◌≡◌, None, OnOk, OnErr, IfOk, IfErr, unwrap_or};
+ghost use Rattle.std.specs.List.{All};
 ghost use Rattle.std.specs.Ordering.{nat_cmp};
 ghost use Rattle.std.specs.FinMap as finite;
 ghost use Rattle.prefix_tree.specs.Following.{next_of};
 ghost use Rattle.group_attach.specs.Attached.{no_groups, of_radio, groups_of, members_of};
-ghost use Rattle.group_attach.specs.Applied.{after_update, applied, answers, apply_refusal};
+ghost use Rattle.group_attach.specs.Applied.{after_update, applied, answers, apply_refusal, restore_refusal, restored};
 ghost use Rattle.group_attach.specs.Filed.{AllHave, IsReplaced};
+ghost use Rattle.group_attach.specs.InOrder.{IsInOrder, map_of};
 ghost use Rattle.group_attach.specs.declared.fault.GroupFault.TheVariants.{NoMemory};
 
 use crate::answer::answers;
@@ -67,7 +69,14 @@ impl<A: Allocator> Groups<A> {
     ) -> Result<Vec<Attachment, C>, AllocError>
         ensures { IfOk result (λ list. list.items ≡ groups_of self.now itsi) }
     {
-        Vec::from_slice(alloc, self.by_radio.part(itsi.number()))
+        Vec::from_slice(alloc, self.attachments(itsi))
+    }
+
+    /// The same, lent.
+    pub fn attachments(&self, itsi: Itsi) -> &[Attachment]
+        ensures { result.now ≡ groups_of self.now itsi }
+    {
+        self.by_radio.part(itsi.number())
     }
 
     /// The radio's first attachment after this group, in order of the groups, also where it has none to this one, or
@@ -75,7 +84,7 @@ impl<A: Allocator> Groups<A> {
     pub fn next_of(&self, itsi: Itsi, after: Option<Gtsi>) -> Option<Attachment>
         ensures { result ≡ next_of nat_cmp (λ a. a.gtsi) (groups_of self.now itsi) after }
     {
-        first_after(self.by_radio.part(itsi.number()), after).copied()
+        first_after(self.attachments(itsi), after).copied()
     }
 
     /// The attachments to a group in order of their radios, be these present or not.
@@ -180,6 +189,32 @@ impl<A: Allocator + Clone> Groups<A> {
             return Err(fault);
         }
         self.enact(registry, itsi, mode, items)
+    }
+
+    /// The radio has these attachments, as when they were kept, and no other; no rule is asked. They are
+    /// in order of their groups. `TooManyGroups` where they are more than 32, else at most `NoMemory`; a
+    /// refusal changes nothing.
+    pub fn restore(&mut self, itsi: Itsi, attachments: &[Attachment]) -> Result<(), GroupFault>
+        requires own { All (λ a. a.itsi ≡ itsi) attachments.now }
+        requires in_order { IsInOrder attachments.now }
+        ensures ok { OnOk result ((restore_refusal attachments.now ≡ None) × (self.new ≡ restored self.old itsi attachments.now)) }
+        ensures err { IfErr result (λ e. (e ≡ unwrap_or (restore_refusal attachments.now) NoMemory) × (self.new ≡ self.old)) }
+    {
+        if attachments.len() > MOST_OF_RADIO {
+            return Err(GroupFault::TooManyGroups);
+        }
+        let Ok(list) = self.listed(attachments) else {
+            return Err(GroupFault::NoMemory);
+        };
+        self.replace(itsi, list).or(Err(GroupFault::NoMemory))
+    }
+
+    // These attachments, as a list of its own.
+    fn listed(&self, attachments: &[Attachment]) -> Result<AttachmentList<A>, AllocError>
+        requires { IsInOrder attachments.now }
+        ensures { IfOk result (λ list. list ≡ map_of attachments.now) }
+    {
+        AttachmentList::from_slice(self.alloc.clone()?, attachments)
     }
 
     // Changes them as the PDU asks, which is not refused.

@@ -11,6 +11,8 @@ mod one_by_one;
 #[cfg(test)]
 mod plain;
 #[cfg(test)]
+mod restored;
+#[cfg(test)]
 mod side_by_side;
 #[cfg(test)]
 mod small_heap;

@@ -37,6 +37,17 @@ fn follow(groups: &Groups<Global>, itsi: Itsi) -> Result<bool, Fail> {
     Ok(true)
 }
 
+/// The groups of all attachments of a radio, as digits.
+fn digits(groups: &Groups<Global>, itsi: Itsi) -> u32 {
+    let mut digits = 0u32;
+    for attachment in groups.attachments(itsi) {
+        digits = digits
+            .saturating_mul(10)
+            .saturating_add(attachment.gtsi.ssi());
+    }
+    digits
+}
+
 fn are_followed(
     alloc: Global,
     registry: &Registry<Global>,
@@ -51,7 +62,8 @@ fn are_followed(
         && groups
             .change(registry, other, GroupMode::Amendment, &of_other)
             .is_ok();
-    Ok(done && follow(groups, one)? && next_group(groups, other, 0)? == 2)
+    let are_lent = digits(groups, one) == 134 && digits(groups, other) == 2;
+    Ok(done && are_lent && follow(groups, one)? && next_group(groups, other, 0)? == 2)
 }
 
 fn tried(alloc: Global) -> Result<bool, Fail> {

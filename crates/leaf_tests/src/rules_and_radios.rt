@@ -4,7 +4,7 @@ use identity::{Itsi, Prefix};
 use linked_list_allocator::LocalHeap;
 use mm_pdus::{Lifetime, LocationUpdateType};
 use prefix_tree::TryCopy;
-use registration::{Limits, LocationArea, RegFault, Registry, Rule};
+use registration::{Limits, LocationArea, Radio, RegFault, Registry, Rule};
 use std::alloc::{AllocError, Global};
 use std::test::Fail;
 
@@ -95,6 +95,15 @@ fn listed(alloc: Global, registry: &Registry<&LocalHeap>) -> Result<Vec<(u64, u3
     Ok(list)
 }
 
+/// A radio that left at station 2.
+fn left(area: LocationArea) -> Radio {
+    Radio {
+        station: 2,
+        area,
+        present: false,
+    }
+}
+
 /// The call of this turn: rules under 0, 3 and 9 bits, and radios that part at the first bit and at the last.
 fn called(
     registry: &mut Registry<&LocalHeap>,
@@ -108,7 +117,7 @@ fn called(
         0 => registry.set_rule(Prefix::of(here.number(), 0), rule),
         1 => registry.set_rule(Prefix::of(here.number(), 3), rule),
         2 => registry.locate(here, 1, area, attach),
-        3 => registry.locate(other, 2, area, attach),
+        3 => registry.restore(other, left(area)),
         _ => registry.set_rule(Prefix::of(here.number(), 9), rule),
     }
 }
@@ -208,5 +217,55 @@ fn parted(alloc: Global, here: Itsi, rule: Rule) -> Result<[bool; 2], AllocError
 fn a_copy_is_apart(rt: HostRuntime) -> Result<(), Fail> {
     let (here, rule) = (radio(2001)?, rule(60)?);
     assert!(rt; parted(rt.alloc(), here, rule)? == [true, false]);
+    Ok(())
+}
+
+/// Where a radio is that was restored under no rule, and what a second one is told where one may be known.
+fn restored(
+    alloc: Global,
+    here: Itsi,
+    other: Itsi,
+    area: LocationArea,
+) -> Result<(Option<Radio>, Result<(), RegFault>), AllocError> {
+    let one = Limits {
+        rules: 1,
+        radios: 1,
+        mail: 1,
+        stations: 1,
+    };
+    let mut registry = Registry::new(alloc, one)?;
+    let _ = registry.restore(here, left(area));
+    let told = registry.restore(other, left(area));
+    Ok((registry.where_is(here), told))
+}
+
+#[test]
+fn a_radio_is_restored_where_it_was(rt: HostRuntime) -> Result<(), Fail> {
+    let (here, other, area) = (radio(2001)?, radio(2000)?, area(77)?);
+    let (at, told) = restored(rt.alloc(), here, other, area)?;
+    assert!(rt; at == Some(left(area)) && told == Err(RegFault::Congestion));
+    Ok(())
+}
+
+/// Whether a radio that comes and is forgotten leaves the registry and the heap as they were, rule and other radio too.
+fn is_forgotten(heap: &LocalHeap, here: Itsi, other: Itsi, rule: Rule) -> Result<bool, AllocError> {
+    let mut registry = Registry::new(heap, limits())?;
+    let _ = registry.set_rule(here.path(), rule);
+    let _ = registry.restore(other, left(rule.low()));
+    let used = heap.used();
+    let _ = registry.restore(here, left(rule.low()));
+    let counted = (registry.rule_count(), registry.radio_count()) == (1, 2);
+    let told = [registry.forget(here), registry.forget(here)] == [true, false];
+    let is_as_before = registry.radio_count() == 1
+        && registry.where_is(here).is_none()
+        && registry.where_is(other) == Some(left(rule.low()));
+    Ok(counted && told && is_as_before && heap.used() == used)
+}
+
+#[test]
+fn a_forgotten_radio_leaves_no_trace(rt: HostRuntime) -> Result<(), Fail> {
+    let (here, other, rule) = (radio(2001)?, radio(2000)?, rule(60)?);
+    let heap = LocalHeap::new(rt.alloc(), 4096)?;
+    assert!(rt; is_forgotten(&heap, here, other, rule)?);
     Ok(())
 }

@@ -4,7 +4,8 @@ use Rattle.std.specs.Prelude.{not, ◌&&◌, ◌||◌, count_by}
 use Rattle.std.specs.List.{All, AllPairs, filter, list_any}
 use Rattle.std.proofs.lemmas.Bool.{false≢true, false_from_ne_true, and_parts, and_right}
 use Rattle.std.proofs.lemmas.List.Elements.{All-weaker, filter_agree, filter-append}
-use Rattle.std.proofs.lemmas.List.Sums.{length-filter}
+use Rattle.std.proofs.lemmas.List.{length-append}
+use Rattle.std.proofs.lemmas.List.Sums.{length-filter, sum_by_push}
 use Rattle.mailbox.specs.declared.key.Kind.TheVariants.{Message, Report}
 use Rattle.mailbox.specs.declared.key.Key.{Key}
 use Rattle.mailbox.specs.declared.key.Envelope.{Envelope}
@@ -12,7 +13,8 @@ use Rattle.mailbox.specs.Values.{Waiting, Mailed}
 use Rattle.mailbox.specs.Tests.{same_kind, same_key, key_of, answered, is_at, is_to, is_reported, ends_request, request_of, is_ended_by}
 use Rattle.mailbox.specs.Mail.{holds, without, with_item, posted, reported, waiting}
 use Rattle.mailbox.proofs.Lists.{filter_within, filter_turned, filter_twice, filter_alike, any_within, none_passes, any_of_none, filter_all, pairs_head, pairs_tail}
-use Rattle.mailbox.proofs.Keys.{key_turned, key_itself, key_exact, at_is_to}
+use Rattle.mailbox.specs.Refusals.{crowd_refusal, full_refusal}
+use Rattle.mailbox.proofs.Keys.{number_itself, key_turned, key_itself, key_exact, at_is_to}
 
 abbrev AreApart : List Waiting → Type 0
 AreApart ws = AllPairs (λ a b. same_key b.key a.key ≡ false) ws
@@ -112,3 +114,12 @@ reported_then m e status w is =
     filter-append (λ o. not (is_reported e status o)) (filter (λ o. not (is_at w.key o)) m.items) (w ∷ [])
     ∙ (λ i. first i ++ cond (not (stays i)) (w ∷ []) []) in
     λ i. record { room = m.room; items = all i }
+
+-- how many wait for its destination, and in all, with one more item
+pub one_more_waits : (m : Mailed) (w : Waiting) → crowd_refusal m.room (count_by (is_to w.key.destination) m.items + 1) (length m.items + 1) ≡ full_refusal (posted m w) w.key.destination
+one_more_waits m w =
+    let d : ℕ = w.key.destination in
+    let itself : is_to d w ≡ true = number_itself d in
+    let sum : count_by (is_to d) (m.items ++ w ∷ []) ≡ count_by (is_to d) m.items + cond (is_to d w) 1 0 = sum_by_push (λ x. cond (is_to d x) 1 0) m.items w in
+    let counted : count_by (is_to d) m.items + 1 ≡ count_by (is_to d) (m.items ++ w ∷ []) = sym (sum ∙ ap (λ b. count_by (is_to d) m.items + cond b 1 0) itself) in
+    λ i. crowd_refusal m.room (counted i) (sym (length-append m.items (w ∷ [])) i)

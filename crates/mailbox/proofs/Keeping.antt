@@ -1,28 +1,30 @@
 -- What is kept after each change: the boxes and the index go on giving the items in order.
-use Rattle.std.proofs.Common.{◌≡◌, ℕ, ◌+◌, ◌<◌, ◌^◌, Bool, true, false, List, [], ◌∷◌, ◌++◌, length, get_or, map, take, refl, ap, sym, ◌∙◌, subst, arith, Some}
-use Rattle.std.specs.Prelude.{not, ◌&&◌, ◌||◌}
-use Rattle.std.specs.List.{All, AllPairs, cons_option, filter, find, fold, list_any}
+use Rattle.std.proofs.Common.{◌≡◌, ℕ, ◌<◌, ◌^◌, Bool, true, false, List, [], ◌∷◌, ◌++◌, get_or, map, refl, ap, sym, ◌∙◌, subst, arith, Option, Some, None}
+use Rattle.std.specs.Prelude.{not, ◌&&◌}
+use Rattle.std.specs.List.{All, AllPairs, filter, find, list_any}
 use Rattle.std.specs.FinMap as finite
+use Rattle.std.specs.Option.{option_map}
+use Rattle.std.specs.Ordering.{is_eq, ordering_reverse}
 use Rattle.std.specs.FinMap.{get-empty}
-use Rattle.std.proofs.lemmas.Bool.{or_left, or_right}
-use Rattle.std.proofs.lemmas.List.{map-append, take_more}
-use Rattle.std.proofs.lemmas.List.Elements.{All-nil, All-cons, All-weaker, All-filter, All-push, filter_agree, filter_map-append}
+use Rattle.std.proofs.lemmas.List.{map-append}
+use Rattle.std.proofs.lemmas.List.Elements.{All-nil, All-weaker, All-filter, All-push, filter_agree}
 use Rattle.std.proofs.lemmas.List.Kept.{AllPairs-filter}
 use Rattle.std.proofs.lemmas.List.Quantifiers.{all_pairs_push}
 use Rattle.identity.specs.Path.{path_cmp, id_path}
-use Rattle.identity.specs.PathLaws.{tied}
 use Rattle.mailbox.specs.declared.key.Key.{Key}
 use Rattle.mailbox.specs.declared.place.Place.{Place}
 use Rattle.mailbox.specs.Values.{Waiting}
 use Rattle.mailbox.specs.Tests.{same_key, is_at, is_to, is_expired}
-use Rattle.mailbox.specs.Order.{IsBefore}
-use Rattle.mailbox.specs.Boxes.{Boxes, items_under, swept, put_last, put, all_expired, item_at, is_kept, place_of, in_order, is_under, AreKept}
-use Rattle.mailbox.proofs.Lists.{implied, filter_alike, filter_twice, any_within, find_within, filter_all, none_left, looked_up, filter_mapped, any_mapped, find_each, any_each}
-use Rattle.mailbox.proofs.Keys.{key_itself, key_turned, at_is_under, under_is_to}
+use Rattle.mailbox.specs.Order.{IsBefore, named}
+use Rattle.mailbox.specs.Places.{same_place, is_due}
+use Rattle.mailbox.specs.Boxes.{Boxes, items_under, swept, put_last, put, item_at, is_kept, place_of, in_order, is_under, AreKept}
+use Rattle.mailbox.proofs.Lists.{implied, both_ways, filter_alike, any_within, find_within, found_passes, found_with, found_any, never_found, none_passes, any_of_none, find_agree, find_mapped, filter_all, none_left, looked_up, filter_mapped, any_mapped, find_each}
+use Rattle.mailbox.proofs.Keys.{key_itself, key_exact, at_is_under, under_is_to, named_total, total_itself, is_equal}
 use Rattle.mailbox.proofs.Boxed.{IsBoxed, items_boxed, boxed_swept, boxed_put}
 
-abbrev AreApart : List Waiting → Type 0
-AreApart ws = AllPairs (λ a b. same_key b.key a.key ≡ false) ws
+abbrev pub unwrap_or_item : Waiting → Option Waiting → Waiting
+unwrap_or_item d None = d
+unwrap_or_item d (Some w) = w
 
 pub none_kept : (boxes : Boxes) (order : List Place) → boxes ≡ finite.empty → order ≡ [] → AreKept [] boxes order
 none_kept boxes order empty none = record {
@@ -51,10 +53,6 @@ pub kept_waiting : (ws : List Waiting) (boxes : Boxes) (order : List Place) (des
 kept_waiting ws boxes order destination kept below =
     items_boxed ws boxes (id_path destination) kept.boxed
     ∙ filter_alike (is_under (id_path destination)) (is_to destination) ws (All-weaker (λ w. w.key.destination < 2 ^ 48) (λ w. is_under (id_path destination) w ≡ is_to destination w) (λ w whole. under_is_to destination below w whole) ws kept.whole)
-
--- the index has a key's place where the item waits
-pub kept_any : (ws : List Waiting) (boxes : Boxes) (order : List Place) (k : Key) → AreKept ws boxes order → list_any (λ place. same_key k place.key) order ≡ list_any (is_at k) ws
-kept_any ws boxes order k kept = ap (list_any (λ place. same_key k place.key)) kept.indexed ∙ any_mapped place_of (λ place. same_key k place.key) ws
 
 -- a destination's box has the item at a key where the item waits
 pub kept_holds : (ws : List Waiting) (boxes : Boxes) (order : List Place) (k : Key) → AreKept ws boxes order → is_kept boxes k ≡ list_any (is_at k) ws
@@ -85,68 +83,109 @@ kept_put ws boxes new order longer w kept last below put_so longer_so =
       whole = All-push (λ o. o.key.destination < 2 ^ 48) left w (All-filter (λ o. not (is_at w.key o)) (λ o. o.key.destination < 2 ^ 48) ws kept.whole) below;
     }
 
--- the items that are left where those that pass a test go, at the destination of each place
-left_by : (Waiting → Bool) → List Place → List Waiting → List Waiting
-left_by test [] ws = ws
-left_by test (place ∷ places) ws = left_by test places (filter (λ w. not (is_under (id_path place.key.destination) w && test w)) ws)
+-- no place of an item that is found, and the item whose place it is
+pub no_item : (o : Option Waiting) → None ≡ option_map place_of o → o ≡ None
+no_item None e = refl
+no_item (Some w) e = absurd cc
 
-boxed_all : (test : Waiting → Bool) (places : List Place) (ws : List Waiting) (boxes : Boxes) → IsBoxed ws boxes → IsBoxed (left_by test places ws) (fold (λ b place. swept b (id_path place.key.destination) test) boxes places)
-unfolding left_by
-boxed_all test [] ws boxes boxed = boxed
-boxed_all test (place ∷ places) ws boxes boxed = boxed_all test places (filter (λ w. not (is_under (id_path place.key.destination) w && test w)) ws) (swept boxes (id_path place.key.destination) test) (boxed_swept ws boxes boxed (id_path place.key.destination) test)
+abbrev place_or : Place → Option Place → Place
+place_or d None = d
+place_or d (Some p) = p
 
-abbrev among : List Place → Waiting → Bool
-among places w = list_any (λ place. is_under (id_path place.key.destination) w) places
+abbrev pub OfItem : Place → Option Waiting → Type 0
+OfItem p o = (w : Waiting) × ((o ≡ Some w) × (place_of w ≡ p))
 
-either_place : (here later test : Bool) → (not (here && test) && not (later && test)) ≡ not ((here || later) && test)
-either_place true true true = refl
-either_place true true false = refl
-either_place true false true = refl
-either_place true false false = refl
-either_place false later test = refl
+pub of_item : (p : Place) (o : Option Waiting) → Some p ≡ option_map place_of o → OfItem p o
+of_item p None e = absurd cc
+of_item p (Some w) e = (w, (refl, sym (ap (place_or p) e)))
 
-left_is : (test : Waiting → Bool) (places : List Place) (ws : List Waiting) → left_by test places ws ≡ filter (λ w. not (among places w && test w)) ws
-unfolding left_by
-left_is test [] ws = sym (filter_all (λ w. false) ws (λ k d below. refl))
-left_is test (place ∷ places) ws =
-    left_is test places (filter (λ w. not (is_under (id_path place.key.destination) w && test w)) ws)
-    ∙ filter_twice (λ w. not (among places w && test w)) (λ w. not (is_under (id_path place.key.destination) w && test w)) ws
-    ∙ filter_agree (λ w. not (is_under (id_path place.key.destination) w && test w) && not (among places w && test w)) (λ w. not (among (place ∷ places) w && test w))
-    (λ w. either_place (is_under (id_path place.key.destination) w) (among places w) (test w)) ws
+-- an item's place, among those of all
+module _ (ws : List Waiting) (boxes : Boxes) (order : List Place) (k : Key) (kept : AreKept ws boxes order) where
+  abbrev same_item : Waiting → Waiting → Bool
+  same_item v w = same_place (place_of v) (place_of w)
 
-all_among : (ws : List Waiting) → All (λ w. among (map place_of ws) w ≡ true) ws
-all_among [] = All-nil (λ w. among [] w ≡ true)
-all_among (x ∷ xs) =
-    All-cons (λ w. among (map place_of (x ∷ xs)) w ≡ true) x xs (or_left (is_under (id_path x.key.destination) x) (among (map place_of xs) x) (tied (id_path x.key.destination)))
-    (All-weaker (λ w. among (map place_of xs) w ≡ true) (λ w. among (map place_of (x ∷ xs)) w ≡ true) (λ w e. or_right (is_under (id_path x.key.destination) w) (among (map place_of xs) w) e) xs (all_among xs))
+  item_itself : (w : Waiting) → same_item w w ≡ true
+  item_itself w = ap is_eq (total_itself named_total (named w))
 
-left_in_all : (test : Waiting → Bool) (ws : List Waiting) (order : List Place) → order ≡ map place_of ws → left_by test order ws ≡ filter (λ w. not (test w)) ws
-left_in_all test ws order indexed =
-    left_is test order ws
-    ∙ filter_alike (λ w. not (among order w && test w)) (λ w. not (test w)) ws
-    (All-weaker (λ w. among (map place_of ws) w ≡ true) (λ w. not (among order w && test w) ≡ not (test w)) (λ w e. ap (λ b. not (b && test w)) (ap (λ places. among places w) indexed ∙ e)) ws (all_among ws))
+  items_apart : AllPairs (λ a b. same_item b a ≡ false) ws
+  items_apart i j d less below = let a = get_or ws i d in let b = get_or ws j d in ap is_eq (named_total.antisymm (named b) (named a) ∙ ap ordering_reverse (kept.ordered i j d less below))
 
-held_each : (test : Waiting → Bool) (ws : List Waiting) (boxes : Boxes) → AreApart ws → IsBoxed (filter (λ w. not (test w)) ws) boxes → All (λ w. is_kept boxes w.key ≡ not (test w)) ws
-held_each test ws boxes apart boxed =
-    let left : List Waiting = filter (λ w. not (test w)) ws in
-    All-weaker (λ w. list_any (is_at w.key) left ≡ not (test w)) (λ w. is_kept boxes w.key ≡ not (test w))
-    (λ w e. ap (list_any (is_at w.key)) (items_boxed left boxes (id_path w.key.destination) boxed) ∙ any_within (is_at w.key) (is_under (id_path w.key.destination)) (at_is_under w.key) left ∙ e)
-    ws (any_each (λ a b. same_key a.key b.key) (λ w. key_itself w.key) (λ a b. key_turned a.key b.key) (λ w. not (test w)) ws apart)
+  -- the item at the key, if there is one
+  pub found_at_key : item_at boxes k ≡ find (is_at k) ws
+  found_at_key = ap (find (is_at k)) (items_boxed ws boxes (id_path k.destination) kept.boxed) ∙ find_within (is_at k) (is_under (id_path k.destination)) (at_is_under k) ws
 
--- all that has expired goes
-pub kept_expired : (ws : List Waiting) (boxes new : Boxes) (order left : List Place) (moment : ℕ) → AreKept ws boxes order → new ≡ all_expired moment boxes order → left ≡ filter (λ place. is_kept new place.key) order → AreKept (filter (λ w. not (is_expired moment w)) ws) new left
-kept_expired ws boxes new order left moment kept new_so left_so =
-    let boxed : IsBoxed (filter (λ w. not (is_expired moment w)) ws) new = subst (IsBoxed (filter (λ w. not (is_expired moment w)) ws)) (sym new_so)
-    (subst (λ os. IsBoxed os (all_expired moment boxes order)) (left_in_all (is_expired moment) ws order kept.indexed) (boxed_all (is_expired moment) order ws boxes kept.boxed)) in
-    record {
-      boxed = boxed;
-      indexed = left_so ∙ ap (filter (λ place. is_kept new place.key)) kept.indexed ∙ filter_mapped place_of (λ place. is_kept new place.key) ws
-          ∙ ap (map place_of) (filter_alike (λ w. is_kept new w.key) (λ w. not (is_expired moment w)) ws (held_each (is_expired moment) ws new kept.apart boxed));
-      ordered = AllPairs-filter IsBefore (λ w. not (is_expired moment w)) ws kept.ordered;
-      apart = AllPairs-filter (λ a b. same_key b.key a.key ≡ false) (λ w. not (is_expired moment w)) ws kept.apart;
-      whole = All-filter (λ w. not (is_expired moment w)) (λ w. w.key.destination < 2 ^ 48) ws kept.whole;
-    }
+  module _ (w : Waiting) (found : item_at boxes k ≡ Some w) where
+    here : find (is_at k) ws ≡ Some w
+    here = sym found_at_key ∙ found
 
--- the item at one place more
-pub in_order_more : (boxes : Boxes) (order : List Place) (i : ℕ) (d : Place) → i < length order → in_order boxes (take (i + 1) order) ≡ in_order boxes (take i order) ++ cons_option (item_at boxes (get_or order i d).key) []
-in_order_more boxes order i d below = ap (in_order boxes) (take_more order i d below) ∙ filter_map-append (λ place. item_at boxes place.key) (take i order) (get_or order i d ∷ [])
+    at_key : is_at k w ≡ true
+    at_key = found_passes (is_at k) ws w here
+
+    found_itself : find (same_item w) ws ≡ Some w
+    found_itself = found_with (λ v. find (same_item v) ws ≡ Some v) (is_at k) ws w (find_each same_item item_itself ws items_apart) here
+
+    -- of the items, the one at this place is the one at the key
+    by_place : (v : Waiting) → find (same_item v) ws ≡ Some v → same_item w v ≡ true → is_at k v ≡ true
+    by_place v there same =
+        let one : find (same_item w) ws ≡ find (same_item v) ws = find_agree (same_item w) (same_item v) (λ x. ap is_eq (named_total.congr (named w) (named v) (named x) (is_equal _ same))) ws in
+        subst (λ x. is_at k x ≡ true) (ap (unwrap_or_item w) (sym found_itself ∙ one ∙ there)) at_key
+
+    by_key : (v : Waiting) → find (is_at v.key) ws ≡ Some v → is_at k v ≡ true → same_item w v ≡ true
+    by_key v there at =
+        let one : Some w ≡ Some v = sym here ∙ ap (λ j. find (is_at j) ws) (key_exact k v.key at) ∙ there in
+        subst (λ x. same_item w x ≡ true) (ap (unwrap_or_item w) one) (item_itself w)
+
+    same_tests : All (λ v. same_item w v ≡ is_at k v) ws
+    same_tests i d below =
+        let v : Waiting = get_or ws i d in
+        both_ways (same_item w v) (is_at k v)
+        (by_place v (find_each same_item item_itself ws items_apart i d below))
+        (by_key v (find_each (λ a b. same_key a.key b.key) (λ x. key_itself x.key) ws kept.apart i d below))
+
+    -- the place of the item at a key goes, and no other
+    pub same_removal : filter (λ place. not (same_place (place_of w) place)) order ≡ filter (λ place. not (same_key k place.key)) order
+    same_removal =
+        ap (filter (λ place. not (same_place (place_of w) place))) kept.indexed ∙ filter_mapped place_of (λ place. not (same_place (place_of w) place)) ws
+        ∙ ap (map place_of) (filter_alike (λ v. not (same_item w v)) (λ v. not (is_at k v)) ws (All-weaker (λ v. same_item w v ≡ is_at k v) (λ v. not (same_item w v) ≡ not (is_at k v)) (λ v e. ap not e) ws same_tests))
+        ∙ sym (filter_mapped place_of (λ place. not (same_key k place.key)) ws) ∙ ap (filter (λ place. not (same_key k place.key))) (sym kept.indexed)
+
+    -- it is among them
+    pub place_there : list_any (same_place (place_of w)) order ≡ true
+    place_there = ap (list_any (same_place (place_of w))) kept.indexed ∙ any_mapped place_of (same_place (place_of w)) ws ∙ found_any (same_item w) ws w found_itself
+
+  -- nothing is at the key
+  pub none_deleted : None ≡ option_map place_of (item_at boxes k) → filter (λ w. not (is_at k w)) ws ≡ ws
+  none_deleted none = filter_all (is_at k) ws (never_found (is_at k) ws (sym found_at_key ∙ no_item (item_at boxes k) none))
+
+  module _ (p : Place) (at : Some p ≡ option_map place_of (item_at boxes k)) where
+    the_item : OfItem p (item_at boxes k)
+    the_item = of_item p (item_at boxes k) at
+
+    -- the place that was found for the key is the one that goes with it
+    pub place_removed : filter (λ place. not (same_place p place)) order ≡ filter (λ place. not (same_key k place.key)) order
+    place_removed = subst (λ q. filter (λ place. not (same_place q place)) order ≡ filter (λ place. not (same_key k place.key)) order) the_item.1.1 (same_removal the_item.0 the_item.1.0)
+
+    pub place_kept : list_any (same_place p) order ≡ true
+    place_kept = subst (λ q. list_any (same_place q) order ≡ true) the_item.1.1 (place_there the_item.0 the_item.1.0)
+
+  pub none_held : None ≡ option_map place_of (item_at boxes k) → list_any (is_at k) ws ≡ false
+  none_held none = any_of_none (is_at k) ws (never_found (is_at k) ws (sym found_at_key ∙ no_item (item_at boxes k) none))
+
+-- the first place whose item has ended is that of the first item that has
+pub first_expired : (ws : List Waiting) (boxes : Boxes) (order : List Place) (moment : ℕ) → AreKept ws boxes order → find (is_due moment) order ≡ option_map place_of (find (is_expired moment) ws)
+first_expired ws boxes order moment kept = ap (find (is_due moment)) kept.indexed ∙ find_mapped place_of (is_due moment) ws
+
+module _ (ws : List Waiting) (boxes new : Boxes) (order longer : List Place) (w : Waiting) (p : Place) (kept : AreKept ws boxes order) (last : All (λ o. IsBefore o w) ws) (below : w.key.destination < 2 ^ 48) (put_so : new ≡ put boxes w) (is : p ≡ place_of w) where
+  -- an item at a key at which none was
+  pub kept_put_free : list_any (is_at w.key) ws ≡ false → longer ≡ order ++ p ∷ [] → AreKept (ws ++ w ∷ []) new longer
+  kept_put_free free longer_so =
+      let alone : filter (λ o. not (is_at w.key o)) ws ≡ ws = filter_all (is_at w.key) ws (none_passes (is_at w.key) ws free) in
+      let same : filter (λ place. not (same_key w.key place.key)) order ≡ order =
+      ap (filter (λ place. not (same_key w.key place.key))) kept.indexed ∙ filter_mapped place_of (λ place. not (same_key w.key place.key)) ws ∙ ap (map place_of) alone ∙ sym kept.indexed in
+      subst (λ os. AreKept (os ++ w ∷ []) new longer) alone (kept_put ws boxes new order longer w kept last below put_so (longer_so ∙ (λ i. sym same i ++ is i ∷ [])))
+
+  -- an item in the place of another
+  pub kept_put_again : (old : Place) → Some old ≡ option_map place_of (item_at boxes p.key) → longer ≡ filter (λ place. not (same_place old place)) order ++ p ∷ [] → AreKept (put_last ws w) new longer
+  kept_put_again old at longer_so =
+      kept_put ws boxes new order longer w kept last below put_so
+      (longer_so ∙ (λ i. place_removed ws boxes order w.key kept old (subst (λ q. Some old ≡ option_map place_of (item_at boxes q.key)) is at) i ++ is i ∷ []))

@@ -21,7 +21,7 @@ use Rattle.mailbox.specs.declared.key.Key.{Key}
 use Rattle.mailbox.specs.Values.{Waiting, Mailed}
 use Rattle.mailbox.specs.Tests.{same_key, answered, is_to, is_at, is_reported, is_ended_by}
 use Rattle.mailbox.specs.Mail.{holds, without, with_item, posted, reported}
-use Rattle.mailbox.specs.Refusals.{or_then, unknown_refusal, absent_refusal, busy_refusal, missing_refusal, crowd_refusal, full_refusal, post_refusal, most_for_one}
+use Rattle.mailbox.specs.Refusals.{or_then, unknown_refusal, absent_refusal, busy_refusal, missing_refusal, crowd_refusal, full_refusal, restore_refusal, post_refusal, most_for_one}
 use Rattle.mailbox.specs.Order.{kind_number, place_at, IsBefore}
 use Rattle.mailbox.specs.Kept.{IsSpelt, IsNumbered, IsMail}
 use Rattle.mailbox.specs.Laws.{EmptyIsMail, MoreIsMail, RemovalIsMail, PostIsMail, ReportIsMail, NewComesLast}
@@ -164,12 +164,16 @@ post_is_mail s count m w h number spelt none =
     let alone : All (λ o. same_key w.key o.key ≡ false) m.items = not_any (is_at w.key) m.items (not_some (holds m w.key) ReferenceBusy c.0) in
     with_new count m w h (record { number = number; alone = alone; none = c.1; spelt = spelt })
 
+-- an item that has a place has a key of its own
+pub not_taken : (m : Mailed) (w : Waiting) → restore_refusal m w ≡ None → holds m w.key ≡ false
+not_taken m w none = not_some (holds m w.key) ReferenceBusy (or_none (busy_refusal m w.key) (full_refusal (posted m w) w.key.destination) none).0
+
 -- a message that may be posted has a key of its own
 pub not_busy : (s : Registered) (m : Mailed) (w : Waiting) → post_refusal s m w ≡ None → holds m w.key ≡ false
 not_busy s m w none =
     let a = or_none (unknown_refusal (rule_of s w.key.destination)) _ none in
     let b = or_none (absent_refusal s w.key.source) _ a.1 in
-    not_some (holds m w.key) ReferenceBusy (or_none (busy_refusal m w.key) (full_refusal (posted m w) w.key.destination) b.1).0
+    not_taken m w b.1
 
 pub report_is_mail : ReportIsMail
 report_is_mail s count m e status w h number at spelt none =

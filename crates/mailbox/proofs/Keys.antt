@@ -1,8 +1,12 @@
 -- When two keys are one, and when a destination is under a path.
 use Rattle.std.proofs.Common.{◌≡◌, ℕ, ◌<◌, ◌^◌, true, false, refl, ap, sym, ◌∙◌, arith}
 use Rattle.std.specs.Prelude.{◌==◌, ◌&&◌}
-use Rattle.std.specs.Ordering.{eq_by_cmp}
-use Rattle.std.specs.Cmp.{eq_by_cmp_equiv}
+use Rattle.std.specs.Ordering.{eq_by_cmp, is_eq, ordering_reverse}
+use Rattle.std.specs.Cmp.{eq_by_cmp_equiv, IsTotalOrder, on_total}
+use Rattle.std.specs.declared.cmp.Ordering.{Ordering}
+use Rattle.std.specs.declared.cmp.Ordering.TheVariants.{Less, Equal, Greater}
+use Rattle.std.proofs.lemmas.Cmp.{nat_list_cmp_total}
+use Rattle.mailbox.specs.Order.{place_at, named_cmp}
 use Rattle.std.proofs.lemmas.Bool.{and_parts, false≢true}
 use Rattle.std.proofs.lemmas.Bool.Decides.{nat_tests}
 use Rattle.identity.specs.Path.{Path, path_cmp, id_path}
@@ -18,7 +22,7 @@ use Rattle.mailbox.proofs.Lists.{both_ways}
 pub same_number : (a b : ℕ) → (a == b) ≡ true → a ≡ b
 same_number a b h = grind (arith, nat_tests)
 
-number_itself : (a : ℕ) → (a == a) ≡ true
+pub number_itself : (a : ℕ) → (a == a) ≡ true
 number_itself a = grind (arith, nat_tests)
 
 number_turned : (a b : ℕ) → (a == b) ≡ (b == a)
@@ -75,3 +79,20 @@ under_is_to destination below w whole =
     both_ways (is_under (id_path destination) w) (is_to destination w)
     (λ e. ap (λ d. d == destination) (id_path-injective w.key.destination destination whole below (sym (tie_exact (id_path destination) (id_path w.key.destination) e))) ∙ number_itself destination)
     (λ e. ap (λ d. eq_by_cmp path_cmp (id_path destination) (id_path d)) (same_number w.key.destination destination e) ∙ tied (id_path destination))
+
+-- numbers with keys are ordered
+pub named_total : IsTotalOrder named_cmp
+named_total = on_total (λ (a : ℕ × Key). place_at a.0 a.1) nat_list_cmp_total
+
+pub is_equal : (o : Ordering) → is_eq o ≡ true → o ≡ Equal
+is_equal Less e = absurd (false≢true e)
+is_equal Equal e = refl
+is_equal Greater e = absurd (false≢true e)
+
+own_reverse : (o : Ordering) → o ≡ ordering_reverse o → o ≡ Equal
+own_reverse Less e = absurd cc
+own_reverse Equal e = refl
+own_reverse Greater e = absurd cc
+
+pub total_itself : {K : Type 0} {cmp : K → K → Ordering} → IsTotalOrder cmp → (x : K) → cmp x x ≡ Equal
+total_itself {cmp = cmp} total x = own_reverse (cmp x x) (total.antisymm x x)

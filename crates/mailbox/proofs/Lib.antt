@@ -11,3 +11,6 @@ pub mod Newest
 pub mod Texts
 pub mod Next
 pub mod NextItem
+pub mod Sides
+pub mod Expiry
+pub mod Pushed

@@ -1,10 +1,11 @@
 -- Filters of filters, and lists no two elements of which are alike.
-use Rattle.std.proofs.Common.{◌≡◌, ℕ, suc, ◌<◌, ◌≤◌, Bool, true, false, cond, List, [], ◌∷◌, length, get_or, map, refl, ap, sym, ◌∙◌, arith, Option, Some}
+use Rattle.std.proofs.Common.{◌≡◌, ℕ, suc, ◌<◌, ◌≤◌, Bool, true, false, cond, List, [], ◌∷◌, length, get_or, map, refl, ap, sym, ◌∙◌, subst, arith, Option, Some, None}
 use Rattle.std.specs.Prelude.{not, ◌&&◌, ◌||◌}
 use Rattle.std.specs.List.{All, AllPairs, cons_option, filter, filter_map, find, list_any}
+use Rattle.std.specs.Option.{option_map}
 use Rattle.std.proofs.lemmas.Bool.{false≢true, false_from_ne_true, not-true, or_parts}
 use Rattle.std.proofs.lemmas.List.Sums.{length-filter, count_by-le-length}
-use Rattle.std.proofs.lemmas.List.Elements.{All-nil, All-cons, All-head, All-tail, All-weaker, All-filter, filter_agree, filter_passes}
+use Rattle.std.proofs.lemmas.List.Elements.{All-nil, All-cons, All-head, All-tail, All-weaker, filter_agree, filter_passes}
 
 -- of two tests, where one implies the other
 pub implied : (a b : Bool) → (b ≡ true → a ≡ true) → (a && b) ≡ b
@@ -131,6 +132,62 @@ module _ {X : Type 0} where
   any_mapped f p [] = refl
   any_mapped f p (x ∷ xs) = ap (λ b. p (f x) || b) (any_mapped f p xs)
 
+module _ {X : Type 0} where
+  by_found : (p : X → Bool) (b : Bool) (x w : X) (o : Option X) → p x ≡ b → (o ≡ Some w → p w ≡ true) → cond b (Some x) o ≡ Some w → p w ≡ true
+  by_found p true x w o passes rest found = subst (λ y. p y ≡ true) (ap (or_this x) found) passes
+    where
+      or_this : X → Option X → X
+      or_this d None = d
+      or_this d (Some y) = y
+  by_found p false x w o passes rest found = rest found
+
+  -- what is found passes
+  pub found_passes : (p : X → Bool) (xs : List X) (w : X) → find p xs ≡ Some w → p w ≡ true
+  found_passes p [] w found = absurd cc
+  found_passes p (x ∷ xs) w found = by_found p (p x) x w (find p xs) refl (found_passes p xs w) found
+
+  by_with : (P : X → Type 0) (b : Bool) (x w : X) (o : Option X) → P x → (o ≡ Some w → P w) → cond b (Some x) o ≡ Some w → P w
+  by_with P true x w o first rest found = subst P (ap (or_this x) found) first
+    where
+      or_this : X → Option X → X
+      or_this d None = d
+      or_this d (Some y) = y
+  by_with P false x w o first rest found = rest found
+
+  -- what holds of all holds of what is found
+  pub found_with : (P : X → Type 0) (p : X → Bool) (xs : List X) (w : X) → All P xs → find p xs ≡ Some w → P w
+  found_with P p [] w all found = absurd cc
+  found_with P p (x ∷ xs) w all found = by_with P (p x) x w (find p xs) (All-head P x xs all) (found_with P p xs w (All-tail P x xs all)) found
+
+  by_any : (b : Bool) (x w : X) (o : Option X) (rest : Bool) → (o ≡ Some w → rest ≡ true) → cond b (Some x) o ≡ Some w → (b || rest) ≡ true
+  by_any true x w o rest later found = refl
+  by_any false x w o rest later found = later found
+
+  pub found_any : (p : X → Bool) (xs : List X) (w : X) → find p xs ≡ Some w → list_any p xs ≡ true
+  found_any p [] w found = absurd cc
+  found_any p (x ∷ xs) w found = by_any (p x) x w (find p xs) (list_any p xs) (found_any p xs w) found
+
+  by_never : (p : X → Bool) (b : Bool) (x : X) (xs : List X) (o : Option X) → p x ≡ b → (o ≡ None → All (λ y. p y ≡ false) xs) → cond b (Some x) o ≡ None → All (λ y. p y ≡ false) (x ∷ xs)
+  by_never p true x xs o test rest none = absurd cc
+  by_never p false x xs o test rest none = All-cons (λ y. p y ≡ false) x xs test (rest none)
+
+  -- where none is found, none passes
+  pub never_found : (p : X → Bool) (xs : List X) → find p xs ≡ None → All (λ y. p y ≡ false) xs
+  never_found p [] none = All-nil (λ y. p y ≡ false)
+  never_found p (x ∷ xs) none = by_never p (p x) x xs (find p xs) refl (never_found p xs) none
+
+  pub find_agree : (p q : X → Bool) → ((x : X) → p x ≡ q x) → (xs : List X) → find p xs ≡ find q xs
+  find_agree p q same [] = refl
+  find_agree p q same (x ∷ xs) = λ i. cond (same x i) (Some x) (find_agree p q same xs i)
+
+  one_find : {Y : Type 0} (f : X → Y) (b : Bool) (x : X) (o : Option Y) (r : Option X) → o ≡ option_map f r → cond b (Some (f x)) o ≡ option_map f (cond b (Some x) r)
+  one_find f true x o r e = refl
+  one_find f false x o r e = e
+
+  pub find_mapped : {Y : Type 0} (f : X → Y) (p : Y → Bool) (xs : List X) → find p (map f xs) ≡ option_map f (find (λ x. p (f x)) xs)
+  find_mapped f p [] = refl
+  find_mapped f p (x ∷ xs) = one_find f (p (f x)) x (find p (map f xs)) (find (λ y. p (f y)) xs) (find_mapped f p xs)
+
 -- lists no later element of which is the same as an earlier one
 module _ {X : Type 0} (same : X → X → Bool) (itself : (x : X) → same x x ≡ true) where
   found_later : (w x : X) (xs : List X) → same w x ≡ false → find (same w) xs ≡ Some w → find (same w) (x ∷ xs) ≡ Some w
@@ -143,22 +200,3 @@ module _ {X : Type 0} (same : X → X → Bool) (itself : (x : X) → same x x �
       let found : All (λ w. find (same w) xs ≡ Some w) xs = find_each xs (pairs_tail (λ a b. same b a ≡ false) x xs h) in
       All-cons (λ w. find (same w) (x ∷ xs) ≡ Some w) x xs (ap (λ b. cond b (Some x) (find (same x) xs)) (itself x))
       (λ k d below. found_later (get_or xs k d) x xs (others k d below) (found k d below))
-
-  kept_first : (r : Bool) (x : X) (ys : List X) → list_any (same x) ys ≡ false → list_any (same x) (cond r (x ∷ ys) ys) ≡ r
-  kept_first true x ys none = ap (λ b. b || list_any (same x) ys) (itself x)
-  kept_first false x ys none = none
-
-  kept_later : (b : Bool) (w x : X) (ys : List X) (r : Bool) → same w x ≡ false → list_any (same w) ys ≡ r → list_any (same w) (cond b (x ∷ ys) ys) ≡ r
-  kept_later true w x ys r other e = ap (λ c. c || list_any (same w) ys) other ∙ e
-  kept_later false w x ys r other e = e
-
-  -- whether one is left by a filter is whether it passes
-  pub any_each : ((x y : X) → same x y ≡ same y x) → (r : X → Bool) (xs : List X) → AllPairs (λ a b. same b a ≡ false) xs → All (λ w. list_any (same w) (filter r xs) ≡ r w) xs
-  any_each turned r [] h = All-nil (λ w. list_any (same w) [] ≡ r w)
-  any_each turned r (x ∷ xs) h =
-      let others : All (λ w. same w x ≡ false) xs = pairs_head (λ a b. same b a ≡ false) x xs h in
-      let rest : All (λ w. list_any (same w) (filter r xs) ≡ r w) xs = any_each turned r xs (pairs_tail (λ a b. same b a ≡ false) x xs h) in
-      let none : All (λ w. same x w ≡ false) xs = All-weaker (λ w. same w x ≡ false) (λ w. same x w ≡ false) (λ w e. turned x w ∙ e) xs others in
-      All-cons (λ w. list_any (same w) (filter r (x ∷ xs)) ≡ r w) x xs
-      (kept_first (r x) x (filter r xs) (any_of_none (same x) (filter r xs) (All-filter r (λ w. same x w ≡ false) xs none)))
-      (λ k d below. kept_later (r x) (get_or xs k d) x (filter r xs) (r (get_or xs k d)) (others k d below) (rest k d below))

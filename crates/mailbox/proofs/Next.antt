@@ -1,5 +1,5 @@
 -- What comes after the last of all comes after all.
-use Rattle.std.proofs.Common.{◌≡◌, ℕ, ◌+◌, ◌-◌, ◌<◌, Bool, true, false, List, [], ◌∷◌, length, get_or, map, refl, ap, sym, ◌∙◌, subst, arith}
+use Rattle.std.proofs.Common.{◌≡◌, ℕ, ◌+◌, ◌-◌, ◌<◌, Bool, true, false, List, [], ◌∷◌, length, get_or, map, Some, refl, ap, sym, ◌∙◌, subst, arith}
 use Rattle.std.specs.Prelude.{◌↔◌, ◌⊎◌, IsTrue, nat_lt}
 use Rattle.std.specs.List.{All, AllPairs}
 use Rattle.std.proofs.Common.{inl, inr}
@@ -9,12 +9,13 @@ use Rattle.std.specs.Cmp.Lexicographic.{slice_cmp}
 use Rattle.std.proofs.lemmas.Bool.Decides.{nat_tests}
 use Rattle.std.proofs.lemmas.Cmp.{nat_list_cmp_total}
 use Rattle.std.proofs.Math.ListN.{get_or-map}
-use Rattle.std.proofs.lemmas.List.{length-map}
+use Rattle.std.proofs.lemmas.List.{length-append, length-map, get_or-append-add}
 use Rattle.mailbox.specs.declared.key.Key.{Key}
 use Rattle.mailbox.specs.declared.place.Place.{Place}
 use Rattle.mailbox.specs.Values.{Waiting, Mailed}
 use Rattle.mailbox.specs.Order.{place_at, IsBefore, ComesLast}
 use Rattle.mailbox.specs.Boxes.{place_of}
+use Rattle.mailbox.specs.Places.{EndsWith}
 
 -- the place is before this number and key
 abbrev IsUnder : ℕ → Key → Place → Type 0
@@ -57,3 +58,10 @@ next_to m (w ∷ ws) order last number k b these indexed ordered some is tested 
   (λ t. all_under (w ∷ ws) order last number k indexed some is ordered (tested.0 t)),
   (λ all. tested.1 (last_under (w ∷ ws) order last number k indexed some is all w)),
 )
+
+-- the same, of the place that all of them end with
+pub next_to_last : (m : Mailed) (ws : List Waiting) (order : List Place) (last : Place) (number : ℕ) (k : Key) (b : Bool) → ws ≡ m.items → order ≡ map place_of ws → AllPairs IsBefore ws → EndsWith order (Some last) → (IsTrue b ↔ IsUnder number k last) → IsTrue b ↔ ComesLast m number k
+next_to_last m ws order last number k b these indexed ordered ends tested =
+    let counted : length order ≡ length ends.0 + 1 = ap length ends.1 ∙ length-append ends.0 (last ∷ []) in
+    let at : length order - 1 ≡ length ends.0 + 0 = omega (arith, counted) in
+    next_to m ws order last number k b these indexed ordered (omega (arith, counted)) (λ d. sym (get_or-append-add ends.0 (last ∷ []) 0 d) ∙ (λ i. get_or (sym ends.1 i) (sym at i) d)) tested

@@ -1,16 +1,14 @@
 -- How the items are kept: in boxes by destination, and beside them an index of their places, in order.
 use Rattle.std.specs.Prelude.{◌≡◌, ℕ, ◌<◌, ◌^◌, Bool, false, not, List, [], ◌∷◌, ◌++◌, map, Option, Some, None}
-use Rattle.std.specs.List.{All, AllPairs, filter, filter_map, find, fold, list_any}
+use Rattle.std.specs.List.{All, AllPairs, filter, filter_map, find, list_any}
 use Rattle.std.specs.FinMap as finite
 use Rattle.std.specs.Ordering.{eq_by_cmp}
 use Rattle.identity.specs.Path.{Path, path_cmp, id_path}
 use Rattle.prefix_tree.specs.Table.{PathMap}
 use Rattle.mailbox.specs.declared.key.Key.{Key}
 use Rattle.mailbox.specs.declared.place.Place.{Place}
-use Rattle.mailbox.specs.declared.ending.Ending.{Ending}
-use Rattle.mailbox.specs.declared.ending.Ending.TheVariants.{At, Expired}
 use Rattle.mailbox.specs.Values.{Waiting}
-use Rattle.mailbox.specs.Tests.{same_key, is_at, is_expired}
+use Rattle.mailbox.specs.Tests.{same_key, is_at}
 use Rattle.mailbox.specs.Order.{IsBefore}
 
 -- for each destination, under all bits of its identity, its items, the oldest first
@@ -51,15 +49,6 @@ put_last ws w = filter (λ o. not (is_at w.key o)) ws ++ w ∷ []
 abbrev pub put : Boxes → Waiting → Boxes
 put boxes w = let p = id_path w.key.destination in with_items boxes p (put_last (items_under boxes p) w)
 
--- which items end: the one at a key, or all that have expired by a moment
-abbrev pub ends : Ending → Waiting → Bool
-ends (At k) w = is_at k w
-ends (Expired moment) w = is_expired moment w
-
--- those that have expired go, at the destination of each place
-abbrev pub all_expired : ℕ → Boxes → List Place → Boxes
-all_expired moment boxes order = fold (λ b place. swept b (id_path place.key.destination) (is_expired moment)) boxes order
-
 -- the item at a key
 abbrev pub item_at : Boxes → Key → Option Waiting
 item_at boxes k = find (is_at k) (items_under boxes (id_path k.destination))
@@ -67,9 +56,9 @@ item_at boxes k = find (is_at k) (items_under boxes (id_path k.destination))
 abbrev pub is_kept : Boxes → Key → Bool
 is_kept boxes k = list_any (is_at k) (items_under boxes (id_path k.destination))
 
--- an item's entry in the index
+-- an item's place in the order of all
 abbrev pub place_of : Waiting → Place
-place_of w = record { number = w.number; key = w.key }
+place_of w = record { number = w.number; key = w.key; deadline = w.deadline }
 
 -- the number and the key of a place
 abbrev pub name_of : Place → ℕ × Key

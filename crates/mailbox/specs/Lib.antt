@@ -2,6 +2,7 @@ pub mod Values
 pub mod Tests
 pub mod Order
 pub mod Boxes
+pub mod Places
 pub mod Mail
 pub mod Refusals
 pub mod GroupPost

@@ -9,7 +9,7 @@ use Rattle.mailbox.specs.declared.key.Key.{Key}
 use Rattle.mailbox.specs.declared.key.Envelope.{Envelope}
 use Rattle.mailbox.specs.Values.{Waiting, Mailed}
 use Rattle.mailbox.specs.Tests.{answered, is_to}
-use Rattle.mailbox.specs.Mail.{holds, posted, reported}
+use Rattle.mailbox.specs.Mail.{holds, with_item, reported}
 
 abbrev pub or_then : Option MailFault → Option MailFault → Option MailFault
 or_then (Some fault) next = Some fault
@@ -44,9 +44,12 @@ crowd_refusal room for_one in_all = if nat_lt most_for_one for_one then Some Mai
 abbrev pub full_refusal : Mailed → ℕ → Option MailFault
 full_refusal m destination = crowd_refusal m.room (count_by (is_to destination) m.items) (length m.items)
 
+-- an item has no place: its key is taken, or the mail is full
+abbrev pub restore_refusal : Mailed → Waiting → Option MailFault
+restore_refusal m w = or_then (busy_refusal m w.key) (full_refusal (with_item m w) w.key.destination)
+
 abbrev pub post_refusal : Registered → Mailed → Waiting → Option MailFault
-post_refusal s m w =
-    or_then (unknown_refusal (rule_of s w.key.destination)) (or_then (absent_refusal s w.key.source) (or_then (busy_refusal m w.key) (full_refusal (posted m w) w.key.destination)))
+post_refusal s m w = or_then (unknown_refusal (rule_of s w.key.destination)) (or_then (absent_refusal s w.key.source) (restore_refusal m w))
 
 abbrev pub report_refusal : Registered → Mailed → Envelope → ℕ → Waiting → Option MailFault
 report_refusal s m e status w =

@@ -2,15 +2,16 @@
 
 ghost use Rattle.std.specs.Prelude.{◌≡◌, ◌==◌, ◌<◌, ◌^◌, ◌++◌, [], false, length, map, OnOk, OnErr, IfOk, IsSome};
 ghost use Rattle.std.specs.List.{cons_option, list_any};
-ghost use Rattle.std.specs.Option.{option_copied};
+ghost use Rattle.std.specs.Option.{option_copied, option_map};
 ghost use Rattle.std.specs.FinMap as finite;
 ghost use Rattle.identity.specs.Path.{id_path};
 ghost use Rattle.mailbox.specs.Tests.{is_at};
-ghost use Rattle.mailbox.specs.Boxes.{items_under, with_items, with_less, swept, put, put_last, ends, all_expired, item_at, is_kept, in_order};
+ghost use Rattle.mailbox.specs.Places.{places_of};
+ghost use Rattle.mailbox.specs.Boxes.{items_under, with_items, with_less, swept, put, put_last, item_at, place_of, is_kept, in_order};
 
-use crate::ending::Ending;
 use crate::inbox::Inbox;
-use crate::items::any_at;
+use crate::node::Link;
+use crate::order::Order;
 use crate::place::Place;
 use crate::{Item, Key};
 use identity::{Itsi, Prefix};
@@ -76,44 +77,37 @@ impl<A: Allocator> Boxes<A> {
             .find(|item| item.is_at(key))
     }
 
+    /// The place of the item at a key.
+    pub(crate) fn place_at(&self, key: &Key) -> Option<Place>
+        ensures { result ≡ option_map place_of (item_at self.now key.now) }
+    {
+        match self.item_at(key) {
+            Some(item) => Some(item.place()),
+            None => None,
+        }
+    }
+
     /// The items at these places, as far as there are any.
     pub(crate) fn items_at<B: Allocator>(
         &self,
         alloc: B,
-        order: &[Place],
+        order: &Order<A>,
     ) -> Result<Vec<&Item<A>, B>, AllocError>
         ensures { IfOk result (λ items. map (λ i. i.now) items.items ≡ in_order self.now order.now) }
     {
         let mut items = Vec::new(alloc);
-        for place in order {
-            push_some(&mut items, self.item_at(&place.key))?;
-        }
+        push_items(&mut items, self, order.root())?;
         Ok(items)
     }
 
-    /// Whether there is an item at a key.
-    pub(crate) fn holds(&self, key: &Key) -> bool
-        ensures { result ≡ is_kept self.now key.now }
-    {
-        any_at(self.items_of(key.destination), key)
-    }
-
-    /// Takes away what ends of what waits for a destination, and the inbox where nothing is left. It
-    /// takes no memory.
-    pub(crate) fn remove(&mut self, destination: Itsi, ending: &Ending)
-        ensures { self.new ≡ swept self.old (id_path destination) (ends ending.now) }
+    /// Takes the item at a key away, and the inbox where nothing is left. It takes no memory.
+    pub(crate) fn remove_at(&mut self, key: &Key)
+        ensures { self.new ≡ swept self.old (id_path key.now.destination) (is_at key.now) }
     {
         let Some(tree) = &mut self.tree else {
             return;
         };
-        remove_under(tree, &destination.path(), ending);
-    }
-
-    /// Takes the item at a key away. It takes no memory.
-    pub(crate) fn remove_at(&mut self, key: &Key)
-        ensures { self.new ≡ swept self.old (id_path key.now.destination) (is_at key.now) }
-    {
-        self.remove(key.destination, &Ending::At(*key));
+        remove_under(tree, &key.destination.path(), key);
     }
 }
 
@@ -150,6 +144,24 @@ impl<A: Allocator + Clone> TryCopy for Boxes<A> {
     }
 }
 
+/// Adds the items at the places that the link leads to, as far as there are any.
+#[cycle(push_items)]
+fn push_items<'i, A: Allocator, B: Allocator>(
+    items: &mut Vec<&'i Item<A>, B>,
+    boxes: &'i Boxes<A>,
+    link: &Option<Link<A>>,
+) -> Result<(), AllocError>
+    ensures { OnOk result (map (λ i. i.now) items.new.items ≡ map (λ i. i.now) items.old.items ++ in_order boxes.now (places_of link.now)) }
+{
+    let Some(node) = link else {
+        return Ok(());
+    };
+    let (place, earlier, later) = node.parts();
+    push_items(items, boxes, earlier)?;
+    push_some(items, boxes.item_at(&place.key))?;
+    push_items(items, boxes, later)
+}
+
 fn push_some<'i, A: Allocator, B: Allocator>(
     items: &mut Vec<&'i Item<A>, B>,
     item: Option<&'i Item<A>>,
@@ -160,15 +172,6 @@ fn push_some<'i, A: Allocator, B: Allocator>(
         items.push(item)?;
     }
     Ok(())
-}
-
-/// Takes away what expires, for the destination of each of these places.
-pub(crate) fn remove_expired<A: Allocator>(boxes: &mut Boxes<A>, order: &[Place], moment: u32)
-    ensures { boxes.new ≡ all_expired moment boxes.old order.now }
-{
-    for place in order {
-        boxes.remove(place.key.destination, &Ending::Expired(moment));
-    }
 }
 
 fn put_under<A: Allocator + Clone>(
@@ -214,39 +217,33 @@ fn put_from<A: Allocator, L: Ledger>(
     }
 }
 
-fn remove_under<A: Allocator>(tree: &mut Tree<A>, path: &Prefix, ending: &Ending)
-    ensures { tree.new ≡ swept tree.old path.now (ends ending.now) }
+fn remove_under<A: Allocator>(tree: &mut Tree<A>, path: &Prefix, key: &Key)
+    ensures { tree.new ≡ swept tree.old path.now (is_at key.now) }
 {
-    remove_from::<A, Brand>(tree, path, ending, Blank::new(1));
-    if is_empty_under(tree, path) {
+    if remove_from::<A, Brand>(tree, path, key, Blank::new(1)) {
         let _ = tree.take(path);
     }
 }
 
-// Whether nothing is under the path, in an inbox or without one.
-fn is_empty_under<A: Allocator>(tree: &Tree<A>, path: &Prefix) -> bool
-    ensures { result ≡ (length (items_under tree.now path.now) == 0) }
-{
-    match tree.find(path) {
-        Some(inbox) => inbox.as_slice().is_empty(),
-        None => true,
-    }
-}
-
-// Takes what ends out of the inbox, counted by this ledger.
+// Takes the item at the key out of the inbox, counted by this ledger. Whether nothing is left there.
 fn remove_from<A: Allocator, L: Ledger>(
     tree: &mut Tree<A>,
     path: &Prefix,
-    ending: &Ending,
+    key: &Key,
     blank: Blank,
-)
+) -> bool
     requires name { blank.name ≡ L.name }
     requires parts { blank.parts ≡ L.parts }
     requires some { 0 < blank.parts }
-    ensures { tree.new ≡ with_less tree.old path.now (finite.get tree.old path.now) (ends ending.now) }
+    ensures left { tree.new ≡ with_less tree.old path.now (finite.get tree.old path.now) (is_at key.now) }
+    ensures empty { result ≡ (length (items_under tree.new path.now) == 0) }
 {
     let mut steps = Steps::<L>::new(blank);
-    if let Some(inbox) = tree.get_mut(path, &mut steps) {
-        inbox.remove(ending);
+    match tree.get_mut(path, &mut steps) {
+        Some(inbox) => {
+            inbox.remove_at(key);
+            inbox.as_slice().is_empty()
+        }
+        None => true,
     }
 }

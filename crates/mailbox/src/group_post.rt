@@ -79,7 +79,7 @@ impl<A: Allocator + Clone> Mail<A> {
             return Ok(());
         }
         let copy = original.copied_to(self.allocator().clone()?, member)?;
-        self.put(copy)
+        self.put_new(copy)
     }
 }
 

@@ -3,9 +3,8 @@
 ghost use Rattle.std.specs.Prelude.{◌≡◌, ◌<◌, [], false, not, OnOk, OnErr, IfOk, vec_len, vec_capacity};
 ghost use Rattle.std.specs.List.{filter, list_any};
 ghost use Rattle.mailbox.specs.Tests.{is_at};
-ghost use Rattle.mailbox.specs.Boxes.{ends, put_last};
+ghost use Rattle.mailbox.specs.Boxes.{put_last};
 
-use crate::ending::Ending;
 use crate::items::any_at;
 use crate::{Item, Key};
 use prefix_tree::TryCopy;
@@ -59,11 +58,11 @@ impl<A: Allocator> Inbox<A> {
         Ok(())
     }
 
-    /// Takes away what ends.
-    pub(crate) fn remove(&mut self, ending: &Ending)
-        ensures { self.new ≡ filter (λ w. not (ends ending.now w)) self.old }
+    /// Takes away the item at the key.
+    pub(crate) fn remove_at(&mut self, key: &Key)
+        ensures { self.new ≡ filter (λ w. not (is_at key.now w)) self.old }
     {
-        self.items.retain(|item| !ending.ends(item));
+        remove_at(&mut self.items, key);
     }
 }
 

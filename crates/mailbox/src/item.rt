@@ -124,6 +124,7 @@ impl<A: Allocator> Item<A> {
         Place {
             number: self.number(),
             key: self.key(),
+            deadline: self.deadline(),
         }
     }
 

@@ -3,7 +3,6 @@
 #![tactic(auto)]
 
 mod boxes;
-mod ending;
 mod fault;
 mod group_post;
 mod group_refusal;
@@ -13,6 +12,8 @@ mod items;
 mod key;
 pub mod laws;
 mod mail;
+mod node;
+mod order;
 mod place;
 mod refusal;
 

@@ -1,22 +1,22 @@
 //! The mail, and the calls that change it.
 
 ghost use Rattle.std.specs.Prelude.{◌≡◌, ◌↔◌, IsTrue, ◌<◌, ◌≤◌, ◌-◌, ◌++◌, ◌∷◌, [], length, count_by, false, not, map, None, OnOk, OnErr, IfOk, IfErr, unwrap_or, vec_len, vec_capacity};
-ghost use Rattle.std.specs.List.{AllPairs, filter, list_any};
-ghost use Rattle.std.specs.Option.{option_copied};
+ghost use Rattle.std.specs.List.{AllPairs, filter, find};
+ghost use Rattle.std.specs.Option.{option_copied, option_map};
 ghost use Rattle.mailbox.specs.declared.fault.MailFault.TheVariants.{NoMemory};
 ghost use Rattle.mailbox.specs.declared.key.Kind.TheVariants as kind;
 ghost use Rattle.mailbox.specs.Values.{empty_mailed, latest_deadline};
-ghost use Rattle.mailbox.specs.Tests.{same_key, key_of, is_to, is_at, is_reported, is_ended_by};
+ghost use Rattle.mailbox.specs.Tests.{same_key, key_of, is_to, is_at, is_reported, is_ended_by, is_expired};
 ghost use Rattle.mailbox.specs.Order.{IsBefore, ComesLast, next_item};
-ghost use Rattle.mailbox.specs.Boxes.{is_kept};
+ghost use Rattle.mailbox.specs.Boxes.{place_of};
 ghost use Rattle.mailbox.specs.Mail.{holds, without, with_item, deadline_by, waiting_for, posted, reported, acknowledged, confirmed, expired, deleted, waiting};
 ghost use Rattle.mailbox.specs.GroupPost.{shortened};
-ghost use Rattle.mailbox.specs.Refusals.{post_refusal, report_refusal, ack_refusal, sent_refusal, delete_refusal};
+ghost use Rattle.mailbox.specs.Refusals.{restore_refusal, post_refusal, report_refusal, ack_refusal, sent_refusal, delete_refusal};
 
-use crate::boxes::{Boxes, remove_expired};
-use crate::ending::Ending;
+use crate::boxes::Boxes;
 use crate::items::{any_at, any_confirmed, any_reported, count_at, count_left, count_reported};
-use crate::place::{Place, first_after, place_named};
+use crate::order::Order;
+use crate::place::Place;
 use crate::{Envelope, Item, Key, Kind, MailFault, Stamp};
 use identity::{Bits, Itsi};
 use prefix_tree::TryCopy;
@@ -30,7 +30,7 @@ use std::marker::Model;
 pub struct Mail<A: Allocator> {
     room: u32,
     boxes: Boxes<A>,
-    order: Vec<Place, A>,
+    order: Order<A>,
 }
 
 impl<A: Allocator> Model for Mail<A> {
@@ -42,9 +42,9 @@ impl<A: Allocator> Model for Mail<A> {
 
     ghost use Rattle.mailbox.specs.Boxes.{AreKept, in_order};
 
-    ghost view = { λ m. record { room = m.room; items = in_order m.boxes m.order.items } };
+    ghost view = { λ m. record { room = m.room; items = in_order m.boxes m.order } };
 
-    ghost invariant = { λ m. AreKept (in_order m.boxes m.order.items) m.boxes m.order.items };
+    ghost invariant = { λ m. AreKept (in_order m.boxes m.order) m.boxes m.order };
 }
 
 impl<A: Allocator> Mail<A> {
@@ -55,7 +55,7 @@ impl<A: Allocator> Mail<A> {
         Mail {
             room: limits.mail,
             boxes: Boxes::new(),
-            order: Vec::new(alloc),
+            order: Order::new(alloc),
         }
     }
 
@@ -74,7 +74,7 @@ impl<A: Allocator> Mail<A> {
     }
 
     /// How many items wait.
-    pub(crate) fn len(&self) -> usize
+    pub fn len(&self) -> usize
         ensures { result ≡ length self.now.items }
     {
         self.order.len()
@@ -86,7 +86,7 @@ impl<A: Allocator> Mail<A> {
     }
 
     /// What waits for a destination.
-    fn items_of(&self, destination: Itsi) -> &[Item<A>]
+    pub(crate) fn items_of(&self, destination: Itsi) -> &[Item<A>]
         ensures items { result.now ≡ waiting self.now destination }
         ensures apart { AllPairs (λ a b. same_key b.key a.key ≡ false) self.now.items }
     {
@@ -143,15 +143,15 @@ impl<A: Allocator> Mail<A> {
         let Some(last) = self.order.last() else {
             return true;
         };
-        last.is_before(&Place { number, key: *key })
+        last.is_before(number, key)
     }
 
     /// The first item after this number and key, in order of number, then key, also where no item waits there, or the
-    /// first of all. It takes no memory; its place is found by halving the order of all.
+    /// first of all. It takes no memory; its place is found in the order of all.
     pub fn next(&self, after: Option<(u64, Key)>) -> Option<&Item<A>>
         ensures { option_copied result ≡ next_item self.now after }
     {
-        match first_after(&self.order, &place_named(after)) {
+        match self.order.first_after(&after) {
             Some(place) => self.boxes.item_at(&place.key),
             None => None,
         }
@@ -161,8 +161,17 @@ impl<A: Allocator> Mail<A> {
     pub fn expire(&mut self, moment: u32)
         ensures { self.new ≡ expired self.old moment }
     {
-        remove_expired(&mut self.boxes, &self.order, moment);
-        keep_held(&mut self.order, &self.boxes);
+        while let Some(place) = self.first_due(moment) {
+            self.remove_at(&place.key);
+        }
+    }
+
+    /// The place of the first item that has expired.
+    fn first_due(&self, moment: u32) -> Option<Place>
+        ensures first { result ≡ option_map place_of (find (is_expired moment) self.now.items) }
+        ensures apart { AllPairs (λ a b. same_key b.key a.key ≡ false) self.now.items }
+    {
+        self.order.first_due(moment).copied()
     }
 
     /// Removes an item; `NoSuchMessage` where there is none at the key, and then nothing changes. It
@@ -181,8 +190,11 @@ impl<A: Allocator> Mail<A> {
     fn remove_at(&mut self, key: &Key)
         ensures { self.new ≡ deleted self.old key.now }
     {
+        let Some(place) = self.boxes.place_at(key) else {
+            return;
+        };
         self.boxes.remove_at(key);
-        remove_place(&mut self.order, key);
+        self.order.remove(&place);
     }
 
     fn remove_confirmed(&mut self, key: &Key)
@@ -259,7 +271,7 @@ impl<A: Allocator + Clone> Mail<A> {
             return Err(fault);
         }
         let item = item_for(registry, envelope.key(Kind::Message), stamp, pdu);
-        let Ok(()) = self.put(item) else {
+        let Ok(()) = self.put_new(item) else {
             return Err(MailFault::NoMemory);
         };
         Ok(())
@@ -322,6 +334,38 @@ impl<A: Allocator + Clone> Mail<A> {
         Ok(())
     }
 
+    /// Puts an item at the end as it was kept; no rule and no radio is asked. Its number and key come
+    /// after those of all that wait. The refusals are those of `restore_refusal`, and `NoMemory`; a
+    /// refusal changes nothing.
+    pub fn restore(&mut self, item: Item<A>) -> Result<(), MailFault>
+        requires { ComesLast self.old item.number item.key }
+        ensures ok { OnOk result ((restore_refusal self.old item ≡ None) × (self.new ≡ with_item self.old item)) }
+        ensures err { IfErr result (λ e. (e ≡ unwrap_or (restore_refusal self.old item) NoMemory) × (self.new ≡ self.old)) }
+    {
+        if let Some(fault) = self.restore_refusal(&item.key()) {
+            return Err(fault);
+        }
+        let Ok(()) = self.put_new(item) else {
+            return Err(MailFault::NoMemory);
+        };
+        Ok(())
+    }
+
+    /// Puts an item at the end at whose key none waits. Its number and key come after those of all
+    /// that wait. For want of memory nothing changes.
+    pub(crate) fn put_new(&mut self, item: Item<A>) -> Result<(), AllocError>
+        requires last { ComesLast self.old item.number item.key }
+        requires free { holds self.old item.key ≡ false }
+        ensures ok { OnOk result (self.new ≡ with_item self.old item) }
+        ensures err { OnErr result (self.new ≡ self.old) }
+    {
+        let place = item.place();
+        let spare = self.order.spare(&place)?;
+        self.boxes.put(self.order.allocator(), item)?;
+        self.order.append(&place, spare);
+        Ok(())
+    }
+
     /// Puts the item at the end, in place of any at its key, and then without memory. Its number and
     /// key come after those of all that wait. For want of memory nothing changes.
     pub(crate) fn put(&mut self, item: Item<A>) -> Result<(), AllocError>
@@ -331,10 +375,11 @@ impl<A: Allocator + Clone> Mail<A> {
         ensures memory { OnErr result (holds self.old item.key ≡ false) }
     {
         let place = item.place();
-        let renewed = self.holds(&place.key);
-        make_room(&mut self.order, renewed)?;
+        let Some(old) = self.boxes.place_at(&place.key) else {
+            return self.put_new(item);
+        };
         self.boxes.put(self.order.allocator(), item)?;
-        put_at_end(&mut self.order, &place, renewed);
+        self.order.renew(&old, &place);
         Ok(())
     }
 }
@@ -344,7 +389,7 @@ impl<A: Allocator + Clone> TryCopy for Mail<A> {
         Ok(Mail {
             room: self.room,
             boxes: self.boxes.try_copy()?,
-            order: Vec::from_slice(self.order.allocator().clone()?, &self.order)?,
+            order: self.order.try_copy()?,
         })
     }
 }
@@ -372,42 +417,4 @@ pub(crate) fn item_for<A: Allocator + Clone>(
     let rule = registry.rule_of(key.destination.number());
     let deadline = deadline_by(rule, stamp.moment);
     Item::new(key, stamp.number, deadline, pdu, None)
-}
-
-/// Takes the places away at which nothing is kept.
-fn keep_held<A: Allocator>(order: &mut Vec<Place, A>, boxes: &Boxes<A>)
-    ensures { order.new.items ≡ filter (λ place. is_kept boxes.now place.key) order.old.items }
-{
-    order.retain(|place| boxes.holds(&place.key));
-}
-
-/// Makes room for one more place, unless it renews one that is there.
-fn make_room<A: Allocator>(order: &mut Vec<Place, A>, renewed: bool) -> Result<(), AllocError>
-    ensures items { order.new.items ≡ order.old.items }
-    ensures room { OnOk result (renewed ≡ false → vec_len order.new < vec_capacity order.new) }
-    ensures memory { OnErr result (renewed ≡ false) }
-{
-    if !renewed {
-        order.reserve(1)?;
-    }
-    Ok(())
-}
-
-fn remove_place<A: Allocator>(order: &mut Vec<Place, A>, key: &Key)
-    ensures kept { order.new.items ≡ filter (λ place. not (same_key key.now place.key)) order.old.items }
-    ensures room { (list_any (λ place. same_key key.now place.key) order.old.items ≡ false → vec_len order.old < vec_capacity order.old) → vec_len order.new < vec_capacity order.new }
-{
-    order.retain(|place| !key.is(&place.key));
-}
-
-/// Puts the place at the end, for which there is room, or where it renews one that is there.
-fn put_at_end<A: Allocator>(order: &mut Vec<Place, A>, place: &Place, renewed: bool)
-    requires there { renewed ≡ list_any (λ other. same_key place.now.key other.key) order.old.items }
-    requires room { renewed ≡ false → vec_len order.old < vec_capacity order.old }
-    ensures { order.new.items ≡ filter (λ other. not (same_key place.now.key other.key)) order.old.items ++ place.now ∷ [] }
-{
-    if renewed {
-        remove_place(order, &place.key);
-    }
-    let _ = order.push(*place);
 }

@@ -4,69 +4,64 @@ ghost use Rattle.std.specs.Prelude.{◌≡◌, ◌↔◌, IsTrue};
 ghost use Rattle.std.specs.Ordering.{nat_cmp};
 ghost use Rattle.std.specs.declared.cmp.Ordering.TheVariants.{Less};
 ghost use Rattle.std.specs.Cmp.Lexicographic.{slice_cmp};
-ghost use Rattle.std.specs.Option.{option_copied, option_map};
-ghost use Rattle.prefix_tree.specs.Following.{is_after, next_of, AreRising};
+ghost use Rattle.prefix_tree.specs.Following.{is_after};
 ghost use Rattle.mailbox.specs.Order.{kind_number, place_at, named_cmp};
 ghost use Rattle.mailbox.specs.Boxes.{name_of};
+ghost use Rattle.mailbox.specs.Places.{place_cmp};
 
 use crate::{Key, Kind};
 use std::cmp::Ordering;
 
-/// Where an item stands among all that wait: in order of number, then of key.
+/// Where an item stands among all that wait, in order of number, then of key; and the moment at which it ends.
 #[derive(Clone, Copy, Debug, PartialEq, Eq)]
 pub(crate) struct Place {
     pub(crate) number: u64,
     pub(crate) key: Key,
+    pub(crate) deadline: u64,
 }
 
 impl Place {
-    pub(crate) fn is_before(&self, other: &Place) -> bool
-        ensures { IsTrue result ↔ slice_cmp nat_cmp (place_at self.now.number self.now.key) (place_at other.now.number other.now.key) ≡ Less }
+    /// Whether it comes before this number and key.
+    pub(crate) fn is_before(&self, number: u64, key: &Key) -> bool
+        ensures { IsTrue result ↔ slice_cmp nat_cmp (place_at self.now.number self.now.key) (place_at number key.now) ≡ Less }
     {
-        self.numbers().cmp(&other.numbers()) == Ordering::Less
+        self.numbers().cmp(&numbers(number, key)) == Ordering::Less
     }
 
-    /// Whether it comes after this one; each comes after none.
-    pub(crate) fn is_after(&self, after: &Option<Place>) -> bool
-        ensures { result ≡ is_after named_cmp name_of (option_map name_of after.now) self.now }
+    /// Whether it comes after this number and key; each comes after none.
+    pub(crate) fn is_after(&self, after: &Option<(u64, Key)>) -> bool
+        ensures { result ≡ is_after named_cmp name_of after.now self.now }
     {
         match after {
-            Some(place) => place.is_before(self),
+            Some((number, key)) => numbers(*number, key).cmp(&self.numbers()) == Ordering::Less,
             None => true,
         }
     }
 
-    // By which it is compared.
+    pub(crate) fn cmp(&self, other: &Place) -> Ordering
+        ensures { result ≡ place_cmp self.now other.now }
+    {
+        self.numbers().cmp(&other.numbers())
+    }
+
     fn numbers(&self) -> [u64; 5]
         ensures { result ≡ place_at self.now.number self.now.key }
     {
-        [
-            self.number,
-            self.key.destination.number(),
-            self.key.source.number(),
-            u64::from(self.key.reference),
-            kind_number(self.key.kind),
-        ]
+        numbers(self.number, &self.key)
     }
 }
 
-/// The place of this number and key.
-pub(crate) fn place_named(name: Option<(u64, Key)>) -> Option<Place>
-    ensures { option_map name_of result ≡ name }
+// By which a number and key are compared.
+fn numbers(number: u64, key: &Key) -> [u64; 5]
+    ensures { result ≡ place_at number key.now }
 {
-    match name {
-        Some((number, key)) => Some(Place { number, key }),
-        None => None,
-    }
-}
-
-/// The first of these places after this one, or the first of all. They are in order, so that it is found by halving.
-pub(crate) fn first_after<'p>(order: &'p [Place], after: &Option<Place>) -> Option<&'p Place>
-    requires { AreRising named_cmp name_of order.now }
-    ensures { option_copied result ≡ next_of named_cmp name_of order.now (option_map name_of after.now) }
-{
-    let at = order.partition_point(|place| !place.is_after(after));
-    order.get(at)
+    [
+        number,
+        key.destination.number(),
+        key.source.number(),
+        u64::from(key.reference),
+        kind_number(key.kind),
+    ]
 }
 
 fn kind_number(kind: Kind) -> u64

@@ -1,12 +1,13 @@
 //! Why the mail would refuse a call, memory aside.
 
-ghost use Rattle.std.specs.Prelude.{◌≡◌, ◌+◌, length, count_by, Bool, List};
+ghost use Rattle.std.specs.Prelude.{◌≡◌, ◌+◌, ℕ, length, count_by, Bool, List, Option};
 ghost use Rattle.mailbox.specs.declared.key.Kind.TheVariants as kind;
 ghost use Rattle.mailbox.specs.declared.key.Stamp.{Stamp};
 ghost use Rattle.mailbox.specs.Tests.{key_of, is_to, is_ended_by};
 ghost use Rattle.mailbox.specs.Mail.{without, waiting_for};
-ghost use Rattle.mailbox.specs.Refusals.{unknown_refusal, absent_refusal, busy_refusal, missing_refusal, crowd_refusal, post_refusal, report_refusal, ack_refusal, sent_refusal, delete_refusal};
+ghost use Rattle.mailbox.specs.Refusals.{or_then, unknown_refusal, absent_refusal, busy_refusal, missing_refusal, restore_refusal, crowd_refusal, post_refusal, report_refusal, ack_refusal, sent_refusal, delete_refusal};
 
+use crate::items::any_at;
 use crate::{Envelope, Key, Kind, Mail, MailFault};
 use identity::Itsi;
 use registration::{Registry, Rule};
@@ -69,20 +70,23 @@ impl<A: Allocator> Mail<A> {
         }
     }
 
-    fn busy_refusal(&self, key: &Key) -> Option<MailFault>
-        ensures { result ≡ busy_refusal self.now key.now }
+    // Of one more item, at this key.
+    fn item_refusal(&self, key: &Key) -> Option<MailFault>
+        ensures { result ≡ or_then (busy_refusal self.now key.now) (crowd_refusal self.now.room (count_by (is_to key.now.destination) self.now.items + 1) (length self.now.items + 1)) }
     {
-        if self.holds(key) {
-            Some(MailFault::ReferenceBusy)
-        } else {
-            None
+        let items = self.items_of(key.destination);
+        if any_at(items, key) {
+            return Some(MailFault::ReferenceBusy);
         }
+        crowd_refusal(self.room(), items.len(), self.len())
     }
 
-    fn full_by_post(&self, destination: Itsi) -> Option<MailFault>
-        ensures { result ≡ crowd_refusal self.now.room (count_by (is_to destination) self.now.items + 1) (length self.now.items + 1) }
+    /// Why an item with this key has no place: `ReferenceBusy`, `MailboxFull` and `CentreFull`, in this
+    /// order.
+    pub fn restore_refusal(&self, key: &Key) -> Option<MailFault>
+        ensures { (number deadline : ℕ) (pdu : List Bool) (group : Option ℕ) → result ≡ restore_refusal self.now (record { key = key.now; number = number; deadline = deadline; pdu = pdu; group = group }) }
     {
-        crowd_refusal(self.room(), self.count_to(destination), self.len())
+        self.item_refusal(key)
     }
 
     fn full_by_report(&self, envelope: &Envelope, status: DeliveryStatus) -> Option<MailFault>
@@ -107,10 +111,7 @@ impl<A: Allocator + Clone> Mail<A> {
         if let Some(fault) = absent_refusal(registry, envelope.source) {
             return Some(fault);
         }
-        if let Some(fault) = self.busy_refusal(&envelope.key(Kind::Message)) {
-            return Some(fault);
-        }
-        self.full_by_post(envelope.destination)
+        self.item_refusal(&envelope.key(Kind::Message))
     }
 
     /// Why `report` would refuse a report of this status: `UnknownDestination`, `NotAttached` (the

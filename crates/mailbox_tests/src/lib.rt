@@ -3,6 +3,8 @@
 #![tactic(auto)]
 
 #[cfg(test)]
+mod expiry;
+#[cfg(test)]
 mod fixed_heap;
 #[cfg(test)]
 mod fixture;
@@ -12,6 +14,8 @@ mod groups;
 mod one_by_one;
 #[cfg(test)]
 mod plain;
+#[cfg(test)]
+mod restored;
 #[cfg(test)]
 mod side_by_side;
 #[cfg(test)]

@@ -53,7 +53,7 @@ fn follow(mail: &Mail<Global>) -> Result<bool, Fail> {
             return Ok(false);
         }
     }
-    Ok(next_number(mail, None) == 1)
+    Ok(next_number(mail, None) == 1 && mail.len() == 3)
 }
 
 fn are_followed(

@@ -92,9 +92,9 @@ fn ends(alloc: Global, ample: &LocalHeap) -> Result<[bool; 18], Fail> {
     Ok(seen)
 }
 
-/// The first message and the first report need an inbox, the fifth of each a longer one, and the order of all has its places
-/// for four, eight and sixteen; then there is no memory for a copy, and then for all.
-const ENDS: [usize; 6] = [0, 4, 8, 12, 16, 17];
+/// Each item needs a node of its own, the first message and the first report an inbox too, the fifth of each a longer one,
+/// and what the shorter one leaves is room for the next three nodes; then there is no memory for a copy, and then for all.
+const ENDS: [usize; 12] = [0, 1, 2, 3, 4, 8, 9, 10, 11, 12, 16, 17];
 
 fn are_seen(alloc: Global) -> Result<bool, Fail> {
     let ample = LocalHeap::new(alloc, 1 << 16)?;

@@ -27,6 +27,15 @@ one_whole m n k itsi radio whole path is p there =
     by true same some = ap length (tie_exact p k same ∙ path) ∙ length-id_path itsi
     by false other some = whole p some
 
+-- without one
+pub fewer_whole : (m n : PathMap Radio) (k : Path) → AreWhole m → n ≡ map.remove m k → AreWhole n
+fewer_whole m n k whole is p there =
+    by (eq_by_cmp path_cmp p k) (subst IsSome (ap (λ (l : PathMap Radio). map.get l p) is ∙ map.get-remove paths_total m k p) there)
+  where
+    by : (b : Bool) → IsSome (cond b None (map.get m p)) → length p ≡ 48
+    by true some = absurd (false≢true some)
+    by false some = whole p some
+
 -- in the place of what there was, if there was one
 pub replaced_whole : (m n : PathMap Radio) (k : Path) (itsi : ℕ) (radio : Radio) (before : Option Radio) → AreWhole m → k ≡ id_path itsi → OnSome before (n ≡ map.insert m k radio) → IfNone before (n ≡ m) → AreWhole n
 replaced_whole m n k itsi radio (Some was) whole path there absent = one_whole m n k itsi radio whole path there

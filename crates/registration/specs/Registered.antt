@@ -87,9 +87,19 @@ first_of_three None None third = third
 abbrev pub locate_refusal : Registered → ℕ → ℕ → LocationUpdateType → Option RegFault
 locate_refusal s itsi area update = first_of_three (type_refusal update) (area_refusal (rule_of s itsi) area) (room_refusal s itsi)
 
+-- the radio is there as this one
+abbrev pub with_radio : Registered → ℕ → Radio → Registered
+with_radio s itsi radio = record s { radios = map.insert s.radios (id_path itsi) radio }
+
+abbrev pub has_radio : Registered → ℕ → Bool
+has_radio s itsi = is_some (radio_of s itsi)
+
+abbrev pub without_radio : Registered → ℕ → Registered
+without_radio s itsi = record s { radios = map.remove s.radios (id_path itsi) }
+
 -- the radio is present at this station and location area
 abbrev pub located : Registered → ℕ → ℕ → ℕ → Registered
-located s itsi station area = record s { radios = map.insert s.radios (id_path itsi) (record { station = station; area = area; present = true }) }
+located s itsi station area = with_radio s itsi (record { station = station; area = area; present = true })
 
 abbrev pub is_present : Option Radio → Bool
 is_present None = false
@@ -105,7 +115,7 @@ absent radio = record { station = radio.station; area = radio.area; present = fa
 
 abbrev pub detached_at : Registered → ℕ → Option Radio → Registered
 detached_at s itsi None = s
-detached_at s itsi (Some radio) = record s { radios = map.insert s.radios (id_path itsi) (absent radio) }
+detached_at s itsi (Some radio) = with_radio s itsi (absent radio)
 
 abbrev pub detached : Registered → ℕ → Registered
 detached s itsi = detached_at s itsi (radio_of s itsi)

@@ -7,7 +7,7 @@ ghost use Rattle.std.specs.FinMap as map;
 ghost use Rattle.identity.specs.Path.{id_path};
 ghost use Rattle.prefix_tree.specs.Next.{next_entry};
 ghost use Rattle.registration.specs.Listed.{under_bits, under_its_bits};
-ghost use Rattle.registration.specs.Registered.{has_rule, longest_rule, rule_of, radio_of, type_refusal, area_refusal, room_refusal, locate_refusal, located, detach_refusal, detached, is_present, set_refusal, with_rule, without_rule, empty_registered};
+ghost use Rattle.registration.specs.Registered.{has_rule, longest_rule, rule_of, radio_of, type_refusal, area_refusal, room_refusal, locate_refusal, located, with_radio, detach_refusal, detached, is_present, has_radio, without_radio, set_refusal, with_rule, without_rule, empty_registered};
 ghost use Rattle.registration.specs.declared.fault.RegFault.TheVariants.{NoMemory};
 
 use crate::{Limits, LocationArea, Radio, RegFault, Rule};
@@ -62,6 +62,20 @@ impl<A: Allocator + Clone> Registry<A> {
         ensures { result ≡ self.now.limits }
     {
         self.limits
+    }
+
+    /// How many rules it holds.
+    pub fn rule_count(&self) -> u32
+        ensures { result ≡ map.len self.now.rules }
+    {
+        self.rule_count
+    }
+
+    /// How many radios it knows, be these present or not.
+    pub fn radio_count(&self) -> u32
+        ensures { result ≡ map.len self.now.radios }
+    {
+        self.radio_count
     }
 
     /// The rule that serves an identity, of a radio or of a group, given by its number: the one under
@@ -223,11 +237,48 @@ impl<A: Allocator + Clone> Registry<A> {
         if let Some(fault) = self.locate_refusal(itsi, area, update) {
             return Err(fault);
         }
-        let radio = Radio {
+        let present = Radio {
             station,
             area,
             present: true,
         };
+        self.put(itsi, present)
+    }
+
+    /// The radio is where it was when this was kept, present or not; no rule is asked. `Congestion` where
+    /// it is new and there are `limits.radios` radios, `NoMemory` where it is new; a refusal changes nothing.
+    pub fn restore(&mut self, itsi: Itsi, radio: Radio) -> Result<(), RegFault>
+        ensures ok { OnOk result ((room_refusal self.old itsi ≡ None) × (self.new ≡ with_radio self.old itsi radio)) }
+        ensures err { IfErr result (λ e. (e ≡ unwrap_or (room_refusal self.old itsi) NoMemory) × (self.new ≡ self.old)) }
+        ensures moves { IsSome (radio_of self.old itsi) → IsOk result }
+    {
+        if let Some(fault) = self.room_refusal(itsi) {
+            return Err(fault);
+        }
+        self.put(itsi, radio)
+    }
+
+    /// The radio is as if it had never come; whether it had. It takes no memory.
+    pub fn forget(&mut self, itsi: Itsi) -> bool
+        ensures there { result ≡ has_radio self.old itsi }
+        ensures gone { self.new ≡ without_radio self.old itsi }
+    {
+        match self.radios.take(&itsi.path()) {
+            Some(_) => {
+                self.radio_count -= 1;
+                true
+            }
+            None => false,
+        }
+    }
+
+    // There is room for it.
+    fn put(&mut self, itsi: Itsi, radio: Radio) -> Result<(), RegFault>
+        requires room { room_refusal self.old itsi ≡ None }
+        ensures ok { OnOk result (self.new ≡ with_radio self.old itsi radio) }
+        ensures err { IfErr result (λ e. (e ≡ NoMemory) × (self.new ≡ self.old)) }
+        ensures moves { IsSome (radio_of self.old itsi) → IsOk result }
+    {
         match self.radios.insert(itsi.path(), radio) {
             Ok(Some(_)) => Ok(()),
             Ok(None) => {

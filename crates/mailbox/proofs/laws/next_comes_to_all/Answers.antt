@@ -1,6 +1,6 @@
 use Rattle.prefix_tree.proofs.Following.{all_one_by_one}
 use Rattle.mailbox.specs.Order.{named_cmp, named}
-use Rattle.mailbox.proofs.NextItem.{named_total}
+use Rattle.mailbox.proofs.Keys.{named_total}
 use Rattle.mailbox.proofs.laws.next_comes_to_all.Goals as goal
 
 pub returns : goal.returns

@@ -1,13 +1,21 @@
-use Rattle.std.proofs.Common.{ap, ◌∙◌}
-use Rattle.mailbox.specs.Boxes.{all_expired}
-use Rattle.mailbox.proofs.Keeping.{kept_expired, kept_again, kept_in_order}
+use Rattle.std.proofs.Common.{◌<◌, length, ap, sym, subst, ◌∙◌}
+use Rattle.mailbox.specs.Values.{Mailed}
+use Rattle.mailbox.specs.Mail.{expired}
+use Rattle.mailbox.proofs.Expiry.{none_expired, same_left, fewer_wait}
 use Rattle.mailbox.proofs.mail.Mail.expire.Goals as goal
 
-pub invariant_of-self : goal.invariant_of-self
-invariant_of-self g c =
-    kept_again _ _ _ (kept_expired _ c.self.inside.boxes c.remove_expired.new.boxes c.self.inside.order.items c.keep_held.new.order.items c.args.moment c.self.invariant (c.remove_expired.ensures ∙ ap (all_expired c.args.moment c.self.inside.boxes) c.deref.ensures.value) c.keep_held.ensures)
+pub loop-place-smaller : goal.loop-place-smaller
+loop-place-smaller g c =
+    subst (λ (m : Mailed). length m.items < length c.loop-place.self.items) (sym c.remove_at.ensures)
+    (fewer_wait c.loop-place.self.items c.args.moment c.first_due.ensures.apart c.in-Some.place c.in-Some.ensures.first)
+
+pub loop-place-preserved : goal.loop-place-preserved
+loop-place-preserved g c =
+    ap (λ (m : Mailed). expired m c.args.moment) c.remove_at.ensures
+    ∙ (λ i. record { room = c.loop-place.self.room; items = same_left c.loop-place.self.items c.args.moment c.first_due.ensures.apart c.in-Some.place c.in-Some.ensures.first i })
+    ∙ c.loop-place.invariant
 
 pub returns : goal.returns
 returns g c =
-    let is = kept_in_order _ _ _ (kept_expired _ c.self.inside.boxes c.remove_expired.new.boxes c.self.inside.order.items c.keep_held.new.order.items c.args.moment c.self.invariant (c.remove_expired.ensures ∙ ap (all_expired c.args.moment c.self.inside.boxes) c.deref.ensures.value) c.keep_held.ensures) in
-    rw (← c.self.view_is) (λ i. record { room = c.self.inside.room; items = is i })
+    sym (λ i. record { room = c.loop-place.self.room; items = none_expired c.loop-place.self.items c.args.moment c.in_default.ensures.first i })
+    ∙ c.loop-place.invariant

@@ -5,5 +5,5 @@ use Rattle.mailbox.proofs.mail.Mail.items_of.Goals as goal
 
 pub returns-clause-items : goal.returns-clause-items
 returns-clause-items g c =
-    c.items_of.ensures.items ∙ kept_waiting _ c.self.inside.boxes c.self.inside.order.items c.args.destination c.self.invariant c.items_of.ensures.whole
+    c.items_of.ensures.items ∙ kept_waiting _ c.self.inside.boxes c.self.inside.order c.args.destination c.self.invariant c.items_of.ensures.whole
     ∙ ap (λ m. waiting m c.args.destination) c.self.view_is

@@ -1,0 +1,240 @@
+-- The places at and below a node: those of its one side, its own, those of the other.
+use Rattle.std.proofs.Common.{◌≡◌, ℕ, zero, suc, ◌<◌, ◌≤◌, Bool, true, false, cond, List, [], ◌∷◌, ◌++◌, length, refl, ap, sym, ◌∙◌, subst, arith, Option, Some, None}
+use Rattle.std.specs.Prelude.{nat_le, not, ◌||◌}
+use Rattle.std.specs.List.{All, AllPairs, filter, find, list_any}
+use Rattle.std.specs.Ordering.{is_eq, is_lt, ordering_reverse}
+use Rattle.std.specs.Cmp.{IsTotalOrder, on_total}
+use Rattle.std.specs.declared.cmp.Ordering.{Ordering}
+use Rattle.std.specs.declared.cmp.Ordering.TheVariants.{Less, Equal, Greater}
+use Rattle.std.specs.declared.boxed.Box.{Box}
+use Rattle.std.proofs.lemmas.Bool.Decides.{nat_tests}
+use mathlib.Core.List.{append_assoc}
+use Rattle.std.proofs.lemmas.List.{length-append}
+use Rattle.std.proofs.lemmas.Bool.{false≢true, false_from_ne_true}
+use Rattle.std.proofs.lemmas.Cmp.{nat_list_cmp_total}
+use Rattle.std.proofs.lemmas.List.Elements.{All-nil, All-cons, All-head, All-tail, All-weaker, filter-append}
+use Rattle.std.proofs.lemmas.List.Folds.{list_any-append}
+use Rattle.prefix_tree.specs.Following.{is_after}
+use Rattle.mailbox.specs.declared.key.Key.{Key}
+use Rattle.mailbox.specs.declared.place.Place.{Place}
+use Rattle.mailbox.specs.Order.{place_at, named_cmp}
+use Rattle.mailbox.specs.Boxes.{name_of}
+use Rattle.mailbox.specs.Places.{place_cmp, same_place, InOrder, NoneBefore, is_due, places_of, joined, EndsWith}
+use Rattle.mailbox.proofs.Lists.{pairs_head, pairs_tail, filter_all, any_of_none}
+
+module _ {X : Type 0} where
+  middle : (P : X → Type 0) (xs : List X) (x : X) (ys : List X) → All P (xs ++ x ∷ ys) → P x
+  middle P [] x ys h = All-head P x ys h
+  middle P (y ∷ xs) x ys h = middle P xs x ys (All-tail P y (xs ++ x ∷ ys) h)
+
+  none_found : (test : X → Bool) (xs : List X) → All (λ x. test x ≡ false) xs → find test xs ≡ None
+  none_found test [] h = refl
+  none_found test (x ∷ xs) h = ap (λ b. cond b (Some x) (find test xs)) (All-head (λ y. test y ≡ false) x xs h) ∙ none_found test xs (All-tail (λ y. test y ≡ false) x xs h)
+
+  abbrev or_found : Option X → Option X → Option X
+  or_found None o = o
+  or_found (Some x) o = Some x
+
+  one_or : (b : Bool) (x : X) (f o : Option X) → cond b (Some x) (or_found f o) ≡ or_found (cond b (Some x) f) o
+  one_or true x f o = refl
+  one_or false x f o = refl
+
+  -- what is found in two lists, one after the other
+  found_in : (test : X → Bool) (xs ys : List X) → find test (xs ++ ys) ≡ or_found (find test xs) (find test ys)
+  found_in test [] ys = refl
+  found_in test (x ∷ xs) ys = ap (cond (test x) (Some x)) (found_in test xs ys) ∙ one_or (test x) x (find test xs) (find test ys)
+
+  pairs_before : (R : X → X → Type 0) (xs : List X) (x : X) (ys : List X) → AllPairs R (xs ++ x ∷ ys) → All (λ y. R y x) xs
+  pairs_before R [] x ys h = All-nil (λ y. R y x)
+  pairs_before R (y ∷ xs) x ys h = All-cons (λ z. R z x) y xs (middle (R y) xs x ys (pairs_head R y (xs ++ x ∷ ys) h)) (pairs_before R xs x ys (pairs_tail R y (xs ++ x ∷ ys) h))
+
+  pairs_back : (R : X → X → Type 0) (xs ys : List X) → AllPairs R (xs ++ ys) → AllPairs R ys
+  pairs_back R [] ys h = h
+  pairs_back R (x ∷ xs) ys h = pairs_back R xs ys (pairs_tail R x (xs ++ ys) h)
+
+  all_front : (P : X → Type 0) (xs ys : List X) → All P (xs ++ ys) → All P xs
+  all_front P [] ys h = All-nil P
+  all_front P (x ∷ xs) ys h = All-cons P x xs (All-head P x (xs ++ ys) h) (all_front P xs ys (All-tail P x (xs ++ ys) h))
+
+  pairs_cons : (R : X → X → Type 0) (x : X) (xs : List X) → All (R x) xs → AllPairs R xs → AllPairs R (x ∷ xs)
+  pairs_cons R x xs first rest zero zero d less below = absurd (omega (arith, less))
+  pairs_cons R x xs first rest zero (suc j) d less below = first j d (omega (arith, below))
+  pairs_cons R x xs first rest (suc i) zero d less below = absurd (omega (arith, less))
+  pairs_cons R x xs first rest (suc i) (suc j) d less below = rest i j d (omega (arith, less)) (omega (arith, below))
+
+  pairs_front : (R : X → X → Type 0) (xs ys : List X) → AllPairs R (xs ++ ys) → AllPairs R xs
+  pairs_front R [] ys h = λ i j d less below. absurd (omega (arith, below))
+  pairs_front R (x ∷ xs) ys h = pairs_cons R x xs (all_front (R x) xs ys (pairs_head R x (xs ++ ys) h)) (pairs_front R xs ys (pairs_tail R x (xs ++ ys) h))
+
+-- a node whose sides are taken out
+pub left_alone : {A : Type 0} (moment : ℕ) (p : Place) (e l f m : Option (Box (List Place) A)) → NoneBefore moment (joined p e l) → f ≡ None → m ≡ None → NoneBefore moment (joined p f m)
+left_alone moment p e l f m none empty nothing =
+    subst (λ o. NoneBefore moment (joined p o m)) (sym empty) (subst (λ o. NoneBefore moment (p ∷ places_of o)) (sym nothing)
+    (All-cons (λ q. moment ≤ q.deadline) p [] (middle (λ q. moment ≤ q.deadline) (places_of e) p (places_of l) none) (All-nil (λ q. moment ≤ q.deadline))))
+
+not_yet : (moment deadline least : ℕ) → moment < least → least ≤ deadline → nat_le deadline moment ≡ false
+not_yet moment deadline least before le = grind (arith, nat_tests)
+
+less_is : (r : Ordering) → is_lt r ≡ true → r ≡ Less
+less_is Less e = refl
+less_is Equal e = absurd (false≢true e)
+less_is Greater e = absurd (false≢true e)
+
+-- nothing is due that ends later
+pub none_due : (moment least : ℕ) (places : List Place) → moment < least → NoneBefore least places → find (is_due moment) places ≡ None
+none_due moment least places before none = none_found (is_due moment) places (All-weaker (λ p. least ≤ p.deadline) (λ p. is_due moment p ≡ false) (λ p le. not_yet moment p.deadline least before le) places none)
+
+place_total : IsTotalOrder place_cmp
+place_total = on_total (λ (p : Place). place_at p.number p.key) nat_list_cmp_total
+
+reversed : (p q : Place) (r : Ordering) → place_cmp q p ≡ r → place_cmp p q ≡ ordering_reverse r
+reversed p q r e = place_total.antisymm p q ∙ ap ordering_reverse e
+
+-- a place that another comes before or after is not the same
+off : (p q : Place) (r : Ordering) → place_cmp p q ≡ r → is_eq r ≡ false → same_place p q ≡ false
+off p q r e not_eq = ap is_eq e ∙ not_eq
+
+module _ (p own : Place) where
+  -- what comes after a place, and what comes before it, where p is before it, it, or after it
+  after_less : place_cmp p own ≡ Less → (q : Place) → place_cmp own q ≡ Less → same_place p q ≡ false
+  after_less e q less = off p q Less (place_total.trans p own q e less) refl
+
+  after_equal : place_cmp p own ≡ Equal → (q : Place) → place_cmp own q ≡ Less → same_place p q ≡ false
+  after_equal e q less = off p q Less (place_total.congr p own q e ∙ less) refl
+
+  before_equal : place_cmp p own ≡ Equal → (q : Place) → place_cmp q own ≡ Less → same_place p q ≡ false
+  before_equal e q less = off p q Greater (place_total.congr p own q e ∙ reversed own q Less less) refl
+
+  before_greater : place_cmp p own ≡ Greater → (q : Place) → place_cmp q own ≡ Less → same_place p q ≡ false
+  before_greater e q less = off p q Greater (reversed p q Less (place_total.trans q own p less (reversed own p Greater e))) refl
+
+-- a list in order, parted at a place
+module _ (es : List Place) (own : Place) (ls : List Place) (order : InOrder (es ++ own ∷ ls)) where
+  abbrev IsBeforePlace : Place → Place → Type 0
+  IsBeforePlace a b = place_cmp a b ≡ Less
+
+  afters : All (λ q. place_cmp own q ≡ Less) ls
+  afters = pairs_head IsBeforePlace own ls (pairs_back IsBeforePlace es (own ∷ ls) order)
+
+  befores : All (λ q. place_cmp q own ≡ Less) es
+  befores = pairs_before IsBeforePlace es own ls order
+
+  pub order_earlier : InOrder es
+  order_earlier = pairs_front IsBeforePlace es (own ∷ ls) order
+
+  pub order_later : InOrder ls
+  order_later = pairs_tail IsBeforePlace own ls (pairs_back IsBeforePlace es (own ∷ ls) order)
+
+  module _ (p : Place) where
+    abbrev test : Place → Bool
+    test q = same_place p q
+
+    abbrev others : List Place → List Place
+    others places = filter (λ q. not (test q)) places
+
+    kept_later : (b : Bool) → test own ≡ b → others (own ∷ ls) ≡ cond (not b) (own ∷ others ls) (others ls)
+    kept_later b e = ap (λ c. cond (not c) (own ∷ others ls) (others ls)) e
+
+    -- the place goes on the earlier side, where it comes before the node's
+    pub gone_earlier : place_cmp p own ≡ Less → (left : List Place) → left ≡ others es → left ++ own ∷ ls ≡ others (es ++ own ∷ ls)
+    gone_earlier e left is =
+        (λ i. is i ++ own ∷ sym (filter_all test ls (All-weaker (λ q. place_cmp own q ≡ Less) (λ q. test q ≡ false) (after_less p own e) ls afters)) i)
+        ∙ ap (λ places. others es ++ places) (sym (kept_later false (off p own Less e refl))) ∙ sym (filter-append (λ q. not (test q)) es (own ∷ ls))
+
+    pub gone_later : place_cmp p own ≡ Greater → (left : List Place) → left ≡ others ls → es ++ own ∷ left ≡ others (es ++ own ∷ ls)
+    gone_later e left is =
+        (λ i. sym (filter_all test es (All-weaker (λ q. place_cmp q own ≡ Less) (λ q. test q ≡ false) (before_greater p own e) es befores)) i ++ own ∷ is i)
+        ∙ ap (λ places. others es ++ places) (sym (kept_later false (off p own Greater e refl))) ∙ sym (filter-append (λ q. not (test q)) es (own ∷ ls))
+
+    pub gone_here : place_cmp p own ≡ Equal → es ++ ls ≡ others (es ++ own ∷ ls)
+    gone_here e =
+        (λ i. sym (filter_all test es (All-weaker (λ q. place_cmp q own ≡ Less) (λ q. test q ≡ false) (before_equal p own e) es befores)) i
+        ++ sym (filter_all test ls (All-weaker (λ q. place_cmp own q ≡ Less) (λ q. test q ≡ false) (after_equal p own e) ls afters)) i)
+        ∙ ap (λ places. others es ++ places) (sym (kept_later true (ap is_eq e))) ∙ sym (filter-append (λ q. not (test q)) es (own ∷ ls))
+
+    any_parted : list_any test (es ++ own ∷ ls) ≡ (list_any test es || (test own || list_any test ls))
+    any_parted = list_any-append test es (own ∷ ls)
+
+    or_none : (a : Bool) → (a || false) ≡ a
+    or_none true = refl
+    or_none false = refl
+
+    -- if it is there, it is on its side
+    pub there_earlier : place_cmp p own ≡ Less → list_any test (es ++ own ∷ ls) ≡ true → list_any test es ≡ true
+    there_earlier e any =
+        sym (any_parted
+        ∙ (λ i. list_any test es || (off p own Less e refl i || any_of_none test ls (All-weaker (λ q. place_cmp own q ≡ Less) (λ q. test q ≡ false) (after_less p own e) ls afters) i))
+        ∙ or_none (list_any test es)) ∙ any
+
+    pub there_later : place_cmp p own ≡ Greater → list_any test (es ++ own ∷ ls) ≡ true → list_any test ls ≡ true
+    there_later e any =
+        sym (any_parted
+        ∙ (λ i. any_of_none test es (All-weaker (λ q. place_cmp q own ≡ Less) (λ q. test q ≡ false) (before_greater p own e) es befores) i || (off p own Greater e refl i || list_any test ls)))
+        ∙ any
+
+  -- what comes before a place that is not after a key is not after it
+  still_not : (after : Option (ℕ × Key)) (q : Place) → place_cmp q own ≡ Less → is_after named_cmp name_of after own ≡ false → is_after named_cmp name_of after q ≡ false
+  still_not None q less not_after = absurd (false≢true (sym not_after))
+  still_not (Some k) q less not_after = false_from_ne_true _ (λ is_less. false≢true (sym not_after ∙ ap is_lt (named_trans k q is_less less)))
+    where
+      named_trans : (k : ℕ × Key) (q : Place) → is_lt (named_cmp k (name_of q)) ≡ true → place_cmp q own ≡ Less → named_cmp k (name_of own) ≡ Less
+      named_trans k q is_less less = place_total.trans (record { number = k.0; key = k.1; deadline = 0 }) q own (less_is (named_cmp k (name_of q)) is_less) less
+
+  pub none_earlier : (after : Option (ℕ × Key)) → is_after named_cmp name_of after own ≡ false → find (is_after named_cmp name_of after) es ≡ None
+  none_earlier after not_after = none_found (is_after named_cmp name_of after) es (All-weaker (λ q. place_cmp q own ≡ Less) (λ q. is_after named_cmp name_of after q ≡ false) (λ q less. still_not after q less not_after) es befores)
+
+module _ {A : Type 0} (o : Option (Box (List Place) A)) (b : Box (List Place) A) (v : List Place) (is : o ≡ Some b) (at : v ≡ b.value) (p : Place) (e l : Option (Box (List Place) A)) (parts : joined p e l ≡ v) where
+  pub there : places_of o ≡ joined p e l
+  there = ap places_of is ∙ sym at ∙ sym parts
+
+  -- what is found at the node
+  found_there : (test : Place → Bool) → find test (places_of o) ≡ or_found (find test (places_of e)) (cond (test p) (Some p) (find test (places_of l)))
+  found_there test = ap (find test) there ∙ found_in test (places_of e) (p ∷ places_of l)
+
+  pub found_earlier : (test : Place → Bool) (x : Place) → Some x ≡ find test (places_of e) → Some x ≡ find test (places_of o)
+  found_earlier test x found = sym (found_there test ∙ ap (λ f. or_found f (cond (test p) (Some p) (find test (places_of l)))) (sym found))
+
+  pub found_here : (test : Place → Bool) → None ≡ find test (places_of e) → test p ≡ true → Some p ≡ find test (places_of o)
+  found_here test none here = sym (found_there test ∙ (λ i. or_found (sym none i) (cond (here i) (Some p) (find test (places_of l)))))
+
+  pub found_later : (test : Place → Bool) (r : Option Place) → None ≡ find test (places_of e) → test p ≡ false → r ≡ find test (places_of l) → r ≡ find test (places_of o)
+  found_later test r none other found = found ∙ sym (found_there test ∙ (λ i. or_found (sym none i) (cond (other i) (Some p) (find test (places_of l)))))
+
+  pub last_later : (x : Place) → EndsWith (places_of l) (Some x) → EndsWith (places_of o) (Some x)
+  last_later x end = (places_of e ++ p ∷ end.0, there ∙ ap (λ places. places_of e ++ p ∷ places) end.1 ∙ sym (append_assoc (places_of e) (p ∷ end.0) (x ∷ [])))
+
+  pub earlier_shorter : length (places_of e) < length (places_of o)
+  earlier_shorter = let all = ap length there in omega (arith, all, length-append (places_of e) (p ∷ places_of l))
+
+  pub later_shorter : length (places_of l) < length (places_of o)
+  later_shorter = let all = ap length there in omega (arith, all, length-append (places_of e) (p ∷ places_of l))
+
+  module _ (order : InOrder (places_of o)) where
+    parted : InOrder (joined p e l)
+    parted = subst InOrder there order
+
+    pub earlier_order : InOrder (places_of e)
+    earlier_order = order_earlier (places_of e) p (places_of l) parted
+
+    pub later_order : InOrder (places_of l)
+    later_order = order_later (places_of e) p (places_of l) parted
+
+    -- where the node's own place is not after a key, the first that is comes later
+    pub first_later : (after : Option (ℕ × Key)) (r : Option Place) → is_after named_cmp name_of after p ≡ false → r ≡ find (is_after named_cmp name_of after) (places_of l) → r ≡ find (is_after named_cmp name_of after) (places_of o)
+    first_later after r off found = found_later (is_after named_cmp name_of after) r (sym (none_earlier (places_of e) p (places_of l) parted after off)) off found
+
+    module _ (q : Place) where
+      pub removed_earlier : place_cmp q p ≡ Less → (left : List Place) → left ≡ filter (λ z. not (same_place q z)) (places_of e) → left ++ p ∷ places_of l ≡ filter (λ z. not (same_place q z)) (places_of o)
+      removed_earlier less left is = gone_earlier (places_of e) p (places_of l) parted q less left is ∙ ap (filter (λ z. not (same_place q z))) (sym there)
+
+      pub removed_later : place_cmp q p ≡ Greater → (left : List Place) → left ≡ filter (λ z. not (same_place q z)) (places_of l) → places_of e ++ p ∷ left ≡ filter (λ z. not (same_place q z)) (places_of o)
+      removed_later more left is = gone_later (places_of e) p (places_of l) parted q more left is ∙ ap (filter (λ z. not (same_place q z))) (sym there)
+
+      pub removed_here : place_cmp q p ≡ Equal → places_of e ++ places_of l ≡ filter (λ z. not (same_place q z)) (places_of o)
+      removed_here equal = gone_here (places_of e) p (places_of l) parted q equal ∙ ap (filter (λ z. not (same_place q z))) (sym there)
+
+      pub is_earlier : place_cmp q p ≡ Less → list_any (same_place q) (places_of o) ≡ true → list_any (same_place q) (places_of e) ≡ true
+      is_earlier less any = there_earlier (places_of e) p (places_of l) parted q less (ap (list_any (same_place q)) (sym there) ∙ any)
+
+      pub is_later : place_cmp q p ≡ Greater → list_any (same_place q) (places_of o) ≡ true → list_any (same_place q) (places_of l) ≡ true
+      is_later more any = there_later (places_of e) p (places_of l) parted q more (ap (list_any (same_place q)) (sym there) ∙ any)

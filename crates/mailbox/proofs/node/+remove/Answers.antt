@@ -1,0 +1,31 @@
+use Rattle.std.proofs.Common.{◌++◌, ◌∷◌, sym, subst, ◌∙◌, arith, rules}
+use Rattle.std.specs.Prelude.{IsSome}
+use Rattle.mailbox.specs.Places.{places_of}
+use Rattle.mailbox.proofs.Sides.{earlier_order, later_order, earlier_shorter, later_shorter, removed_earlier, removed_later, removed_here, is_earlier, is_later}
+use Rattle.mailbox.proofs.node.+remove.Goals as goal
+use Rattle.mailbox.proofs.node.+remove.Goals.{in-Less, in-Greater}
+
+pub remove-spare-requires : goal.remove-spare-requires
+remove-spare-requires g t c κs within = (omega (arith, c.decreases, earlier_shorter _ _ _ (sym c.in-Some.ensures.value) c.deref_mut.ensures.value c.take_apart-own.result.0 c.take_apart-own.result.1 c.take_apart-own.result.2 c.take_apart-own.ensures), (search (rules), earlier_order _ _ _ (sym c.in-Some.ensures.value) c.deref_mut.ensures.value c.take_apart-own.result.0 c.take_apart-own.result.1 c.take_apart-own.result.2 c.take_apart-own.ensures c.requires))
+
+pub remove-spare-requires-in-Greater : goal.remove-spare-requires-in-Greater
+remove-spare-requires-in-Greater g t c κs within = (omega (arith, c.decreases, later_shorter _ _ _ (sym c.in-Some.ensures.value) c.deref_mut.ensures.value c.take_apart-own.result.0 c.take_apart-own.result.1 c.take_apart-own.result.2 c.take_apart-own.ensures), (search (rules), later_order _ _ _ (sym c.in-Some.ensures.value) c.deref_mut.ensures.value c.take_apart-own.result.0 c.take_apart-own.result.1 c.take_apart-own.result.2 c.take_apart-own.ensures c.requires))
+
+pub returns-in-Equal-clause-places : goal.returns-in-Equal-clause-places
+returns-in-Equal-clause-places g t c = c.join.ensures ∙ removed_here _ _ _ (sym c.in-Some.ensures.value) c.deref_mut.ensures.value c.take_apart-own.result.0 c.take_apart-own.result.1 c.take_apart-own.result.2 c.take_apart-own.ensures c.requires c.args.place.now (sym c.in-Equal.ensures)
+
+pub returns-clause-places : goal.returns-clause-places
+returns-clause-places g t c = elim c.match-cmp.branch [
+  | in-Less w ↦
+      c.balanced.ensures ∙ (λ i. places_of (w.earlier-is i) ++ c.take_apart-own.result.0 ∷ places_of (w.later-is i))
+      ∙ removed_earlier _ _ _ (sym c.in-Some.ensures.value) c.deref_mut.ensures.value c.take_apart-own.result.0 c.take_apart-own.result.1 c.take_apart-own.result.2 c.take_apart-own.ensures c.requires c.args.place.now (sym w.in-Less.ensures) _ w.remove-spare.ensures.places
+  | in-Greater w ↦
+      c.balanced.ensures ∙ (λ i. places_of (w.earlier-is i) ++ c.take_apart-own.result.0 ∷ places_of (w.later-is i))
+      ∙ removed_later _ _ _ (sym c.in-Some.ensures.value) c.deref_mut.ensures.value c.take_apart-own.result.0 c.take_apart-own.result.1 c.take_apart-own.result.2 c.take_apart-own.ensures c.requires c.args.place.now (sym w.in-Greater.ensures) _ w.remove-spare-in-Greater.ensures.places
+]
+
+pub returns-clause-there : goal.returns-clause-there
+returns-clause-there g t c any = elim c.match-cmp.branch [
+  | in-Less w ↦ subst IsSome (sym w.spare-is) (w.remove-spare.ensures.there (is_earlier _ _ _ (sym c.in-Some.ensures.value) c.deref_mut.ensures.value c.take_apart-own.result.0 c.take_apart-own.result.1 c.take_apart-own.result.2 c.take_apart-own.ensures c.requires c.args.place.now (sym w.in-Less.ensures) any))
+  | in-Greater w ↦ subst IsSome (sym w.spare-is) (w.remove-spare-in-Greater.ensures.there (is_later _ _ _ (sym c.in-Some.ensures.value) c.deref_mut.ensures.value c.take_apart-own.result.0 c.take_apart-own.result.1 c.take_apart-own.result.2 c.take_apart-own.ensures c.requires c.args.place.now (sym w.in-Greater.ensures) any))
+]

@@ -1,0 +1,151 @@
+//! The places of all items, in order.
+
+ghost use Rattle.std.specs.Prelude.{◌≡◌, ◌+◌, ◌<◌, ◌^◌, ◌++◌, ◌∷◌, [], not, true, length, OnOk};
+ghost use Rattle.std.specs.List.{filter, find, list_any};
+ghost use Rattle.std.specs.Option.{option_copied};
+ghost use Rattle.prefix_tree.specs.Following.{next_of};
+ghost use Rattle.mailbox.specs.Order.{named_cmp};
+ghost use Rattle.mailbox.specs.Boxes.{name_of};
+ghost use Rattle.mailbox.specs.Places.{same_place, InOrder, is_due, places_of, IsLastOf, EndsWith};
+
+use crate::Key;
+use crate::node::{self, Link, Node};
+use crate::place::Place;
+use prefix_tree::TryCopy;
+use std::alloc::{AllocError, Allocator};
+use std::marker::Model;
+
+/// The places of all items, in order of number, then of key: a tree with a node for each.
+#[derive(Drop)]
+pub(crate) struct Order<A: Allocator> {
+    alloc: A,
+    count: usize,
+    root: Option<Link<A>>,
+}
+
+impl<A: Allocator> Model for Order<A> {
+    ghost use Rattle.std.specs.Prelude.{◌≡◌, List, length};
+    ghost use Rattle.mailbox.specs.declared.place.Place.{Place};
+    ghost use Rattle.mailbox.specs.Places.{coded_places, places_of};
+
+    ghost Value = { List Place };
+
+    ghost coded = { coded_places };
+
+    ghost view = { λ o. places_of o.root };
+
+    ghost invariant = { λ o. o.count ≡ length (places_of o.root) };
+}
+
+impl<A: Allocator> Order<A> {
+    /// No places. It takes no memory.
+    pub(crate) fn new(alloc: A) -> Self
+        ensures { result ≡ [] }
+    {
+        Order {
+            alloc,
+            count: 0,
+            root: None,
+        }
+    }
+
+    /// The allocator of its nodes.
+    pub(crate) fn allocator(&self) -> &A {
+        &self.alloc
+    }
+
+    pub(crate) fn len(&self) -> usize
+        ensures { result ≡ length self.now }
+    {
+        self.count
+    }
+
+    /// The node that the others are under.
+    pub(crate) fn root(&self) -> &Option<Link<A>>
+        ensures { places_of result.now ≡ self.now }
+    {
+        &self.root
+    }
+
+    pub(crate) fn last(&self) -> Option<&Place>
+        ensures { EndsWith self.now (option_copied result) }
+    {
+        node::last(&self.root)
+    }
+
+    /// The first place after this number and key, or the first of all.
+    pub(crate) fn first_after(&self, after: &Option<(u64, Key)>) -> Option<&Place>
+        requires { InOrder self.now }
+        ensures { option_copied result ≡ next_of named_cmp name_of self.now after.now }
+    {
+        node::first_after(&self.root, after)
+    }
+
+    /// The first place whose item has ended by the moment.
+    pub(crate) fn first_due(&self, moment: u32) -> Option<&Place>
+        ensures { option_copied result ≡ find (is_due moment) self.now }
+    {
+        node::first_due(&self.root, u64::from(moment))
+    }
+
+    /// Puts the place at the end, in this box.
+    pub(crate) fn append(&mut self, place: &Place, spare: Link<A>)
+        requires { length self.old + 1 < 2 ^ 64 }
+        ensures { self.new ≡ self.old ++ place.now ∷ [] }
+    {
+        self.count += 1;
+        node::append(&mut self.root, place, spare);
+    }
+
+    /// Takes the place away.
+    pub(crate) fn remove(&mut self, place: &Place)
+        requires { InOrder self.old }
+        ensures { self.new ≡ filter (λ other. not (same_place place.now other)) self.old }
+    {
+        if node::remove(&mut self.root, place).is_some() {
+            self.count -= 1;
+        }
+    }
+
+    /// Takes a place away that is there, and puts another at the end. It takes no memory.
+    pub(crate) fn renew(&mut self, old: &Place, place: &Place)
+        requires order { InOrder self.old }
+        requires there { list_any (same_place old.now) self.old ≡ true }
+        ensures { self.new ≡ filter (λ other. not (same_place old.now other)) self.old ++ place.now ∷ [] }
+    {
+        if let Some(spare) = node::remove(&mut self.root, old) {
+            node::append(&mut self.root, place, spare);
+        }
+    }
+
+    /// Takes the last place away.
+    pub(crate) fn pop(&mut self) -> Option<Place>
+        ensures { IsLastOf self.old self.new result }
+    {
+        let place = node::pop_last(&mut self.root)?;
+        self.count -= 1;
+        Some(place)
+    }
+}
+
+impl<A: Allocator + Clone> Order<A> {
+    /// A box for one more place.
+    pub(crate) fn spare(&self, place: &Place) -> Result<Link<A>, AllocError>
+        ensures { OnOk result (length self.now + 1 < 2 ^ 64) }
+    {
+        if self.count == usize::MAX {
+            return Err(AllocError);
+        }
+        Ok(Box::new(self.alloc.clone()?, Node::of(*place, None, None))?)
+    }
+}
+
+impl<A: Allocator + Clone> TryCopy for Order<A> {
+    fn try_copy(&self) -> Result<Self, AllocError> {
+        Ok(Order {
+            alloc: self.alloc.clone()?,
+            count: self.count,
+            root: node::copied(&self.root, &self.alloc)?,
+        })
+    }
+}

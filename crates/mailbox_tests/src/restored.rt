@@ -1,0 +1,123 @@
+//! Items put back as they were kept, without a rule and without a radio.
+
+use crate::fixture::{Call, envelope, limits, pdu, text};
+use identity::parse_bits;
+use linked_list_allocator::LocalHeap;
+use mailbox::{Item, Kind, Mail, MailFault};
+use std::alloc::{Allocator, Global};
+use std::test::Fail;
+
+/// The number of the command that made a message, its source and its destination.
+const KEPT: [(u64, u32, u32); 3] = [(4, 8, 2), (4, 9, 100), (7, 1, 2)];
+
+/// What is answered to a message, which comes after all that wait.
+fn restored<A: Allocator + Clone>(
+    mail: &mut Mail<A>,
+    alloc: A,
+    number: u64,
+    source: u32,
+    destination: u32,
+) -> Result<Result<(), MailFault>, Fail> {
+    let key = envelope(source, destination, 5)?.key(Kind::Message);
+    if !mail.is_next(number, &key) {
+        return Err(Fail::from("out of order"));
+    }
+    let item = Item::new(key, number, 5000, pdu(alloc, Call::Post(0))?, None);
+    Ok(mail.restore(item))
+}
+
+fn all_restored(alloc: Global, mail: &mut Mail<Global>) -> Result<bool, Fail> {
+    for (number, source, destination) in KEPT {
+        if restored(mail, alloc, number, source, destination)?.is_err() {
+            return Ok(false);
+        }
+    }
+    Ok(true)
+}
+
+fn are_kept(mail: &Mail<Global>) -> Result<bool, Fail> {
+    let mut last = None;
+    for (number, source, destination) in KEPT {
+        let key = envelope(source, destination, 5)?.key(Kind::Message);
+        let is_kept = mail.next(last).is_some_and(|item| item.number() == number
+            && item.key() == key
+            && item.deadline() == 5000);
+        if !is_kept {
+            return Ok(false);
+        }
+        last = Some((number, key));
+    }
+    Ok(mail.next(last).is_none())
+}
+
+fn are_restored(alloc: Global) -> Result<bool, Fail> {
+    let mut mail = Mail::new(alloc, limits(3)?);
+    let done = all_restored(alloc, &mut mail)?;
+    let busy = restored(&mut mail, alloc, 8, 1, 2)? == Err(MailFault::ReferenceBusy);
+    let full = restored(&mut mail, alloc, 8, 1, 3)? == Err(MailFault::CentreFull);
+    Ok(done && busy && full && are_kept(&mail)?)
+}
+
+#[test]
+fn items_are_restored_in_order(rt: HostRuntime) -> Result<(), Fail> {
+    assert!(rt; are_restored(rt.alloc())?);
+    Ok(())
+}
+
+/// Which of these messages for one destination is the first that finds no place.
+fn first_refused(alloc: Global) -> Result<Option<u32>, Fail> {
+    let mut mail = Mail::new(alloc, limits(200)?);
+    for source in 0..130u32 {
+        if let Err(fault) = restored(&mut mail, alloc, u64::from(source) + 1, source, 2)? {
+            return Ok((fault == MailFault::MailboxFull).then_some(source));
+        }
+    }
+    Ok(None)
+}
+
+#[test]
+fn one_destination_has_128_places(rt: HostRuntime) -> Result<(), Fail> {
+    assert!(rt; first_refused(rt.alloc())? == Some(128));
+    Ok(())
+}
+
+/// Whether a message finds memory in a heap of this size; nothing where a refusal leaves something.
+fn restored_in(alloc: Global, size: usize) -> Result<Option<bool>, Fail> {
+    let heap = LocalHeap::new(alloc, size)?;
+    let mut mail = Mail::new(&heap, limits(3)?);
+    let key = envelope(8, 2, 5)?.key(Kind::Message);
+    let Ok(pdu) = parse_bits(&heap, text(Call::Post(0)).as_bytes()) else {
+        return Ok(Some(false));
+    };
+    if !mail.is_next(1, &key) {
+        return Ok(None);
+    }
+    let told = mail.restore(Item::new(key, 1, 5000, pdu, None));
+    let is_empty = mail.next(None).is_none();
+    drop(mail);
+    match told {
+        Ok(()) => Ok((!is_empty && heap.used() == 0).then_some(true)),
+        Err(fault) => {
+            let same = is_empty && heap.used() == 0;
+            Ok((same && fault == MailFault::NoMemory).then_some(false))
+        }
+    }
+}
+
+/// The heap's size, in units of 16 bytes, from which on the message finds memory.
+fn least_heap(alloc: Global) -> Result<Option<usize>, Fail> {
+    for size in 2..200usize {
+        match restored_in(alloc, 16 * size)? {
+            Some(true) => return Ok(Some(size)),
+            Some(false) => {}
+            None => return Ok(None),
+        }
+    }
+    Ok(None)
+}
+
+#[test]
+fn each_growth_of_a_restored_item_is_refused(rt: HostRuntime) -> Result<(), Fail> {
+    assert!(rt; least_heap(rt.alloc())?.is_some_and(|size| size > 10));
+    Ok(())
+}
