@@ -9,3 +9,4 @@ pub mod Answering
 pub mod Spelled
 pub mod Taken
 pub mod Judged
+pub mod Runs

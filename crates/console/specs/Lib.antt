@@ -6,3 +6,5 @@ pub mod Feed
 pub mod Spelling
 pub mod Parts
 pub mod Hand
+pub mod Failures
+pub mod Runs

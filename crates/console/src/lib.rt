@@ -8,17 +8,20 @@
 mod answer;
 mod answer_text;
 mod desk;
+mod input;
 pub mod laws;
 mod line;
 mod order;
+mod output;
 mod progress;
 mod running;
-mod sending;
 mod serving;
 mod text_part;
 mod words;
 
 pub use answer::{Answer, print_answer};
 pub use desk::{Desk, Service};
+pub use input::Input;
 pub use line::{Line, LineFault, parse_line};
-pub use running::{Ran, RunFault, run, run_counted};
+pub use output::Output;
+pub use running::{Ran, RunFault, Terms, run, run_counted};

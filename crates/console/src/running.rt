@@ -1,14 +1,17 @@
 //! Reading a text in pieces, to its end.
-ghost use Rattle.std.specs.Prelude.{◌≡◌, ◌⊎◌, IsErrOf, ◌≤◌, ◌<◌, ◌+◌, List, ℕ, length, IfOk, IfErr, OnErr, Some};
-ghost use Rattle.console.specs.Feed.{FitsPiece, IsPiece};
-ghost use Rattle.console.specs.Dialogue.{GivesLongPdu, RunsWell, RunsShort};
+ghost use Rattle.std.specs.Prelude.{◌≡◌, ◌⊎◌, IsErrOf, ◌≤◌, ◌<◌, ◌+◌, IfOk, OnErr};
+ghost use Rattle.console.specs.Dialogue.{GivesLongPdu};
+ghost use Rattle.console.specs.Failures.{failures_told};
+ghost use Rattle.console.specs.Runs.{AnswersAll, AnswersSome};
 
 use crate::desk::Desk;
+use crate::input::Input;
+use crate::output::Output;
 use crate::progress::Progress;
 use crate::serving::{finish, take_piece};
 use prefix_tree::Steps;
 use std::alloc::Allocator;
-use std::io::{ErrorKind, Read, Write};
+use std::io::{Read, Write};
 use std::marker::Brand;
 use std::sync::ledger::{Blank, Ledger};
 use thiserror::Error;
@@ -50,104 +53,102 @@ pub enum Piece {
 /// The most bytes that one call of the reader gives.
 const PIECE: usize = 65536;
 
-/// Calls the reader once.
-fn read_piece<L: Ledger, F: Ledger, R: Read>(
-    reader: &mut R,
-    buffer: &mut [u8],
-    steps: &mut Steps<L>,
-    faults: &mut Steps<F>,
-) -> Result<Piece, RunFault>
-    requires { 0 < length buffer.old }
-    ensures bound { IfOk result (λ piece. FitsPiece piece (length buffer.new)) }
-    ensures ok { IfOk result (λ piece. (input : List ℕ) → R.remaining reader.old ≡ Some input → IsPiece piece buffer.new input (R.remaining reader.new)) }
-    ensures calls { steps.new ≡ steps.old + 1 }
-    ensures faults { faults.old ≤ faults.new }
-    ensures failed { OnErr result (faults.old < faults.new) }
-    ensures plain { IfErr result (λ e. e ≡ RunFault.Read) }
-{
-    steps.tick();
-    match reader.read(buffer) {
-        Ok(0) => Ok(Piece::End),
-        Ok(n) => Ok(Piece::Bytes(n)),
-        Err(e) => {
-            if e.kind() == ErrorKind::Interrupted {
-                Ok(Piece::Bytes(0))
-            } else {
-                faults.tick();
-                Err(RunFault::Read)
-            }
-        }
-    }
+/// What a run is given beside its reader, its writer and its desk.
+#[derive(Clone, Copy)]
+pub struct Terms<A: Allocator + Copy> {
+    /// Where the line at hand, commands, replies and answers lie.
+    pub alloc: A,
+    /// Whose lines are read, from 1.
+    pub station: u16,
+    /// The most calls of the reader.
+    pub turns: u32,
 }
 
-/// As [`run`]; each call of the reader is a step, and each error of it but an interruption a fault.
-pub fn run_counted<L: Ledger, F: Ledger, A: Allocator + Copy + Drop, R: Read, W: Write, D: Desk>(
-    alloc: A,
-    reader: &mut R,
-    writer: &mut W,
-    station: u16,
-    turns: u32,
+/// As [`run`]; each call of the reader is a step, and each error of it but an interruption a fault. A write
+/// or flush that failed is a failure: there is one where this answers [`RunFault::Write`], and else none.
+pub fn run_counted<
+    L: Ledger,
+    F: Ledger,
+    G: Ledger,
+    A: Allocator + Copy + Drop,
+    R: Read,
+    W: Write,
+    D: Desk,
+>(
+    terms: Terms<A>,
+    input: &mut Input<R, L, F>,
+    output: &mut Output<W, G>,
     desk: &mut D,
-    steps: &mut Steps<L>,
-    faults: &mut Steps<F>,
 ) -> Result<Ran, RunFault>
-    ensures ok { IfOk result (λ ran. (input before : List ℕ) → R.remaining reader.old ≡ Some input → W.contents writer.old ≡ Some before →
-        RunsWell A D.rules station (D.world desk.old) input before ran.lines ran.troubled (W.contents writer.new) (D.world desk.new)) }
-    ensures err { OnErr result ((input before : List ℕ) → R.remaining reader.old ≡ Some input → W.contents writer.old ≡ Some before →
-        RunsShort A D.rules station (D.world desk.old) input before (W.contents writer.new) (D.world desk.new)) }
-    ensures calls { steps.new ≤ steps.old + turns }
-    ensures read { IsErrOf result RunFault.Read → (steps.new ≡ steps.old + turns) ⊎ (faults.old < faults.new) }
-    ensures memory { IsErrOf result RunFault.NoMemory → (steps.new ≡ steps.old) ⊎ GivesLongPdu A D.rules }
+    ensures ok { IfOk result (λ ran. AnswersAll A D.rules terms.station (D.world desk.old) (R.remaining input.old.reader.now) (W.contents output.old.writer.now)
+        ran (W.contents output.new.writer.now) (D.world desk.new)) }
+    ensures err { OnErr result (AnswersSome A D.rules terms.station (D.world desk.old) (R.remaining input.old.reader.now) (W.contents output.old.writer.now)
+        (W.contents output.new.writer.now) (D.world desk.new)) }
+    ensures calls { input.new.steps.now ≤ input.old.steps.now + terms.turns }
+    ensures read { IsErrOf result RunFault.Read → (input.new.steps.now ≡ input.old.steps.now + terms.turns) ⊎ (input.old.faults.now < input.new.faults.now) }
+    ensures write { output.new.failures.now ≡ output.old.failures.now + failures_told result }
+    ensures memory { IsErrOf result RunFault.NoMemory → (input.new.steps.now ≡ input.old.steps.now) ⊎ GivesLongPdu A D.rules }
+    ensures reader { input.new.reader.ghost_name ≡ input.old.reader.ghost_name }
+    ensures steps { input.new.steps.ghost_name ≡ input.old.steps.ghost_name }
+    ensures faults { input.new.faults.ghost_name ≡ input.old.faults.ghost_name }
+    ensures writer { output.new.writer.ghost_name ≡ output.old.writer.ghost_name }
+    ensures failures { output.new.failures.ghost_name ≡ output.old.failures.ghost_name }
 {
-    let Ok(mut progress) = Progress::new(alloc) else {
+    let Ok(mut progress) = Progress::new(terms.alloc) else {
         return Err(RunFault::NoMemory);
     };
     let mut buffer = [0u8; PIECE];
-    for _ in 0..turns {
-        match read_piece(reader, &mut buffer, steps, faults)? {
-            Piece::End => return finish(alloc, &mut progress, writer, station, desk),
+    for _ in 0..terms.turns {
+        match input.read(&mut buffer)? {
+            Piece::End => return finish(terms, &mut progress, output, desk),
             Piece::Bytes(n) => {
                 let piece = &buffer[..n];
-                take_piece(alloc, &mut progress, writer, station, piece, desk)?;
+                take_piece(terms, &mut progress, output, piece, desk)?;
             }
         }
     }
     Err(RunFault::Read)
 }
 
-fn run_in<L: Ledger, F: Ledger, A: Allocator + Copy + Drop, R: Read, W: Write, D: Desk>(
-    blank: Blank,
-    other: Blank,
-    alloc: A,
+/// What the ledgers of a run are made of.
+struct Blanks {
+    steps: Blank,
+    faults: Blank,
+    failures: Blank,
+}
+
+fn run_in<L: Ledger, F: Ledger, G: Ledger, A: Allocator + Copy + Drop, R: Read, W: Write, D: Desk>(
+    blanks: Blanks,
+    terms: Terms<A>,
     reader: &mut R,
     writer: &mut W,
-    station: u16,
-    turns: u32,
     desk: &mut D,
 ) -> Result<Ran, RunFault>
-    requires name { blank.name ≡ L.name }
-    requires parts { blank.parts ≡ L.parts }
-    requires some { 0 < blank.parts }
-    requires other_name { other.name ≡ F.name }
-    requires other_parts { other.parts ≡ F.parts }
-    requires other_some { 0 < other.parts }
-    ensures ok { IfOk result (λ ran. (input before : List ℕ) → R.remaining reader.old ≡ Some input → W.contents writer.old ≡ Some before →
-        RunsWell A D.rules station (D.world desk.old) input before ran.lines ran.troubled (W.contents writer.new) (D.world desk.new)) }
-    ensures err { OnErr result ((input before : List ℕ) → R.remaining reader.old ≡ Some input → W.contents writer.old ≡ Some before →
-        RunsShort A D.rules station (D.world desk.old) input before (W.contents writer.new) (D.world desk.new)) }
+    requires steps_name { blanks.steps.name ≡ L.name }
+    requires steps_parts { blanks.steps.parts ≡ L.parts }
+    requires steps_some { 0 < blanks.steps.parts }
+    requires faults_name { blanks.faults.name ≡ F.name }
+    requires faults_parts { blanks.faults.parts ≡ F.parts }
+    requires faults_some { 0 < blanks.faults.parts }
+    requires failures_name { blanks.failures.name ≡ G.name }
+    requires failures_parts { blanks.failures.parts ≡ G.parts }
+    requires failures_some { 0 < blanks.failures.parts }
+    ensures ok { IfOk result (λ ran. AnswersAll A D.rules terms.station (D.world desk.old) (R.remaining reader.old) (W.contents writer.old)
+        ran (W.contents writer.new) (D.world desk.new)) }
+    ensures err { OnErr result (AnswersSome A D.rules terms.station (D.world desk.old) (R.remaining reader.old) (W.contents writer.old)
+        (W.contents writer.new) (D.world desk.new)) }
 {
-    let mut steps = Steps::<L>::new(blank);
-    let mut faults = Steps::<F>::new(other);
-    run_counted(
-        alloc,
-        reader,
-        writer,
-        station,
-        turns,
-        desk,
-        &mut steps,
-        &mut faults,
-    )
+    let Blanks {
+        steps,
+        faults,
+        failures,
+    } = blanks;
+    let mut steps = Steps::<L>::new(steps);
+    let mut faults = Steps::<F>::new(faults);
+    let mut failures = Steps::<G>::new(failures);
+    let mut input = Input::new(reader, &mut steps, &mut faults);
+    let mut output = Output::new(writer, &mut failures);
+    run_counted(terms, &mut input, &mut output, desk)
 }
 
 /// Reads all lines, in at most `turns` calls of the reader, answers each before it reads the next,
@@ -160,19 +161,20 @@ pub fn run<A: Allocator + Copy + Drop, R: Read, W: Write, D: Desk>(
     turns: u32,
     desk: &mut D,
 ) -> Result<Ran, RunFault>
-    ensures ok { IfOk result (λ ran. (input before : List ℕ) → R.remaining reader.old ≡ Some input → W.contents writer.old ≡ Some before →
-        RunsWell A D.rules station (D.world desk.old) input before ran.lines ran.troubled (W.contents writer.new) (D.world desk.new)) }
-    ensures err { OnErr result ((input before : List ℕ) → R.remaining reader.old ≡ Some input → W.contents writer.old ≡ Some before →
-        RunsShort A D.rules station (D.world desk.old) input before (W.contents writer.new) (D.world desk.new)) }
+    ensures ok { IfOk result (λ ran. AnswersAll A D.rules station (D.world desk.old) (R.remaining reader.old) (W.contents writer.old)
+        ran (W.contents writer.new) (D.world desk.new)) }
+    ensures err { OnErr result (AnswersSome A D.rules station (D.world desk.old) (R.remaining reader.old) (W.contents writer.old)
+        (W.contents writer.new) (D.world desk.new)) }
 {
-    run_in::<Brand, Brand, A, R, W, D>(
-        Blank::new(1),
-        Blank::new(1),
+    let blanks = Blanks {
+        steps: Blank::new(1),
+        faults: Blank::new(1),
+        failures: Blank::new(1),
+    };
+    let terms = Terms {
         alloc,
-        reader,
-        writer,
         station,
         turns,
-        desk,
-    )
+    };
+    run_in::<Brand, Brand, Brand, A, R, W, D>(blanks, terms, reader, writer, desk)
 }

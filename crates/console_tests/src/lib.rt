@@ -16,6 +16,8 @@ mod group_copies;
 #[cfg(test)]
 mod limits;
 #[cfg(test)]
+mod parts;
+#[cfg(test)]
 mod served;
 #[cfg(test)]
 mod small_heaps;

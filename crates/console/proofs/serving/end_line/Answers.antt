@@ -9,8 +9,8 @@ use Rattle.console.proofs.serving.end_line.Goals as goal
 pub returns-in_err-troubled-clause-err : goal.returns-in_err-troubled-clause-err
 returns-in_err-troubled-clause-err g c = on_err_true c.from_residual.result (λ s before taken rest i.
     let line = strip_carriage_return i.line in
-    let f = c.in_err-troubled.ensures.err line (before ++ texts i.answers) (c.line-line.ensures i.line i.holds) i.written in
-    short_within g.D.Desk.rules c.args.station s before taken (taken ++ 10 ∷ rest) c.args.progress.now (g.W.Write.contents c.args.writer.now) (g.W.Write.contents c.serve.new.writer)
+    let f = c.in_err-troubled.ensures.err line (before ++ texts i.answers) (c.line.ensures i.line i.holds) i.written in
+    short_within g.D.Desk.rules c.args.terms.station s before taken (taken ++ 10 ∷ rest) c.args.progress.now (g.W.Write.contents c.args.output.now.writer.now) (g.W.Write.contents c.serve.new.output.writer.now)
     (g.D.Desk.world c.args.desk.now) (g.D.Desk.world c.serve.new.desk) line (lines rest) f.0 f.1 f.2 i
     (line_ended taken i.line rest i.done 10 refl i.no_end (i.split (10 ∷ rest)))
     f.3 f.4 f.5)
@@ -18,7 +18,7 @@ returns-in_err-troubled-clause-err g c = on_err_true c.from_residual.result (λ 
 pub returns-clause-ok : goal.returns-clause-ok
 returns-clause-ok g c = λ s before taken i.
     let line = strip_carriage_return i.line in
-    let f = c.in_ok-troubled.ensures.ok line (before ++ texts i.answers) (c.line-line.ensures i.line i.holds) i.written in
-    going_line g.D.Desk.rules c.args.station s before taken c.args.progress.now _ (g.W.Write.contents c.args.writer.now) (g.W.Write.contents c.serve.new.writer)
+    let f = c.in_ok-troubled.ensures.ok line (before ++ texts i.answers) (c.line.ensures i.line i.holds) i.written in
+    going_line g.D.Desk.rules c.args.terms.station s before taken c.args.progress.now _ (g.W.Write.contents c.args.output.now.writer.now) (g.W.Write.contents c.serve.new.output.writer.now)
     (g.D.Desk.world c.args.desk.now) (g.D.Desk.world c.serve.new.desk) f.0 i
     refl (ap (λ b. c.args.progress.now.troubled || b) f.3) c.clear.ensures f.1 f.2

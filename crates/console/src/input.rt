@@ -1,0 +1,63 @@
+//! The reader of a run, and the ledgers of its calls and faults.
+ghost use Rattle.std.specs.Prelude.{◌≡◌, ◌≤◌, ◌<◌, ◌+◌, List, ℕ, length, IfOk, IfErr, OnErr, Some};
+ghost use Rattle.console.specs.Feed.{FitsPiece, IsPiece};
+
+use crate::running::{Piece, RunFault};
+use prefix_tree::Steps;
+use std::io::{ErrorKind, Read};
+use std::sync::ledger::Ledger;
+
+/// A reader that can't be called but by [`Input::read`], which writes each call, and each error but an
+/// interruption, into a ledger.
+#[derive(Drop)]
+pub struct Input<'r, 's, R: Read, L: Ledger, F: Ledger> {
+    reader: &'r mut R,
+    steps: &'s mut Steps<L>,
+    faults: &'s mut Steps<F>,
+}
+
+impl<'r, 's, R: Read, L: Ledger, F: Ledger> Input<'r, 's, R, L, F> {
+    /// The reader, with the ledgers for its calls and for its faults.
+    pub fn new(reader: &'r mut R, steps: &'s mut Steps<L>, faults: &'s mut Steps<F>) -> Self
+        ensures reader { result.reader.ghost_name ≡ reader.entry.ghost_name }
+        ensures steps { result.steps.ghost_name ≡ steps.entry.ghost_name }
+        ensures faults { result.faults.ghost_name ≡ faults.entry.ghost_name }
+        ensures reader_is { result.reader.now ≡ reader.old }
+        ensures steps_is { result.steps.now ≡ steps.old }
+        ensures faults_is { result.faults.now ≡ faults.old }
+    {
+        Input {
+            reader,
+            steps,
+            faults,
+        }
+    }
+
+    /// Calls the reader once.
+    pub(crate) fn read(&mut self, buffer: &mut [u8]) -> Result<Piece, RunFault>
+        requires { 0 < length buffer.old }
+        ensures reader { self.new.reader.ghost_name ≡ self.old.reader.ghost_name }
+        ensures steps { self.new.steps.ghost_name ≡ self.old.steps.ghost_name }
+        ensures faults { self.new.faults.ghost_name ≡ self.old.faults.ghost_name }
+        ensures bound { IfOk result (λ piece. FitsPiece piece (length buffer.new)) }
+        ensures ok { IfOk result (λ piece. (input : List ℕ) → R.remaining self.old.reader.now ≡ Some input → IsPiece piece buffer.new input (R.remaining self.new.reader.now)) }
+        ensures calls { self.new.steps.now ≡ self.old.steps.now + 1 }
+        ensures ledger { self.old.faults.now ≤ self.new.faults.now }
+        ensures failed { OnErr result (self.old.faults.now < self.new.faults.now) }
+        ensures plain { IfErr result (λ e. e ≡ RunFault.Read) }
+    {
+        self.steps.tick();
+        match self.reader.read(buffer) {
+            Ok(0) => Ok(Piece::End),
+            Ok(n) => Ok(Piece::Bytes(n)),
+            Err(e) => {
+                if e.kind() == ErrorKind::Interrupted {
+                    Ok(Piece::Bytes(0))
+                } else {
+                    self.faults.tick();
+                    Err(RunFault::Read)
+                }
+            }
+        }
+    }
+}

@@ -1,0 +1,87 @@
+//! The writer of a run, and the ledger of its failures.
+ghost use Rattle.std.specs.Prelude.{◌≡◌, ◌≤◌, ◌<◌, ◌+◌, ◌++◌, List, ℕ, length, take, IfOk, IfErr, OnOk, OnErr, Some};
+ghost use Rattle.console.specs.Failures.{failures_told};
+
+use crate::running::RunFault;
+use prefix_tree::Steps;
+use std::io::{ErrorKind, Write};
+use std::sync::ledger::Ledger;
+
+/// A writer that can't be called but by [`Output::send`], which writes each failure into a ledger: an error
+/// of a write but an interruption, a write that takes nothing, an interruption where no more are borne, and
+/// an error of a flush.
+#[derive(Drop)]
+pub struct Output<'w, 'f, W: Write, G: Ledger> {
+    writer: &'w mut W,
+    failures: &'f mut Steps<G>,
+}
+
+impl<'w, 'f, W: Write, G: Ledger> Output<'w, 'f, W, G> {
+    /// The writer, with the ledger for its failures.
+    pub fn new(writer: &'w mut W, failures: &'f mut Steps<G>) -> Self
+        ensures writer { result.writer.ghost_name ≡ writer.entry.ghost_name }
+        ensures failures { result.failures.ghost_name ≡ failures.entry.ghost_name }
+        ensures writer_is { result.writer.now ≡ writer.old }
+        ensures failures_is { result.failures.now ≡ failures.old }
+    {
+        Output { writer, failures }
+    }
+
+    /// Writes some of the bytes: none where the call was interrupted, which is borne so many times.
+    fn write(&mut self, bytes: &[u8], patience: &mut u32) -> Result<usize, RunFault>
+        ensures writer { self.new.writer.ghost_name ≡ self.old.writer.ghost_name }
+        ensures failures { self.new.failures.ghost_name ≡ self.old.failures.ghost_name }
+        ensures bound { IfOk result (λ n. n ≤ length bytes.now) }
+        ensures ok { IfOk result (λ n. (before : List ℕ) → W.contents self.old.writer.now ≡ Some before → W.contents self.new.writer.now ≡ Some (before ++ take n bytes.now)) }
+        ensures err { OnErr result ((before : List ℕ) → W.contents self.old.writer.now ≡ Some before → W.contents self.new.writer.now ≡ Some before) }
+        ensures goes_on { IfOk result (λ n. patience.new < patience.old + n) }
+        ensures ledger { self.new.failures.now ≡ self.old.failures.now + failures_told result }
+        ensures plain { IfErr result (λ e. e ≡ RunFault.Write) }
+    {
+        match self.writer.write(bytes) {
+            Ok(n) if n > 0 => return Ok(n),
+            Err(e) if e.kind() == ErrorKind::Interrupted && *patience > 0 => {
+                *patience -= 1;
+                return Ok(0);
+            }
+            _ => {}
+        }
+        self.failures.tick();
+        Err(RunFault::Write)
+    }
+
+    /// Has the writer pass on what it was given.
+    fn flush(&mut self) -> Result<(), RunFault>
+        ensures writer { self.new.writer.ghost_name ≡ self.old.writer.ghost_name }
+        ensures failures { self.new.failures.ghost_name ≡ self.old.failures.ghost_name }
+        ensures keeps { (before : List ℕ) → W.contents self.old.writer.now ≡ Some before → W.contents self.new.writer.now ≡ Some before }
+        ensures ledger { self.new.failures.now ≡ self.old.failures.now + failures_told result }
+        ensures plain { IfErr result (λ e. e ≡ RunFault.Write) }
+    {
+        match self.writer.flush() {
+            Ok(()) => Ok(()),
+            Err(_) => {
+                self.failures.tick();
+                Err(RunFault::Write)
+            }
+        }
+    }
+
+    /// Writes all of the bytes and has them passed on, or writes a front of them.
+    pub(crate) fn send(&mut self, bytes: &[u8]) -> Result<(), RunFault>
+        ensures writer { self.new.writer.ghost_name ≡ self.old.writer.ghost_name }
+        ensures failures { self.new.failures.ghost_name ≡ self.old.failures.ghost_name }
+        ensures ok { OnOk result ((before : List ℕ) → W.contents self.old.writer.now ≡ Some before → W.contents self.new.writer.now ≡ Some (before ++ bytes.now)) }
+        ensures err { OnErr result ((before : List ℕ) → W.contents self.old.writer.now ≡ Some before →
+            (part : List ℕ) × (missing : List ℕ) × (bytes.now ≡ part ++ missing) × (W.contents self.new.writer.now ≡ Some (before ++ part))) }
+        ensures ledger { self.new.failures.now ≡ self.old.failures.now + failures_told result }
+        ensures plain { IfErr result (λ e. e ≡ RunFault.Write) }
+    {
+        let mut patience = u32::MAX;
+        let mut at = 0;
+        while at < bytes.len() {
+            at += self.write(&bytes[at..], &mut patience)?;
+        }
+        self.flush()
+    }
+}

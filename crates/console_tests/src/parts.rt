@@ -1,0 +1,48 @@
+//! The parts that a register lends.
+
+use crate::limits::usual;
+use crate::served::are_answered;
+use centre_core::Register;
+use identity::Itsi;
+use std::alloc::Global;
+use std::test::Fail;
+
+const LINES: &str = "1 0 rule 234-14-0/24 1 99 1 3600\n\
+     2 10 mm 234-14-2001 7 10:260\n\
+     3 20 mm 234-14-2001 7 60:7380480A00007D0\n\
+     4 100 sds 234-14-2001 234-14-2001 48:820405014849\n";
+
+const ANSWERS: &str = "1 ok 1 -\n2 ok 2 8:56\n3 ok 3 62:B3704C0980001F40\n4 ok 4 -\n";
+
+fn are_lent(register: &Register<Global>, here: Itsi) -> bool {
+    let Some(Some(last)) = register.served().first() else {
+        return false;
+    };
+    let attachment = register.groups().next_of(here, None);
+    let item = register.mail().next(None);
+    register.registry().is_present(here)
+        && attachment.is_some_and(|attachment| attachment.gtsi.ssi() == 1000)
+        && item.is_some_and(|item| item.number() == 4)
+        && register.served().len() == 4
+        && (last.sequence, last.number) == (4, 4)
+        && last.pdu.is_none()
+}
+
+fn are_told(alloc: Global) -> Result<bool, Fail> {
+    let here = Itsi::new(234, 14, 2001).ok_or("a radio")?;
+    let mut register = Register::new(alloc, usual()?)?;
+    let told = are_answered(
+        alloc,
+        alloc,
+        &mut register,
+        LINES.as_bytes(),
+        ANSWERS.as_bytes(),
+    );
+    Ok(told && are_lent(&register, here))
+}
+
+#[test]
+fn parts_are_lent(rt: HostRuntime) -> Result<(), Fail> {
+    assert!(rt; are_told(rt.alloc())?);
+    Ok(())
+}
