@@ -1,0 +1,4 @@
+pub mod Apart
+pub mod Epochs
+pub mod Spared
+pub mod Switched

@@ -1,0 +1,82 @@
+-- The other side's root is opened.
+use Rattle.std.proofs.Common.{take, ◌≡◌, ◌≢◌, ◌⊎◌, inl, inr, ℕ, ◌+◌, ◌-◌, ◌<◌, ◌≤◌, List, [], ◌∷◌, length, slice_index, Some, Result, Ok, refl, sym, ap, ◌∙◌, arith}
+use Rattle.std.proofs.lemmas.Bool.{cases_eq}
+use Rattle.sector_disk.specs.Disk.{IsImageOf, IsSound, View, HasWritten, HasSynced, sector}
+use Rattle.sector_disk.specs.Run.{IsTorn, IsTornImage, LeavesOnly}
+use Rattle.sector_disk.specs.declared.disk.DiskError.{DiskError}
+use Rattle.sector_disk.proofs.Moments.{durable_image, started, sync_on, synced_images, torn_by, write_on}
+use Rattle.gated_journal.specs.Half.{IsClosed, IsOpen}
+use Rattle.gated_journal.specs.Calls.{open_gate}
+use Rattle.gated_journal.proofs.Chain.{last_gate}
+use Rattle.image_rows.specs.RowReading.{row_in}
+use Rattle.image_rows.specs.Image.{slot_of}
+use Rattle.checkpoint.specs.declared.layout.Layout.{Layout}
+use Rattle.checkpoint.specs.declared.side.Side.{Side}
+use Rattle.checkpoint.specs.Label.{label_size}
+use Rattle.checkpoint.specs.Layout.{disk_size, half_at, half_end, label_at, other_of, root_at, slot_at, slot_size}
+use Rattle.checkpoint.specs.Standing.{Base, Held, InEach, IsBelow, IsEither, IsReady, Stands, epoch_of, fresh}
+use Rattle.checkpoint.proofs.Apart.{label_elsewhere, lies, other_twice, slot_elsewhere}
+use Rattle.checkpoint.proofs.Epochs.{slot_tells}
+use Rattle.checkpoint.proofs.Spared.{closed_as, root_torn, sectors_same, stands_on}
+
+module _ {A : Type 0} (layout : Layout) (s : Side) (base next : Base) (held : Held A) (newer : base.0 < next.0) where
+  abbrev o : Side
+  o = other_of s
+
+  abbrev Either : List (List ℕ) → Type 0
+  Either = IsEither layout s base next held
+
+  abbrev Other : List (List ℕ) → Type 0
+  Other = Stands {A = A} layout o next (fresh layout o)
+
+  module _ (was image : List (List ℕ)) (torn : IsTorn (root_at o) 1 was image) (stands : Stands layout s base held was) (ready : IsReady layout o next was) where
+    -- all behind the roots is the same
+    behind : (k : ℕ) → root_at o < k → sector image k ≡ sector was k
+    behind k lt = torn.others k (inr (omega (arith, lt)))
+
+    below : IsBelow layout s next.0 image
+    below =
+        let places = lies layout s in
+        let others = lies layout o in
+        let slot : sector image (slot_at layout s) ≡ sector was (slot_at layout s) = (root_torn layout o was image torn).others (slot_at layout s) (slot_elsewhere layout s (slot_at layout s) (omega arith) (omega (arith, places.some))) in
+        inr (base.0, ap (λ (bytes : List ℕ). epoch_of (row_in bytes)) slot ∙ slot_tells layout s base was places.some stands.slot, newer)
+
+    opened_stands : IsOpen (sector image (root_at o)) → Other image
+    opened_stands opened =
+        let places = lies layout o in
+        let some = layout.in_range.fewest in
+        record {
+          room = rw torn.count stands.room;
+          label = ap (λ (bytes : List ℕ). take label_size bytes) ((root_torn layout o was image torn).others label_at (label_elsewhere layout s)) ∙ stands.label;
+          root = opened;
+          below = rw (other_twice s) below;
+          slot = ap (slot_of layout.limits) (sectors_same was image (slot_at layout o) (slot_size layout) (λ k low high. behind k (omega (arith, low, places.root)))) ∙ ready.slot;
+          half = last_gate (half_end layout o - half_at layout o) image (half_at layout o) (half_end layout o) (closed_as (sector was (half_at layout o)) (sector image (half_at layout o)) (behind (half_at layout o) (omega (arith, places.root, places.slot))) ready.gate);
+          gate = omega (arith, some);
+        }
+
+    stands_either : Either image
+    stands_either = elim (cases_eq (slice_index (sector image (root_at o)) 0) 1) [
+      | inl opened ↦ inr (opened_stands opened)
+      | inr shut ↦ inl (stands_on layout s base held was image stands (root_torn layout o was image torn) (inl shut))
+    ]
+
+  module _ (old mid : View) (sound : IsSound old) (room : disk_size layout ≤ old.sectors) (each : InEach old (Stands layout s base held)) (ready : InEach old (IsReady layout o next)) where
+    at_root : (image : List (List ℕ)) → IsTornImage old (root_at o) 1 image → Either image
+    at_root image torn = stands_either torn.0 image torn.2 (each torn.0 torn.1) (ready torn.0 torn.1)
+
+    inside : root_at o < old.sectors
+    inside = let places = lies layout o in omega (arith, places.root_in, room)
+
+    pub in_root : (one : List ℕ) (result : Result Unit DiskError) → HasWritten old mid (root_at o) one result → LeavesOnly old mid Either
+    in_root one result wrote = write_on old old mid Either (root_at o) one result (started old Either sound (λ image is. inl (each image is))) sound inside wrote at_root
+
+    module _ (one : List ℕ) (wrote : HasWritten old mid (root_at o) one (Ok tt)) (new : View) where
+      pub in_sync : (result : Result Unit DiskError) → HasSynced mid new result → LeavesOnly old new Either
+      in_sync result syncs = sync_on old mid new Either result (in_root one (Ok tt) wrote) syncs (λ image is. at_root image (torn_by old mid (root_at o) one (Ok tt) sound inside wrote image is))
+
+      pub has_switched : HasSynced mid new (Ok tt) → IsOpen one → InEach new Other
+      has_switched syncs opened image is =
+          let torn = torn_by old mid (root_at o) one (Ok tt) sound inside wrote image (synced_images mid new (Ok tt) syncs image is) in
+          let root : sector image (root_at o) ≡ one = durable_image new syncs.durable image is (root_at o) ∙ ap (λ (l : List (List ℕ)). sector l (root_at o)) syncs.reads ∙ wrote.written.0 in
+          opened_stands torn.0 image torn.2 (each torn.0 torn.1) (ready torn.0 torn.1) (ap (λ (bytes : List ℕ). slice_index bytes 0) root ∙ opened)

@@ -1,0 +1,6 @@
+pub mod Half
+pub mod Layout
+pub mod Label
+pub mod Standing
+pub mod Calls
+pub mod Closed

@@ -1,0 +1,12 @@
+//! The image of a register on one side of a disk, and the switch to that side.
+#![tactic(auto)]
+
+mod fault;
+mod layout;
+mod side;
+mod switching;
+
+pub use fault::CheckpointError;
+pub use layout::Layout;
+pub use side::Side;
+pub use switching::switch;

@@ -1,0 +1,50 @@
+// The switch from one side of a disk to the other.
+ghost use Rattle.std.specs.Prelude.{◌≡◌, ◌⊎◌, ◌≤◌, ◌<◌, ◌++◌, IsErrOf, OnOk};
+ghost use Rattle.sector_disk.specs.Disk.{HasFailed};
+ghost use Rattle.sector_disk.specs.Run.{HasMade, LeavesOnly};
+ghost use Rattle.checkpoint.specs.declared.fault.CheckpointError.TheVariants.{DiskFault, EpochsUsedUp};
+ghost use Rattle.checkpoint.specs.Layout.{disk_size, other_of};
+ghost use Rattle.checkpoint.specs.Standing.{Base, Held, InEach, IsEither, IsReady, Stands, fresh};
+ghost use Rattle.checkpoint.specs.Calls.{switch_calls};
+
+use crate::{CheckpointError, Layout, Side};
+use sector_disk::Disk;
+use std::alloc::Allocator;
+
+/// Makes the other side of the disk the current one, once `write_image` has answered `Ok`: opens its root. Takes no
+/// memory.
+///
+/// A stop at any moment, also after a `DiskFault`, leaves what stood there before, or the image that was written with
+/// no record behind it; at `Ok` each stop leaves the latter.
+pub fn switch<A: Allocator, D: Disk>(
+    disk: &mut D,
+    layout: &Layout,
+    current: Side,
+) -> Result<(), CheckpointError>
+    requires room { disk_size layout.now ≤ (D.view disk.old).sectors }
+
+    // A stop at any moment of the call leaves the disk standing by the one side or by the other.
+    ensures any_moment { (base next : Base) (held : Held A) → base.0 < next.0 → (D.view disk.old).honest → InEach (D.view disk.old) (Stands layout.now current base held) → InEach (D.view disk.old) (IsReady layout.now (other_of current) next)
+        → LeavesOnly (D.view disk.old) (D.view disk.new) (IsEither layout.now current base next held) }
+
+    // At `Ok` each stop leaves it standing by the other, with no record.
+    ensures switched { OnOk result ((base next : Base) (held : Held A) → base.0 < next.0 → (D.view disk.old).honest → InEach (D.view disk.old) (Stands layout.now current base held) → InEach (D.view disk.old) (IsReady layout.now (other_of current) next)
+        → InEach (D.view disk.new) (Stands {A = A} layout.now (other_of current) next (fresh layout.now (other_of current)))) }
+
+    // The other side's root is opened, and that is made to last. A call that fails is the last.
+    ensures calls { OnOk result ((D.view disk.new).calls ≡ (D.view disk.old).calls ++ switch_calls (other_of current)) }
+    ensures some_calls { HasMade (D.view disk.old) (D.view disk.new) (switch_calls (other_of current)) }
+
+    // It does not give up by itself.
+    ensures fault { IsErrOf result DiskFault → HasFailed (D.view disk.old) (D.view disk.new) }
+    ensures epochs { IsErrOf result EpochsUsedUp → ⊥ }
+    ensures sectors { (D.view disk.new).sectors ≡ (D.view disk.old).sectors }
+    ensures later { (D.view disk.old).failures ≤ (D.view disk.new).failures }
+    ensures honest { (D.view disk.old).honest → (D.view disk.new).honest }
+{
+    let mut root = [0; 512];
+    root[0] = 1;
+    disk.write(layout.root(current.other()), &root)?;
+    disk.sync()?;
+    Ok(())
+}
