@@ -1,10 +1,11 @@
 -- What a crash leaves in each step of an append.
-use Rattle.std.proofs.Common.{◌≡◌, ◌≢◌, ◌⊎◌, inl, inr, ℕ, ◌+◌, ◌-◌, ◌<◌, ◌≤◌, List, [], ◌∷◌, ◌++◌, length, slice_index, Result, Ok, sym, ◌∙◌, ap, arith}
+use Rattle.std.proofs.Common.{◌≡◌, ◌≢◌, ◌⊎◌, inl, inr, ℕ, ◌+◌, ◌-◌, ◌<◌, ◌≤◌, false, List, [], ◌∷◌, ◌++◌, length, slice_index, Result, Ok, Err, sym, ◌∙◌, ap, arith}
 use Rattle.std.proofs.lemmas.Bool.{cases_eq, cases_lt}
-use Rattle.sector_disk.specs.Disk.{View, IsImageOf, IsSound, HasWritten, HasSynced, sector}
+use Rattle.std.specs.Result.{OnOk}
+use Rattle.sector_disk.specs.Disk.{View, IsImageOf, HasSynced, sector}
 use Rattle.sector_disk.specs.Run.{HasFilled, LeavesOnly, IsTornImage}
 use Rattle.sector_disk.specs.declared.disk.DiskError.{DiskError}
-use Rattle.sector_disk.proofs.Moments.{goes_on, weaker, torn_by, synced_images, durable_image}
+use Rattle.sector_disk.proofs.Moments.{goes_on, run_on, weaker, synced_images, durable_image}
 use Rattle.gated_journal.specs.Half.{Entry, IsOpen, IsClosed, half_of}
 use Rattle.centre_core.specs.Asked.{Asked}
 use Rattle.gated_journal.specs.Record.{IsRecord, data_sector, data_size, record_text}
@@ -12,6 +13,26 @@ use Rattle.gated_journal.specs.Settled.{IsSettled, IsWithOrWithout, Leaves}
 use Rattle.gated_journal.specs.declared.place.Place.{Place}
 use Rattle.gated_journal.proofs.Chain.{half_up, same_half, still_shut, half_more, closed_behind}
 use Rattle.gated_journal.proofs.Written.{record_written}
+
+-- a run of writes, synced
+pub then_synced : (old filled synced : View) (at n : ℕ) (bytes : ℕ → List ℕ) (result : Result Unit DiskError) → HasFilled old filled at n bytes (Ok tt) → HasSynced filled synced result → HasFilled old synced at n bytes result
+then_synced old filled synced at n bytes result has syncs =
+    let now : (image : List (List ℕ)) → IsImageOf synced image → IsTornImage old at n image = λ image is. has.now image (synced_images filled synced result syncs image is) in
+    record {
+      honest = syncs.honest;
+      crash = goes_on old filled synced (IsTornImage old at n) has.crash syncs.time now;
+      now = now;
+      count = ap (λ (reads : List (List ℕ)). length reads) syncs.reads ∙ has.count;
+      others = λ k out. as_before k ∙ has.others k out;
+      written = written result;
+    }
+  where
+    as_before : (k : ℕ) → sector synced.reads k ≡ sector filled.reads k
+    as_before k = ap (λ (sectors : List (List ℕ)). sector sectors k) syncs.reads
+
+    written : (outcome : Result Unit DiskError) → OnOk outcome ((k : ℕ) → k < n → sector synced.reads (at + k) ≡ bytes k)
+    written (Ok u) = λ k lt. as_before (at + k) ∙ has.written k lt
+    written (Err e) = tt
 
 module _ {A : Type 0} (place : Place) (entries : List (Entry A)) (commands : List (Asked A)) (record_is : IsRecord commands) (text : List ℕ) (text_is : text ≡ record_text commands) (room : place.next + data_size text + 2 ≤ place.end) where
   abbrev Left : View → List (List ℕ) → Type 0
@@ -69,73 +90,53 @@ module _ {A : Type 0} (place : Place) (entries : List (Entry A)) (commands : Lis
     | inr shut ↦ inl (place.next, still_shut sectors image place.first place.end entries place.next is.chain (λ k le lt. let other : k ≢ place.next = omega arith in same k other) shut)
   ]
 
-  -- the sectors are being written
+  -- the sectors are being written, and synced
   pub in_fill : (old filled : View) (result : Result Unit DiskError) → IsSettled old place entries → HasFilled old filled (place.next + 1) (data_size text + 1) (data_sector text) result → LeavesOnly old filled (Left old)
   in_fill old filled result settled has = weaker old filled (IsTornImage old (place.next + 1) (data_size text + 1)) (Left old) has.crash (behind old (data_size text + 1) (omega arith) settled)
 
-  -- and synced
-  pub in_sync : (old filled synced : View) (result : Result Unit DiskError) → IsSettled old place entries → HasFilled old filled (place.next + 1) (data_size text + 1) (data_sector text) (Ok tt)
-      → HasSynced filled synced result → LeavesOnly old synced (Left old)
-  in_sync old filled synced result settled has syncs =
-      goes_on old filled synced (Left old) (in_fill old filled (Ok tt) settled has) syncs.time
-      (λ image is. behind old (data_size text + 1) (omega arith) settled image (has.now image (synced_images filled synced result syncs image is)))
+  module _ (old synced : View) (whole : IsImageOf old old.reads) (settled : IsSettled old place entries)
+      (has : HasFilled old synced (place.next + 1) (data_size text + 1) (data_sector text) (Ok tt)) (durable : (k : ℕ) → synced.pending k ≡ false)
+      (gate : ℕ → List ℕ) (written : View) where
+    elsewhere : (k : ℕ) → k ≢ place.next → (k < place.next) ⊎ (place.next + 1 ≤ k)
+    elsewhere k other = elim (cases_lt k place.next) [ inl below ↦ inl below | inr above ↦ inr (omega (arith, above, other)) ]
 
-  module _ (old filled synced : View) (whole : IsImageOf old old.reads) (settled : IsSettled old place entries)
-      (has : HasFilled old filled (place.next + 1) (data_size text + 1) (data_sector text) (Ok tt)) (syncs : HasSynced filled synced (Ok tt)) where
     on_disk : IsStaged synced.reads
-    on_disk = rw syncs.reads (staged old filled whole settled has)
+    on_disk = staged old synced whole settled has
 
-    module _ (gate : List ℕ) (written : View) (sound : IsSound synced) (in_range : place.next < synced.sectors) where
-      counted : (result : Result Unit DiskError) → HasWritten synced written place.next gate result → (image : List (List ℕ)) → IsImageOf written image → length image ≡ length old.reads
-      counted result wrote image is = is.count ∙ wrote.count ∙ ap (λ (reads : List (List ℕ)). length reads) syncs.reads ∙ has.count
+    only_gate : (image : List (List ℕ)) → IsTornImage synced place.next 1 image → (k : ℕ) → k ≢ place.next → sector image k ≡ sector synced.reads k
+    only_gate image torn k other = torn.2.others k (elsewhere k other) ∙ durable_image synced durable torn.0 torn.1 k
 
-      only_gate : (result : Result Unit DiskError) → HasWritten synced written place.next gate result → (image : List (List ℕ)) → IsImageOf written image
-          → (k : ℕ) → k ≢ place.next → sector image k ≡ sector synced.reads k
-      only_gate result wrote image is k other =
-          let torn = torn_by synced written place.next gate result sound in_range wrote image is in
-          torn.2.others k (elsewhere k other) ∙ durable_image synced syncs.durable torn.0 torn.1 k
-        where
-          elsewhere : (k : ℕ) → k ≢ place.next → (k < place.next) ⊎ (place.next + 1 ≤ k)
-          elsewhere k other = elim (cases_lt k place.next) [ inl below ↦ inl below | inr above ↦ inr (omega (arith, above, other)) ]
+    left : (image : List (List ℕ)) → IsTornImage synced place.next 1 image → Left old image
+    left image torn =
+        let up = half_up old.reads place.first place.end entries place.next (settled.half old.reads whole) in
+        record {
+          elsewhere = (
+            old.reads,
+            whole,
+            record {
+              count = torn.2.count ∙ torn.1.count ∙ has.count;
+              others = λ k out. only_gate image torn k (not_gate up settled.begins k out) ∙ has.others k (outside up settled.begins k (data_size text + 1) (omega arith) out);
+            },
+          );
+          half = open_or_not synced.reads image on_disk (only_gate image torn);
+        }
 
-      left : (result : Result Unit DiskError) → HasWritten synced written place.next gate result → (image : List (List ℕ)) → IsImageOf written image → Left old image
-      left result wrote image is =
-          let up = half_up old.reads place.first place.end entries place.next (settled.half old.reads whole) in
-          record {
-            elsewhere = (
-              old.reads,
-              whole,
-              record {
-                count = counted result wrote image is;
-                others = λ k out. only_gate result wrote image is k (not_gate up settled.begins k out) ∙ ap (λ (sectors : List (List ℕ)). sector sectors k) syncs.reads ∙ has.others k (outside up settled.begins k (data_size text + 1) (omega arith) out);
-              },
-            );
-            half = open_or_not synced.reads image on_disk (only_gate result wrote image is);
-          }
+    -- the gate is being opened, and synced
+    pub in_gate : (result : Result Unit DiskError) → HasFilled synced written place.next 1 gate result → LeavesOnly old written (Left old)
+    in_gate result wrote = run_on old synced written (Left old) (IsTornImage synced place.next 1) (in_fill old synced (Ok tt) settled has) wrote.crash left
 
-      -- the gate is being opened
-      pub in_gate : (result : Result Unit DiskError) → HasWritten synced written place.next gate result → LeavesOnly old written (Left old)
-      in_gate result wrote =
-          goes_on old synced written (Left old) (in_sync old filled synced (Ok tt) settled has syncs) wrote.time
-          (left result wrote)
-
-      -- and synced
-      pub in_last : (result last_result : Result Unit DiskError) (last : View) → HasWritten synced written place.next gate result → HasSynced written last last_result → LeavesOnly old last (Left old)
-      in_last result last_result last wrote ends =
-          goes_on old written last (Left old) (in_gate result wrote) ends.time
-          (λ image is. left result wrote image (synced_images written last last_result ends image is))
-
-      -- then the record is on the disk
-      pub at_end : (last : View) (after : Place) → place.first < place.end → HasWritten synced written place.next gate (Ok tt) → HasSynced written last (Ok tt) → IsOpen gate
-          → after.first ≡ place.first → after.end ≡ place.end → after.next ≡ place.next + (data_size text + 1) → IsSettled last after (entries ++ (place.next + 1, commands) ∷ [])
-      at_end last after begins wrote ends opened first end next =
-          let each : (image : List (List ℕ)) → IsImageOf last image → (k : ℕ) → sector image k ≡ sector written.reads k = λ image is k.
-          durable_image last ends.durable image is k ∙ ap (λ (sectors : List (List ℕ)). sector sectors k) ends.reads in
-          let more = λ (image : List (List ℕ)) (is : IsImageOf last image). with_record synced.reads image on_disk
-          (λ k other. each image is k ∙ wrote.others k other)
-          (ap (λ (bytes : List ℕ). slice_index bytes 0) (each image is place.next ∙ wrote.written.0) ∙ opened) in
-          record {
-            begins = rw (first, end) begins;
-            within = omega (arith, room, next, end);
-            half = λ image is. rw (first, end, next) (more image is);
-          }
+    -- then the record is on the disk
+    pub at_end : (after : Place) → HasFilled synced written place.next 1 gate (Ok tt) → ((k : ℕ) → written.pending k ≡ false) → IsOpen (gate 0)
+        → after.first ≡ place.first → after.end ≡ place.end → after.next ≡ place.next + (data_size text + 1) → IsSettled written after (entries ++ (place.next + 1, commands) ∷ [])
+    at_end after wrote rests opened first end next =
+        let here : place.next ≡ place.next + 0 = omega arith in
+        let there : sector written.reads place.next ≡ gate 0 = ap (λ (k : ℕ). sector written.reads k) here ∙ wrote.written 0 (omega arith) in
+        let each : (image : List (List ℕ)) → IsImageOf written image → (k : ℕ) → sector image k ≡ sector written.reads k = λ image is k. durable_image written rests image is k in
+        let more = λ (image : List (List ℕ)) (is : IsImageOf written image). with_record synced.reads image on_disk
+        (λ k other. each image is k ∙ wrote.others k (elsewhere k other))
+        (ap (λ (bytes : List ℕ). slice_index bytes 0) (each image is place.next ∙ there) ∙ opened) in
+        record {
+          begins = rw (first, end) settled.begins;
+          within = omega (arith, room, next, end);
+          half = λ image is. rw (first, end, next) (more image is);
+        }

@@ -13,6 +13,10 @@ closed_gate = replicate 512 0
 abbrev pub open_gate : List ℕ
 open_gate = 1 ∷ replicate 511 0
 
+-- So many sectors of a text are written from a place on, and synced.
+abbrev pub settled_calls : ℕ → ℕ → List ℕ → List Call
+settled_calls at n text = writes at n (data_sector text) ++ Sync ∷ []
+
 -- Each data sector is written, the next gate closed, and both synced; then the record's gate opened, and synced. Nothing is read.
 abbrev pub append_calls : ℕ → List ℕ → List Call
 append_calls gate text =

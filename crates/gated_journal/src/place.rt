@@ -1,10 +1,10 @@
 // Where a journal stands on its disk, and how a record is written there.
-ghost use Rattle.std.specs.Prelude.{◌≡◌, ◌⊎◌, ◌+◌, ◌-◌, ◌*◌, ◌<◌, ◌≤◌, ◌^◌, ℕ, List, [], ◌∷◌, ◌++◌, Err, drop, length, replicate, IsErr, IsErrOf, OnOk, OnErr};
+ghost use Rattle.std.specs.Prelude.{◌≡◌, ◌⊎◌, ◌+◌, ◌-◌, ◌*◌, ◌<◌, ◌≤◌, ◌^◌, ℕ, List, [], ◌∷◌, ◌++◌, Err, drop, length, replicate, false, IsErr, IsErrOf, OnOk, OnErr};
 ghost use Rattle.sector_disk.specs.Disk.{HasFailed};
 ghost use Rattle.sector_disk.specs.Run.{HasFilled, HasMade, LeavesOnly, writes};
 ghost use Rattle.sector_disk.specs.declared.disk.DiskError.TheVariants.{OutOfRange};
 ghost use Rattle.gated_journal.specs.declared.fault.JournalError.TheVariants.{DiskFault, Damaged, JournalFull, NoMemory};
-ghost use Rattle.gated_journal.specs.Calls.{append_calls};
+ghost use Rattle.gated_journal.specs.Calls.{append_calls, settled_calls};
 ghost use Rattle.gated_journal.specs.Half.{Entry};
 ghost use Rattle.centre_core.specs.Asked.{Asked};
 ghost use Rattle.gated_journal.specs.Record.{IsRecord, data_sector, data_size, record_text};
@@ -71,13 +71,9 @@ impl Place {
         if self.room() < size {
             return Err(JournalError::JournalFull);
         }
-        // The text's sectors, and the next gate, closed.
-        fill(disk, self.next + 1, size + 1, text)?;
-        disk.sync()?; // The data, before the gate.
-        let mut gate = [0; 512];
-        gate[0] = 1;
-        disk.write(self.next, &gate)?;
-        disk.sync()?; // The gate, before the answer.
+        // The text's sectors, and the next gate, closed; then the record's gate, open.
+        settle(disk, self.next + 1, size + 1, text)?;
+        settle(disk, self.next, 1, &[1])?;
         self.next += size + 1;
         Ok(())
     }
@@ -127,4 +123,22 @@ fn fill<D: Disk>(disk: &mut D, at: u64, n: u64, text: &[u8]) -> Result<(), DiskE
         disk.write(at + k, &sector_of(text, k as usize))?;
     }
     Ok(())
+}
+
+// Writes the first n sectors of a text from a sector on, and syncs them.
+fn settle<D: Disk>(disk: &mut D, at: u64, n: u64, text: &[u8]) -> Result<(), DiskError>
+    requires room { at + n ≤ (D.view disk.old).sectors }
+    requires fits { at + n < 2 ^ 64 }
+    requires small { n < 2 ^ 32 }
+    ensures effect { (D.view disk.old).honest → HasFilled (D.view disk.old) (D.view disk.new) at n (data_sector text.now) result }
+    ensures durable { (D.view disk.old).honest → OnOk result ((k : ℕ) → (D.view disk.new).pending k ≡ false) }
+    ensures calls { OnOk result ((D.view disk.new).calls ≡ (D.view disk.old).calls ++ settled_calls at n text.now) }
+    ensures some_calls { HasMade (D.view disk.old) (D.view disk.new) (settled_calls at n text.now) }
+    ensures sectors { (D.view disk.new).sectors ≡ (D.view disk.old).sectors }
+    ensures later { (D.view disk.old).failures ≤ (D.view disk.new).failures }
+    ensures fault { IsErr result → HasFailed (D.view disk.old) (D.view disk.new) }
+    ensures in_range { IsErrOf result OutOfRange → ⊥ }
+{
+    fill(disk, at, n, text)?;
+    disk.sync()
 }

@@ -1,7 +1,4 @@
-//! Fills a half of a disk in memory with records and reads them back, again and again, and tells how long each took,
-//! for `bench/journal`. With no word behind its name it does nothing.
-#![tactic(auto)]
-
+// A half of a disk in memory filled with records and read back, again and again, with how long each took.
 ghost use Rattle.std.specs.Prelude.{◌≡◌, ◌≤◌, length};
 ghost use Rattle.gated_journal.specs.Record.{most_commands};
 
@@ -11,14 +8,12 @@ use identity::{BitWriter, Itsi};
 use registration::LocationArea;
 use sector_disk::{Disk, MemoryDisk};
 use std::alloc::Global;
-use std::env;
-use std::process::ExitCode;
 use std::time::{Duration, Instant};
 
-/// How often the half is filled and read.
+// How often the half is filled and read.
 const ROUNDS: u32 = 2_000;
 
-/// What was measured: records, and the time of all appends and of all readings.
+// What was measured: records, and the time of all appends and of all readings.
 #[derive(Clone, Copy, Drop)]
 struct Timed {
     records: u64,
@@ -26,7 +21,7 @@ struct Timed {
     read: Duration,
 }
 
-/// A location update of 23 bytes.
+// A location update of 23 bytes.
 fn update(alloc: Global) -> Option<Command<Global>> {
     let itsi = Itsi::from_number(0x3a80_0e00_07d1)?;
     let area = LocationArea::new(7)?;
@@ -36,7 +31,7 @@ fn update(alloc: Global) -> Option<Command<Global>> {
     Command::new(1, 2, 10, Body::Mm { itsi, area, pdu })
 }
 
-/// Adds records of these commands while there is room. How many they were.
+// Adds records of these commands while there is room. How many they were.
 fn fill<D: Disk>(journal: &mut Journal<Global>, disk: &mut D, commands: &[&Command<Global>]) -> u64
     requires end { journal.old.end ≡ 39 }
     requires some { 1 ≤ length commands.now }
@@ -53,12 +48,12 @@ fn fill<D: Disk>(journal: &mut Journal<Global>, disk: &mut D, commands: &[&Comma
     records
 }
 
-/// Closes the first gate.
+// Closes the first gate.
 fn is_empty<D: Disk>(disk: &mut D) -> bool {
     disk.write(0, &[0; 512]).is_ok() && disk.sync().is_ok()
 }
 
-/// Reads the half. How many records it has.
+// Reads the half. How many records it has.
 fn read<D: Disk>(alloc: Global, disk: &mut D) -> u64 {
     if disk.sectors() < 39 {
         return 0;
@@ -69,7 +64,7 @@ fn read<D: Disk>(alloc: Global, disk: &mut D) -> u64 {
     }
 }
 
-/// Fills and reads the half once.
+// Fills and reads the half once.
 fn round<D: Disk>(
     rt: &HostRuntime,
     journal: &mut Journal<Global>,
@@ -101,7 +96,7 @@ fn more(all: Timed, one: Timed) -> Option<Timed> {
     })
 }
 
-/// All rounds.
+// All rounds.
 fn measured(rt: &HostRuntime, commands: &[&Command<Global>]) -> Option<Timed>
     requires some { 1 ≤ length commands.now }
     requires few { length commands.now ≤ most_commands }
@@ -124,8 +119,8 @@ fn measured(rt: &HostRuntime, commands: &[&Command<Global>]) -> Option<Timed>
     Some(all)
 }
 
-/// Records, and nanoseconds of each way, with records of one command and of 64.
-fn tell(rt: &HostRuntime) -> Option<()> {
+// Tells records, and nanoseconds of each way, with records of one command and of 64.
+fn told(rt: &HostRuntime) -> Option<()> {
     let update = update(rt.alloc())?;
     let one = measured(rt, &[&update])?;
     let many = measured(rt, &[&update; 64])?;
@@ -137,15 +132,7 @@ fn tell(rt: &HostRuntime) -> Option<()> {
     Some(())
 }
 
-fn main(rt: HostRuntime) -> ExitCode {
-    match env::args(&rt) {
-        Ok(words) => {
-            if words.count() <= 1 || tell(&rt).is_some() {
-                ExitCode::from(0)
-            } else {
-                ExitCode::from(5)
-            }
-        }
-        Err(_) => ExitCode::from(5),
-    }
+// The status: 0, or 5 where something failed.
+pub(crate) fn tell(rt: &HostRuntime) -> u8 {
+    if told(rt).is_some() { 0 } else { 5 }
 }

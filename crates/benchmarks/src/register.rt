@@ -1,0 +1,29 @@
+// Station 1's lines from standard input, answered over a register at its greatest limits.
+use centre_core::Register;
+use console::run;
+use registration::Limits;
+use std::io;
+
+// The greatest limits of a register.
+const LIMITS: Limits = Limits {
+    rules: 4096,
+    radios: 65_536,
+    mail: 65_536,
+    stations: 64,
+};
+
+// The most calls of the reader.
+const TURNS: u32 = 1_073_741_824;
+
+// The status: 0, 1 where a line was bad, 5 where the run could not end.
+pub(crate) fn serve(rt: &HostRuntime) -> u8 {
+    let Ok(mut desk) = Register::new(rt.alloc(), LIMITS) else {
+        return 5;
+    };
+    let mut reader = rt.stdin();
+    let mut writer = io::writer(rt);
+    match run(rt.alloc(), &mut reader, &mut writer, 1, TURNS, &mut desk) {
+        Ok(ran) => u8::from(ran.troubled),
+        Err(_) => 5,
+    }
+}
