@@ -8,6 +8,7 @@ pub mod ExtensionLaws
 pub mod GroupLaws
 pub mod Unkept
 pub mod CutLaws
+pub mod FaultLaws
 pub mod UplinkLaws
 pub mod UplinkCutLaws
 pub mod DownlinkLaws

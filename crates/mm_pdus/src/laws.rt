@@ -1,9 +1,9 @@
 //! What holds of the definitions alone: each law is the contract of a function that does
 //! nothing, or only names constants.
 
-ghost use Rattle.std.specs.Prelude.{◌≡◌, ◌<◌, ◌↔◌, ◌++◌, ◌∷◌, ℕ, Bool, not, List, [], Some, Ok, Err};
+ghost use Rattle.std.specs.Prelude.{◌≡◌, ◌≢◌, ◌<◌, ◌↔◌, ◌++◌, ◌∷◌, ℕ, Bool, not, List, [], Some, Ok, Err};
 ghost use Rattle.identity.specs.Number.{num};
-ghost use Rattle.mm_pdus.specs.declared.fault.MmFault.TheVariants.{Short, Trailing, UnknownType, BadElement};
+ghost use Rattle.mm_pdus.specs.declared.fault.MmFault.TheVariants.{Short, Trailing, UnknownType, BadElement, NoMemory};
 ghost use Rattle.mm_pdus.specs.declared.update.LocationUpdateType.{LocationUpdateType};
 ghost use Rattle.mm_pdus.specs.declared.update.AcceptType.{AcceptType};
 ghost use Rattle.mm_pdus.specs.declared.lifetime.Lifetime.{Lifetime};
@@ -84,4 +84,10 @@ pub fn bits_missing<A: Allocator>()
 /// An acknowledgement that says wrongly whether a group is rejected is `BadElement`.
 pub fn rejection_told_wrongly<A: Allocator>()
     ensures { (items : List GroupDown) (reserved : Bool) → IsDown {A = A} (Acknowledge items) → reading_down {A = A} (num 4 11 ++ not (rejects items) ∷ reserved ∷ extension (groups_extension group_down identity_downlink items)) ≡ Err BadElement }
+{}
+
+/// Want of memory is no fault of bits.
+pub fn faults_of_bits<A: Allocator>()
+    ensures up { (bits : List Bool) → reading_up {A = A} bits ≢ Err NoMemory }
+    ensures down { (bits : List Bool) → reading_down {A = A} bits ≢ Err NoMemory }
 {}
