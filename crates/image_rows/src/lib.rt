@@ -20,4 +20,5 @@ pub use item::ReadItem;
 pub use place::RowPlace;
 pub use reading::{ReadRow, read_row};
 pub use row_groups::PackedGroups;
+pub use sector::SectorText;
 pub use writing::{header_row, mail_row, radio_row, rule_row, served_row};

@@ -1,0 +1,118 @@
+-- A label is read as the layout that was written, and as no other.
+use Rattle.std.proofs.Common.{◌≡◌, ◌≢◌, ◌⊎◌, inl, inr, ℕ, ◌+◌, ◌<◌, ◌≤◌, ◌^◌, Bool, true, false, ◌&&◌, List, [], ◌∷◌, ◌++◌, length, take, drop, Option, Some, None, Result, Ok, Err, refl, sym, ap, ◌∙◌, arith, append_assoc}
+use Rattle.std.proofs.lemmas.Bool.{le-leb, leb-true, false≢true}
+use Rattle.std.proofs.lemmas.List.{take-append-drop}
+use Rattle.std.specs.Prelude.{nat_le}
+use Rattle.std.specs.Coded.{le_prop}
+use Rattle.sector_disk.specs.Disk.{sector}
+use Rattle.registration.specs.Limits.{AreLimits}
+use Rattle.registration.specs.declared.limits.Limits.{Limits}
+use Rattle.command_bytes.specs.Fields.{big, number_at}
+use Rattle.command_bytes.proofs.Numbers.{number_again}
+use Rattle.checkpoint.specs.Half.{IsHalfSize}
+use Rattle.checkpoint.specs.declared.layout.Layout.{Layout}
+use Rattle.checkpoint.specs.Label.{IsLabel, label_size, label_text, layout_number, name}
+use Rattle.checkpoint.specs.Layout.{disk_size, label_at}
+use Rattle.recovery.specs.declared.fault.StoreFault.{StoreFault}
+use Rattle.recovery.specs.Ranges.{are_limits, half_size_passes, is_half_size, is_within, layout_by, layout_of, limits_by, limits_of, limits_pass}
+use Rattle.recovery.specs.Label.{fitting, layout_at, layout_in, layout_told, Told, told_at}
+
+-- ---- ranges
+
+pass : (a b : Bool) → a ≡ true → b ≡ true → (a && b) ≡ true
+pass true b at bt = bt
+pass false b at bt = absurd cc
+
+within_passes : (low high n : ℕ) → low ≤ n → n ≤ high → is_within low high n ≡ true
+within_passes low high n above below = pass (nat_le low n) (nat_le n high) (le-leb low n above) (le-leb n high below)
+
+limits_are : (limits : Limits) → are_limits limits.rules limits.radios limits.mail limits.stations ≡ true
+limits_are limits =
+    let is = limits.in_range in
+    pass (is_within 1 4096 limits.rules && is_within 1 65536 limits.radios) (is_within 1 65536 limits.mail && is_within 1 64 limits.stations)
+    (pass (is_within 1 4096 limits.rules) (is_within 1 65536 limits.radios) (within_passes 1 4096 limits.rules is.some_rules is.most_rules) (within_passes 1 65536 limits.radios is.some_radios is.most_radios))
+    (pass (is_within 1 65536 limits.mail) (is_within 1 64 limits.stations) (within_passes 1 65536 limits.mail is.some_mail is.most_mail) (within_passes 1 64 limits.stations is.some_stations is.most_stations))
+
+same_ranges : (rules radios mail stations : ℕ) (p q : AreLimits rules radios mail stations) → p ≡ q
+same_ranges rules radios mail stations p q = λ i. record {
+  some_rules = le_prop p.some_rules q.some_rules i;
+  most_rules = le_prop p.most_rules q.most_rules i;
+  some_radios = le_prop p.some_radios q.some_radios i;
+  most_radios = le_prop p.most_radios q.most_radios i;
+  some_mail = le_prop p.some_mail q.some_mail i;
+  most_mail = le_prop p.most_mail q.most_mail i;
+  some_stations = le_prop p.some_stations q.some_stations i;
+  most_stations = le_prop p.most_stations q.most_stations i;
+}
+
+same_size : (journal : ℕ) (p q : IsHalfSize journal) → p ≡ q
+same_size journal p q = λ i. record { fewest = le_prop p.fewest q.fewest i; most = le_prop p.most q.most i }
+
+-- ---- the values of a layout's numbers
+
+limits_made : (limits : Limits) (may : Bool) (is : may ≡ true → AreLimits limits.rules limits.radios limits.mail limits.stations) → may ≡ true → limits_by limits.rules limits.radios limits.mail limits.stations may is ≡ Some limits
+limits_made limits true is passes = λ i. Some (record { rules = limits.rules; radios = limits.radios; mail = limits.mail; stations = limits.stations; in_range = same_ranges limits.rules limits.radios limits.mail limits.stations (is refl) limits.in_range i })
+limits_made limits false is passes = absurd cc
+
+limits_again : (limits : Limits) → limits_of limits.rules limits.radios limits.mail limits.stations ≡ Some limits
+limits_again limits = limits_made limits (are_limits limits.rules limits.radios limits.mail limits.stations) (limits_pass limits.rules limits.radios limits.mail limits.stations) (limits_are limits)
+
+layout_made : (layout : Layout) (may : Bool) (is : may ≡ true → IsHalfSize layout.journal) → may ≡ true → layout_by layout.limits layout.journal may is ≡ Some layout
+layout_made layout true is passes = λ i. Some (record { limits = layout.limits; journal = layout.journal; in_range = same_size layout.journal (is refl) layout.in_range i })
+layout_made layout false is passes = absurd cc
+
+layout_again : (layout : Layout) → layout_of layout.limits layout.journal ≡ Some layout
+layout_again layout = layout_made layout (is_half_size layout.journal) (half_size_passes layout.journal) (within_passes 38 65536 layout.journal layout.in_range.fewest layout.in_range.most)
+
+-- ---- the numbers of a layout
+
+abbrev told_of : Layout → Told
+told_of layout = record {
+  number = layout_number;
+  rules = layout.limits.rules;
+  radios = layout.limits.radios;
+  mail = layout.limits.mail;
+  stations = layout.limits.stations;
+  journal = layout.journal;
+}
+
+told_again : (n rules radios mail stations journal : ℕ) (rest : List ℕ) → n < 256 ^ 2 → rules < 256 ^ 4 → radios < 256 ^ 4 → mail < 256 ^ 4 → stations < 256 ^ 4 → journal < 256 ^ 4
+    → told_at (big 2 n ++ (big 4 rules ++ (big 4 radios ++ (big 4 mail ++ (big 4 stations ++ (big 4 journal ++ rest)))))) ≡ Some (record { number = n; rules = rules; radios = radios; mail = mail; stations = stations; journal = journal })
+unfolding told_at
+told_again n rules radios mail stations journal rest nl rl dl ml sl jl =
+    rw (number_again 2 n (big 4 rules ++ (big 4 radios ++ (big 4 mail ++ (big 4 stations ++ (big 4 journal ++ rest))))) nl)
+    (rw (number_again 4 rules (big 4 radios ++ (big 4 mail ++ (big 4 stations ++ (big 4 journal ++ rest)))) rl)
+    (rw (number_again 4 radios (big 4 mail ++ (big 4 stations ++ (big 4 journal ++ rest))) dl)
+    (rw (number_again 4 mail (big 4 stations ++ (big 4 journal ++ rest)) ml)
+    (rw (number_again 4 stations (big 4 journal ++ rest) sl)
+    (rw (number_again 4 journal rest jl) refl)))))
+
+abbrev behind_name : Layout → List ℕ → List ℕ
+behind_name layout rest = big 2 layout_number ++ (big 4 layout.limits.rules ++ (big 4 layout.limits.radios ++ (big 4 layout.limits.mail ++ (big 4 layout.limits.stations ++ (big 4 layout.journal ++ rest)))))
+
+label_parts : (layout : Layout) (rest : List ℕ) → label_text layout ++ rest ≡ name ++ behind_name layout rest
+unfolding label_text
+label_parts layout rest = simp append_assoc refl
+
+label_told : (layout : Layout) (rest : List ℕ) → told_at (behind_name layout rest) ≡ Some (told_of layout)
+label_told layout rest =
+    let limits = layout.limits.in_range in
+    let size = layout.in_range in
+    told_again layout_number layout.limits.rules layout.limits.radios layout.limits.mail layout.limits.stations layout.journal rest
+    (omega arith) (omega (arith, limits.most_rules)) (omega (arith, limits.most_radios)) (omega (arith, limits.most_mail)) (omega (arith, limits.most_stations)) (omega (arith, size.most))
+
+layout_of_told : (layout : Layout) → layout_told (told_of layout) ≡ Some layout
+layout_of_told layout = rw (limits_again layout.limits) (layout_again layout)
+
+-- ---- a label is read
+
+label_is : (layout : Layout) (bytes : List ℕ) → IsLabel layout bytes → bytes ≡ name ++ behind_name layout (drop label_size bytes)
+label_is layout bytes is = sym (take-append-drop label_size bytes) ∙ ap (λ (front : List ℕ). front ++ drop label_size bytes) is ∙ label_parts layout (drop label_size bytes)
+
+named_read : (layout : Layout) (sectors : ℕ) (rest : List ℕ) → disk_size layout ≤ sectors → layout_at sectors (name ++ behind_name layout rest) ≡ Ok layout
+named_read layout sectors rest room = rw (label_told layout rest) (rw (layout_of_told layout) (rw (le-leb (disk_size layout) sectors room) refl))
+
+pub label_read : (layout : Layout) (image : List (List ℕ)) → IsLabel layout (sector image label_at) → disk_size layout ≤ length image → layout_in image ≡ Ok layout
+unfolding layout_in
+label_read layout image is room =
+    ap (layout_at (length image)) (label_is layout (sector image label_at) is) ∙ named_read layout (length image) (drop label_size (sector image label_at)) room

@@ -1,0 +1,6 @@
+mod Labelled
+mod Sided
+mod Played
+mod Opened
+mod Called
+mod Formatted

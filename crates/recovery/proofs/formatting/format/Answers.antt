@@ -1,0 +1,47 @@
+use Rattle.std.proofs.Common.{◌≡◌, ◌≤◌, ◌<◌, ◌++◌, ◌∷◌, [], sym, refl, ap, ◌∙◌, arith}
+use Rattle.sector_disk.specs.Disk.{View}
+use Rattle.sector_disk.specs.declared.record.Call.TheVariants.{Sync, Write}
+use Rattle.sector_disk.proofs.Made.{made_of_more}
+use Rattle.checkpoint.specs.Layout.{disk_size, label_at}
+use Rattle.recovery.specs.Calls.{label_sector, side_calls}
+use Rattle.recovery.proofs.Called.{calls_in_label, calls_in_last}
+use Rattle.recovery.proofs.Formatted.{opens_so, stands_so, within}
+use Rattle.recovery.proofs.formatting.format.Goals as goal
+
+pub returns-in_err-write_sides-clause-some_calls : goal.returns-in_err-write_sides-clause-some_calls
+returns-in_err-write_sides-clause-some_calls g c room =
+    made_of_more (g.D.Disk.view c.args.disk.now) (g.D.Disk.view c.write_sides.new.disk) (side_calls c.args.layout.now) (Write label_at (label_sector c.args.layout.now) ∷ Sync ∷ []) c.write_sides.ensures.some_calls
+
+pub returns-in_err-sync-clause-some_calls : goal.returns-in_err-sync-clause-some_calls
+returns-in_err-sync-clause-some_calls g c room =
+    calls_in_last c.args.layout.now (g.D.Disk.view c.args.disk.now) (g.D.Disk.view c.write_sides.new.disk) c.in_ok-write_sides.ensures.calls
+    (g.D.Disk.view c.write.new.self) (rw c.label_sector.ensures at c.in_ok-write.ensures.called.made) _ c.sync.result c.sync.ensures.called
+
+pub returns-clause-some_calls : goal.returns-clause-some_calls
+returns-clause-some_calls g c room =
+    calls_in_last c.args.layout.now (g.D.Disk.view c.args.disk.now) (g.D.Disk.view c.write_sides.new.disk) c.in_ok-write_sides.ensures.calls
+    (g.D.Disk.view c.write.new.self) (rw c.label_sector.ensures at c.in_ok-write.ensures.called.made) _ c.sync.result c.sync.ensures.called
+
+pub returns-clause-stands : goal.returns-clause-stands
+returns-clause-stands g c honest =
+    let layout = c.args.layout.now in
+    let sides : View = g.D.Disk.view c.write_sides.new.disk in
+    let labelled : View = g.D.Disk.view c.write.new.self in
+    let last : View = g.D.Disk.view c.sync.new.self in
+    let at_sides : disk_size layout ≤ sides.sectors = omega (arith, c.if-sectors.false, c.sectors.ensures, c.sectors-2.ensures, c.write_sides.ensures.cause.sectors) in
+    let at_last : disk_size layout ≤ last.sectors = omega (arith, at_sides, c.in_ok-write.ensures.cause.sectors, c.in_ok-sync.ensures.cause.sectors) in
+    let wrote = rw c.label_sector.ensures at (c.in_ok-write.ensures.effect (within layout sides.sectors at_sides).label (c.write_sides.ensures.honest honest)) in
+    let syncs = c.in_ok-sync.ensures.effect wrote.honest in
+    stands_so layout sides labelled last (c.in_ok-write_sides.ensures.ready honest) wrote syncs (g.met.D.Disk.sound c.sync.new.self syncs.honest) at_last
+
+pub returns-clause-opens : goal.returns-clause-opens
+returns-clause-opens g c honest =
+    let layout = c.args.layout.now in
+    let sides : View = g.D.Disk.view c.write_sides.new.disk in
+    let labelled : View = g.D.Disk.view c.write.new.self in
+    let last : View = g.D.Disk.view c.sync.new.self in
+    let at_sides : disk_size layout ≤ sides.sectors = omega (arith, c.if-sectors.false, c.sectors.ensures, c.sectors-2.ensures, c.write_sides.ensures.cause.sectors) in
+    let at_last : disk_size layout ≤ last.sectors = omega (arith, at_sides, c.in_ok-write.ensures.cause.sectors, c.in_ok-sync.ensures.cause.sectors) in
+    let wrote = rw c.label_sector.ensures at (c.in_ok-write.ensures.effect (within layout sides.sectors at_sides).label (c.write_sides.ensures.honest honest)) in
+    let syncs = c.in_ok-sync.ensures.effect wrote.honest in
+    opens_so g.row.A.Denot layout sides labelled last (c.in_ok-write_sides.ensures.ready honest) wrote syncs (g.met.D.Disk.sound c.sync.new.self syncs.honest) at_last

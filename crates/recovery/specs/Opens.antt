@@ -1,0 +1,96 @@
+-- What an image of a disk opens to: a register with its side and epoch, or the first fault.
+use Rattle.std.specs.Prelude.{ℕ, ◌+◌, ◌==◌, List, [], ◌∷◌, slice_index, Option, Some, None, Result, Ok, Err, nat_lt, if◌then◌else◌}
+use Rattle.sector_disk.specs.Disk.{sector}
+use Rattle.centre_core.specs.Asked.{Asked}
+use Rattle.centre_core.specs.State.{State}
+use Rattle.centre_core.specs.History.{accepts, next}
+use Rattle.image_rows.specs.Image.{slot_of}
+use Rattle.gated_journal.specs.Half.{Entry, Half, half_of}
+use Rattle.checkpoint.specs.declared.layout.Layout.{Layout}
+use Rattle.checkpoint.specs.declared.side.Side.{Side}
+use Rattle.checkpoint.specs.declared.side.Side.TheVariants as side
+use Rattle.checkpoint.specs.Layout.{half_at, half_end, root_at, slot_at, slot_size}
+use Rattle.checkpoint.specs.Standing.{Base, Held, sectors_from, slot_epoch}
+use Rattle.recovery.specs.declared.fault.StoreFault.{StoreFault}
+use Rattle.recovery.specs.declared.fault.StoreFault.TheVariants.{Damaged}
+use Rattle.recovery.specs.Label.{layout_in}
+
+-- one step of opening, and the steps after it, up to the first fault
+abbrev pub then_on : {X Y : Type 0} → Result X StoreFault → (X → Result Y StoreFault) → Result Y StoreFault
+then_on (Ok x) go = go x
+then_on (Err fault) go = Err fault
+
+-- ---- the sides
+
+-- a header's epoch; a sector that is no header is at fault
+abbrev pub headed : ℕ → Option ℕ → Result (Option ℕ) StoreFault
+headed at None = Err (Damaged at)
+headed at (Some epoch) = Ok (Some epoch)
+
+-- the epoch of a side whose root is open
+unfoldable pub side_at : Layout → Side → List (List ℕ) → Result (Option ℕ) StoreFault
+side_at layout side image = if slice_index (sector image (root_at side)) 0 == 1 then headed (slot_at layout side) (slot_epoch layout side image) else Ok None
+
+-- the side of the greater epoch
+abbrev pub chosen : Option ℕ → Option ℕ → Result Side StoreFault
+chosen None None = Err (Damaged (root_at side.A))
+chosen (Some a) None = Ok side.A
+chosen None (Some b) = Ok side.B
+chosen (Some a) (Some b) = if a == b then Err (Damaged (root_at side.B)) else (if nat_lt a b then Ok side.B else Ok side.A)
+
+unfoldable pub side_in : Layout → List (List ℕ) → Result Side StoreFault
+side_in layout image = then_on (side_at layout side.A image) (λ a. then_on (side_at layout side.B image) (λ b. chosen a b))
+
+-- ---- the image in a side's slot
+
+-- what a slot's rows make; the first bad one is at fault
+abbrev pub placed : ℕ → Result Base ℕ → Result Base StoreFault
+placed at (Ok base) = Ok base
+placed at (Err place) = Err (Damaged (at + place))
+
+unfoldable pub base_in : Layout → Side → List (List ℕ) → Result Base StoreFault
+base_in layout side image = placed (slot_at layout side) (slot_of layout.limits (sectors_from image (slot_at layout side) (slot_size layout)))
+
+-- ---- the records in a side's half
+
+-- a record of which a command is not accepted is at fault
+abbrev pub taken : ℕ → Option State → Result State StoreFault
+taken at None = Err (Damaged at)
+taken at (Some s) = Ok s
+
+module _ {A : Type 0} where
+  -- the state after commands, where each is accepted in its turn
+  unfoldable pub run : State → List (Asked A) → Option State
+  run s [] = Some s
+  run s (c ∷ cs) = if accepts s c then run (next s c) cs else None
+
+  -- the state after records
+  unfoldable pub played : State → List (Entry A) → Result State StoreFault
+  played s [] = Ok s
+  played s (entry ∷ entries) = then_on (taken entry.0 (run s entry.1)) (λ t. played t entries)
+
+  abbrev pub held_by : Half A → Result (Held A) StoreFault
+  held_by (Ok held) = Ok held
+  held_by (Err at) = Err (Damaged at)
+
+-- ---- the whole
+
+-- what an image opens to: the layout, the side that counts, the epoch of its image, the first closed gate of its half, and the state
+pub record Opening : Type 0 where
+  pub layout : Layout
+  pub side : Side
+  pub epoch : ℕ
+  pub next : ℕ
+  pub state : State
+
+abbrev pub opening : Layout → Side → ℕ → ℕ → State → Opening
+opening layout side epoch gate state = record { layout = layout; side = side; epoch = epoch; next = gate; state = state }
+
+module _ (A : Type 0) where
+  -- by this side: its image, then the records of its half, all of them judged before one is played
+  unfoldable pub opens_by : Layout → Side → List (List ℕ) → Result Opening StoreFault
+  opens_by layout side image =
+      then_on (base_in layout side image) (λ base. then_on (held_by {A = A} (half_of image (half_at layout side) (half_end layout side))) (λ held. then_on (played base.1 held.0) (λ state. Ok (opening layout side base.0 held.1 state))))
+
+  unfoldable pub opens : List (List ℕ) → Result Opening StoreFault
+  opens image = then_on (layout_in image) (λ layout. then_on (side_in layout image) (λ side. opens_by layout side image))

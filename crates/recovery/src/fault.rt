@@ -1,0 +1,40 @@
+//! Why a call on a register that is kept on a disk is refused.
+ghost use Rattle.std.specs.Prelude.{◌≡◌};
+ghost use Rattle.recovery.specs.declared.fault.StoreFault.TheVariants.{DiskFault};
+
+use sector_disk::DiskError;
+use thiserror::Error;
+
+/// Why a call on a register that is kept on a disk is refused.
+#[derive(Clone, Copy, Debug, PartialEq, Eq, Drop, Error)]
+pub enum StoreFault {
+    /// The disk has no label.
+    #[error("the disk is unformatted")]
+    Unformatted,
+    /// The label tells of another layout or of limits out of range, or the disk has too few sectors.
+    #[error("the disk has a bad geometry")]
+    BadGeometry,
+    /// The sector of this number is not what has to stand there.
+    #[error("sector {0} is damaged")]
+    Damaged(u64),
+    /// The device failed.
+    #[error("the disk has failed")]
+    DiskFault,
+    /// The device failed in an earlier call: the disk is to be opened again.
+    #[error("the disk has failed before")]
+    Broken,
+    /// There was no memory.
+    #[error("there is no memory")]
+    NoMemory,
+    /// The register's image has the last epoch.
+    #[error("the epochs are used up")]
+    EpochsUsedUp,
+}
+
+impl From<DiskError> for StoreFault {
+    ghost from_gives = { λ _ e. e ≡ DiskFault };
+
+    fn from(_: DiskError) -> Self {
+        StoreFault::DiskFault
+    }
+}

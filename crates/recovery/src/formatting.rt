@@ -1,0 +1,107 @@
+//! A disk made ready for an empty register.
+ghost use Rattle.std.specs.Prelude.{◌≡◌, ◌≤◌, ◌<◌, ◌++◌, Err, IfErr, IsErrOf, List, Ok, OnOk};
+ghost use Rattle.sector_disk.specs.Disk.{HasCause, HasFailed};
+ghost use Rattle.sector_disk.specs.Run.{HasMade};
+ghost use Rattle.sector_disk.specs.declared.disk.DiskError.TheVariants.{OutOfRange};
+ghost use Rattle.centre_core.specs.State.{empty};
+ghost use Rattle.checkpoint.specs.declared.side.Side.TheVariants.{A};
+ghost use Rattle.checkpoint.specs.Layout.{disk_size, half_at};
+ghost use Rattle.checkpoint.specs.Standing.{InEach, Stands, fresh};
+ghost use Rattle.recovery.specs.declared.fault.StoreFault.TheVariants.{BadGeometry, DiskFault};
+ghost use Rattle.recovery.specs.Calls.{first_header, format_calls, label_sector, side_calls};
+ghost use Rattle.recovery.specs.Opens.{opening, opens};
+ghost use Rattle.recovery.specs.Sides.{AreReady};
+ghost use Rattle.recovery.specs.Standing.{first_base};
+
+use crate::StoreFault;
+use checkpoint::{Layout, Side};
+use command_bytes::Room;
+use command_bytes::put::put_number;
+use image_rows::{Header, SectorText, header_row};
+use sector_disk::{Disk, DiskError};
+use std::alloc::Allocator;
+
+/// The number of the layout that this crate writes and reads.
+const LAYOUT: u64 = 1;
+
+// The first row of an empty register's image, of epoch 1.
+fn first_header() -> [u8; 512]
+    ensures { result ≡ first_header }
+{
+    let header = Header {
+        epoch: 1,
+        count: 0,
+        rules: 0,
+        radios: 0,
+        mail: 0,
+        served: 0,
+    };
+    header_row(&header)
+}
+
+// The sector of a label.
+#[tactic(auto, unfolding(checkpoint::specs::Label::label_text), using(std::proofs::Common::append_assoc))]
+fn label_sector(layout: &Layout) -> [u8; 512]
+    ensures { result ≡ label_sector layout.now }
+{
+    let limits = layout.limits();
+    let mut text = SectorText::new();
+    text.put(b"TETRALOC");
+    put_number(&mut text, 2, LAYOUT);
+    put_number(&mut text, 4, u64::from(limits.rules));
+    put_number(&mut text, 4, u64::from(limits.radios));
+    put_number(&mut text, 4, u64::from(limits.mail));
+    put_number(&mut text, 4, u64::from(limits.stations));
+    put_number(&mut text, 4, u64::from(layout.journal()));
+    text.finish()
+}
+
+// Writes all but the label, and makes it last.
+fn write_sides<D: Disk>(disk: &mut D, layout: &Layout) -> Result<(), DiskError>
+    requires room { disk_size layout.now ≤ (D.view disk.old).sectors }
+    ensures ready { OnOk result ((D.view disk.old).honest → AreReady layout.now (D.view disk.new)) }
+    ensures calls { OnOk result ((D.view disk.new).calls ≡ (D.view disk.old).calls ++ side_calls layout.now) }
+    ensures some_calls { HasMade (D.view disk.old) (D.view disk.new) (side_calls layout.now) }
+    ensures cause { HasCause (D.view disk.old) (D.view disk.new) result }
+    ensures in_range { IsErrOf result OutOfRange → ⊥ }
+    ensures honest { (D.view disk.old).honest → (D.view disk.new).honest }
+{
+    let mut open = [0; 512];
+    open[0] = 1;
+    disk.write(layout.slot(Side::A), &first_header())?;
+    disk.write(layout.root(Side::A), &open)?;
+    disk.write(layout.root(Side::B), &[0; 512])?;
+    disk.write(layout.half(Side::A), &[0; 512])?;
+    disk.write(layout.half(Side::B), &[0; 512])?;
+    disk.sync()
+}
+
+/// Makes a disk ready for an empty register, of epoch 1 on side A. Takes no memory.
+///
+/// `BadGeometry` comes where the disk has fewer sectors than the layout; nothing is then written. After a `DiskFault`
+/// nothing is said of what the disk holds.
+pub fn format<A: Allocator, D: Disk>(disk: &mut D, layout: &Layout) -> Result<(), StoreFault>
+    // At `Ok` each stop leaves the disk standing by side A for the empty register, with no record.
+    ensures stands { OnOk result ((D.view disk.old).honest → InEach (D.view disk.new) (Stands {A = A} layout.now Side.A (first_base layout.now) (fresh layout.now Side.A))) }
+    ensures opens { OnOk result ((D.view disk.old).honest → InEach (D.view disk.new) (λ image. opens A image ≡ Ok (opening layout.now Side.A 1 (half_at layout.now Side.A) (empty layout.now.limits)))) }
+
+    // The sides are written and synced, then the label; each sector is written once, and nothing is read. A call that
+    // fails is the last.
+    ensures calls { OnOk result ((D.view disk.new).calls ≡ (D.view disk.old).calls ++ format_calls layout.now) }
+    ensures some_calls { disk_size layout.now ≤ (D.view disk.old).sectors → HasMade (D.view disk.old) (D.view disk.new) (format_calls layout.now) }
+
+    // It does not give up by itself.
+    ensures geometry { (D.view disk.old).sectors < disk_size layout.now → (result ≡ Err BadGeometry) × (disk.new ≡ disk.old) }
+    ensures fault { disk_size layout.now ≤ (D.view disk.old).sectors → IfErr result (λ fault. (fault ≡ DiskFault) × HasFailed (D.view disk.old) (D.view disk.new)) }
+    ensures sectors { (D.view disk.new).sectors ≡ (D.view disk.old).sectors }
+    ensures later { (D.view disk.old).failures ≤ (D.view disk.new).failures }
+    ensures honest { (D.view disk.old).honest → (D.view disk.new).honest }
+{
+    if disk.sectors() < layout.sectors() {
+        return Err(StoreFault::BadGeometry);
+    }
+    write_sides(disk, layout)?;
+    disk.write(0, &label_sector(layout))?;
+    disk.sync()?;
+    Ok(())
+}
