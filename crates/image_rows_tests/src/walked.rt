@@ -71,13 +71,28 @@ fn is_row(alloc: Global, row: &[u8], line: &str) -> Result<bool, Fail> {
     Ok(same && row == sector(alloc, text, 0)?.as_slice())
 }
 
+/// The place of the row after this one, where it is the row of this line.
+fn next_in(
+    alloc: Global,
+    register: &Register<Global>,
+    after: Option<RowPlace>,
+    line: &str,
+) -> Result<Option<RowPlace>, Fail> {
+    let told = row_after(register, 1, after);
+    let Some(next) = &told else {
+        return Ok(None);
+    };
+    let row = next.1;
+    Ok(is_row(alloc, &row, line)?.then_some(next.0))
+}
+
 /// Whether from none to the first row, and from each to the next, these come and no more.
 fn are_walked(alloc: Global, register: &Register<Global>) -> Result<bool, Fail> {
     let mut after = None;
     for line in ROWS.lines() {
-        match &row_after(register, 1, after) {
-            Some((place, row)) if is_row(alloc, row, line)? => after = Some(*place),
-            _ => return Ok(false),
+        match next_in(alloc, register, after, line)? {
+            Some(place) => after = Some(place),
+            None => return Ok(false),
         }
     }
     Ok(row_after(register, 1, after).is_none())
@@ -101,12 +116,10 @@ fn is_told(
     after: RowPlace,
     name: &str,
 ) -> Result<bool, Fail> {
-    let line = ROWS.lines().find(|line| line.ends_with(name));
-    match (&row_after(register, 1, Some(after)), line) {
-        (Some((_, row)), Some(line)) => is_row(alloc, row, line),
-        (None, None) => Ok(true),
-        _ => Ok(false),
-    }
+    Ok(match ROWS.lines().find(|line| line.ends_with(name)) {
+        Some(line) => next_in(alloc, register, Some(after), line)?.is_some(),
+        None => row_after(register, 1, Some(after)).is_none(),
+    })
 }
 
 /// The radio of the network 234-14 with this short number.
