@@ -5,7 +5,8 @@ most one line answered by want of memory and what follows as if that line had no
 its first line with `fault: memory` and status 5. The first run in which no answer changed and the
 two after it end the test. Prints 'N passed, M failed' last.
 Usage: growths.py PROGRAM (the program itself, not a script that starts it; a proved build by either
-compiler; what `rt try` builds has a heap of its own, whose allocations `rt try --fail-alloc` refuses)"""
+compiler. What `rt try` builds has a heap of its own, which nothing preloaded can refuse, and is kept in no
+file: its own --fail-alloc N refuses one allocation, and compiles it anew, a minute, for each N)"""
 import collections
 import pathlib
 import subprocess

@@ -151,8 +151,8 @@ fn run_in<L: Ledger, F: Ledger, G: Ledger, A: Allocator + Copy + Drop, R: Read, 
     run_counted(terms, &mut input, &mut output, desk)
 }
 
-/// Reads all lines, in at most `turns` calls of the reader, answers each before it reads the next,
-/// and writes nothing else.
+/// Answers all lines of the reader, or the first of them where it ends early, and writes nothing else. That
+/// the reader is called at most `turns` times is a clause of [`run_counted`], by which it does so.
 pub fn run<A: Allocator + Copy + Drop, R: Read, W: Write, D: Desk>(
     alloc: A,
     reader: &mut R,

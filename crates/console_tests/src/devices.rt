@@ -1,5 +1,5 @@
-//! Runs over lines of any length, over readers that give a byte at a time or fail and writers that fail; and that a line is
-//! answered before the next one is read.
+//! Runs over lines of any length, over readers that give a byte at a time or fail and writers that take one or fail; and that
+//! a line is answered before the next one is read.
 
 use crate::limits::usual;
 use centre_core::Register;
@@ -79,21 +79,30 @@ impl<'a> Read for Slow<'a> {
     }
 }
 
-/// Takes so many bytes, and then fails.
+/// Takes what is due of a text, one byte a call, and fails at any other byte; it is interrupted at each other call where it is
+/// to be.
 #[derive(Drop)]
-struct Full {
-    room: usize,
-    taken: usize,
+struct Sparing<'a> {
+    due: &'a [u8],
+    interrupts: bool,
+    turn: bool,
 }
 
-impl Write for Full {
+impl<'a> Write for Sparing<'a> {
     fn write(&mut self, buf: &[u8]) -> io::Result<usize> {
-        if self.taken >= self.room {
-            return Err(io::Error::from(ErrorKind::BrokenPipe));
+        if self.interrupts {
+            self.turn = !self.turn;
+            if self.turn {
+                return Err(io::Error::from(ErrorKind::Interrupted));
+            }
         }
-        let n = buf.len().min(self.room - self.taken);
-        self.taken += n;
-        Ok(n)
+        match (self.due, buf) {
+            ([byte, rest @ ..], [first, ..]) if byte == first => {
+                self.due = rest;
+                Ok(1)
+            }
+            _ => Err(io::Error::from(ErrorKind::BrokenPipe)),
+        }
     }
 
     fn flush(&mut self) -> io::Result<()> {
@@ -140,18 +149,45 @@ fn turns_bound_the_calls(rt: HostRuntime) -> Result<(), Fail> {
     Ok(())
 }
 
-/// Whether a run ends so whose writer has room for so many bytes, and takes them all.
-fn fails_when_full(alloc: Global, room: usize) -> Result<bool, Fail> {
-    let mut reader = b"count\n".as_slice();
-    let mut out = Full { room, taken: 0 };
-    let (ran, _) = over(alloc, 9, &mut reader, &mut out)?;
-    Ok(ran == Err(RunFault::Write) && out.taken == room)
+const LINES: &str = "1 0 rule 234-14-0/24 1 99 1 3600\n1 0 expire\nx\ncount\n";
+
+const ANSWERS: &str = "1 ok 1 -\n1 kept 1 -\nline 3 bad syntax\ncount 1\n";
+
+const FOUR_LINES: Result<Ran, RunFault> = Ok(Ran {
+    lines: 4,
+    troubled: true,
+});
+
+/// How a run ends whose writer takes so many bytes of the answers, one a call; none where it hasn't taken them all.
+fn over_a_sparing_writer(
+    alloc: Global,
+    room: usize,
+    interrupts: bool,
+) -> Result<Option<Result<Ran, RunFault>>, Fail> {
+    let mut reader = LINES.as_bytes();
+    let mut writer = Sparing {
+        due: &ANSWERS.as_bytes()[..room.min(ANSWERS.len())],
+        interrupts,
+        turn: false,
+    };
+    let (ran, _) = over(alloc, 9, &mut reader, &mut writer)?;
+    Ok(writer.due.is_empty().then_some(ran))
 }
 
 #[test]
 fn a_writer_fails(rt: HostRuntime) -> Result<(), Fail> {
-    for room in 0..8usize {
-        assert!(rt; fails_when_full(rt.alloc(), room)?, "{room}");
+    for room in 0..46usize {
+        let ran = over_a_sparing_writer(rt.alloc(), room, false)?;
+        assert!(rt; ran == Some(Err(RunFault::Write)), "{room}");
+    }
+    Ok(())
+}
+
+#[test]
+fn a_writer_takes_a_byte_a_call(rt: HostRuntime) -> Result<(), Fail> {
+    for interrupts in [false, true] {
+        let ran = over_a_sparing_writer(rt.alloc(), 46, interrupts)?;
+        assert!(rt; ran == Some(FOUR_LINES), "{interrupts}");
     }
     Ok(())
 }

@@ -1,5 +1,5 @@
 //! Mail in a heap of fixed size: rounds of 12 changes, more than 10,000 in all, end with nothing that waits and take no more
-//! of it than the first round does; and once the mail is gone every byte is free again.
+//! of it than none do; and once the mail is gone every byte is free again.
 
 use crate::fixture::{Call, Made, called, envelope, limits, pdu, registry};
 use crate::to_group::{MESSAGE, post_group};
@@ -62,7 +62,7 @@ fn is_group_told<'a>(
     Ok(is_put)
 }
 
-/// Whether so many rounds are made, and each leaves the heap as the first.
+/// Whether so many rounds are made, and each leaves the heap as it was.
 fn is_even<'a>(
     alloc: Global,
     heap: &'a LocalHeap,
@@ -70,11 +70,11 @@ fn is_even<'a>(
     mail: &mut Mail<&'a LocalHeap>,
     rounds: u64,
 ) -> Result<bool, Fail> {
-    let mut used = None;
+    let empty = heap.used();
     for round in 0..rounds {
         if !is_group_told(alloc, heap, registry, mail)?
             || !is_round_made(heap, registry, mail, round.saturating_mul(10))?
-            || *used.get_or_insert(heap.used()) != heap.used()
+            || heap.used() != empty
         {
             return Ok(false);
         }
