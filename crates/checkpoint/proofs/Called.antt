@@ -1,5 +1,5 @@
 -- The calls that were made.
-use Rattle.std.proofs.Common.{◌≡◌, ℕ, eqb, true, false, Bool, List, [], ◌∷◌, ◌++◌, slice_index, Result, refl, sym, ap, ◌∙◌, append_assoc, arith}
+use Rattle.std.proofs.Common.{◌≡◌, eqb, true, false, List, [], ◌∷◌, ◌++◌, slice_index, Result, refl, sym, ap, ◌∙◌, append_assoc, arith}
 use Rattle.std.proofs.lemmas.List.{append-nil}
 use Rattle.std.proofs.lemmas.Bool.Decides.{nat_tests}
 use Rattle.sector_disk.specs.Disk.{View, IsCalled, sector}

@@ -1,6 +1,6 @@
 -- The other side is closed.
-use Rattle.std.proofs.Common.{◌≡◌, ◌≢◌, ◌⊎◌, inl, inr, ℕ, ◌+◌, ◌<◌, ◌≤◌, List, [], ◌∷◌, slice_index, Result, Ok, refl, sym, ap, ◌∙◌, arith}
-use Rattle.sector_disk.specs.Disk.{IsImageOf, IsSound, View, HasRead, HasWritten, HasSynced, sector}
+use Rattle.std.proofs.Common.{◌≡◌, ◌≢◌, inl, inr, ℕ, ◌<◌, ◌≤◌, List, slice_index, Result, Ok, sym, ap, ◌∙◌, arith}
+use Rattle.sector_disk.specs.Disk.{IsSound, View, HasRead, HasWritten, HasSynced, sector}
 use Rattle.sector_disk.specs.Run.{IsTornImage, LeavesOnly}
 use Rattle.sector_disk.specs.declared.disk.DiskError.{DiskError}
 use Rattle.sector_disk.proofs.Moments.{read_images, read_on, started, sync_on, torn_by, write_on}
@@ -8,7 +8,7 @@ use Rattle.gated_journal.specs.Half.{IsClosed, IsOpen}
 use Rattle.gated_journal.specs.Calls.{closed_gate}
 use Rattle.checkpoint.specs.declared.layout.Layout.{Layout}
 use Rattle.checkpoint.specs.declared.side.Side.{Side}
-use Rattle.checkpoint.specs.Layout.{disk_size, half_at, half_end, other_of, root_at, slot_at, slot_size}
+use Rattle.checkpoint.specs.Layout.{disk_size, half_at, other_of, root_at, slot_at}
 use Rattle.checkpoint.specs.Closed.{IsShut}
 use Rattle.checkpoint.specs.Standing.{Base, Held, InEach, Stands}
 use Rattle.checkpoint.proofs.Apart.{lies}
@@ -37,8 +37,8 @@ module _ {A : Type 0} (layout : Layout) (s : Side) (base : Base) (held : Held A)
         let opened_mid : IsOpen (sector mid.reads (root_at o)) = ap (λ (b : List ℕ). slice_index b 0) (ap (λ (l : List (List ℕ)). sector l (root_at o)) has.reads ∙ sym has.given) ∙ opened in
         let older = older_each layout s base held mid sound_mid (omega (arith, room, same)) each_mid opened_mid in
         write_on old mid new P (root_at o) one result (in_read (Ok tt) has) sound_mid (omega (arith, room, same, places.root_in)) wrote (λ image torn.
-            let slot : sector image (slot_at layout o) ≡ sector torn.0 (slot_at layout o) = torn.2.others (slot_at layout o) (inr (omega (arith, places.root))) in
-            stands_on layout s base held torn.0 image (each_mid torn.0 torn.1) (root_torn layout o torn.0 image torn.2) (below_older layout o base.0 torn.0 image slot (older torn.0 torn.1)))
+        let slot : sector image (slot_at layout o) ≡ sector torn.0 (slot_at layout o) = torn.2.others (slot_at layout o) (inr (omega (arith, places.root))) in
+        stands_on layout s base held torn.0 image (each_mid torn.0 torn.1) (root_torn layout o torn.0 image torn.2) (below_older layout o base.0 torn.0 image slot (older torn.0 torn.1)))
 
   -- ---- the gate
 

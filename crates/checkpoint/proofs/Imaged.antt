@@ -1,11 +1,9 @@
 -- An image is written behind a closed root.
-use Rattle.std.proofs.Common.{◌≡◌, ◌≢◌, ◌⊎◌, inl, inr, ℕ, zero, suc, ◌+◌, ◌-◌, ◌<◌, ◌≤◌, List, [], ◌∷◌, ◌++◌, length, Result, Ok, refl, sym, ap, ◌∙◌, arith}
-use Rattle.std.specs.Prelude.{map as each}
-use Rattle.sector_disk.specs.Disk.{IsImageOf, IsSound, View, HasSynced, sector}
+use Rattle.std.proofs.Common.{◌≡◌, ◌⊎◌, inl, inr, ℕ, zero, suc, ◌+◌, ◌-◌, ◌<◌, ◌≤◌, List, [], ◌∷◌, ◌++◌, length, Result, Ok, refl, sym, ap, ◌∙◌, arith}
+use Rattle.sector_disk.specs.Disk.{IsSound, View, HasSynced, sector}
 use Rattle.sector_disk.specs.Run.{HasFilled, IsTornImage, LeavesOnly}
 use Rattle.sector_disk.specs.declared.disk.DiskError.{DiskError}
-use Rattle.sector_disk.proofs.Moments.{durable_image, only_image, run_on, sync_on}
-use Rattle.gated_journal.specs.Half.{IsClosed}
+use Rattle.sector_disk.proofs.Moments.{durable_image, run_on, sync_on}
 use Rattle.registration.specs.declared.limits.Limits.{Limits}
 use Rattle.centre_core.specs.State.{State, IsState}
 use Rattle.centre_core.specs.StateRanges.{StateInRange}
@@ -17,10 +15,10 @@ use Rattle.image_rows.proofs.Groups.{length_each}
 use Rattle.image_rows.proofs.Images.{written_is_image}
 use Rattle.checkpoint.specs.declared.layout.Layout.{Layout}
 use Rattle.checkpoint.specs.declared.side.Side.{Side}
-use Rattle.checkpoint.specs.Layout.{disk_size, half_at, other_of, root_at, slot_at, slot_size}
+use Rattle.checkpoint.specs.Layout.{half_at, other_of, root_at, slot_at, slot_size}
 use Rattle.checkpoint.specs.Calls.{row_sector}
 use Rattle.checkpoint.specs.Closed.{IsShut}
-use Rattle.checkpoint.specs.Standing.{Base, Held, InEach, IsInSlot, IsReady, Stands, sectors_from}
+use Rattle.checkpoint.specs.Standing.{Base, Held, InEach, IsReady, Stands, sectors_from}
 use Rattle.checkpoint.proofs.Apart.{lies}
 use Rattle.checkpoint.proofs.Spared.{closed_as, left_each, slot_torn, stands_on}
 
@@ -94,7 +92,7 @@ is_ready layout side epoch state mid new last shut is ranges limits some most fi
     let places = lies layout side in
     let fit = rows_have_room layout epoch state is limits in
     let same = λ (k : ℕ) (out : (k < slot_at layout side) ⊎ (slot_at layout side + length (rows_of epoch state) ≤ k)).
-        durable_image last syncs.durable image left k ∙ ap (λ (l : List (List ℕ)). sector l k) syncs.reads ∙ filled.others k out in
+    durable_image last syncs.durable image left k ∙ ap (λ (l : List (List ℕ)). sector l k) syncs.reads ∙ filled.others k out in
     record {
       root = closed_as (sector mid.reads (root_at side)) (sector image (root_at side)) (same (root_at side) (inl places.root)) shut.root;
       slot = written_slot layout (slot_at layout side) epoch state image is ranges limits some most

@@ -1,3 +1,4 @@
+pub mod Added
 pub mod Apart
 pub mod Called
 pub mod Closed
@@ -6,3 +7,4 @@ pub mod Imaged
 pub mod Spared
 pub mod Switched
 pub mod Walked
+pub mod Worked

@@ -4,6 +4,7 @@
 mod closing;
 mod fault;
 mod image;
+pub mod laws;
 mod layout;
 mod side;
 mod switching;

@@ -1,4 +1,4 @@
-use Rattle.std.proofs.Common.{◌≡◌, ◌≤◌, ◌<◌, ◌++◌, List, ℕ, slice_index, sym, ap, ◌∙◌, arith}
+use Rattle.std.proofs.Common.{◌≡◌, ◌<◌, List, ℕ, slice_index, sym, ap, ◌∙◌, arith}
 use Rattle.sector_disk.specs.Disk.{View, sector}
 use Rattle.gated_journal.specs.Half.{IsOpen}
 use Rattle.checkpoint.specs.Layout.{other_of, root_at}

@@ -1,10 +1,8 @@
-use Rattle.std.proofs.Common.{◌≡◌, ◌≤◌, ◌<◌, ◌+◌, ◌++◌, ◌∷◌, [], length, sym, refl, ap, ◌∙◌, arith}
+use Rattle.std.proofs.Common.{◌≡◌, ◌≤◌, ◌+◌, length, ap, ◌∙◌, arith}
 use Rattle.sector_disk.specs.Disk.{View}
-use Rattle.sector_disk.specs.declared.record.Call.TheVariants.{Sync}
-use Rattle.centre_core.specs.State.{State}
-use Rattle.image_rows.specs.Rows.{last_epoch, rows_of}
+use Rattle.image_rows.specs.Rows.{rows_of}
 use Rattle.checkpoint.specs.Calls.{close_calls, row_calls, row_sector}
-use Rattle.checkpoint.specs.Layout.{disk_size, half_at, other_of, slot_at}
+use Rattle.checkpoint.specs.Layout.{disk_size, other_of, slot_at}
 use Rattle.checkpoint.proofs.Apart.{lies}
 use Rattle.checkpoint.proofs.Called.{calls_at_last, calls_in_close, calls_in_last, calls_in_rows}
 use Rattle.checkpoint.proofs.Imaged.{in_last, in_rows, is_ready, rows_have_room}
