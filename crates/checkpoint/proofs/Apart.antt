@@ -51,3 +51,6 @@ lies layout side.B = let limits = layout.limits.in_range in let journal = layout
 
 pub root_inside : (layout : Layout) (s : Side) (sectors : ℕ) → disk_size layout ≤ sectors → root_at s < sectors
 root_inside layout s sectors room = let places = lies layout s in omega (arith, places.root_in, room)
+
+pub gate_inside : (layout : Layout) (s : Side) (sectors : ℕ) → disk_size layout ≤ sectors → half_at layout s < sectors
+gate_inside layout s sectors room = let places = lies layout s in let some = layout.in_range.fewest in omega (arith, places.half, room, some)

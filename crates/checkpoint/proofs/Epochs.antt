@@ -1,12 +1,12 @@
 -- A slot that begins with an image tells its epoch in its first sector.
-use Rattle.std.proofs.Common.{◌≡◌, ℕ, suc, ◌+◌, ◌-◌, ◌<◌, Bool, true, false, cond, List, [], ◌∷◌, Option, Some, None, Result, Ok, Err, refl, sym, ap, ◌∙◌, arith}
+use Rattle.std.proofs.Common.{◌≡◌, ℕ, suc, ◌+◌, ◌-◌, ◌<◌, Bool, true, false, cond, List, [], ◌∷◌, Option, Some, None, Result, Ok, refl, sym, ap, ◌∙◌, arith}
 use Rattle.std.specs.Prelude.{map as each}
 use Rattle.registration.specs.declared.limits.Limits.{Limits}
 use Rattle.sector_disk.specs.Disk.{sector}
 use Rattle.centre_core.specs.State.{State}
 use Rattle.image_rows.specs.Rows.{Row, HeaderRow, RuleRow, RadioRow, MailRow, ServedRow, Header}
 use Rattle.image_rows.specs.RowReading.{row_in}
-use Rattle.image_rows.specs.Loading.{◌>>=◌, Loading, all_done, begin, begun, finished, finished_by, header_may, put, row_taken, take_by}
+use Rattle.image_rows.specs.Loading.{◌>>=◌, Loading, all_done, begun, finished, header_may, put, row_taken}
 use Rattle.image_rows.specs.Slot.{or_later, read_from, with_row}
 use Rattle.image_rows.specs.Image.{slot_of}
 use Rattle.checkpoint.specs.declared.layout.Layout.{Layout}

@@ -1,4 +1,10 @@
+pub mod Added
 pub mod Apart
+pub mod Called
+pub mod Closed
 pub mod Epochs
+pub mod Imaged
 pub mod Spared
 pub mod Switched
+pub mod Walked
+pub mod Worked

@@ -1,5 +1,5 @@
 -- What one side stands for does not hang on the other side's parts, but for the other's root.
-use Rattle.std.proofs.Common.{take, ◌≡◌, ◌≢◌, ◌⊎◌, inl, inr, ℕ, zero, suc, ◌+◌, ◌-◌, ◌<◌, ◌≤◌, false, List, [], ◌∷◌, ◌++◌, length, set, slice_index, Some, refl, sym, ap, ◌∙◌, arith, get_or-set_same, get_or-set_other}
+use Rattle.std.proofs.Common.{take, ◌≡◌, ◌≢◌, inl, inr, ℕ, zero, suc, ◌+◌, ◌<◌, ◌≤◌, List, [], length, set, slice_index, Some, refl, sym, ap, ◌∙◌, arith, get_or-set_same, get_or-set_other}
 use Rattle.std.proofs.Math.ListN.{length-set}
 use Rattle.std.proofs.lemmas.Bool.{cases_eq, cases_lt}
 use Rattle.sector_disk.specs.Disk.{IsImageOf, IsSound, View, sector}
@@ -13,7 +13,7 @@ use Rattle.checkpoint.specs.declared.side.Side.{Side}
 use Rattle.checkpoint.specs.Layout.{disk_size, half_at, half_end, label_at, other_of, root_at, slot_at, slot_size}
 use Rattle.checkpoint.specs.Label.{label_size}
 use Rattle.checkpoint.specs.Standing.{Base, Held, InEach, IsBelow, Stands, epoch_of, sectors_from, slot_epoch}
-use Rattle.checkpoint.proofs.Apart.{IsElsewhere, Lies, half_elsewhere, label_elsewhere, lies, root_elsewhere, slot_elsewhere}
+use Rattle.checkpoint.proofs.Apart.{IsElsewhere, half_elsewhere, label_elsewhere, lies, root_elsewhere, slot_elsewhere}
 
 pub sectors_same : (old new : List (List ℕ)) (at n : ℕ) → ((k : ℕ) → at ≤ k → k < at + n → sector new k ≡ sector old k) → sectors_from new at n ≡ sectors_from old at n
 unfolding sectors_from

@@ -1,12 +1,11 @@
 -- The other side's root is opened.
-use Rattle.std.proofs.Common.{take, ◌≡◌, ◌≢◌, ◌⊎◌, inl, inr, ℕ, ◌+◌, ◌-◌, ◌<◌, ◌≤◌, List, [], ◌∷◌, length, slice_index, Some, Result, Ok, refl, sym, ap, ◌∙◌, arith}
+use Rattle.std.proofs.Common.{take, ◌≡◌, inl, inr, ℕ, ◌-◌, ◌<◌, ◌≤◌, List, slice_index, Result, Ok, ap, ◌∙◌, arith}
 use Rattle.std.proofs.lemmas.Bool.{cases_eq}
-use Rattle.sector_disk.specs.Disk.{IsImageOf, IsSound, View, HasWritten, HasSynced, sector}
+use Rattle.sector_disk.specs.Disk.{IsSound, View, HasWritten, HasSynced, sector}
 use Rattle.sector_disk.specs.Run.{IsTorn, IsTornImage, LeavesOnly}
 use Rattle.sector_disk.specs.declared.disk.DiskError.{DiskError}
 use Rattle.sector_disk.proofs.Moments.{durable_image, started, sync_on, synced_images, torn_by, write_on}
-use Rattle.gated_journal.specs.Half.{IsClosed, IsOpen}
-use Rattle.gated_journal.specs.Calls.{open_gate}
+use Rattle.gated_journal.specs.Half.{IsOpen}
 use Rattle.gated_journal.proofs.Chain.{last_gate}
 use Rattle.image_rows.specs.RowReading.{row_in}
 use Rattle.image_rows.specs.Image.{slot_of}

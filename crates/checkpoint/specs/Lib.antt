@@ -2,5 +2,6 @@ pub mod Half
 pub mod Layout
 pub mod Label
 pub mod Standing
+pub mod Worked
 pub mod Calls
 pub mod Closed

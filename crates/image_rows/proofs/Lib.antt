@@ -23,3 +23,4 @@ pub mod Counts
 pub mod Slots
 pub mod Images
 pub mod Fits
+pub mod InTurn

@@ -2,6 +2,7 @@
 #![tactic(auto)]
 
 mod header;
+mod in_turn;
 mod item;
 pub mod laws;
 mod pdu;
@@ -14,6 +15,7 @@ mod seen;
 mod writing;
 
 pub use header::Header;
+pub use in_turn::{row_after, rows};
 pub use item::ReadItem;
 pub use place::RowPlace;
 pub use reading::{ReadRow, read_row};

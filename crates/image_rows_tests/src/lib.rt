@@ -1,4 +1,5 @@
-//! Tests of the bytes of `image_rows`: worked rows both ways, each of their bytes changed, and small heaps.
+//! Tests of the bytes of `image_rows`: worked rows both ways, each of their bytes changed,
+//! small heaps, and a register's rows one after another.
 #![tactic(auto)]
 
 #[cfg(test)]
@@ -9,3 +10,5 @@ mod heaps;
 mod rows;
 #[cfg(test)]
 mod spelled;
+#[cfg(test)]
+mod walked;

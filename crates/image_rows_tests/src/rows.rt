@@ -17,8 +17,8 @@ fn digit(byte: u8) -> Option<u8> {
     }
 }
 
-/// The sector that begins with the bytes of hexadecimal digits, spaces left out, and has this byte behind them.
-pub fn sector(alloc: Global, text: &str, behind: u8) -> Result<Vec<u8>, Fail> {
+/// The bytes of hexadecimal digits, spaces left out.
+pub fn bytes_of(alloc: Global, text: &str) -> Result<Vec<u8>, Fail> {
     let mut bytes = Vec::new(alloc);
     let mut high: Option<u8> = None;
     for byte in text.as_bytes() {
@@ -29,6 +29,12 @@ pub fn sector(alloc: Global, text: &str, behind: u8) -> Result<Vec<u8>, Fail> {
             }
         }
     }
+    Ok(bytes)
+}
+
+/// The sector that begins with the bytes of hexadecimal digits, and has this byte behind them.
+pub fn sector(alloc: Global, text: &str, behind: u8) -> Result<Vec<u8>, Fail> {
+    let mut bytes = bytes_of(alloc, text)?;
     bytes.resize(512, behind)?;
     Ok(bytes)
 }

@@ -1,0 +1,84 @@
+-- The calls that were made.
+use Rattle.std.proofs.Common.{◌≡◌, eqb, true, false, List, [], ◌∷◌, ◌++◌, slice_index, Result, refl, sym, ap, ◌∙◌, append_assoc, arith}
+use Rattle.std.proofs.lemmas.List.{append-nil}
+use Rattle.std.proofs.lemmas.Bool.Decides.{nat_tests}
+use Rattle.sector_disk.specs.Disk.{View, IsCalled, sector}
+use Rattle.sector_disk.specs.Run.{HasMade}
+use Rattle.sector_disk.specs.declared.disk.DiskError.{DiskError}
+use Rattle.sector_disk.specs.declared.record.Call.{Call}
+use Rattle.sector_disk.specs.declared.record.Call.TheVariants.{Read, Sync, Write}
+use Rattle.sector_disk.proofs.Made.{all_made, made_of_more, made_on}
+use Rattle.gated_journal.specs.Half.{IsClosed, IsOpen}
+use Rattle.gated_journal.specs.Calls.{closed_gate}
+use Rattle.checkpoint.specs.declared.side.Side.{Side}
+use Rattle.checkpoint.specs.Layout.{root_at}
+use Rattle.checkpoint.specs.Calls.{root_calls}
+
+-- ---- the root is read, and closed where it is open
+
+module _ (side : Side) (old : View) where
+  abbrev looks : List Call
+  looks = Read (root_at side) ∷ []
+
+  where_open : IsOpen (sector old.reads (root_at side)) → root_calls side old.reads ≡ looks ++ Write (root_at side) closed_gate ∷ []
+  where_open is = let b : eqb (slice_index (sector old.reads (root_at side)) 0) 1 ≡ true = grind (arith, nat_tests) in rw b refl
+
+  where_closed : IsClosed (sector old.reads (root_at side)) → root_calls side old.reads ≡ looks
+  where_closed is = let b : eqb (slice_index (sector old.reads (root_at side)) 0) 1 ≡ false = grind (arith, nat_tests) in rw b refl
+
+  pub calls_in_read : (new : View) (result : Result Unit DiskError) → IsCalled old new (Read (root_at side)) result → HasMade old new (root_calls side old.reads)
+  calls_in_read new result called = made_on old old new [] _ (Read (root_at side)) result (sym (append-nil old.calls)) called
+
+  pub calls_at_closed : (new : View) → IsClosed (sector old.reads (root_at side)) → new.calls ≡ old.calls ++ looks → new.calls ≡ old.calls ++ root_calls side old.reads
+  calls_at_closed new closed is = rw (where_closed closed) is
+
+  pub made_at_closed : (new : View) → IsClosed (sector old.reads (root_at side)) → new.calls ≡ old.calls ++ looks → HasMade old new (root_calls side old.reads)
+  made_at_closed new closed is = rw (where_closed closed) (record { made = looks; left = []; front = refl; now = is })
+
+  module _ (mid : View) (opened : IsOpen (sector old.reads (root_at side))) (were : mid.calls ≡ old.calls ++ looks) where
+    pub calls_in_root : (new : View) (result : Result Unit DiskError) → IsCalled mid new (Write (root_at side) closed_gate) result → HasMade old new (root_calls side old.reads)
+    calls_in_root new result called = rw (where_open opened) (made_on old mid new looks [] (Write (root_at side) closed_gate) result were called)
+
+    pub calls_at_root : (new : View) → new.calls ≡ mid.calls ++ Write (root_at side) closed_gate ∷ [] → new.calls ≡ old.calls ++ root_calls side old.reads
+    calls_at_root new is = rw (where_open opened) (all_made old.calls mid.calls new.calls looks (Write (root_at side) closed_gate) were is)
+
+-- ---- a call, and a sync behind it
+
+module _ (old mid : View) (before : List Call) (call : Call) (were : mid.calls ≡ old.calls ++ before) where
+  pub calls_in_call : (new : View) (result : Result Unit DiskError) → IsCalled mid new call result → HasMade old new (before ++ call ∷ Sync ∷ [])
+  calls_in_call new result called = made_on old mid new before (Sync ∷ []) call result were called
+
+  module _ (new : View) (made : new.calls ≡ mid.calls ++ call ∷ []) where
+    both : before ++ call ∷ Sync ∷ [] ≡ (before ++ call ∷ []) ++ Sync ∷ []
+    both = sym (append_assoc before (call ∷ []) (Sync ∷ []))
+
+    pub calls_in_sync : (last : View) (result : Result Unit DiskError) → IsCalled new last Sync result → HasMade old last (before ++ call ∷ Sync ∷ [])
+    calls_in_sync last result called = rw both (made_on old new last (before ++ call ∷ []) [] Sync result (all_made old.calls mid.calls new.calls before call were made) called)
+
+    pub calls_at_sync : (last : View) → last.calls ≡ new.calls ++ Sync ∷ [] → last.calls ≡ old.calls ++ (before ++ call ∷ Sync ∷ [])
+    calls_at_sync last is = rw both (all_made old.calls new.calls last.calls (before ++ call ∷ []) Sync (all_made old.calls mid.calls new.calls before call were made) is)
+
+-- ---- the side is closed, the rows are written, and a sync
+
+module _ (old mid : View) (before rows : List Call) where
+  pub calls_in_close : HasMade old mid before → HasMade old mid (before ++ rows ++ Sync ∷ [])
+  calls_in_close made = made_of_more old mid (before ++ rows) (Sync ∷ []) (made_of_more old mid before rows made)
+
+  module _ (were : mid.calls ≡ old.calls ++ before) where
+    pub calls_in_rows : (new : View) → HasMade mid new rows → HasMade old new (before ++ rows ++ Sync ∷ [])
+    calls_in_rows new has = made_of_more old new (before ++ rows) (Sync ∷ []) (record {
+      made = before ++ has.made;
+      left = has.left;
+      front = ap (λ (some : List Call). before ++ some) has.front ∙ sym (append_assoc before has.made has.left);
+      now = has.now ∙ ap (λ (some : List Call). some ++ has.made) were ∙ append_assoc old.calls before has.made;
+    })
+
+    module _ (new : View) (made : new.calls ≡ mid.calls ++ rows) where
+      both_so_far : new.calls ≡ old.calls ++ (before ++ rows)
+      both_so_far = made ∙ ap (λ (some : List Call). some ++ rows) were ∙ append_assoc old.calls before rows
+
+      pub calls_in_last : (last : View) (result : Result Unit DiskError) → IsCalled new last Sync result → HasMade old last (before ++ rows ++ Sync ∷ [])
+      calls_in_last last result called = made_on old new last (before ++ rows) [] Sync result both_so_far called
+
+      pub calls_at_last : (last : View) → last.calls ≡ new.calls ++ Sync ∷ [] → last.calls ≡ old.calls ++ (before ++ rows ++ Sync ∷ [])
+      calls_at_last last is = all_made old.calls new.calls last.calls (before ++ rows) Sync both_so_far is

@@ -1,0 +1,22 @@
+use Rattle.std.proofs.Common.{◌≡◌, ◌≤◌, ◌++◌, ◌-◌, Ok, length}
+use Rattle.sector_disk.specs.Disk.{View}
+use Rattle.sector_disk.specs.Run.{HasFilled, writes}
+use Rattle.image_rows.specs.Rows.{rows_of}
+use Rattle.checkpoint.specs.Calls.{row_sector}
+use Rattle.checkpoint.proofs.Walked.{Walk}
+use Rattle.checkpoint.proofs.image.write_rows.Given as goal
+
+abbrev pub invariant-loop-told : goal.invariant-loop-told
+invariant-loop-told g l =
+    let old : View = g.D.Disk.view l.initial.disk in
+    let now : View = g.D.Disk.view l.disk in
+    record {
+      walk : Walk l.epoch l.register l.told l.written;
+      sectors : now.sectors ≡ old.sectors;
+      failures : old.failures ≤ now.failures;
+      calls : now.calls ≡ old.calls ++ writes l.at l.written (row_sector (l.epoch, l.register));
+      filled : old.honest → HasFilled old now l.at l.written (row_sector (l.epoch, l.register)) (Ok tt);
+    }
+
+abbrev pub decreases-loop-told : goal.decreases-loop-told
+decreases-loop-told g l = length (rows_of l.epoch l.register) - l.written

@@ -1,0 +1,62 @@
+// The other side of a disk closed, before an image is written there.
+ghost use Rattle.std.specs.Prelude.{◌≡◌, ◌≤◌, ◌++◌, IsErrOf, OnOk};
+ghost use Rattle.sector_disk.specs.Disk.{HasCause, sector};
+ghost use Rattle.sector_disk.specs.Run.{HasMade, LeavesOnly};
+ghost use Rattle.sector_disk.specs.declared.disk.DiskError.TheVariants.{OutOfRange};
+ghost use Rattle.gated_journal.specs.Half.{IsClosed};
+ghost use Rattle.checkpoint.specs.Layout.{disk_size, other_of, root_at};
+ghost use Rattle.checkpoint.specs.Standing.{Base, Held, InEach, Stands};
+ghost use Rattle.checkpoint.specs.Calls.{close_calls, root_calls};
+ghost use Rattle.checkpoint.specs.Closed.{IsShut};
+
+use crate::{Layout, Side};
+use sector_disk::{Disk, DiskError};
+use std::alloc::Allocator;
+
+// Closes the other side's root. It is written only where it reads open: a torn write could open it.
+fn close_root<A: Allocator, D: Disk>(
+    disk: &mut D,
+    layout: &Layout,
+    current: Side,
+) -> Result<(), DiskError>
+    requires room { disk_size layout.now ≤ (D.view disk.old).sectors }
+    ensures any_moment { (base : Base) (held : Held A) → (D.view disk.old).honest → InEach (D.view disk.old) (Stands layout.now current base held)
+        → LeavesOnly (D.view disk.old) (D.view disk.new) (Stands layout.now current base held) }
+    ensures closed { OnOk result ((D.view disk.old).honest → IsClosed (sector (D.view disk.new).reads (root_at (other_of current)))) }
+    ensures calls { OnOk result ((D.view disk.old).honest → (D.view disk.new).calls ≡ (D.view disk.old).calls ++ root_calls (other_of current) (D.view disk.old).reads) }
+    ensures some_calls { (D.view disk.old).honest → HasMade (D.view disk.old) (D.view disk.new) (root_calls (other_of current) (D.view disk.old).reads) }
+    ensures cause { HasCause (D.view disk.old) (D.view disk.new) result }
+    ensures in_range { IsErrOf result OutOfRange → ⊥ }
+    ensures honest { (D.view disk.old).honest → (D.view disk.new).honest }
+{
+    let root = layout.root(current.other());
+    let mut bytes = [0; 512];
+    disk.read(root, &mut bytes)?;
+    if bytes[0] != 1 {
+        return Ok(());
+    }
+    disk.write(root, &[0; 512])?;
+    Ok(())
+}
+
+// Closes the other side's root and the first gate of its half, and makes both last.
+pub(crate) fn close<A: Allocator, D: Disk>(
+    disk: &mut D,
+    layout: &Layout,
+    current: Side,
+) -> Result<(), DiskError>
+    requires room { disk_size layout.now ≤ (D.view disk.old).sectors }
+    ensures any_moment { (base : Base) (held : Held A) → (D.view disk.old).honest → InEach (D.view disk.old) (Stands layout.now current base held)
+        → LeavesOnly (D.view disk.old) (D.view disk.new) (Stands layout.now current base held) }
+    ensures shut { OnOk result ((D.view disk.old).honest → IsShut layout.now (other_of current) (D.view disk.new)) }
+    ensures calls { OnOk result ((D.view disk.old).honest → (D.view disk.new).calls ≡ (D.view disk.old).calls ++ close_calls layout.now (other_of current) (D.view disk.old).reads) }
+    ensures some_calls { (D.view disk.old).honest → HasMade (D.view disk.old) (D.view disk.new) (close_calls layout.now (other_of current) (D.view disk.old).reads) }
+    ensures cause { HasCause (D.view disk.old) (D.view disk.new) result }
+    ensures in_range { IsErrOf result OutOfRange → ⊥ }
+    ensures honest { (D.view disk.old).honest → (D.view disk.new).honest }
+{
+    close_root::<A, D>(disk, layout, current)?;
+    disk.write(layout.half(current.other()), &[0; 512])?;
+    disk.sync()?;
+    Ok(())
+}

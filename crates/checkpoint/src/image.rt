@@ -1,0 +1,93 @@
+// The image of a register written to the other side of a disk.
+ghost use Rattle.std.specs.Prelude.{◌≡◌, ◌≤◌, ◌<◌, ◌+◌, ◌^◌, ◌++◌, Err, IsErr, IsErrOf, OnOk, length};
+ghost use Rattle.sector_disk.specs.Disk.{HasFailed};
+ghost use Rattle.sector_disk.specs.Run.{HasFilled, HasMade, LeavesOnly};
+ghost use Rattle.sector_disk.specs.declared.disk.DiskError.TheVariants.{OutOfRange};
+ghost use Rattle.image_rows.specs.Rows.{last_epoch, rows_of};
+ghost use Rattle.checkpoint.specs.declared.fault.CheckpointError.TheVariants.{DiskFault, EpochsUsedUp};
+ghost use Rattle.checkpoint.specs.Layout.{disk_size, other_of};
+ghost use Rattle.checkpoint.specs.Standing.{Base, Held, InEach, IsReady, Stands};
+ghost use Rattle.checkpoint.specs.Calls.{image_calls, row_calls, row_sector};
+
+use crate::closing::close;
+use crate::{CheckpointError, Layout, Side};
+use centre_core::Register;
+use image_rows::row_after;
+use sector_disk::{Disk, DiskError};
+use std::alloc::Allocator;
+
+/// The last epoch, 2 to the 62nd.
+const LAST_EPOCH: u64 = 4_611_686_018_427_387_904;
+
+// Writes the rows of a register's image from a sector on, one a sector.
+fn write_rows<A: Allocator + Clone, D: Disk>(
+    disk: &mut D,
+    at: u64,
+    epoch: u64,
+    register: &Register<A>,
+) -> Result<(), DiskError>
+    requires room { at + length (rows_of epoch register.now) ≤ (D.view disk.old).sectors }
+    requires fits { at + length (rows_of epoch register.now) < 2 ^ 64 }
+    ensures effect { (D.view disk.old).honest → HasFilled (D.view disk.old) (D.view disk.new) at (length (rows_of epoch register.now)) (row_sector (epoch, register.now)) result }
+    ensures calls { OnOk result ((D.view disk.new).calls ≡ (D.view disk.old).calls ++ row_calls at (epoch, register.now)) }
+    ensures some_calls { HasMade (D.view disk.old) (D.view disk.new) (row_calls at (epoch, register.now)) }
+    ensures sectors { (D.view disk.new).sectors ≡ (D.view disk.old).sectors }
+    ensures later { (D.view disk.old).failures ≤ (D.view disk.new).failures }
+    ensures fault { IsErr result → HasFailed (D.view disk.old) (D.view disk.new) }
+    ensures in_range { IsErrOf result OutOfRange → ⊥ }
+{
+    centre_core::laws::registers(register);
+    let mut written = 0;
+    let mut told = row_after(register, epoch, None);
+    while let Some(next) = &told {
+        disk.write(at + written, &next.1)?;
+        written += 1;
+        told = row_after(register, epoch, Some(next.0));
+    }
+    Ok(())
+}
+
+/// Writes the image of the register, with the epoch after this one, to the other side of the disk: the side that is
+/// current, whose image has the epoch, stays so until `switch`. Takes no memory.
+///
+/// The register has the layout's limits. A stop at any moment, also after a `DiskFault`, leaves what stood there
+/// before. `EpochsUsedUp` comes where the epoch is the last one, 2 to the 62nd.
+pub fn write_image<A: Allocator + Clone, D: Disk>(
+    disk: &mut D,
+    layout: &Layout,
+    current: Side,
+    epoch: u64,
+    register: &Register<A>,
+) -> Result<(), CheckpointError>
+    requires room { disk_size layout.now ≤ (D.view disk.old).sectors }
+    requires limits { register.now.registered.limits ≡ layout.now.limits }
+
+    // A stop at any moment of the call leaves the disk standing by the current side for what it stood for.
+    ensures any_moment { (base : Base) (held : Held A) → (D.view disk.old).honest → InEach (D.view disk.old) (Stands layout.now current base held)
+        → LeavesOnly (D.view disk.old) (D.view disk.new) (Stands layout.now current base held) }
+
+    // At `Ok` each stop leaves the image in the other side's slot, with the next epoch, and only its root is missing.
+    ensures ready { OnOk result ((D.view disk.old).honest → InEach (D.view disk.new) (IsReady layout.now (other_of current) (epoch + 1, register.now))) }
+
+    // The other side's root is read, and written only where it reads open; its first gate is closed; then each row is
+    // written once. A call that fails is the last.
+    ensures calls { OnOk result ((D.view disk.old).honest → (D.view disk.new).calls ≡ (D.view disk.old).calls ++ image_calls layout.now (other_of current) (D.view disk.old).reads (epoch + 1, register.now)) }
+    ensures some_calls { (D.view disk.old).honest → HasMade (D.view disk.old) (D.view disk.new) (image_calls layout.now (other_of current) (D.view disk.old).reads (epoch + 1, register.now)) }
+
+    // It does not give up by itself.
+    ensures fault { IsErrOf result DiskFault → HasFailed (D.view disk.old) (D.view disk.new) }
+    ensures epochs { IsErrOf result EpochsUsedUp → last_epoch ≤ epoch }
+    ensures used_up { last_epoch ≤ epoch → (result ≡ Err EpochsUsedUp) × (disk.new ≡ disk.old) }
+    ensures sectors { (D.view disk.new).sectors ≡ (D.view disk.old).sectors }
+    ensures later { (D.view disk.old).failures ≤ (D.view disk.new).failures }
+    ensures honest { (D.view disk.old).honest → (D.view disk.new).honest }
+{
+    if LAST_EPOCH <= epoch {
+        return Err(CheckpointError::EpochsUsedUp);
+    }
+    centre_core::laws::registers(register);
+    close::<A, D>(disk, layout, current)?;
+    write_rows(disk, layout.slot(current.other()), epoch + 1, register)?;
+    disk.sync()?;
+    Ok(())
+}
