@@ -1,5 +1,5 @@
 -- The calls that a format has made.
-use Rattle.std.proofs.Common.{◌≡◌, List, [], ◌∷◌, ◌++◌, Result, Ok, Err, OnOk, ℕ}
+use Rattle.std.proofs.Common.{◌≡◌, [], ◌∷◌, ◌++◌, Result, Ok, Err, OnOk}
 use Rattle.sector_disk.specs.Disk.{View, IsCalled}
 use Rattle.sector_disk.specs.Run.{HasMade}
 use Rattle.sector_disk.specs.declared.disk.DiskError.{DiskError}
@@ -9,7 +9,6 @@ use Rattle.sector_disk.proofs.Made.{all_made, made_on}
 use Rattle.gated_journal.specs.Calls.{closed_gate, open_gate}
 use Rattle.checkpoint.specs.declared.layout.Layout.{Layout}
 use Rattle.checkpoint.specs.declared.side.Side.TheVariants as side
-use Rattle.checkpoint.specs.Label.{label_text}
 use Rattle.checkpoint.specs.Layout.{half_at, label_at, root_at, slot_at}
 use Rattle.recovery.specs.Calls.{first_header, format_calls, label_sector, side_calls}
 

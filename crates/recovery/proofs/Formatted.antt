@@ -1,15 +1,12 @@
 -- A disk that is made ready stands for an empty register.
-use Rattle.std.proofs.Common.{◌≡◌, ◌≢◌, inl, ℕ, suc, ◌+◌, ◌-◌, ◌*◌, ◌<◌, ◌≤◌, List, [], ◌∷◌, ◌++◌, length, map, take, replicate, slice_index, Result, Ok, Err, OnOk, refl, sym, ap, ◌∙◌, arith}
+use Rattle.std.proofs.Common.{◌≡◌, ◌≢◌, inl, ℕ, suc, ◌+◌, ◌-◌, ◌<◌, ◌≤◌, List, ◌∷◌, ◌++◌, length, map, take, replicate, slice_index, Result, Ok, Err, OnOk, sym, ap, ◌∙◌, arith}
 use Rattle.std.proofs.Math.Seq.{take-append_seam}
-use Rattle.std.proofs.lemmas.List.{length-append}
-use Rattle.sector_disk.specs.Disk.{IsImageOf, IsSound, HasSynced, HasWritten, View, sector}
+use Rattle.sector_disk.specs.Disk.{IsSound, HasSynced, HasWritten, View, sector}
 use Rattle.sector_disk.specs.declared.disk.DiskError.{DiskError}
 use Rattle.sector_disk.proofs.Moments.{durable_image}
 use Rattle.centre_core.specs.State.{empty}
 use Rattle.centre_core.proofs.StateLaws.{empty_is_state}
 use Rattle.centre_core.proofs.RangeLaws.{empty_is_in_range}
-use Rattle.command_bytes.specs.Fields.{big}
-use Rattle.command_bytes.proofs.Numbers.{length-big}
 use Rattle.image_rows.specs.Rows.{Row}
 use Rattle.image_rows.specs.RowText.{sector_of}
 use Rattle.image_rows.specs.Image.{slot_of}
@@ -27,6 +24,7 @@ use Rattle.recovery.specs.Calls.{first_header, label_sector}
 use Rattle.recovery.specs.Opens.{opening, opens}
 use Rattle.recovery.specs.Sides.{AreReady}
 use Rattle.recovery.specs.Standing.{first_base}
+use Rattle.recovery.proofs.Labelled.{label_length}
 use Rattle.recovery.proofs.Opened.{standing_opens}
 
 -- ---- the sides
@@ -77,10 +75,6 @@ module _ (layout : Layout) (old one two three four five : View) where
   ready_if new (Err e) has syncs = tt
 
 -- ---- the label
-
-label_length : (layout : Layout) → length (label_text layout) ≡ label_size
-unfolding label_text
-label_length layout = simp (length-append, length-big) refl
 
 label_front : (layout : Layout) → IsLabel layout (label_sector layout)
 label_front layout = ap (λ (n : ℕ). take n (label_sector layout)) (sym (label_length layout)) ∙ take-append_seam (label_text layout) (replicate (512 - length (label_text layout)) 0)

@@ -1,21 +1,20 @@
 -- A label is read as the layout that was written, and as no other.
-use Rattle.std.proofs.Common.{◌≡◌, ◌≢◌, ◌⊎◌, inl, inr, ℕ, ◌+◌, ◌<◌, ◌≤◌, ◌^◌, Bool, true, false, ◌&&◌, List, [], ◌∷◌, ◌++◌, length, take, drop, Option, Some, None, Result, Ok, Err, refl, sym, ap, ◌∙◌, arith, append_assoc}
-use Rattle.std.proofs.lemmas.Bool.{le-leb, leb-true, false≢true}
-use Rattle.std.proofs.lemmas.List.{take-append-drop}
+use Rattle.std.proofs.Common.{◌≡◌, ℕ, ◌<◌, ◌≤◌, ◌^◌, Bool, true, false, ◌&&◌, List, ◌++◌, length, drop, Some, Ok, refl, sym, ap, ◌∙◌, arith, append_assoc}
+use Rattle.std.proofs.lemmas.Bool.{le-leb}
+use Rattle.std.proofs.lemmas.List.{length-append, take-append-drop}
 use Rattle.std.specs.Prelude.{nat_le}
 use Rattle.std.specs.Coded.{le_prop}
 use Rattle.sector_disk.specs.Disk.{sector}
 use Rattle.registration.specs.Limits.{AreLimits}
 use Rattle.registration.specs.declared.limits.Limits.{Limits}
-use Rattle.command_bytes.specs.Fields.{big, number_at}
-use Rattle.command_bytes.proofs.Numbers.{number_again}
+use Rattle.command_bytes.specs.Fields.{big}
+use Rattle.command_bytes.proofs.Numbers.{length-big, number_again}
 use Rattle.checkpoint.specs.Half.{IsHalfSize}
 use Rattle.checkpoint.specs.declared.layout.Layout.{Layout}
 use Rattle.checkpoint.specs.Label.{IsLabel, label_size, label_text, layout_number, name}
 use Rattle.checkpoint.specs.Layout.{disk_size, label_at}
-use Rattle.recovery.specs.declared.fault.StoreFault.{StoreFault}
 use Rattle.recovery.specs.Ranges.{are_limits, half_size_passes, is_half_size, is_within, layout_by, layout_of, limits_by, limits_of, limits_pass}
-use Rattle.recovery.specs.Label.{fitting, layout_at, layout_in, layout_told, Told, told_at}
+use Rattle.recovery.specs.Label.{layout_at, layout_in, layout_told, Told, told_at}
 
 -- ---- ranges
 
@@ -66,7 +65,7 @@ layout_again layout = layout_made layout (is_half_size layout.journal) (half_siz
 
 -- ---- the numbers of a layout
 
-abbrev told_of : Layout → Told
+abbrev pub told_of : Layout → Told
 told_of layout = record {
   number = layout_number;
   rules = layout.limits.rules;
@@ -87,10 +86,10 @@ told_again n rules radios mail stations journal rest nl rl dl ml sl jl =
     (rw (number_again 4 stations (big 4 journal ++ rest) sl)
     (rw (number_again 4 journal rest jl) refl)))))
 
-abbrev behind_name : Layout → List ℕ → List ℕ
+abbrev pub behind_name : Layout → List ℕ → List ℕ
 behind_name layout rest = big 2 layout_number ++ (big 4 layout.limits.rules ++ (big 4 layout.limits.radios ++ (big 4 layout.limits.mail ++ (big 4 layout.limits.stations ++ (big 4 layout.journal ++ rest)))))
 
-label_parts : (layout : Layout) (rest : List ℕ) → label_text layout ++ rest ≡ name ++ behind_name layout rest
+pub label_parts : (layout : Layout) (rest : List ℕ) → label_text layout ++ rest ≡ name ++ behind_name layout rest
 unfolding label_text
 label_parts layout rest = simp append_assoc refl
 
@@ -116,3 +115,9 @@ pub label_read : (layout : Layout) (image : List (List ℕ)) → IsLabel layout 
 unfolding layout_in
 label_read layout image is room =
     ap (layout_at (length image)) (label_is layout (sector image label_at) is) ∙ named_read layout (length image) (drop label_size (sector image label_at)) room
+
+-- ---- how long it is
+
+pub label_length : (layout : Layout) → length (label_text layout) ≡ label_size
+unfolding label_text
+label_length layout = simp (length-append, length-big) refl

@@ -4,3 +4,4 @@ mod Played
 mod Opened
 mod Called
 mod Formatted
+mod Faults

@@ -1,19 +1,14 @@
 -- What an image that stands opens to.
-use Rattle.std.proofs.Common.{◌≡◌, ℕ, List, [], ◌∷◌, Option, Some, Result, Ok, Err, refl, ap, ◌∙◌}
-use Rattle.centre_core.specs.State.{State}
+use Rattle.std.proofs.Common.{◌≡◌, ℕ, List, Ok, refl, ap}
 use Rattle.centre_core.specs.History.{after}
 use Rattle.centre_core.specs.Histories.{IsHistory}
-use Rattle.image_rows.specs.Image.{slot_of}
-use Rattle.gated_journal.specs.Half.{Entry, half_of}
 use Rattle.checkpoint.specs.declared.layout.Layout.{Layout}
 use Rattle.checkpoint.specs.declared.side.Side.{Side}
-use Rattle.checkpoint.specs.Layout.{half_at, half_end, slot_at, slot_size}
-use Rattle.checkpoint.specs.Standing.{Base, Held, IsInSlot, Stands, sectors_from}
+use Rattle.checkpoint.specs.Layout.{slot_at}
+use Rattle.checkpoint.specs.Standing.{Base, Held, IsInSlot, Stands}
 use Rattle.checkpoint.proofs.Apart.{lies}
 use Rattle.checkpoint.proofs.Epochs.{slot_tells}
-use Rattle.recovery.specs.declared.fault.StoreFault.{StoreFault}
-use Rattle.recovery.specs.Opens.{base_in, held_by, opening, opens, opens_by, placed, played, then_on, side_in}
-use Rattle.recovery.specs.Label.{layout_in}
+use Rattle.recovery.specs.Opens.{base_in, opening, opens, opens_by, placed}
 use Rattle.recovery.specs.Standing.{commands_of}
 use Rattle.recovery.proofs.Labelled.{label_read}
 use Rattle.recovery.proofs.Sided.{side_found}

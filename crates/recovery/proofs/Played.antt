@@ -1,13 +1,12 @@
 -- Records whose commands are accepted in their turn are played.
-use Rattle.std.proofs.Common.{◌≡◌, ℕ, Bool, true, List, [], ◌∷◌, ◌++◌, Option, Some, Result, Ok, refl, sym, ap, ◌∙◌}
+use Rattle.std.proofs.Common.{◌≡◌, List, [], ◌∷◌, ◌++◌, Some, Ok, refl, sym, ap, ◌∙◌}
 use Rattle.centre_core.specs.Asked.{Asked}
 use Rattle.centre_core.specs.State.{State}
-use Rattle.centre_core.specs.History.{accepts, after, next}
+use Rattle.centre_core.specs.History.{after, next}
 use Rattle.centre_core.specs.Histories.{IsHistory}
 use Rattle.centre_core.proofs.InTurnLaws.{after-append}
 use Rattle.gated_journal.specs.Half.{Entry}
-use Rattle.recovery.specs.declared.fault.StoreFault.{StoreFault}
-use Rattle.recovery.specs.Opens.{played, run, taken, then_on}
+use Rattle.recovery.specs.Opens.{played, run}
 use Rattle.recovery.specs.Standing.{commands_of}
 
 module _ {A : Type 0} where

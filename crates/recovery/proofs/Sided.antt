@@ -1,6 +1,6 @@
 -- Which side counts.
-use Rattle.std.proofs.Common.{◌≡◌, ◌≢◌, ◌⊎◌, inl, inr, ℕ, ◌<◌, ◌≤◌, Bool, true, false, List, slice_index, Option, Some, None, Result, Ok, Err, refl, ap, ◌∙◌, arith}
-use Rattle.std.specs.Prelude.{nat_eq, nat_lt}
+use Rattle.std.proofs.Common.{◌≡◌, ◌≢◌, ◌⊎◌, inl, inr, ℕ, ◌<◌, false, List, slice_index, Some, None, Ok, refl, arith}
+use Rattle.std.specs.Prelude.{nat_eq}
 use Rattle.std.proofs.lemmas.Bool.{lt-ltb, le-ltb}
 use Rattle.std.proofs.lemmas.Bool.Decides.{eqb_tells}
 use Rattle.sector_disk.specs.Disk.{sector}
@@ -8,10 +8,9 @@ use Rattle.gated_journal.specs.Half.{IsClosed, IsOpen}
 use Rattle.checkpoint.specs.declared.layout.Layout.{Layout}
 use Rattle.checkpoint.specs.declared.side.Side.{Side}
 use Rattle.checkpoint.specs.declared.side.Side.TheVariants as side
-use Rattle.checkpoint.specs.Layout.{other_of, root_at, slot_at}
+use Rattle.checkpoint.specs.Layout.{other_of, root_at}
 use Rattle.checkpoint.specs.Standing.{IsBelow, slot_epoch}
-use Rattle.recovery.specs.declared.fault.StoreFault.{StoreFault}
-use Rattle.recovery.specs.Opens.{chosen, headed, side_at, side_in, then_on}
+use Rattle.recovery.specs.Opens.{chosen, side_at, side_in}
 
 pub eqb_no : (a b : ℕ) → a ≢ b → nat_eq a b ≡ false
 eqb_no a b apart = elim (eqb_tells a b) [ inl same ↦ absurd (apart same.1) | inr other ↦ other.0 ]

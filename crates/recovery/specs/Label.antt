@@ -1,5 +1,5 @@
 -- What the label of a disk tells: the layout, or why there is none.
-use Rattle.std.specs.Prelude.{ℕ, ◌==◌, Bool, true, false, List, length, take, drop, Option, Some, None, Result, Ok, Err, nat_le, if◌then◌else◌}
+use Rattle.std.specs.Prelude.{ℕ, ◌==◌, Bool, List, length, take, drop, Option, Some, None, Result, Ok, Err, nat_le, if◌then◌else◌}
 use Rattle.std.specs.Str.{bytes_eq}
 use Rattle.sector_disk.specs.Disk.{sector}
 use Rattle.command_bytes.specs.Fields.{◌>>=◌, number_at}

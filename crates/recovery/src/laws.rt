@@ -1,24 +1,47 @@
 //! What holds of what a disk opens to, by its definitions alone.
 //! These functions do nothing: calling one gives its clauses.
 
-ghost use Rattle.std.specs.Prelude.{◌≡◌, ◌≤◌, ℕ, List, Ok, length};
+ghost use Rattle.std.specs.Prelude.{◌≡◌, ◌≢◌, ◌⊎◌, ◌↔◌, ◌<◌, ◌≤◌, ℕ, Err, List, None, Ok, Some, length, take};
 ghost use Rattle.sector_disk.specs.Disk.{sector};
+ghost use Rattle.identity.specs.Packed.{AreBytes};
 ghost use Rattle.centre_core.specs.History.{after};
 ghost use Rattle.centre_core.specs.Histories.{IsHistory};
+ghost use Rattle.gated_journal.specs.Half.{IsClosed, IsOpen};
 ghost use Rattle.checkpoint.specs.declared.layout.Layout.{Layout};
 ghost use Rattle.checkpoint.specs.declared.side.Side.{Side};
-ghost use Rattle.checkpoint.specs.Label.{IsLabel};
-ghost use Rattle.checkpoint.specs.Layout.{disk_size, label_at};
-ghost use Rattle.checkpoint.specs.Standing.{Base, Held, Stands};
+ghost use Rattle.checkpoint.specs.Label.{IsLabel, name};
+ghost use Rattle.checkpoint.specs.Layout.{disk_size, label_at, other_of, root_at, slot_at};
+ghost use Rattle.checkpoint.specs.Standing.{Base, Held, IsBelow, Stands, slot_epoch};
+ghost use Rattle.recovery.specs.declared.fault.StoreFault.TheVariants.{BadGeometry, Damaged, Unformatted};
 ghost use Rattle.recovery.specs.Label.{layout_in};
-ghost use Rattle.recovery.specs.Opens.{opening, opens};
+ghost use Rattle.recovery.specs.Opens.{opening, opens, side_in};
 ghost use Rattle.recovery.specs.Standing.{commands_of};
 
 use std::alloc::Allocator;
 
-/// A disk that is labelled for a layout, and large enough for it, tells that layout.
+/// A disk tells a layout exactly where it is labelled for it and has the sectors. It is unformatted exactly where it does
+/// not begin with TETRALOC; beginning so and telling no layout it has a bad geometry.
 pub fn label_tells()
-    ensures { (layout : Layout) (image : List (List ℕ)) → IsLabel layout (sector image label_at) → disk_size layout ≤ length image → layout_in image ≡ Ok layout }
+    ensures told { (layout : Layout) (image : List (List ℕ)) → IsLabel layout (sector image label_at) → disk_size layout ≤ length image → layout_in image ≡ Ok layout }
+    ensures only { (layout : Layout) (image : List (List ℕ)) → AreBytes (sector image label_at) → layout_in image ≡ Ok layout → IsLabel layout (sector image label_at) × (disk_size layout ≤ length image) }
+    ensures unformatted { (image : List (List ℕ)) → (layout_in image ≡ Err Unformatted) ↔ (take 8 (sector image label_at) ≢ name) }
+    ensures geometry { (image : List (List ℕ)) → AreBytes (sector image label_at) → take 8 (sector image label_at) ≡ name
+        → ((layout : Layout) → IsLabel layout (sector image label_at) → length image < disk_size layout) → layout_in image ≡ Err BadGeometry }
+{}
+
+/// Which side counts: the one with the greater epoch of those whose root is open. Where no root is open, sector 1 is at
+/// fault; else the first sector of an open side's slot that is no header, A's before B's; else sector 2, where both
+/// tell of one epoch.
+pub fn side_told()
+    ensures current { (layout : Layout) (side : Side) (epoch : ℕ) (image : List (List ℕ)) → IsOpen (sector image (root_at side)) → slot_epoch layout side image ≡ Some epoch
+        → IsBelow layout (other_of side) epoch image → side_in layout image ≡ Ok side }
+    ensures none { (layout : Layout) (image : List (List ℕ)) → IsClosed (sector image (root_at Side.A)) → IsClosed (sector image (root_at Side.B)) → side_in layout image ≡ Err (Damaged 1) }
+    ensures first { (layout : Layout) (image : List (List ℕ)) → IsOpen (sector image (root_at Side.A)) → slot_epoch layout Side.A image ≡ None
+        → side_in layout image ≡ Err (Damaged (slot_at layout Side.A)) }
+    ensures second { (layout : Layout) (image : List (List ℕ)) → IsClosed (sector image (root_at Side.A)) ⊎ ((epoch : ℕ) × (slot_epoch layout Side.A image ≡ Some epoch))
+        → IsOpen (sector image (root_at Side.B)) → slot_epoch layout Side.B image ≡ None → side_in layout image ≡ Err (Damaged (slot_at layout Side.B)) }
+    ensures equal { (layout : Layout) (epoch : ℕ) (image : List (List ℕ)) → IsOpen (sector image (root_at Side.A)) → IsOpen (sector image (root_at Side.B))
+        → slot_epoch layout Side.A image ≡ Some epoch → slot_epoch layout Side.B image ≡ Some epoch → side_in layout image ≡ Err (Damaged 2) }
 {}
 
 /// An image that stands by a side, whose records hold commands that its base accepts one after the other, opens by

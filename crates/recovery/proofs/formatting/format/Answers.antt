@@ -1,10 +1,10 @@
-use Rattle.std.proofs.Common.{◌≡◌, ◌≤◌, ◌<◌, ◌++◌, ◌∷◌, [], sym, refl, ap, ◌∙◌, arith}
+use Rattle.std.proofs.Common.{◌≤◌, ◌∷◌, [], arith}
 use Rattle.sector_disk.specs.Disk.{View}
 use Rattle.sector_disk.specs.declared.record.Call.TheVariants.{Sync, Write}
 use Rattle.sector_disk.proofs.Made.{made_of_more}
 use Rattle.checkpoint.specs.Layout.{disk_size, label_at}
 use Rattle.recovery.specs.Calls.{label_sector, side_calls}
-use Rattle.recovery.proofs.Called.{calls_in_label, calls_in_last}
+use Rattle.recovery.proofs.Called.{calls_in_last}
 use Rattle.recovery.proofs.Formatted.{opens_so, stands_so, within}
 use Rattle.recovery.proofs.formatting.format.Goals as goal
 
