@@ -23,3 +23,8 @@ pub mod Counts
 pub mod Slots
 pub mod Images
 pub mod Fits
+pub mod Loaded
+pub mod Last
+pub mod Judged
+pub mod Filling
+pub mod PutRows

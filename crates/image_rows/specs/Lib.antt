@@ -13,3 +13,4 @@ pub mod Worked
 pub mod Parts
 pub mod Slot
 pub mod Image
+pub mod Held

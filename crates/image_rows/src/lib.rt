@@ -1,11 +1,15 @@
 //! A register as the rows of an image, one row a sector, and what rows stand for.
 #![tactic(auto)]
 
+mod attached;
 mod header;
 mod item;
+mod judging;
 pub mod laws;
+mod loader;
 mod pdu;
 mod place;
+mod putting;
 mod reading;
 mod row_groups;
 pub mod row_laws;
@@ -15,6 +19,7 @@ mod writing;
 
 pub use header::Header;
 pub use item::ReadItem;
+pub use loader::Loader;
 pub use place::RowPlace;
 pub use reading::{ReadRow, read_row};
 pub use row_groups::PackedGroups;
