@@ -53,6 +53,21 @@ const ROWS: &str = "\
 -14 0003 00000006 0000000000000006 0000=a station too many
 -10 0000000000000001 0000000000000006 00000002 00000002 00000002 00000002=a header behind the last row";
 
+/// Whether the row is taken where a `+` says so, and refused where not.
+fn is_right(alloc: Global, loader: &mut Loader<Global>, text: &str) -> Result<bool, Fail> {
+    let row = row(alloc, text)?;
+    let taken = loader.take(&row)?;
+    Ok(taken == text.starts_with('+'))
+}
+
+/// Whether the epoch and the count are those of the header.
+fn is_finished(loader: Loader<Global>) -> bool {
+    match loader.finish() {
+        Some((epoch, register)) => epoch == 1 && register.count() == 6,
+        None => false,
+    }
+}
+
 /// Why the first row that is answered wrongly is in the table; nothing where all are right and the last one leaves the
 /// image whole.
 fn first_wrong(alloc: Global) -> Result<Option<&'static str>, Fail> {
@@ -61,18 +76,14 @@ fn first_wrong(alloc: Global) -> Result<Option<&'static str>, Fail> {
         let Some((text, why)) = line.split_once('=') else {
             return Ok(Some(line));
         };
-        let taken = loader.take(&row(alloc, text)?)?;
-        if taken != text.starts_with('+') {
+        if !is_right(alloc, &mut loader, text)? {
             return Ok(Some(why));
         }
     }
     if !loader.is_whole() {
         return Ok(Some("it is not whole"));
     }
-    Ok(match loader.finish() {
-        Some((1, register)) if register.count() == 6 => None,
-        _ => Some("it is not finished"),
-    })
+    Ok((!is_finished(loader)).then_some("it is not finished"))
 }
 
 #[test]
