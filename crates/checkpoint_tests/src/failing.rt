@@ -51,16 +51,25 @@ fn is_safe(
     Ok(done == (call > 10) && stands(&mut left, second) == Ok(true))
 }
 
-fn are_safe(alloc: Global, layout: &Layout, failing: Failing) -> Result<bool, Fail> {
-    let register = register(alloc, layout.limits())?;
+fn are_all_safe(
+    alloc: Global,
+    layout: &Layout,
+    register: &Register<Global>,
+    failing: Failing,
+) -> Result<bool, Fail> {
     for call in 1..12 {
         for byte in [0, 1, 77] {
-            if !is_safe(alloc, layout, &register, call, failing, byte)? {
+            if !is_safe(alloc, layout, register, call, failing, byte)? {
                 return Ok(false);
             }
         }
     }
     Ok(true)
+}
+
+fn are_safe(alloc: Global, layout: &Layout, failing: Failing) -> Result<bool, Fail> {
+    let register = register(alloc, layout.limits())?;
+    are_all_safe(alloc, layout, &register, failing)
 }
 
 #[test]
@@ -77,39 +86,78 @@ fn each_call_fails_with_all_later_ones(rt: HostRuntime) -> Result<(), Fail> {
     Ok(())
 }
 
-/// Whether these sectors are pending once this call has failed.
-fn leaves_pending(
-    alloc: Global,
-    layout: &Layout,
+/// Fails at this call of writing the image; the disk then, where it failed.
+fn failed(
     disk: MemoryDisk<Global>,
+    layout: &Layout,
+    register: &Register<Global>,
     current: Side,
     call: u64,
+) -> Option<MemoryDisk<Global>> {
+    let mut disk = FailingDisk::new(disk, call, Failing::Once);
+    let failed = write(&mut disk, layout, current, 2, register).is_some();
+    let inner = disk.into_inner();
+    failed.then_some(inner)
+}
+
+/// Whether these sectors are pending, and no other.
+fn are_pending(
+    alloc: Global,
+    disk: &Option<MemoryDisk<Global>>,
     want: &[u64],
 ) -> Result<bool, Fail> {
-    let register = register(alloc, layout.limits())?;
-    let mut disk = FailingDisk::new(disk, call, Failing::Once);
-    let failed = write(&mut disk, layout, current, 2, &register).is_some();
-    Ok(failed && disk.into_inner().pending(alloc)?.as_slice() == want)
+    match disk {
+        Some(disk) => Ok(disk.pending(alloc)?.as_slice() == want),
+        None => Ok(false),
+    }
+}
+
+/// A disk on which side A and then side B was made current, its root A still open.
+fn switched(
+    alloc: Global,
+    layout: &Layout,
+    register: &Register<Global>,
+) -> Result<MemoryDisk<Global>, Fail> {
+    let mut disk = formatted(alloc)?;
+    if !both(&mut disk, layout, register) {
+        return Err("a disk that stands by side B".into());
+    }
+    Ok(disk)
 }
 
 /// Whether the root of side B, which is closed, is not written before the first sync.
-fn spares_a_closed_root(alloc: Global, layout: &Layout) -> Result<bool, Fail> {
-    leaves_pending(alloc, layout, formatted(alloc)?, Side::A, 3, &[628])
+fn spares_a_closed_root(
+    alloc: Global,
+    layout: &Layout,
+    register: &Register<Global>,
+) -> Result<bool, Fail> {
+    let disk = failed(formatted(alloc)?, layout, register, Side::A, 3);
+    are_pending(alloc, &disk, &[628])
 }
 
 /// Whether the root of side A, which stayed open, is written before the first sync.
-fn closes_an_open_root(alloc: Global, layout: &Layout) -> Result<bool, Fail> {
-    let mut disk = formatted(alloc)?;
-    let register = register(alloc, layout.limits())?;
-    let switched = both(&mut disk, layout, &register);
-    Ok(switched && leaves_pending(alloc, layout, disk, Side::B, 4, &[1, 589])?)
+fn closes_an_open_root(
+    alloc: Global,
+    layout: &Layout,
+    register: &Register<Global>,
+) -> Result<bool, Fail> {
+    let disk = failed(
+        switched(alloc, layout, register)?,
+        layout,
+        register,
+        Side::B,
+        4,
+    );
+    are_pending(alloc, &disk, &[1, 589])
 }
 
 #[test]
 fn a_root_is_closed_only_where_it_is_open(rt: HostRuntime) -> Result<(), Fail> {
     let layout = layout().ok_or("a layout")?;
+    let register = register(rt.alloc(), layout.limits())?;
     assert!(rt;
-        spares_a_closed_root(rt.alloc(), &layout)? && closes_an_open_root(rt.alloc(), &layout)?
+        spares_a_closed_root(rt.alloc(), &layout, &register)?
+            && closes_an_open_root(rt.alloc(), &layout, &register)?
     );
     Ok(())
 }

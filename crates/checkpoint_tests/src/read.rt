@@ -1,6 +1,6 @@
 //! Images that are read back, from rows put together by hand.
 use crate::made::{layout, sector};
-use centre_core::{Body, Command, Query, Register, Reply, Told};
+use centre_core::{Body, Command, Register, Reply};
 use checkpoint::{Layout, ReadFault, Side, read_image};
 use identity::{BitWriter, Itsi};
 use linked_list_allocator::LocalHeap;
@@ -87,50 +87,49 @@ fn again(alloc: Global) -> Option<Command<Global>> {
 fn answers(alloc: Global, register: &mut Register<Global>) -> Result<bool, Fail> {
     let first = Itsi::from_number(0x3a80_0e00_07d1).ok_or("a radio")?;
     let second = Itsi::from_number(0x3a80_0e00_07d2).ok_or("a radio")?;
-    let areas = is_in(alloc, register, first, 7)? && is_in(alloc, register, second, 9)?;
-    let waits = match register.query(alloc, &Query::Waiting(first))? {
-        Told::Waiting { items, .. } => items.as_slice().len() == 1,
-        _ => false,
-    };
+    let areas = is_in(register, first, 7) && is_in(register, second, 9);
+    let waits = register.mail().len() == 1;
     let again = again(alloc).ok_or("a report")?;
     let reply = register.apply(alloc, &again)?;
     Ok(areas && waits && matches!(&reply, Reply::Kept { .. }))
 }
 
 /// Whether the radio is in that area.
-fn is_in(alloc: Global, register: &Register<Global>, itsi: Itsi, area: u32) -> Result<bool, Fail> {
-    match register.query(alloc, &Query::Whereabouts(itsi))? {
-        Told::Whereabouts {
-            radio: Some(radio),
-            ..
-        } => Ok(radio.area.number() == area),
-        _ => Ok(false),
+fn is_in(register: &Register<Global>, itsi: Itsi, area: u32) -> bool {
+    match register.registry().where_is(itsi) {
+        Some(radio) => radio.area.number() == area,
+        None => false,
     }
 }
 
-fn is_read(alloc: Global, layout: &Layout) -> Result<bool, Fail> {
+/// The image of a side.
+fn image(alloc: Global, layout: &Layout, side: Side) -> Result<(u64, Register<Global>), Fail> {
     let mut disk = disk(alloc)?;
-    match read(&mut disk, layout, Side::B, alloc) {
-        Ok((7, mut register)) => {
-            Ok(register.count() == 6 && answers(alloc, &mut register)? && is_empty(alloc, layout)?)
-        }
-        _ => Ok(false),
+    match read(&mut disk, layout, side, alloc) {
+        Ok(image) => Ok(image),
+        Err(_) => Err("an image".into()),
     }
+}
+
+/// Whether the image of side B is the one put there.
+fn is_read(alloc: Global, layout: &Layout) -> Result<bool, Fail> {
+    let (epoch, mut register) = image(alloc, layout, Side::B)?;
+    let counted = epoch == 7 && register.count() == 6;
+    let answered = answers(alloc, &mut register)?;
+    Ok(counted && answered)
 }
 
 /// Whether the image of side A is the empty one.
 fn is_empty(alloc: Global, layout: &Layout) -> Result<bool, Fail> {
-    let mut disk = disk(alloc)?;
-    match read(&mut disk, layout, Side::A, alloc) {
-        Ok((1, register)) => Ok(register.count() == 0 && register.limits() == layout.limits()),
-        _ => Ok(false),
-    }
+    let (epoch, register) = image(alloc, layout, Side::A)?;
+    let limited = register.limits() == layout.limits();
+    Ok(epoch == 1 && register.count() == 0 && limited)
 }
 
 #[test]
 fn rows_by_hand_are_read_back(rt: HostRuntime) -> Result<(), Fail> {
     let layout = layout().ok_or("a layout")?;
-    assert!(rt; is_read(rt.alloc(), &layout)?);
+    assert!(rt; is_read(rt.alloc(), &layout)? && is_empty(rt.alloc(), &layout)?);
     Ok(())
 }
 

@@ -70,20 +70,23 @@ fn is_finished(loader: Loader<Global>) -> bool {
 
 /// Why the first row that is answered wrongly is in the table; nothing where all are right and the last one leaves the
 /// image whole.
-fn first_wrong(alloc: Global) -> Result<Option<&'static str>, Fail> {
-    let mut loader = Loader::new(alloc, limits()?)?;
+fn wrong_row(alloc: Global, loader: &mut Loader<Global>) -> Result<Option<&'static str>, Fail> {
     for line in ROWS.lines() {
         let Some((text, why)) = line.split_once('=') else {
             return Ok(Some(line));
         };
-        if !is_right(alloc, &mut loader, text)? {
+        if !is_right(alloc, loader, text)? {
             return Ok(Some(why));
         }
     }
-    if !loader.is_whole() {
-        return Ok(Some("it is not whole"));
-    }
-    Ok((!is_finished(loader)).then_some("it is not finished"))
+    Ok((!loader.is_whole()).then_some("it is not whole"))
+}
+
+fn first_wrong(alloc: Global) -> Result<Option<&'static str>, Fail> {
+    let mut loader = Loader::new(alloc, limits()?)?;
+    let wrong = wrong_row(alloc, &mut loader);
+    let finished = is_finished(loader);
+    Ok(wrong?.or((!finished).then_some("it is not finished")))
 }
 
 #[test]
