@@ -106,10 +106,11 @@ pub fn write<D: Disk>(
     epoch: u64,
     register: &Register<Global>,
 ) -> Option<CheckpointError> {
-    if disk.sectors() < layout.sectors() || register.limits() != layout.limits() {
+    let layout = Layout::new(register.limits(), layout.journal())?;
+    if disk.sectors() < layout.sectors() {
         return None;
     }
-    write_image(disk, layout, current, epoch, register).err()
+    write_image(disk, &layout, current, epoch, register).err()
 }
 
 /// Makes the other side the current one.

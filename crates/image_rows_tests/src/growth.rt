@@ -38,29 +38,53 @@ fn taken<'a>(
     }
 }
 
-/// How many times memory was wanted beside so great a weight; nothing where that goes wrong.
-fn wanted<'a>(alloc: Global, heap: &'a LocalHeap, size: usize) -> Result<Option<usize>, Fail> {
-    let Ok(weight) = Vec::with_capacity(heap, size) else {
-        return Ok(None);
-    };
-    let mut weight = Some(weight);
-    let Ok(mut loader) = Loader::new(heap, limits()?) else {
-        return Ok(Some(1));
-    };
+/// How many times memory was wanted until the loader was whole; nothing where that goes wrong.
+fn all_taken<'a>(
+    alloc: Global,
+    loader: &mut Loader<&'a LocalHeap>,
+    weight: &mut Option<Vec<u8, &'a LocalHeap>>,
+) -> Result<Option<usize>, Fail> {
     let mut wanted = 0_usize;
     for text in ROWS.lines() {
-        match taken(&mut loader, &mut weight, &row(alloc, text)?) {
+        let row = row(alloc, text)?;
+        match taken(loader, weight, &row) {
             Some(true) => wanted = wanted.saturating_add(1),
             Some(false) => {}
             None => return Ok(None),
         }
     }
-    if !loader.is_whole() {
-        return Ok(None);
-    }
+    Ok(loader.is_whole().then_some(wanted))
+}
+
+/// Whether the epoch and the count are those of the header.
+fn is_finished(loader: Loader<&LocalHeap>) -> bool {
     match loader.finish() {
-        Some((1, register)) if register.count() == 6 => Ok(Some(wanted)),
-        _ => Ok(None),
+        Some((epoch, register)) => epoch == 1 && register.count() == 6,
+        None => false,
+    }
+}
+
+/// The same from the first row on.
+fn all_loaded<'a>(
+    alloc: Global,
+    mut loader: Loader<&'a LocalHeap>,
+    weight: &mut Option<Vec<u8, &'a LocalHeap>>,
+) -> Result<Option<usize>, Fail> {
+    let wanted = all_taken(alloc, &mut loader, weight);
+    let finished = is_finished(loader);
+    Ok(wanted?.filter(|_| finished))
+}
+
+/// How many times memory was wanted beside so great a weight; nothing where that goes wrong.
+fn wanted(alloc: Global, heap: &LocalHeap, size: usize) -> Result<Option<usize>, Fail> {
+    let limits = limits()?;
+    let Ok(weight) = Vec::with_capacity(heap, size) else {
+        return Ok(None);
+    };
+    let mut weight = Some(weight);
+    match Loader::new(heap, limits) {
+        Ok(loader) => all_loaded(alloc, loader, &mut weight),
+        Err(_) => Ok(Some(1)),
     }
 }
 

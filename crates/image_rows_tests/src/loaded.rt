@@ -79,20 +79,29 @@ pub fn limits() -> Result<Limits, Fail> {
     Ok(Limits::new(10, 10, 10, 4).ok_or("limits")?)
 }
 
+/// Whether all of the rows are taken, and the last one leaves the image whole.
+fn are_taken(alloc: Global, loader: &mut Loader<Global>, rows: &str) -> Result<bool, Fail> {
+    for text in rows.lines() {
+        let row = row(alloc, text)?;
+        if loader.is_whole() || !loader.take(&row)? {
+            return Ok(false);
+        }
+    }
+    Ok(loader.is_whole())
+}
+
+/// The register of epoch 1.
+fn finished(loader: Loader<Global>) -> Option<Register<Global>> {
+    let (epoch, register) = loader.finish()?;
+    (epoch == 1).then_some(register)
+}
+
 /// The register of the rows, all of them taken; nothing where one is not.
 fn loaded(alloc: Global, rows: &str) -> Result<Option<Register<Global>>, Fail> {
     let mut loader = Loader::new(alloc, limits()?)?;
-    for text in rows.lines() {
-        if loader.is_whole() || !loader.take(&row(alloc, text)?)? {
-            return Ok(None);
-        }
-    }
-    if !loader.is_whole() {
-        return Ok(None);
-    }
-    match loader.finish() {
-        Some((1, register)) => Ok(Some(register)),
-        _ => Ok(None),
+    match are_taken(alloc, &mut loader, rows)? {
+        true => Ok(finished(loader)),
+        false => Ok(None),
     }
 }
 
@@ -105,18 +114,21 @@ fn command(alloc: Global, text: &str) -> Result<Option<Command<Global>>, Fail> {
     }
 }
 
-/// The register that the commands make, each accepted.
-fn applied(alloc: Global, commands: &str) -> Result<Option<Register<Global>>, Fail> {
-    let mut register = Register::new(alloc, limits()?)?;
+/// Whether the register accepts each of the commands.
+fn are_accepted(
+    alloc: Global,
+    register: &mut Register<Global>,
+    commands: &str,
+) -> Result<bool, Fail> {
     for text in commands.lines() {
         let Some(command) = command(alloc, text)? else {
-            return Ok(None);
+            return Ok(false);
         };
         let Reply::Accepted { .. } = register.apply(alloc, &command)? else {
-            return Ok(None);
+            return Ok(false);
         };
     }
-    Ok(Some(register))
+    Ok(true)
 }
 
 fn same_item(a: &Item<Global>, b: &Item<Global>) -> bool {
@@ -182,12 +194,8 @@ fn are_alike(alloc: Global, a: &Register<Global>, b: &Register<Global>) -> Resul
     )
 }
 
-/// Whether the rows make the register that the commands make, and the last command is answered as the one that came
-/// before.
-fn is_loaded(alloc: Global, rows: &str, commands: &str) -> Result<bool, Fail> {
-    let (Some(mut register), Some(made)) = (loaded(alloc, rows)?, applied(alloc, commands)?) else {
-        return Ok(false);
-    };
+/// Whether the last command is answered as the one that came before.
+fn is_kept(alloc: Global, register: &mut Register<Global>, commands: &str) -> Result<bool, Fail> {
     let Some(text) = commands.lines().last() else {
         return Ok(false);
     };
@@ -195,34 +203,59 @@ fn is_loaded(alloc: Global, rows: &str, commands: &str) -> Result<bool, Fail> {
         return Ok(false);
     };
     let reply = register.apply(alloc, &again)?;
-    Ok(matches!(&reply, Reply::Kept { .. }) && are_alike(alloc, &register, &made)?)
+    Ok(matches!(&reply, Reply::Kept { .. }))
+}
+
+/// Whether the register answers as the one that the commands make, and the last command as the one that came before.
+fn is_made(alloc: Global, register: &mut Register<Global>, commands: &str) -> Result<bool, Fail> {
+    let mut made = Register::new(alloc, limits()?)?;
+    let accepted = are_accepted(alloc, &mut made, commands)?;
+    let alike = are_alike(alloc, register, &made)?;
+    Ok(accepted && alike && is_kept(alloc, register, commands)?)
+}
+
+/// Whether the rows make the register that the commands make.
+fn is_loaded(alloc: Global, rows: &str, commands: &str) -> Result<bool, Fail> {
+    match loaded(alloc, rows)? {
+        Some(mut register) => is_made(alloc, &mut register, commands),
+        None => Ok(false),
+    }
+}
+
+/// Whether the one item that waits for the radio is a copy for the group.
+fn has_copy(register: &Register<Global>) -> bool {
+    match register.mail().next(None) {
+        Some(item) => {
+            item.key().destination.number() == RADIOS[1]
+                && item.group().is_some_and(|group| group.number() == GROUP)
+        }
+        None => false,
+    }
 }
 
 /// Whether a copy of a group message keeps its group.
 fn keeps_group(alloc: Global) -> Result<bool, Fail> {
-    let Some(register) = loaded(alloc, SENT)? else {
-        return Ok(false);
-    };
-    let itsi = Itsi::from_number(RADIOS[1]).ok_or("a radio")?;
-    let Told::Waiting { items, .. } = register.query(alloc, &Query::Waiting(itsi))? else {
-        return Ok(false);
-    };
-    match items.as_slice() {
-        [item] => Ok(item.group().is_some_and(|group| group.number() == GROUP)),
-        _ => Ok(false),
+    match loaded(alloc, SENT)? {
+        Some(register) => Ok(register.mail().len() == 1 && has_copy(&register)),
+        None => Ok(false),
     }
 }
 
-/// Whether a register whose numbers are used up refuses the next command for it.
-fn is_used_up(alloc: Global) -> Result<bool, Fail> {
-    let Some(mut register) = loaded(alloc, LAST)? else {
-        return Ok(false);
-    };
+/// Whether the register refuses the next command since its numbers are used up.
+fn refuses(alloc: Global, register: &mut Register<Global>) -> Result<bool, Fail> {
     let Some(next) = command(alloc, "0001 00000001 00000000 06")? else {
         return Ok(false);
     };
     let reply = register.apply(alloc, &next)?;
     Ok(matches!(&reply, Reply::Refused(Refusal::NumbersUsedUp)))
+}
+
+/// Whether a register whose numbers are used up is loaded, and refuses the next command for it.
+fn is_used_up(alloc: Global) -> Result<bool, Fail> {
+    match loaded(alloc, LAST)? {
+        Some(mut register) => refuses(alloc, &mut register),
+        None => Ok(false),
+    }
 }
 
 #[test]
