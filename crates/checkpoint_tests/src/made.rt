@@ -135,7 +135,8 @@ fn is_header<D: Disk>(disk: &mut D, at: u64, epoch: u8) -> Result<bool, DiskErro
 }
 
 /// Whether a slot begins with the image of the register, with this epoch.
-pub fn is_image<D: Disk>(disk: &mut D, at: u64, epoch: u8) -> Result<bool, DiskError> {
+pub fn is_image<D: Disk>(disk: &mut D, at: u32, epoch: u8) -> Result<bool, DiskError> {
+    let at = u64::from(at);
     let rows = begins(disk, at + 1, &RULE)? && begins(disk, at + 2, &RADIO)?;
     Ok(is_header(disk, at, epoch)? && rows && begins(disk, at + 3, &SERVED)?)
 }
