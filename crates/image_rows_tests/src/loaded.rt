@@ -206,12 +206,22 @@ fn is_kept(alloc: Global, register: &mut Register<Global>, commands: &str) -> Re
     Ok(matches!(&reply, Reply::Kept { .. }))
 }
 
-/// Whether the register answers as the one that the commands make, and the last command as the one that came before.
+/// Whether the register answers as the other one once that accepts the commands, and the last command as the one that
+/// came before.
+fn is_as(
+    alloc: Global,
+    register: &mut Register<Global>,
+    made: &mut Register<Global>,
+    commands: &str,
+) -> Result<bool, Fail> {
+    let accepted = are_accepted(alloc, made, commands)?;
+    let alike = are_alike(alloc, register, made)?;
+    Ok(accepted && alike && is_kept(alloc, register, commands)?)
+}
+
 fn is_made(alloc: Global, register: &mut Register<Global>, commands: &str) -> Result<bool, Fail> {
     let mut made = Register::new(alloc, limits()?)?;
-    let accepted = are_accepted(alloc, &mut made, commands)?;
-    let alike = are_alike(alloc, register, &made)?;
-    Ok(accepted && alike && is_kept(alloc, register, commands)?)
+    is_as(alloc, register, &mut made, commands)
 }
 
 /// Whether the rows make the register that the commands make.
