@@ -20,7 +20,7 @@ fn itsi(k: u32) -> Option<Itsi> {
 }
 
 fn serve(register: &mut Register<Global>, alloc: Global, body: Body<Global>) -> Option<()> {
-    let sequence = (register.count() as u32).checked_add(1)?;
+    let sequence = u32::try_from(register.count()).ok()?.checked_add(1)?;
     let command = Command::new(1, sequence, 0, body)?;
     register.apply(alloc, &command).ok()?;
     Some(())
