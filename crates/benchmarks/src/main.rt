@@ -5,6 +5,7 @@
 
 mod filling;
 mod journal;
+mod reading;
 mod register;
 mod rows;
 mod writing;
