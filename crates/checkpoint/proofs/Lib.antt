@@ -8,3 +8,5 @@ pub mod Spared
 pub mod Switched
 pub mod Walked
 pub mod Worked
+pub mod Readback
+pub mod Looks

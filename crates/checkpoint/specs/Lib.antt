@@ -5,3 +5,4 @@ pub mod Standing
 pub mod Worked
 pub mod Calls
 pub mod Closed
+pub mod Reading

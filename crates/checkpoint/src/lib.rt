@@ -6,11 +6,15 @@ mod fault;
 mod image;
 pub mod laws;
 mod layout;
+mod read_fault;
+mod reading;
 mod side;
 mod switching;
 
 pub use fault::CheckpointError;
 pub use image::write_image;
 pub use layout::Layout;
+pub use read_fault::ReadFault;
+pub use reading::read_image;
 pub use side::Side;
 pub use switching::switch;

@@ -33,7 +33,7 @@ pub some_is : {A : Type 0} (x y : A) → Some x ≡ Some y → x ≡ y
 some_is x y e = cc
 
 -- the rows after the header
-all_only : (h : Header) (rows : List Row) (s : State) (l : Loading) → IsSound h s → All RowInRange rows → all_taken (at h s) rows ≡ Some l → (n : State) × (at h n ≡ l) × Comes h s n rows
+pub all_only : (h : Header) (rows : List Row) (s : State) (l : Loading) → IsSound h s → All RowInRange rows → all_taken (at h s) rows ≡ Some l → (n : State) × (at h n ≡ l) × Comes h s n rows
 unfolding row_taken
 all_only h [] s l sound ranges e = (s, some_is (at h s) l e, record { sound = sound; stations = refl; count = refl; limits = refl; room = refl; rows_are = sym (append-nil (so_far h s)) })
 all_only h (row ∷ rows) s l sound ranges e =
@@ -55,10 +55,10 @@ all_only h (row ∷ rows) s l sound ranges e =
     )
 
 -- with the header alone
-abbrev with_header : Limits → ℕ → State
+abbrev pub with_header : Limits → ℕ → State
 with_header limits count = record (empty limits) { count = count }
 
-header_sound : (h : Header) (limits : Limits) → h.mail ≤ limits.mail → IsSound h (with_header limits h.count)
+pub header_sound : (h : Header) (limits : Limits) → h.mail ≤ limits.mail → IsSound h (with_header limits h.count)
 header_sound h limits room =
     let ranges = empty_is_in_range limits in
     record {

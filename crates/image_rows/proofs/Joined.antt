@@ -40,7 +40,7 @@ below_pairs : (itsi a : ℕ) (gs : List Group) → below_all nat_cmp a gs ≡ tr
 below_pairs itsi a [] h = refl
 below_pairs itsi a (g ∷ gs) h = both _ _ (ap is_lt (within_one itsi a g.0) ∙ left _ _ h) (below_pairs itsi a gs (right (is_lt (nat_cmp a g.0)) _ h))
 
-in_order : (itsi : ℕ) (gs : List Group) → is_sorted nat_cmp gs ≡ true → IsInOrder (own itsi gs)
+pub in_order : (itsi : ℕ) (gs : List Group) → is_sorted nat_cmp gs ≡ true → IsInOrder (own itsi gs)
 in_order itsi [] h = refl
 in_order itsi (g ∷ gs) h = both _ _ (below_pairs itsi g.0 gs (left _ _ h)) (in_order itsi gs (right (below_all nat_cmp g.0 gs) _ h))
 

@@ -24,3 +24,8 @@ pub mod Slots
 pub mod Images
 pub mod Fits
 pub mod InTurn
+pub mod Loaded
+pub mod Last
+pub mod Judged
+pub mod Filling
+pub mod PutRows

@@ -59,7 +59,7 @@ pub record Comes (h : Header) (s n : State) (rows : List Row) : Type 0 where
   pub room : n.mail.room ≡ s.mail.room
   pub rows_are : so_far h n ≡ so_far h s ++ rows
 
-each_push : {A B : Type 0} (f : A → B) (xs : List A) (y : A) → each f (xs ++ y ∷ []) ≡ each f xs ++ f y ∷ []
+pub each_push : {A B : Type 0} (f : A → B) (xs : List A) (y : A) → each f (xs ++ y ∷ []) ≡ each f xs ++ f y ∷ []
 each_push f [] y = refl
 each_push {A} {B} f (x ∷ xs) y = ap (λ (l : List B). f x ∷ l) (each_push f xs y)
 
@@ -119,7 +119,7 @@ rule_only h s prefix rule sound range may =
 
 -- ---- a radio's row
 
-no_attachment : {A : Type 0} (o : Option A) (r : Option Radio) → (IsSome o → IsSome r) → r ≡ None → o ≡ None
+pub no_attachment : {A : Type 0} (o : Option A) (r : Option Radio) → (IsSome o → IsSome r) → r ≡ None → o ≡ None
 no_attachment None r known none = refl
 no_attachment (Some x) None known none = let e : false ≡ true = known refl in absurd cc
 no_attachment (Some x) (Some y) known none = absurd cc

@@ -42,6 +42,10 @@ cleared_again bits none =
       room = after.room;
     }
 
+-- what a PDU is written as is of the same kind and reference
+pub still_known : (kind : Kind) (n : ℕ) (bits : List Bool) → is_head_of kind n (heading bits) ≡ true → is_head_of kind n (heading (cleared bits)) ≡ true
+still_known kind n bits known = ap (is_head_of kind n) (cleared_again bits (faultless kind n (fault bits) (head_value bits) known)).head ∙ known
+
 -- ---- what is read is a row
 
 is_row : (seen : Row) → RowAsRead seen → is_known seen ≡ true → IsRow (written seen)

@@ -14,3 +14,4 @@ pub mod Parts
 pub mod Slot
 pub mod Image
 pub mod InTurn
+pub mod Held

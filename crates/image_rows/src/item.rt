@@ -1,5 +1,7 @@
 // What waits, as it is read.
-ghost use Rattle.std.specs.Prelude.{◌≡◌, ◌≤◌, IfOk, option_map};
+ghost use Rattle.std.specs.Prelude.{◌≡◌, ◌≤◌, IfOk, option_map, true};
+ghost use Rattle.sds_tl.specs.Reading.{heading};
+ghost use Rattle.mailbox.specs.Kept.{is_head_of};
 ghost use Rattle.mailbox.specs.Values.{latest_deadline};
 ghost use Rattle.image_rows.specs.Rows.{MailRow};
 ghost use Rattle.image_rows.specs.RowReading.{settled};
@@ -74,6 +76,13 @@ impl<'a> ReadItem<'a> {
         ensures { result ≡ self.now.group }
     {
         self.seen.group
+    }
+
+    // What its fields keep, as a clause.
+    pub(crate) fn keep_known(&self)
+        ensures { is_head_of self.now.key.kind self.now.key.reference (heading self.now.pdu) ≡ true }
+    {
+        let _seen = self.seen.number;
     }
 
     // Its PDU, the reserved bits 0.

@@ -1,12 +1,16 @@
 //! A register as the rows of an image, one row a sector, and what rows stand for.
 #![tactic(auto)]
 
+mod attached;
 mod header;
 mod in_turn;
 mod item;
+mod judging;
 pub mod laws;
+mod loader;
 mod pdu;
 mod place;
+mod putting;
 mod reading;
 mod row_groups;
 pub mod row_laws;
@@ -17,6 +21,7 @@ mod writing;
 pub use header::Header;
 pub use in_turn::{row_after, rows};
 pub use item::ReadItem;
+pub use loader::Loader;
 pub use place::RowPlace;
 pub use reading::{ReadRow, read_row};
 pub use row_groups::PackedGroups;

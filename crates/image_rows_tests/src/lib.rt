@@ -5,7 +5,13 @@
 #[cfg(test)]
 mod changed;
 #[cfg(test)]
+mod growth;
+#[cfg(test)]
 mod heaps;
+#[cfg(test)]
+mod loaded;
+#[cfg(test)]
+mod refused;
 #[cfg(test)]
 mod rows;
 #[cfg(test)]

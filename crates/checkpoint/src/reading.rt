@@ -1,0 +1,115 @@
+// The register of a side's slot, read back.
+ghost use Rattle.std.specs.Prelude.{◌≡◌, ◌<◌, ◌≤◌, ◌++◌, ◌∷◌, [], ℕ, IfOk, IfSome, IsErrOf, IsSome, None, OnOk, Some};
+ghost use Rattle.sector_disk.specs.Disk.{HasFailed, sector};
+ghost use Rattle.sector_disk.specs.Run.{HasLooked, HasMade};
+ghost use Rattle.sector_disk.specs.declared.record.Call.TheVariants.{Read};
+ghost use Rattle.image_rows.specs.Loading.{begun, finished};
+ghost use Rattle.image_rows.specs.Held.{taken_from};
+ghost use Rattle.checkpoint.specs.declared.read_fault.ReadFault.TheVariants.{Damaged, DiskFault, NoMemory};
+ghost use Rattle.checkpoint.specs.Layout.{disk_size, slot_at, slot_size};
+ghost use Rattle.checkpoint.specs.Standing.{IsInSlot};
+ghost use Rattle.checkpoint.specs.Reading.{IsBadSector, IsGoodSoFar, image_looks, looks};
+
+use crate::{Layout, ReadFault, Side};
+use centre_core::Register;
+use image_rows::Loader;
+use sector_disk::Disk;
+use std::alloc::Allocator;
+
+// Takes the row in a sector.
+fn take_row<A: Allocator + Clone, D: Disk>(
+    disk: &mut D,
+    at: u64,
+    loader: &mut Loader<A>,
+) -> Result<(), ReadFault>
+    requires inside { at < (D.view disk.old).sectors }
+    ensures taken { OnOk result ((D.view disk.old).honest → taken_from loader.old (sector (D.view disk.old).reads at) ≡ Some loader.new) }
+    ensures damaged { (s : ℕ) → IsErrOf result (Damaged s) → (s ≡ at) × ((D.view disk.old).honest → taken_from loader.old (sector (D.view disk.old).reads at) ≡ None) }
+    ensures memory { IsErrOf result NoMemory → ((D.view disk.new).calls ≡ (D.view disk.old).calls ++ Read at ∷ []) × ((D.view disk.old).honest → IsSome (taken_from loader.old (sector (D.view disk.old).reads at))) }
+    ensures looked { (D.view disk.old).honest → HasLooked (D.view disk.old) (D.view disk.new) }
+    ensures calls { OnOk result ((D.view disk.new).calls ≡ (D.view disk.old).calls ++ Read at ∷ []) }
+    ensures some_calls { HasMade (D.view disk.old) (D.view disk.new) (Read at ∷ []) }
+    ensures fault { IsErrOf result DiskFault → HasFailed (D.view disk.old) (D.view disk.new) }
+    ensures sectors { (D.view disk.new).sectors ≡ (D.view disk.old).sectors }
+    ensures later { (D.view disk.old).failures ≤ (D.view disk.new).failures }
+{
+    let mut row = [0; 512];
+    disk.read(at, &mut row)?;
+    if !loader.take(&row)? {
+        return Err(ReadFault::Damaged(at));
+    }
+    Ok(())
+}
+
+// Takes the rows of a slot, up to the last one of its image.
+fn take_rows<A: Allocator + Clone, D: Disk>(
+    disk: &mut D,
+    layout: &Layout,
+    side: Side,
+    loader: &mut Loader<A>,
+) -> Result<(), ReadFault>
+    requires room { disk_size layout.now ≤ (D.view disk.old).sectors }
+    requires begun { loader.old ≡ begun layout.now.limits }
+    ensures whole { OnOk result (IsSome (finished loader.new)) }
+    ensures exact { OnOk result ((D.view disk.old).honest → IfSome (finished loader.new) (λ image. IsInSlot layout.now side image (D.view disk.old).reads)) }
+    ensures damaged { (at : ℕ) → IsErrOf result (Damaged at) → (D.view disk.old).honest → IsBadSector layout.now side at (D.view disk.old).reads }
+    ensures memory { IsErrOf result NoMemory → (D.view disk.old).honest → IsGoodSoFar layout.now side (D.view disk.old) (D.view disk.new) }
+    ensures looked { (D.view disk.old).honest → HasLooked (D.view disk.old) (D.view disk.new) }
+    ensures calls { OnOk result ((D.view disk.old).honest → IfSome (finished loader.new) (λ image. (D.view disk.new).calls ≡ (D.view disk.old).calls ++ image_looks (slot_at layout.now side) image)) }
+    ensures some_calls { HasMade (D.view disk.old) (D.view disk.new) (looks (slot_at layout.now side) (slot_size layout.now)) }
+    ensures fault { IsErrOf result DiskFault → HasFailed (D.view disk.old) (D.view disk.new) }
+    ensures sectors { (D.view disk.new).sectors ≡ (D.view disk.old).sectors }
+    ensures later { (D.view disk.old).failures ≤ (D.view disk.new).failures }
+{
+    let first = layout.slot(side);
+    let sectors = layout.slot_len();
+    let mut read = 0;
+    while !loader.is_whole() {
+        if read == sectors {
+            return Err(ReadFault::Damaged(first + read));
+        }
+        take_row(disk, first + read, loader)?;
+        read += 1;
+    }
+    Ok(())
+}
+
+/// Reads the image of a register back from the slot of a side: its epoch, 1 to 2 to the 62nd, and the register, under
+/// the layout's limits. Its sectors are read one after another, up to its last one, and held one at a time.
+///
+/// `Damaged` names the sector of the disk that is the first one of the slot with no row, or with one that can't come
+/// there. `NoMemory` comes before any such sector was read. Nothing is written, and what was read is let go.
+pub fn read_image<A: Allocator + Clone, D: Disk>(
+    disk: &mut D,
+    layout: &Layout,
+    side: Side,
+    alloc: A,
+) -> Result<(u64, Register<A>), ReadFault>
+    requires room { disk_size layout.now ≤ (D.view disk.old).sectors }
+
+    // What is answered is the image in the slot, and the sector that is told is its first bad one.
+    ensures exact { IfOk result (λ image. (D.view disk.old).honest → IsInSlot layout.now side image (D.view disk.old).reads) }
+    ensures damaged { (at : ℕ) → IsErrOf result (Damaged at) → (D.view disk.old).honest → IsBadSector layout.now side at (D.view disk.old).reads }
+
+    // Want of memory hides no damage: all that was read is good.
+    ensures memory { IsErrOf result NoMemory → (D.view disk.old).honest → IsGoodSoFar layout.now side (D.view disk.old) (D.view disk.new) }
+
+    // It only reads, the sectors of the slot from the first on, each once; at `Ok` just those of the image.
+    ensures looked { (D.view disk.old).honest → HasLooked (D.view disk.old) (D.view disk.new) }
+    ensures calls { IfOk result (λ image. (D.view disk.old).honest → (D.view disk.new).calls ≡ (D.view disk.old).calls ++ image_looks (slot_at layout.now side) image) }
+    ensures some_calls { HasMade (D.view disk.old) (D.view disk.new) (looks (slot_at layout.now side) (slot_size layout.now)) }
+
+    // It does not give up by itself.
+    ensures fault { IsErrOf result DiskFault → HasFailed (D.view disk.old) (D.view disk.new) }
+    ensures sectors { (D.view disk.new).sectors ≡ (D.view disk.old).sectors }
+    ensures later { (D.view disk.old).failures ≤ (D.view disk.new).failures }
+{
+    let mut loader = Loader::new(alloc, layout.limits())?;
+    match take_rows(disk, layout, side, &mut loader) {
+        Ok(()) => Ok(loader.finish().unwrap()),
+        Err(fault) => {
+            drop(loader);
+            Err(fault)
+        }
+    }
+}

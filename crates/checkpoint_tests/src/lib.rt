@@ -1,0 +1,13 @@
+//! Tests of the public calls of `checkpoint`, on a disk in memory.
+#![tactic(auto)]
+
+#[cfg(test)]
+mod failing;
+#[cfg(test)]
+mod made;
+#[cfg(test)]
+mod places;
+#[cfg(test)]
+mod read;
+#[cfg(test)]
+mod written;

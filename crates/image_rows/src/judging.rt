@@ -1,0 +1,195 @@
+// Whether a row may come next. No call takes memory.
+ghost use Rattle.std.specs.Prelude.{◌≡◌, ◌<◌, ◌&&◌, Bool, List, None, Option, Some, count_by, length, nat_lt, not, ℕ};
+ghost use Rattle.std.specs.List.{list_all};
+ghost use Rattle.std.specs.Ordering.{is_lt};
+ghost use Rattle.std.specs.Option.{is_some};
+ghost use Rattle.std.specs.FinMap as map;
+ghost use Rattle.identity.specs.Path.{id_path};
+ghost use Rattle.prefix_tree.specs.Next.{next_entry};
+ghost use Rattle.mailbox.specs.Mail.{holds};
+ghost use Rattle.mailbox.specs.Order.{named, named_cmp};
+ghost use Rattle.mailbox.specs.Refusals.{most_for_one};
+ghost use Rattle.mailbox.specs.Tests.{is_to};
+ghost use Rattle.image_rows.specs.Rows.{how_many};
+ghost use Rattle.image_rows.specs.Loading.{all_done, are_free, header_may, is_next, is_numbered, mail_done, mail_may, radios_done, rule_may, rules_done, served_may};
+ghost use Rattle.image_rows.specs.Held.{IsHeld, before_place, place_may};
+
+use crate::Header;
+use crate::item::ReadItem;
+use centre_core::{LastAccepted, Parts};
+use identity::{Itsi, Prefix};
+use mailbox::{Key, Mail};
+use registration::{Limits, Radio, Registry};
+use std::alloc::Allocator;
+
+/// The greatest number of an accepted command, 2 to the 62nd.
+const LAST_NUMBER: u64 = 1 << 62;
+
+/// Whether no more rows come than the limits allow, nor were more commands accepted than have numbers.
+pub fn header_may(limits: &Limits, header: &Header) -> bool
+    ensures { result ≡ header_may limits.now header.now }
+{
+    header.count <= LAST_NUMBER
+        && header.rules <= limits.rules
+        && header.radios <= limits.radios
+        && header.mail <= limits.mail
+        && header.served <= limits.stations
+}
+
+fn rules_done<A: Allocator + Clone>(header: &Header, parts: &Parts<A>) -> bool
+    ensures { result ≡ rules_done header.now parts.now }
+{
+    parts.registry.rule_count() == header.rules
+}
+
+fn radios_done<A: Allocator + Clone>(header: &Header, parts: &Parts<A>) -> bool
+    ensures { result ≡ radios_done header.now parts.now }
+{
+    rules_done(header, parts) && parts.registry.radio_count() == header.radios
+}
+
+fn mail_done<A: Allocator + Clone>(header: &Header, parts: &Parts<A>) -> bool
+    ensures { result ≡ mail_done header.now parts.now }
+{
+    radios_done(header, parts) && parts.mail.len() == header.mail as usize
+}
+
+fn how_many<A: Allocator>(served: &[Option<LastAccepted<A>>]) -> usize
+    ensures { result ≡ how_many served.now }
+{
+    served.iter().filter(|last| last.is_some()).count()
+}
+
+/// Whether all rows came of which the header told.
+pub fn all_done<A: Allocator + Clone>(header: &Header, parts: &Parts<A>) -> bool
+    ensures { result ≡ all_done header.now parts.now }
+{
+    mail_done(header, parts) && how_many(&parts.served) == header.served as usize
+}
+
+fn is_numbered(count: u64, number: u64) -> bool
+    ensures { result ≡ is_numbered count number }
+{
+    0 < number && number <= count
+}
+
+// Whether a rule stands under the prefix, where none stands after it.
+fn has_rule<A: Allocator + Clone>(registry: &Registry<A>, prefix: &Prefix) -> bool
+    requires { next_entry registry.now.rules (Some prefix.now) ≡ None }
+    ensures { result ≡ is_some (map.get registry.now.rules prefix.now) }
+{
+    match registry.longest_rule(prefix.bits()) {
+        Some((longest, _)) => longest.same(prefix),
+        None => false,
+    }
+}
+
+fn is_next_rule<A: Allocator + Clone>(registry: &Registry<A>, prefix: &Prefix) -> bool
+    ensures { result ≡ is_next registry.now.rules prefix.now }
+{
+    registry.next_rule(Some(*prefix)).is_none() && !has_rule(registry, prefix)
+}
+
+fn is_next_radio<A: Allocator + Clone>(registry: &Registry<A>, itsi: Itsi) -> bool
+    ensures { result ≡ is_next registry.now.radios (id_path itsi) }
+{
+    registry.next_radio(Some(itsi)).is_none() && registry.where_is(itsi).is_none()
+}
+
+/// Whether a rule may come, under this prefix.
+pub fn rule_may<A: Allocator + Clone>(header: &Header, parts: &Parts<A>, prefix: &Prefix) -> bool
+    ensures { result ≡ rule_may header.now parts.now prefix.now }
+{
+    parts.registry.rule_count() < header.rules && is_next_rule(&parts.registry, prefix)
+}
+
+/// Whether a radio may come, its groups aside.
+pub fn place_may<A: Allocator + Clone>(
+    header: &Header,
+    parts: &Parts<A>,
+    itsi: Itsi,
+    radio: &Radio,
+) -> bool
+    ensures { result ≡ place_may header.now parts.now itsi radio.now }
+{
+    rules_done(header, parts)
+        && parts.registry.radio_count() < header.radios
+        && is_next_radio(&parts.registry, itsi)
+        && 0 < radio.station
+        && u32::from(radio.station) <= parts.registry.limits().stations
+}
+
+// Whether this number and key come after those of all that wait.
+fn comes_last<A: Allocator + Clone>(mail: &Mail<A>, item: &ReadItem<'_>) -> bool
+    ensures { result ≡ list_all (λ o. is_lt (named_cmp (named o) (named item.now))) mail.now.items }
+{
+    mail.is_next(item.number(), &item.key())
+}
+
+// Whether nothing waits at the key, and there is room for one item more for its destination.
+fn is_free<A: Allocator + Clone>(mail: &Mail<A>, key: &Key) -> bool
+    requires { length mail.now.items < mail.now.room }
+    ensures { result ≡ (not (holds mail.now key.now) && nat_lt (count_by (is_to key.now.destination) mail.now.items) most_for_one) }
+{
+    mail.restore_refusal(key).is_none()
+}
+
+// Whether an item of this number may come.
+fn number_may<A: Allocator + Clone>(header: &Header, parts: &Parts<A>, number: u64) -> bool
+    ensures { result ≡ (radios_done header.now parts.now && nat_lt (length parts.now.mail.items) header.now.mail && is_numbered parts.now.count number) }
+{
+    radios_done(header, parts)
+        && parts.mail.len() < header.mail as usize
+        && is_numbered(parts.count, number)
+}
+
+// Whether an item may come, but for its key and for room for its destination.
+fn before_place<A: Allocator + Clone>(
+    header: &Header,
+    parts: &Parts<A>,
+    item: &ReadItem<'_>,
+) -> bool
+    ensures { result ≡ before_place header.now parts.now item.now }
+{
+    number_may(header, parts, item.number()) && comes_last(&parts.mail, item)
+}
+
+/// Whether an item may come.
+pub fn mail_may<A: Allocator + Clone>(
+    header: &Header,
+    parts: &Parts<A>,
+    item: &ReadItem<'_>,
+) -> bool
+    requires { IsHeld header.now parts.now }
+    ensures { result ≡ mail_may header.now parts.now item.now }
+{
+    item.keep_known();
+    if !before_place(header, parts, item) {
+        return false;
+    }
+    is_free(&parts.mail, &item.key())
+}
+
+// Whether nothing is kept of these stations.
+fn are_free<A: Allocator>(served: &[Option<LastAccepted<A>>]) -> bool
+    ensures { result ≡ are_free served.now }
+{
+    served.iter().all(|last| last.is_none())
+}
+
+/// Whether what is kept of a station may come, of the command of this number.
+pub fn served_may<A: Allocator + Clone>(
+    header: &Header,
+    parts: &Parts<A>,
+    station: u16,
+    number: u64,
+) -> bool
+    ensures { (sequence : ℕ) (pdu : Option (List Bool)) → result ≡ served_may header.now parts.now station (record { sequence = sequence; number = number; pdu = pdu }) }
+{
+    mail_done(header, parts)
+        && how_many(&parts.served) < header.served as usize
+        && 0 < station
+        && usize::from(station) <= parts.served.len()
+        && are_free(&parts.served[usize::from(station) - 1..])
+        && is_numbered(parts.count, number)
+}
