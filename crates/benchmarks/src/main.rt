@@ -5,7 +5,6 @@
 
 mod filling;
 mod journal;
-mod reading;
 mod register;
 mod rows;
 mod writing;

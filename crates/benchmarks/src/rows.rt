@@ -1,6 +1,5 @@
 // The rows of registers walked and written, again and again, with how long each took.
 use crate::filling::is_filled;
-use crate::reading::{is_built, is_read};
 use crate::register::LIMITS;
 use crate::writing::{disk, is_written};
 use centre_core::Register;
@@ -25,8 +24,6 @@ struct Timed {
     bare: Duration,
     told: Duration,
     written: Duration,
-    built: Duration,
-    read: Duration,
 }
 
 // Copies a row to this place, where there is one. The next place.
@@ -114,22 +111,7 @@ fn told(register: &Register<Global>, list: &mut [[u8; 512]]) -> usize {
     at
 }
 
-// How long it took to build the tables by their own calls, and to read the image.
-fn taken(
-    rt: &HostRuntime,
-    register: &Register<Global>,
-    disk: &mut MemoryDisk<Global>,
-) -> Option<(Duration, Duration)> {
-    let start = Instant::now(rt).ok()?;
-    let is_done = is_built(register, rt.alloc());
-    let built = start.elapsed(rt).ok()?;
-    let start = Instant::now(rt).ok()?;
-    let is_again = is_read(disk, register, rt.alloc());
-    let read = start.elapsed(rt).ok()?;
-    (is_done && is_again).then_some((built, read))
-}
-
-// Walks, writes, builds and reads once.
+// Walks and writes once.
 fn round(
     rt: &HostRuntime,
     register: &Register<Global>,
@@ -145,14 +127,11 @@ fn round(
     let start = Instant::now(rt).ok()?;
     let is_done = is_written(disk, register);
     let written = start.elapsed(rt).ok()?;
-    let (built, read) = taken(rt, register, disk)?;
     (is_done && again == rows).then_some(Timed {
         rows,
         bare,
         told,
         written,
-        built,
-        read,
     })
 }
 
@@ -169,12 +148,7 @@ fn rounds(
         let one = round(rt, register, list, &mut disk)?;
         let (bare, told) = (one.bare.as_nanos(), one.told.as_nanos());
         let written = one.written.as_nanos();
-        let (built, read) = (one.built.as_nanos(), one.read.as_nanos());
-        println!(rt;
-            "{radios} {} {bare} {told} {written} {built} {read}",
-            one.rows
-        )
-        .ok()?;
+        println!(rt; "{radios} {} {bare} {told} {written}", one.rows).ok()?;
     }
     Some(())
 }

@@ -7,8 +7,8 @@ use std::alloc::Global;
 // The sectors of a disk for a register at its greatest limits, with halves of 38.
 const SECTORS: usize = 270_545;
 
-// More calls than writing an image and reading it take.
-const CALLS: usize = 280_000;
+// More calls than writing an image takes.
+const CALLS: usize = 140_000;
 
 // A disk of zeros.
 pub(crate) fn disk(alloc: Global) -> Option<MemoryDisk<Global>> {
