@@ -1,22 +1,24 @@
 //! What the benchmarks run: with no word behind its name it answers lines over a large register, for `bench/large` and
-//! `bench/groups`, and with one it times the journal, for `bench/journal`.
+//! `bench/groups`, with one it times the journal, for `bench/journal`, and with more the rows of registers, for
+//! `bench/rows`.
 #![tactic(auto)]
 
+mod filling;
 mod journal;
 mod register;
+mod rows;
+mod writing;
 
 use std::env;
 use std::process::ExitCode;
 
 fn main(rt: HostRuntime) -> ExitCode {
     match env::args(&rt) {
-        Ok(words) => {
-            if words.count() <= 1 {
-                ExitCode::from(register::serve(&rt))
-            } else {
-                ExitCode::from(journal::tell(&rt))
-            }
-        }
+        Ok(words) => match words.count() {
+            0 | 1 => ExitCode::from(register::serve(&rt)),
+            2 => ExitCode::from(journal::tell(&rt)),
+            _ => ExitCode::from(rows::tell(&rt)),
+        },
         Err(_) => ExitCode::from(5),
     }
 }

@@ -5,7 +5,7 @@ use registration::Limits;
 use std::io;
 
 // The greatest limits of a register.
-const LIMITS: Limits = Limits {
+pub(crate) const LIMITS: Limits = Limits {
     rules: 4096,
     radios: 65_536,
     mail: 65_536,
