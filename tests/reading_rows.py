@@ -95,10 +95,14 @@ def radio_in(fields):
     return Radio(itsi, (station, area, present), tuple(group_in(fields) for _ in range(fields.number(1))))
 
 
+def mail_kind_in(fields):
+    return KINDS[fields.number(1, most=1)]
+
+
 def mail_in(fields, is_copy=False):
     number, deadline = fields.number(8), fields.number(8, most=LATEST)
     destination, source, reference = fields.identity(), fields.identity(), fields.number(1)
-    kind, told = KINDS[fields.number(1, most=1)]
+    kind, told = mail_kind_in(fields)
     group = fields.identity() if is_copy else None
     try:
         pdu = read_sds(fields.string())

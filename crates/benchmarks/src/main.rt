@@ -3,10 +3,13 @@
 //! `bench/rows`.
 #![tactic(auto)]
 
+mod building;
 mod filling;
 mod journal;
+mod reading;
 mod register;
 mod rows;
+mod walking;
 mod writing;
 
 use std::env;

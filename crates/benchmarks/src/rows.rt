@@ -1,12 +1,10 @@
-// The rows of registers walked and written, again and again, with how long each took.
+// The rows of registers walked, written, built again and read, again and again, with how long each took.
 use crate::filling::is_filled;
+use crate::reading::{built, read};
 use crate::register::LIMITS;
+use crate::walking::{MOST, bare, told};
 use crate::writing::{disk, is_written};
 use centre_core::Register;
-use group_attach::Groups;
-use image_rows::row_after;
-use mailbox::Mail;
-use registration::Registry;
 use sector_disk::MemoryDisk;
 use std::alloc::Global;
 use std::time::{Duration, Instant};
@@ -14,110 +12,30 @@ use std::time::{Duration, Instant};
 // How often each is done.
 const ROUNDS: u32 = 5;
 
-// The most rows of an image.
-const MOST: usize = 135_233;
-
-// What was measured: how many rows there are, and the time of each way.
+// How many rows there are, and the time of each way that only goes through them.
 #[derive(Clone, Copy, Drop)]
-struct Timed {
+struct Walked {
     rows: usize,
     bare: Duration,
     told: Duration,
     written: Duration,
 }
 
-// Copies a row to this place, where there is one. The next place.
-fn put(list: &mut [[u8; 512]], at: usize, row: &[u8; 512]) -> usize {
-    match list.get_mut(at) {
-        Some(place) => {
-            place.copy_from_slice(row);
-            at.saturating_add(1)
-        }
-        None => at,
-    }
-}
-
-fn put_rules(registry: &Registry<Global>, list: &mut [[u8; 512]], first: usize) -> usize {
-    let mut at = first;
-    let mut last = None;
-    for _ in 0..registry.rule_count() {
-        let Some((prefix, _)) = registry.next_rule(last) else {
-            return at;
-        };
-        at = put(list, at, &[0x11; 512]);
-        last = Some(prefix);
-    }
-    at
-}
-
-fn put_radios(
-    registry: &Registry<Global>,
-    groups: &Groups<Global>,
-    list: &mut [[u8; 512]],
-    first: usize,
-) -> usize {
-    let mut at = first;
-    let mut last = None;
-    for _ in 0..registry.radio_count() {
-        let Some((itsi, _)) = registry.next_radio(last) else {
-            return at;
-        };
-        if !groups.attachments(itsi).is_empty() {
-            at = put(list, at, &[0x12; 512]);
-        }
-        last = Some(itsi);
-    }
-    at
-}
-
-fn put_items(mail: &Mail<Global>, list: &mut [[u8; 512]], first: usize) -> usize {
-    let mut at = first;
-    let mut last = None;
-    for _ in 0..mail.len() {
-        let Some(item) = mail.next(last) else {
-            return at;
-        };
-        at = put(list, at, &[0x13; 512]);
-        last = Some((item.number(), item.key()));
-    }
-    at
-}
-
-// The bare walk: goes through the tables by their next calls, and copies 512 bytes for each row. How many rows.
-fn bare(register: &Register<Global>, list: &mut [[u8; 512]]) -> usize {
-    let mut at = put(list, 0, &[0x10; 512]);
-    at = put_rules(register.registry(), list, at);
-    at = put_radios(register.registry(), register.groups(), list, at);
-    at = put_items(register.mail(), list, at);
-    for last in register.served() {
-        if last.is_some() {
-            at = put(list, at, &[0x14; 512]);
-        }
-    }
-    at
-}
-
-// All rows, each copied to the list. How many.
-fn told(register: &Register<Global>, list: &mut [[u8; 512]]) -> usize {
-    let mut at = 0;
-    let mut told = row_after(register, 1, None);
-    for _ in 0..MOST {
-        let Some(next) = &told else {
-            return at;
-        };
-        at = put(list, at, &next.1);
-        told = row_after(register, 1, Some(next.0));
-    }
-    at
+// The time of each way that makes tables of them, and of the walk alone that building them takes.
+#[derive(Clone, Copy, Drop)]
+struct Made {
+    walked: Duration,
+    built: Duration,
+    read: Duration,
 }
 
 // Walks and writes once.
-fn round(
+fn walk(
     rt: &HostRuntime,
     register: &Register<Global>,
     list: &mut [[u8; 512]],
     disk: &mut MemoryDisk<Global>,
-) -> Option<Timed> {
+) -> Option<Walked> {
     let start = Instant::now(rt).ok()?;
     let rows = bare(register, list);
     let bare = start.elapsed(rt).ok()?;
@@ -127,7 +45,7 @@ fn round(
     let start = Instant::now(rt).ok()?;
     let is_done = is_written(disk, register);
     let written = start.elapsed(rt).ok()?;
-    (is_done && again == rows).then_some(Timed {
+    (is_done && again == rows).then_some(Walked {
         rows,
         bare,
         told,
@@ -135,7 +53,39 @@ fn round(
     })
 }
 
-// Tells radios, rows, and nanoseconds of each way, a line a round.
+// Goes through so many rows, builds the tables and reads the image once.
+fn make(
+    rt: &HostRuntime,
+    register: &Register<Global>,
+    disk: &mut MemoryDisk<Global>,
+    rows: usize,
+) -> Option<Made> {
+    let start = Instant::now(rt).ok()?;
+    let again = bare(register, &mut []);
+    let walked = start.elapsed(rt).ok()?;
+    let built = built(rt, register)?;
+    let read = read(rt, disk, register.count())?;
+    (again == rows).then_some(Made {
+        walked,
+        built,
+        read,
+    })
+}
+
+// A line with the radios, the rows, and the nanoseconds of each way.
+fn tell_round(rt: &HostRuntime, radios: u32, one: &Walked, other: &Made) -> Option<()> {
+    let (bare, told) = (one.bare.as_nanos(), one.told.as_nanos());
+    let written = one.written.as_nanos();
+    let (walked, built) = (other.walked.as_nanos(), other.built.as_nanos());
+    let read = other.read.as_nanos();
+    println!(rt;
+        "{radios} {} {bare} {told} {written} {walked} {built} {read}",
+        one.rows
+    )
+    .ok()
+}
+
+// Tells a line a round. The disk forgets its calls before each way that calls it.
 fn rounds(
     rt: &HostRuntime,
     register: &Register<Global>,
@@ -145,10 +95,10 @@ fn rounds(
     let mut disk = disk(rt.alloc())?;
     for _ in 0..ROUNDS {
         disk = disk.crash(&[]);
-        let one = round(rt, register, list, &mut disk)?;
-        let (bare, told) = (one.bare.as_nanos(), one.told.as_nanos());
-        let written = one.written.as_nanos();
-        println!(rt; "{radios} {} {bare} {told} {written}", one.rows).ok()?;
+        let one = walk(rt, register, list, &mut disk)?;
+        disk = disk.crash(&[]);
+        let other = make(rt, register, &mut disk, one.rows)?;
+        tell_round(rt, radios, &one, &other)?;
     }
     Some(())
 }

@@ -7,10 +7,12 @@ use Rattle.std.proofs.lemmas.List.Elements.{All-nil, All-push}
 use Rattle.std.proofs.lemmas.List.{length-append}
 use Rattle.sector_disk.specs.Disk.{IsSector, sector}
 use Rattle.registration.specs.declared.limits.Limits.{Limits}
-use Rattle.image_rows.specs.Rows.{Row, RowInRange, rows_of}
+use Rattle.centre_core.specs.State.{State}
+use Rattle.image_rows.specs.Rows.{Row, HeaderRow, RuleRow, RadioRow, MailRow, ServedRow, Header, RowInRange, rows_of}
 use Rattle.image_rows.specs.RowReading.{row_in}
-use Rattle.image_rows.specs.Loading.{◌>>=◌, Loading, all_taken, begun, finished, row_taken, stood_for}
+use Rattle.image_rows.specs.Loading.{◌>>=◌, Loading, all_done, all_taken, begin, begun, finished, finished_by, header_may, mail_may, put, radio_may, row_taken, rule_may, served_may, stood_for, take_by, taken_mail, taken_radio, taken_rule, taken_served}
 use Rattle.image_rows.specs.Slot.{or_later, read_from, with_row}
+use Rattle.command_bytes.proofs.Steps.{some_where}
 use Rattle.image_rows.proofs.Exactly.{bind_some, some_is, stood_only}
 use Rattle.image_rows.proofs.Rules.{all_taken-append}
 use Rattle.image_rows.proofs.Settled.{row_is_spelt}
@@ -170,6 +172,40 @@ one_taken limits k l n bytes is e has =
       in_range = All-push RowInRange has.rows row has.in_range spelt.0.range;
       taken = all_taken-append (begun limits) has.rows (row ∷ []) ∙ ap (λ r. r >>= λ m. all_taken m (row ∷ [])) has.taken ∙ ap (λ r. r >>= λ m. all_taken m []) found.2;
     }
+
+-- no row changes the limits
+put_limits : (h : Header) (s n : State) (row : Row) → put h s row ≡ Some n → n.registered.limits ≡ s.registered.limits
+put_limits h s n (HeaderRow again) e = absurd cc
+put_limits h s n (RuleRow prefix rule) e = let is = some_where (rule_may h s prefix) (Some (taken_rule s prefix rule)) n e in ap (λ (t : State). t.registered.limits) (sym (some_is _ n is.1))
+put_limits h s n (RadioRow itsi radio groups) e = let is = some_where (radio_may h s itsi radio groups) (Some (taken_radio s itsi radio groups)) n e in ap (λ (t : State). t.registered.limits) (sym (some_is _ n is.1))
+put_limits h s n (MailRow w) e = let is = some_where (mail_may h s w) (Some (taken_mail s w)) n e in ap (λ (t : State). t.registered.limits) (sym (some_is _ n is.1))
+put_limits h s n (ServedRow station last) e = let is = some_where (served_may h s station last) (Some (taken_served s station last)) n e in ap (λ (t : State). t.registered.limits) (sym (some_is _ n is.1))
+
+begin_limits : (s : State) (n : Loading) (row : Row) → begin s row ≡ Some n → n.state.registered.limits ≡ s.registered.limits
+begin_limits s n (HeaderRow h) e = let is = some_where (header_may s.registered.limits h) (Some (record { header = Some h; state = record s { count = h.count } })) n e in ap (λ (l : Loading). l.state.registered.limits) (sym (some_is _ n is.1))
+begin_limits s n (RuleRow prefix rule) e = absurd cc
+begin_limits s n (RadioRow itsi radio groups) e = absurd cc
+begin_limits s n (MailRow w) e = absurd cc
+begin_limits s n (ServedRow station last) e = absurd cc
+
+row_limits : (header : Option Header) (s : State) (n : Loading) (row : Row) → take_by header s row ≡ Some n → n.state.registered.limits ≡ s.registered.limits
+row_limits None s n row e = begin_limits s n row e
+row_limits (Some h) s n row e =
+    let found = bind_some (put h s row) (λ t. Some (record { header = Some h; state = t })) n e in
+    ap (λ (l : Loading). l.state.registered.limits) (sym (some_is _ n found.2)) ∙ put_limits h s found.0 row found.1
+
+pub taken_limits : (l n : Loading) (bytes : List ℕ) → taken_from l bytes ≡ Some n → n.state.registered.limits ≡ l.state.registered.limits
+unfolding row_taken
+taken_limits l n bytes e = let found = bind_some (row_in bytes) (row_taken l) n e in row_limits l.header l.state n found.0 found.2
+
+-- nor does the end
+finished_state : (header : Option Header) (s : State) (image : Base) → finished_by header s ≡ Some image → image.1.registered.limits ≡ s.registered.limits
+finished_state None s image e = absurd cc
+finished_state (Some h) s image e = let is = some_where (all_done h s) (Some (h.epoch, s)) image e in ap (λ (b : Base). b.1.registered.limits) (sym (some_is (h.epoch, s) image is.1))
+
+pub whole_limits : (l : Loading) (image : Base) → finished l ≡ Some image → image.1.registered.limits ≡ l.state.registered.limits
+unfolding finished
+whole_limits l image e = finished_state l.header l.state image e
 
 -- once all rows came, they are those of the image
 pub all_came : (limits : Limits) (k : ℕ) (l : Loading) (image : Base) → finished l ≡ Some image → HasTaken limits k l → k ≡ length (rows_of image.0 image.1)

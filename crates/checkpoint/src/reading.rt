@@ -32,6 +32,7 @@ fn take_row<A: Allocator + Clone, D: Disk>(
     ensures fault { IsErrOf result DiskFault → HasFailed (D.view disk.old) (D.view disk.new) }
     ensures sectors { (D.view disk.new).sectors ≡ (D.view disk.old).sectors }
     ensures later { (D.view disk.old).failures ≤ (D.view disk.new).failures }
+    ensures limits { loader.new.state.registered.limits ≡ loader.old.state.registered.limits }
 {
     let mut row = [0; 512];
     disk.read(at, &mut row)?;
@@ -60,6 +61,7 @@ fn take_rows<A: Allocator + Clone, D: Disk>(
     ensures fault { IsErrOf result DiskFault → HasFailed (D.view disk.old) (D.view disk.new) }
     ensures sectors { (D.view disk.new).sectors ≡ (D.view disk.old).sectors }
     ensures later { (D.view disk.old).failures ≤ (D.view disk.new).failures }
+    ensures limits { loader.new.state.registered.limits ≡ layout.now.limits }
 {
     let first = layout.slot(side);
     let sectors = layout.slot_len();
@@ -90,6 +92,7 @@ pub fn read_image<A: Allocator + Clone, D: Disk>(
     // What is answered is the image in the slot, and the sector that is told is its first bad one.
     ensures exact { IfOk result (λ image. (D.view disk.old).honest → IsInSlot layout.now side image (D.view disk.old).reads) }
     ensures damaged { (at : ℕ) → IsErrOf result (Damaged at) → (D.view disk.old).honest → IsBadSector layout.now side at (D.view disk.old).reads }
+    ensures limits { IfOk result (λ image. image.1.registered.limits ≡ layout.now.limits) }
 
     // Want of memory hides no damage: all that was read is good.
     ensures memory { IsErrOf result NoMemory → (D.view disk.old).honest → IsGoodSoFar layout.now side (D.view disk.old) (D.view disk.new) }

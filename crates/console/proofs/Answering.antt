@@ -9,11 +9,12 @@ use Rattle.console.specs.declared.answer.Answer.{Answer}
 use Rattle.console.specs.declared.answer.Answer.TheVariants as answer
 use Rattle.console.specs.declared.running.RunFault.{RunFault}
 use Rattle.console.specs.declared.running.RunFault.TheVariants.{Read, NoMemory}
-use Rattle.console.specs.declared.desk.Service.TheVariants.{Memory}
+use Rattle.desk.specs.declared.service.Service.TheVariants.{Memory}
 use Rattle.console.specs.Answer.{is_list, tells_list, IsOneLine, IsLine, HasNoLongPdu}
 use Rattle.console.specs.Reading.{reading}
 use Rattle.console.specs.Hand.{StandsIn}
-use Rattle.console.specs.Dialogue.{Rules, AnswersReading, Answers, Stops, GivesLongPdu}
+use Rattle.desk.specs.Rules.{Rules}
+use Rattle.console.specs.Dialogue.{AnswersReading, Answers, Stops, GivesLongPdu}
 
 one_line : {B : Type 0} (t : Told B) → is_list t ≡ false → IsOneLine t
 one_line (told.Whereabouts itsi radio) other = tt

@@ -7,7 +7,8 @@ use Rattle.std.specs.Str.Lines.{lines, strip_carriage_return}
 use Rattle.console.specs.declared.progress.Progress.{Progress}
 use Rattle.console.specs.declared.answer.Answer.{Answer}
 use Rattle.console.specs.Answer.{text, texts, is_trouble}
-use Rattle.console.specs.Dialogue.{Rules, Answers, Dialogue, RunsWell, RunsShort}
+use Rattle.desk.specs.Rules.{Rules}
+use Rattle.console.specs.Dialogue.{Answers, Dialogue, RunsWell, RunsShort}
 use Rattle.console.specs.Feed.{IsGoing}
 use Rattle.console.specs.Hand.{HasNoEnd, Holds}
 use Rattle.console.proofs.Lines.{is_feed, lines_step, lines_last}

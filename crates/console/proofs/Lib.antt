@@ -10,3 +10,4 @@ pub mod Spelled
 pub mod Taken
 pub mod Judged
 pub mod Runs
+pub mod Stored

@@ -2,7 +2,7 @@
 use Rattle.std.proofs.Common.{◌≡◌, ℕ, List, Option, Result, IfOk, OnErr, subst}
 use Rattle.console.specs.declared.running.Ran.{Ran}
 use Rattle.console.specs.declared.running.RunFault.{RunFault}
-use Rattle.console.specs.Dialogue.{Rules}
+use Rattle.desk.specs.Rules.{Rules}
 use Rattle.console.specs.Runs.{AnswersAll, AnswersSome}
 
 module _ (A : Type 0) {W : Type 0} (rules : Rules W) (station : ℕ) (s t : W) {given given' held held' now now' : Option (List ℕ)} (r : Result Ran RunFault) where

@@ -6,7 +6,8 @@ use Rattle.std.proofs.lemmas.List.Folds.{list_any-append}
 use Rattle.std.specs.List.{list_any}
 use Rattle.console.specs.declared.answer.Answer.{Answer}
 use Rattle.console.specs.Answer.{text, texts, is_trouble}
-use Rattle.console.specs.Dialogue.{Rules, Answers, Dialogue}
+use Rattle.desk.specs.Rules.{Rules}
+use Rattle.console.specs.Dialogue.{Answers, Dialogue}
 
 or_false : (b : Bool) → (b || false) ≡ b
 or_false true = refl

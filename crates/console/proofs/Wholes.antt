@@ -16,13 +16,14 @@ use Rattle.console.specs.declared.answer.Answer.{Answer}
 use Rattle.console.specs.declared.answer.Answer.TheVariants as answer
 use Rattle.console.specs.Answer.{text, texts, is_trouble, is_service}
 use Rattle.console.specs.Reading.{reading}
-use Rattle.console.specs.Dialogue.{of_register, AnswersReading, AnswersOrder, AnswersQuery, Answers, Dialogue, CutOffIsFront, OneText}
+use Rattle.desk.specs.OfRegister.{of_register}
+use Rattle.console.specs.Dialogue.{AnswersReading, AnswersOrder, AnswersQuery, Answers, Dialogue, CutOffIsFront, OneText}
 
-or_left : (a b : Bool) → (a || b) ≡ false → a ≡ false
+pub or_left : (a b : Bool) → (a || b) ≡ false → a ≡ false
 or_left true b h = h
 or_left false b h = refl
 
-or_right : (a b : Bool) → (a || b) ≡ false → b ≡ false
+pub or_right : (a b : Bool) → (a || b) ≡ false → b ≡ false
 or_right true b h = absurd (true≢false h)
 or_right false b h = h
 

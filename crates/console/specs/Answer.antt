@@ -19,7 +19,8 @@ use Rattle.centre_core.specs.declared.query.Told.TheVariants as told
 use Rattle.console.specs.declared.answer.Answer.{Answer}
 use Rattle.console.specs.declared.answer.Answer.TheVariants as answer
 use Rattle.centre_core.specs.Ranges.{IsShort, most_bits}
-use Rattle.console.specs.Words.{line_word, service_word, mm_word, registration_word, group_word, sds_word, mail_word, kind_word}
+use Rattle.desk.specs.Words.{service_word}
+use Rattle.console.specs.Words.{line_word, mm_word, registration_word, group_word, sds_word, mail_word, kind_word}
 
 -- the PDU for the radio, if there is one
 abbrev pub pdu_text : Option (List Bool) → List ℕ

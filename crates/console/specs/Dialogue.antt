@@ -1,18 +1,17 @@
 -- Which answers may be given to which lines. A is the allocator that the bits of commands and replies
 -- lie under: nothing depends on it.
-use Rattle.std.specs.Prelude.{◌≡◌, ◌⊎◌, ℕ, ◌+◌, ◌≤◌, Bool, true, false, List, [], ◌∷◌, ◌++◌, length, Option, Some, Result, Ok, Err, IsTrue}
+use Rattle.std.specs.Prelude.{◌≡◌, ◌⊎◌, ℕ, ◌+◌, ◌≤◌, Bool, true, false, List, [], ◌∷◌, ◌++◌, length, Option, Some, Ok, Err}
 use Rattle.std.specs.List.{list_any}
 use Rattle.std.specs.Str.Lines.{lines}
 use Rattle.centre_core.specs.State.{State}
-use Rattle.centre_core.specs.Step.{step}
-use Rattle.centre_core.specs.Memory.{needs_memory}
-use Rattle.centre_core.specs.Tell.{tell, AsksForList}
 use Rattle.centre_core.specs.declared.command.Command.{Command}
 use Rattle.centre_core.specs.declared.reply.Reply.{Reply}
 use Rattle.centre_core.specs.declared.query.Query.{Query}
 use Rattle.centre_core.specs.declared.query.Told.{Told}
-use Rattle.console.specs.declared.desk.Service.{Service}
-use Rattle.console.specs.declared.desk.Service.TheVariants.{Memory}
+use Rattle.desk.specs.declared.service.Service.{Service}
+use Rattle.desk.specs.declared.service.Service.TheVariants.{Memory}
+use Rattle.desk.specs.Rules.{Rules}
+use Rattle.desk.specs.OfRegister.{of_register}
 use Rattle.console.specs.declared.running.RunFault.{RunFault}
 use Rattle.console.specs.declared.running.RunFault.TheVariants.{Read, Write, NoMemory}
 use Rattle.console.specs.declared.line.Line.{Line}
@@ -21,24 +20,6 @@ use Rattle.console.specs.declared.answer.Answer.{Answer}
 use Rattle.console.specs.declared.answer.Answer.TheVariants as answer
 use Rattle.console.specs.Reading.{reading, HasPdu}
 use Rattle.console.specs.Answer.{texts, is_trouble, is_service, is_list, HasShortPdu}
-
--- what a kind of desk, which stands for values of W, may do at a command and at a query
-pub record Rules (W : Type 0) : Type 1 where
-  pub applies : {A B : Type 0} → W → Command A → Result (Reply B) Service → W → Type 0
-  pub tells : {B : Type 0} → W → Query → Result (Told B) Service → W → Type 0
-
--- the register does a command as step says, or for want of memory, which the command needs, does nothing; it has no other word
-abbrev pub Applies : {A B : Type 0} → State → Command A → Result (Reply B) Service → State → Type 0
-Applies s c (Ok reply) t = (t, reply) ≡ step s c
-Applies s c (Err word) t = (word ≡ Memory) × (t ≡ s) × IsTrue (needs_memory s c)
-
-abbrev pub Tells : {B : Type 0} → State → Query → Result (Told B) Service → State → Type 0
-Tells s q (Ok told) t = (t ≡ s) × (told ≡ tell s q)
-Tells s q (Err word) t = (word ≡ Memory) × (t ≡ s) × AsksForList q
-
--- a register that nobody else changes
-abbrev pub of_register : Rules State
-of_register = record { applies = Applies; tells = Tells }
 
 -- for the text of a list that the desk told there is no memory
 abbrev pub LacksText : (A : Type 0) {W : Type 0} → Rules W → W → Query → Service → W → Type 0

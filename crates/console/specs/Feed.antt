@@ -7,7 +7,8 @@ use Rattle.console.specs.declared.running.Piece.{Piece}
 use Rattle.console.specs.declared.running.Piece.TheVariants.{End, Bytes}
 use Rattle.console.specs.declared.answer.Answer.{Answer}
 use Rattle.console.specs.Answer.{texts, is_trouble}
-use Rattle.console.specs.Dialogue.{Rules, Dialogue}
+use Rattle.desk.specs.Rules.{Rules}
+use Rattle.console.specs.Dialogue.{Dialogue}
 use Rattle.console.specs.Hand.{HasNoEnd, Holds}
 
 -- these bytes were taken: some whole lines, which are answered, and the front of one more

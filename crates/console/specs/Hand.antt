@@ -3,7 +3,7 @@ use Rattle.std.specs.Prelude.{◌≡◌, ◌⊎◌, ℕ, ◌<◌, ◌≤◌, Boo
 use Rattle.std.specs.Str.Lines.{strip_carriage_return}
 use Rattle.console.specs.declared.answer.Answer.{Answer}
 use Rattle.console.specs.declared.answer.Answer.TheVariants.{Untold}
-use Rattle.console.specs.declared.desk.Service.TheVariants.{Memory}
+use Rattle.desk.specs.declared.service.Service.TheVariants.{Memory}
 use Rattle.console.specs.Answer.{tells_list}
 use Rattle.console.specs.Reading.{Lacks}
 

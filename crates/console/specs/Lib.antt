@@ -8,3 +8,4 @@ pub mod Parts
 pub mod Hand
 pub mod Failures
 pub mod Runs
+pub mod Stored

@@ -1,7 +1,8 @@
 -- What a run over a reader and a writer does.
 use Rattle.std.specs.Prelude.{◌≡◌, ℕ, List, Option, Some}
+use Rattle.desk.specs.Rules.{Rules}
 use Rattle.console.specs.declared.running.Ran.{Ran}
-use Rattle.console.specs.Dialogue.{Rules, RunsWell, RunsShort}
+use Rattle.console.specs.Dialogue.{RunsWell, RunsShort}
 
 module _ (A : Type 0) {W : Type 0} (rules : Rules W) (station : ℕ) (s : W) (given held : Option (List ℕ)) where
   -- where the reader and the writer tell their bytes, every line is answered

@@ -12,8 +12,6 @@ use Rattle.mailbox.specs.declared.fault.MailFault.{MailFault}
 use Rattle.mailbox.specs.declared.fault.MailFault.TheVariants as mail
 use Rattle.mailbox.specs.declared.key.Kind.{Kind}
 use Rattle.mailbox.specs.declared.key.Kind.TheVariants as kind
-use Rattle.console.specs.declared.desk.Service.{Service}
-use Rattle.console.specs.declared.desk.Service.TheVariants as service
 use Rattle.console.specs.declared.line.LineFault.{LineFault}
 use Rattle.console.specs.declared.line.LineFault.TheVariants as line
 
@@ -22,10 +20,6 @@ abbrev pub line_word : LineFault → List ℕ
 line_word line.Syntax = codes "syntax"
 line_word line.Value = codes "value"
 line_word line.TooLong = codes "too-long"
-
--- of the service, behind "no"
-abbrev pub service_word : Service → List ℕ
-service_word service.Memory = codes "memory"
 
 -- a mobility management PDU that is none
 abbrev pub mm_word : MmFault → List ℕ

@@ -2,9 +2,9 @@ ghost use Rattle.std.specs.Prelude.{◌≡◌, ◌≤◌, ◌<◌, ◌+◌, ◌+
 ghost use Rattle.console.specs.Answer.{text, is_trouble, is_list, tells_list, IsLine, answer_room};
 
 use crate::answer_text::put_answer;
-use crate::desk::Service;
 use crate::line::LineFault;
 use centre_core::{Reply, Told};
+use desk::Service;
 use identity::put_whole;
 use std::alloc::{AllocError, Allocator};
 

@@ -10,7 +10,7 @@ ghost use Rattle.console.specs.Answer.{text, pdu_text, reply_text, refusal_text,
 use crate::answer::Answer;
 use crate::text_part::{Part, pdu_part, put_parts};
 use crate::words::{
-    group_word, kind_word, line_word, mail_word, mm_word, registration_word, sds_word, service_word,
+    group_word, kind_word, line_word, mail_word, mm_word, registration_word, sds_word,
 };
 use centre_core::{Refusal, Reply, Told};
 use group_attach::Attachment;
@@ -33,9 +33,9 @@ pub(crate) fn put_answer<A: Allocator, B: Allocator>(
         Answer::Quiet => Ok(()),
         Answer::Bad(line, fault) => put_of_line(out, *line, " bad ", line_word(*fault)),
         Answer::Replied(sequence, reply) => put_reply(out, *sequence, reply),
-        Answer::Unserved(sequence, word) => put_refused(out, *sequence, service_word(*word)),
+        Answer::Unserved(sequence, word) => put_refused(out, *sequence, word.word()),
         Answer::Told(told) => put_told(out, told),
-        Answer::Untold(line, word) => put_of_line(out, *line, " no ", service_word(*word)),
+        Answer::Untold(line, word) => put_of_line(out, *line, " no ", word.word()),
     }
 }
 

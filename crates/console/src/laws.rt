@@ -1,8 +1,9 @@
-//! What holds of all lines, and of all dialogues with a register. `A` is the allocator that the bits
+//! What holds of all lines, and of all dialogues with a register, in memory or on a disk. `A` is the allocator that the bits
 //! of commands and replies lie under: nothing depends on it.
 
 ghost use Rattle.console.specs.Dialogue.{CutOffIsFront, OneText};
 ghost use Rattle.console.specs.Spelling.{OnlyCommands, OnlyQueries, AllCommands, AllQueries, BadLines};
+ghost use Rattle.console.specs.Stored.{BrokenBehindDevice, StoredAsRegister};
 
 use std::alloc::Allocator;
 
@@ -14,6 +15,16 @@ pub fn cut_off_is_front<A: Allocator>()
 /// Without words of the service there is one text for the lines.
 pub fn one_text<A: Allocator>()
     ensures { OneText A }
+{}
+
+/// Once a register on a disk has said `device`, no later line is answered but by `broken`.
+pub fn broken_behind_device<A: Allocator>()
+    ensures { BrokenBehindDevice A }
+{}
+
+/// Without words of the service a register on a disk answers as it would in memory.
+pub fn stored_as_register<A: Allocator>()
+    ensures { StoredAsRegister A }
 {}
 
 /// A line is taken for a command or a query only where it spells it, with values in range.

@@ -7,7 +7,6 @@
 
 mod answer;
 mod answer_text;
-mod desk;
 mod input;
 pub mod laws;
 mod line;

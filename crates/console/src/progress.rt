@@ -5,8 +5,8 @@ ghost use Rattle.console.specs.Answer.{text, answer_room, HasNoLongPdu};
 ghost use Rattle.console.specs.Hand.{Holds, line_at_end, StandsFor, StandsIn};
 
 use crate::answer::{Answer, print_answer};
-use crate::desk::Service;
 use crate::running::RunFault;
+use desk::Service;
 use std::alloc::{AllocError, Allocator};
 
 /// The most bytes of a line that are kept: a line of 1,024 and a carriage return.

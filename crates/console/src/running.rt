@@ -4,11 +4,11 @@ ghost use Rattle.console.specs.Dialogue.{GivesLongPdu};
 ghost use Rattle.console.specs.Failures.{failures_told};
 ghost use Rattle.console.specs.Runs.{AnswersAll, AnswersSome};
 
-use crate::desk::Desk;
 use crate::input::Input;
 use crate::output::Output;
 use crate::progress::Progress;
 use crate::serving::{finish, take_piece};
+use desk::Desk;
 use prefix_tree::Steps;
 use std::alloc::Allocator;
 use std::io::{Read, Write};

@@ -8,11 +8,11 @@ ghost use Rattle.console.specs.Dialogue.{Answers, GivesLongPdu, Stops, RunsWell,
 ghost use Rattle.console.specs.declared.answer.Answer.{Answer};
 
 use crate::answer::Answer;
-use crate::desk::{Desk, Service};
 use crate::line::{Line, LineFault, read_line};
 use crate::output::Output;
 use crate::progress::{AnswerText, Progress};
 use crate::running::{Ran, RunFault, Terms};
+use desk::{Desk, Service};
 use memchr::memchr;
 use std::alloc::Allocator;
 use std::io::Write;

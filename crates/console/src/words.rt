@@ -1,8 +1,7 @@
 //! The words of the answers.
 ghost use Rattle.std.specs.Prelude.{◌≡◌, ◌≤◌, length};
-ghost use Rattle.console.specs.Words.{line_word, service_word, mm_word, registration_word, group_word, sds_word, mail_word, kind_word};
+ghost use Rattle.console.specs.Words.{line_word, mm_word, registration_word, group_word, sds_word, mail_word, kind_word};
 
-use crate::desk::Service;
 use crate::line::LineFault;
 use group_attach::GroupFault;
 use mailbox::{Kind, MailFault};
@@ -18,15 +17,6 @@ pub(crate) fn line_word(fault: LineFault) -> &'static str
         LineFault::Syntax => "syntax",
         LineFault::Value => "value",
         LineFault::TooLong => "too-long",
-    }
-}
-
-pub(crate) fn service_word(word: Service) -> &'static str
-    ensures text { result.now ≡ service_word word }
-    ensures short { length result.now ≤ 32 }
-{
-    match word {
-        Service::Memory => "memory",
     }
 }
 

@@ -44,6 +44,8 @@ fn answers_are_printed(rt: HostRuntime) -> Result<(), Fail> {
 fn laws_are_stated() {
     laws::cut_off_is_front::<Global>();
     laws::one_text::<Global>();
+    laws::broken_behind_device::<Global>();
+    laws::stored_as_register::<Global>();
     laws::only_what_is_spelled::<Global>();
     laws::all_that_is_spelled::<Global>();
 }

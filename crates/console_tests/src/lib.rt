@@ -10,6 +10,8 @@ mod copies;
 #[cfg(test)]
 mod devices;
 #[cfg(test)]
+mod failing_desk;
+#[cfg(test)]
 mod fixed_heap;
 #[cfg(test)]
 mod group_copies;

@@ -1,15 +1,15 @@
-//! Lines that are served one after the other, and what a register answers to them.
+//! Lines that are served one after the other, and what a desk answers to them.
 
-use centre_core::{Command, Register};
-use console::{Line, parse_line, run};
+use centre_core::Command;
+use console::{Desk, Line, parse_line, run};
 use std::alloc::{Allocator, Global};
 use std::test::Fail;
 
-/// What a register answers to these lines, where the run's own memory lies under `own`; nothing where the run failed.
-pub fn answers<A: Allocator + Clone, B: Allocator + Copy + Drop>(
+/// What a desk answers to these lines, where the run's own memory lies under `own`; nothing where the run failed.
+pub fn answers<B: Allocator + Copy + Drop, D: Desk>(
     alloc: Global,
     own: B,
-    desk: &mut Register<A>,
+    desk: &mut D,
     lines: &[u8],
 ) -> Option<Vec<u8>> {
     let mut out = Vec::new(alloc);
@@ -21,10 +21,10 @@ pub fn answers<A: Allocator + Clone, B: Allocator + Copy + Drop>(
 }
 
 /// Whether these are the answers.
-pub fn are_answered<A: Allocator + Clone, B: Allocator + Copy + Drop>(
+pub fn are_answered<B: Allocator + Copy + Drop, D: Desk>(
     alloc: Global,
     own: B,
-    desk: &mut Register<A>,
+    desk: &mut D,
     lines: &[u8],
     want: &[u8],
 ) -> bool {

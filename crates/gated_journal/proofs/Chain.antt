@@ -101,6 +101,27 @@ module _ {A : Type 0} where
   pub half_up : (image : List (List ℕ)) (at end : ℕ) (entries : List (Entry A)) (gate : ℕ) → half_of image at end ≡ Ok (entries, gate) → at ≤ gate
   half_up image at end entries gate e = goes_up (end - at) image at end entries gate e
 
+  -- the first closed gate lies within the half
+
+  stays_below : (fuel : ℕ) (image : List (List ℕ)) (at end : ℕ) (entries : List (Entry A)) (gate : ℕ) → at < end → half_from fuel image at end ≡ Ok (entries, gate) → gate < end
+  unfolding half_from
+  stays_below zero image at end entries gate within e = let same : at ≡ gate = (ok_parts [] entries at gate e).1 in omega (arith, same, within)
+  stays_below (suc fuel) image at end entries gate within e =
+      elim (record_at {A = A} image at end) as (λ r. record_at image at end ≡ r → half_on at r (λ next. half_from fuel image next end) ≡ Ok (entries, gate) → gate < end) [
+        | Err fault ↦ λ is f. absurd cc
+        | Ok o ↦ λ is f. on (λ next rest below. stays_below fuel image next end rest gate below) o is f
+      ] refl e
+    where
+      on : ((next : ℕ) (rest : List (Entry A)) → next < end → half_from fuel image next end ≡ Ok (rest, gate) → gate < end) → (o : Option (List (Asked A) × ℕ)) → record_at image at end ≡ Ok o
+          → half_on at (Ok o) (λ next. half_from fuel image next end) ≡ Ok (entries, gate) → gate < end
+      on go None is f = let same : at ≡ gate = (ok_parts [] entries at gate f).1 in omega (arith, same, within)
+      on go (Some x) is f =
+          let rest = front_is ((at + 1, x.0) ∷ []) (half_from fuel image x.1 end) entries gate f in
+          go x.1 rest.0 ((opened image at end x is).within) rest.1
+
+  pub half_below : (image : List (List ℕ)) (at end : ℕ) (entries : List (Entry A)) (gate : ℕ) → at < end → half_of image at end ≡ Ok (entries, gate) → gate < end
+  half_below image at end entries gate within e = stays_below (end - at) image at end entries gate within e
+
   -- a half's records hang on the sectors from its first gate to its last alone
   pub same_from : (fuel : ℕ) (old new : List (List ℕ)) (at end : ℕ) (entries : List (Entry A)) (gate : ℕ) → half_from fuel old at end ≡ Ok (entries, gate) → ((k : ℕ) → at ≤ k → k ≤ gate → sector new k ≡ sector old k)
       → half_from fuel new at end ≡ Ok (entries, gate)

@@ -1,5 +1,5 @@
 -- Commands that are given under another allocator: the same text.
-use Rattle.std.proofs.Common.{◌≡◌, ℕ, ◌+◌, ◌<◌, ◌≤◌, List, [], ◌∷◌, ◌++◌, length, take, get_or, refl, sym, ap, subst, ◌∙◌, append_assoc, arith}
+use Rattle.std.proofs.Common.{◌≡◌, ℕ, ◌+◌, ◌/◌, ◌<◌, ◌≤◌, List, [], ◌∷◌, ◌++◌, length, take, get_or, refl, sym, ap, subst, ◌∙◌, append_assoc, arith}
 use Rattle.std.specs.Borrow.{Bor}
 use Rattle.std.specs.List.{All, flat_map}
 use Rattle.std.proofs.lemmas.List.{flat_map_more, length-append, length-map, take_more}
@@ -13,7 +13,8 @@ use Rattle.centre_core.specs.Same.{body_under, under}
 use Rattle.command_bytes.specs.Fields.{big}
 use Rattle.command_bytes.specs.Text.{IsCommand, body_text, command_text, tag_of}
 use Rattle.command_bytes.proofs.Numbers.{length-big}
-use Rattle.gated_journal.specs.Record.{IsRecord, given, most_commands, packed_text, record_text}
+use Rattle.gated_journal.specs.Record.{IsRecord, data_size, given, most_commands, pack, packed_text, record_text}
+use Rattle.gated_journal.proofs.Written.{length-packed}
 
 pub head_length : (count size : ℕ) (head : List ℕ) → head ≡ big 2 count ++ big 4 size → length head ≡ 6
 head_length count size head is = ap length is ∙ omega (arith, length-append (big 2 count) (big 4 size), length-big 2 count, length-big 4 size)
@@ -79,6 +80,12 @@ module _ {B : Type 0} (A : Type 0) where
 
   given_count : (cs : List (Bor (Asked B))) → length (given A cs) ≡ length cs
   given_count cs = length-map cs (λ (c : Bor (Asked B)). under A c.now)
+
+  -- how many sectors its record takes
+  pub given_size : (cs : List (Bor (Asked B))) → data_size (record_text (given A cs)) ≡ (length (flat_map (λ c. command_text c.now) cs) + 517) / 512
+  given_size cs =
+      let bytes : length (flat_map command_text (given A cs)) ≡ length (flat_map (λ c. command_text c.now) cs) = ap length (given_bytes cs) in
+      omega (arith, bytes, length-packed (pack (given A cs)))
 
   -- a head and the commands' bytes behind it
   pub given_text : (cs : List (Bor (Asked B))) (count size : ℕ) (head all : List ℕ) → head ≡ big 2 count ++ big 4 size → count ≡ length cs → size ≡ length (flat_map (λ c. command_text c.now) cs)

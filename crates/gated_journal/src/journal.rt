@@ -1,5 +1,5 @@
 // A journal: a place on a disk, and a buffer for the records' bytes.
-ghost use Rattle.std.specs.Prelude.{◌≡◌, ◌<◌, ◌≤◌, ◌+◌, ◌*◌, ◌^◌, ◌-◌, ℕ, List, [], ◌∷◌, ◌++◌, Err, IfErr, IfOk, IsErrOf, OnErr, OnOk, length, map, vec_capacity, vec_len};
+ghost use Rattle.std.specs.Prelude.{◌≡◌, ◌<◌, ◌≤◌, ◌+◌, ◌*◌, ◌^◌, ◌-◌, ℕ, List, [], ◌∷◌, ◌++◌, Err, IfErr, IfOk, IsErrOf, OnErr, OnOk, length, map, nat_le, vec_capacity, vec_len};
 ghost use Rattle.std.specs.List.{All, flat_map};
 ghost use Rattle.command_bytes.specs.Fields.{big};
 ghost use Rattle.command_bytes.specs.Text.{IsCommand, command_text, longest};
@@ -71,6 +71,16 @@ impl<A: Allocator> Journal<A> {
         ensures { result ≡ room_of self.now }
     {
         self.place.room()
+    }
+
+    /// Whether a record of these commands, at most 64, has no more data sectors than `room`. Takes no memory.
+    pub fn has_room<B: Allocator>(&self, commands: &[&Command<B>]) -> bool
+        requires few { length commands.now ≤ most_commands }
+        ensures exact { result ≡ nat_le (data_size (record_text (given A commands.now))) (room_of self.now) }
+        ensures most { data_size (record_text (given A commands.now)) ≤ most_sectors }
+    {
+        let size = (size_of(commands) as u64 + 517) / 512;
+        size <= self.place.room()
     }
 
     /// Adds these commands, 1 to 64, as one record. Takes no memory.

@@ -227,3 +227,26 @@ fn the_longest_commands_take_36_sectors(rt: HostRuntime) -> Result<(), Fail> {
     assert!(rt; longest_are_kept(rt.alloc())?);
     Ok(())
 }
+
+/// Whether a half of so many sectors has room for a record of these.
+fn has_room(alloc: Global, sectors: u32, commands: &[&Command<Global>]) -> Result<bool, AllocError>
+    requires { length commands.now ≤ 64 }
+{
+    let journal = Journal::start(alloc, 0, u64::from(sectors))?;
+    Ok(journal.has_room(commands))
+}
+
+/// One short command takes one data sector, and 64 of the longest take 36; two more are gates.
+fn is_room_told(alloc: Global) -> Result<bool, Fail> {
+    let expiry = made::expiry().ok_or("an expiry")?;
+    let longest = made::longest(alloc).ok_or("a short data PDU")?;
+    let short = has_room(alloc, 3, &[&expiry])? && !has_room(alloc, 2, &[&expiry])?;
+    let long = has_room(alloc, 38, &[&longest; 64])? && !has_room(alloc, 37, &[&longest; 64])?;
+    Ok(short && long)
+}
+
+#[test]
+fn room_is_told_before_an_append(rt: HostRuntime) -> Result<(), Fail> {
+    assert!(rt; is_room_told(rt.alloc())?);
+    Ok(())
+}

@@ -23,7 +23,8 @@ use Rattle.checkpoint.specs.Standing.{slot_epoch}
 use Rattle.recovery.specs.declared.fault.StoreFault.{StoreFault}
 use Rattle.recovery.specs.declared.fault.StoreFault.TheVariants.{BadGeometry, Damaged, Unformatted}
 use Rattle.recovery.specs.Ranges.{are_limits, half_size_passes, is_half_size, layout_by, layout_of, limits_by, limits_of, limits_pass}
-use Rattle.recovery.specs.Label.{Told, fitting, is_named, layout_in, layout_told, told_at}
+use Rattle.recovery.specs.declared.label.Told.{Told}
+use Rattle.recovery.specs.Label.{fitting, is_named, layout_in, layout_told, told_at}
 use Rattle.recovery.specs.Opens.{side_at, side_in}
 use Rattle.recovery.proofs.Labelled.{behind_name, label_length, label_parts, told_of}
 use Rattle.recovery.proofs.Sided.{open_side, shut_side}

@@ -1,20 +1,22 @@
 -- A label is read as the layout that was written, and as no other.
-use Rattle.std.proofs.Common.{◌≡◌, ℕ, ◌<◌, ◌≤◌, ◌^◌, Bool, true, false, ◌&&◌, List, ◌++◌, length, drop, Some, Ok, refl, sym, ap, ◌∙◌, arith, append_assoc}
-use Rattle.std.proofs.lemmas.Bool.{le-leb}
+use Rattle.std.proofs.Common.{◌≡◌, ℕ, ◌<◌, ◌≤◌, ◌^◌, Bool, true, false, ◌&&◌, List, ◌++◌, length, drop, Option, Some, None, Ok, refl, sym, ap, ◌∙◌, arith, append_assoc}
+use Rattle.std.specs.Prelude.{IfSome, IsSome}
+use Rattle.std.proofs.lemmas.Bool.{false≢true, le-leb}
 use Rattle.std.proofs.lemmas.List.{length-append, take-append-drop}
 use Rattle.std.specs.Prelude.{nat_le}
 use Rattle.std.specs.Coded.{le_prop}
 use Rattle.sector_disk.specs.Disk.{sector}
 use Rattle.registration.specs.Limits.{AreLimits}
 use Rattle.registration.specs.declared.limits.Limits.{Limits}
-use Rattle.command_bytes.specs.Fields.{big}
+use Rattle.command_bytes.specs.Fields.{◌>>=◌, big}
 use Rattle.command_bytes.proofs.Numbers.{length-big, number_again}
 use Rattle.checkpoint.specs.Half.{IsHalfSize}
 use Rattle.checkpoint.specs.declared.layout.Layout.{Layout}
 use Rattle.checkpoint.specs.Label.{IsLabel, label_size, label_text, layout_number, name}
 use Rattle.checkpoint.specs.Layout.{disk_size, label_at}
 use Rattle.recovery.specs.Ranges.{are_limits, half_size_passes, is_half_size, is_within, layout_by, layout_of, limits_by, limits_of, limits_pass}
-use Rattle.recovery.specs.Label.{layout_at, layout_in, layout_told, Told, told_at}
+use Rattle.recovery.specs.declared.label.Told.{Told}
+use Rattle.recovery.specs.Label.{layout_at, layout_in, layout_told, told_at}
 
 -- ---- ranges
 
@@ -121,3 +123,30 @@ label_read layout image is room =
 pub label_length : (layout : Layout) → length (label_text layout) ≡ label_size
 unfolding label_text
 label_length layout = simp (length-append, length-big) refl
+
+-- ---- what the calls that make limits and a layout answer
+
+no_limits : (rules radios mail stations : ℕ) (may : Bool) (is : may ≡ true → AreLimits rules radios mail stations) → (AreLimits rules radios mail stations → ⊥) → limits_by rules radios mail stations may is ≡ None
+no_limits rules radios mail stations true is none = absurd (none (is refl))
+no_limits rules radios mail stations false is none = refl
+
+pub limits_made_of : (rules radios mail stations : ℕ) (o : Option Limits) → (AreLimits rules radios mail stations → IsSome o)
+    → IfSome o (λ l. (l.rules ≡ rules) × (l.radios ≡ radios) × (l.mail ≡ mail) × (l.stations ≡ stations)) → limits_of rules radios mail stations ≡ o
+limits_made_of rules radios mail stations None fits value =
+    no_limits rules radios mail stations (are_limits rules radios mail stations) (limits_pass rules radios mail stations) (λ are. false≢true (fits are))
+limits_made_of rules radios mail stations (Some l) fits value =
+    (λ i. limits_of (sym value.0 i) (sym value.1 i) (sym value.2 i) (sym value.3 i)) ∙ limits_again l
+
+no_layout : (limits : Limits) (journal : ℕ) (may : Bool) (is : may ≡ true → IsHalfSize journal) → (IsHalfSize journal → ⊥) → layout_by limits journal may is ≡ None
+no_layout limits journal true is none = absurd (none (is refl))
+no_layout limits journal false is none = refl
+
+pub layout_made_of : (limits : Limits) (journal : ℕ) (o : Option Layout) → (IsHalfSize journal → IsSome o) → IfSome o (λ l. (l.limits ≡ limits) × (l.journal ≡ journal)) → layout_of limits journal ≡ o
+layout_made_of limits journal None fits value = no_layout limits journal (is_half_size journal) (half_size_passes journal) (λ are. false≢true (fits are))
+layout_made_of limits journal (Some l) fits value = (λ i. layout_of (sym value.0 i) (sym value.1 i)) ∙ layout_again l
+
+pub told_made : (t : Told) (o : Option Limits) (limits : Limits) (made : Option Layout) → t.number ≡ 1 → limits_of t.rules t.radios t.mail t.stations ≡ o → o ≡ Some limits → layout_of limits t.journal ≡ made → made ≡ layout_told t
+told_made t o limits made number first is second =
+    let go = λ (l : Limits). layout_of l t.journal in
+    let one : layout_told t ≡ (limits_of t.rules t.radios t.mail t.stations >>= go) = rw number refl in
+    sym (one ∙ ap (λ (l : Option Limits). l >>= go) (first ∙ is) ∙ second)

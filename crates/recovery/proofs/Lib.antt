@@ -2,6 +2,16 @@ mod Labelled
 mod Sided
 mod Played
 mod Opened
+mod Lasting
+mod Served
 mod Called
 mod Formatted
 mod Faults
+mod Batches
+mod Keeping
+mod Chained
+mod Limited
+mod Applied
+mod Stood
+mod Synced
+mod Ranged

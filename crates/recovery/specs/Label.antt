@@ -8,17 +8,10 @@ use Rattle.checkpoint.specs.Label.{layout_number, name}
 use Rattle.checkpoint.specs.Layout.{disk_size, label_at}
 use Rattle.recovery.specs.declared.fault.StoreFault.{StoreFault}
 use Rattle.recovery.specs.declared.fault.StoreFault.TheVariants.{BadGeometry, Unformatted}
+use Rattle.recovery.specs.declared.label.Told.{Told}
 use Rattle.recovery.specs.Ranges.{layout_of, limits_of}
 
--- the numbers of a label: that of its layout, the four limits, and how many sectors a half has
-pub record Told : Type 0 where
-  pub number : ℕ
-  pub rules : ℕ
-  pub radios : ℕ
-  pub mail : ℕ
-  pub stations : ℕ
-  pub journal : ℕ
-
+-- the numbers of a label, and the bytes behind them are ignored
 unfoldable pub told_at : List ℕ → Option Told
 told_at bytes = do
   number ← number_at 2 bytes
@@ -42,8 +35,12 @@ abbrev pub fitting : ℕ → Option Layout → Result Layout StoreFault
 fitting sectors None = Err BadGeometry
 fitting sectors (Some layout) = if nat_le (disk_size layout) sectors then Ok layout else Err BadGeometry
 
+-- the layout that the bytes behind the name tell
+abbrev pub layout_behind : List ℕ → Option Layout
+layout_behind bytes = told_at bytes >>= layout_told
+
 abbrev pub layout_at : ℕ → List ℕ → Result Layout StoreFault
-layout_at sectors bytes = if is_named bytes then fitting sectors (told_at (drop 8 bytes) >>= layout_told) else Err Unformatted
+layout_at sectors bytes = if is_named bytes then fitting sectors (layout_behind (drop 8 bytes)) else Err Unformatted
 
 -- the layout that a disk tells
 unfoldable pub layout_in : List (List ℕ) → Result Layout StoreFault

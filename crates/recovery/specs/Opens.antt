@@ -87,10 +87,13 @@ abbrev pub opening : Layout → Side → ℕ → ℕ → State → Opening
 opening layout side epoch gate state = record { layout = layout; side = side; epoch = epoch; next = gate; state = state }
 
 module _ (A : Type 0) where
-  -- by this side: its image, then the records of its half, all of them judged before one is played
+  -- the state after the commands of a side's half, and its first closed gate: all records are judged before one is played
+  unfoldable pub played_by : Layout → Side → State → List (List ℕ) → Result (State × ℕ) StoreFault
+  played_by layout side s image = then_on (held_by {A = A} (half_of image (half_at layout side) (half_end layout side))) (λ held. then_on (played s held.0) (λ t. Ok (t, held.1)))
+
+  -- by this side: its image, then its records
   unfoldable pub opens_by : Layout → Side → List (List ℕ) → Result Opening StoreFault
-  opens_by layout side image =
-      then_on (base_in layout side image) (λ base. then_on (held_by {A = A} (half_of image (half_at layout side) (half_end layout side))) (λ held. then_on (played base.1 held.0) (λ state. Ok (opening layout side base.0 held.1 state))))
+  opens_by layout side image = then_on (base_in layout side image) (λ base. then_on (played_by layout side base.1 image) (λ end. Ok (opening layout side base.0 end.1 end.0)))
 
   unfoldable pub opens : List (List ℕ) → Result Opening StoreFault
   opens image = then_on (layout_in image) (λ layout. then_on (side_in layout image) (λ side. opens_by layout side image))

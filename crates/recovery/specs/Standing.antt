@@ -2,10 +2,14 @@
 use Rattle.std.specs.Prelude.{◌≡◌, ℕ, List, Ok}
 use Rattle.std.specs.List.{flat_map}
 use Rattle.centre_core.specs.Asked.{Asked}
-use Rattle.centre_core.specs.State.{State, empty}
+use Rattle.registration.specs.declared.limits.Limits.{Limits}
+use Rattle.centre_core.specs.State.{IsState, State, empty}
+use Rattle.centre_core.specs.StateRanges.{StateInRange}
+use Rattle.centre_core.specs.History.{after}
+use Rattle.centre_core.specs.Histories.{IsHistory}
 use Rattle.gated_journal.specs.Half.{Entry}
 use Rattle.checkpoint.specs.declared.layout.Layout.{Layout}
-use Rattle.checkpoint.specs.Standing.{Base}
+use Rattle.checkpoint.specs.Standing.{Base, Stands}
 use Rattle.recovery.specs.Opens.{Opening, opens}
 
 -- the commands of some records, in order
@@ -21,3 +25,17 @@ pub record StandsFor (A : Type 0) (state : State) (image : List (List ℕ)) : Ty
 -- the image of an empty register, of epoch 1
 abbrev pub first_base : Layout → Base
 first_base layout = (1, empty layout.limits)
+
+-- a state under these limits, with all its numbers in their ranges
+pub record IsRanged (limits : Limits) (s : State) : Type 0 where
+  pub kept : IsState s
+  pub ranges : StateInRange s
+  pub under : s.registered.limits ≡ limits
+
+-- How an image stands that opens: by this side, for a base and records whose commands were accepted one after the other.
+pub record OpensAs (A : Type 0) (opening : Opening) (image : List (List ℕ)) : Type 0 where
+  pub base : State
+  pub entries : List (Entry A)
+  pub stands : Stands opening.layout opening.side (opening.epoch, base) (entries, opening.next) image
+  pub accepted : IsHistory base (commands_of entries)
+  pub made : opening.state ≡ after base (commands_of entries)

@@ -1,8 +1,9 @@
 //! Why a call on a register that is kept on a disk is refused.
 ghost use Rattle.std.specs.Prelude.{◌≡◌};
-ghost use Rattle.recovery.specs.declared.fault.StoreFault.TheVariants.{DiskFault};
+ghost use Rattle.recovery.specs.declared.fault.StoreFault.TheVariants.{DiskFault, NoMemory};
 
 use sector_disk::DiskError;
+use std::alloc::AllocError;
 use thiserror::Error;
 
 /// Why a call on a register that is kept on a disk is refused.
@@ -36,5 +37,13 @@ impl From<DiskError> for StoreFault {
 
     fn from(_: DiskError) -> Self {
         StoreFault::DiskFault
+    }
+}
+
+impl From<AllocError> for StoreFault {
+    ghost from_gives = { λ _ e. e ≡ NoMemory };
+
+    fn from(_: AllocError) -> Self {
+        StoreFault::NoMemory
     }
 }

@@ -22,7 +22,7 @@ use sector_disk::{Disk, DiskError};
 use std::alloc::Allocator;
 
 /// The number of the layout that this crate writes and reads.
-const LAYOUT: u64 = 1;
+pub(crate) const LAYOUT: u64 = 1;
 
 // The first row of an empty register's image, of epoch 1.
 fn first_header() -> [u8; 512]

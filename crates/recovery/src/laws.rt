@@ -2,7 +2,7 @@
 //! These functions do nothing: calling one gives its clauses.
 
 ghost use Rattle.std.specs.Prelude.{◌≡◌, ◌≢◌, ◌⊎◌, ◌↔◌, ◌<◌, ◌≤◌, ℕ, Err, List, None, Ok, Some, length, take};
-ghost use Rattle.sector_disk.specs.Disk.{sector};
+ghost use Rattle.sector_disk.specs.Disk.{AreSectors, sector};
 ghost use Rattle.identity.specs.Packed.{AreBytes};
 ghost use Rattle.centre_core.specs.History.{after};
 ghost use Rattle.centre_core.specs.Histories.{IsHistory};
@@ -14,8 +14,9 @@ ghost use Rattle.checkpoint.specs.Layout.{disk_size, label_at, other_of, root_at
 ghost use Rattle.checkpoint.specs.Standing.{Base, Held, IsBelow, Stands, slot_epoch};
 ghost use Rattle.recovery.specs.declared.fault.StoreFault.TheVariants.{BadGeometry, Damaged, Unformatted};
 ghost use Rattle.recovery.specs.Label.{layout_in};
-ghost use Rattle.recovery.specs.Opens.{opening, opens, side_in};
-ghost use Rattle.recovery.specs.Standing.{commands_of};
+ghost use Rattle.recovery.specs.Lasting.{NoneLostMadeOnDisk, NoneLostOnDisk};
+ghost use Rattle.recovery.specs.Opens.{Opening, opening, opens, side_in};
+ghost use Rattle.recovery.specs.Standing.{IsRanged, OpensAs, commands_of};
 
 use std::alloc::Allocator;
 
@@ -49,4 +50,23 @@ pub fn side_told()
 pub fn standing_opens<A: Allocator>()
     ensures { (layout : Layout) (side : Side) (base : Base) (held : Held A) (image : List (List ℕ)) → Stands layout side base held image → IsHistory base.1 (commands_of held.0)
         → opens A image ≡ Ok (opening layout side base.0 held.1 (after base.1 (commands_of held.0))) }
+{}
+
+/// The other way round: an image that opens stands by that side, for what its slot begins with and the records of its
+/// half, whose commands are accepted one after the other, and opens to the state after them.
+pub fn opens_standing<A: Allocator>()
+    ensures { (opening : Opening) (image : List (List ℕ)) → AreBytes (sector image label_at) → opens A image ≡ Ok opening → OpensAs A opening image }
+{}
+
+/// What an image of sectors opens to is a state under the limits that it tells, with all its numbers in their ranges.
+pub fn opens_in_range<A: Allocator>()
+    ensures { (opening : Opening) (image : List (List ℕ)) → AreSectors image → opens A image ≡ Ok opening → IsRanged opening.layout.limits opening.state }
+{}
+
+/// Whatever a stop leaves of a register on a disk: a message that waits, or that an accepted command makes, is missing
+/// in it exactly where a later accepted command ends it - a report from its destination that says so, `Sent` where it
+/// asks for no report, `Expire` at its deadline or later, or `Delete`.
+pub fn no_lost_message<A: Allocator>()
+    ensures waiting { NoneLostOnDisk A }
+    ensures made { NoneLostMadeOnDisk A }
 {}

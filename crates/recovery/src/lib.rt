@@ -1,9 +1,22 @@
-//! A register that is kept on a disk: what a disk opens to, and a disk made ready for an empty register.
+//! A register that is kept on a disk: what a disk opens to, a disk made ready for an empty register, and one opened, kept
+//! through commits and checkpoints.
 #![tactic(auto)]
 
+mod batch;
+mod checkpointing;
+mod commit;
 mod fault;
 mod formatting;
+mod label;
 pub mod laws;
+mod opening;
+mod outcome;
+mod records;
+mod serving;
+mod sides;
+mod store;
 
 pub use fault::StoreFault;
 pub use formatting::format;
+pub use outcome::Outcome;
+pub use store::Store;

@@ -2,4 +2,10 @@
 #![tactic(auto)]
 
 #[cfg(test)]
+mod commits;
+#[cfg(test)]
 mod formats;
+#[cfg(test)]
+mod made;
+#[cfg(test)]
+mod opens;

@@ -5,7 +5,7 @@ use Rattle.checkpoint.specs.Layout.{slot_at}
 use Rattle.checkpoint.specs.Standing.{Base}
 use Rattle.checkpoint.specs.Reading.{image_looks}
 use Rattle.checkpoint.proofs.Looks.{no_look_yet}
-use Rattle.checkpoint.proofs.Readback.{of_whole}
+use Rattle.checkpoint.proofs.Readback.{of_whole, whole_limits}
 use Rattle.checkpoint.proofs.reading.read_image.Goals as goal
 
 pub returns-in_err-loader-clause-memory : goal.returns-in_err-loader-clause-memory
@@ -17,3 +17,8 @@ returns-in-Ok-clause-calls g c honest =
     let new : View = g.D.Disk.view c.take_rows.new.disk in
     let whole : finished c.take_rows.new.loader ≡ Some c.unwrap.result = sym c.finish.ensures ∙ c.unwrap.ensures in
     of_whole (finished c.take_rows.new.loader) c.unwrap.result (λ (image : Base). new.calls ≡ old.calls ++ image_looks (slot_at c.args.layout.now c.args.side) image) whole (c.in-Ok.ensures.calls honest)
+
+pub returns-in-Ok-clause-limits : goal.returns-in-Ok-clause-limits
+returns-in-Ok-clause-limits g c =
+    let whole : finished c.take_rows.new.loader ≡ Some c.unwrap.result = sym c.finish.ensures ∙ c.unwrap.ensures in
+    whole_limits c.take_rows.new.loader c.unwrap.result whole ∙ c.take_rows.ensures.limits

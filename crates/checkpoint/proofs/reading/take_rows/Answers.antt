@@ -2,7 +2,7 @@ use Rattle.std.proofs.Common.{◌≡◌, ℕ, ◌+◌, ◌<◌, ◌≤◌, None,
 use Rattle.std.proofs.lemmas.Result.{err_from_is_err_and}
 use Rattle.sector_disk.specs.Disk.{View, IsSector, sector}
 use Rattle.sector_disk.proofs.Looked.{looked_on, not_looked}
-use Rattle.image_rows.specs.Loading.{finished}
+use Rattle.image_rows.specs.Loading.{Loading, finished}
 use Rattle.checkpoint.proofs.Looks.{calls_at, look_made, made_at, no_look_yet, one_look_more, some_looks}
 use Rattle.checkpoint.proofs.Readback.{all_came, bad_behind, damaged_is, none_whole, one_taken, rest_bad, rest_begun, rest_ended, rest_next, rest_whole, slot_fits, slot_is, slot_within, some_whole, taken_begun}
 use Rattle.checkpoint.proofs.reading.take_rows.Goals as goal
@@ -16,6 +16,7 @@ loop-first-init g c =
       sectors = refl;
       later = omega arith;
       looked = λ honest. not_looked _ honest;
+      limits = ap (λ (l : Loading). l.state.registered.limits) c.requires.begun;
       calls = no_look_yet _ _;
       rest = λ honest. rest_begun old.reads c.slot-first.result c.slot_len-sectors.result layout.limits c.args.loader.now c.requires.begun;
       taken = λ honest. taken_begun layout.limits c.args.loader.now c.requires.begun;
@@ -69,6 +70,7 @@ loop-first-preserved g c =
       looked = λ honest.
           let looked = so_far.looked honest in
           looked_on _ mid _ looked (c.in_ok-take_row.ensures.looked looked.honest);
+      limits = c.in_ok-take_row.ensures.limits ∙ so_far.limits;
       calls = one_look_more old.calls mid.calls _ first k so_far.calls c.in_ok-take_row.ensures.calls;
       rest = λ honest.
           let looked = so_far.looked honest in
@@ -207,3 +209,6 @@ returns-clause-some_calls g c =
     let k = c.loop-first.read in
     let so_far = c.loop-first.invariant in
     made_at old mid first _ size _ c.slot-first.ensures c.slot_len-sectors.ensures.value (some_looks old mid first k size so_far.few so_far.calls)
+
+pub returns-in_err-take_row-clause-limits : goal.returns-in_err-take_row-clause-limits
+returns-in_err-take_row-clause-limits g c = c.take_row.ensures.limits ∙ c.loop-first.invariant.limits

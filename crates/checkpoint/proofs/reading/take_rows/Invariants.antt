@@ -16,6 +16,7 @@ invariant-loop-first g l =
       sectors : now.sectors ≡ old.sectors;
       later : old.failures ≤ now.failures;
       looked : old.honest → HasLooked old now;
+      limits : l.loader.state.registered.limits ≡ l.layout.limits;
       calls : now.calls ≡ old.calls ++ looks l.first l.read;
       rest : old.honest → rest_of old.reads l.first l.sectors l.read l.loader ≡ slot_of l.layout.limits (sectors_from old.reads l.first l.sectors);
       taken : old.honest → HasTaken l.layout.limits l.read l.loader;

@@ -1,0 +1,133 @@
+// The tables of a register built anew, each entry put by the call that a loader of images uses.
+ghost use Rattle.std.specs.Prelude.{◌≡◌, [], IfSome, Some};
+ghost use Rattle.std.specs.List.{All};
+ghost use Rattle.group_attach.specs.Attached.{groups_of};
+ghost use Rattle.group_attach.specs.InOrder.{IsInOrder};
+ghost use Rattle.benchmarks.specs.Building.{EndsBy};
+
+use centre_core::Register;
+use group_attach::Groups;
+use identity::Itsi;
+use mailbox::{Key, Mail};
+use registration::{Limits, Radio, Registry};
+use std::alloc::Global;
+
+// The tables that entries are put in one by one.
+#[derive(Drop)]
+pub(crate) struct Tables {
+    registry: Registry<Global>,
+    groups: Groups<Global>,
+    mail: Mail<Global>,
+}
+
+impl Tables {
+    // Nothing in them yet.
+    pub(crate) fn new(alloc: Global, limits: Limits) -> Option<Tables>
+        ensures { IfSome result (λ tables. tables.mail.items ≡ []) }
+    {
+        let Ok(registry) = Registry::new(alloc, limits) else {
+            return None;
+        };
+        Some(Tables {
+            registry,
+            groups: Groups::new(alloc),
+            mail: Mail::new(alloc, limits),
+        })
+    }
+
+    // Puts the entries of the register's tables, as its next calls tell them; whether all were put.
+    pub(crate) fn fill(&mut self, alloc: Global, from: &Register<Global>) -> bool
+        requires { self.old.mail.items ≡ [] }
+    {
+        put_rules(from.registry(), &mut self.registry)
+            && put_radios(from, &mut self.registry, &mut self.groups)
+            && put_items(alloc, from.mail(), &mut self.mail)
+    }
+}
+
+// The attachments that a radio has are its own and in order, as they are wanted to restore them.
+fn lent_can_be_restored(groups: &Groups<Global>, itsi: Itsi)
+    ensures own { All (λ a. a.itsi ≡ itsi) (groups_of groups.now itsi) }
+    ensures in_order { IsInOrder (groups_of groups.now itsi) }
+{}
+
+// The radio with its attachments, which are lent.
+fn put_radio(
+    from: &Groups<Global>,
+    itsi: Itsi,
+    radio: Radio,
+    registry: &mut Registry<Global>,
+    groups: &mut Groups<Global>,
+) -> bool {
+    lent_can_be_restored(from, itsi);
+    let own = from.attachments(itsi);
+    registry.restore(itsi, radio).is_ok() && groups.restore(itsi, own).is_ok()
+}
+
+fn put_radios(
+    from: &Register<Global>,
+    registry: &mut Registry<Global>,
+    groups: &mut Groups<Global>,
+) -> bool {
+    let mut last = None;
+    for _ in 0..from.registry().radio_count() {
+        let Some((itsi, radio)) = from.registry().next_radio(last) else {
+            return false;
+        };
+        if !put_radio(from.groups(), itsi, radio, registry, groups) {
+            return false;
+        }
+        last = Some(itsi);
+    }
+    true
+}
+
+fn put_rules(from: &Registry<Global>, to: &mut Registry<Global>) -> bool {
+    let mut last = None;
+    for _ in 0..from.rule_count() {
+        let Some((prefix, rule)) = from.next_rule(last) else {
+            return false;
+        };
+        if to.set_rule(prefix, rule).is_err() {
+            return false;
+        }
+        last = Some(prefix);
+    }
+    true
+}
+
+fn put_items(alloc: Global, from: &Mail<Global>, to: &mut Mail<Global>) -> bool
+    requires { to.old.items ≡ [] }
+{
+    let mut last = None;
+    for _ in 0..from.len() {
+        let Some(place) = put_item(alloc, from, to, last) else {
+            return false;
+        };
+        last = Some(place);
+    }
+    true
+}
+
+// Puts a copy of the item after this number and key, where there is one. Its number and key.
+fn put_item(
+    alloc: Global,
+    from: &Mail<Global>,
+    to: &mut Mail<Global>,
+    last: Option<(u64, Key)>,
+) -> Option<(u64, Key)>
+    requires { EndsBy to.old last }
+    ensures { IfSome result (λ place. EndsBy to.new (Some place)) }
+{
+    let Some(item) = from.next(last) else {
+        return None;
+    };
+    let Ok(copy) = item.copied(alloc) else {
+        return None;
+    };
+    let place = (copy.number(), copy.key());
+    match to.restore(copy) {
+        Ok(()) => Some(place),
+        Err(_) => None,
+    }
+}

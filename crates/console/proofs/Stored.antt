@@ -1,0 +1,142 @@
+-- Dialogues with a register that is kept on a disk.
+use Rattle.std.proofs.Common.{◌≡◌, ◌⊎◌, ℕ, ◌+◌, Bool, true, false, List, [], ◌∷◌, refl, sym, ap, subst, ◌∙◌, inl, inr, Err}
+use Rattle.std.proofs.lemmas.Bool.{true≢false}
+use Rattle.std.proofs.lemmas.List.Elements.{All-nil, All-cons}
+use Rattle.std.specs.Prelude.{All}
+use Rattle.std.specs.List.{list_any}
+use Rattle.centre_core.specs.declared.command.Command.{Command}
+use Rattle.centre_core.specs.declared.query.Query.{Query}
+use Rattle.desk.specs.declared.service.Service.{Service}
+use Rattle.desk.specs.declared.service.Service.TheVariants.{Memory, Device, Broken, Epochs}
+use Rattle.desk.specs.OfRegister.{of_register}
+use Rattle.desk.specs.OfStore.{Stored, Refuses, StoreApplies, StoreTells, of_store}
+use Rattle.console.specs.declared.line.Line.{Line}
+use Rattle.console.specs.declared.line.Line.TheVariants.{Silent, Bad, Order, Ask}
+use Rattle.console.specs.declared.answer.Answer.{Answer}
+use Rattle.console.specs.declared.answer.Answer.TheVariants as answer
+use Rattle.console.specs.Answer.{is_service}
+use Rattle.console.specs.Reading.{reading}
+use Rattle.console.specs.Dialogue.{AnswersReading, AnswersOrder, AnswersQuery, Dialogue, LacksPdu}
+use Rattle.console.specs.Stored.{SaysBroken, BrokenBehindDevice, StoredAsRegister}
+use Rattle.console.proofs.Wholes.{or_left, or_right}
+
+-- what is broken is not sound
+not_both : {X : Type 0} (s : Stored) → s.broken ≡ true → s.broken ≡ false → X
+not_both s broken sound = absurd (true≢false (sym broken ∙ sound))
+
+-- the words device and memory are two
+abbrev is_device : Service → Bool
+is_device Memory = false
+is_device Device = true
+is_device Broken = false
+is_device Epochs = false
+
+device_no_memory : Device ≡ Memory → ⊥
+device_no_memory same = true≢false (ap is_device same)
+
+refused : (s t : Stored) (word : Service) → s.broken ≡ true → Refuses s word t → (word ≡ Broken) × (t ≡ s)
+refused s t Memory broken says = not_both s broken says.0
+refused s t Device broken says = not_both s broken says.0
+refused s t Broken broken says = (refl, says.1)
+refused s t Epochs broken says = not_both s broken says.0
+
+untold : (B : Type 0) (s t : Stored) (q : Query) (word : Service) → s.broken ≡ true → StoreTells {B = B} s q (Err word) t → (word ≡ Broken) × (t ≡ s)
+untold B s t q Memory broken says = not_both s broken says.0
+untold B s t q Device broken says = absurd says
+untold B s t q Broken broken says = (refl, says.1)
+untold B s t q Epochs broken says = absurd says
+
+module _ {A : Type 0} where
+  -- what a broken desk answers, and that it stays as it is
+  abbrev pub Stays : Answer A → Stored → Stored → Type 0
+  Stays a s t = SaysBroken a × (t ≡ s)
+
+  unserved : (s t : Stored) (c : Command A) (sequence : ℕ) (word : Service) → s.broken ≡ true → StoreApplies {A = A} {B = A} s c (Err word) t ⊎ LacksPdu s c word t → Stays (answer.Unserved sequence word) s t
+  unserved s t c sequence word broken why = elim why [
+    | inl says ↦ let b = refused s t word broken says in (inl b.0, b.1)
+    | inr lacks ↦ (inr lacks.1, lacks.2)
+  ]
+
+  on_order : (s t : Stored) (c : Command A) (a : Answer A) → s.broken ≡ true → AnswersOrder of_store s c a t → Stays a s t
+  on_order s t c (answer.Replied sequence reply) broken given = not_both s broken given.1.0
+  on_order s t c (answer.Unserved sequence word) broken given = unserved s t c sequence word broken given.1
+  on_order s t c answer.Quiet broken given = absurd given
+  on_order s t c (answer.Bad line fault) broken given = absurd given
+  on_order s t c (answer.Told told) broken given = absurd given
+  on_order s t c (answer.Untold line word) broken given = absurd given
+
+  on_query : (n : ℕ) (s t : Stored) (q : Query) (a : Answer A) → s.broken ≡ true → AnswersQuery of_store n s q a t → Stays a s t
+  on_query n s t q (answer.Told told) broken given = not_both s broken given.0
+  on_query n s t q (answer.Untold line word) broken given = elim given.1 [
+    | inl says ↦ untold A s t q word broken says
+    | inr lacks ↦ not_both s broken lacks.1.2.0
+  ]
+  on_query n s t q answer.Quiet broken given = absurd given
+  on_query n s t q (answer.Bad line fault) broken given = absurd given
+  on_query n s t q (answer.Replied sequence reply) broken given = absurd given
+  on_query n s t q (answer.Unserved sequence word) broken given = absurd given
+
+  on_reading : (n : ℕ) (s t : Stored) (line : Line A) (a : Answer A) → s.broken ≡ true → AnswersReading of_store n s line a t → Stays a s t
+  on_reading n s t Silent a broken given = (subst (λ (b : Answer A). SaysBroken b) (sym given.0) tt, given.1)
+  on_reading n s t (Bad fault) a broken given = (subst (λ (b : Answer A). SaysBroken b) (sym given.0) tt, given.1)
+  on_reading n s t (Order c) a broken given = on_order s t c a broken given
+  on_reading n s t (Ask q) a broken given = on_query n s t q a broken given
+
+  -- from a broken desk on
+  stays_broken : (station n : ℕ) (s t : Stored) (given : List (List ℕ)) (answers : List (Answer A)) → s.broken ≡ true → Dialogue of_store station n s given answers t → All SaysBroken answers
+  stays_broken station n s t [] [] broken each = All-nil SaysBroken
+  stays_broken station n s t [] (a ∷ answers) broken each = absurd each
+  stays_broken station n s t (line ∷ given) [] broken each = absurd each
+  stays_broken station n s t (line ∷ given) (a ∷ answers) broken each =
+      let first : Stays a s each.0 = on_reading (n + 1) s each.0 (reading station line) a broken each.1 in
+      All-cons SaysBroken a answers first.0 (stays_broken station (n + 1) each.0 t given answers (ap (λ (w : Stored). w.broken) first.1 ∙ broken) each.2)
+
+  -- the word device leaves it broken
+  device_breaks : (n sequence : ℕ) (s t : Stored) (line : Line A) → AnswersReading of_store n s line (answer.Unserved sequence Device) t → t.broken ≡ true
+  device_breaks n sequence s t Silent given = absurd (true≢false (ap is_service given.0))
+  device_breaks n sequence s t (Bad fault) given = absurd (true≢false (ap is_service given.0))
+  device_breaks n sequence s t (Order c) given = elim given.1 [
+    | inl says ↦ says.1
+    | inr lacks ↦ absurd (device_no_memory lacks.1)
+  ]
+  device_breaks n sequence s t (Ask q) given = absurd given
+
+  pub broken_behind : BrokenBehindDevice A
+  broken_behind station n sequence s t [] [] behind each = absurd each
+  broken_behind station n sequence s t [] (a ∷ before) behind each = absurd each
+  broken_behind station n sequence s t (line ∷ given) [] behind each =
+      stays_broken station (n + 1) each.0 t given behind (device_breaks (n + 1) sequence s each.0 (reading station line) each.1) each.2
+  broken_behind station n sequence s t (line ∷ given) (a ∷ before) behind each = broken_behind station (n + 1) sequence each.0 t given before behind each.2
+
+  -- a line that gets no word of the service
+  as_order : (s t : Stored) (c : Command A) (a : Answer A) → AnswersOrder of_store s c a t → is_service a ≡ false → AnswersOrder of_register s.register c a t.register
+  as_order s t c (answer.Replied sequence reply) given calm = (given.0, given.1.2)
+  as_order s t c (answer.Unserved sequence word) given calm = absurd (true≢false calm)
+  as_order s t c answer.Quiet given calm = absurd given
+  as_order s t c (answer.Bad line fault) given calm = absurd given
+  as_order s t c (answer.Told told) given calm = absurd given
+  as_order s t c (answer.Untold line word) given calm = absurd given
+
+  as_query : (n : ℕ) (s t : Stored) (q : Query) (a : Answer A) → AnswersQuery of_store n s q a t → is_service a ≡ false → AnswersQuery of_register n s.register q a t.register
+  as_query n s t q (answer.Told told) given calm = (ap (λ (w : Stored). w.register) given.1, given.2)
+  as_query n s t q (answer.Untold line word) given calm = absurd (true≢false calm)
+  as_query n s t q answer.Quiet given calm = absurd given
+  as_query n s t q (answer.Bad line fault) given calm = absurd given
+  as_query n s t q (answer.Replied sequence reply) given calm = absurd given
+  as_query n s t q (answer.Unserved sequence word) given calm = absurd given
+
+  as_reading : (n : ℕ) (s t : Stored) (line : Line A) (a : Answer A) → AnswersReading of_store n s line a t → is_service a ≡ false → AnswersReading of_register n s.register line a t.register
+  as_reading n s t Silent a given calm = (given.0, ap (λ (w : Stored). w.register) given.1)
+  as_reading n s t (Bad fault) a given calm = (given.0, ap (λ (w : Stored). w.register) given.1)
+  as_reading n s t (Order c) a given calm = as_order s t c a given calm
+  as_reading n s t (Ask q) a given calm = as_query n s t q a given calm
+
+  pub as_register : StoredAsRegister A
+  as_register station n s t [] [] each calm = ap (λ (w : Stored). w.register) each
+  as_register station n s t [] (a ∷ answers) each calm = absurd each
+  as_register station n s t (line ∷ given) [] each calm = absurd each
+  as_register station n s t (line ∷ given) (a ∷ answers) each calm = (
+    each.0.register,
+    as_reading (n + 1) s each.0 (reading station line) a each.1 (or_left (is_service a) (list_any is_service answers) calm),
+    as_register station (n + 1) each.0 t given answers each.2 (or_right (is_service a) (list_any is_service answers) calm),
+  )

@@ -1,0 +1,134 @@
+//! Lines served at a desk that says every word of the service: a register whose disk has room for so many commands at its
+//! last epoch, and fails at one of them.
+ghost use Rattle.std.specs.Prelude.{true};
+ghost use Rattle.desk.specs.OfStore.{Stored, of_store};
+
+use crate::limits::usual;
+use crate::served::are_answered;
+use centre_core::{Command, Query, Register, Reply, Told};
+use console::{Answer, Desk, Service, print_answer};
+use std::alloc::{Allocator, Global};
+use std::test::Fail;
+
+#[derive(Drop)]
+struct FailingDesk<A: Allocator> {
+    register: Register<A>,
+    /// How many commands the disk has room for.
+    room: u32,
+    /// How many commands come before the failure.
+    sound: u32,
+    broken: bool,
+    failures: u64,
+}
+
+impl<A: Allocator + Clone> Desk for FailingDesk<A> {
+    ghost World = { Stored };
+
+    ghost world = { λ desk. record { register = desk.register; broken = desk.broken; failures = desk.failures; last = true } };
+
+    ghost rules = { of_store };
+
+    fn apply<B: Allocator, C: Allocator + Copy>(
+        &mut self,
+        alloc: C,
+        command: &Command<B>,
+    ) -> Result<Reply<C>, Service> {
+        if self.broken {
+            return Err(Service::Broken);
+        }
+        if self.room == 0 {
+            return Err(Service::Epochs);
+        }
+        if self.sound == 0 {
+            self.broken = true;
+            self.failures = self.failures.saturating_add(1);
+            return Err(Service::Device);
+        }
+        let Ok(reply) = self.register.apply(alloc, command) else {
+            return Err(Service::Memory);
+        };
+        self.room -= 1;
+        self.sound -= 1;
+        Ok(reply)
+    }
+
+    fn query<C: Allocator + Copy>(&mut self, alloc: C, query: &Query) -> Result<Told<C>, Service> {
+        if self.broken {
+            return Err(Service::Broken);
+        }
+        match self.register.query(alloc, query) {
+            Ok(told) => Ok(told),
+            Err(_) => Err(Service::Memory),
+        }
+    }
+}
+
+/// Whether these are the answers at a new desk with so much room and so many sound commands.
+fn is_served(alloc: Global, room: u32, sound: u32, lines: &str, want: &str) -> Result<bool, Fail> {
+    let limits = usual()?;
+    let register = Register::new(alloc, limits)?;
+    let mut desk = FailingDesk {
+        register,
+        room,
+        sound,
+        broken: false,
+        failures: 0,
+    };
+    Ok(are_answered(alloc, alloc, &mut desk, lines.as_bytes(), want.as_bytes()))
+}
+
+/// Room, sound commands, lines and answers.
+const SERVED: [(u32, u32, &str, &str); 2] = [
+    (
+        9,
+        1,
+        "1 0 expire\ncount\n2 0 expire\n3 0 expire\ncount\nwhat\n",
+        "1 ok 1 -\ncount 1\n2 no device\n3 no broken\nline 5 no broken\nline 6 bad syntax\n",
+    ),
+    (
+        1,
+        9,
+        "1 0 expire\n2 0 expire\ncount\n",
+        "1 ok 1 -\n2 no epochs\ncount 1\n",
+    ),
+];
+
+fn all_are_served(alloc: Global) -> Result<bool, Fail> {
+    for (room, sound, lines, want) in SERVED {
+        if !is_served(alloc, room, sound, lines, want)? {
+            return Ok(false);
+        }
+    }
+    Ok(true)
+}
+
+#[test]
+fn behind_a_failure_the_desk_is_broken(rt: HostRuntime) -> Result<(), Fail> {
+    assert!(rt; all_are_served(rt.alloc())?);
+    Ok(())
+}
+
+const WORDS: [(Service, &str); 4] = [
+    (Service::Memory, "7 no memory\n"),
+    (Service::Device, "7 no device\n"),
+    (Service::Broken, "7 no broken\n"),
+    (Service::Epochs, "7 no epochs\n"),
+];
+
+fn are_printed(alloc: Global) -> Result<bool, Fail> {
+    for (word, want) in WORDS {
+        let answer: Answer<Global> = Answer::Unserved(7, word);
+        let mut out = Vec::new(alloc);
+        print_answer(&mut out, &answer)?;
+        if out.as_slice() != want.as_bytes() || !answer.is_trouble() {
+            return Ok(false);
+        }
+    }
+    Ok(true)
+}
+
+#[test]
+fn each_word_is_printed(rt: HostRuntime) -> Result<(), Fail> {
+    assert!(rt; are_printed(rt.alloc())?);
+    Ok(())
+}

@@ -1,0 +1,34 @@
+//! A register in memory as a desk.
+ghost use Rattle.centre_core.specs.State.{State};
+ghost use Rattle.desk.specs.OfRegister.{of_register};
+
+use crate::desk::Desk;
+use crate::service::Service;
+use centre_core::{Command, Query, Register, Reply, Told};
+use std::alloc::Allocator;
+
+impl<A: Allocator + Clone> Desk for Register<A> {
+    ghost World = { State };
+
+    ghost world = { λ register. register };
+
+    ghost rules = { of_register };
+
+    fn apply<B: Allocator, C: Allocator + Copy>(
+        &mut self,
+        alloc: C,
+        command: &Command<B>,
+    ) -> Result<Reply<C>, Service> {
+        match Register::apply(self, alloc, command) {
+            Ok(reply) => Ok(reply),
+            Err(_) => Err(Service::Memory),
+        }
+    }
+
+    fn query<C: Allocator + Copy>(&mut self, alloc: C, query: &Query) -> Result<Told<C>, Service> {
+        match Register::query(self, alloc, query) {
+            Ok(told) => Ok(told),
+            Err(_) => Err(Service::Memory),
+        }
+    }
+}

@@ -1,0 +1,250 @@
+-- A batch of commands that is applied in turn.
+use Rattle.std.proofs.Common.{◌≡◌, ℕ, zero, suc, ◌+◌, ◌-◌, ◌<◌, ◌≤◌, Bool, true, false, IsTrue, List, [], ◌∷◌, ◌++◌, length, map, take, drop, replicate, get_or, Some, Result, Ok, Err, OnOk, OnErr, refl, sym, ap, subst, ◌∙◌, append_assoc, option_map, arith}
+use Rattle.std.specs.List.{flat_map, slice_get}
+use Rattle.std.proofs.lemmas.List.Concat.{flat_map-cons}
+use Rattle.std.proofs.lemmas.List.Folds.{flat_map-map}
+use Rattle.std.proofs.lemmas.Grind.{flat_map-append}
+use Rattle.std.proofs.lemmas.Option.{slice_get-map, slice_get_read, slice_get_within}
+use Rattle.std.specs.Prelude.{if◌then◌else◌}
+use Rattle.std.specs.Borrow.{Bor}
+use Rattle.std.proofs.lemmas.List.{append-nil, length-append, length-map, length-take-le, map-append, map_more, replicate_more, take-append-drop, take-map}
+use mathlib.Core.Bool.{false≢true}
+use Rattle.registration.specs.declared.limits.Limits.{Limits}
+use Rattle.centre_core.specs.Asked.{Asked}
+use Rattle.centre_core.specs.declared.reply.Reply.{Reply}
+use Rattle.centre_core.specs.declared.reply.Reply.TheVariants.{Accepted, Kept, Refused}
+use Rattle.centre_core.specs.State.{State}
+use Rattle.centre_core.specs.Step.{step}
+use Rattle.centre_core.specs.Memory.{needs_memory}
+use Rattle.centre_core.specs.History.{is_acceptance, accepts, after, next}
+use Rattle.centre_core.specs.Histories.{IsHistory}
+use Rattle.centre_core.proofs.InTurnLaws.{after-append}
+use Rattle.centre_core.proofs.SameLaws.{accepts_are_same, step_is_same}
+use Rattle.centre_core.proofs.StepLaws as core
+use Rattle.recovery.specs.declared.outcome.Outcome.{Outcome}
+use Rattle.recovery.specs.declared.outcome.Outcome.TheVariants.{NoMemory, Replied}
+use Rattle.command_bytes.specs.Text.{command_text}
+use Rattle.recovery.specs.Outcomes.{AreApplied, IsAnswered, IsEnd, accepted_of, asked, replies}
+use Rattle.recovery.proofs.Limited.{step_limits}
+
+-- one more of the same behind a list
+pub filled_one : {X : Type 0} (old now new : List X) (n k : ℕ) (x : X) → now ≡ old ++ replicate n x → new ≡ now ++ x ∷ [] → n + 1 ≡ k → new ≡ old ++ replicate k x
+filled_one old now new n k x so_far more next =
+    let one : new ≡ (old ++ replicate n x) ++ x ∷ [] = more ∙ ap (λ l. l ++ x ∷ []) so_far in
+    one ∙ append_assoc old (replicate n x) (x ∷ []) ∙ ap (λ l. old ++ l) (replicate_more n x) ∙ ap (λ m. old ++ replicate m x) next
+
+-- whether a command is accepted does not hang on where its reply is kept
+pub same_verdict : {B : Type 0} (C : Type 0) (s : State) (c : Asked B) → is_acceptance (step {B = C} s c).1 ≡ accepts s c
+same_verdict C s c = sym (ap (λ r. is_acceptance r.1) (step_is_same C C s c)) ∙ accepts_are_same C s c
+
+module _ {B : Type 0} where
+  -- a command that is not accepted changes nothing
+  idle_by : (s t : State) (c : Asked B) (reply : Reply B) → core.Outcome s c t reply → is_acceptance reply ≡ false → t ≡ s
+  idle_by s t c (Accepted number pdu) says refused = absurd (false≢true (sym refused))
+  idle_by s t c (Kept number pdu) says refused = says
+  idle_by s t c (Refused refusal) says refused = says
+
+  idle : (s : State) (c : Asked B) → accepts s c ≡ false → next s c ≡ s
+  idle s c refused = idle_by s (next s c) c (step s c).1 (core.says B s c) refused
+
+  -- ---- the accepted ones of a list, by whether its first is one
+
+  abbrev first_or : Bool → Asked B → List (Asked B) → List (Asked B)
+  first_or b c cs = if b then c ∷ cs else cs
+
+  history_by : (s : State) (c : Asked B) (rest : List (Asked B)) (b : Bool) → accepts s c ≡ b → IsHistory (next s c) rest → IsHistory s (first_or b c rest)
+  history_by s c rest true taken_is later = (taken_is, later)
+  history_by s c rest false refused later = subst (λ t. IsHistory t rest) (idle s c refused) later
+
+  after_by : (s : State) (c : Asked B) (rest : List (Asked B)) (b : Bool) → accepts s c ≡ b → after s (first_or b c rest) ≡ after (next s c) rest
+  after_by s c rest true taken_is = refl
+  after_by s c rest false refused = ap (λ t. after t rest) (sym (idle s c refused))
+
+  count_by : (c : Asked B) (rest : List (Asked B)) (b : Bool) → length (first_or b c rest) ≤ 1 + length rest
+  count_by c rest true = omega arith
+  count_by c rest false = omega arith
+
+  more_by : (c : Asked B) (rest more : List (Asked B)) (b : Bool) → first_or b c (rest ++ more) ≡ first_or b c rest ++ more
+  more_by c rest more true = refl
+  more_by c rest more false = refl
+
+  pub accepted_history : (s : State) (cs : List (Asked B)) → IsHistory s (accepted_of s cs)
+  accepted_history s [] = tt
+  accepted_history s (c ∷ cs) = history_by s c (accepted_of (next s c) cs) (accepts s c) refl (accepted_history (next s c) cs)
+
+  pub accepted_after : (s : State) (cs : List (Asked B)) → after s (accepted_of s cs) ≡ after s cs
+  accepted_after s [] = refl
+  accepted_after s (c ∷ cs) = after_by s c (accepted_of (next s c) cs) (accepts s c) refl ∙ accepted_after (next s c) cs
+
+  pub accepted_count : (s : State) (cs : List (Asked B)) → length (accepted_of s cs) ≤ length cs
+  accepted_count s [] = omega arith
+  accepted_count s (c ∷ cs) = omega (arith, count_by c (accepted_of (next s c) cs) (accepts s c), accepted_count (next s c) cs)
+
+  size_by : (c : Asked B) (rest : List (Asked B)) (b : Bool) → length (flat_map command_text (first_or b c rest)) ≤ length (command_text c) + length (flat_map command_text rest)
+  size_by c rest true = omega (arith, ap length (flat_map-cons command_text c rest), length-append (command_text c) (flat_map command_text rest))
+  size_by c rest false = omega arith
+
+  accepted_size : (s : State) (cs : List (Asked B)) → length (flat_map command_text (accepted_of s cs)) ≤ length (flat_map command_text cs)
+  accepted_size s [] = omega arith
+  accepted_size s (c ∷ cs) =
+      let rest = accepted_of (next s c) cs in
+      omega (arith, size_by c rest (accepts s c), accepted_size (next s c) cs, ap length (flat_map-cons command_text c cs), length-append (command_text c) (flat_map command_text cs))
+
+  front_size : (cs : List (Asked B)) (n : ℕ) → length (flat_map command_text (take n cs)) ≤ length (flat_map command_text cs)
+  front_size cs n =
+      let parts : length (flat_map command_text cs) ≡ length (flat_map command_text (take n cs)) + length (flat_map command_text (drop n cs)) =
+      ap (λ (l : List (Asked B)). length (flat_map command_text l)) (sym (take-append-drop n cs)) ∙ ap length (flat_map-append command_text (take n cs) (drop n cs)) ∙ length-append (flat_map command_text (take n cs)) (flat_map command_text (drop n cs)) in
+      omega (arith, parts)
+
+  pub accepted_more : (s : State) (xs ys : List (Asked B)) → accepted_of s (xs ++ ys) ≡ accepted_of s xs ++ accepted_of (after s xs) ys
+  accepted_more s [] ys = refl
+  accepted_more s (x ∷ xs) ys = ap (first_or (accepts s x) x) (accepted_more (next s x) xs ys) ∙ more_by x (accepted_of (next s x) xs) (accepted_of (after (next s x) xs) ys) (accepts s x)
+
+  pub replies_more : (C : Type 0) (s : State) (xs ys : List (Asked B)) → replies C s (xs ++ ys) ≡ replies C s xs ++ replies C (after s xs) ys
+  replies_more C s [] ys = refl
+  replies_more C s (x ∷ xs) ys = ap (λ l. (step {B = C} s x).1 ∷ l) (replies_more C (next s x) xs ys)
+
+  pub length-replies : (C : Type 0) (s : State) (xs : List (Asked B)) → length (replies C s xs) ≡ length xs
+  length-replies C s [] = refl
+  length-replies C s (x ∷ xs) = ap suc (length-replies C (next s x) xs)
+
+  -- none of all is accepted: nor of the first ones
+  no_front : (xs ys : List (Asked B)) → xs ++ ys ≡ [] → xs ≡ []
+  no_front [] ys e = refl
+  no_front (x ∷ xs) ys e = absurd cc
+
+  pub none_accepted : (s : State) (cs : List (Asked B)) (n : ℕ) → accepted_of s cs ≡ [] → accepted_of s (take n cs) ≡ []
+  none_accepted s cs n none =
+      no_front (accepted_of s (take n cs)) (accepted_of (after s (take n cs)) (drop n cs)) (sym (accepted_more s (take n cs) (drop n cs)) ∙ ap (accepted_of s) (take-append-drop n cs) ∙ none)
+
+  -- ---- the limits stay
+
+  pub limits_after : (s : State) (cs : List (Asked B)) → (after s cs).registered.limits ≡ s.registered.limits
+  limits_after s [] = refl
+  limits_after s (c ∷ cs) = limits_after (next s c) cs ∙ step_limits s (next s c) c (step {B = B} s c).1 refl
+
+  -- ---- one more is applied
+
+  pub collected : (s : State) (c : Bor (Asked B)) (old new : List (Bor (Asked B))) → accepts s c.now ≡ true → new ≡ old ++ c ∷ [] → asked new ≡ asked old ++ first_or (accepts s c.now) c.now []
+  collected s c old new taken_is more =
+      ap asked more ∙ map-append (λ (x : Bor (Asked B)). x.now) old (c ∷ []) ∙ ap (λ b. asked old ++ first_or b c.now []) (sym taken_is)
+
+  pub left_out : (s : State) (c : Bor (Asked B)) (old new : List (Bor (Asked B))) → accepts s c.now ≡ false → new ≡ old → asked new ≡ asked old ++ first_or (accepts s c.now) c.now []
+  left_out s c old new refused same =
+      ap asked same ∙ sym (append-nil (asked old)) ∙ ap (λ b. asked old ++ first_or b c.now []) (sym refused)
+
+  take_one : (cs : List (Bor (Asked B))) (i : ℕ) (c : Bor (Asked B)) → i < length cs → c ≡ get_or cs i c → take (i + 1) (asked cs) ≡ take i (asked cs) ++ c.now ∷ []
+  take_one cs i c lt is =
+      take-map (λ (x : Bor (Asked B)). x.now) (i + 1) cs ∙ map_more (λ (x : Bor (Asked B)). x.now) cs i c lt ∙ ap (λ l. l ++ (get_or cs i c).now ∷ []) (sym (take-map (λ (x : Bor (Asked B)). x.now) i cs))
+      ∙ ap (λ (x : Bor (Asked B)). take i (asked cs) ++ x.now ∷ []) (sym is)
+
+  -- the next one found refused memory
+  pub wanted : (cs : List (Bor (Asked B))) (i : ℕ) (c : Bor (Asked B)) (t : State) → i < length cs → c ≡ get_or cs i c → IsTrue (needs_memory t c.now) → IsEnd (asked cs) i t
+  wanted cs i c t lt is memory = record {
+    most = omega (arith, lt, length-map cs (λ (x : Bor (Asked B)). x.now));
+    wants = λ d e.
+        let here : slice_get (asked cs) i ≡ Some c.now = slice_get-map (λ (x : Bor (Asked B)). x.now) cs i ∙ ap (option_map (λ (x : Bor (Asked B)). x.now)) (slice_get_read cs (length cs) i c refl lt is) in
+        let same : c.now ≡ d = cc in
+        subst (λ (x : Asked B). IsTrue (needs_memory t x)) same memory;
+  }
+
+  -- all were applied
+  all_done : (cs : List (Asked B)) (t : State) → IsEnd cs (length cs) t
+  all_done cs t = record { most = omega arith; wants = λ c e. let within = slice_get_within cs (length cs) c e in absurd (omega (arith, within)) }
+
+  pub applied_one : {C : Type 0} (s t u : State) (cs : List (Bor (Asked B))) (i : ℕ) (c : Bor (Asked B)) (outcomes more : List (Outcome C)) (accepted others : List (Asked B)) → i < length cs → c ≡ get_or cs i c
+      → AreApplied s (asked cs) i t outcomes accepted → u ≡ next t c.now → more ≡ outcomes ++ map Replied (replies C t (c.now ∷ [])) → others ≡ accepted ++ accepted_of t (c.now ∷ [])
+      → AreApplied s (asked cs) (i + 1) u more others
+  applied_one {C} s t u cs i c outcomes more accepted others lt is so_far u_is more_is others_is =
+      let front = take i (asked cs) in
+      let one : take (i + 1) (asked cs) ≡ front ++ c.now ∷ [] = take_one cs i c lt is in
+      record {
+        state = u_is ∙ ap (λ x. next x c.now) so_far.state ∙ sym (after-append s front (c.now ∷ [])) ∙ ap (after s) (sym one);
+        replied =
+            more_is ∙ ap (λ l. l ++ map Replied (replies C t (c.now ∷ []))) so_far.replied ∙ ap (λ x. map Replied (replies C s front) ++ map Replied (replies C x (c.now ∷ []))) so_far.state
+            ∙ sym (map-append Replied (replies C s front) (replies C (after s front) (c.now ∷ []))) ∙ ap (map Replied) (sym (replies_more C s front (c.now ∷ []))) ∙ ap (λ l. map Replied (replies C s l)) (sym one);
+        taken =
+            others_is ∙ ap (λ l. l ++ accepted_of t (c.now ∷ [])) so_far.taken ∙ ap (λ x. accepted_of s front ++ accepted_of x (c.now ∷ [])) so_far.state
+            ∙ sym (accepted_more s front (c.now ∷ [])) ∙ ap (accepted_of s) (sym one);
+      }
+
+  -- none was applied, and no more are
+  pub stopped : {C : Type 0} (s t u : State) (cs : List (Bor (Asked B))) (i : ℕ) (c : Bor (Asked B)) (outcomes same : List (Outcome C)) (accepted others : List (Bor (Asked B))) → i < length cs → c ≡ get_or cs i c
+      → AreApplied s (asked cs) i t outcomes (asked accepted) → IsTrue (needs_memory t c.now) → u ≡ t → same ≡ outcomes → others ≡ accepted → (applied : ℕ) × AreApplied s (asked cs) applied u same (asked others) × IsEnd (asked cs) applied u
+  stopped s t u cs i c outcomes same accepted others lt is so_far memory u_is same_is others_is = (
+    i,
+    record { state = u_is ∙ so_far.state; replied = same_is ∙ so_far.replied; taken = ap asked others_is ∙ so_far.taken },
+    subst (λ x. IsEnd (asked cs) i x) (sym u_is) (wanted cs i c t lt is memory),
+  )
+
+  -- ---- the whole batch
+
+  nothing_asked : (items : List (Bor (Asked B))) → asked items ≡ [] → items ≡ []
+  nothing_asked [] e = refl
+  nothing_asked (x ∷ xs) e = absurd cc
+
+  text_asked : (cs : List (Bor (Asked B))) → length (flat_map command_text (asked cs)) ≡ length (flat_map (λ c. command_text c.now) cs)
+  text_asked cs = ap length (flat_map-map command_text (λ (x : Bor (Asked B)). x.now) cs)
+
+  pub record Ends {C : Type 0} (s : State) (cs : List (Asked B)) (t : State) (outcomes : List (Outcome C)) (accepted : List (Asked B)) : Type 0 where
+    pub applied : ℕ
+    pub are : AreApplied s cs applied t outcomes accepted
+    pub end : IsEnd cs applied t
+
+  pub ends : {C E : Type 0} (s t : State) (cs : List (Bor (Asked B))) (outcomes : List (Outcome C)) (accepted : List (Asked B)) (result : Result Unit E) → OnOk result (AreApplied s (asked cs) (length cs) t outcomes accepted)
+      → OnErr result ((applied : ℕ) × AreApplied s (asked cs) applied t outcomes accepted × IsEnd (asked cs) applied t) → Ends s (asked cs) t outcomes accepted
+  ends s t cs outcomes accepted (Ok u) are none = record { applied = length cs; are = are; end = subst (λ n. IsEnd (asked cs) n t) (length-map cs (λ (x : Bor (Asked B)). x.now)) (all_done (asked cs) t) }
+  ends s t cs outcomes accepted (Err e) none some = record { applied = some.0; are = some.1; end = some.2 }
+
+  module _ {C : Type 0} (s t : State) (cs items : List (Bor (Asked B))) (outcomes : List (Outcome C)) (e : Ends s (asked cs) t outcomes (asked items)) where
+    abbrev applied : List (Asked B)
+    applied = take e.applied (asked cs)
+
+    count_is : length (asked cs) ≡ length cs
+    count_is = length-map cs (λ (x : Bor (Asked B)). x.now)
+
+    places_are : length outcomes ≡ e.applied
+    places_are =
+        let most = e.end.most in
+        ap length e.are.replied ∙ length-map (replies C s applied) Replied ∙ length-replies C s applied ∙ length-take-le e.applied (asked cs) most
+
+    pub ends_places : length outcomes ≤ length cs
+    ends_places = let most = e.end.most in omega (arith, places_are, most, count_is)
+
+    pub ends_answered : (filled : List (Outcome C)) (len : ℕ) → len ≡ length outcomes → filled ≡ outcomes ++ replicate (length cs - len) NoMemory → IsAnswered s (asked cs) t filled
+    ends_answered filled len len_is filled_is =
+        let left : length cs - len ≡ length (asked cs) - e.applied = omega (arith, count_is, len_is, places_are) in
+        record {
+          applied = e.applied;
+          end = e.end;
+          state = e.are.state;
+          outcomes_are = filled_is ∙ ap (λ (l : List (Outcome C)). l ++ replicate (length cs - len) NoMemory) e.are.replied ∙ ap (λ n. map Replied (replies C s applied) ++ replicate n NoMemory) left;
+        }
+
+    pub ends_history : IsHistory s (asked items)
+    ends_history = subst (λ (l : List (Asked B)). IsHistory s l) (sym e.are.taken) (accepted_history s applied)
+
+    pub ends_state : t ≡ after s (asked items)
+    ends_state = e.are.state ∙ sym (accepted_after s applied) ∙ ap (after s) (sym e.are.taken)
+
+    pub ends_limits : t.registered.limits ≡ s.registered.limits
+    ends_limits = ap (λ (x : State). x.registered.limits) e.are.state ∙ limits_after s applied
+
+    pub ends_count : length items ≤ length cs
+    ends_count =
+        let most = e.end.most in
+        omega (arith, most, count_is, length-map items (λ (x : Bor (Asked B)). x.now), ap length e.are.taken, accepted_count s applied, length-take-le e.applied (asked cs) most)
+
+    pub ends_none : accepted_of s (asked cs) ≡ [] → items ≡ []
+    ends_none none = nothing_asked items (e.are.taken ∙ none_accepted s (asked cs) e.applied none)
+
+    pub ends_size : length (flat_map (λ c. command_text c.now) items) ≤ length (flat_map (λ c. command_text c.now) cs)
+    ends_size =
+        omega (
+          arith,
+          text_asked items,
+          text_asked cs,
+          ap (λ (l : List (Asked B)). length (flat_map command_text l)) e.are.taken,
+          accepted_size s applied,
+          front_size (asked cs) e.applied,
+        )

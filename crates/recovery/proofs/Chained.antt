@@ -1,0 +1,132 @@
+-- A step of opening, and the first fault.
+use Rattle.std.proofs.Common.{◌≡◌, ℕ, List, Option, Result, Ok, Err, refl, sym, subst, ap, ◌∙◌}
+use Rattle.centre_core.specs.State.{State}
+use Rattle.gated_journal.specs.Half.{half_of}
+use Rattle.checkpoint.specs.declared.layout.Layout.{Layout}
+use Rattle.checkpoint.specs.declared.side.Side.{Side}
+use Rattle.checkpoint.specs.declared.side.Side.TheVariants as side
+use Rattle.checkpoint.specs.Layout.{half_at, half_end}
+use Rattle.checkpoint.specs.Standing.{Base, Held}
+use Rattle.recovery.specs.declared.fault.StoreFault.{StoreFault}
+use Rattle.recovery.specs.declared.fault.StoreFault.TheVariants.{BadGeometry, Broken, Damaged, DiskFault, EpochsUsedUp, NoMemory, Unformatted}
+use Rattle.recovery.specs.Label.{layout_in}
+use Rattle.recovery.specs.Opens.{Opening, base_in, chosen, held_by, opening, opens, opens_by, played, played_by, side_at, side_in, then_on}
+use Rattle.recovery.specs.Opening.{Fails, Gives}
+
+-- a fault of one step is a fault of what it is a step of
+pub fails_by : {X Y : Type 0} (e : StoreFault) (r : Result X StoreFault) (q : Result Y StoreFault) → (r ≡ Err e → q ≡ Err e) → Fails e r → Fails e q
+fails_by Unformatted r q f is = f is
+fails_by BadGeometry r q f is = f is
+fails_by (Damaged at) r q f is = f is
+fails_by DiskFault r q f is = tt
+fails_by Broken r q f is = f is
+fails_by NoMemory r q f is = tt
+fails_by EpochsUsedUp r q f is = f is
+
+pub fails_is : {X : Type 0} (e : StoreFault) (r : Result X StoreFault) → r ≡ Err e → Fails e r
+fails_is Unformatted r is = is
+fails_is BadGeometry r is = is
+fails_is (Damaged at) r is = is
+fails_is DiskFault r is = tt
+fails_is Broken r is = is
+fails_is NoMemory r is = tt
+fails_is EpochsUsedUp r is = is
+
+-- what is answered is what stands there
+pub gives_same : {X : Type 0} (r q : Result X StoreFault) → r ≡ q → Gives (λ x. x) r q
+gives_same (Ok x) q is = sym is
+gives_same (Err e) q is = fails_is e q (sym is)
+
+module _ {X Y : Type 0} where
+  -- the first step fails
+  pub fails_then : (e : StoreFault) (r : Result X StoreFault) (go : X → Result Y StoreFault) → Fails e r → Fails e (then_on r go)
+  fails_then e r go is = fails_by e r (then_on r go) (λ f. ap (λ (s : Result X StoreFault). then_on s go) f) is
+
+  -- it was taken
+  pub then_past : (x : X) (r : Result X StoreFault) (go : X → Result Y StoreFault) → r ≡ Ok x → then_on r go ≡ go x
+  then_past x r go is = ap (λ (s : Result X StoreFault). then_on s go) is
+
+  pub fails_past : (e : StoreFault) (x : X) (r : Result X StoreFault) (go : X → Result Y StoreFault) → r ≡ Ok x → Fails e (go x) → Fails e (then_on r go)
+  fails_past e x r go is failed = subst (λ (q : Result Y StoreFault). Fails e q) (sym (then_past x r go is)) failed
+
+  -- both were taken
+  pub then_ok : (r : Result X StoreFault) (go : X → Result Y StoreFault) (y : Y) → then_on r go ≡ Ok y → (x : X) × (r ≡ Ok x) × (go x ≡ Ok y)
+  then_ok (Ok x) go y e = (x, refl, e)
+  then_ok (Err fault) go y e = absurd cc
+
+-- ---- the sides
+
+module _ (layout : Layout) (image : List (List ℕ)) where
+  abbrev pub with_a : Option ℕ → Result Side StoreFault
+  with_a a = then_on (side_at layout side.B image) (λ b. chosen a b)
+
+  pub side_a : (e : StoreFault) → Fails e (side_at layout side.A image) → Fails e (side_in layout image)
+  unfolding side_in
+  side_a e is = fails_then e (side_at layout side.A image) with_a is
+
+  pub side_b : (a : Option ℕ) (e : StoreFault) → side_at layout side.A image ≡ Ok a → Fails e (side_at layout side.B image) → Fails e (side_in layout image)
+  unfolding side_in
+  side_b a e first is = fails_past e a (side_at layout side.A image) with_a first (fails_then e (side_at layout side.B image) (λ b. chosen a b) is)
+
+  pub side_ab : (a b : Option ℕ) → side_at layout side.A image ≡ Ok a → side_at layout side.B image ≡ Ok b → side_in layout image ≡ chosen a b
+  unfolding side_in
+  side_ab a b first second = then_past a (side_at layout side.A image) with_a first ∙ then_past b (side_at layout side.B image) (λ b. chosen a b) second
+
+  pub side_chosen : (a b : Option ℕ) (r : Result Side StoreFault) → side_at layout side.A image ≡ Ok a → side_at layout side.B image ≡ Ok b → r ≡ chosen a b → Gives (λ x. x) r (side_in layout image)
+  side_chosen a b r first second is = gives_same r (side_in layout image) (is ∙ sym (side_ab a b first second))
+
+-- ---- the records
+
+module _ (A : Type 0) (layout : Layout) (s : Side) (image : List (List ℕ)) where
+  abbrev pub whole : Result (Held A) StoreFault
+  whole = held_by (half_of image (half_at layout s) (half_end layout s))
+
+  abbrev pub on_held : State → Held A → Result (State × ℕ) StoreFault
+  on_held t held = then_on (played t held.0) (λ u. Ok (u, held.1))
+
+  pub played_half : (t : State) (e : StoreFault) → Fails e whole → Fails e (played_by A layout s t image)
+  unfolding played_by
+  played_half t e is = fails_then e whole (on_held t) is
+
+  pub played_fault : (t : State) (held : Held A) (e : StoreFault) → whole ≡ Ok held → Fails e (played t held.0) → Fails e (played_by A layout s t image)
+  unfolding played_by
+  played_fault t held e there is = fails_past e held whole (on_held t) there (fails_then e (played t held.0) (λ u. Ok (u, held.1)) is)
+
+  pub played_ok : (t u : State) (held : Held A) → whole ≡ Ok held → played t held.0 ≡ Ok u → played_by A layout s t image ≡ Ok (u, held.1)
+  unfolding played_by
+  played_ok t u held there is = then_past held whole (on_held t) there ∙ then_past u (played t held.0) (λ u. Ok (u, held.1)) is
+
+  -- ---- by one side
+
+  abbrev pub on_base : Base → Result Opening StoreFault
+  on_base base = then_on (played_by A layout s base.1 image) (λ end. Ok (opening layout s base.0 end.1 end.0))
+
+  pub by_slot : (e : StoreFault) → Fails e (base_in layout s image) → Fails e (opens_by A layout s image)
+  unfolding opens_by
+  by_slot e is = fails_then e (base_in layout s image) on_base is
+
+  pub by_half : (base : Base) (e : StoreFault) → base_in layout s image ≡ Ok base → Fails e (played_by A layout s base.1 image) → Fails e (opens_by A layout s image)
+  unfolding opens_by
+  by_half base e there is = fails_past e base (base_in layout s image) on_base there (fails_then e (played_by A layout s base.1 image) (λ end. Ok (opening layout s base.0 end.1 end.0)) is)
+
+  pub by_both : (base : Base) (end : State × ℕ) → base_in layout s image ≡ Ok base → played_by A layout s base.1 image ≡ Ok end → opens_by A layout s image ≡ Ok (opening layout s base.0 end.1 end.0)
+  unfolding opens_by
+  by_both base end there is = then_past base (base_in layout s image) on_base there ∙ then_past end (played_by A layout s base.1 image) (λ end. Ok (opening layout s base.0 end.1 end.0)) is
+
+-- ---- the whole
+
+module _ (A : Type 0) (image : List (List ℕ)) where
+  abbrev pub on_side : Layout → Result Opening StoreFault
+  on_side layout = then_on (side_in layout image) (λ s. opens_by A layout s image)
+
+  pub opens_label : (e : StoreFault) → Fails e (layout_in image) → Fails e (opens A image)
+  unfolding opens
+  opens_label e is = fails_then e (layout_in image) on_side is
+
+  pub opens_side : (layout : Layout) (e : StoreFault) → layout_in image ≡ Ok layout → Fails e (side_in layout image) → Fails e (opens A image)
+  unfolding opens
+  opens_side layout e there is = fails_past e layout (layout_in image) on_side there (fails_then e (side_in layout image) (λ s. opens_by A layout s image) is)
+
+  pub opens_on : (layout : Layout) (s : Side) → layout_in image ≡ Ok layout → side_in layout image ≡ Ok s → opens A image ≡ opens_by A layout s image
+  unfolding opens
+  opens_on layout s there is = then_past layout (layout_in image) on_side there ∙ then_past s (side_in layout image) (λ s. opens_by A layout s image) is

@@ -1,0 +1,124 @@
+-- The state that an image opens to is one, and in its ranges.
+use Rattle.std.proofs.Common.{◌≡◌, ℕ, zero, suc, ◌+◌, ◌-◌, List, [], ◌∷◌, ◌++◌, length, Option, Some, None, Ok, Err, refl, sym, subst, ap, ◌∙◌, inl, inr, arith}
+use Rattle.std.specs.List.{All}
+use Rattle.std.proofs.lemmas.Bool.{cases_lt}
+use Rattle.std.proofs.lemmas.List.{get_or_past}
+use Rattle.std.proofs.Math.ListN.{get_or-append}
+use Rattle.std.proofs.Math.Seq.{get_or-append_right}
+use Rattle.std.proofs.lemmas.List.Elements.{All-append, All-cons, All-head, All-nil, All-tail}
+use Rattle.sector_disk.specs.Disk.{AreSectors, sector}
+use Rattle.identity.specs.Packed.{AreBytes}
+use Rattle.command_bytes.specs.Text.{IsCommand}
+use Rattle.centre_core.specs.Asked.{Asked}
+use Rattle.centre_core.specs.State.{State}
+use Rattle.centre_core.specs.Step.{step}
+use Rattle.centre_core.specs.History.{after, next}
+use Rattle.centre_core.proofs.RangeLaws.{step_keeps_ranges}
+use Rattle.centre_core.proofs.StateLaws.{step_keeps_state}
+use Rattle.registration.specs.declared.limits.Limits.{Limits}
+use Rattle.image_rows.proofs.Images.{image_is_spelt}
+use Rattle.gated_journal.specs.Half.{Entry, Half, data_from, half_from, half_on, record_at, told_size, with_front}
+use Rattle.gated_journal.proofs.Halves.{opened}
+use Rattle.gated_journal.proofs.Listed.{record_taken}
+use Rattle.checkpoint.specs.Layout.{half_at, half_end, slot_at, slot_size}
+use Rattle.checkpoint.specs.Standing.{sectors_from}
+use Rattle.recovery.specs.Opens.{Opening, opens}
+use Rattle.recovery.specs.Standing.{IsRanged}
+use Rattle.recovery.specs.Standing.{commands_of}
+use Rattle.recovery.proofs.Limited.{step_limits}
+use Rattle.recovery.proofs.Stood.{behind}
+
+-- ---- bytes
+
+no_bytes : AreBytes []
+no_bytes i = omega arith
+
+more_bytes : (xs ys : List ℕ) → AreBytes xs → AreBytes ys → AreBytes (xs ++ ys)
+more_bytes xs ys front back = λ i.
+    elim (cases_lt i (length xs)) [
+      | inl lt ↦ rw (get_or-append xs ys 0 i lt) (front i)
+      | inr le ↦ rw (get_or-append_right xs ys i 0 le) (back (i - length xs))
+    ]
+
+module _ (image : List (List ℕ)) (are : AreSectors image) where
+  pub sector_bytes : (k : ℕ) → AreBytes (sector image k)
+  sector_bytes k =
+      elim (cases_lt k (length image)) [
+        | inl lt ↦ (are.each k lt).bytes
+        | inr le ↦ rw (get_or_past image k [] le) no_bytes
+      ]
+
+  slot_bytes : (n at : ℕ) → All AreBytes (sectors_from image at n)
+  unfolding sectors_from
+  slot_bytes zero at = All-nil AreBytes
+  slot_bytes (suc n) at = All-cons AreBytes (sector image at) (sectors_from image (at + 1) n) (sector_bytes at) (slot_bytes n (at + 1))
+
+  data_bytes : (n at : ℕ) → AreBytes (data_from image at n)
+  unfolding data_from
+  data_bytes zero at = no_bytes
+  data_bytes (suc n) at = more_bytes (data_from image at n) (sector image (at + n)) (data_bytes n at) (sector_bytes (at + n))
+
+  -- ---- the commands of a half
+
+  module _ {A : Type 0} where
+    abbrev Mine : Entry A → Type 0
+    Mine entry = All IsCommand entry.1
+
+    entries_is : (entry : Entry A) (half : Half A) (entries : List (Entry A)) (gate : ℕ) → with_front (entry ∷ []) half ≡ Ok (entries, gate) → (rest : List (Entry A)) × (half ≡ Ok (rest, gate)) × (entries ≡ entry ∷ rest)
+    entries_is entry (Ok half) entries gate e =
+        let pair : ◌≡◌ {A = List (Entry A) × ℕ} (entry ∷ half.0, half.1) (entries, gate) = cc in
+        (half.0, ap (λ (x : List (Entry A) × ℕ). Ok (half.0, x.1)) pair, sym (ap (λ (x : List (Entry A) × ℕ). x.0) pair))
+    entries_is entry (Err s) entries gate e = absurd cc
+
+    no_entries : (at : ℕ) (entries : List (Entry A)) (gate : ℕ) → (let r : Half A = Ok ([], at) in r) ≡ Ok (entries, gate) → entries ≡ []
+    no_entries at entries gate e = let pair : ◌≡◌ {A = List (Entry A) × ℕ} ([], at) (entries, gate) = cc in sym (ap (λ (x : List (Entry A) × ℕ). x.0) pair)
+
+    none_mine : (at : ℕ) (entries : List (Entry A)) (gate : ℕ) → (let r : Half A = Ok ([], at) in r) ≡ Ok (entries, gate) → All Mine entries
+    none_mine at entries gate e = subst (All Mine) (sym (no_entries at entries gate e)) (All-nil Mine)
+
+    half_commands : (fuel at end : ℕ) (entries : List (Entry A)) (gate : ℕ) → half_from fuel image at end ≡ Ok (entries, gate) → All Mine entries
+    unfolding half_from
+    half_commands zero at end entries gate e = none_mine at entries gate e
+    half_commands (suc fuel) at end entries gate e =
+        elim (record_at {A = A} image at end) as (λ r. record_at image at end ≡ r → half_on at r (λ next. half_from fuel image next end) ≡ Ok (entries, gate) → All Mine entries) [
+          | Err fault ↦ λ is f. absurd cc
+          | Ok o ↦ λ is f. on (λ next rest. half_commands fuel next end rest gate) o is f
+        ] refl e
+      where
+        on : ((next : ℕ) (rest : List (Entry A)) → half_from fuel image next end ≡ Ok (rest, gate) → All Mine rest) → (o : Option (List (Asked A) × ℕ)) → record_at image at end ≡ Ok o
+            → half_on at (Ok o) (λ next. half_from fuel image next end) ≡ Ok (entries, gate) → All Mine entries
+        on go None is f = none_mine at entries gate f
+        on go (Some x) is f =
+            let rest = entries_is (at + 1, x.0) (half_from fuel image x.1 end) entries gate f in
+            let there = opened image at end x is in
+            let fit = (record_taken (data_from image (at + 1) (told_size (sector image (at + 1)))) x.0 (data_bytes (told_size (sector image (at + 1))) (at + 1)) there.read).fit in
+            subst (All Mine) (sym rest.2) (All-cons Mine (at + 1, x.0) rest.0 fit.each (go x.1 rest.0 rest.1))
+
+-- ---- the state after them
+
+module _ {A : Type 0} where
+  all_commands : (entries : List (Entry A)) → All (λ (entry : Entry A). All IsCommand entry.1) entries → All IsCommand (commands_of entries)
+  all_commands [] are = All-nil IsCommand
+  all_commands (entry ∷ entries) are =
+      let P = λ (entry : Entry A). All IsCommand entry.1 in
+      All-append IsCommand entry.1 (commands_of entries) (All-head P entry entries are) (all_commands entries (All-tail P entry entries are))
+
+  ranged_after : (limits : Limits) (s : State) (cs : List (Asked A)) → All IsCommand cs → IsRanged limits s → IsRanged limits (after s cs)
+  ranged_after limits s [] are is = is
+  ranged_after limits s (c ∷ cs) are is =
+      let first = All-head IsCommand c cs are in
+      ranged_after limits (next s c) cs (All-tail IsCommand c cs are) (record {
+        kept = step_keeps_state s c is.kept;
+        ranges = step_keeps_ranges A s c first.range is.ranges;
+        under = step_limits s (next s c) c (step {B = A} s c).1 refl ∙ is.under;
+      })
+
+pub opens_ranged : (A : Type 0) (o : Opening) (image : List (List ℕ)) → AreSectors image → opens A image ≡ Ok o → IsRanged o.layout.limits o.state
+opens_ranged A o image are e =
+    let is = behind A o image e in
+    let first = half_at o.layout o.side in
+    let end = half_end o.layout o.side in
+    let base = image_is_spelt o.layout.limits (sectors_from image (slot_at o.layout o.side) (slot_size o.layout)) o.epoch is.base (slot_bytes image are (slot_size o.layout) (slot_at o.layout o.side)) is.slot in
+    let commands = all_commands is.entries (half_commands image are (end - first) first end is.entries o.next is.half) in
+    let after_is = ranged_after o.layout.limits is.base (commands_of is.entries) commands (record { kept = base.0; ranges = base.1; under = base.2 }) in
+    subst (IsRanged o.layout.limits) (sym is.made) after_is

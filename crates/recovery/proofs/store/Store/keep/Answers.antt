@@ -1,0 +1,56 @@
+use Rattle.std.proofs.Common.{rules, ◌≡◌, ◌+◌, [], length, ap, subst, ◌∙◌, Result, Ok, OnOk, arith}
+use Rattle.std.proofs.lemmas.List.{nil_from_length}
+use Rattle.centre_core.specs.History.{after}
+use Rattle.gated_journal.specs.declared.place.Place.{Place}
+use Rattle.gated_journal.specs.Record.{data_size, given, record_text}
+use Rattle.gated_journal.proofs.Given.{given_size}
+use Rattle.recovery.specs.Kept.{IsKept}
+use Rattle.recovery.specs.Outcomes.{asked}
+use Rattle.recovery.proofs.Keeping.{append_keeps, append_leaves, nothing_done, only_before, settled}
+use Rattle.recovery.proofs.store.Store.keep.Goals as goal
+
+ok_part : {T E P : Type 0} {r : Result T E} {t : T} → r ≡ Ok t → OnOk r P → P
+ok_part {P = P} is p = subst (λ r. OnOk r P) is p
+
+pub returns-then-is_empty-clause-any_moment : goal.returns-then-is_empty-clause-any_moment
+returns-then-is_empty-clause-any_moment g c = λ state history honest kept.
+    only_before g.row.A.Denot state (after state (asked c.args.accepted.now)) (g.D.Disk.view c.args.self.now.disk) (g.D.Disk.view c.args.self.now.disk)
+    (nothing_done g.row.A.Denot c.args.self.now.layout c.args.self.now.side c.args.self.now.epoch c.args.self.now.journal.next state (g.D.Disk.view c.args.self.now.disk) kept (g.met.D.Disk.sound c.args.self.now.disk honest))
+
+pub returns-then-is_empty-clause-kept : goal.returns-then-is_empty-clause-kept
+returns-then-is_empty-clause-kept g c = λ state history honest kept.
+    let nothing : length c.args.accepted.now ≡ 0 = search rules in
+    let none : c.args.accepted.now ≡ [] = nil_from_length c.args.accepted.now nothing in
+    rw none kept
+
+pub returns-then-is_err-clause-any_moment : goal.returns-then-is_err-clause-any_moment
+returns-then-is_err-clause-any_moment g c = λ state history honest kept.
+    append_leaves g.row.A.Denot c.args.self.now.layout c.args.self.now.side c.args.self.now.epoch c.args.self.now.journal c.args.self.now.first c.args.self.now.end c.args.self.now.next state (g.D.Disk.view c.args.self.now.disk) kept c.args.accepted.now history (g.D.Disk.view c.append.new.disk) (c.append.ensures.any_moment kept.entries honest (settled g.row.A.Denot c.args.self.now.layout c.args.self.now.side c.args.self.now.epoch c.args.self.now.journal c.args.self.now.first c.args.self.now.end c.args.self.now.next state (g.D.Disk.view c.args.self.now.disk) kept))
+
+pub invariant_of-self-else-is_err : goal.invariant_of-self-else-is_err
+invariant_of-self-else-is_err g c =
+    let done : c.append.result ≡ Ok tt = search rules in
+    let is : c.append.new.self ≡ record { first = c.args.self.now.journal.first; end = c.args.self.now.journal.end; next = c.args.self.now.journal.next + data_size (record_text (given g.row.A.Denot c.args.accepted.now)) + 1 } = ok_part done c.append.ensures.next in
+    let next = ap (λ (p : Place). p.next) is in
+    record {
+      room = omega (arith, c.append.ensures.sectors, c.args.self.now.room);
+      limits = c.args.self.now.limits;
+      first = ap (λ (p : Place). p.first) is ∙ c.args.self.now.first;
+      end = ap (λ (p : Place). p.end) is ∙ c.args.self.now.end;
+      next = omega (arith, next, c.requires.fits, given_size g.row.A.Denot c.args.accepted.now, c.args.self.now.end);
+    }
+
+pub returns-clause-any_moment : goal.returns-clause-any_moment
+returns-clause-any_moment g c = λ state history honest kept.
+    append_leaves g.row.A.Denot c.args.self.now.layout c.args.self.now.side c.args.self.now.epoch c.args.self.now.journal c.args.self.now.first c.args.self.now.end c.args.self.now.next state (g.D.Disk.view c.args.self.now.disk) kept c.args.accepted.now history (g.D.Disk.view c.append.new.disk) (c.append.ensures.any_moment kept.entries honest (settled g.row.A.Denot c.args.self.now.layout c.args.self.now.side c.args.self.now.epoch c.args.self.now.journal c.args.self.now.first c.args.self.now.end c.args.self.now.next state (g.D.Disk.view c.args.self.now.disk) kept))
+
+pub returns-clause-kept : goal.returns-clause-kept
+returns-clause-kept g c = λ state history honest kept.
+    let done : c.append.result ≡ Ok tt = search rules in
+    let is : c.append.new.self ≡ record { first = c.args.self.now.journal.first; end = c.args.self.now.journal.end; next = c.args.self.now.journal.next + data_size (record_text (given g.row.A.Denot c.args.accepted.now)) + 1 } = ok_part done c.append.ensures.next in
+    let here = settled g.row.A.Denot c.args.self.now.layout c.args.self.now.side c.args.self.now.epoch c.args.self.now.journal c.args.self.now.first c.args.self.now.end c.args.self.now.next state (g.D.Disk.view c.args.self.now.disk) kept in
+    let leaves = c.append.ensures.any_moment kept.entries honest here in
+    let sound = g.met.D.Disk.sound c.append.new.disk (c.append.ensures.honest honest) in
+    let first : c.append.new.self.first ≡ c.args.self.now.journal.first = ap (λ (p : Place). p.first) is in
+    let end : c.append.new.self.end ≡ c.args.self.now.journal.end = ap (λ (p : Place). p.end) is in
+    append_keeps g.row.A.Denot c.args.self.now.layout c.args.self.now.side c.args.self.now.epoch c.args.self.now.journal c.args.self.now.first c.args.self.now.end c.args.self.now.next state (g.D.Disk.view c.args.self.now.disk) kept c.args.accepted.now history (g.D.Disk.view c.append.new.disk) c.append.new.self first end leaves sound (ok_part done c.append.ensures.acknowledged kept.entries honest here)

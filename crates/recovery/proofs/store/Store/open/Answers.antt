@@ -1,0 +1,41 @@
+use Rattle.std.proofs.Common.{◌≡◌, ◌<◌, ◌≤◌, length, Ok, ap, ◌∙◌, arith}
+use Rattle.sector_disk.specs.Disk.{View}
+use Rattle.checkpoint.specs.Layout.{disk_size}
+use Rattle.recovery.specs.Opened.{opened_view}
+use Rattle.recovery.specs.Opens.{Opening, opens}
+use Rattle.recovery.proofs.Stood.{kept_so}
+use Rattle.recovery.proofs.Synced.{no_image_arises, one_image}
+use Rattle.recovery.proofs.store.Store.open.Goals as goal
+
+pub returns-in-Ok-read_all-clause-kept : goal.returns-in-Ok-read_all-clause-kept
+returns-in-Ok-read_all-clause-kept g c honest =
+    let given : View = g.D.Disk.view c.args.disk in
+    let synced : View = g.D.Disk.view c.sync.new.self in
+    let now : View = g.D.Disk.view c.read_all.new.disk in
+    let syncs = c.in-Ok.ensures.effect honest in
+    let looked = c.in-Ok-read_all.ensures.looked syncs.honest in
+    let o : Opening = opened_view c.in-Ok-read_all.opened in
+    let there : opens g.row.A.Denot synced.reads ≡ Ok o = c.in-Ok-read_all.ensures.exact syncs.honest in
+    let last : opens g.row.A.Denot now.reads ≡ Ok o = ap (opens g.row.A.Denot) looked.reads ∙ there in
+    let sound = g.met.D.Disk.sound c.read_all.new.disk looked.honest in
+    let room : disk_size o.layout ≤ synced.sectors = c.in-Ok-read_all.ensures.room in
+    let some : 0 < length now.reads = omega (arith, room, sound.count, c.read_all.ensures.sectors) in
+    kept_so g.row.A.Denot now o (one_image given synced now syncs looked) (sound.reads_left.whole 0 some).bytes last c.in-Ok-read_all.ensures.whole.next
+
+pub returns-in-Ok-read_all-clause-only : goal.returns-in-Ok-read_all-clause-only
+returns-in-Ok-read_all-clause-only g c honest image is =
+    let given : View = g.D.Disk.view c.args.disk in
+    let synced : View = g.D.Disk.view c.sync.new.self in
+    let now : View = g.D.Disk.view c.read_all.new.disk in
+    let syncs = c.in-Ok.ensures.effect honest in
+    let looked = c.in-Ok-read_all.ensures.looked syncs.honest in
+    one_image given synced now syncs looked image is ∙ looked.reads ∙ syncs.reads
+
+pub returns-in-Ok-read_all-clause-left : goal.returns-in-Ok-read_all-clause-left
+returns-in-Ok-read_all-clause-left g c honest =
+    let given : View = g.D.Disk.view c.args.disk in
+    let synced : View = g.D.Disk.view c.sync.new.self in
+    let now : View = g.D.Disk.view c.read_all.new.disk in
+    let syncs = c.in-Ok.ensures.effect honest in
+    let looked = c.in-Ok-read_all.ensures.looked syncs.honest in
+    no_image_arises given synced now (Ok tt) (g.met.D.Disk.sound c.args.disk honest) syncs looked

@@ -1,0 +1,53 @@
+-- What becomes of a batch of commands.
+use Rattle.std.specs.Prelude.{◌≡◌, ◌⊎◌, ℕ, ◌-◌, ◌≤◌, IsTrue, List, [], ◌∷◌, ◌++◌, length, map, take, replicate, slice_get, Some, if◌then◌else◌}
+use Rattle.std.specs.Borrow.{Bor}
+use Rattle.centre_core.specs.Asked.{Asked}
+use Rattle.centre_core.specs.declared.reply.Reply.{Reply}
+use Rattle.centre_core.specs.State.{State}
+use Rattle.centre_core.specs.Step.{step}
+use Rattle.centre_core.specs.Memory.{needs_memory}
+use Rattle.centre_core.specs.History.{accepts, after, next}
+use Rattle.recovery.specs.declared.outcome.Outcome.{Outcome}
+use Rattle.recovery.specs.declared.outcome.Outcome.TheVariants.{NoMemory, Replied}
+use Rattle.recovery.specs.Standing.{StandsFor}
+
+-- commands that were given by reference
+abbrev pub asked : {B : Type 0} → List (Bor (Asked B)) → List (Asked B)
+asked commands = map (λ command. command.now) commands
+
+module _ {B : Type 0} where
+  -- those of the commands that are accepted, each in its turn
+  abbrev pub accepted_of : State → List (Asked B) → List (Asked B)
+  accepted_of s [] = []
+  accepted_of s (c ∷ cs) = if accepts s c then c ∷ accepted_of (next s c) cs else accepted_of (next s c) cs
+
+  -- the replies to the commands, each in its turn, kept under the allocator C
+  abbrev pub replies : (C : Type 0) → State → List (Asked B) → List (Reply C)
+  replies C s [] = []
+  replies C s (c ∷ cs) = (step {B = C} s c).1 ∷ replies C (next s c) cs
+
+  -- the first commands were applied, so many of them: the state then, the outcomes, and the commands that were accepted
+  pub record AreApplied {C : Type 0} (s : State) (commands : List (Asked B)) (applied : ℕ) (t : State) (outcomes : List (Outcome C)) (accepted : List (Asked B)) : Type 0 where
+    pub state : t ≡ after s (take applied commands)
+    pub replied : outcomes ≡ map Replied (replies C s (take applied commands))
+    pub taken : accepted ≡ accepted_of s (take applied commands)
+
+  -- no more are applied: there are no more, or the next one needs memory
+  pub record IsEnd (commands : List (Asked B)) (applied : ℕ) (t : State) : Type 0 where
+    pub most : applied ≤ length commands
+    pub wants : (c : Asked B) → slice_get commands applied ≡ Some c → IsTrue (needs_memory t c)
+
+  -- the state after the first commands, applied in turn as far as there was memory
+  abbrev pub IsAfterBatch : State → List (Asked B) → State → Type 0
+  IsAfterBatch s commands t = (applied : ℕ) × (t ≡ after s (take applied commands)) × IsEnd commands applied t
+
+  -- so the batch is answered: the first commands by their replies, and from the first one that found no memory on each by want of memory
+  pub record IsAnswered {C : Type 0} (s : State) (commands : List (Asked B)) (t : State) (outcomes : List (Outcome C)) : Type 0 where
+    pub applied : ℕ
+    pub end : IsEnd commands applied t
+    pub state : t ≡ after s (take applied commands)
+    pub outcomes_are : outcomes ≡ map Replied (replies C s (take applied commands)) ++ replicate (length commands - applied) NoMemory
+
+-- the image stands for one of two states
+abbrev pub StandsForEither : (A : Type 0) → State → State → List (List ℕ) → Type 0
+StandsForEither A s t image = StandsFor A s image ⊎ StandsFor A t image

@@ -1,0 +1,23 @@
+-- Why a call on a store may be refused.
+use Rattle.recovery.specs.declared.fault.StoreFault.{StoreFault}
+use Rattle.recovery.specs.declared.fault.StoreFault.TheVariants.{BadGeometry, Broken, Damaged, DiskFault, EpochsUsedUp, NoMemory, Unformatted}
+
+-- what a commit may be refused for; the other faults are told by an opening alone
+abbrev pub IsOfCommit : StoreFault → Type 0
+IsOfCommit Unformatted = ⊥
+IsOfCommit BadGeometry = ⊥
+IsOfCommit (Damaged at) = ⊥
+IsOfCommit DiskFault = Unit {0}
+IsOfCommit Broken = Unit {0}
+IsOfCommit NoMemory = Unit {0}
+IsOfCommit EpochsUsedUp = Unit {0}
+
+-- and a checkpoint, which takes no memory
+abbrev pub IsOfCheckpoint : StoreFault → Type 0
+IsOfCheckpoint Unformatted = ⊥
+IsOfCheckpoint BadGeometry = ⊥
+IsOfCheckpoint (Damaged at) = ⊥
+IsOfCheckpoint DiskFault = Unit {0}
+IsOfCheckpoint Broken = Unit {0}
+IsOfCheckpoint NoMemory = ⊥
+IsOfCheckpoint EpochsUsedUp = Unit {0}

@@ -1,0 +1,98 @@
+//! A checkpoint of a register that is kept on a disk.
+
+ghost use Rattle.std.specs.Prelude.{◌≡◌, ◌+◌, ◌<◌, ◌≤◌, Err, IfErr, IsErrOf, OnErr, OnOk, true, false};
+ghost use Rattle.sector_disk.specs.Disk.{HasFailed};
+ghost use Rattle.sector_disk.specs.Run.{LeavesOnly};
+ghost use Rattle.image_rows.specs.Rows.{last_epoch};
+ghost use Rattle.checkpoint.specs.declared.fault.CheckpointError.TheVariants as checkpoint;
+ghost use Rattle.checkpoint.specs.Layout.{disk_size, half_at, half_end, other_of};
+ghost use Rattle.checkpoint.specs.Standing.{Base, Held, InEach, IsEither, Stands, fresh};
+ghost use Rattle.recovery.specs.declared.fault.StoreFault.TheVariants.{Broken, DiskFault, EpochsUsedUp};
+ghost use Rattle.recovery.specs.Kept.{IsKept};
+ghost use Rattle.recovery.specs.Refusals.{IsOfCheckpoint};
+ghost use Rattle.recovery.specs.Standing.{StandsFor};
+
+use crate::{Store, StoreFault};
+use centre_core::Register;
+use checkpoint::{CheckpointError, Layout, Side, switch, write_image};
+use sector_disk::Disk;
+use std::alloc::Allocator;
+
+// Writes the register's image to the other side of the disk, and makes that the current one.
+fn write_side<A: Allocator + Clone, D: Disk>(
+    disk: &mut D,
+    layout: &Layout,
+    current: Side,
+    epoch: u64,
+    register: &Register<A>,
+) -> Result<(), CheckpointError>
+    requires room { disk_size layout.now ≤ (D.view disk.old).sectors }
+    requires limits { register.now.registered.limits ≡ layout.now.limits }
+    ensures any_moment { (base : Base) (held : Held A) → base.0 ≡ epoch → (D.view disk.old).honest → InEach (D.view disk.old) (Stands layout.now current base held)
+        → LeavesOnly (D.view disk.old) (D.view disk.new) (IsEither layout.now current base (epoch + 1, register.now) held) }
+    ensures switched { OnOk result ((base : Base) (held : Held A) → base.0 ≡ epoch → (D.view disk.old).honest → InEach (D.view disk.old) (Stands layout.now current base held)
+        → InEach (D.view disk.new) (Stands {A = A} layout.now (other_of current) (epoch + 1, register.now) (fresh layout.now (other_of current)))) }
+    ensures fault { IsErrOf result checkpoint.DiskFault → HasFailed (D.view disk.old) (D.view disk.new) }
+    ensures epochs { IsErrOf result checkpoint.EpochsUsedUp → (last_epoch ≤ epoch) × (disk.new ≡ disk.old) }
+    ensures used_up { last_epoch ≤ epoch → result ≡ Err checkpoint.EpochsUsedUp }
+    ensures sectors { (D.view disk.new).sectors ≡ (D.view disk.old).sectors }
+    ensures later { (D.view disk.old).failures ≤ (D.view disk.new).failures }
+    ensures honest { (D.view disk.old).honest → (D.view disk.new).honest }
+{
+    write_image(disk, layout, current, epoch, register)?;
+    switch::<A, D>(disk, layout, current)
+}
+
+impl<A: Allocator + Clone, D: Disk> Store<A, D> {
+    /// Makes a checkpoint: writes the register's image to the other side of the disk, which then counts, with the next
+    /// epoch and no record behind it. Takes no memory.
+    ///
+    /// `Broken` comes where the device has failed in an earlier call, `EpochsUsedUp` where the register's image has the
+    /// last epoch, 2 to the 62nd; nothing is then changed. After `DiskFault` the disk is to be opened again.
+    pub fn checkpoint(&mut self) -> Result<(), StoreFault>
+        // A stop at any moment of the call, also of one that fails, leaves the disk standing for the register.
+        ensures any_moment { (D.view self.old.disk).honest → IsKept A self.old.layout self.old.side self.old.epoch self.old.journal.next self.old.register (D.view self.old.disk)
+            → LeavesOnly (D.view self.old.disk) (D.view self.new.disk) (StandsFor A self.old.register) }
+
+        // At `Ok` each stop leaves it standing by the other side, with the next epoch and no record.
+        ensures moved { OnOk result ((D.view self.old.disk).honest → IsKept A self.old.layout self.old.side self.old.epoch self.old.journal.next self.old.register (D.view self.old.disk)
+            → InEach (D.view self.new.disk) (Stands {A = A} self.old.layout (other_of self.old.side) (self.old.epoch + 1, self.old.register) (fresh self.old.layout (other_of self.old.side)))) }
+        ensures kept { OnOk result ((D.view self.old.disk).honest → IsKept A self.old.layout self.old.side self.old.epoch self.old.journal.next self.old.register (D.view self.old.disk)
+            → IsKept A self.new.layout self.new.side self.new.epoch self.new.journal.next self.new.register (D.view self.new.disk)) }
+        ensures sides { OnOk result ((self.new.side ≡ other_of self.old.side) × (self.new.epoch ≡ self.old.epoch + 1)) }
+        ensures no_record { OnOk result (self.new.journal.next ≡ half_at self.new.layout self.new.side) }
+        ensures same { (self.new.layout ≡ self.old.layout) × (self.new.register ≡ self.old.register) }
+        ensures unmoved { OnErr result ((self.new.side ≡ self.old.side) × (self.new.epoch ≡ self.old.epoch) × (self.new.journal ≡ self.old.journal)) }
+
+        // It does not give up by itself.
+        ensures broken { self.old.broken ≡ true → result ≡ Err Broken }
+        ensures only_broken { IsErrOf result Broken → (self.old.broken ≡ true) × (self.new ≡ self.old) }
+        ensures used_up { self.old.broken ≡ false → last_epoch ≤ self.old.epoch → result ≡ Err EpochsUsedUp }
+        ensures epochs { IsErrOf result EpochsUsedUp → (last_epoch ≤ self.old.epoch) × (self.new.disk ≡ self.old.disk) × (self.new.broken ≡ false) }
+        ensures fault { IsErrOf result DiskFault → HasFailed (D.view self.old.disk) (D.view self.new.disk) × (self.new.broken ≡ true) }
+        ensures kinds { IfErr result IsOfCheckpoint }
+        ensures sound { OnOk result (self.new.broken ≡ false) }
+        ensures later { (D.view self.old.disk).failures ≤ (D.view self.new.disk).failures }
+        ensures honest { (D.view self.old.disk).honest → (D.view self.new.disk).honest }
+    {
+        if self.broken {
+            return Err(StoreFault::Broken);
+        }
+        let (side, epoch) = (self.side, self.epoch);
+        match write_side(&mut self.disk, &self.layout, side, epoch, &self.register) {
+            Ok(()) => {
+                self.side = side.other();
+                self.epoch = epoch + 1;
+                let first = self.layout.half(self.side);
+                self.journal
+                    .restart(first, u64::from(self.layout.journal()));
+                Ok(())
+            }
+            Err(CheckpointError::EpochsUsedUp) => Err(StoreFault::EpochsUsedUp),
+            Err(CheckpointError::DiskFault) => {
+                self.broken = true;
+                Err(StoreFault::DiskFault)
+            }
+        }
+    }
+}

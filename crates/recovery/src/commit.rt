@@ -1,0 +1,145 @@
+//! A batch of commands kept on a disk.
+
+ghost use Rattle.std.specs.Prelude.{◌≡◌, ◌⊎◌, ◌+◌, ◌<◌, ◌≤◌, [], Err, IfErr, IfOk, IsErrOf, Ok, OnErr, OnOk, length, true, false};
+ghost use Rattle.sector_disk.specs.Disk.{HasFailed};
+ghost use Rattle.sector_disk.specs.Run.{LeavesOnly};
+ghost use Rattle.centre_core.specs.History.{after};
+ghost use Rattle.centre_core.specs.Histories.{IsHistory};
+ghost use Rattle.centre_core.specs.State.{State};
+ghost use Rattle.image_rows.specs.Rows.{last_epoch};
+ghost use Rattle.gated_journal.specs.Record.{data_size, given, most_commands, record_text};
+ghost use Rattle.gated_journal.specs.Settled.{room_of};
+ghost use Rattle.checkpoint.specs.Layout.{other_of};
+ghost use Rattle.checkpoint.specs.Standing.{InEach};
+ghost use Rattle.recovery.specs.declared.fault.StoreFault.TheVariants.{Broken, DiskFault, EpochsUsedUp, NoMemory};
+ghost use Rattle.recovery.specs.Kept.{IsKept};
+ghost use Rattle.recovery.specs.Outcomes.{IsAfterBatch, IsAnswered, StandsForEither, accepted_of, asked};
+ghost use Rattle.recovery.specs.Refusals.{IsOfCheckpoint, IsOfCommit};
+ghost use Rattle.recovery.specs.Standing.{StandsFor};
+
+use crate::batch::apply_all;
+use crate::{Outcome, Store, StoreFault};
+use centre_core::Command;
+use sector_disk::Disk;
+use std::alloc::Allocator;
+
+impl<A: Allocator + Clone, D: Disk> Store<A, D> {
+    // A checkpoint where a record of these commands would not fit.
+    fn make_room<B: Allocator>(&mut self, commands: &[&Command<B>]) -> Result<(), StoreFault>
+        requires { length commands.now ≤ most_commands }
+        ensures any_moment { (D.view self.old.disk).honest → IsKept A self.old.layout self.old.side self.old.epoch self.old.journal.next self.old.register (D.view self.old.disk)
+            → LeavesOnly (D.view self.old.disk) (D.view self.new.disk) (StandsFor A self.old.register) }
+        ensures kept { OnOk result ((D.view self.old.disk).honest → IsKept A self.old.layout self.old.side self.old.epoch self.old.journal.next self.old.register (D.view self.old.disk)
+            → IsKept A self.new.layout self.new.side self.new.epoch self.new.journal.next self.new.register (D.view self.new.disk)) }
+        ensures fits { OnOk result (data_size (record_text (given A commands.now)) ≤ room_of self.new.journal) }
+        ensures stays { data_size (record_text (given A commands.now)) ≤ room_of self.old.journal → (result ≡ Ok tt) × (self.new ≡ self.old) }
+        ensures moves { OnOk result (room_of self.old.journal < data_size (record_text (given A commands.now)) → (self.new.side ≡ other_of self.old.side) × (self.new.epoch ≡ self.old.epoch + 1)) }
+        ensures same { (self.new.layout ≡ self.old.layout) × (self.new.register ≡ self.old.register) }
+        ensures unmoved { OnErr result ((self.new.side ≡ self.old.side) × (self.new.epoch ≡ self.old.epoch) × (self.new.journal ≡ self.old.journal)) }
+        ensures only_broken { IsErrOf result Broken → (self.old.broken ≡ true) × (self.new ≡ self.old) }
+        ensures memory { IsErrOf result NoMemory → ⊥ }
+        ensures epochs { IsErrOf result EpochsUsedUp → (last_epoch ≤ self.old.epoch) × (room_of self.old.journal < data_size (record_text (given A commands.now))) × (self.new.disk ≡ self.old.disk) × (self.new.broken ≡ false) }
+        ensures fault { IsErrOf result DiskFault → HasFailed (D.view self.old.disk) (D.view self.new.disk) × (self.new.broken ≡ true) }
+        ensures kinds { IfErr result IsOfCheckpoint }
+        ensures sound { OnOk result (self.old.broken ≡ false → self.new.broken ≡ false) }
+        ensures later { (D.view self.old.disk).failures ≤ (D.view self.new.disk).failures }
+        ensures honest { (D.view self.old.disk).honest → (D.view self.new.disk).honest }
+    {
+        if self.journal.has_room(commands) {
+            return Ok(());
+        }
+        self.checkpoint()
+    }
+
+    // Adds a record of these commands to the journal, of none nothing. The register has them already.
+    fn keep<B: Allocator>(&mut self, accepted: &[&Command<B>]) -> Result<(), StoreFault>
+        requires few { length accepted.now ≤ most_commands }
+        requires fits { data_size (record_text (given A accepted.now)) ≤ room_of self.old.journal }
+        ensures any_moment { (state : State) → IsHistory state (asked accepted.now) → (D.view self.old.disk).honest → IsKept A self.old.layout self.old.side self.old.epoch self.old.journal.next state (D.view self.old.disk)
+            → LeavesOnly (D.view self.old.disk) (D.view self.new.disk) (StandsForEither A state (after state (asked accepted.now))) }
+        ensures kept { OnOk result ((state : State) → IsHistory state (asked accepted.now) → (D.view self.old.disk).honest → IsKept A self.old.layout self.old.side self.old.epoch self.old.journal.next state (D.view self.old.disk)
+            → IsKept A self.new.layout self.new.side self.new.epoch self.new.journal.next (after state (asked accepted.now)) (D.view self.new.disk)) }
+        ensures none { accepted.now ≡ [] → self.new ≡ self.old }
+        ensures same { (self.new.layout ≡ self.old.layout) × (self.new.side ≡ self.old.side) × (self.new.epoch ≡ self.old.epoch) × (self.new.register ≡ self.old.register) }
+        ensures fault { IfErr result (λ fault. (fault ≡ DiskFault) × HasFailed (D.view self.old.disk) (D.view self.new.disk) × (self.new.broken ≡ true)) }
+        ensures sound { OnOk result (self.new.broken ≡ self.old.broken) }
+        ensures later { (D.view self.old.disk).failures ≤ (D.view self.new.disk).failures }
+        ensures honest { (D.view self.old.disk).honest → (D.view self.new.disk).honest }
+    {
+        if accepted.is_empty() {
+            return Ok(());
+        }
+        if self.journal.append(&mut self.disk, accepted).is_err() {
+            self.broken = true;
+            return Err(StoreFault::DiskFault);
+        }
+        Ok(())
+    }
+
+    /// Applies the commands, at most 64, in turn, and keeps those that are accepted as one record on the disk. Where a
+    /// record of all of them would not fit, a checkpoint is made first. Gives the outcome of each, under `alloc`.
+    ///
+    /// `Broken` comes where the device has failed in an earlier call, `NoMemory` where there was none for the outcomes,
+    /// `EpochsUsedUp` where a checkpoint was to be made and the register's image has the last epoch; nothing is then
+    /// changed. After `DiskFault` the disk is to be opened again: it then stands for the register before the call, or for
+    /// that with all of its accepted commands.
+    pub fn commit<B: Allocator, C: Allocator + Copy>(
+        &mut self,
+        alloc: C,
+        commands: &[&Command<B>],
+    ) -> Result<Vec<Outcome<C>, C>, StoreFault>
+        requires { length commands.now ≤ most_commands }
+
+        // A stop at any moment of the call, also of one that fails, leaves the disk standing for the register before it or
+        // after it, that is with none or with all of its accepted commands.
+        ensures any_moment { (D.view self.old.disk).honest → IsKept A self.old.layout self.old.side self.old.epoch self.old.journal.next self.old.register (D.view self.old.disk)
+            → LeavesOnly (D.view self.old.disk) (D.view self.new.disk) (StandsForEither A self.old.register self.new.register) }
+        ensures register { OnErr result ((self.new.register ≡ self.old.register) ⊎ IsAfterBatch self.old.register (asked commands.now) self.new.register) }
+
+        // At `Ok` the register has them, each stop leaves the disk standing for it, and each command is answered.
+        ensures outcomes { IfOk result (λ outcomes. IsAnswered self.old.register (asked commands.now) self.new.register outcomes.items) }
+        ensures kept { OnOk result ((D.view self.old.disk).honest → IsKept A self.old.layout self.old.side self.old.epoch self.old.journal.next self.old.register (D.view self.old.disk)
+            → IsKept A self.new.layout self.new.side self.new.epoch self.new.journal.next self.new.register (D.view self.new.disk)) }
+        ensures acknowledged { OnOk result ((D.view self.old.disk).honest → IsKept A self.old.layout self.old.side self.old.epoch self.old.journal.next self.old.register (D.view self.old.disk)
+            → InEach (D.view self.new.disk) (StandsFor A self.new.register)) }
+
+        // A checkpoint is made exactly where a record of all commands would not fit. Nothing is written of no commands,
+        // nor, where they would fit, of commands none of which is accepted.
+        ensures empty { commands.now ≡ [] → self.old.broken ≡ false → OnOk result (self.new ≡ self.old) }
+        ensures idle { data_size (record_text (given A commands.now)) ≤ room_of self.old.journal → accepted_of self.old.register (asked commands.now) ≡ [] → self.new.disk ≡ self.old.disk }
+        ensures stays { data_size (record_text (given A commands.now)) ≤ room_of self.old.journal → (self.new.side ≡ self.old.side) × (self.new.epoch ≡ self.old.epoch) }
+        ensures moves { OnOk result (1 ≤ length commands.now → room_of self.old.journal < data_size (record_text (given A commands.now)) → (self.new.side ≡ other_of self.old.side) × (self.new.epoch ≡ self.old.epoch + 1)) }
+        ensures layout { self.new.layout ≡ self.old.layout }
+
+        // It does not give up by itself.
+        ensures broken { self.old.broken ≡ true → result ≡ Err Broken }
+        ensures only_broken { IsErrOf result Broken → (self.old.broken ≡ true) × (self.new ≡ self.old) }
+        ensures memory { IsErrOf result NoMemory → self.new ≡ self.old }
+        ensures epochs { IsErrOf result EpochsUsedUp → (last_epoch ≤ self.old.epoch) × (room_of self.old.journal < data_size (record_text (given A commands.now))) × (self.new.disk ≡ self.old.disk) × (self.new.broken ≡ false) }
+        ensures unmoved { IsErrOf result EpochsUsedUp → (self.new.side ≡ self.old.side) × (self.new.epoch ≡ self.old.epoch) × (self.new.journal ≡ self.old.journal) × (self.new.register ≡ self.old.register) }
+        ensures fault { IsErrOf result DiskFault → HasFailed (D.view self.old.disk) (D.view self.new.disk) × (self.new.broken ≡ true) }
+        ensures kinds { IfErr result IsOfCommit }
+        ensures sound { OnOk result (self.new.broken ≡ false) }
+        ensures later { (D.view self.old.disk).failures ≤ (D.view self.new.disk).failures }
+        ensures honest { (D.view self.old.disk).honest → (D.view self.new.disk).honest }
+    {
+        if self.broken {
+            return Err(StoreFault::Broken);
+        }
+        let mut outcomes = Vec::with_capacity(alloc, commands.len())?;
+        if commands.is_empty() {
+            return Ok(outcomes);
+        }
+        let mut accepted = Vec::with_capacity(alloc, commands.len())?;
+        self.make_room(commands)?;
+        apply_all(
+            &mut self.register,
+            alloc,
+            commands,
+            &mut outcomes,
+            &mut accepted,
+        );
+        self.keep(&accepted)?;
+        Ok(outcomes)
+    }
+}

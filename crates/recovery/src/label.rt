@@ -1,0 +1,116 @@
+// The label of a disk, read.
+ghost use Rattle.std.specs.Prelude.{◌≡◌, ◌⊎◌, ◌≤◌, IfErr, IfOk, IsErrOf, length};
+ghost use Rattle.sector_disk.specs.Disk.{HasFailed};
+ghost use Rattle.sector_disk.specs.Run.{HasLooked};
+ghost use Rattle.checkpoint.specs.Layout.{disk_size};
+ghost use Rattle.recovery.specs.declared.fault.StoreFault.TheVariants.{BadGeometry, DiskFault, Unformatted};
+ghost use Rattle.recovery.specs.Label.{fitting, layout_at, layout_behind, layout_in, layout_told, told_at};
+ghost use Rattle.recovery.specs.Opening.{Gives, IsOfDisk};
+
+use crate::StoreFault;
+use crate::formatting::LAYOUT;
+use checkpoint::Layout;
+use command_bytes::number;
+use registration::Limits;
+use sector_disk::Disk;
+
+/// The letters with which a label begins.
+const NAME: [u8; 8] = *b"TETRALOC";
+
+/// The numbers of a label: that of its layout, the four limits, and how many sectors a half has.
+#[derive(Clone, Copy, Debug, Drop)]
+pub(crate) struct Told {
+    number: u64,
+    rules: u32,
+    radios: u32,
+    mail: u32,
+    stations: u32,
+    journal: u32,
+}
+
+// The numbers behind the name.
+#[tactic(auto, unfolding(crate::specs::Label::told_at))]
+fn numbers(bytes: &[u8]) -> Option<Told>
+    ensures { result ≡ told_at bytes.now }
+{
+    let (layout, rest) = number(bytes, 2)?;
+    let (rules, rest) = number(rest, 4)?;
+    let (radios, rest) = number(rest, 4)?;
+    let (mail, rest) = number(rest, 4)?;
+    let (stations, rest) = number(rest, 4)?;
+    let (journal, _) = number(rest, 4)?;
+    Some(Told {
+        number: layout,
+        rules: rules as u32,
+        radios: radios as u32,
+        mail: mail as u32,
+        stations: stations as u32,
+        journal: journal as u32,
+    })
+}
+
+// The layout of these numbers, where they are in their ranges.
+fn layout_told(told: &Told) -> Option<Layout>
+    ensures { result ≡ layout_told told.now }
+{
+    if told.number != LAYOUT {
+        return None;
+    }
+    let limits = Limits::new(told.rules, told.radios, told.mail, told.stations)?;
+    Layout::new(limits, told.journal)
+}
+
+// The layout that the bytes behind the name tell.
+fn layout_behind(bytes: &[u8]) -> Option<Layout>
+    ensures { result ≡ layout_behind bytes.now }
+{
+    layout_told(&numbers(bytes)?)
+}
+
+// The layout, where there are the sectors for it.
+fn fitting(sectors: u64, layout: Option<Layout>) -> Result<Layout, StoreFault>
+    ensures value { result ≡ fitting sectors layout }
+    ensures room { IfOk result (λ layout. disk_size layout ≤ sectors) }
+    ensures fault { IfErr result (λ fault. fault ≡ BadGeometry) }
+{
+    let Some(layout) = layout else {
+        return Err(StoreFault::BadGeometry);
+    };
+    if sectors < layout.sectors() {
+        return Err(StoreFault::BadGeometry);
+    }
+    Ok(layout)
+}
+
+// The layout that the first one of so many sectors tells.
+fn layout_at(sectors: u64, bytes: &[u8]) -> Result<Layout, StoreFault>
+    requires { 8 ≤ length bytes.now }
+    ensures value { result ≡ layout_at sectors bytes.now }
+    ensures room { IfOk result (λ layout. disk_size layout ≤ sectors) }
+    ensures fault { IfErr result (λ fault. (fault ≡ Unformatted) ⊎ (fault ≡ BadGeometry)) }
+{
+    if bytes[..8] != NAME[..] {
+        return Err(StoreFault::Unformatted);
+    }
+    fitting(sectors, layout_behind(&bytes[8..]))
+}
+
+// The layout that the disk tells.
+#[tactic(auto, unfolding(crate::specs::Label::layout_in))]
+pub(crate) fn read_layout<D: Disk>(disk: &mut D) -> Result<Layout, StoreFault>
+    ensures exact { (D.view disk.old).honest → Gives (λ layout. layout) result (layout_in (D.view disk.old).reads) }
+    ensures room { IfOk result (λ layout. disk_size layout ≤ (D.view disk.old).sectors) }
+    ensures kinds { IfErr result IsOfDisk }
+    ensures looked { (D.view disk.old).honest → HasLooked (D.view disk.old) (D.view disk.new) }
+    ensures fault { IsErrOf result DiskFault → HasFailed (D.view disk.old) (D.view disk.new) }
+    ensures sectors { (D.view disk.new).sectors ≡ (D.view disk.old).sectors }
+    ensures later { (D.view disk.old).failures ≤ (D.view disk.new).failures }
+{
+    let sectors = disk.sectors();
+    if sectors == 0 {
+        return Err(StoreFault::Unformatted);
+    }
+    let mut bytes = [0; 512];
+    disk.read(0, &mut bytes)?;
+    layout_at(sectors, &bytes)
+}

@@ -1,0 +1,107 @@
+//! A register that is kept on a disk.
+ghost use Rattle.std.specs.Prelude.{◌≡◌, ◌≤◌, ◌<◌, IfErr, IfOk, Ok, true, false, Some, None, option_map};
+ghost use Rattle.sector_disk.specs.Disk.{HasFailed, IsImageOf};
+ghost use Rattle.sector_disk.specs.Run.{LeavesOnly};
+ghost use Rattle.checkpoint.specs.Layout.{disk_size, half_at, half_end};
+ghost use Rattle.checkpoint.specs.Standing.{InEach};
+ghost use Rattle.recovery.specs.declared.fault.StoreFault.TheVariants.{DiskFault, NoMemory};
+ghost use Rattle.recovery.specs.Kept.{IsKept};
+ghost use Rattle.recovery.specs.Opens.{opening, opens};
+ghost use Rattle.recovery.specs.Opening.{Fails, HasNoFaultYet, IsOfOpening};
+
+use crate::StoreFault;
+use crate::opening::{Opened, read_all};
+use centre_core::Register;
+use checkpoint::{Layout, Side};
+use gated_journal::Journal;
+use sector_disk::Disk;
+use std::alloc::Allocator;
+
+/// A register that is kept on a disk: each command that it accepts is on the disk before it is answered.
+#[derive(Drop)]
+pub struct Store<A: Allocator, D: Disk> {
+    pub(crate) disk: D,
+    pub(crate) layout: Layout,
+    pub(crate) side: Side,
+    pub(crate) epoch: u64,
+    pub(crate) journal: Journal<A>,
+    pub(crate) register: Register<A>,
+    pub(crate) broken: bool,
+    ghost room: { disk_size layout ≤ (D.view disk).sectors },
+    ghost limits: { register.registered.limits ≡ layout.limits },
+    ghost first: { journal.first ≡ half_at layout side },
+    ghost end: { journal.end ≡ half_end layout side },
+    ghost next: { journal.next < half_end layout side },
+}
+
+impl<A: Allocator + Copy, D: Disk> Store<A, D> {
+    /// Opens the register that is kept on a disk, under `alloc`; a fault gives the disk back. The disk is synced first,
+    /// and then only read.
+    ///
+    /// `Unformatted`, `BadGeometry` and `Damaged` tell what stands on the disk; `Damaged` names the sector at fault.
+    pub fn open(alloc: A, disk: D) -> Result<Store<A, D>, (StoreFault, D)>
+        // What is answered is what the disk opens to as it reads.
+        ensures opened { IfOk result (λ store. (D.view disk).honest → opens A (D.view disk).reads ≡ Ok (opening store.layout store.side store.epoch store.journal.next store.register)) }
+        ensures refused { IfErr result (λ e. (D.view disk).honest → Fails e.0 (opens A (D.view disk).reads)) }
+
+        // The store is kept: each stop leaves what was read, and no stop in the call leaves anything else than one before it.
+        ensures kept { IfOk result (λ store. (D.view disk).honest → IsKept A store.layout store.side store.epoch store.journal.next store.register (D.view store.disk)) }
+        ensures sound { IfOk result (λ store. store.broken ≡ false) }
+        ensures only { IfOk result (λ store. (D.view disk).honest → InEach (D.view store.disk) (λ image. image ≡ (D.view disk).reads)) }
+        ensures left { IfOk result (λ store. (D.view disk).honest → LeavesOnly (D.view disk) (D.view store.disk) (IsImageOf (D.view disk))) }
+        ensures left_by { IfErr result (λ e. (D.view disk).honest → LeavesOnly (D.view disk) (D.view e.1) (IsImageOf (D.view disk))) }
+
+        // Want of memory hides no fault of what was read.
+        ensures memory { IfErr result (λ e. e.0 ≡ NoMemory → (D.view disk).honest → HasNoFaultYet (D.view disk).reads (D.view e.1).calls) }
+
+        // It does not give up by itself.
+        ensures fault { IfErr result (λ e. e.0 ≡ DiskFault → HasFailed (D.view disk) (D.view e.1)) }
+        ensures kinds { IfErr result (λ e. IsOfOpening e.0) }
+    {
+        let mut disk = disk;
+        let Ok(()) = disk.sync() else {
+            return Err((StoreFault::DiskFault, disk));
+        };
+        match read_all(alloc, &mut disk) {
+            Ok(opened) => {
+                let Opened {
+                    layout,
+                    side,
+                    epoch,
+                    journal,
+                    register,
+                } = opened;
+                Ok(Store {
+                    disk,
+                    layout,
+                    side,
+                    epoch,
+                    journal,
+                    register,
+                    broken: false,
+                })
+            }
+            Err(fault) => Err((fault, disk)),
+        }
+    }
+}
+
+impl<A: Allocator, D: Disk> Store<A, D> {
+    /// The register; `None` once the device has failed in a call.
+    pub fn register(&self) -> Option<&Register<A>>
+        ensures broken { self.now.broken ≡ true → result ≡ None }
+        ensures sound { self.now.broken ≡ false → option_map (λ register. register.now) result ≡ Some self.now.register }
+    {
+        if self.broken {
+            return None;
+        }
+        Some(&self.register)
+    }
+
+    /// Gives the disk back.
+    pub fn into_disk(self) -> D
+        ensures { result ≡ self.disk }
+    {
+        self.disk
+    }
+}

@@ -1,0 +1,586 @@
+//! Batches of commands that are kept on a disk, and checkpoints.
+ghost use Rattle.std.specs.Prelude.{◌≡◌, ◌≤◌, length};
+
+use crate::made;
+use centre_core::{Command, Refusal, Reply};
+use linked_list_allocator::LocalHeap;
+use recovery::{Outcome, Store, StoreFault};
+use sector_disk::{Disk, Failing, FailingDisk, MemoryDisk};
+use std::alloc::{Allocator, Global};
+use std::test::Fail;
+
+/// What a stop puts into sectors that are pending.
+const BYTES: [u8; 3] = [0, 1, 77];
+
+// ---- running
+
+/// How many commands the register has accepted; nothing where the store is broken.
+fn count<A: Allocator + Copy, D: Disk>(store: &Store<A, D>) -> Option<u64> {
+    match store.register() {
+        Some(register) => Some(register.count()),
+        None => None,
+    }
+}
+
+/// Whether a command was accepted with this number.
+fn is_accepted<C: Allocator>(outcome: &Outcome<C>, want: u64) -> bool {
+    match outcome {
+        Outcome::Replied(Reply::Accepted { number, .. }) => *number == want,
+        _ => false,
+    }
+}
+
+/// Whether the commands were accepted with numbers from this one on.
+fn are_accepted<C: Allocator>(outcomes: &[Outcome<C>], first: u64) -> bool {
+    for k in 0..outcomes.len() {
+        if !is_accepted(&outcomes[k], first.saturating_add(k as u64)) {
+            return false;
+        }
+    }
+    true
+}
+
+/// Commits one batch; tells whether all of it was accepted, with the next numbers.
+fn commit<D: Disk>(
+    alloc: Global,
+    store: &mut Store<Global, D>,
+    commands: &[&Command<Global>],
+) -> Result<bool, StoreFault>
+    requires { length commands.now ≤ 64 }
+{
+    let before = count(store).unwrap_or(0);
+    let outcomes = store.commit(alloc, commands)?;
+    Ok(outcomes.len() == commands.len() && are_accepted(&outcomes, before.saturating_add(1)))
+}
+
+/// Commits commands one by one; tells how many commits were answered, up to the first fault.
+fn commit_each<D: Disk>(
+    alloc: Global,
+    store: &mut Store<Global, D>,
+    commands: &[&Command<Global>],
+) -> u64 {
+    let mut answered: u64 = 0;
+    for command in commands {
+        if commit(alloc, store, &[*command]) != Ok(true) {
+            return answered;
+        }
+        answered = answered.saturating_add(1);
+    }
+    answered
+}
+
+/// Opens a disk, and commits commands one by one; tells how many commits were answered, and gives the disk.
+fn run<D: Disk>(alloc: Global, disk: D, commands: &[&Command<Global>]) -> (u64, D) {
+    match Store::open(alloc, disk) {
+        Ok(mut store) => {
+            let answered = commit_each(alloc, &mut store, commands);
+            (answered, store.into_disk())
+        }
+        Err((_, disk)) => (0, disk),
+    }
+}
+
+/// The same with all commands in one commit; tells whether it was answered.
+fn run_as_one<D: Disk>(alloc: Global, disk: D, commands: &[&Command<Global>]) -> (bool, D)
+    requires { length commands.now ≤ 64 }
+{
+    match Store::open(alloc, disk) {
+        Ok(mut store) => {
+            let answered = commit(alloc, &mut store, commands) == Ok(true);
+            (answered, store.into_disk())
+        }
+        Err((_, disk)) => (false, disk),
+    }
+}
+
+/// How many commands the register of a disk has accepted; nothing where it does not open.
+fn stands_for<D: Disk>(alloc: Global, disk: D) -> (Option<u64>, D) {
+    match Store::open(alloc, disk) {
+        Ok(store) => (count(&store), store.into_disk()),
+        Err((_, disk)) => (None, disk),
+    }
+}
+
+/// Whether sectors begin with these bytes.
+fn begin<D: Disk>(disk: &mut D, sectors: &[(u64, &[u8])]) -> bool {
+    for (at, front) in sectors {
+        let mut bytes = [7; 512];
+        if disk.read(*at, &mut bytes).is_err() || !bytes.starts_with(front) {
+            return false;
+        }
+    }
+    true
+}
+
+/// What a stop leaves of a disk that puts these bytes into each pending sector.
+fn stop(
+    alloc: Global,
+    disk: MemoryDisk<Global>,
+    bytes: [u8; 512],
+) -> Result<MemoryDisk<Global>, Fail> {
+    let mut fill = Vec::new(alloc);
+    for at in &disk.pending(alloc)? {
+        fill.push((*at, bytes))?;
+    }
+    Ok(disk.crash(&fill))
+}
+
+// ---- one after the other
+
+/// The record of the rule, alone.
+const RULE_ALONE: [u8; 6] = [0, 1, 0, 0, 0, 0x1b];
+
+/// The record of an attach.
+const ATTACH_ALONE: [u8; 6] = [0, 1, 0, 0, 0, 0x17];
+
+fn are_kept(alloc: Global) -> Result<bool, Fail> {
+    let rule = made::rule().ok_or("a rule")?;
+    let attach = made::attach(alloc).ok_or("an attach")?;
+    let (answered, disk) = run(alloc, made::formatted(alloc)?, &[&rule, &attach]);
+    let (count, mut disk) = stands_for(alloc, disk);
+    let written = [
+        (589, [1].as_slice()),
+        (590, RULE_ALONE.as_slice()),
+        (591, [1].as_slice()),
+        (592, ATTACH_ALONE.as_slice()),
+        (593, [0].as_slice()),
+    ];
+    Ok(answered == 2 && count == Some(2) && begin(&mut disk, &written))
+}
+
+#[test]
+fn commands_are_kept_one_after_the_other(rt: HostRuntime) -> Result<(), Fail> {
+    assert!(rt; are_kept(rt.alloc())?);
+    Ok(())
+}
+
+/// After the rule an attach is committed while this call of the disk fails; then a stop leaves this byte in each pending
+/// sector. Tells how often the commit was answered, whether it was its gate that was pending, and for how many commands
+/// the disk stands then.
+fn stopped(alloc: Global, call: u64, byte: u8) -> Result<(u64, bool, Option<u64>), Fail> {
+    let rule = made::rule().ok_or("a rule")?;
+    let attach = made::attach(alloc).ok_or("an attach")?;
+    let (_, disk) = run(alloc, made::formatted(alloc)?, &[&rule]);
+    let (answered, disk) = run(
+        alloc,
+        FailingDisk::new(disk, call, Failing::Always),
+        &[&attach],
+    );
+    let disk = disk.into_inner();
+    let gate = disk.pending(alloc)?.as_slice() == [591].as_slice();
+    let (count, _) = stands_for(alloc, stop(alloc, disk, [byte; 512])?);
+    Ok((answered, gate, count))
+}
+
+/// Whether a stop at this call leaves the attach where it was answered, or where its gate's byte is 1.
+fn is_stopped_well(alloc: Global, call: u64, byte: u8) -> Result<bool, Fail> {
+    let (answered, gate, count) = stopped(alloc, call, byte)?;
+    let whole = answered == 1 || gate && byte == 1;
+    Ok(count == Some(if whole { 2 } else { 1 }))
+}
+
+/// The opening makes 12 calls, the commit the next five, of which the last one syncs the gate.
+fn are_stopped_well(alloc: Global, byte: u8) -> Result<bool, Fail> {
+    for call in 1..=18 {
+        if !is_stopped_well(alloc, call, byte)? {
+            return Ok(false);
+        }
+    }
+    Ok(true)
+}
+
+#[test]
+fn a_command_counts_once_its_gate_is_open(rt: HostRuntime) -> Result<(), Fail> {
+    for byte in BYTES {
+        assert!(rt; are_stopped_well(rt.alloc(), byte)?);
+    }
+    Ok(())
+}
+
+// ---- several in one record
+
+/// The head of a record of 27, 23 and 11 bytes.
+const THREE: [u8; 6] = [0, 3, 0, 0, 0, 0x3d];
+
+/// Three commands are committed at once while this call of the disk fails. Tells as `stopped` does.
+fn three_stopped(alloc: Global, call: u64, byte: u8) -> Result<(bool, bool, Option<u64>), Fail> {
+    let rule = made::rule().ok_or("a rule")?;
+    let attach = made::attach(alloc).ok_or("an attach")?;
+    let expiry = made::expiry(1).ok_or("an expiry")?;
+    let disk = FailingDisk::new(made::formatted(alloc)?, call, Failing::Always);
+    let (answered, disk) = run_as_one(alloc, disk, &[&rule, &attach, &expiry]);
+    let disk = disk.into_inner();
+    let gate = disk.pending(alloc)?.as_slice() == [589].as_slice();
+    let (count, mut disk) = stands_for(alloc, stop(alloc, disk, [byte; 512])?);
+    let written = !answered || begin(&mut disk, &[(589, &[1]), (590, &THREE), (591, &[0])]);
+    Ok((answered, gate, if written { count } else { None }))
+}
+
+fn are_stopped_as_one(alloc: Global, byte: u8) -> Result<bool, Fail> {
+    for call in 1..=18 {
+        let (answered, gate, count) = three_stopped(alloc, call, byte)?;
+        let whole = answered || gate && byte == 1;
+        if count != Some(if whole { 3 } else { 0 }) {
+            return Ok(false);
+        }
+    }
+    Ok(true)
+}
+
+#[test]
+fn three_commands_count_together_or_not_at_all(rt: HostRuntime) -> Result<(), Fail> {
+    for byte in BYTES {
+        assert!(rt; are_stopped_as_one(rt.alloc(), byte)?);
+    }
+    Ok(())
+}
+
+/// An empty list changes nothing, and writes nothing, also where the half is full.
+fn is_nothing_written<D: Disk>(alloc: Global, store: &mut Store<Global, D>) -> bool {
+    let before = count(store);
+    matches!(store.commit::<Global, Global>(alloc, &[]), Ok(outcomes) if outcomes.is_empty())
+        && count(store) == before
+}
+
+// ---- a full half
+
+/// Commits expiries with these sequences, one by one.
+fn commit_expiries<D: Disk>(
+    alloc: Global,
+    store: &mut Store<Global, D>,
+    first: u32,
+    last: u32,
+) -> bool {
+    for sequence in first..=last {
+        let Some(expiry) = made::expiry(sequence) else {
+            return false;
+        };
+        if commit(alloc, store, &[&expiry]) != Ok(true) {
+            return false;
+        }
+    }
+    true
+}
+
+/// A disk whose half A is full: the records of a rule and of 18 expiries.
+fn filled(alloc: Global) -> Result<MemoryDisk<Global>, Fail> {
+    let rule = made::rule().ok_or("a rule")?;
+    let (answered, disk) = run(alloc, made::formatted(alloc)?, &[&rule]);
+    match Store::open(alloc, disk) {
+        Ok(mut store) => {
+            let all = answered == 1 && commit_expiries(alloc, &mut store, 1, 18);
+            let idle = is_nothing_written(alloc, &mut store);
+            let disk = store.into_disk();
+            if all && idle {
+                Ok(disk)
+            } else {
+                Err("19 commands".into())
+            }
+        }
+        Err((_, _)) => Err("a disk".into()),
+    }
+}
+
+/// The header of the other slot: epoch 2, 19 commands, one rule, and what is kept of two stations.
+const SECOND: [u8; 33] = [
+    16, 0, 0, 0, 0, 0, 0, 0, 2, 0, 0, 0, 0, 0, 0, 0, 19, 0, 0, 0, 1, 0, 0, 0, 0, 0, 0, 0, 0, 0, 0,
+    0, 2,
+];
+
+/// The record of an expiry.
+const EXPIRY_ALONE: [u8; 6] = [0, 1, 0, 0, 0, 0x0b];
+
+/// The next command makes a checkpoint: root 2 is opened, and its record is the first of half B.
+fn is_checkpointed(alloc: Global) -> Result<bool, Fail> {
+    let next = made::expiry(19).ok_or("an expiry")?;
+    let mut disk = filled(alloc)?;
+    let full = begin(&mut disk, &[(2, &[0]), (625, &[1]), (627, &[0])]);
+    let (answered, disk) = run(alloc, disk, &[&next]);
+    let (count, mut disk) = stands_for(alloc, disk);
+    let written = [
+        (2, [1].as_slice()),
+        (296, SECOND.as_slice()),
+        (628, [1].as_slice()),
+        (629, EXPIRY_ALONE.as_slice()),
+        (630, [0].as_slice()),
+    ];
+    Ok(full && answered == 1 && count == Some(20) && begin(&mut disk, &written))
+}
+
+#[test]
+fn a_full_half_makes_a_checkpoint(rt: HostRuntime) -> Result<(), Fail> {
+    assert!(rt; is_checkpointed(rt.alloc())?);
+    Ok(())
+}
+
+/// The same while this call of the disk fails, and a stop behind it. Tells whether it was answered, and whether the disk
+/// stands for 20 commands where it was, or where its gate is open, and else for 19.
+fn is_checkpoint_stopped(alloc: Global, call: u64, byte: u8) -> Result<(bool, bool), Fail> {
+    let next = made::expiry(19).ok_or("an expiry")?;
+    let disk = FailingDisk::new(filled(alloc)?, call, Failing::Always);
+    let (answered, disk) = run(alloc, disk, &[&next]);
+    let disk = disk.into_inner();
+    let gate = disk.pending(alloc)?.as_slice() == [628].as_slice();
+    let (count, mut disk) = stands_for(alloc, stop(alloc, disk, [byte; 512])?);
+    let last = gate && begin(&mut disk, &[(629, &EXPIRY_ALONE)]) && byte == 1;
+    let whole = answered == 1 || last;
+    Ok((answered == 1, count == Some(if whole { 20 } else { 19 })))
+}
+
+/// How many calls failed, the first one first, until the command was answered; nothing where a stop left something else.
+fn checkpoint_stops(alloc: Global, byte: u8) -> Result<Option<u64>, Fail> {
+    for call in 1..200 {
+        let (answered, well) = is_checkpoint_stopped(alloc, call, byte)?;
+        if !well {
+            return Ok(None);
+        }
+        if answered {
+            return Ok(Some(call - 1));
+        }
+    }
+    Ok(None)
+}
+
+#[test]
+fn a_stop_in_a_checkpoint_leaves_19_commands_or_20(rt: HostRuntime) -> Result<(), Fail> {
+    for byte in BYTES {
+        assert!(rt; checkpoint_stops(rt.alloc(), byte)?.is_some_and(|calls| calls > 50));
+    }
+    Ok(())
+}
+
+// ---- a failing disk
+
+/// A rule, an attach and an expiry one by one, a checkpoint, and then two expiries at once. Tells how many commands were
+/// acknowledged, up to the first fault; nothing where a call after a fault answers something else than `Broken`.
+fn script<D: Disk>(alloc: Global, store: &mut Store<Global, D>) -> Option<u64> {
+    let (rule, attach) = (made::rule()?, made::attach(alloc)?);
+    let (first, second, third) = (made::expiry(1)?, made::expiry(2)?, made::expiry(3)?);
+    let singly = commit_each(alloc, store, &[&rule, &attach, &first]);
+    if singly == 3
+        && store.checkpoint() == Ok(())
+        && commit(alloc, store, &[&second, &third]) == Ok(true)
+    {
+        return Some(5);
+    }
+    is_broken(alloc, store, &second).then_some(singly)
+}
+
+fn is_broken<D: Disk>(
+    alloc: Global,
+    store: &mut Store<Global, D>,
+    command: &Command<Global>,
+) -> bool {
+    store.register().is_none()
+        && commit(alloc, store, &[command]) == Err(StoreFault::Broken)
+        && store.checkpoint() == Err(StoreFault::Broken)
+        && matches!(
+            store.commit::<Global, Global>(alloc, &[]),
+            Err(StoreFault::Broken)
+        )
+}
+
+/// Runs the script on a disk. Tells as it does; none was acknowledged where the disk does not open.
+fn run_script<D: Disk>(alloc: Global, disk: D) -> (Option<u64>, D) {
+    match Store::open(alloc, disk) {
+        Ok(mut store) => {
+            let acknowledged = script(alloc, &mut store);
+            (acknowledged, store.into_disk())
+        }
+        Err((_, disk)) => (Some(0), disk),
+    }
+}
+
+/// Whether so many commands are those that were acknowledged, or these and those of the commit that failed.
+fn is_prefix(count: Option<u64>, acknowledged: u64) -> bool {
+    let next = if acknowledged == 3 { 2 } else { 1 };
+    count == Some(acknowledged) || count == Some(acknowledged.saturating_add(next))
+}
+
+/// Whether what was acknowledged is there after a stop, where this call has failed; and whether none has.
+fn is_script_kept(
+    alloc: Global,
+    call: u64,
+    failing: Failing,
+    bytes: [u8; 512],
+) -> Result<(bool, bool), Fail> {
+    let disk = FailingDisk::new(made::formatted(alloc)?, call, failing);
+    let (acknowledged, disk) = run_script(alloc, disk);
+    let (count, _) = stands_for(alloc, stop(alloc, disk.into_inner(), bytes)?);
+    let kept = acknowledged.is_some_and(|commands| is_prefix(count, commands));
+    Ok((kept, acknowledged == Some(5)))
+}
+
+/// How many calls failed, the first one first, until none did; nothing where something was lost.
+fn script_stops(alloc: Global, failing: Failing, bytes: [u8; 512]) -> Result<Option<u64>, Fail> {
+    for call in 1..100 {
+        let (kept, whole) = is_script_kept(alloc, call, failing, bytes)?;
+        if !kept {
+            return Ok(None);
+        }
+        if whole {
+            return Ok(Some(call - 1));
+        }
+    }
+    Ok(None)
+}
+
+#[test]
+fn what_was_acknowledged_is_there_after_a_stop(rt: HostRuntime) -> Result<(), Fail> {
+    let zeros = script_stops(rt.alloc(), Failing::Always, [0; 512])?;
+    let ones = script_stops(rt.alloc(), Failing::Always, [255; 512])?;
+    let open = script_stops(rt.alloc(), Failing::Always, made::sector(&[1]))?;
+    let once = script_stops(rt.alloc(), Failing::Once, [0; 512])?;
+    assert!(rt;
+        zeros.is_some_and(|calls| calls > 30) && ones == zeros && open == zeros && once == zeros
+    );
+    Ok(())
+}
+
+// ---- numbers that end
+
+/// A header of epoch 1 and 2 to the 62nd commands.
+const LAST_COMMAND: [u8; 17] = [16, 0, 0, 0, 0, 0, 0, 0, 1, 0x40, 0, 0, 0, 0, 0, 0, 0];
+
+/// A header of the last epoch, 2 to the 62nd.
+const LAST_EPOCH: [u8; 9] = [16, 0x40, 0, 0, 0, 0, 0, 0, 0];
+
+/// A disk ready for a register with this header.
+fn headed(alloc: Global, header: &[u8]) -> Result<MemoryDisk<Global>, Fail> {
+    let mut disk = made::formatted(alloc)?;
+    match disk.write(3, &made::sector(header)) {
+        Ok(()) => Ok(disk),
+        Err(_) => Err("a disk of 4,000 calls".into()),
+    }
+}
+
+fn are_numbers_used_up<D: Disk>(alloc: Global, store: &mut Store<Global, D>) -> bool {
+    let Some(expiry) = made::expiry(1) else {
+        return false;
+    };
+    match store.commit(alloc, &[&expiry]) {
+        Ok(outcomes) => matches!(
+            outcomes.first(),
+            Some(Outcome::Replied(Reply::Refused(Refusal::NumbersUsedUp)))
+        ),
+        Err(_) => false,
+    }
+}
+
+/// What is refused is not written.
+fn is_refused_without_numbers(alloc: Global) -> Result<bool, Fail> {
+    match Store::open(alloc, headed(alloc, &LAST_COMMAND)?) {
+        Ok(mut store) => {
+            let used_up = are_numbers_used_up(alloc, &mut store);
+            Ok(used_up && store.into_disk().pending(alloc)?.is_empty())
+        }
+        Err((_, _)) => Ok(false),
+    }
+}
+
+#[test]
+fn numbers_are_used_up(rt: HostRuntime) -> Result<(), Fail> {
+    assert!(rt; is_refused_without_numbers(rt.alloc())?);
+    Ok(())
+}
+
+/// Fills the half; then there is no checkpoint any more, and nothing is changed.
+fn are_epochs_used_up<D: Disk>(alloc: Global, store: &mut Store<Global, D>) -> bool {
+    let Some(next) = made::expiry(20) else {
+        return false;
+    };
+    let filled = commit_expiries(alloc, store, 1, 19);
+    filled
+        && commit(alloc, store, &[&next]) == Err(StoreFault::EpochsUsedUp)
+        && store.checkpoint() == Err(StoreFault::EpochsUsedUp)
+        && count(store) == Some(19)
+}
+
+fn is_refused_without_epochs(alloc: Global) -> Result<bool, Fail> {
+    match Store::open(alloc, headed(alloc, &LAST_EPOCH)?) {
+        Ok(mut store) => Ok(are_epochs_used_up(alloc, &mut store)),
+        Err((_, _)) => Ok(false),
+    }
+}
+
+#[test]
+fn epochs_are_used_up(rt: HostRuntime) -> Result<(), Fail> {
+    assert!(rt; is_refused_without_epochs(rt.alloc())?);
+    Ok(())
+}
+
+// ---- small heaps
+
+/// How many commands were accepted, the first ones first, where the others found no memory; nothing of other outcomes.
+fn accepted<C: Allocator>(outcomes: &[Outcome<C>]) -> Option<u64> {
+    let mut accepted: u64 = 0;
+    for outcome in outcomes {
+        match outcome {
+            Outcome::Replied(Reply::Accepted { number, .. }) => {
+                accepted = accepted.saturating_add(1);
+                if *number != accepted {
+                    return None;
+                }
+            }
+            Outcome::NoMemory => return Some(accepted),
+            Outcome::Replied(_) => return None,
+        }
+    }
+    Some(accepted)
+}
+
+/// How many of the commands were accepted, with the outcomes under this allocator; nothing where the register does not
+/// stand after just these.
+fn accepted_in<A: Allocator + Copy, C: Allocator + Copy, D: Disk>(
+    alloc: C,
+    store: &mut Store<A, D>,
+    commands: &[&Command<Global>],
+) -> Option<u64>
+    requires { length commands.now ≤ 64 }
+{
+    let accepted = match store.commit(alloc, commands) {
+        Ok(outcomes) => accepted(&outcomes)?,
+        Err(StoreFault::NoMemory) => 0,
+        Err(_) => return None,
+    };
+    (count(store) == Some(accepted)).then_some(accepted)
+}
+
+/// Commits a rule and an attach at once with outcomes in a heap of this size; tells as `accepted_in` does, and nothing
+/// where the disk stands for other commands, or not all memory comes back.
+fn in_heap(alloc: Global, size: usize) -> Result<Option<u64>, Fail> {
+    let rule = made::rule().ok_or("a rule")?;
+    let attach = made::attach(alloc).ok_or("an attach")?;
+    let heap = LocalHeap::new(alloc, size)?;
+    let Ok(mut store) = Store::open(alloc, made::formatted(alloc)?) else {
+        return Ok(None);
+    };
+    let accepted = accepted_in(&heap, &mut store, &[&rule, &attach]);
+    let (count, _) = stands_for(alloc, store.into_disk());
+    Ok(if heap.used() == 0 && count == accepted {
+        accepted
+    } else {
+        None
+    })
+}
+
+/// Whether heaps of rising size let none, one and then both of the commands be answered.
+fn are_refused_in_turn(alloc: Global) -> Result<bool, Fail> {
+    let mut none = false;
+    let mut one = false;
+    for k in 0..100 {
+        match in_heap(alloc, 16 * k)? {
+            Some(0) => none = true,
+            Some(1) => one = true,
+            Some(2) => return Ok(none && one),
+            _ => return Ok(false),
+        }
+    }
+    Ok(false)
+}
+
+#[test]
+fn each_growth_for_outcomes_is_refused_in_turn(rt: HostRuntime) -> Result<(), Fail> {
+    assert!(rt; are_refused_in_turn(rt.alloc())?);
+    Ok(())
+}

@@ -1,0 +1,59 @@
+//! The disk and the commands of the tests.
+
+use centre_core::{Body, Command};
+use checkpoint::Layout;
+use identity::{BitWriter, Itsi, Prefix};
+use mm_pdus::Lifetime;
+use recovery::format;
+use registration::{Limits, LocationArea, Rule};
+use sector_disk::MemoryDisk;
+use std::alloc::Global;
+use std::test::Fail;
+
+/// The layout of the worked disk: 667 sectors, the halves from 589 and from 628 on.
+pub fn layout() -> Option<Layout> {
+    Layout::new(Limits::new(16, 16, 256, 4)?, 39)
+}
+
+/// The worked disk, ready for an empty register.
+pub fn formatted(alloc: Global) -> Result<MemoryDisk<Global>, Fail> {
+    let layout = layout().ok_or("a layout")?;
+    let mut disk = MemoryDisk::new(alloc, 667, 4_000)?;
+    match format::<Global, MemoryDisk<Global>>(&mut disk, &layout) {
+        Ok(()) => Ok(disk),
+        Err(_) => Err("a disk of 4,000 calls".into()),
+    }
+}
+
+/// A rule for the radios of a network, sequence 1 of station 1: 27 bytes.
+pub fn rule() -> Option<Command<Global>> {
+    let prefix = Prefix::new(0x3a80_0e00_0000, 24)?;
+    let low = LocationArea::new(1)?;
+    let high = LocationArea::new(99)?;
+    let rule = Rule::new(low, high, Lifetime::NextItsiAttach, 3_600)?;
+    Command::new(1, 1, 0, Body::RuleSet { prefix, rule })
+}
+
+/// The ITSI attach of a radio, sequence 2 of station 1: 23 bytes.
+pub fn attach(alloc: Global) -> Option<Command<Global>> {
+    let itsi = Itsi::from_number(0x3a80_0e00_07d1)?;
+    let area = LocationArea::new(7)?;
+    let mut writer = BitWriter::new(alloc);
+    writer.put(0x98, 10).ok()?;
+    let pdu = writer.finish();
+    Command::new(1, 2, 10, Body::Mm { itsi, area, pdu })
+}
+
+/// An expiry of station 2 with this sequence: 11 bytes.
+pub fn expiry(sequence: u32) -> Option<Command<Global>> {
+    Command::new(2, sequence, 11, Body::Expire)
+}
+
+/// A sector that begins with these bytes, with zeros behind them.
+pub fn sector(front: &[u8]) -> [u8; 512] {
+    let mut bytes = [0; 512];
+    for (byte, given) in bytes.iter_mut().zip(front) {
+        *byte = *given;
+    }
+    bytes
+}

@@ -1,0 +1,199 @@
+//! Tells each call that a disk gets from a register that is kept on it, for `tests/disks.py`. On standard input a line is a
+//! station and what it says there, with a space between, and an empty line ends a batch of at most 64 commands. Standard output
+//! begins with `disk N`, the number of sectors. Then come the calls that make the disk ready, those that open it, and those of
+//! each batch, with an empty line behind each of these: `write N DIGITS`, the sector's bytes in hexadecimal digits without the
+//! zeros at its end; `sync`; and for each line of a batch `answer` and the text of its answer. Reads are left out.
+#![tactic(auto)]
+
+mod watched;
+
+use crate::watched::{Call, Calls, WatchedDisk};
+use centre_core::Command;
+use checkpoint::Layout;
+use console::{Answer, Line, parse_line, print_answer};
+use recovery::{Outcome, Store, format};
+use registration::Limits;
+use sector_disk::{Disk, MemoryDisk};
+use std::alloc::Global;
+use std::cell::RefCell;
+use std::io::{self, BufRead, BufReader, BufWriter, Write};
+
+/// How many calls the disk bears.
+const MOST_CALLS: usize = 65_536;
+
+/// The most commands of a batch.
+const MOST_COMMANDS: usize = 64;
+
+fn layout() -> Option<Layout> {
+    Layout::new(Limits::new(16, 16, 256, 4)?, 39)
+}
+
+/// The command that a line tells.
+fn command(alloc: Global, line: &str) -> io::Result<Command<Global>> {
+    let (station, said) = line.split_once(' ').ok_or(io::ErrorKind::InvalidData)?;
+    let Ok(station) = station.parse() else {
+        return Err(io::ErrorKind::InvalidData.into());
+    };
+    match parse_line(alloc, station, said.as_bytes())? {
+        Line::Order(command) => Ok(command),
+        _ => Err(io::ErrorKind::InvalidData.into()),
+    }
+}
+
+/// The bytes of a sector without the zeros at its end, but always the first.
+fn trimmed(sector: &[u8; 512]) -> &[u8] {
+    let last = sector.iter().rposition(|byte| *byte != 0);
+    &sector[..=last.unwrap_or(0)]
+}
+
+fn tell_call<W: Write>(alloc: Global, out: &mut W, call: &Call) -> io::Result<()> {
+    match call {
+        Call::Write(at, bytes) => {
+            let digits = hex::encode(alloc, trimmed(bytes))?;
+            writeln!(out, "write {at} {digits}")
+        }
+        Call::Sync => writeln!(out, "sync"),
+    }
+}
+
+/// Writes the calls that the disk got, and forgets them.
+fn tell_calls<W: Write>(alloc: Global, out: &mut W, calls: &Calls) -> io::Result<()> {
+    let Ok(calls) = calls.try_replace(Vec::new(alloc)) else {
+        return Err(io::ErrorKind::Other.into());
+    };
+    for call in calls.iter() {
+        tell_call(alloc, out, call)?;
+    }
+    Ok(())
+}
+
+/// Writes the answer to a command.
+fn tell_answer<W: Write>(
+    alloc: Global,
+    out: &mut W,
+    command: &Command<Global>,
+    outcome: Outcome<Global>,
+) -> io::Result<()> {
+    let Outcome::Replied(reply) = outcome else {
+        return Err(io::ErrorKind::OutOfMemory.into());
+    };
+    let mut text = Vec::new(alloc);
+    print_answer(&mut text, &Answer::Replied(command.sequence, reply))?;
+    out.write_all(b"answer ")?;
+    out.write_all(&text)
+}
+
+/// Makes a disk ready, and writes the calls.
+fn make_ready<D: Disk, W: Write>(
+    alloc: Global,
+    out: &mut W,
+    calls: &Calls,
+    layout: &Layout,
+    disk: &mut D,
+) -> io::Result<()> {
+    if format::<Global, D>(disk, layout).is_err() {
+        return Err(io::ErrorKind::Other.into());
+    }
+    tell_calls(alloc, out, calls)?;
+    writeln!(out)
+}
+
+/// A disk that was made ready.
+fn ready_disk<'a, W: Write>(
+    alloc: Global,
+    out: &mut W,
+    calls: &'a Calls,
+) -> io::Result<WatchedDisk<'a, MemoryDisk<Global>>> {
+    let layout = layout().ok_or(io::ErrorKind::Other)?;
+    writeln!(out, "disk {}", layout.sectors())?;
+    let inner = MemoryDisk::new(alloc, layout.sectors() as usize, MOST_CALLS)?;
+    let mut disk = WatchedDisk::new(inner, calls);
+    make_ready(alloc, out, calls, &layout, &mut disk)?;
+    Ok(disk)
+}
+
+/// Commits a batch of at most 64 commands.
+fn commit<D: Disk>(
+    alloc: Global,
+    store: &mut Store<Global, D>,
+    batch: &[Command<Global>],
+) -> io::Result<Vec<Outcome<Global>, Global>> {
+    let mut commands = Vec::new(alloc);
+    for command in batch {
+        commands.push(command)?;
+    }
+    if commands.len() > MOST_COMMANDS {
+        return Err(io::ErrorKind::InvalidData.into());
+    }
+    match store.commit(alloc, &commands) {
+        Ok(outcomes) => Ok(outcomes),
+        Err(_) => Err(io::ErrorKind::Other.into()),
+    }
+}
+
+/// A register on a disk, and the batch whose lines come.
+#[derive(Drop)]
+struct Session<'a, D: Disk> {
+    store: Store<Global, D>,
+    calls: &'a Calls,
+    batch: Vec<Command<Global>, Global>,
+}
+
+impl<'a, D: Disk> Session<'a, D> {
+    /// Commits the batch, and writes its calls and answers.
+    fn answer<W: Write>(&mut self, alloc: Global, out: &mut W) -> io::Result<()> {
+        let outcomes = commit(alloc, &mut self.store, &self.batch)?;
+        tell_calls(alloc, out, self.calls)?;
+        for (command, outcome) in self.batch.iter().zip(outcomes) {
+            tell_answer(alloc, out, command, outcome)?;
+        }
+        self.batch.clear();
+        writeln!(out)
+    }
+
+    /// Takes a line in, and answers the batch where it ends there.
+    fn take_line<W: Write>(&mut self, alloc: Global, out: &mut W, line: &str) -> io::Result<()> {
+        if line.is_empty() {
+            return self.answer(alloc, out);
+        }
+        self.batch.push(command(alloc, line)?)?;
+        Ok(())
+    }
+}
+
+/// Opens a disk.
+fn open<D: Disk + Drop>(alloc: Global, disk: D, calls: &Calls) -> io::Result<Session<'_, D>> {
+    match Store::open(alloc, disk) {
+        Ok(store) => Ok(Session {
+            store,
+            calls,
+            batch: Vec::new(alloc),
+        }),
+        Err(_) => Err(io::ErrorKind::Other.into()),
+    }
+}
+
+/// Writes the calls that opened the disk, and answers all lines.
+fn serve<D: Disk, W: Write>(
+    rt: &HostRuntime,
+    out: &mut W,
+    session: &mut Session<'_, D>,
+) -> io::Result<()> {
+    let alloc = rt.alloc();
+    tell_calls(alloc, out, session.calls)?;
+    writeln!(out)?;
+    for line in BufReader::new(alloc, rt.reader())?.lines(alloc) {
+        session.take_line(alloc, out, &line?)?;
+    }
+    Ok(())
+}
+
+fn main(rt: HostRuntime) -> io::Result<()> {
+    let alloc = rt.alloc();
+    let mut out = BufWriter::new(alloc, io::writer(&rt))?;
+    let calls = RefCell::new(Vec::new(alloc));
+    let disk = ready_disk(alloc, &mut out, &calls)?;
+    let mut session = open(alloc, disk, &calls)?;
+    serve(&rt, &mut out, &mut session)?;
+    out.flush()
+}
