@@ -9,7 +9,8 @@ use centre_core::Register;
 use group_attach::Groups;
 use identity::Itsi;
 use mailbox::{Key, Mail};
-use registration::{Limits, Radio, Registry};
+use mm_pdus::LocationUpdateType;
+use registration::{Limits, LocationArea, Radio, Registry};
 use std::alloc::Global;
 
 // The tables that entries are put in one by one.
@@ -42,6 +43,13 @@ impl Tables {
         put_rules(from.registry(), &mut self.registry)
             && put_radios(from, &mut self.registry, &mut self.groups)
             && put_items(alloc, from.mail(), &mut self.mail)
+    }
+
+    // An ITSI attach of the radio; whether it was accepted.
+    pub(crate) fn attach(&mut self, itsi: Itsi, station: u16, area: LocationArea) -> bool {
+        let update = LocationUpdateType::ItsiAttach;
+        self.groups.on_update(itsi, update);
+        self.registry.locate(itsi, station, area, update).is_ok()
     }
 }
 

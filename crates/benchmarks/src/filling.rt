@@ -5,17 +5,22 @@ use mm_pdus::Lifetime;
 use registration::{LocationArea, Rule};
 use std::alloc::Global;
 
-const RULES: u32 = 4096;
+// What a register is filled with.
+#[derive(Clone, Copy, Drop)]
+pub(crate) struct Filling {
+    pub(crate) radios: u32,
+    pub(crate) rules: u32,
+    pub(crate) items: u32,
+}
 
+// In how many groups each radio is.
 const GROUPS: u64 = 16;
-
-const ITEMS: u32 = 65_536;
 // How many items wait for one radio.
 const FOR_ONE: u32 = 128;
 // Mobile country code 234, network 14.
 const NETWORK: u64 = 0x3a80_0e00_0000;
 
-fn itsi(k: u32) -> Option<Itsi> {
+pub(crate) fn itsi(k: u32) -> Option<Itsi> {
     Itsi::from_number(NETWORK + u64::from(k))
 }
 
@@ -27,10 +32,10 @@ fn serve(register: &mut Register<Global>, alloc: Global, body: Body<Global>) -> 
 }
 
 // The first rule serves all; the others stand under identities, each 16 behind the one before.
-fn set_rules(register: &mut Register<Global>, alloc: Global) -> Option<()> {
+fn set_rules(register: &mut Register<Global>, alloc: Global, rules: u32) -> Option<()> {
     let area = LocationArea::new(7)?;
     let rule = Rule::new(area, area, Lifetime::NextItsiAttach, 60)?;
-    for k in 0..RULES {
+    for k in 0..rules {
         let len = if k == 0 { 0 } else { 48 };
         let prefix = Prefix::of(NETWORK + 16 * u64::from(k), len);
         serve(register, alloc, Body::RuleSet { prefix, rule })?;
@@ -39,7 +44,7 @@ fn set_rules(register: &mut Register<Global>, alloc: Global) -> Option<()> {
 }
 
 // A location update of type ITSI attach.
-fn update(alloc: Global) -> Option<Bits<Global>> {
+pub(crate) fn update(alloc: Global) -> Option<Bits<Global>> {
     let mut writer = BitWriter::new(alloc);
     writer.put(0x98, 10).ok()?;
     Some(writer.finish())
@@ -70,16 +75,16 @@ fn add_radios(register: &mut Register<Global>, alloc: Global, radios: u32) -> Op
 }
 
 // A message with this reference and no text.
-fn message(alloc: Global, reference: u32) -> Option<Bits<Global>> {
+pub(crate) fn message(alloc: Global, reference: u32) -> Option<Bits<Global>> {
     let mut writer = BitWriter::new(alloc);
     writer.put(0x8004, 16).ok()?;
     writer.put(u64::from(reference % FOR_ONE), 8).ok()?;
     Some(writer.finish())
 }
 
-fn add_items(register: &mut Register<Global>, alloc: Global) -> Option<()> {
+fn add_items(register: &mut Register<Global>, alloc: Global, items: u32) -> Option<()> {
     let source = itsi(0)?;
-    for k in 0..ITEMS {
+    for k in 0..items {
         let destination = itsi(k / FOR_ONE)?;
         let pdu = message(alloc, k)?;
         let body = Body::Sds {
@@ -92,11 +97,12 @@ fn add_items(register: &mut Register<Global>, alloc: Global) -> Option<()> {
     Some(())
 }
 
-// Adds 4,096 rules, so many radios in 16 groups each, and 65,536 items; whether all of that was accepted.
-pub(crate) fn is_filled(register: &mut Register<Global>, alloc: Global, radios: u32) -> bool {
-    let done = set_rules(register, alloc)
-        .and(add_radios(register, alloc, radios))
-        .and(add_items(register, alloc));
-    let commands = u64::from(RULES) + 2 * u64::from(radios) + u64::from(ITEMS);
+// Adds the rules, the radios in 16 groups each, and the items; whether all of that was accepted.
+pub(crate) fn is_filled(register: &mut Register<Global>, alloc: Global, filling: &Filling) -> bool {
+    let done = set_rules(register, alloc, filling.rules)
+        .and(add_radios(register, alloc, filling.radios))
+        .and(add_items(register, alloc, filling.items));
+    let (radios, rules) = (u64::from(filling.radios), u64::from(filling.rules));
+    let commands = rules + 2 * radios + u64::from(filling.items);
     done.is_some() && register.count() == commands
 }

@@ -1,6 +1,6 @@
 //! What the benchmarks run: with no word behind its name it answers lines over a large register, for `bench/large` and
-//! `bench/groups`, with one it times the journal, for `bench/journal`, and with more the rows of registers, for
-//! `bench/rows`.
+//! `bench/groups`, with one it times the journal, for `bench/journal`, with two the rows of registers, for `bench/rows`,
+//! and with more a register on a disk, for `bench/store`.
 #![tactic(auto)]
 
 mod building;
@@ -9,6 +9,7 @@ mod journal;
 mod reading;
 mod register;
 mod rows;
+mod store;
 mod walking;
 mod writing;
 
@@ -20,7 +21,8 @@ fn main(rt: HostRuntime) -> ExitCode {
         Ok(words) => match words.count() {
             0 | 1 => ExitCode::from(register::serve(&rt)),
             2 => ExitCode::from(journal::tell(&rt)),
-            _ => ExitCode::from(rows::tell(&rt)),
+            3 => ExitCode::from(rows::tell(&rt)),
+            _ => ExitCode::from(store::tell(&rt)),
         },
         Err(_) => ExitCode::from(5),
     }

@@ -1,5 +1,5 @@
 // The rows of registers walked, written, built again and read, again and again, with how long each took.
-use crate::filling::is_filled;
+use crate::filling::{Filling, is_filled};
 use crate::reading::{built, read};
 use crate::register::LIMITS;
 use crate::walking::{MOST, bare, told};
@@ -9,10 +9,34 @@ use sector_disk::MemoryDisk;
 use std::alloc::Global;
 use std::time::{Duration, Instant};
 
-// How often each is done.
+// How many rounds there are.
 const ROUNDS: u32 = 5;
 
-// How many rows there are, and the time of each way that only goes through them.
+// The greatest register, the same in small, and one with as few radios beside the greatest rules and items.
+const FILLINGS: [Filling; 3] = [
+    Filling {
+        radios: 65_536,
+        rules: 4096,
+        items: 65_536,
+    },
+    Filling {
+        radios: 16,
+        rules: 1,
+        items: 16,
+    },
+    Filling {
+        radios: 16,
+        rules: 4096,
+        items: 65_536,
+    },
+];
+
+// How often each way is gone in a round: a small register so often that the time can be read.
+fn repeats(filling: &Filling) -> u32 {
+    if filling.items > 16 { 1 } else { 1500 }
+}
+
+// How many rows were gone through, and the time of each way that only goes through them.
 #[derive(Clone, Copy, Drop)]
 struct Walked {
     rows: usize,
@@ -53,34 +77,73 @@ fn walk(
     })
 }
 
-// Goes through so many rows, builds the tables and reads the image once.
+// Goes through the rows, builds the tables and reads the image once.
 fn make(
     rt: &HostRuntime,
     register: &Register<Global>,
     disk: &mut MemoryDisk<Global>,
-    rows: usize,
 ) -> Option<Made> {
     let start = Instant::now(rt).ok()?;
-    let again = bare(register, &mut []);
+    let rows = bare(register, &mut []);
     let walked = start.elapsed(rt).ok()?;
     let built = built(rt, register)?;
     let read = read(rt, disk, register.count())?;
-    (again == rows).then_some(Made {
+    (rows > 0).then_some(Made {
         walked,
         built,
         read,
     })
 }
 
-// A line with the radios, the rows, and the nanoseconds of each way.
-fn tell_round(rt: &HostRuntime, radios: u32, one: &Walked, other: &Made) -> Option<()> {
+// Walks and writes so often, with the rows and times of all added up.
+fn walk_again(
+    rt: &HostRuntime,
+    register: &Register<Global>,
+    list: &mut [[u8; 512]],
+    disk: &mut MemoryDisk<Global>,
+    repeats: u32,
+) -> Option<Walked> {
+    let mut all = walk(rt, register, list, disk)?;
+    for _ in 1..repeats {
+        let one = walk(rt, register, list, disk)?;
+        all = Walked {
+            rows: all.rows.checked_add(one.rows)?,
+            bare: all.bare.checked_add(one.bare)?,
+            told: all.told.checked_add(one.told)?,
+            written: all.written.checked_add(one.written)?,
+        };
+    }
+    Some(all)
+}
+
+// Makes tables so often, with the times added up.
+fn make_again(
+    rt: &HostRuntime,
+    register: &Register<Global>,
+    disk: &mut MemoryDisk<Global>,
+    repeats: u32,
+) -> Option<Made> {
+    let mut all = make(rt, register, disk)?;
+    for _ in 1..repeats {
+        let one = make(rt, register, disk)?;
+        all = Made {
+            walked: all.walked.checked_add(one.walked)?,
+            built: all.built.checked_add(one.built)?,
+            read: all.read.checked_add(one.read)?,
+        };
+    }
+    Some(all)
+}
+
+// A line with what the register is filled with, how many rows were gone through, and the nanoseconds of each way.
+fn tell_round(rt: &HostRuntime, filling: &Filling, one: &Walked, other: &Made) -> Option<()> {
     let (bare, told) = (one.bare.as_nanos(), one.told.as_nanos());
     let written = one.written.as_nanos();
     let (walked, built) = (other.walked.as_nanos(), other.built.as_nanos());
     let read = other.read.as_nanos();
     println!(rt;
-        "{radios} {} {bare} {told} {written} {walked} {built} {read}",
-        one.rows
+        "{} {} {} {} {bare} {told} {written} {walked} {built} {read}",
+        filling.radios, filling.rules, filling.items, one.rows
     )
     .ok()
 }
@@ -90,15 +153,16 @@ fn rounds(
     rt: &HostRuntime,
     register: &Register<Global>,
     list: &mut [[u8; 512]],
-    radios: u32,
+    filling: &Filling,
 ) -> Option<()> {
     let mut disk = disk(rt.alloc())?;
+    let repeats = repeats(filling);
     for _ in 0..ROUNDS {
         disk = disk.crash(&[]);
-        let one = walk(rt, register, list, &mut disk)?;
+        let one = walk_again(rt, register, list, &mut disk, repeats)?;
         disk = disk.crash(&[]);
-        let other = make(rt, register, &mut disk, one.rows)?;
-        tell_round(rt, radios, &one, &other)?;
+        let other = make_again(rt, register, &mut disk, repeats)?;
+        tell_round(rt, filling, &one, &other)?;
     }
     Some(())
 }
@@ -108,24 +172,27 @@ fn measured(
     rt: &HostRuntime,
     register: &mut Register<Global>,
     list: &mut [[u8; 512]],
-    radios: u32,
+    filling: &Filling,
 ) -> bool {
-    is_filled(register, rt.alloc(), radios) && rounds(rt, register, list, radios).is_some()
+    is_filled(register, rt.alloc(), filling) && rounds(rt, register, list, filling).is_some()
 }
 
-fn is_told(rt: &HostRuntime, list: &mut [[u8; 512]], radios: u32) -> bool {
+fn is_told(rt: &HostRuntime, list: &mut [[u8; 512]], filling: &Filling) -> bool {
     match Register::new(rt.alloc(), LIMITS) {
-        Ok(mut register) => measured(rt, &mut register, list, radios),
+        Ok(mut register) => measured(rt, &mut register, list, filling),
         Err(_) => false,
     }
 }
 
-// The status: 0, or 5 where something failed. Registers with 16 radios and with 65,536.
+// The status: 0, or 5 where something failed.
 pub(crate) fn tell(rt: &HostRuntime) -> u8 {
     let Ok(mut list) = vec![in rt.alloc(); [0; 512]; MOST] else {
         return 5;
     };
-    let few = is_told(rt, &mut list, 16);
-    let many = is_told(rt, &mut list, 65_536);
-    if few && many { 0 } else { 5 }
+    for filling in &FILLINGS {
+        if !is_told(rt, &mut list, filling) {
+            return 5;
+        }
+    }
+    0
 }

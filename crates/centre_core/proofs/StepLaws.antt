@@ -1,6 +1,6 @@
 -- What one command makes of a state.
-use Rattle.std.proofs.Common.{◌≡◌, ◌≢◌, ℕ, ◌+◌, ◌<◌, Bool, true, false, List, [], refl, ap, sym, Option, Some, None, Result, Ok, Err, arith}
-use Rattle.std.specs.Prelude.{◌==◌, nat_lt, unwrap_or, if◌then◌else◌}
+use Rattle.std.proofs.Common.{◌≡◌, ℕ, ◌+◌, ◌<◌, Bool, true, false, List, [], refl, ap, sym, Option, Some, None, Result, Ok, Err, arith}
+use Rattle.std.specs.Prelude.{◌==◌, nat_lt, if◌then◌else◌}
 use Rattle.std.specs.Option.{option_map}
 use Rattle.std.proofs.lemmas.Bool.Decides.{nat_tests}
 use Rattle.mm_pdus.specs.declared.fault.MmFault.{MmFault}
@@ -36,11 +36,6 @@ use Rattle.centre_core.proofs.MailEffects.{IsEffect, mail_left, message_effect, 
 
 below : (n : ℕ) → nat_lt n last_number ≡ true → n < last_number
 below n e = grind (arith, nat_tests)
-
--- what a call tells is its refusal, where it is not want of memory
-pub is_refused : {F : Type 0} (none : F) (refusal : Option F) (told : F) → told ≡ unwrap_or refusal none → told ≢ none → refusal ≡ Some told
-is_refused none None told e other = absurd (other e)
-is_refused none (Some fault) told e other = ap Some (sym e)
 
 -- nothing is refused by any name where nothing is refused
 unnamed : {X Y : Type 0} (f : X → Y) (o : Option X) → option_map f o ≡ None → o ≡ None

@@ -336,10 +336,11 @@ impl<A: Allocator + Clone> Tables<A> {
         ensures err { OnErr result (self.new ≡ self.old) }
         ensures memory { OnErr result (IsTrue (needs_update (locate_refusal self.old.registered itsi area update))) }
     {
-        let (kept, pdu) = self.accept_pdus(alloc, update)?;
-        if let Err(fault) = self.registry.locate(itsi, command.station, area, update) {
+        if let Some(fault) = self.registry.locate_refusal(itsi, area, update) {
             return Ok(Reply::Refused(location_refusal(alloc, update, fault)?));
         }
+        let (kept, pdu) = self.accept_pdus(alloc, update)?;
+        self.registry.place(itsi, command.station, area)?;
         self.groups.on_update(itsi, update);
         let number = self.accept(command, kept);
         Ok(Reply::Accepted { number, pdu })

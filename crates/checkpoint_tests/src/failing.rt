@@ -3,27 +3,26 @@ use crate::made::{begins, formatted, is_image, layout, register, standing, turn,
 use centre_core::Register;
 use checkpoint::{Layout, Side};
 use sector_disk::{Disk, DiskError, Failing, FailingDisk, MemoryDisk};
-use std::alloc::Global;
-use std::test::Fail;
+use std::alloc::{AllocError, Global};
 
 /// Writes the image to side B and switches to it; whether both succeed.
 fn both<D: Disk>(disk: &mut D, layout: &Layout, register: &Register<Global>) -> bool {
     write(disk, layout, Side::A, 1, register).is_none() && turn(disk, layout, Side::A).is_none()
 }
 
-/// What a stop leaves that fills each pending sector with a byte, and whether the root of side B was one of them.
-fn stopped(
+/// Fills each pending sector with a byte; whether the root of side B is one of them.
+fn fill_pending(
     alloc: Global,
-    disk: MemoryDisk<Global>,
+    disk: &MemoryDisk<Global>,
     byte: u8,
-) -> Result<(MemoryDisk<Global>, bool), Fail> {
-    let pending = disk.pending(alloc)?;
-    let mut fill = Vec::new(alloc);
-    for at in pending.iter() {
-        fill.push((*at, [byte; 512]))?;
+    fill: &mut Vec<(u64, [u8; 512]), Global>,
+) -> Result<bool, AllocError> {
+    let mut torn = false;
+    for at in disk.pending(alloc)? {
+        torn = torn || at == 2;
+        fill.push((at, [byte; 512]))?;
     }
-    let torn = pending.contains(&2);
-    Ok((disk.crash(&fill), torn))
+    Ok(torn)
 }
 
 /// Whether the disk stands by its first image, or by the second one where that may be.
@@ -43,47 +42,54 @@ fn is_safe(
     call: u64,
     failing: Failing,
     byte: u8,
-) -> Result<bool, Fail> {
+) -> Option<bool> {
     let mut disk = FailingDisk::new(formatted(alloc)?, call, failing);
     let done = both(&mut disk, layout, register);
-    let (mut left, torn) = stopped(alloc, disk.into_inner(), byte)?;
-    let second = done || (torn && byte == 1);
-    Ok(done == (call > 10) && stands(&mut left, second) == Ok(true))
+    let disk = disk.into_inner();
+    let mut fill = Vec::new(alloc);
+    let torn = fill_pending(alloc, &disk, byte, &mut fill);
+    let mut left = disk.crash(&fill);
+    drop(fill);
+    let second = done || (torn == Ok(true) && byte == 1);
+    let stands = stands(&mut left, second) == Ok(true);
+    drop(left);
+    Some(torn.is_ok() && stands && done == (call > 10))
 }
+
+const BYTES: [u8; 3] = [0, 1, 77];
 
 fn are_all_safe(
     alloc: Global,
     layout: &Layout,
     register: &Register<Global>,
     failing: Failing,
-) -> Result<bool, Fail> {
+) -> Option<bool> {
     for call in 1..12 {
-        for byte in [0, 1, 77] {
+        for byte in BYTES {
             if !is_safe(alloc, layout, register, call, failing, byte)? {
-                return Ok(false);
+                return Some(false);
             }
         }
     }
-    Ok(true)
+    Some(true)
 }
 
-fn are_safe(alloc: Global, layout: &Layout, failing: Failing) -> Result<bool, Fail> {
+fn are_safe(alloc: Global, failing: Failing) -> Option<bool> {
+    let layout = layout()?;
     let register = register(alloc, layout.limits())?;
-    are_all_safe(alloc, layout, &register, failing)
+    let safe = are_all_safe(alloc, &layout, &register, failing);
+    drop(register);
+    safe
 }
 
 #[test]
-fn each_call_fails_once(rt: HostRuntime) -> Result<(), Fail> {
-    let layout = layout().ok_or("a layout")?;
-    assert!(rt; are_safe(rt.alloc(), &layout, Failing::Once)?);
-    Ok(())
+fn each_call_fails_once(rt: HostRuntime) {
+    assert!(rt; are_safe(rt.alloc(), Failing::Once) == Some(true));
 }
 
 #[test]
-fn each_call_fails_with_all_later_ones(rt: HostRuntime) -> Result<(), Fail> {
-    let layout = layout().ok_or("a layout")?;
-    assert!(rt; are_safe(rt.alloc(), &layout, Failing::Always)?);
-    Ok(())
+fn each_call_fails_with_all_later_ones(rt: HostRuntime) {
+    assert!(rt; are_safe(rt.alloc(), Failing::Always) == Some(true));
 }
 
 /// Fails at this call of writing the image; the disk then, where it failed.
@@ -101,15 +107,11 @@ fn failed(
 }
 
 /// Whether these sectors are pending, and no other.
-fn are_pending(
-    alloc: Global,
-    disk: &Option<MemoryDisk<Global>>,
-    want: &[u64],
-) -> Result<bool, Fail> {
-    match disk {
-        Some(disk) => Ok(disk.pending(alloc)?.as_slice() == want),
-        None => Ok(false),
-    }
+fn are_pending(alloc: Global, disk: Option<MemoryDisk<Global>>, want: &[u64]) -> Option<bool> {
+    let disk = disk?;
+    let pending = disk.pending(alloc);
+    drop(disk);
+    Some(pending.ok()?.as_slice() == want)
 }
 
 /// A disk on which side A and then side B was made current, its root A still open.
@@ -117,12 +119,10 @@ fn switched(
     alloc: Global,
     layout: &Layout,
     register: &Register<Global>,
-) -> Result<MemoryDisk<Global>, Fail> {
+) -> Option<MemoryDisk<Global>> {
     let mut disk = formatted(alloc)?;
-    if !both(&mut disk, layout, register) {
-        return Err("a disk that stands by side B".into());
-    }
-    Ok(disk)
+    let both = both(&mut disk, layout, register);
+    both.then_some(disk)
 }
 
 /// Whether the root of side B, which is closed, is not written before the first sync.
@@ -130,9 +130,9 @@ fn spares_a_closed_root(
     alloc: Global,
     layout: &Layout,
     register: &Register<Global>,
-) -> Result<bool, Fail> {
-    let disk = failed(formatted(alloc)?, layout, register, Side::A, 3);
-    are_pending(alloc, &disk, &[628])
+) -> Option<bool> {
+    let disk = formatted(alloc)?;
+    are_pending(alloc, failed(disk, layout, register, Side::A, 3), &[628])
 }
 
 /// Whether the root of side A, which stayed open, is written before the first sync.
@@ -140,24 +140,21 @@ fn closes_an_open_root(
     alloc: Global,
     layout: &Layout,
     register: &Register<Global>,
-) -> Result<bool, Fail> {
-    let disk = failed(
-        switched(alloc, layout, register)?,
-        layout,
-        register,
-        Side::B,
-        4,
-    );
-    are_pending(alloc, &disk, &[1, 589])
+) -> Option<bool> {
+    let disk = switched(alloc, layout, register)?;
+    are_pending(alloc, failed(disk, layout, register, Side::B, 4), &[1, 589])
+}
+
+fn are_closed(alloc: Global) -> Option<[bool; 2]> {
+    let layout = layout()?;
+    let register = register(alloc, layout.limits())?;
+    let spared = spares_a_closed_root(alloc, &layout, &register);
+    let closed = closes_an_open_root(alloc, &layout, &register);
+    drop(register);
+    Some([spared?, closed?])
 }
 
 #[test]
-fn a_root_is_closed_only_where_it_is_open(rt: HostRuntime) -> Result<(), Fail> {
-    let layout = layout().ok_or("a layout")?;
-    let register = register(rt.alloc(), layout.limits())?;
-    assert!(rt;
-        spares_a_closed_root(rt.alloc(), &layout, &register)?
-            && closes_an_open_root(rt.alloc(), &layout, &register)?
-    );
-    Ok(())
+fn a_root_is_closed_only_where_it_is_open(rt: HostRuntime) {
+    assert!(rt; are_closed(rt.alloc()) == Some([true, true]));
 }

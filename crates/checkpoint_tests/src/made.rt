@@ -6,7 +6,6 @@ use mm_pdus::Lifetime;
 use registration::{Limits, LocationArea, Rule};
 use sector_disk::{Disk, DiskError, MemoryDisk};
 use std::alloc::Global;
-use std::test::Fail;
 
 /// The label of the worked limits and of halves of 39 sectors.
 const LABEL: [u8; 30] = [
@@ -57,19 +56,20 @@ fn update(alloc: Global) -> Option<Command<Global>> {
     Command::new(1, 2, 10, Body::Mm { itsi, area, pdu })
 }
 
-/// Gives the register the rule and the location update.
-fn fill(alloc: Global, register: &mut Register<Global>) -> Result<bool, Fail> {
-    let rule = rule().ok_or("a rule")?;
-    let update = update(alloc).ok_or("an update")?;
-    let first = register.apply(alloc, &rule)?.is_acceptance();
-    Ok(first && register.apply(alloc, &update)?.is_acceptance())
+/// Gives the register the command.
+fn apply(alloc: Global, register: &mut Register<Global>, command: Option<Command<Global>>) {
+    if let Some(command) = command {
+        drop(register.apply(alloc, &command));
+        drop(command);
+    }
 }
 
 /// A register with a rule and a radio.
-pub fn register(alloc: Global, limits: Limits) -> Result<Register<Global>, Fail> {
-    let mut register = Register::new(alloc, limits)?;
-    let _filled = fill(alloc, &mut register)?;
-    Ok(register)
+pub fn register(alloc: Global, limits: Limits) -> Option<Register<Global>> {
+    let mut register = Register::new(alloc, limits).ok()?;
+    apply(alloc, &mut register, rule());
+    apply(alloc, &mut register, update(alloc));
+    Some(register)
 }
 
 /// A sector that begins with these bytes, with zeros behind them.
@@ -90,12 +90,10 @@ fn format<D: Disk>(disk: &mut D) -> Result<(), DiskError> {
 }
 
 /// The worked disk, after it was formatted.
-pub fn formatted(alloc: Global) -> Result<MemoryDisk<Global>, Fail> {
-    let mut disk = MemoryDisk::new(alloc, 667, 99)?;
-    match format(&mut disk) {
-        Ok(()) => Ok(disk),
-        Err(_) => Err("a disk of 99 calls".into()),
-    }
+pub fn formatted(alloc: Global) -> Option<MemoryDisk<Global>> {
+    let mut disk = MemoryDisk::new(alloc, 667, 99).ok()?;
+    let formatted = format(&mut disk).is_ok();
+    formatted.then_some(disk)
 }
 
 /// Writes the image of a register to the other side of a disk that is large enough.

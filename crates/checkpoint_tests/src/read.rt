@@ -6,7 +6,6 @@ use identity::{BitWriter, Itsi};
 use linked_list_allocator::LocalHeap;
 use sector_disk::{Disk, DiskError, Failing, FailingDisk, MemoryDisk};
 use std::alloc::{Allocator, Global};
-use std::test::Fail;
 
 /// The image of a register with a rule, two radios and an item, which has accepted six commands. Its epoch is 7.
 const ROWS: [&[u8]; 6] = [
@@ -43,12 +42,10 @@ fn put<D: Disk>(disk: &mut D) -> Result<(), DiskError> {
 }
 
 /// The worked disk with both images.
-fn disk(alloc: Global) -> Result<MemoryDisk<Global>, Fail> {
-    let mut disk = MemoryDisk::new(alloc, 667, 4_000)?;
-    match put(&mut disk) {
-        Ok(()) => Ok(disk),
-        Err(_) => Err("a disk of 4,000 calls".into()),
-    }
+fn disk(alloc: Global) -> Option<MemoryDisk<Global>> {
+    let mut disk = MemoryDisk::new(alloc, 667, 4_000).ok()?;
+    let is_put = put(&mut disk).is_ok();
+    is_put.then_some(disk)
 }
 
 /// Reads the image of a side of a disk that is large enough.
@@ -83,19 +80,35 @@ fn again(alloc: Global) -> Option<Command<Global>> {
     )
 }
 
-/// Whether the register has the areas of both radios, the item and the reply.
-fn answers(alloc: Global, register: &mut Register<Global>) -> Result<bool, Fail> {
-    let first = Itsi::from_number(0x3a80_0e00_07d1).ok_or("a radio")?;
-    let second = Itsi::from_number(0x3a80_0e00_07d2).ok_or("a radio")?;
-    let areas = is_in(register, first, 7) && is_in(register, second, 9);
-    let waits = register.mail().len() == 1;
-    let again = again(alloc).ok_or("a report")?;
-    let reply = register.apply(alloc, &again)?;
-    Ok(areas && waits && matches!(&reply, Reply::Kept { .. }))
+/// Whether the register has the reply to the command.
+fn is_answered(
+    alloc: Global,
+    register: &mut Register<Global>,
+    command: Option<Command<Global>>,
+) -> bool {
+    let Some(command) = command else {
+        return false;
+    };
+    let reply = register.apply(alloc, &command);
+    drop(command);
+    let is_kept = matches!(&reply, Ok(Reply::Kept { .. }));
+    drop(reply);
+    is_kept
 }
 
-/// Whether the radio is in that area.
-fn is_in(register: &Register<Global>, itsi: Itsi, area: u32) -> bool {
+/// Whether the register has the areas of both radios, the item and the reply.
+fn answers(alloc: Global, register: &mut Register<Global>) -> bool {
+    is_in(register, 0x3a80_0e00_07d1, 7)
+        && is_in(register, 0x3a80_0e00_07d2, 9)
+        && register.mail().len() == 1
+        && is_answered(alloc, register, again(alloc))
+}
+
+/// Whether the radio of this identity's number is in that area.
+fn is_in(register: &Register<Global>, number: u64, area: u32) -> bool {
+    let Some(itsi) = Itsi::from_number(number) else {
+        return false;
+    };
     match register.registry().where_is(itsi) {
         Some(radio) => radio.area.number() == area,
         None => false,
@@ -103,34 +116,39 @@ fn is_in(register: &Register<Global>, itsi: Itsi, area: u32) -> bool {
 }
 
 /// The image of a side.
-fn image(alloc: Global, layout: &Layout, side: Side) -> Result<(u64, Register<Global>), Fail> {
+fn image(alloc: Global, layout: &Layout, side: Side) -> Option<(u64, Register<Global>)> {
     let mut disk = disk(alloc)?;
-    match read(&mut disk, layout, side, alloc) {
-        Ok(image) => Ok(image),
-        Err(_) => Err("an image".into()),
-    }
+    let image = read(&mut disk, layout, side, alloc);
+    drop(disk);
+    image.ok()
 }
 
 /// Whether the image of side B is the one put there.
-fn is_read(alloc: Global, layout: &Layout) -> Result<bool, Fail> {
+fn is_read(alloc: Global, layout: &Layout) -> Option<bool> {
     let (epoch, mut register) = image(alloc, layout, Side::B)?;
-    let counted = epoch == 7 && register.count() == 6;
-    let answered = answers(alloc, &mut register)?;
-    Ok(counted && answered)
+    let is_read = epoch == 7 && register.count() == 6 && answers(alloc, &mut register);
+    drop(register);
+    Some(is_read)
 }
 
 /// Whether the image of side A is the empty one.
-fn is_empty(alloc: Global, layout: &Layout) -> Result<bool, Fail> {
+fn is_empty(alloc: Global, layout: &Layout) -> Option<bool> {
     let (epoch, register) = image(alloc, layout, Side::A)?;
     let limited = register.limits() == layout.limits();
-    Ok(epoch == 1 && register.count() == 0 && limited)
+    let is_empty = epoch == 1 && register.count() == 0;
+    drop(register);
+    Some(is_empty && limited)
+}
+
+/// Whether both images are.
+fn are_read(alloc: Global) -> Option<[bool; 2]> {
+    let layout = layout()?;
+    Some([is_read(alloc, &layout)?, is_empty(alloc, &layout)?])
 }
 
 #[test]
-fn rows_by_hand_are_read_back(rt: HostRuntime) -> Result<(), Fail> {
-    let layout = layout().ok_or("a layout")?;
-    assert!(rt; is_read(rt.alloc(), &layout)? && is_empty(rt.alloc(), &layout)?);
-    Ok(())
+fn rows_by_hand_are_read_back(rt: HostRuntime) {
+    assert!(rt; are_read(rt.alloc()) == Some([true, true]));
 }
 
 /// Why the image of side B is not read; nothing where it is.
@@ -139,57 +157,71 @@ fn fault<D: Disk>(alloc: Global, layout: &Layout, disk: &mut D) -> Option<ReadFa
 }
 
 /// Why it is not read with these bytes in that sector; nothing where it is.
-fn fault_with(
-    alloc: Global,
-    layout: &Layout,
-    at: u64,
-    bytes: &[u8],
-) -> Result<Option<ReadFault>, Fail> {
+fn fault_with(alloc: Global, layout: &Layout, at: u64, bytes: &[u8]) -> Option<Option<ReadFault>> {
     let mut disk = disk(alloc)?;
     let _written = disk.write(at, &sector(bytes));
-    Ok(fault(alloc, layout, &mut disk))
+    let fault = fault(alloc, layout, &mut disk);
+    drop(disk);
+    Some(fault)
+}
+
+/// Whether the sector is told with no row in it, and with this row, which is out of its place.
+fn is_told(alloc: Global, layout: &Layout, at: u64, row: &[u8]) -> Option<bool> {
+    let told = Some(ReadFault::Damaged(at));
+    Some(fault_with(alloc, layout, at, &[])? == told && fault_with(alloc, layout, at, row)? == told)
 }
 
 /// Whether each row is told that is no row, or the header once more, and none behind them.
-fn are_told(alloc: Global, layout: &Layout) -> Result<bool, Fail> {
-    for at in 296..302 {
-        let header = if at == 296 { ROWS[1] } else { ROWS[0] };
-        if fault_with(alloc, layout, at, &[])? != Some(ReadFault::Damaged(at))
-            || fault_with(alloc, layout, at, header)? != Some(ReadFault::Damaged(at))
-        {
-            return Ok(false);
+fn are_told(alloc: Global) -> Option<bool> {
+    let layout = layout()?;
+    let [header, rule, _, _, _, _] = ROWS;
+    for at in 297..302 {
+        if !is_told(alloc, &layout, at, header)? {
+            return Some(false);
         }
     }
-    Ok(fault_with(alloc, layout, 302, ROWS[0])?.is_none())
+    Some(is_told(alloc, &layout, 296, rule)? && fault_with(alloc, &layout, 302, header)?.is_none())
 }
 
 #[test]
-fn the_first_bad_sector_is_told(rt: HostRuntime) -> Result<(), Fail> {
-    let layout = layout().ok_or("a layout")?;
-    assert!(rt; are_told(rt.alloc(), &layout)?);
-    Ok(())
+fn the_first_bad_sector_is_told(rt: HostRuntime) {
+    assert!(rt; are_told(rt.alloc()) == Some(true));
+}
+
+/// Why it is not read where the call of this number fails, and how many calls within it failed.
+fn fault_at(
+    alloc: Global,
+    layout: &Layout,
+    call: u64,
+    failing: Failing,
+) -> Option<(Option<ReadFault>, u64)> {
+    let mut disk = FailingDisk::new(disk(alloc)?, call, failing);
+    let fault = fault(alloc, layout, &mut disk);
+    let failures = disk.failures();
+    drop(disk);
+    Some((fault, failures))
 }
 
 /// Whether each of six reads that fails is told, and there is no seventh.
-fn are_six(alloc: Global, layout: &Layout, failing: Failing) -> Result<bool, Fail> {
+fn are_six(alloc: Global, layout: &Layout, failing: Failing) -> Option<bool> {
     for call in 1..7 {
-        let mut failing = FailingDisk::new(disk(alloc)?, call, failing);
-        if fault(alloc, layout, &mut failing) != Some(ReadFault::DiskFault) {
-            return Ok(false);
+        if fault_at(alloc, layout, call, failing)?.0 != Some(ReadFault::DiskFault) {
+            return Some(false);
         }
     }
-    let mut failing = FailingDisk::new(disk(alloc)?, 7, failing);
-    Ok(fault(alloc, layout, &mut failing).is_none() && failing.failures() == 0)
+    Some(fault_at(alloc, layout, 7, failing)? == (None, 0))
+}
+
+/// Whether they are, with one failing call and with all later ones.
+fn are_six_reads(alloc: Global) -> Option<[bool; 2]> {
+    let layout = layout()?;
+    let once = are_six(alloc, &layout, Failing::Once)?;
+    Some([once, are_six(alloc, &layout, Failing::Always)?])
 }
 
 #[test]
-fn six_rows_are_six_reads(rt: HostRuntime) -> Result<(), Fail> {
-    let layout = layout().ok_or("a layout")?;
-    assert!(rt;
-        are_six(rt.alloc(), &layout, Failing::Once)?
-            && are_six(rt.alloc(), &layout, Failing::Always)?
-    );
-    Ok(())
+fn six_rows_are_six_reads(rt: HostRuntime) {
+    assert!(rt; are_six_reads(rt.alloc()) == Some([true, true]));
 }
 
 /// Why the image is not read in a heap, which gets all of its memory back; nothing where it is read.
@@ -197,31 +229,39 @@ fn in_heap<'a, D: Disk>(heap: &'a LocalHeap, layout: &Layout, disk: &mut D) -> O
     read(disk, layout, Side::B, heap).err()
 }
 
-/// How many heaps were too small before the image was read; nothing where one didn't get all of its memory back.
-fn refused<D: Disk>(alloc: Global, layout: &Layout, disk: &mut D) -> Result<Option<usize>, Fail> {
-    for k in 0..200 {
-        let heap = LocalHeap::new(alloc, 200 + 32 * k)?;
-        let fault = in_heap(&heap, layout, disk);
-        if heap.used() > 0 {
-            return Ok(None);
-        }
-        match fault {
-            None => return Ok(Some(k)),
-            Some(ReadFault::NoMemory) => {}
-            Some(_) => return Ok(None),
-        }
-    }
-    Ok(None)
+/// The same in a heap of this size, and how much of it is then in use.
+fn in_heap_of<D: Disk>(
+    alloc: Global,
+    size: usize,
+    layout: &Layout,
+    disk: &mut D,
+) -> Option<(Option<ReadFault>, usize)> {
+    let heap = LocalHeap::new(alloc, size).ok()?;
+    let fault = in_heap(&heap, layout, disk);
+    Some((fault, heap.used()))
 }
 
-fn are_refused_in_turn(alloc: Global, layout: &Layout) -> Result<bool, Fail> {
+/// How many heaps were too small before the image was read; nothing where one didn't get all of its memory back.
+fn refused<D: Disk>(alloc: Global, layout: &Layout, disk: &mut D) -> Option<usize> {
+    for k in 0..200 {
+        match in_heap_of(alloc, 200 + 32 * k, layout, disk)? {
+            (None, 0) => return Some(k),
+            (Some(ReadFault::NoMemory), 0) => {}
+            _ => return None,
+        }
+    }
+    None
+}
+
+fn heaps_refused(alloc: Global) -> Option<usize> {
+    let layout = layout()?;
     let mut disk = disk(alloc)?;
-    Ok(refused(alloc, layout, &mut disk)?.is_some_and(|heaps| heaps > 5))
+    let refused = refused(alloc, &layout, &mut disk);
+    drop(disk);
+    refused
 }
 
 #[test]
-fn each_growth_is_refused_in_turn(rt: HostRuntime) -> Result<(), Fail> {
-    let layout = layout().ok_or("a layout")?;
-    assert!(rt; are_refused_in_turn(rt.alloc(), &layout)?);
-    Ok(())
+fn each_growth_is_refused_in_turn(rt: HostRuntime) {
+    assert!(rt; heaps_refused(rt.alloc()).is_some_and(|heaps| heaps > 5));
 }

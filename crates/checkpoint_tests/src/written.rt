@@ -4,7 +4,6 @@ use centre_core::Register;
 use checkpoint::{CheckpointError, Layout, Side};
 use sector_disk::{Disk, DiskError};
 use std::alloc::Global;
-use std::test::Fail;
 
 /// Whether side A still stands, with its first image, and side B has one with epoch 2 and no record.
 fn is_ready<D: Disk>(disk: &mut D) -> Result<bool, DiskError> {
@@ -26,33 +25,53 @@ fn goes_round<D: Disk>(
     Ok(first && second && third && back && last)
 }
 
-fn is_kept(alloc: Global, layout: &Layout) -> Result<bool, Fail> {
+fn is_disk_kept(alloc: Global, layout: &Layout, register: &Register<Global>) -> Option<bool> {
     let mut disk = formatted(alloc)?;
+    let round = goes_round(&mut disk, layout, register) == Ok(true);
+    let pending = disk.pending(alloc);
+    drop(disk);
+    Some(round && pending.ok()?.is_empty())
+}
+
+fn is_kept(alloc: Global) -> Option<bool> {
+    let layout = layout()?;
     let register = register(alloc, layout.limits())?;
-    let round = goes_round(&mut disk, layout, &register) == Ok(true);
-    Ok(round && disk.pending(alloc)?.is_empty())
+    let is_kept = is_disk_kept(alloc, &layout, &register);
+    drop(register);
+    is_kept
 }
 
 #[test]
-fn from_side_to_side(rt: HostRuntime) -> Result<(), Fail> {
-    let layout = layout().ok_or("a layout")?;
-    assert!(rt; is_kept(rt.alloc(), &layout)?);
-    Ok(())
+fn from_side_to_side(rt: HostRuntime) {
+    assert!(rt; is_kept(rt.alloc()) == Some(true));
 }
 
-/// What is answered for an image with this epoch, and how many sectors are then touched.
-fn answered(alloc: Global, layout: &Layout, epoch: u64) -> Result<bool, Fail> {
+/// Whether an image with this epoch is refused, and no sector touched.
+fn is_refused(
+    alloc: Global,
+    layout: &Layout,
+    register: &Register<Global>,
+    epoch: u64,
+) -> Option<bool> {
     let mut disk = formatted(alloc)?;
-    let register = register(alloc, layout.limits())?;
-    let refused = write(&mut disk, layout, Side::A, epoch, &register);
+    let refused = write(&mut disk, layout, Side::A, epoch, register);
     let untouched = standing(&mut disk) == Ok(1) && begins(&mut disk, 296, &[0; 512]) == Ok(true);
-    Ok(refused == Some(CheckpointError::EpochsUsedUp) && untouched)
+    drop(disk);
+    Some(refused == Some(CheckpointError::EpochsUsedUp) && untouched)
+}
+
+/// Whether the last epoch is refused, and the one before it.
+fn are_refused(alloc: Global) -> Option<[bool; 2]> {
+    let layout = layout()?;
+    let last = 4_611_686_018_427_387_904;
+    let register = register(alloc, layout.limits())?;
+    let at_last = is_refused(alloc, &layout, &register, last);
+    let before = is_refused(alloc, &layout, &register, last - 1);
+    drop(register);
+    Some([at_last?, before?])
 }
 
 #[test]
-fn the_last_epoch_is_not_followed(rt: HostRuntime) -> Result<(), Fail> {
-    let layout = layout().ok_or("a layout")?;
-    let last = 4_611_686_018_427_387_904;
-    assert!(rt; answered(rt.alloc(), &layout, last)? && !answered(rt.alloc(), &layout, last - 1)?);
-    Ok(())
+fn the_last_epoch_is_not_followed(rt: HostRuntime) {
+    assert!(rt; are_refused(rt.alloc()) == Some([true, false]));
 }

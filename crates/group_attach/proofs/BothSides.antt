@@ -1,8 +1,8 @@
 -- That both indexes come to the same attachments.
 use Rattle.std.proofs.Common.{◌≡◌, ℕ, ◌<◌, Bool, true, false, cond, List, [], ◌∷◌, length, Option, Some, None, Result, Ok, Err, refl, sym, ap, ◌∙◌, subst}
-use Rattle.std.specs.Prelude.{◌&&◌, ◌==◌, not, IsSome, OnOk}
+use Rattle.std.specs.Prelude.{◌&&◌, ◌||◌, ◌==◌, not, IsSome, OnOk}
 use Rattle.std.specs.Option.{is_some, option_or}
-use Rattle.std.specs.List.{fold}
+use Rattle.std.specs.List.{fold, list_any}
 use Rattle.std.specs.FinMap as finite
 use mathlib.Core.Bool.{false≢true}
 use borrow.Author.Tests.{eqb-true}
@@ -49,6 +49,18 @@ both_after_update m g x y itsi update own same part left_is right_is =
     ∙ update_same (q.0 == itsi) update itsi q (finite.get m q) refl
     ∙ sym (get_kept (λ e. not ((e.0.0 == itsi) && is_dropped update e.1.1)) m q))
     ∙ sym right_is
+
+none_gone : (update : LocationUpdateType) (m : Attached) (list : List Attachment) → list_any (λ a. is_dropped update a.lifetime) list ≡ false → all_ended update m list ≡ m
+none_gone update m [] none = refl
+none_gone update m (a ∷ list) none =
+    elim (is_dropped update a.lifetime) as (λ b. is_dropped update a.lifetime ≡ b → (b || list_any (λ o. is_dropped update o.lifetime) list) ≡ false → all_ended update (cond b (finite.remove m (a.itsi, a.gtsi)) m) list ≡ m) [
+      | true ↦ λ ends kept. absurd (false≢true (sym kept))
+      | false ↦ λ stays kept. none_gone update m list kept
+    ] refl none
+
+-- an update that ends none of the radio's attachments
+pub none_after_update : (m : Attached) (itsi : ℕ) (update : LocationUpdateType) (own : List Attachment) → own ≡ listed (of_radio m itsi) → list_any (λ a. is_dropped update a.lifetime) own ≡ false → m ≡ after_update m itsi update
+none_after_update m itsi update own part none = sym (none_gone update m own none) ∙ both_after_update m m _ _ itsi update own refl part refl refl
 
 -- a radio's own part changes by itself
 swapped : (b : Bool) (x : Option Usage) → cond (not b) (cond b x None) None ≡ cond b (cond (not b) x None) None

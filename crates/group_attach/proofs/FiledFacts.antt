@@ -1,14 +1,14 @@
 -- What single changes of a list under a path come to.
 use Rattle.std.proofs.Common.{◌≡◌, ℕ, Bool, true, false, cond, Option, Some, None, Result, Ok, Err, refl, sym, ap, ◌∙◌, subst}
 use Rattle.std.specs.Prelude.{◌==◌, IsSome, IfNone, OnErr, unwrap_or}
-use Rattle.std.specs.Option.{is_some}
+use Rattle.std.specs.Option.{is_some, option_map}
 use Rattle.std.specs.Ordering.{eq_by_cmp}
 use Rattle.std.specs.FinMap as finite
 use mathlib.Core.Bool.{false≢true}
 use Rattle.identity.specs.Path.{Path, path_cmp}
 use Rattle.identity.specs.PathLaws.{paths_total, paths_exact, tie_exact}
 use Rattle.group_attach.specs.declared.ending.Ending.{Ending}
-use Rattle.group_attach.specs.Attached.{Attached, Pair, Usage, pair_cmp, no_groups}
+use Rattle.group_attach.specs.Attached.{Attached, Pair, Usage, pair_cmp, no_groups, attachment_of, attachment_at}
 use Rattle.group_attach.specs.Filed.{Filed, filed_in, under, placed, IsEnded, ended}
 use Rattle.group_attach.proofs.Endings.{nothing_ends}
 
@@ -114,3 +114,7 @@ first_under f p none =
       | None ↦ λ e. none_under f p e
       | Some list ↦ λ e. absurd (false≢true (none ∙ ap is_some (sym e)))
     ] refl
+
+-- nor was there one
+pub none_before : (f : Filed) (p : Path) (q : Pair) → false ≡ is_some (finite.get f p) → None ≡ attachment_at (under f p) q
+none_before f p q none = ap (option_map (λ usage. attachment_of (q, usage))) (sym (finite.get-empty pair_cmp q) ∙ ap (λ m. finite.get m q) (sym (first_under f p none)))

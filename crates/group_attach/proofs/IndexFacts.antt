@@ -10,7 +10,7 @@ use Rattle.identity.specs.PathLaws.{number-id_path}
 use Rattle.group_attach.specs.declared.attachment.Attachment.{Attachment}
 use Rattle.mm_pdus.specs.declared.update.LocationUpdateType.{LocationUpdateType}
 use Rattle.group_attach.specs.declared.ending.Ending.{Ending}
-use Rattle.group_attach.specs.Attached.{Attached, Pair, Usage, pair_cmp, no_groups, attachment_of, listed}
+use Rattle.group_attach.specs.Attached.{Attached, Pair, Usage, pair_cmp, no_groups, attachment_of, attachment_at, listed}
 use Rattle.group_attach.specs.InOrder.{pair_of}
 use Rattle.group_attach.specs.Filed.{Filed, under, held, placed, gathered, AllHave, IsFiled, part_of, attached, ended, left_where, all_left, left_if_ended, all_ended}
 use Rattle.group_attach.proofs.Filtered.{listed_map, map_of_nothing}
@@ -101,13 +101,10 @@ module _ (key : Pair → ℕ) (f : Filed) (p : Path) where
   pub get_under : (m : Attached) (q : Pair) → p ≡ id_path (key q) → gathered key f ≡ m → finite.get (under f p) q ≡ finite.get m q
   get_under m q at view = ap (λ r. finite.get (under f r) q) at ∙ sym (get_gathered key f q) ∙ ap (λ l. finite.get l q) view
 
-  pub found : (m : Attached) (q : Pair) (list : Attached) (r : Option Attachment) → p ≡ id_path (key q) → gathered key f ≡ m → Some list ≡ finite.get f p
-      → r ≡ option_map (λ usage. attachment_of (q, usage)) (finite.get list q) → r ≡ option_map (λ usage. attachment_of (q, usage)) (finite.get m q)
-  found m q list r at view there is = is ∙ ap (option_map (λ usage. attachment_of (q, usage))) (ap (λ o. finite.get (held o) q) there ∙ get_under m q at view)
-
-  pub not_found : (m : Attached) (q : Pair) → p ≡ id_path (key q) → gathered key f ≡ m → None ≡ finite.get f p → None ≡ option_map (λ usage. attachment_of (q, usage)) (finite.get m q)
-  not_found m q at view none =
-      ap (option_map (λ usage. attachment_of (q, usage))) (sym (finite.get-empty pair_cmp q) ∙ ap (λ o. finite.get (held o) q) none ∙ get_under m q at view)
+  pub before_is : {E : Type 0} (r : Result (Option Attachment) E) (m : Attached) (q : Pair) → p ≡ id_path (key q) → gathered key f ≡ m
+      → IfOk r (λ before. before ≡ attachment_at (under f p) q) → IfOk r (λ before. before ≡ attachment_at m q)
+  before_is (Ok before) m q at view is = is ∙ ap (option_map (λ usage. attachment_of (q, usage))) (get_under m q at view)
+  before_is (Err e) m q at view is = tt
 
 pub copied : {E : Type 0} (r : Result Attached E) (list m : Attached) → list ≡ m → IfOk r (λ copy. copy ≡ list) → IfOk r (λ copy. copy ≡ m)
 copied (Ok copy) list m same is = is ∙ same

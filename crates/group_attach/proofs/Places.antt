@@ -1,6 +1,6 @@
 -- Where a radio's attachment to a group stands in the list in order, or would go, and what an edit there makes of the map.
-use Rattle.std.proofs.Common.{◌≡◌, ℕ, zero, suc, ◌<◌, ◌≤◌, Bool, true, false, List, [], ◌∷◌, length, map, get_or, set, Some, None, Result, Ok, Err, refl, sym, ap, ◌∙◌, subst, arith}
-use Rattle.std.specs.Prelude.{◌&&◌, if◌then◌else◌, OnOk, IsSome}
+use Rattle.std.proofs.Common.{◌≡◌, ℕ, zero, suc, ◌<◌, ◌≤◌, ◌-◌, Bool, true, false, List, [], ◌∷◌, length, map, get_or, set, Some, None, Result, Ok, Err, refl, sym, ap, ◌∙◌, subst, arith}
+use Rattle.std.specs.Prelude.{◌&&◌, IsSome}
 use Rattle.std.specs.declared.cmp.Ordering.{Ordering}
 use Rattle.std.specs.declared.cmp.Ordering.TheVariants.{Less, Equal, Greater}
 use Rattle.std.specs.Ordering.{is_lt, ordering_index, ordering_reverse}
@@ -84,6 +84,18 @@ comparisons_rise (e ∷ es) q order zero zero d le in_range = omega arith
 comparisons_rise (e ∷ es) q order (suc i) zero d le in_range = absurd (omega arith)
 comparisons_rise (e ∷ es) q order zero (suc j) d le in_range = earlier _ _ q (below_at (pair_of e) es j d (left_of _ _ order) (omega arith))
 comparisons_rise (e ∷ es) q order (suc i) (suc j) d le in_range = comparisons_rise es q (right_of _ _ order) i j d (omega arith) (omega arith)
+
+no_higher : (o : Ordering) → ordering_index o ≤ 0 → o ≡ Less
+no_higher Less le = refl
+no_higher Equal le = absurd (omega (arith, le))
+no_higher Greater le = absurd (omega (arith, le))
+
+-- behind a last attachment that comes before q all do
+pub behind_all : (es : List Attachment) (q : Pair) → 0 < length es → HoldsAt (λ a. pair_cmp (pair_of a) q ≡ Less) es (length es - 1) → IsBinarySearchResult (λ a. pair_cmp (pair_of a) q) es (Err (length es))
+behind_all es q some last = λ rises. (
+  (λ j d low lt. no_higher (pair_cmp (pair_of (get_or es j d)) q) (subst (λ o. ordering_index (pair_cmp (pair_of (get_or es j d)) q) ≤ ordering_index o) (last d) (rises j (length es - 1) d (omega (arith, lt)) (omega (arith, some))))),
+  (λ j d le lt. absurd (omega (arith, le, lt))),
+)
 
 -- a search in the list l, which is es, ends where q stands or at the gap for it
 pub found_at : (es l : List Attachment) (q : Pair) (i : ℕ) → l ≡ es → i < length l → HoldsAt (λ a. pair_cmp (pair_of a) q ≡ Equal) l i → IsAt es q i
@@ -190,14 +202,6 @@ tells_found es q i a order at is =
 pub tells_none : (es : List Attachment) (q : Pair) (i : ℕ) → IsInOrder es → IsGap es q i → None ≡ option_map (λ usage. attachment_of (q, usage)) (finite.get (map_of es) q)
 tells_none es q i order gap = ap (option_map (λ usage. attachment_of (q, usage))) (sym (has_none es q i order gap))
 
--- an insertion that may fail for want of memory
-pub tried_in_order : {X E : Type 0} (r : Result X E) (es new : List Attachment) (a : Attachment) (i : ℕ) → IsInOrder es → IsGap es (pair_of a) i → new ≡ (if is_ok r then insert es i a else es) → IsInOrder new
-tried_in_order (Ok x) es new a i order gap is = new_in_order es new a i order gap is
-tried_in_order (Err e) es new a i order gap is = subst IsInOrder (sym is) order
-
-pub tried_is_insert : {X E : Type 0} (r : Result X E) (es new : List Attachment) (a : Attachment) (i : ℕ) → IsInOrder es → IsGap es (pair_of a) i → new ≡ (if is_ok r then insert es i a else es) → OnOk r (map_of new ≡ finite.insert (map_of es) (pair_of a) (a.class, a.lifetime))
-tried_is_insert (Ok x) es new a i order gap is = new_is_insert es new a i order gap is
-tried_is_insert (Err e) es new a i order gap is = tt
-
+-- where there is a gap, the map has nothing
 pub not_in_gap : (es : List Attachment) (q : Pair) (i : ℕ) → IsInOrder es → IsGap es q i → IsSome (finite.get (map_of es) q) → ⊥
 not_in_gap es q i order gap there = false≢true (sym (ap is_some (has_none es q i order gap)) ∙ there)

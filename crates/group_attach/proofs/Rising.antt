@@ -13,7 +13,6 @@ use Rattle.std.proofs.lemmas.List.Elements.{All-nil, All-cons}
 use Rattle.std.proofs.lemmas.Cmp.{tied_itself}
 use Rattle.prefix_tree.specs.Following.{AreRising}
 use Rattle.prefix_tree.proofs.Following.{sorted_rise}
-use Rattle.group_attach.specs.declared.attachment.Attachment.{Attachment}
 use Rattle.group_attach.specs.Attached.{Pair, Usage, Attached, pair_cmp, attachment_of, entry_of, of_radio, groups_of}
 use Rattle.group_attach.proofs.Pairs.{pairs_total}
 use Rattle.group_attach.proofs.BothSides.{part_has}

@@ -1,5 +1,6 @@
 -- The attachments of radios to groups as one finite map, and what can be asked of it.
-use Rattle.std.specs.Prelude.{ℕ, ◌==◌, List, map}
+use Rattle.std.specs.Prelude.{ℕ, ◌==◌, List, Option, map}
+use Rattle.std.specs.Option.{option_map}
 use Rattle.std.specs.Ordering.{nat_cmp, ordering_then}
 use Rattle.std.specs.declared.cmp.Ordering.{Ordering}
 use Rattle.std.specs.Coded.{Coded, coded×, coded_ℕ}
@@ -38,6 +39,10 @@ attachment_of e = record { itsi = e.0.0; gtsi = e.0.1; class = e.1.0; lifetime =
 
 abbrev pub entry_of : Attachment → Pair × Usage
 entry_of a = ((a.itsi, a.gtsi), (a.class, a.lifetime))
+
+-- the attachment of a radio to a group
+abbrev pub attachment_at : Attached → Pair → Option Attachment
+attachment_at m pair = option_map (λ usage. attachment_of (pair, usage)) (finite.get m pair)
 
 -- all attachments, by radio and then by group
 abbrev pub listed : Attached → List Attachment

@@ -1,9 +1,9 @@
 //! Attachments as one list in order of radio and group.
 
 ghost use Rattle.std.specs.Prelude.{◌≡◌, ◌==◌, OnOk, OnErr, IfOk, IsOk, IsSome};
-ghost use Rattle.std.specs.Option.{option_copied, option_map};
+ghost use Rattle.std.specs.Option.{option_copied};
 ghost use Rattle.std.specs.FinMap as finite;
-ghost use Rattle.group_attach.specs.Attached.{no_groups, listed, attachment_of};
+ghost use Rattle.group_attach.specs.Attached.{no_groups, listed, attachment_at};
 ghost use Rattle.group_attach.specs.Applied.{applied};
 ghost use Rattle.group_attach.specs.InOrder.{IsInOrder, map_of, pair_of};
 ghost use Rattle.group_attach.specs.Filed.{attached, ended, held};
@@ -11,8 +11,7 @@ ghost use Rattle.group_attach.specs.Filed.{attached, ended, held};
 use crate::Attachment;
 use crate::edit::{attach, change_all, drop_ended, leave};
 use crate::ending::Ending;
-use crate::list::find;
-use identity::{Gtsi, Itsi};
+use identity::Itsi;
 use mm_pdus::{GroupMode, GroupUp};
 use prefix_tree::TryCopy;
 use registration::Registry;
@@ -82,15 +81,13 @@ impl<A: Allocator> AttachmentList<A> {
         self.as_slice().is_empty()
     }
 
-    /// The radio's attachment to the group.
-    pub(crate) fn find(&self, itsi: Itsi, gtsi: Gtsi) -> Option<Attachment>
-        ensures { result ≡ option_map (λ usage. attachment_of ((itsi, gtsi), usage)) (finite.get self.now (itsi, gtsi)) }
-    {
-        find(&self.entries, itsi, gtsi)
-    }
-
-    /// Adds the attachment, or replaces the one of the same radio and group. The latter takes no memory.
-    pub(crate) fn attach(&mut self, attachment: Attachment) -> Result<(), AllocError>
+    /// Adds the attachment, or replaces the one of the same radio and group, which it answers. The latter takes no
+    /// memory.
+    pub(crate) fn attach(
+        &mut self,
+        attachment: Attachment,
+    ) -> Result<Option<Attachment>, AllocError>
+        ensures before { IfOk result (λ before. before ≡ attachment_at self.old (pair_of attachment)) }
         ensures ok { OnOk result (self.new ≡ attached self.old attachment) }
         ensures err { OnErr result (self.new ≡ self.old) }
         ensures overwrites { IsSome (finite.get self.old (pair_of attachment)) → IsOk result }

@@ -1,8 +1,9 @@
 //! What changes the list of attachments.
 
-ghost use Rattle.std.specs.Prelude.{◌≡◌, ◌==◌, ◌<◌, ◌≤◌, ◌+◌, ◌&&◌, not, length, vec_len, vec_capacity, IsSome, IsOk, OnOk, OnErr};
+ghost use Rattle.std.specs.Prelude.{◌≡◌, ◌==◌, ◌<◌, ◌≤◌, ◌+◌, ◌&&◌, not, length, vec_len, vec_capacity, IsSome, IsOk, IfOk, OnOk, OnErr};
 ghost use Rattle.std.specs.List.{filter};
 ghost use Rattle.std.specs.FinMap as finite;
+ghost use Rattle.group_attach.specs.Attached.{attachment_at};
 ghost use Rattle.group_attach.specs.Filed.{attached};
 ghost use Rattle.group_attach.specs.Applied.{ends_at_attach, ends_at_update, is_dropped, after_update, without_radio, changed_by, at_start, applied};
 ghost use Rattle.group_attach.specs.InOrder.{IsInOrder, map_of, pair_of};
@@ -79,13 +80,15 @@ fn change<A: Allocator, R: Allocator + Clone>(
     }
 }
 
-// The attachment in its place. It takes memory only where its pair is new and there is no room.
+// The attachment in its place, and the one that was there before. It takes memory only where its pair is new and
+// there is no room.
 pub(crate) fn attach<A: Allocator>(
     entries: &mut Vec<Attachment, A>,
     attachment: Attachment,
-) -> Result<(), AllocError>
+) -> Result<Option<Attachment>, AllocError>
     requires in_order { IsInOrder entries.old.items }
     ensures in_order { IsInOrder entries.new.items }
+    ensures before { IfOk result (λ before. before ≡ attachment_at (map_of entries.old.items) (pair_of attachment)) }
     ensures ok { OnOk result (map_of entries.new.items ≡ attached (map_of entries.old.items) attachment) }
     ensures err { OnErr result (map_of entries.new.items ≡ map_of entries.old.items) }
     ensures overwrites { IsSome (finite.get (map_of entries.old.items) (pair_of attachment)) → IsOk result }
@@ -95,10 +98,14 @@ pub(crate) fn attach<A: Allocator>(
 {
     match place(entries, attachment.itsi, attachment.gtsi) {
         Ok(at) => {
+            let before = entries[at];
             entries[at] = attachment;
-            Ok(())
+            Ok(Some(before))
         }
-        Err(at) => entries.insert(at, attachment).or(Err(AllocError)),
+        Err(at) => match entries.insert(at, attachment) {
+            Ok(()) => Ok(None),
+            Err(_) => Err(AllocError),
+        },
     }
 }
 

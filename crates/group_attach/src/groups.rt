@@ -15,7 +15,7 @@ use crate::answer::answers;
 use crate::attachments::{AttachmentList, slice_of};
 use crate::count::count_after;
 use crate::index::Index;
-use crate::list::first_after;
+use crate::list::{any_ends, first_after};
 use crate::side::{ByGroup, ByRadio};
 use crate::{Attachment, GroupFault};
 use identity::{Gtsi, Itsi};
@@ -104,9 +104,11 @@ impl<A: Allocator> Groups<A> {
     pub fn on_update(&mut self, itsi: Itsi, update: LocationUpdateType)
         ensures { self.new ≡ after_update self.old itsi update }
     {
-        self.by_group
-            .leave_ended(self.by_radio.part(itsi.number()), update);
-        self.by_radio.drop_ended(itsi, update);
+        let own = self.by_radio.part(itsi.number());
+        if any_ends(own, update) {
+            self.by_group.leave_ended(own, update);
+            self.by_radio.drop_ended(itsi, update);
+        }
     }
 
     /// Why `apply` would refuse this PDU, memory aside: `NotAttached` and `TooManyGroups`, in this

@@ -1,9 +1,8 @@
 //! Attachments under the numbers of one side.
 
 ghost use Rattle.std.specs.Prelude.{◌≡◌, ◌<◌, ◌^◌, length, OnOk, OnErr, IfOk, IsOk, IsSome};
-ghost use Rattle.std.specs.Option.{option_map};
 ghost use Rattle.std.specs.FinMap as finite;
-ghost use Rattle.group_attach.specs.Attached.{Attached, no_groups, listed, attachment_of, of_radio};
+ghost use Rattle.group_attach.specs.Attached.{Attached, no_groups, listed, attachment_at, of_radio};
 ghost use Rattle.group_attach.specs.Applied.{after_update};
 ghost use Rattle.group_attach.specs.InOrder.{IsInOrder, map_of, pair_of};
 ghost use Rattle.group_attach.specs.Filed.{part_of, attached, all_attached, all_left, set_back, held, left_where, left_if_ended, all_ended, AllHave, IsReplaced};
@@ -61,16 +60,6 @@ impl<S: Side, A: Allocator> Index<S, A> {
         slice_of(self.lists.find(&Prefix::whole(number)))
     }
 
-    /// The radio's attachment to the group.
-    pub(crate) fn find(&self, itsi: Itsi, gtsi: Gtsi) -> Option<Attachment>
-        ensures { result ≡ option_map (λ usage. attachment_of ((itsi, gtsi), usage)) (finite.get self.now (itsi, gtsi)) }
-    {
-        match self.lists.find(&S::path(itsi, gtsi)) {
-            Some(list) => list.find(itsi, gtsi),
-            None => None,
-        }
-    }
-
     /// Takes the radio's attachment to the group away. It takes no memory.
     pub(crate) fn leave(&mut self, itsi: Itsi, gtsi: Gtsi)
         ensures { self.new ≡ finite.remove self.old (itsi, gtsi) }
@@ -120,8 +109,14 @@ impl<S: Side, A: Allocator> Index<S, A> {
 }
 
 impl<S: Side, A: Allocator + Clone> Index<S, A> {
-    /// Adds the attachment, or replaces the one of the same radio and group. The latter takes no memory.
-    pub(crate) fn attach(&mut self, alloc: &A, attachment: Attachment) -> Result<(), AllocError>
+    /// Adds the attachment, or replaces the one of the same radio and group, which it answers. The latter takes no
+    /// memory.
+    pub(crate) fn attach(
+        &mut self,
+        alloc: &A,
+        attachment: Attachment,
+    ) -> Result<Option<Attachment>, AllocError>
+        ensures before { IfOk result (λ before. before ≡ attachment_at self.old (pair_of attachment)) }
         ensures ok { OnOk result (self.new ≡ attached self.old attachment) }
         ensures err { OnErr result (self.new ≡ self.old) }
         ensures overwrites { IsSome (finite.get self.old (pair_of attachment)) → IsOk result }
@@ -139,8 +134,7 @@ impl<S: Side, A: Allocator + Clone> Index<S, A> {
         let Some((first, rest)) = list.split_first() else {
             return Ok(());
         };
-        let before = self.find(first.itsi, first.gtsi);
-        self.attach(alloc, *first)?;
+        let before = self.attach(alloc, *first)?;
         match self.attach_all(alloc, rest) {
             Ok(()) => Ok(()),
             Err(error) => {
@@ -153,7 +147,7 @@ impl<S: Side, A: Allocator + Clone> Index<S, A> {
     // Sets an attachment that is there back to how it was before. It takes no memory.
     fn set_back(&mut self, alloc: &A, attachment: &Attachment, before: Option<Attachment>)
         requires { IsSome (finite.get self.old (pair_of attachment.now)) }
-        ensures { (m : Attached) → before ≡ option_map (λ usage. attachment_of (pair_of attachment.now, usage)) (finite.get m (pair_of attachment.now)) → self.new ≡ set_back self.old (pair_of attachment.now) (finite.get m (pair_of attachment.now)) }
+        ensures { (m : Attached) → before ≡ attachment_at m (pair_of attachment.now) → self.new ≡ set_back self.old (pair_of attachment.now) (finite.get m (pair_of attachment.now)) }
     {
         match before {
             Some(before) => {

@@ -1,17 +1,21 @@
 //! The list of attachments in order: by radio, then by group.
 
-ghost use Rattle.std.specs.Prelude.{◌≡◌, ◌==◌, ◌≤◌, length};
-ghost use Rattle.std.specs.List.{filter, count_by};
+ghost use Rattle.std.specs.Prelude.{◌≡◌, ◌==◌, ◌<◌, ◌≤◌, ◌-◌, length, IsTrue};
+ghost use Rattle.std.specs.List.{filter, count_by, list_any, HoldsAt};
 ghost use Rattle.std.specs.List.Sorted.{IsBinarySearchResult, IsSearchInRange};
-ghost use Rattle.std.specs.Option.{is_some, option_copied, option_map};
+ghost use Rattle.std.specs.Option.{is_some, option_copied};
 ghost use Rattle.std.specs.FinMap as finite;
 ghost use Rattle.std.specs.Ordering.{nat_cmp};
+ghost use Rattle.std.specs.declared.cmp.Ordering.TheVariants.{Less};
 ghost use Rattle.prefix_tree.specs.Following.{is_after, next_of};
-ghost use Rattle.group_attach.specs.Attached.{pair_cmp, attachment_of};
+ghost use Rattle.group_attach.specs.Attached.{pair_cmp};
+ghost use Rattle.group_attach.specs.Applied.{is_dropped};
 ghost use Rattle.group_attach.specs.InOrder.{IsInOrder, map_of, pair_of};
 
 use crate::Attachment;
+use crate::edit::is_dropped;
 use identity::{Gtsi, Itsi};
+use mm_pdus::LocationUpdateType;
 use std::cmp::Ordering;
 
 // How many attachments the radio has.
@@ -25,23 +29,21 @@ pub(crate) fn count_of(entries: &[Attachment], itsi: Itsi) -> usize
         .count()
 }
 
-// The radio's attachment to the group.
-pub(crate) fn find(entries: &[Attachment], itsi: Itsi, gtsi: Gtsi) -> Option<Attachment>
-    requires { IsInOrder entries.now }
-    ensures { result ≡ option_map (λ usage. attachment_of ((itsi, gtsi), usage)) (finite.get (map_of entries.now) (itsi, gtsi)) }
-{
-    match place(entries, itsi, gtsi) {
-        Ok(at) => Some(entries[at]),
-        Err(_) => None,
-    }
-}
-
 // Whether the radio has an attachment to the group.
 pub(crate) fn has(entries: &[Attachment], itsi: Itsi, gtsi: Gtsi) -> bool
     requires { IsInOrder entries.now }
     ensures { result ≡ is_some (finite.get (map_of entries.now) (itsi, gtsi)) }
 {
     place(entries, itsi, gtsi).is_ok()
+}
+
+// Whether the update ends one of them.
+pub(crate) fn any_ends(entries: &[Attachment], update: LocationUpdateType) -> bool
+    ensures { result ≡ list_any (λ a. is_dropped update a.lifetime) entries.now }
+{
+    entries
+        .iter()
+        .any(|attachment| is_dropped(update, attachment.lifetime))
 }
 
 // The first attachment after the group, or the first of all.
@@ -63,8 +65,29 @@ fn is_after(attachment: &Attachment, after: Option<Gtsi>) -> bool
     }
 }
 
-// Where the radio's attachment to the group stands, or would go.
+// Where the radio's attachment to the group stands, or would go. Most come in order, so the last one is asked first.
 pub(crate) fn place(entries: &[Attachment], itsi: Itsi, gtsi: Gtsi) -> Result<usize, usize>
+    ensures within { IsSearchInRange result (length entries.now) }
+    ensures place { IsBinarySearchResult (λ a. pair_cmp (pair_of a) (itsi, gtsi)) entries.now result }
+{
+    if ends_before(entries, itsi, gtsi) {
+        Err(entries.len())
+    } else {
+        search(entries, itsi, gtsi)
+    }
+}
+
+// Whether the last attachment comes before the radio and the group.
+fn ends_before(entries: &[Attachment], itsi: Itsi, gtsi: Gtsi) -> bool
+    ensures { IsTrue result → (0 < length entries.now) × HoldsAt (λ a. pair_cmp (pair_of a) (itsi, gtsi) ≡ Less) entries.now (length entries.now - 1) }
+{
+    match entries.last() {
+        Some(last) => order(last, itsi, gtsi).is_lt(),
+        None => false,
+    }
+}
+
+fn search(entries: &[Attachment], itsi: Itsi, gtsi: Gtsi) -> Result<usize, usize>
     ensures within { IsSearchInRange result (length entries.now) }
     ensures place { IsBinarySearchResult (λ a. pair_cmp (pair_of a) (itsi, gtsi)) entries.now result }
 {

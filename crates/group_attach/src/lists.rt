@@ -3,6 +3,7 @@
 ghost use Rattle.std.specs.Prelude.{◌≡◌, ◌<◌, OnOk, OnErr, IfOk, IfSome, IfNone, IsOk, IsSome};
 ghost use Rattle.std.specs.Option.{option_copied, is_some};
 ghost use Rattle.std.specs.FinMap as finite;
+ghost use Rattle.group_attach.specs.Attached.{attachment_at};
 ghost use Rattle.group_attach.specs.InOrder.{pair_of};
 ghost use Rattle.group_attach.specs.Filed.{under, placed, attached, ended, IsEnded};
 
@@ -95,7 +96,8 @@ impl<A: Allocator> Lists<A> {
         &mut self,
         path: &Prefix,
         attachment: Attachment,
-    ) -> Option<Result<(), AllocError>>
+    ) -> Option<Result<Option<Attachment>, AllocError>>
+        ensures before { IfSome result (λ r. IfOk r (λ before. before ≡ attachment_at (under self.old path.now) (pair_of attachment))) }
         ensures there { is_some result ≡ is_some (finite.get self.old path.now) }
         ensures ok { IfSome result (λ r. OnOk r (self.new ≡ finite.insert self.old path.now (attached (under self.old path.now) attachment))) }
         ensures err { IfSome result (λ r. OnErr r (self.new ≡ self.old)) }
@@ -110,14 +112,15 @@ impl<A: Allocator> Lists<A> {
 }
 
 impl<A: Allocator + Clone> Lists<A> {
-    /// Adds the attachment to the list under the path, or replaces the one of the same pair there. The
-    /// latter takes no memory.
+    /// Adds the attachment to the list under the path, or replaces the one of the same pair there, which it
+    /// answers. The latter takes no memory.
     pub(crate) fn attach(
         &mut self,
         alloc: &A,
         path: Prefix,
         attachment: Attachment,
-    ) -> Result<(), AllocError>
+    ) -> Result<Option<Attachment>, AllocError>
+        ensures before { IfOk result (λ before. before ≡ attachment_at (under self.old path) (pair_of attachment)) }
         ensures ok { OnOk result (self.new ≡ finite.insert self.old path (attached (under self.old path) attachment)) }
         ensures err { OnErr result (self.new ≡ self.old) }
         ensures overwrites { IsSome (finite.get (under self.old path) (pair_of attachment)) → IsOk result }
@@ -127,7 +130,7 @@ impl<A: Allocator + Clone> Lists<A> {
         }
         let list = AttachmentList::one(alloc.clone()?, attachment)?;
         self.insert(alloc, path, list)?;
-        Ok(())
+        Ok(None)
     }
 
     /// Sets the list under the path, and answers the one before; an empty list is not kept. It takes
@@ -189,10 +192,11 @@ fn attach_from<A: Allocator, L: Ledger>(
     path: &Prefix,
     attachment: Attachment,
     blank: Blank,
-) -> Option<Result<(), AllocError>>
+) -> Option<Result<Option<Attachment>, AllocError>>
     requires name { blank.name ≡ L.name }
     requires parts { blank.parts ≡ L.parts }
     requires some { 0 < blank.parts }
+    ensures before { IfSome result (λ r. IfOk r (λ before. before ≡ attachment_at (under tree.old path.now) (pair_of attachment))) }
     ensures there { is_some result ≡ is_some (finite.get tree.old path.now) }
     ensures ok { IfSome result (λ r. OnOk r (tree.new ≡ finite.insert tree.old path.now (attached (under tree.old path.now) attachment))) }
     ensures err { IfSome result (λ r. OnErr r (tree.new ≡ tree.old)) }

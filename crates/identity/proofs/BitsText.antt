@@ -67,34 +67,8 @@ unfolding digit_bits number none_at_all
 zeros_of_none [] fill none = let place : 0 ≡ 4 * length none_at_all - fill = omega arith in ap (λ (n : ℕ). number (drop n (digit_bits none_at_all)) == 0) place
 zeros_of_none (c ∷ digits) fill none = absurd (omega (arith, none))
 
--- a digit's bits at the end, up to `len`
-pub pushed : (bits : List Bool) (len d w : ℕ) → length bits < len → w ≡ min (len - length bits) 4 → bits ++ num w (d / 2 ^ (4 - w)) ≡ take len (bits ++ num 4 d)
-pushed bits len d w room is =
-    let place : len ≡ length bits + (len - length bits) = omega arith in
-    let some : take w (num 4 d) ≡ take (len - length bits) (num 4 d) = ap (λ (n : ℕ). take n (num 4 d)) is ∙ few (len - length bits) in
-    ap (λ (l : List Bool). bits ++ l) (sym (take-num w 4 d (omega arith)) ∙ some)
-    ∙ sym (take_past bits (num 4 d) (len - length bits))
-    ∙ ap (λ (n : ℕ). take n (bits ++ num 4 d)) (sym place)
-  where
-    few : (n : ℕ) → take (min n 4) (num 4 d) ≡ take n (num 4 d)
-    few n = ap (λ (m : ℕ). take (min n m) (num 4 d)) (sym (length-num 4 d)) ∙ take_min n (num 4 d)
-
--- one turn of the loop
-pub bits_on : (digits : List ℕ) (i len : ℕ) (bits new : List Bool) → i < length digits → 4 * length digits < len + 4 → bits ≡ take len (digit_bits (take i digits))
-    → new ≡ take len (bits ++ num 4 (digit_value (get_or digits i 0))) → new ≡ take len (digit_bits (take (i + 1) digits))
-bits_on digits i len bits new inside needed is pushed =
-    let all : take len (digit_bits (take i digits)) ≡ digit_bits (take i digits) = take_all len (digit_bits (take i digits)) (omega (arith, length-digit_bits (take i digits), length-take i digits)) in
-    pushed ∙ ap (λ (l : List Bool). take len (l ++ num 4 (digit_value (get_or digits i 0)))) (is ∙ all) ∙ ap (take len) (sym (digit_bits_more digits i inside))
-
-pub bits_room : (digits : List ℕ) (i len : ℕ) (bits : List Bool) → i < length digits → 4 * length digits < len + 4 → bits ≡ take len (digit_bits (take i digits)) → length bits < len
-bits_room digits i len bits inside needed is = omega (arith, ap length is, length-take len (digit_bits (take i digits)), length-digit_bits (take i digits), length-take i digits)
-
 -- each byte of hexadecimal digits is one
 pub hexadecimal_at : (digits : List ℕ) (i : ℕ) → list_all is_ascii_hexdigit digits ≡ true → i < length digits → is_ascii_hexdigit (get_or digits i 0) ≡ true
 hexadecimal_at [] i all inside = absurd (omega (arith, inside))
 hexadecimal_at (c ∷ digits) zero all inside = and_left (is_ascii_hexdigit c) (list_all is_ascii_hexdigit digits) all
 hexadecimal_at (c ∷ digits) (suc i) all inside = hexadecimal_at digits i (and_right (is_ascii_hexdigit c) (list_all is_ascii_hexdigit digits) all) (omega (arith, inside))
-
-pub bits_start : (digits : List ℕ) (len : ℕ) → [] ≡ take len (digit_bits (take 0 digits))
-unfolding digit_bits
-bits_start digits len = let nothing : List Bool = [] in sym (take_all len nothing (omega arith))

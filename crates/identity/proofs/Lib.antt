@@ -6,6 +6,7 @@ pub mod Prefixes
 pub mod Identities
 pub mod NumberText
 pub mod BitsText
+pub mod DigitBytes
 pub mod HexSteps
 pub mod Texts
 pub mod IdentityTexts

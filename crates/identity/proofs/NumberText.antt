@@ -1,10 +1,12 @@
 -- The form of a number, and parts of a text.
-use Rattle.std.proofs.Common.{◌≡◌, ◌≢◌, ℕ, zero, suc, ◌+◌, ◌-◌, ◌*◌, ◌<◌, ◌≤◌, Bool, true, false, not, ◌&&◌, List, [], ◌∷◌, length, take, drop, get_or, refl, sym, ap, ◌∙◌, arith, Some, None, nat_le}
+use Rattle.std.proofs.Common.{◌≡◌, ◌≢◌, ℕ, zero, suc, ◌+◌, ◌-◌, ◌*◌, ◌^◌, ◌<◌, ◌≤◌, Bool, true, false, not, ◌&&◌, List, [], ◌∷◌, length, take, drop, get_or, refl, sym, ap, ◌∙◌, arith, Some, None, nat_le}
 use Rattle.std.specs.Prelude.{◌==◌, if◌then◌else◌}
 use mathlib.Core.Bool.{false≢true}
 use Rattle.std.specs.Char.{is_ascii_digit}
 use Rattle.std.specs.Int.{IsInRange}
 use Rattle.std.specs.List.{list_all, position}
+use Rattle.std.proofs.lemmas.Nat.{pow-add}
+use Rattle.std.proofs.Math.Pow.{pow_mono}
 use Rattle.std.proofs.lemmas.List.{take_all}
 use Rattle.std.proofs.lemmas.List.Quantifiers.{position-Some}
 use Rattle.std.proofs.lemmas.List.Sums.{fails_before_first}
@@ -59,8 +61,40 @@ pub number_digit : (text : List ℕ) (i : ℕ) → is_number text ≡ true → i
 number_digit text i form inside = digit_in text i (all_of_number text form) inside
 
 -- one digit more
+pub digits_more : (text : List ℕ) (i : ℕ) → list_all is_ascii_digit text ≡ true → i < length text → value (take (i + 1) text) ≡ 10 * value (take i text) + (get_or text i 0 - 48)
+digits_more text i all inside = let digit = digit_in text i all inside in omega (arith, digits_value_more 10 text i inside, digit_value_digit (get_or text i 0) digit)
+
 pub value_more : (text : List ℕ) (i : ℕ) → is_number text ≡ true → i < length text → value (take (i + 1) text) ≡ 10 * value (take i text) + (get_or text i 0 - 48)
-value_more text i form inside = let digit = number_digit text i form inside in omega (arith, digits_value_more 10 text i inside, digit_value_digit (get_or text i 0) digit)
+value_more text i form inside = digits_more text i (all_of_number text form) inside
+
+-- a few digits are a small number
+value_below : (text : List ℕ) (i : ℕ) → list_all is_ascii_digit text ≡ true → i ≤ length text → value (take i text) < 2 ^ (4 * i)
+value_below text zero all inside =
+    let none : value (take 0 text) ≡ 0 = refl in
+    let unit : 2 ^ (4 * 0) ≡ 1 = refl in
+    omega (arith, none, unit)
+value_below text (suc i) all inside =
+    let digit = digit_in text i all (omega (arith, inside)) in
+    let more = digits_more text i all (omega (arith, inside)) in
+    let below = value_below text i all (omega (arith, inside)) in
+    let one : suc i ≡ i + 1 = omega arith in
+    let four : 4 * suc i ≡ 4 * i + 4 = omega arith in
+    let is : value (take (suc i) text) ≡ 10 * value (take i text) + (get_or text i 0 - 48) = ap (λ (n : ℕ). value (take n text)) one ∙ more in
+    let power : 2 ^ (4 * suc i) ≡ 2 ^ (4 * i) * 2 ^ 4 = ap (λ (n : ℕ). 2 ^ n) four ∙ pow-add 2 (4 * i) 4 in
+    omega (arith, is, below, power, digit.0, digit.1)
+
+pub short_below : (text : List ℕ) (i v : ℕ) → list_all is_ascii_digit text ≡ true → i < length text → length text ≤ 15 → v ≡ value (take i text) → v < 2 ^ 56
+short_below text i v all inside few is =
+    let below = value_below text i all (omega (arith, inside)) in
+    let most : 2 ^ (4 * i) ≤ 2 ^ 56 = pow_mono (let h : 4 * i ≤ 56 = omega (arith, inside, few) in h) in
+    omega (arith, is, below, most)
+
+-- the first of some digits are digits
+pub all_take : (text : List ℕ) (n : ℕ) → list_all is_ascii_digit text ≡ true → list_all is_ascii_digit (take n text) ≡ true
+all_take text zero all = refl
+all_take [] (suc n) all = refl
+all_take (c ∷ text) (suc n) all =
+    rw (and_left (is_ascii_digit c) (list_all is_ascii_digit text) all, all_take text n (and_right (is_ascii_digit c) (list_all is_ascii_digit text) all)) refl
 
 pub value_large : (text : List ℕ) (i most : ℕ) → most < value (take i text) → (if nat_le (value text) most then Some (value text) else None) ≡ None
 value_large text i most large =

@@ -87,15 +87,12 @@ impl<A: Allocator> Bits<A> {
         }
     }
 
-    /// No bits, with memory for `len` of them.
-    pub(crate) fn with_room(alloc: A, len: usize) -> Result<Bits<A>, Fault>
-        ensures ok { IfOk result (λ bits. bits ≡ []) }
-        ensures err { IfErr result (λ e. e ≡ NoMemory) }
+    /// The first `len` bits of bytes.
+    pub(crate) fn packed(bytes: Vec<u8, A>, len: usize) -> Bits<A>
+        requires { IsPacked bytes.items len }
+        ensures { result ≡ take len (bits_of bytes.items) }
     {
-        Ok(Bits {
-            bytes: Vec::with_capacity(alloc, len.div_ceil(8))?,
-            len: 0,
-        })
+        Bits { bytes, len }
     }
 
     /// Puts the low bits of `value` at the end.

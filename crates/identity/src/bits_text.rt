@@ -1,12 +1,13 @@
 //! Strings of bits as text.
 
-ghost use Rattle.std.specs.Prelude.{◌≡◌, ◌<◌, ◌≤◌, ◌^◌, ◌*◌, ◌+◌, ◌-◌, ◌++◌, ◌∷◌, ◌⊎◌, true, OnOk, OnErr, IfOk, IfErr, IfSome, Ok, Err, IsTrue, IsOk, length, take, drop, vec_len, vec_capacity, ◌==◌};
+ghost use Rattle.std.specs.Prelude.{◌≡◌, ◌<◌, ◌≤◌, ◌^◌, ◌*◌, ◌+◌, ◌-◌, ◌/◌, ◌%◌, ◌++◌, ◌∷◌, ◌⊎◌, true, false, replicate, OnOk, OnErr, IfOk, IfErr, IfSome, Ok, Err, IsTrue, IsOk, length, take, drop, vec_len, vec_capacity, ◌==◌};
 ghost use Rattle.std.specs.Char.{digit_value, is_ascii_hexdigit};
 ghost use Rattle.std.specs.Fmt.{digit_glyph};
 ghost use Rattle.std.specs.List.{list_all};
 ghost use Rattle.identity.specs.Number.{num, number};
+ghost use Rattle.identity.specs.Packed.{bits_of as packed_bits};
 ghost use Rattle.identity.specs.NumberText.{is_number, value, Keeps};
-ghost use Rattle.identity.specs.BitsText.{hex_of, bits_text, digit_bits, bits_len, reading_bits};
+ghost use Rattle.identity.specs.BitsText.{hex_of, bits_text, digit_bits, bits_len, is_filled, reading_bits};
 ghost use Rattle.identity.specs.declared.fault.Fault.TheVariants.{NoMemory};
 
 use crate::number_text::{cut, is_number, print_number, put_whole, value_of};
@@ -52,7 +53,7 @@ fn ends_in_zeros(digits: &[u8], fill: u32) -> bool
 #[tactic(auto, unfolding(crate::specs::BitsText::bits_len, crate::specs::BitsText::is_filled))]
 fn bits_len(count: &[u8], digits: &[u8]) -> Option<u128>
     ensures value { result ≡ bits_len count.now digits.now }
-    ensures form { IfSome result (λ n. IsTrue (list_all is_ascii_hexdigit digits.now) × (4 * length digits.now < n + 4)) }
+    ensures form { IfSome result (λ n. IsTrue (list_all is_ascii_hexdigit digits.now) × IsTrue (is_filled n digits.now)) }
 {
     if !is_number(count) || !all_hexadecimal(digits) {
         return None;
@@ -69,30 +70,38 @@ fn bits_len(count: &[u8], digits: &[u8]) -> Option<u128>
     }
 }
 
-/// Puts a digit's bits at the end, but no more than `len` bits in all.
-fn push_digit<A: Allocator>(bits: &mut Bits<A>, digit: u64, len: usize) -> Result<(), Fault>
-    requires room { length bits.old < len }
-    requires digit { digit < 16 }
-    ensures ok { OnOk result (bits.new ≡ take len (bits.old ++ num 4 digit)) }
-    ensures err { IfErr result (λ e. e ≡ NoMemory) }
+/// The byte of two hexadecimal digits.
+fn byte_of(high: u8, low: u8) -> u8
+    requires high { IsTrue (is_ascii_hexdigit high) }
+    requires low { IsTrue (is_ascii_hexdigit low) }
+    ensures { num 8 result ≡ num 4 (digit_value high) ++ num 4 (digit_value low) }
 {
-    let width = (len - bits.len()).min(4) as u32;
-    bits.append(digit >> (4 - width), width)?;
-    Ok(())
+    (16 * digit_of(high) + digit_of(low)) as u8
+}
+
+/// The bytes of hexadecimal digits; the last one's low half is 0 where the digits are odd in number.
+fn bytes_of<A: Allocator>(alloc: A, digits: &[u8]) -> Result<Vec<u8, A>, AllocError>
+    requires { IsTrue (list_all is_ascii_hexdigit digits.now) }
+    ensures bits { IfOk result (λ bytes. packed_bits bytes.items ≡ digit_bits digits.now ++ replicate (4 * (length digits.now % 2)) false) }
+{
+    let mut bytes = Vec::with_capacity(alloc, digits.len().div_ceil(2))?;
+    for i in 0..digits.len() / 2 {
+        bytes.push(byte_of(digits[2 * i], digits[2 * i + 1]))?;
+    }
+    if digits.len() % 2 == 1 {
+        bytes.push((16 * digit_of(digits[digits.len() - 1])) as u8)?;
+    }
+    Ok(bytes)
 }
 
 /// The first `len` bits of hexadecimal digits.
 fn bits_of<A: Allocator>(alloc: A, digits: &[u8], len: usize) -> Result<Bits<A>, Fault>
     requires hexadecimal { IsTrue (list_all is_ascii_hexdigit digits.now) }
-    requires needed { 4 * length digits.now < len + 4 }
+    requires filled { IsTrue (is_filled len digits.now) }
     ensures ok { IfOk result (λ bits. bits ≡ take len (digit_bits digits.now)) }
     ensures err { IfErr result (λ e. e ≡ NoMemory) }
 {
-    let mut bits = Bits::with_room(alloc, len)?;
-    for digit in digits {
-        push_digit(&mut bits, digit_of(*digit), len)?;
-    }
-    Ok(bits)
+    Ok(Bits::packed(bytes_of(alloc, digits)?, len))
 }
 
 /// The bits that a text `bits:HEX` says, at most 2,048 of them; `Fault::BadText` where the text has not that
@@ -153,6 +162,40 @@ fn next_digit(reader: &mut BitReader<'_>) -> u8
     glyph(filled(value, width))
 }
 
+/// The digit of the half of a byte that begins at place `4 * i`.
+fn half_digit(bytes: &[u8], i: usize) -> u8
+    requires { i / 2 < length bytes.now }
+    ensures { result ≡ digit_glyph true (number (take 4 (drop (4 * i) (packed_bits bytes.now)))) }
+{
+    let byte = u64::from(bytes[i / 2]);
+    let value = if i % 2 == 0 { byte >> 4 } else { byte % 16 };
+    glyph(value)
+}
+
+/// The digit of the four bits from place `4 * i` on.
+fn digit_at<B: Allocator>(bits: &Bits<B>, i: usize) -> u8
+    requires { 4 * i + 4 ≤ length bits.now }
+    ensures { hex_of (drop (4 * i) bits.now) ≡ result ∷ hex_of (drop (4 * i + 4) bits.now) }
+{
+    half_digit(bits.as_bytes(), i)
+}
+
+/// Puts the two digits of each whole byte.
+fn put_whole_digits<A: Allocator, B: Allocator>(
+    out: &mut Vec<u8, A>,
+    bits: &Bits<B>,
+) -> Result<(), AllocError>
+    ensures ok { OnOk result (out.new.items ++ hex_of (drop (8 * (length bits.now / 8)) bits.now) ≡ out.old.items ++ hex_of bits.now) }
+    ensures kept { Keeps out.old.items out.new.items }
+    ensures full { OnErr result (vec_capacity out.old < vec_len out.old + length (hex_of bits.now)) }
+    ensures capacity { vec_capacity out.old ≤ vec_capacity out.new }
+{
+    for i in 0..bits.len() / 8 {
+        out.extend_from_slice(&[digit_at(bits, 2 * i), digit_at(bits, 2 * i + 1)])?;
+    }
+    Ok(())
+}
+
 fn put_digits<A: Allocator>(
     out: &mut Vec<u8, A>,
     reader: &mut BitReader<'_>,
@@ -168,6 +211,21 @@ fn put_digits<A: Allocator>(
     Ok(())
 }
 
+#[tactic(auto, using(crate::proofs::HexSteps::keeps_on))]
+fn put_hex<A: Allocator, B: Allocator>(
+    out: &mut Vec<u8, A>,
+    bits: &Bits<B>,
+) -> Result<(), AllocError>
+    ensures ok { OnOk result (out.new.items ≡ out.old.items ++ hex_of bits.now) }
+    ensures err { OnErr result (Keeps out.old.items out.new.items) }
+    ensures full { OnErr result (vec_capacity out.old < vec_len out.old + length (hex_of bits.now)) }
+    ensures capacity { vec_capacity out.old ≤ vec_capacity out.new }
+{
+    put_whole_digits(out, bits)?;
+    put_digits(out, &mut BitReader::behind(bits, 8 * (bits.len() / 8)))?;
+    Ok(())
+}
+
 #[tactic(auto, unfolding(crate::specs::BitsText::bits_text), using(crate::proofs::Printed::printed))]
 fn put_bits<A: Allocator, B: Allocator>(
     out: &mut Vec<u8, A>,
@@ -180,7 +238,7 @@ fn put_bits<A: Allocator, B: Allocator>(
 {
     print_number(out, bits.len() as u64)?;
     out.push(b':')?;
-    put_digits(out, &mut BitReader::new(bits))
+    put_hex(out, bits)
 }
 
 /// Appends the text `bits:HEX` of bits.

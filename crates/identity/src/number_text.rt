@@ -45,20 +45,37 @@ pub(crate) fn is_number(text: &[u8]) -> bool
     all_digits(text)
 }
 
+/// So many digits are a number below 2^60.
+const DIGITS: usize = 15;
+
+/// The number that a few digits are.
+fn short_value(digits: &[u8]) -> u64
+    requires digits { IsTrue (list_all is_ascii_digit digits.now) }
+    requires few { length digits.now ≤ 15 }
+    ensures { result ≡ value digits.now }
+{
+    let mut value = 0;
+    for digit in digits {
+        value = 10 * value + u64::from(*digit - b'0');
+    }
+    value
+}
+
 /// The number that digits are, where it is at most `most`.
 pub(crate) fn value_of(digits: &[u8], most: u128) -> Option<u128>
     requires form { IsTrue (is_number digits.now) }
     requires room { most < 2 ^ 120 }
     ensures { result ≡ (if nat_le (value digits.now) most then Some (value digits.now) else None) }
 {
-    let mut value = 0u128;
-    for digit in digits {
-        value = 10 * value + u128::from(*digit - b'0');
+    let front = digits.len().min(DIGITS);
+    let mut value = u128::from(short_value(&digits[..front]));
+    for at in front..digits.len() {
         if value > most {
             return None;
         }
+        value = 10 * value + u128::from(digits[at] - b'0');
     }
-    Some(value)
+    if value <= most { Some(value) } else { None }
 }
 
 /// The number of at most `most` that a text says, in decimal without leading zeros; `Fault::BadText` where

@@ -5,7 +5,6 @@ ghost use Rattle.identity.specs.Packed.{bits_of};
 ghost use Rattle.identity.specs.Number.{number};
 ghost use Rattle.identity.specs.declared.fault.Fault.TheVariants.{Short};
 
-use crate::packed::bit_in;
 use crate::{Bits, Fault};
 use std::alloc::Allocator;
 use std::marker::Model;
@@ -26,6 +25,18 @@ impl<'a> Model for BitReader<'a> {
     ghost invariant = { λ r. (r.at ≤ r.end) × (r.end ≤ length (bits_of r.bytes.now)) };
 }
 
+/// The number that all the bits of a few bytes are.
+fn number_of_bytes(bytes: &[u8]) -> u64
+    requires few { length bytes.now ≤ 7 }
+    ensures { result ≡ number (bits_of bytes.now) }
+{
+    let mut value = 0;
+    for byte in bytes {
+        value = 256 * value + u64::from(*byte);
+    }
+    value
+}
+
 /// The number that the `width` bits from place `at` on are.
 fn number_at(bytes: &[u8], at: usize, width: u32) -> u64
     requires width { width ≤ 48 }
@@ -34,11 +45,10 @@ fn number_at(bytes: &[u8], at: usize, width: u32) -> u64
     ensures value { result ≡ number (take width (drop at (bits_of bytes.now))) }
     ensures small { result < 2 ^ width }
 {
-    let mut value = 0;
-    for i in 0..width {
-        value = 2 * value + u64::from(bit_in(bytes, at + i as usize));
-    }
-    value
+    let end = at + width as usize;
+    let whole = number_of_bytes(&bytes[at / 8..end.div_ceil(8)]);
+    let behind = (8 - end % 8) % 8;
+    (whole >> behind) % (1 << width)
 }
 
 impl<'a> BitReader<'a> {
@@ -46,9 +56,17 @@ impl<'a> BitReader<'a> {
     pub fn new<A: Allocator>(bits: &'a Bits<A>) -> BitReader<'a>
         ensures { result ≡ bits.now }
     {
+        BitReader::behind(bits, 0)
+    }
+
+    /// A reader of the bits from place `at` on.
+    pub(crate) fn behind<A: Allocator>(bits: &'a Bits<A>, at: usize) -> BitReader<'a>
+        requires { at ≤ length bits.now }
+        ensures { result ≡ drop at bits.now }
+    {
         BitReader {
             bytes: bits.as_bytes(),
-            at: 0,
+            at,
             end: bits.len(),
         }
     }

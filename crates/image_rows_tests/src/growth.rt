@@ -1,9 +1,8 @@
 //! Each growth refused in turn: the row is taken once there is memory, and all of it comes back.
-use crate::loaded::{limits, row};
+use crate::loaded::{is_finished, limits, row};
 use image_rows::Loader;
 use linked_list_allocator::LocalHeap;
 use std::alloc::Global;
-use std::test::Fail;
 
 /// A row of each kind.
 const ROWS: &str = "\
@@ -43,25 +42,14 @@ fn all_taken<'a>(
     alloc: Global,
     loader: &mut Loader<&'a LocalHeap>,
     weight: &mut Option<Vec<u8, &'a LocalHeap>>,
-) -> Result<Option<usize>, Fail> {
+) -> Option<usize> {
     let mut wanted = 0_usize;
     for text in ROWS.lines() {
-        let row = row(alloc, text)?;
-        match taken(loader, weight, &row) {
-            Some(true) => wanted = wanted.saturating_add(1),
-            Some(false) => {}
-            None => return Ok(None),
+        if taken(loader, weight, &row(alloc, text)?)? {
+            wanted = wanted.saturating_add(1);
         }
     }
-    Ok(loader.is_whole().then_some(wanted))
-}
-
-/// Whether the epoch and the count are those of the header.
-fn is_finished(loader: Loader<&LocalHeap>) -> bool {
-    match loader.finish() {
-        Some((epoch, register)) => epoch == 1 && register.count() == 6,
-        None => false,
-    }
+    loader.is_whole().then_some(wanted)
 }
 
 /// The same from the first row on.
@@ -69,44 +57,41 @@ fn all_loaded<'a>(
     alloc: Global,
     mut loader: Loader<&'a LocalHeap>,
     weight: &mut Option<Vec<u8, &'a LocalHeap>>,
-) -> Result<Option<usize>, Fail> {
+) -> Option<usize> {
     let wanted = all_taken(alloc, &mut loader, weight);
-    let finished = is_finished(loader);
-    Ok(wanted?.filter(|_| finished))
+    if is_finished(loader) { wanted } else { None }
 }
 
 /// How many times memory was wanted beside so great a weight; nothing where that goes wrong.
-fn wanted(alloc: Global, heap: &LocalHeap, size: usize) -> Result<Option<usize>, Fail> {
+fn wanted(alloc: Global, heap: &LocalHeap, size: usize) -> Option<usize> {
     let limits = limits()?;
-    let Ok(weight) = Vec::with_capacity(heap, size) else {
-        return Ok(None);
-    };
-    let mut weight = Some(weight);
-    match Loader::new(heap, limits) {
+    let mut weight = Some(Vec::with_capacity(heap, size).ok()?);
+    let wanted = match Loader::new(heap, limits) {
         Ok(loader) => all_loaded(alloc, loader, &mut weight),
-        Err(_) => Ok(Some(1)),
-    }
+        Err(_) => Some(1),
+    };
+    drop(weight);
+    wanted
+}
+
+/// The same in a new heap, which gets all of its memory back.
+fn wanted_beside(alloc: Global, size: usize) -> Option<usize> {
+    let heap = LocalHeap::new(alloc, ROOM).ok()?;
+    let wanted = wanted(alloc, &heap, size);
+    if heap.used() > 0 { None } else { wanted }
 }
 
 /// Beside how many weights memory was wanted, from the greatest on; nothing where something goes wrong.
-fn weights(alloc: Global) -> Result<Option<usize>, Fail> {
+fn weights(alloc: Global) -> Option<usize> {
     for k in 0..ROOM / 8 {
-        let heap = LocalHeap::new(alloc, ROOM)?;
-        let answered = wanted(alloc, &heap, ROOM.saturating_sub(64 + 8 * k))?;
-        if heap.used() > 0 {
-            return Ok(None);
-        }
-        match answered {
-            None => return Ok(None),
-            Some(0) => return Ok(Some(k)),
-            Some(_) => {}
+        if wanted_beside(alloc, ROOM.saturating_sub(64 + 8 * k))? == 0 {
+            return Some(k);
         }
     }
-    Ok(None)
+    None
 }
 
 #[test]
-fn rows_are_taken_once_there_is_memory(rt: HostRuntime) -> Result<(), Fail> {
-    assert!(rt; weights(rt.alloc())?.is_some_and(|count| count > 20));
-    Ok(())
+fn rows_are_taken_once_there_is_memory(rt: HostRuntime) {
+    assert!(rt; weights(rt.alloc()).is_some_and(|count| count > 20));
 }

@@ -5,8 +5,7 @@ use identity::{Gtsi, Itsi};
 use image_rows::Loader;
 use mailbox::Item;
 use registration::Limits;
-use std::alloc::Global;
-use std::test::Fail;
+use std::alloc::{Allocator, Global};
 
 /// The end of a radio's roaming that keeps its group: its commands.
 const ROAMING: &str = "\
@@ -65,70 +64,87 @@ const RADIOS: [u64; 3] = [0x3a80_0e00_07d1, 0x3a80_0e00_07d2, 0x3a80_0e00_07d3];
 const GROUP: u64 = 0x3a80_0e00_03e8;
 
 /// The row of a text, a whole sector.
-pub fn row(alloc: Global, text: &str) -> Result<[u8; 512], Fail> {
-    let bytes = sector(alloc, text, 0)?;
+pub fn row(alloc: Global, text: &str) -> Option<[u8; 512]> {
+    let bytes = sector(alloc, text, 0).ok()?;
     let mut row = [0; 512];
     for (to, from) in row.iter_mut().zip(bytes.iter()) {
         *to = *from;
     }
-    Ok(row)
+    Some(row)
 }
 
 /// Room for ten of each, and four stations.
-pub fn limits() -> Result<Limits, Fail> {
-    Ok(Limits::new(10, 10, 10, 4).ok_or("limits")?)
+pub fn limits() -> Option<Limits> {
+    Limits::new(10, 10, 10, 4)
 }
 
 /// Whether all of the rows are taken, and the last one leaves the image whole.
-fn are_taken(alloc: Global, loader: &mut Loader<Global>, rows: &str) -> Result<bool, Fail> {
+fn are_taken(alloc: Global, loader: &mut Loader<Global>, rows: &str) -> Option<bool> {
     for text in rows.lines() {
         let row = row(alloc, text)?;
-        if loader.is_whole() || !loader.take(&row)? {
-            return Ok(false);
+        if loader.is_whole() || !loader.take(&row).ok()? {
+            return Some(false);
         }
     }
-    Ok(loader.is_whole())
+    Some(loader.is_whole())
 }
 
-/// The register of epoch 1.
-fn finished(loader: Loader<Global>) -> Option<Register<Global>> {
+/// The register of epoch 1, where its rows were taken.
+fn finished(loader: Loader<Global>, taken: bool) -> Option<Register<Global>> {
     let (epoch, register) = loader.finish()?;
-    (epoch == 1).then_some(register)
+    (taken && epoch == 1).then_some(register)
+}
+
+/// Whether the image is one of epoch 1, after six commands.
+pub fn is_finished<A: Allocator + Clone>(loader: Loader<A>) -> bool {
+    let image = loader.finish();
+    let is_finished = match &image {
+        Some((epoch, register)) => *epoch == 1 && register.count() == 6,
+        None => false,
+    };
+    drop(image);
+    is_finished
 }
 
 /// The register of the rows, all of them taken; nothing where one is not.
-fn loaded(alloc: Global, rows: &str) -> Result<Option<Register<Global>>, Fail> {
-    let mut loader = Loader::new(alloc, limits()?)?;
-    match are_taken(alloc, &mut loader, rows)? {
-        true => Ok(finished(loader)),
-        false => Ok(None),
-    }
+fn loaded(alloc: Global, rows: &str) -> Option<Register<Global>> {
+    let mut loader = Loader::new(alloc, limits()?).ok()?;
+    let taken = are_taken(alloc, &mut loader, rows) == Some(true);
+    finished(loader, taken)
 }
 
 /// The command of a text.
-fn command(alloc: Global, text: &str) -> Result<Option<Command<Global>>, Fail> {
-    let bytes = sector(alloc, text, 0)?;
-    match command_bytes::decode_first(alloc, &bytes)? {
-        Some((command, _)) => Ok(Some(command)),
-        None => Ok(None),
-    }
+fn command(alloc: Global, text: &str) -> Option<Command<Global>> {
+    let bytes = sector(alloc, text, 0).ok()?;
+    let decoded = command_bytes::decode_first(alloc, &bytes).ok()?;
+    let (command, _) = decoded?;
+    Some(command)
+}
+
+/// What the command of a text is answered.
+fn answer(alloc: Global, register: &mut Register<Global>, text: &str) -> Option<Reply<Global>> {
+    let command = command(alloc, text)?;
+    let reply = register.apply(alloc, &command);
+    drop(command);
+    reply.ok()
+}
+
+/// Whether the register accepts the command of a text.
+pub fn is_accepted(alloc: Global, register: &mut Register<Global>, text: &str) -> bool {
+    let reply = answer(alloc, register, text);
+    let is_accepted = matches!(&reply, Some(Reply::Accepted { .. }));
+    drop(reply);
+    is_accepted
 }
 
 /// Whether the register accepts each of the commands.
-fn are_accepted(
-    alloc: Global,
-    register: &mut Register<Global>,
-    commands: &str,
-) -> Result<bool, Fail> {
+fn are_accepted(alloc: Global, register: &mut Register<Global>, commands: &str) -> bool {
     for text in commands.lines() {
-        let Some(command) = command(alloc, text)? else {
-            return Ok(false);
-        };
-        let Reply::Accepted { .. } = register.apply(alloc, &command)? else {
-            return Ok(false);
-        };
+        if !is_accepted(alloc, register, text) {
+            return false;
+        }
     }
-    Ok(true)
+    true
 }
 
 fn same_item(a: &Item<Global>, b: &Item<Global>) -> bool {
@@ -166,44 +182,50 @@ fn same(a: &Told<Global>, b: &Told<Global>) -> bool {
     }
 }
 
-fn answer_alike(
-    alloc: Global,
-    a: &Register<Global>,
-    b: &Register<Global>,
-    query: &Query,
-) -> Result<bool, Fail> {
-    Ok(same(&a.query(alloc, query)?, &b.query(alloc, query)?))
+fn answer_alike(alloc: Global, a: &Register<Global>, b: &Register<Global>, query: &Query) -> bool {
+    let (a, b) = (a.query(alloc, query), b.query(alloc, query));
+    let alike = match (&a, &b) {
+        (Ok(a), Ok(b)) => same(a, b),
+        _ => false,
+    };
+    drop(a);
+    drop(b);
+    alike
+}
+
+/// Whether two registers answer every query on the radio alike.
+fn are_alike_on(alloc: Global, a: &Register<Global>, b: &Register<Global>, number: u64) -> bool {
+    let Some(itsi) = Itsi::from_number(number) else {
+        return false;
+    };
+    answer_alike(alloc, a, b, &Query::Whereabouts(itsi))
+        && answer_alike(alloc, a, b, &Query::Look(itsi))
+        && answer_alike(alloc, a, b, &Query::GroupsOf(itsi))
+        && answer_alike(alloc, a, b, &Query::Waiting(itsi))
 }
 
 /// Whether two registers answer every query on the radios and the group alike.
-fn are_alike(alloc: Global, a: &Register<Global>, b: &Register<Global>) -> Result<bool, Fail> {
-    for number in RADIOS {
-        let itsi = Itsi::from_number(number).ok_or("a radio")?;
-        if !(answer_alike(alloc, a, b, &Query::Whereabouts(itsi))?
-            && answer_alike(alloc, a, b, &Query::Look(itsi))?
-            && answer_alike(alloc, a, b, &Query::GroupsOf(itsi))?
-            && answer_alike(alloc, a, b, &Query::Waiting(itsi))?)
-        {
-            return Ok(false);
-        }
-    }
-    let group = Gtsi::from_number(GROUP).ok_or("a group")?;
-    Ok(
-        answer_alike(alloc, a, b, &Query::MembersOf(group))?
-            && answer_alike(alloc, a, b, &Query::Total)?,
-    )
+fn are_alike(alloc: Global, a: &Register<Global>, b: &Register<Global>) -> bool {
+    let [first, second, third] = RADIOS;
+    let Some(group) = Gtsi::from_number(GROUP) else {
+        return false;
+    };
+    are_alike_on(alloc, a, b, first)
+        && are_alike_on(alloc, a, b, second)
+        && are_alike_on(alloc, a, b, third)
+        && answer_alike(alloc, a, b, &Query::MembersOf(group))
+        && answer_alike(alloc, a, b, &Query::Total)
 }
 
 /// Whether the last command is answered as the one that came before.
-fn is_kept(alloc: Global, register: &mut Register<Global>, commands: &str) -> Result<bool, Fail> {
+fn is_kept(alloc: Global, register: &mut Register<Global>, commands: &str) -> bool {
     let Some(text) = commands.lines().last() else {
-        return Ok(false);
+        return false;
     };
-    let Some(again) = command(alloc, text)? else {
-        return Ok(false);
-    };
-    let reply = register.apply(alloc, &again)?;
-    Ok(matches!(&reply, Reply::Kept { .. }))
+    let reply = answer(alloc, register, text);
+    let is_kept = matches!(&reply, Some(Reply::Kept { .. }));
+    drop(reply);
+    is_kept
 }
 
 /// Whether the register answers as the other one once that accepts the commands, and the last command as the one that
@@ -213,23 +235,25 @@ fn is_as(
     register: &mut Register<Global>,
     made: &mut Register<Global>,
     commands: &str,
-) -> Result<bool, Fail> {
-    let accepted = are_accepted(alloc, made, commands)?;
-    let alike = are_alike(alloc, register, made)?;
-    Ok(accepted && alike && is_kept(alloc, register, commands)?)
+) -> bool {
+    are_accepted(alloc, made, commands)
+        && are_alike(alloc, register, made)
+        && is_kept(alloc, register, commands)
 }
 
-fn is_made(alloc: Global, register: &mut Register<Global>, commands: &str) -> Result<bool, Fail> {
-    let mut made = Register::new(alloc, limits()?)?;
-    is_as(alloc, register, &mut made, commands)
+fn is_made(alloc: Global, register: &mut Register<Global>, commands: &str) -> Option<bool> {
+    let mut made = Register::new(alloc, limits()?).ok()?;
+    let is_as = is_as(alloc, register, &mut made, commands);
+    drop(made);
+    Some(is_as)
 }
 
 /// Whether the rows make the register that the commands make.
-fn is_loaded(alloc: Global, rows: &str, commands: &str) -> Result<bool, Fail> {
-    match loaded(alloc, rows)? {
-        Some(mut register) => is_made(alloc, &mut register, commands),
-        None => Ok(false),
-    }
+fn is_loaded(alloc: Global, rows: &str, commands: &str) -> Option<bool> {
+    let mut register = loaded(alloc, rows)?;
+    let is_made = is_made(alloc, &mut register, commands);
+    drop(register);
+    is_made
 }
 
 /// Whether the one item that waits for the radio is a copy for the group.
@@ -244,50 +268,50 @@ fn has_copy(register: &Register<Global>) -> bool {
 }
 
 /// Whether a copy of a group message keeps its group.
-fn keeps_group(alloc: Global) -> Result<bool, Fail> {
-    match loaded(alloc, SENT)? {
-        Some(register) => Ok(register.mail().len() == 1 && has_copy(&register)),
-        None => Ok(false),
-    }
+fn keeps_group(alloc: Global) -> Option<bool> {
+    let register = loaded(alloc, SENT)?;
+    let keeps_group = register.mail().len() == 1 && has_copy(&register);
+    drop(register);
+    Some(keeps_group)
 }
 
 /// Whether the register refuses the next command since its numbers are used up.
-fn refuses(alloc: Global, register: &mut Register<Global>) -> Result<bool, Fail> {
-    let Some(next) = command(alloc, "0001 00000001 00000000 06")? else {
-        return Ok(false);
-    };
-    let reply = register.apply(alloc, &next)?;
-    Ok(matches!(&reply, Reply::Refused(Refusal::NumbersUsedUp)))
+fn refuses(alloc: Global, register: &mut Register<Global>) -> bool {
+    let reply = answer(alloc, register, "0001 00000001 00000000 06");
+    let is_refused = matches!(&reply, Some(Reply::Refused(Refusal::NumbersUsedUp)));
+    drop(reply);
+    is_refused
 }
 
 /// Whether a register whose numbers are used up is loaded, and refuses the next command for it.
-fn is_used_up(alloc: Global) -> Result<bool, Fail> {
-    match loaded(alloc, LAST)? {
-        Some(mut register) => refuses(alloc, &mut register),
-        None => Ok(false),
-    }
+fn is_used_up(alloc: Global) -> Option<bool> {
+    let mut register = loaded(alloc, LAST)?;
+    let refuses = refuses(alloc, &mut register);
+    drop(register);
+    Some(refuses)
 }
 
 #[test]
-fn groups_that_roamed_are_loaded(rt: HostRuntime) -> Result<(), Fail> {
-    assert!(rt; is_loaded(rt.alloc(), ROAMED, ROAMING)?);
-    Ok(())
+fn groups_that_roamed_are_loaded(rt: HostRuntime) {
+    assert!(rt; is_loaded(rt.alloc(), ROAMED, ROAMING) == Some(true));
 }
 
 #[test]
-fn reports_are_loaded(rt: HostRuntime) -> Result<(), Fail> {
-    assert!(rt; is_loaded(rt.alloc(), REPORTED, REPORTING)?);
-    Ok(())
+fn reports_are_loaded(rt: HostRuntime) {
+    assert!(rt; is_loaded(rt.alloc(), REPORTED, REPORTING) == Some(true));
 }
 
 #[test]
-fn copies_are_loaded(rt: HostRuntime) -> Result<(), Fail> {
-    assert!(rt; is_loaded(rt.alloc(), SENT, SENDING)? && keeps_group(rt.alloc())?);
-    Ok(())
+fn copies_are_loaded(rt: HostRuntime) {
+    assert!(rt; is_loaded(rt.alloc(), SENT, SENDING) == Some(true));
 }
 
 #[test]
-fn used_up_numbers_are_loaded(rt: HostRuntime) -> Result<(), Fail> {
-    assert!(rt; is_used_up(rt.alloc())?);
-    Ok(())
+fn copies_keep_their_group(rt: HostRuntime) {
+    assert!(rt; keeps_group(rt.alloc()) == Some(true));
+}
+
+#[test]
+fn used_up_numbers_are_loaded(rt: HostRuntime) {
+    assert!(rt; is_used_up(rt.alloc()) == Some(true));
 }

@@ -4,9 +4,9 @@ use identity::Itsi;
 use image_rows::{
     PackedGroups, ReadRow, header_row, mail_row, radio_row, read_row, rule_row, served_row,
 };
+use mailbox::Item;
 use registration::Radio;
-use std::alloc::Global;
-use std::test::Fail;
+use std::alloc::{AllocError, Allocator, Global};
 
 /// The value of a hexadecimal digit.
 fn digit(byte: u8) -> Option<u8> {
@@ -18,7 +18,7 @@ fn digit(byte: u8) -> Option<u8> {
 }
 
 /// The bytes of hexadecimal digits, spaces left out.
-pub fn bytes_of(alloc: Global, text: &str) -> Result<Vec<u8>, Fail> {
+fn bytes_of(alloc: Global, text: &str) -> Result<Vec<u8>, AllocError> {
     let mut bytes = Vec::new(alloc);
     let mut high: Option<u8> = None;
     for byte in text.as_bytes() {
@@ -33,7 +33,7 @@ pub fn bytes_of(alloc: Global, text: &str) -> Result<Vec<u8>, Fail> {
 }
 
 /// The sector that begins with the bytes of hexadecimal digits, and has this byte behind them.
-pub fn sector(alloc: Global, text: &str, behind: u8) -> Result<Vec<u8>, Fail> {
+pub fn sector(alloc: Global, text: &str, behind: u8) -> Result<Vec<u8>, AllocError> {
     let mut bytes = bytes_of(alloc, text)?;
     bytes.resize(512, behind)?;
     Ok(bytes)
@@ -45,7 +45,7 @@ fn radio_again(
     itsi: Itsi,
     radio: &Radio,
     groups: PackedGroups<'_>,
-) -> Result<Option<[u8; 512]>, Fail> {
+) -> Result<Option<[u8; 512]>, AllocError> {
     let mut left = groups;
     let mut list = Vec::new(alloc);
     for _ in 0..255 {
@@ -65,7 +65,7 @@ fn served_again(
     sequence: u32,
     number: u64,
     pdu: Option<PackedBits<'_>>,
-) -> Result<Option<[u8; 512]>, Fail> {
+) -> Result<Option<[u8; 512]>, AllocError> {
     let Some(packed) = pdu else {
         return Ok(Some(served_row::<Global>(station, sequence, number, &None)));
     };
@@ -76,8 +76,16 @@ fn served_again(
     Ok(Some(served_row(station, sequence, number, &Some(bits))))
 }
 
+/// The row of an item, whose PDU has at most 2,048 bits.
+pub fn item_row<A: Allocator>(item: &Item<A>) -> Option<[u8; 512]> {
+    if item.pdu().len() > 2048 {
+        return None;
+    }
+    Some(mail_row(item))
+}
+
 /// The row that is read from the bytes, written again; nothing where none is read.
-pub fn again(alloc: Global, bytes: &[u8]) -> Result<Option<[u8; 512]>, Fail> {
+pub fn again(alloc: Global, bytes: &[u8]) -> Result<Option<[u8; 512]>, AllocError> {
     let Some(row) = read_row(bytes) else {
         return Ok(None);
     };
@@ -91,10 +99,9 @@ pub fn again(alloc: Global, bytes: &[u8]) -> Result<Option<[u8; 512]>, Fail> {
         } => radio_again(alloc, itsi, &radio, groups),
         ReadRow::Mail(read) => {
             let item = read.copy(&alloc)?;
-            if item.pdu().len() > 2048 {
-                return Ok(None);
-            }
-            Ok(Some(mail_row(&item)))
+            let row = item_row(&item);
+            drop(item);
+            Ok(row)
         }
         ReadRow::Served {
             station,

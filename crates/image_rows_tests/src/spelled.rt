@@ -1,7 +1,7 @@
 //! Each worked row is read, whatever stands behind it, and written as its bytes; other bytes are no row.
+use crate::loaded::row;
 use crate::rows::{again, sector};
-use std::alloc::Global;
-use std::test::Fail;
+use std::alloc::{AllocError, Global};
 
 /// The bytes of rows, put together from the table by hand.
 const ROWS: &str = "\
@@ -52,51 +52,51 @@ const RESERVED: &str = "\
 13 0000000000000009 0000000000000e74 3a800e0007d1 3a800e0007d2 05 01 0028 821a0205ff=13 0000000000000009 0000000000000e74 3a800e0007d1 3a800e0007d2 05 01 0028 82180205ff";
 
 /// Whether the sector of one text, with this byte behind it, is read and written as the sector of the other.
-fn is_written(alloc: Global, text: &str, behind: u8, other: &str) -> Result<bool, Fail> {
-    let bytes = sector(alloc, text, behind)?;
-    let expected = sector(alloc, other, 0)?;
-    match again(alloc, &bytes)? {
-        Some(row) => Ok(row.as_slice() == expected.as_slice()),
-        None => Ok(false),
+fn is_written(alloc: Global, text: &str, behind: u8, other: &str) -> bool {
+    let (Some(row), Some(expected)) = (written(alloc, text, behind), row(alloc, other)) else {
+        return false;
+    };
+    row == Some(expected)
+}
+
+/// What is written again of the sector of a text with this byte behind it; nothing where memory is wanted.
+fn written(alloc: Global, text: &str, behind: u8) -> Option<Option<[u8; 512]>> {
+    let bytes = sector(alloc, text, behind).ok()?;
+    again(alloc, &bytes).ok()
+}
+
+/// What the text before a `=` is.
+#[derive(Clone, Copy)]
+enum Form {
+    Row,
+    Other,
+    /// It is written as the text behind the `=`.
+    Reserved,
+}
+
+fn is_right(alloc: Global, form: Form, line: &str) -> bool {
+    let Some((text, rest)) = line.split_once('=') else {
+        return false;
+    };
+    match form {
+        Form::Row => is_written(alloc, text, 0, text) && is_written(alloc, text, 255, text),
+        Form::Other => written(alloc, text, 0) == Some(None),
+        Form::Reserved => is_written(alloc, text, 0, rest),
     }
 }
 
-fn is_row(alloc: Global, text: &str) -> Result<bool, Fail> {
-    Ok(is_written(alloc, text, 0, text)? && is_written(alloc, text, 255, text)?)
-}
-
-fn first_wrong(alloc: Global) -> Result<Option<&'static str>, Fail> {
-    for row in ROWS.lines() {
-        match row.split_once('=') {
-            Some((text, _)) if is_row(alloc, text)? => {}
-            _ => return Ok(Some(row)),
+/// The first line whose text is of another form.
+fn first_wrong(alloc: Global, form: Form, lines: &'static str) -> Option<&'static str> {
+    for line in lines.lines() {
+        if !is_right(alloc, form, line) {
+            return Some(line);
         }
     }
-    Ok(None)
-}
-
-fn first_read(alloc: Global) -> Result<Option<&'static str>, Fail> {
-    for row in OTHERS.lines() {
-        match row.split_once('=') {
-            Some((text, _)) if again(alloc, &sector(alloc, text, 0)?)?.is_none() => {}
-            _ => return Ok(Some(row)),
-        }
-    }
-    Ok(None)
-}
-
-fn first_reserved(alloc: Global) -> Result<Option<&'static str>, Fail> {
-    for row in RESERVED.lines() {
-        match row.split_once('=') {
-            Some((text, other)) if is_written(alloc, text, 0, other)? => {}
-            _ => return Ok(Some(row)),
-        }
-    }
-    Ok(None)
+    None
 }
 
 /// A message of so many bits, all behind its reference 0.
-fn message(alloc: Global, bits: u16) -> Result<Vec<u8>, Fail> {
+fn message(alloc: Global, bits: u16) -> Result<Vec<u8>, AllocError> {
     let mut bytes = sector(
         alloc,
         "13 0000000000000008 0000000000000e74 3a800e0007d2 3a800e0007d1 05 00 0000 820405",
@@ -110,35 +110,35 @@ fn message(alloc: Global, bits: u16) -> Result<Vec<u8>, Fail> {
     Ok(bytes)
 }
 
-fn longest_is_read(alloc: Global) -> Result<bool, Fail> {
-    let bytes = message(alloc, 2047)?;
-    let too_long = message(alloc, 2048)?;
-    match again(alloc, &bytes)? {
-        Some(row) => Ok(row.as_slice() == bytes.as_slice() && again(alloc, &too_long)?.is_none()),
-        None => Ok(false),
+/// Whether a message of so many bits is written as its bytes, if it is read; nothing where memory is wanted.
+fn is_message(alloc: Global, bits: u16) -> Option<Option<bool>> {
+    let bytes = message(alloc, bits).ok()?;
+    match again(alloc, &bytes) {
+        Ok(Some(row)) => Some(Some(row.as_slice() == bytes.as_slice())),
+        Ok(None) => Some(None),
+        Err(_) => None,
     }
 }
 
 #[test]
-fn rows_have_these_bytes(rt: HostRuntime) -> Result<(), Fail> {
-    assert_eq!(rt; first_wrong(rt.alloc())?, None);
-    Ok(())
+fn rows_have_these_bytes(rt: HostRuntime) {
+    assert_eq!(rt; first_wrong(rt.alloc(), Form::Row, ROWS), None);
 }
 
 #[test]
-fn other_bytes_are_no_row(rt: HostRuntime) -> Result<(), Fail> {
-    assert_eq!(rt; first_read(rt.alloc())?, None);
-    Ok(())
+fn other_bytes_are_no_row(rt: HostRuntime) {
+    assert_eq!(rt; first_wrong(rt.alloc(), Form::Other, OTHERS), None);
 }
 
 #[test]
-fn reserved_bits_are_taken_for_0(rt: HostRuntime) -> Result<(), Fail> {
-    assert_eq!(rt; first_reserved(rt.alloc())?, None);
-    Ok(())
+fn reserved_bits_are_taken_for_0(rt: HostRuntime) {
+    assert_eq!(rt; first_wrong(rt.alloc(), Form::Reserved, RESERVED), None);
 }
 
 #[test]
-fn what_waits_has_at_most_2047_bits(rt: HostRuntime) -> Result<(), Fail> {
-    assert!(rt; longest_is_read(rt.alloc())?);
-    Ok(())
+fn what_waits_has_at_most_2047_bits(rt: HostRuntime) {
+    let alloc = rt.alloc();
+    assert!(rt;
+        is_message(alloc, 2047) == Some(Some(true)) && is_message(alloc, 2048) == Some(None)
+    );
 }

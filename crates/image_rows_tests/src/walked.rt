@@ -1,14 +1,13 @@
 //! A register's rows, told one after another and all together.
-use crate::rows::{again, bytes_of, sector};
+use crate::loaded::{is_accepted, row};
+use crate::rows::again;
 use centre_core::Register;
-use command_bytes::decode;
 use identity::{Itsi, Prefix};
 use image_rows::{RowPlace, row_after, rows};
 use linked_list_allocator::LocalHeap;
 use mailbox::{Key, Kind};
 use registration::Limits;
 use std::alloc::Global;
-use std::test::Fail;
 
 /// Commands of stations 1 and 3.
 const COMMANDS: &str = "\
@@ -40,35 +39,25 @@ const ROWS: &str = "\
 /// The only row of a new register in its image of epoch 1.
 const EMPTY: &str = "10 0000000000000001";
 
-fn is_accepted(
-    alloc: Global,
-    register: &mut Register<Global>,
-    command: &str,
-) -> Result<bool, Fail> {
-    match decode(alloc, &bytes_of(alloc, command)?)? {
-        Some(command) => Ok(register.apply(alloc, &command)?.is_acceptance()),
-        None => Ok(false),
-    }
-}
-
 /// Whether each of the commands was accepted.
-fn are_accepted(alloc: Global, register: &mut Register<Global>) -> Result<bool, Fail> {
+fn are_accepted(alloc: Global, register: &mut Register<Global>) -> bool {
     for line in COMMANDS.lines() {
-        match line.split_once('=') {
-            Some((command, _)) if is_accepted(alloc, register, command)? => {}
-            _ => return Ok(false),
+        let Some((command, _)) = line.split_once('=') else {
+            return false;
+        };
+        if !is_accepted(alloc, register, command) {
+            return false;
         }
     }
-    Ok(true)
+    true
 }
 
 /// Whether the row has these bytes, and is read as a row that has them.
-fn is_row(alloc: Global, row: &[u8], line: &str) -> Result<bool, Fail> {
+fn is_row(alloc: Global, bytes: [u8; 512], line: &str) -> bool {
     let Some((text, _)) = line.split_once('=') else {
-        return Ok(false);
+        return false;
     };
-    let same = again(alloc, row)?.is_some_and(|other| other.as_slice() == row);
-    Ok(same && row == sector(alloc, text, 0)?.as_slice())
+    again(alloc, &bytes) == Ok(Some(bytes)) && row(alloc, text) == Some(bytes)
 }
 
 /// The place of the row after this one, where it is the row of this line.
@@ -77,91 +66,117 @@ fn next_in(
     register: &Register<Global>,
     after: Option<RowPlace>,
     line: &str,
-) -> Result<Option<RowPlace>, Fail> {
+) -> Option<RowPlace> {
     let told = row_after(register, 1, after);
     let Some(next) = &told else {
-        return Ok(None);
+        return None;
     };
-    let row = next.1;
-    Ok(is_row(alloc, &row, line)?.then_some(next.0))
+    is_row(alloc, next.1, line).then_some(next.0)
 }
 
 /// Whether from none to the first row, and from each to the next, these come and no more.
-fn are_walked(alloc: Global, register: &Register<Global>) -> Result<bool, Fail> {
+fn are_walked(alloc: Global, register: &Register<Global>) -> bool {
     let mut after = None;
     for line in ROWS.lines() {
-        match next_in(alloc, register, after, line)? {
+        match next_in(alloc, register, after, line) {
             Some(place) => after = Some(place),
-            None => return Ok(false),
+            None => return false,
         }
     }
-    Ok(row_after(register, 1, after).is_none())
+    row_after(register, 1, after).is_none()
+}
+
+/// Whether these are the rows.
+fn are_rows(alloc: Global, list: &[[u8; 512]]) -> bool {
+    for (row, line) in list.iter().zip(ROWS.lines()) {
+        if !is_row(alloc, *row, line) {
+            return false;
+        }
+    }
+    list.len() == ROWS.lines().count()
 }
 
 /// Whether the list has these rows.
-fn are_listed(alloc: Global, register: &Register<Global>) -> Result<bool, Fail> {
-    let list = rows(register, 1, alloc)?;
-    for (row, line) in list.iter().zip(ROWS.lines()) {
-        if !is_row(alloc, row, line)? {
-            return Ok(false);
-        }
+fn are_listed(alloc: Global, register: &Register<Global>) -> bool {
+    match rows(register, 1, alloc) {
+        Ok(list) => are_rows(alloc, &list),
+        Err(_) => false,
     }
-    Ok(list.len() == ROWS.lines().count())
 }
 
 /// Whether the row after the place is the one of this name, or none where no row has it.
 fn is_told(
     alloc: Global,
     register: &Register<Global>,
-    after: RowPlace,
+    after: Option<RowPlace>,
     name: &str,
-) -> Result<bool, Fail> {
-    Ok(match ROWS.lines().find(|line| line.ends_with(name)) {
-        Some(line) => next_in(alloc, register, Some(after), line)?.is_some(),
-        None => row_after(register, 1, Some(after)).is_none(),
-    })
+) -> bool {
+    match ROWS.lines().find(|line| line.ends_with(name)) {
+        Some(line) => after.is_some() && next_in(alloc, register, after, line).is_some(),
+        None => after.is_some() && row_after(register, 1, after).is_none(),
+    }
 }
 
-/// The radio of the network 234-14 with this short number.
-fn radio(ssi: u32) -> Result<Itsi, Fail> {
-    Ok(Itsi::new(234, 14, ssi).ok_or("a radio")?)
+fn rule_place(bits: u64, len: u32) -> Option<RowPlace> {
+    Some(RowPlace::Rule(Prefix::new(bits, len)?))
 }
 
-fn rule_place(bits: u64, len: u32) -> Result<RowPlace, Fail> {
-    Ok(RowPlace::Rule(Prefix::new(bits, len).ok_or("a prefix")?))
+/// The place of the radio of the network 234-14 with this short number.
+fn radio_place(ssi: u32) -> Option<RowPlace> {
+    Some(RowPlace::Radio(Itsi::new(234, 14, ssi)?))
 }
 
 /// The place of an item from radio 2001 to radio 2002.
-fn mail_place(number: u64, reference: u8) -> Result<RowPlace, Fail> {
+fn mail_place(number: u64, reference: u8) -> Option<RowPlace> {
     let key = Key {
-        destination: radio(2002)?,
-        source: radio(2001)?,
+        destination: Itsi::new(234, 14, 2002)?,
+        source: Itsi::new(234, 14, 2001)?,
         reference,
         kind: Kind::Message,
     };
-    Ok(RowPlace::Mail(number, key))
+    Some(RowPlace::Mail(number, key))
 }
 
 /// Whether one goes on from places where no row stands.
-fn goes_on(alloc: Global, register: &Register<Global>) -> Result<bool, Fail> {
-    let told = [
-        (rule_place(0x3a80_0e00_0000, 23)?, "the other rule"),
-        (rule_place(0x3a80_0e00_07d1, 48)?, "=radio 2001"),
-        (RowPlace::Radio(radio(2000)?), "=radio 2001"),
-        (RowPlace::Radio(radio(2003)?), "the copy for radio 2001"),
-        (mail_place(8, 0)?, "the message for radio 2002"),
-        (mail_place(9, 8)?, "the message for radio 2002"),
-        (mail_place(9, 10)?, "the report for radio 2001"),
-        (mail_place(11, 0)?, "station 1"),
-        (RowPlace::Served(2), "station 3"),
-        (RowPlace::Served(u16::MAX), "none"),
-    ];
-    for (after, name) in &told {
-        if !is_told(alloc, register, *after, name)? {
-            return Ok(false);
-        }
-    }
-    Ok(true)
+fn goes_on(alloc: Global, register: &Register<Global>) -> bool {
+    is_told(
+        alloc,
+        register,
+        rule_place(0x3a80_0e00_0000, 23),
+        "the other rule",
+    ) && is_told(
+        alloc,
+        register,
+        rule_place(0x3a80_0e00_07d1, 48),
+        "=radio 2001",
+    ) && is_told(alloc, register, radio_place(2000), "=radio 2001")
+        && is_told(
+            alloc,
+            register,
+            radio_place(2003),
+            "the copy for radio 2001",
+        )
+        && is_told(
+            alloc,
+            register,
+            mail_place(8, 0),
+            "the message for radio 2002",
+        )
+        && is_told(
+            alloc,
+            register,
+            mail_place(9, 8),
+            "the message for radio 2002",
+        )
+        && is_told(
+            alloc,
+            register,
+            mail_place(9, 10),
+            "the report for radio 2001",
+        )
+        && is_told(alloc, register, mail_place(11, 0), "station 1")
+        && is_told(alloc, register, Some(RowPlace::Served(2)), "station 3")
+        && is_told(alloc, register, Some(RowPlace::Served(u16::MAX)), "none")
 }
 
 /// Whether the rows are listed under this heap, or nothing where memory is wanted.
@@ -172,52 +187,49 @@ fn is_done<'a>(heap: &'a LocalHeap, register: &Register<Global>) -> Option<bool>
     Some(list.len() == 10)
 }
 
-/// How many heaps were too small before the rows were listed.
-fn refused(alloc: Global, register: &Register<Global>) -> Result<Option<usize>, Fail> {
-    for k in 0..40 {
-        let heap = LocalHeap::new(alloc, 512 * k)?;
-        let done = is_done(&heap, register);
-        if heap.used() > 0 || done == Some(false) {
-            return Ok(None);
-        }
-        if done == Some(true) {
-            return Ok(Some(k));
-        }
-    }
-    Ok(None)
+/// Whether a heap of this size has memory for the rows; nothing where that goes wrong, or leaves some of it in use.
+fn is_done_in(alloc: Global, size: usize, register: &Register<Global>) -> Option<bool> {
+    let heap = LocalHeap::new(alloc, size).ok()?;
+    let done = is_done(&heap, register);
+    (heap.used() == 0 && done != Some(false)).then_some(done.is_some())
 }
 
-fn is_refused_in_turn(alloc: Global, register: &Register<Global>) -> Result<bool, Fail> {
-    Ok(refused(alloc, register)?.is_some_and(|heaps| heaps > 9))
+/// How many heaps were too small before the rows were listed.
+fn refused(alloc: Global, register: &Register<Global>) -> Option<usize> {
+    for k in 0..40 {
+        if is_done_in(alloc, 512 * k, register)? {
+            return Some(k);
+        }
+    }
+    None
 }
 
 /// Whether the list of a new register's rows is its header.
-fn is_header(alloc: Global, register: &Register<Global>) -> Result<bool, Fail> {
-    let header = sector(alloc, EMPTY, 0)?;
-    let list = rows(register, 1, alloc)?;
-    Ok(list.len() == 1 && list.iter().all(|row| row.as_slice() == header.as_slice()))
+fn is_header(alloc: Global, register: &Register<Global>) -> bool {
+    let (Ok(list), Some(header)) = (rows(register, 1, alloc), row(alloc, EMPTY)) else {
+        return false;
+    };
+    list.as_slice() == [header].as_slice()
 }
 
-fn is_kept(alloc: Global, register: &mut Register<Global>) -> Result<bool, Fail> {
-    Ok(
-        is_header(alloc, register)?
-            && are_accepted(alloc, register)?
-            && are_walked(alloc, register)?
-            && are_listed(alloc, register)?
-            && goes_on(alloc, register)?
-            && is_refused_in_turn(alloc, register)?,
-    )
+fn is_kept(alloc: Global, register: &mut Register<Global>) -> bool {
+    is_header(alloc, register)
+        && are_accepted(alloc, register)
+        && are_walked(alloc, register)
+        && are_listed(alloc, register)
+        && goes_on(alloc, register)
+        && refused(alloc, register).is_some_and(|heaps| heaps > 9)
 }
 
 /// Whether a register is told by its rows, before and after the commands.
-fn is_told_by_rows(alloc: Global, limits: Limits) -> Result<bool, Fail> {
-    let mut register = Register::new(alloc, limits)?;
-    is_kept(alloc, &mut register)
+fn is_told_by_rows(alloc: Global) -> Option<bool> {
+    let mut register = Register::new(alloc, Limits::new(16, 16, 256, 4)?).ok()?;
+    let is_kept = is_kept(alloc, &mut register);
+    drop(register);
+    Some(is_kept)
 }
 
 #[test]
-fn each_row_is_told_once(rt: HostRuntime) -> Result<(), Fail> {
-    let limits = Limits::new(16, 16, 256, 4).ok_or("limits")?;
-    assert!(rt; is_told_by_rows(rt.alloc(), limits)?);
-    Ok(())
+fn each_row_is_told_once(rt: HostRuntime) {
+    assert!(rt; is_told_by_rows(rt.alloc()) == Some(true));
 }

@@ -1,10 +1,11 @@
 -- What the calls ask of the items of one destination, and what they make of all.
 use Rattle.std.proofs.Common.{◌≡◌, ℕ, ◌+◌, Bool, true, false, cond, List, [], ◌∷◌, ◌++◌, length, refl, ap, sym, ◌∙◌, arith}
 use Rattle.std.specs.Prelude.{not, ◌&&◌, ◌||◌, count_by}
-use Rattle.std.specs.List.{All, AllPairs, filter, list_any}
+use Rattle.std.specs.List.{All, AllPairs, filter, find, list_any}
 use Rattle.std.proofs.lemmas.Bool.{false≢true, false_from_ne_true, and_parts, and_right}
 use Rattle.std.proofs.lemmas.List.Elements.{All-weaker, filter_agree, filter-append}
 use Rattle.std.proofs.lemmas.List.{length-append}
+use Rattle.std.proofs.lemmas.List.Folds.{list_any-append}
 use Rattle.std.proofs.lemmas.List.Sums.{length-filter, sum_by_push}
 use Rattle.mailbox.specs.declared.key.Kind.TheVariants.{Message, Report}
 use Rattle.mailbox.specs.declared.key.Key.{Key}
@@ -12,7 +13,7 @@ use Rattle.mailbox.specs.declared.key.Envelope.{Envelope}
 use Rattle.mailbox.specs.Values.{Waiting, Mailed}
 use Rattle.mailbox.specs.Tests.{same_kind, same_key, key_of, answered, is_at, is_to, is_reported, ends_request, request_of, is_ended_by}
 use Rattle.mailbox.specs.Mail.{holds, without, with_item, posted, reported, waiting}
-use Rattle.mailbox.proofs.Lists.{filter_within, filter_turned, filter_twice, filter_alike, any_within, none_passes, any_of_none, filter_all, pairs_head, pairs_tail}
+use Rattle.mailbox.proofs.Lists.{filter_within, filter_turned, filter_twice, filter_alike, any_within, find_within, none_passes, any_of_none, filter_all, pairs_head, pairs_tail}
 use Rattle.mailbox.specs.Refusals.{crowd_refusal, full_refusal}
 use Rattle.mailbox.proofs.Keys.{number_itself, key_turned, key_itself, key_exact, at_is_to}
 
@@ -80,16 +81,23 @@ module _ (k : Key) (test : Waiting → Bool) where
   one_gone (w ∷ ws) apart some = one_goes w ws (is_at k w) (test w) refl apart some (one_gone ws (pairs_tail (λ a b. same_key b.key a.key ≡ false) w ws apart))
 
   -- of the items, of which the one at the key passes the test: it goes
+  pub removed_if : (m : Mailed) → AreApart m.items → list_any (λ o. is_at k o && test o) m.items ≡ true → without (is_at k) m ≡ without (λ o. is_at k o && test o) m
+  removed_if m apart found = λ i. record { room = m.room; items = one_gone m.items apart found i }
+
+  -- where it does not, nothing goes
+  pub kept_if : (m : Mailed) → list_any (λ o. is_at k o && test o) m.items ≡ false → m ≡ without (λ o. is_at k o && test o) m
+  kept_if m all = λ i. record { room = m.room; items = sym (filter_all (λ o. is_at k o && test o) m.items (none_passes (λ o. is_at k o && test o) m.items all)) i }
+
+  -- so too of those for the key's destination
   pub removed_some : (m : Mailed) → AreApart m.items → list_any (λ o. is_at k o && test o) (waiting m k.destination) ≡ true → without (is_at k) m ≡ without (λ o. is_at k o && test o) m
   removed_some m apart some =
       let found : list_any (λ o. is_at k o && test o) m.items ≡ true = sym (any_within (λ o. is_at k o && test o) (is_to k.destination) (at_and k test) m.items) ∙ some in
-      λ i. record { room = m.room; items = one_gone m.items apart found i }
+      removed_if m apart found
 
-  -- where it does not, nothing goes
   pub removed_none : (m : Mailed) → list_any (λ o. is_at k o && test o) (waiting m k.destination) ≡ false → m ≡ without (λ o. is_at k o && test o) m
   removed_none m none =
       let all : list_any (λ o. is_at k o && test o) m.items ≡ false = sym (any_within (λ o. is_at k o && test o) (is_to k.destination) (at_and k test) m.items) ∙ none in
-      λ i. record { room = m.room; items = sym (filter_all (λ o. is_at k o && test o) m.items (none_passes (λ o. is_at k o && test o) m.items all)) i }
+      kept_if m all
 
 -- a message under a key of its own takes no item's place
 pub posted_alone : (m : Mailed) (w : Waiting) → holds m w.key ≡ false → with_item (without (is_at w.key) m) w ≡ posted m w
@@ -114,6 +122,26 @@ reported_then m e status w is =
     filter-append (λ o. not (is_reported e status o)) (filter (λ o. not (is_at w.key o)) m.items) (w ∷ [])
     ∙ (λ i. first i ++ cond (not (stays i)) (w ∷ []) []) in
     λ i. record { room = m.room; items = all i }
+
+or_none : (a : Bool) → (a || false) ≡ a
+or_none true = refl
+or_none false = refl
+
+-- to put the report ends no message, and none that the report ends goes
+pub still_ends : (m : Mailed) (e : Envelope) (status : ℕ) (w : Waiting) → w.key ≡ key_of e Report → list_any (is_reported e status) (with_item (without (is_at w.key) m) w).items ≡ list_any (is_reported e status) m.items
+still_ends m e status w is =
+    let at : is_at (key_of e Report) w ≡ true = ap (same_key (key_of e Report)) is ∙ key_itself (key_of e Report) in
+    let stays : is_reported e status w ≡ false = false_from_ne_true (is_reported e status w) (λ h. false≢true (sym (no_report e status w h) ∙ at)) in
+    list_any-append (is_reported e status) (filter (λ o. not (is_at w.key o)) m.items) (w ∷ [])
+    ∙ (λ i. any_within (is_reported e status) (λ o. not (is_at w.key o)) (λ o h. ap (λ k. not (is_at k o)) is ∙ ap not (no_report e status o h)) m.items i || (stays i || false))
+    ∙ or_none (list_any (is_reported e status) m.items)
+
+-- what a report ends is for its source
+pub ends_waiting : (m : Mailed) (e : Envelope) (status : ℕ) → list_any (is_reported e status) (waiting m e.source) ≡ list_any (is_reported e status) m.items
+ends_waiting m e status = any_within (is_reported e status) (is_to e.source) (at_and (answered e Message) (λ w. ends_request status (request_of w.pdu))) m.items
+
+pub found_waiting : (m : Mailed) (k : Key) → find (is_at k) (waiting m k.destination) ≡ find (is_at k) m.items
+found_waiting m k = find_within (is_at k) (is_to k.destination) (at_is_to k) m.items
 
 -- how many wait for its destination, and in all, with one more item
 pub one_more_waits : (m : Mailed) (w : Waiting) → crowd_refusal m.room (count_by (is_to w.key.destination) m.items + 1) (length m.items + 1) ≡ full_refusal (posted m w) w.key.destination

@@ -1,11 +1,12 @@
 -- What is kept after each change: the boxes and the index go on giving the items in order.
-use Rattle.std.proofs.Common.{◌≡◌, ℕ, ◌<◌, ◌^◌, Bool, true, false, List, [], ◌∷◌, ◌++◌, get_or, map, refl, ap, sym, ◌∙◌, subst, arith, Option, Some, None}
-use Rattle.std.specs.Prelude.{not, ◌&&◌}
+use Rattle.std.proofs.Common.{◌≡◌, ℕ, suc, ◌<◌, ◌^◌, Bool, true, false, List, [], ◌∷◌, ◌++◌, get_or, map, refl, ap, sym, ◌∙◌, subst, arith, Option, Some, None}
+use Rattle.std.specs.Prelude.{◌==◌, not, ◌&&◌, is_none, length}
 use Rattle.std.specs.List.{All, AllPairs, filter, find, list_any}
 use Rattle.std.specs.FinMap as finite
 use Rattle.std.specs.Option.{option_map}
 use Rattle.std.specs.Ordering.{is_eq, ordering_reverse}
 use Rattle.std.specs.FinMap.{get-empty}
+use Rattle.std.proofs.lemmas.Bool.Decides.{nat_tests}
 use Rattle.std.proofs.lemmas.List.{map-append}
 use Rattle.std.proofs.lemmas.List.Elements.{All-nil, All-weaker, All-filter, All-push, filter_agree}
 use Rattle.std.proofs.lemmas.List.Kept.{AllPairs-filter}
@@ -17,7 +18,7 @@ use Rattle.mailbox.specs.Values.{Waiting}
 use Rattle.mailbox.specs.Tests.{same_key, is_at, is_to, is_expired}
 use Rattle.mailbox.specs.Order.{IsBefore, named}
 use Rattle.mailbox.specs.Places.{same_place, is_due}
-use Rattle.mailbox.specs.Boxes.{Boxes, items_under, swept, put_last, put, item_at, is_kept, place_of, in_order, is_under, AreKept}
+use Rattle.mailbox.specs.Boxes.{Boxes, items_under, box_of, swept, put_last, put, item_at, is_kept, place_of, in_order, is_under, AreKept}
 use Rattle.mailbox.proofs.Lists.{implied, both_ways, filter_alike, any_within, find_within, found_passes, found_with, found_any, never_found, none_passes, any_of_none, find_agree, find_mapped, filter_all, none_left, looked_up, filter_mapped, any_mapped, find_each}
 use Rattle.mailbox.proofs.Keys.{key_itself, key_exact, at_is_under, under_is_to, named_total, total_itself, is_equal}
 use Rattle.mailbox.proofs.Boxed.{IsBoxed, items_boxed, boxed_swept, boxed_put}
@@ -53,6 +54,19 @@ pub kept_waiting : (ws : List Waiting) (boxes : Boxes) (order : List Place) (des
 kept_waiting ws boxes order destination kept below =
     items_boxed ws boxes (id_path destination) kept.boxed
     ∙ filter_alike (is_under (id_path destination)) (is_to destination) ws (All-weaker (λ w. w.key.destination < 2 ^ 48) (λ w. is_under (id_path destination) w ≡ is_to destination w) (λ w whole. under_is_to destination below w whole) ws kept.whole)
+
+not_zero : (n : ℕ) → (suc n == 0) ≡ false
+not_zero n = grind (arith, nat_tests)
+
+none_boxed : (ws : List Waiting) → is_none (box_of ws) ≡ (length ws == 0)
+none_boxed [] = refl
+none_boxed (w ∷ ws) = sym (not_zero (length ws))
+
+-- there is no box of a destination for which nothing waits
+pub first_kept : (ws : List Waiting) (boxes : Boxes) (order : List Place) (destination : ℕ) → AreKept ws boxes order → destination < 2 ^ 48 → (length (filter (is_to destination) ws) == 0) ≡ is_none (finite.get boxes (id_path destination))
+first_kept ws boxes order destination kept below =
+    ap (λ (os : List Waiting). length os == 0) (sym (kept_waiting ws boxes order destination kept below) ∙ items_boxed ws boxes (id_path destination) kept.boxed)
+    ∙ sym (ap is_none (kept.boxed (id_path destination)) ∙ none_boxed (filter (is_under (id_path destination)) ws))
 
 -- a destination's box has the item at a key where the item waits
 pub kept_holds : (ws : List Waiting) (boxes : Boxes) (order : List Place) (k : Key) → AreKept ws boxes order → is_kept boxes k ≡ list_any (is_at k) ws
@@ -170,6 +184,10 @@ module _ (ws : List Waiting) (boxes : Boxes) (order : List Place) (k : Key) (kep
 
   pub none_held : None ≡ option_map place_of (item_at boxes k) → list_any (is_at k) ws ≡ false
   none_held none = any_of_none (is_at k) ws (never_found (is_at k) ws (sym found_at_key ∙ no_item (item_at boxes k) none))
+
+-- no place of an item is no item
+pub none_placed : (test : Waiting → Bool) (ws : List Waiting) → None ≡ option_map place_of (find test ws) → list_any test ws ≡ false
+none_placed test ws none = any_of_none test ws (never_found test ws (no_item (find test ws) none))
 
 -- the first place whose item has ended is that of the first item that has
 pub first_expired : (ws : List Waiting) (boxes : Boxes) (order : List Place) (moment : ℕ) → AreKept ws boxes order → find (is_due moment) order ≡ option_map place_of (find (is_expired moment) ws)

@@ -3,6 +3,7 @@ pub mod Keys
 pub mod Boxed
 pub mod Keeping
 pub mod Effects
+pub mod Judged
 pub mod Kept
 pub mod Copies
 pub mod CopiesRefused

@@ -8,3 +8,4 @@ pub mod Refusals
 pub mod GroupPost
 pub mod Kept
 pub mod Laws
+pub mod Judged

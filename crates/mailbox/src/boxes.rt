@@ -1,8 +1,8 @@
 //! The inboxes of all destinations.
 
-ghost use Rattle.std.specs.Prelude.{◌≡◌, ◌==◌, ◌<◌, ◌^◌, ◌++◌, [], false, length, map, OnOk, OnErr, IfOk, IsSome};
+ghost use Rattle.std.specs.Prelude.{◌≡◌, ◌==◌, ◌<◌, ◌^◌, ◌++◌, [], false, length, map, None, OnOk, OnErr, IfOk, IsSome};
 ghost use Rattle.std.specs.List.{cons_option, list_any};
-ghost use Rattle.std.specs.Option.{option_copied, option_map};
+ghost use Rattle.std.specs.Option.{is_none, option_copied, option_map};
 ghost use Rattle.std.specs.FinMap as finite;
 ghost use Rattle.identity.specs.Path.{id_path};
 ghost use Rattle.mailbox.specs.Tests.{is_at};
@@ -13,7 +13,7 @@ use crate::inbox::Inbox;
 use crate::node::Link;
 use crate::order::Order;
 use crate::place::Place;
-use crate::{Item, Key};
+use crate::{Item, Key, items};
 use identity::{Itsi, Prefix};
 use prefix_tree::{PrefixTree, Steps, TryCopy};
 use std::alloc::{AllocError, Allocator};
@@ -72,19 +72,14 @@ impl<A: Allocator> Boxes<A> {
     pub(crate) fn item_at(&self, key: &Key) -> Option<&Item<A>>
         ensures { option_copied result ≡ item_at self.now key.now }
     {
-        self.items_of(key.destination)
-            .iter()
-            .find(|item| item.is_at(key))
+        items::item_at(self.items_of(key.destination), key)
     }
 
     /// The place of the item at a key.
     pub(crate) fn place_at(&self, key: &Key) -> Option<Place>
         ensures { result ≡ option_map place_of (item_at self.now key.now) }
     {
-        match self.item_at(key) {
-            Some(item) => Some(item.place()),
-            None => None,
-        }
+        items::place_at(self.items_of(key.destination), key)
     }
 
     /// The items at these places, as far as there are any.
@@ -113,8 +108,9 @@ impl<A: Allocator> Boxes<A> {
 
 impl<A: Allocator + Clone> Boxes<A> {
     /// Puts the item at the end of its destination's inbox, in place of any at its key, and then
-    /// without memory. For want of it nothing changes.
-    pub(crate) fn put(&mut self, alloc: &A, item: Item<A>) -> Result<(), AllocError>
+    /// without memory. For want of it nothing changes. It is told whether there is no inbox yet.
+    pub(crate) fn put(&mut self, alloc: &A, item: Item<A>, is_first: bool) -> Result<(), AllocError>
+        requires { is_first ≡ is_none (finite.get self.old (id_path item.key.destination)) }
         ensures ok { OnOk result (self.new ≡ put self.old item) }
         ensures err { OnErr result (self.new ≡ self.old) }
         ensures memory { OnErr result (is_kept self.old item.key ≡ false) }
@@ -122,10 +118,10 @@ impl<A: Allocator + Clone> Boxes<A> {
     {
         let path = Prefix::whole(item.key().destination.number());
         match &mut self.tree {
-            Some(tree) => put_under(tree, alloc, &path, item),
+            Some(tree) => put_under(tree, alloc, &path, item, is_first),
             None => {
                 let mut tree = PrefixTree::new_in(alloc.clone()?);
-                put_under(&mut tree, alloc, &path, item)?;
+                put_first(&mut tree, alloc, &path, item)?;
                 self.tree = Some(tree);
                 Ok(())
             }
@@ -179,14 +175,32 @@ fn put_under<A: Allocator + Clone>(
     alloc: &A,
     path: &Prefix,
     item: Item<A>,
+    is_first: bool,
 ) -> Result<(), AllocError>
+    requires { is_first ≡ is_none (finite.get tree.old path.now) }
     ensures ok { OnOk result (tree.new ≡ with_items tree.old path.now (put_last (items_under tree.old path.now) item)) }
     ensures err { OnErr result (tree.new ≡ tree.old) }
     ensures memory { OnErr result (list_any (is_at item.key) (items_under tree.old path.now) ≡ false) }
 {
-    if tree.find(path).is_some() {
-        return put_from::<A, Brand>(tree, path, item, Blank::new(1));
+    if is_first {
+        put_first(tree, alloc, path, item)
+    } else {
+        put_from::<A, Brand>(tree, path, item, Blank::new(1))
     }
+}
+
+// Puts the item into an inbox of its own, where there is none yet.
+fn put_first<A: Allocator + Clone>(
+    tree: &mut Tree<A>,
+    alloc: &A,
+    path: &Prefix,
+    item: Item<A>,
+) -> Result<(), AllocError>
+    requires { finite.get tree.old path.now ≡ None }
+    ensures ok { OnOk result (tree.new ≡ with_items tree.old path.now (put_last (items_under tree.old path.now) item)) }
+    ensures err { OnErr result (tree.new ≡ tree.old) }
+    ensures memory { OnErr result (list_any (is_at item.key) (items_under tree.old path.now) ≡ false) }
+{
     let mut inbox = Inbox::new(alloc.clone()?);
     inbox.put(item)?;
     match tree.insert(*path, inbox) {

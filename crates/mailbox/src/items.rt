@@ -1,9 +1,12 @@
 //! What is asked of the items of one destination.
 
 ghost use Rattle.std.specs.Prelude.{◌≡◌, not, length};
-ghost use Rattle.std.specs.List.{filter, list_any};
+ghost use Rattle.std.specs.List.{filter, find, list_any};
+ghost use Rattle.std.specs.Option.{option_copied, option_map};
+ghost use Rattle.mailbox.specs.Boxes.{place_of};
 ghost use Rattle.mailbox.specs.Tests.{is_at, is_reported, is_ended_by, is_confirmed};
 
+use crate::place::Place;
 use crate::{Envelope, Item, Key};
 use sds_tl::DeliveryStatus;
 use std::alloc::Allocator;
@@ -13,6 +16,23 @@ pub(crate) fn any_at<A: Allocator>(items: &[Item<A>], key: &Key) -> bool
     ensures { result ≡ list_any (is_at key.now) items.now }
 {
     items.iter().any(|item| item.is_at(key))
+}
+
+/// The one at the key.
+pub(crate) fn item_at<'i, A: Allocator>(items: &'i [Item<A>], key: &Key) -> Option<&'i Item<A>>
+    ensures { option_copied result ≡ find (is_at key.now) items.now }
+{
+    items.iter().find(|item| item.is_at(key))
+}
+
+/// The place of the one at the key.
+pub(crate) fn place_at<A: Allocator>(items: &[Item<A>], key: &Key) -> Option<Place>
+    ensures { result ≡ option_map place_of (find (is_at key.now) items.now) }
+{
+    match item_at(items, key) {
+        Some(item) => Some(item.place()),
+        None => None,
+    }
 }
 
 /// Whether one is at the key, and nobody waits for an answer to it.

@@ -1,23 +1,24 @@
 //! The mail, and the calls that change it.
 
-ghost use Rattle.std.specs.Prelude.{◌≡◌, ◌↔◌, IsTrue, ◌<◌, ◌≤◌, ◌-◌, ◌++◌, ◌∷◌, [], length, count_by, false, not, map, None, OnOk, OnErr, IfOk, IfErr, unwrap_or, vec_len, vec_capacity};
-ghost use Rattle.std.specs.List.{AllPairs, filter, find};
+ghost use Rattle.std.specs.Prelude.{◌≡◌, ◌↔◌, IsTrue, ◌<◌, ◌≤◌, ◌-◌, length, count_by, false, map, None, OnOk, OnErr, IfOk, IfErr, unwrap_or};
+ghost use Rattle.std.specs.List.{AllPairs, find, list_any};
 ghost use Rattle.std.specs.Option.{option_copied, option_map};
 ghost use Rattle.mailbox.specs.declared.fault.MailFault.TheVariants.{NoMemory};
 ghost use Rattle.mailbox.specs.declared.key.Kind.TheVariants as kind;
 ghost use Rattle.mailbox.specs.Values.{empty_mailed, latest_deadline};
-ghost use Rattle.mailbox.specs.Tests.{same_key, key_of, is_to, is_at, is_reported, is_ended_by, is_expired};
+ghost use Rattle.mailbox.specs.Tests.{same_key, key_of, is_to, is_at, is_reported, is_expired};
 ghost use Rattle.mailbox.specs.Order.{IsBefore, ComesLast, next_item};
 ghost use Rattle.mailbox.specs.Boxes.{place_of};
 ghost use Rattle.mailbox.specs.Mail.{holds, without, with_item, deadline_by, waiting_for, posted, reported, acknowledged, confirmed, expired, deleted, waiting};
 ghost use Rattle.mailbox.specs.GroupPost.{shortened};
+ghost use Rattle.mailbox.specs.Judged.{none_waits, item_in, report_opening, MayPost, MayReport};
 ghost use Rattle.mailbox.specs.Refusals.{restore_refusal, post_refusal, report_refusal, ack_refusal, sent_refusal, delete_refusal};
 
 use crate::boxes::Boxes;
-use crate::items::{any_at, any_confirmed, any_reported, count_at, count_left, count_reported};
+use crate::items::{any_at, any_confirmed};
 use crate::order::Order;
 use crate::place::Place;
-use crate::{Envelope, Item, Key, Kind, MailFault, Stamp};
+use crate::{Envelope, Item, Key, Kind, MailFault, Opening, ReportOpening, Stamp};
 use identity::{Bits, Itsi};
 use prefix_tree::TryCopy;
 use registration::{Limits, Registry, Rule};
@@ -59,9 +60,10 @@ impl<A: Allocator> Mail<A> {
         }
     }
 
-    // What its fields keep, as a clause.
+    // What its fields keep, as clauses.
     pub(crate) fn keep_order(&self)
-        ensures { AllPairs IsBefore self.now.items }
+        ensures order { AllPairs IsBefore self.now.items }
+        ensures apart { AllPairs (λ a b. same_key b.key a.key ≡ false) self.now.items }
     {
         let _room = self.room;
     }
@@ -105,35 +107,6 @@ impl<A: Allocator> Mail<A> {
         ensures { result ≡ count_by (is_to destination) self.now.items }
     {
         self.items_of(destination).len()
-    }
-
-    /// How many items a report would leave.
-    pub(crate) fn len_after(&self, envelope: &Envelope, status: DeliveryStatus) -> usize
-        ensures { result ≡ length (filter (λ w. not (is_ended_by envelope.now status w)) self.now.items) }
-    {
-        self.len() - self.count_reported(envelope, status) - self.count_reports(envelope)
-    }
-
-    /// How many messages a report ends.
-    fn count_reported(&self, envelope: &Envelope, status: DeliveryStatus) -> usize
-        ensures { result ≡ length (filter (is_reported envelope.now status) self.now.items) }
-    {
-        count_reported(self.items_of(envelope.source), envelope, status)
-    }
-
-    /// How many reports are in the place of one in this envelope.
-    fn count_reports(&self, envelope: &Envelope) -> usize
-        ensures { result ≡ length (filter (is_at (key_of envelope.now kind.Report)) self.now.items) }
-    {
-        let key = envelope.key(Kind::Report);
-        count_at(self.items_of(key.destination), &key)
-    }
-
-    /// How many items a report would leave for its destination.
-    pub(crate) fn count_after(&self, envelope: &Envelope, status: DeliveryStatus) -> usize
-        ensures { result ≡ count_by (is_to envelope.now.destination) (filter (λ w. not (is_ended_by envelope.now status w)) self.now.items) }
-    {
-        count_left(self.items_of(envelope.destination), envelope, status)
     }
 
     /// Whether an item of this number and key would come after all that wait.
@@ -205,13 +178,14 @@ impl<A: Allocator> Mail<A> {
         }
     }
 
-    /// Removes the message that a report in this envelope ends.
-    fn remove_reported(&mut self, envelope: &Envelope, status: DeliveryStatus)
+    /// Removes the message that a report in this envelope ends, if it ends one.
+    fn remove_reported(&mut self, envelope: &Envelope, status: DeliveryStatus, ends: bool)
+        requires { ends ≡ list_any (is_reported envelope.now status) self.old.items }
         ensures { self.new ≡ without (is_reported envelope.now status) self.old }
     {
-        let key = envelope.answered(Kind::Message);
-        if any_reported(self.items_of(key.destination), envelope, status) {
-            self.remove_at(&key);
+        if ends {
+            self.keep_order();
+            self.remove_at(&envelope.answered(Kind::Message));
         }
     }
 
@@ -267,14 +241,28 @@ impl<A: Allocator + Clone> Mail<A> {
         ensures ok { let w = waiting_for registry.now (key_of envelope.now kind.Message) stamp pdu in OnOk result ((post_refusal registry.now self.old w ≡ None) × (self.new ≡ posted self.old w)) }
         ensures err { let w = waiting_for registry.now (key_of envelope.now kind.Message) stamp pdu in IfErr result (λ e. (e ≡ unwrap_or (post_refusal registry.now self.old w) NoMemory) × (self.new ≡ self.old)) }
     {
-        if let Some(fault) = self.post_refusal(registry, envelope) {
-            return Err(fault);
-        }
-        let item = item_for(registry, envelope.key(Kind::Message), stamp, pdu);
-        let Ok(()) = self.put_new(item) else {
+        let opening = self.judge_post(registry, envelope)?;
+        let Ok(()) = self.post_judged(&opening, stamp, pdu) else {
             return Err(MailFault::NoMemory);
         };
         Ok(())
+    }
+
+    /// Puts a message at the end that `judge_post` of this mail has let pass, with what it found. For
+    /// want of memory nothing changes.
+    pub fn post_judged(
+        &mut self,
+        opening: &Opening,
+        stamp: Stamp,
+        pdu: Bits<A>,
+    ) -> Result<(), AllocError>
+        requires last { ComesLast self.old stamp.number opening.now.key }
+        requires found { opening.now.is_first ≡ none_waits self.old opening.now.key.destination }
+        requires refusal { MayPost self.old (item_in opening.now stamp pdu) }
+        ensures ok { OnOk result (self.new ≡ posted self.old (item_in opening.now stamp pdu)) }
+        ensures err { OnErr result (self.new ≡ self.old) }
+    {
+        self.put_last(item_in(opening, stamp, pdu), opening.is_first)
     }
 
     /// Takes a delivery report (SDS-REPORT) on a message that waits, from the message's destination to
@@ -295,14 +283,37 @@ impl<A: Allocator + Clone> Mail<A> {
         ensures err { let w = waiting_for registry.now (key_of envelope.now kind.Report) stamp pdu in IfErr result (λ e. (e ≡ unwrap_or (report_refusal registry.now self.old envelope.now status w) NoMemory) × (self.new ≡ self.old)) }
         ensures memory { let w = waiting_for registry.now (key_of envelope.now kind.Report) stamp pdu in OnErr result (report_refusal registry.now self.old envelope.now status w ≡ None → holds self.old (key_of envelope.now kind.Report) ≡ false) }
     {
-        if let Some(fault) = self.report_refusal(registry, envelope, status) {
-            return Err(fault);
-        }
-        let item = item_for(registry, envelope.key(Kind::Report), stamp, pdu);
-        let Ok(()) = self.put(item) else {
+        let judged = self.judge_report(registry, envelope, status)?;
+        let Ok(()) = self.report_judged(&judged, envelope, status, stamp, pdu) else {
             return Err(MailFault::NoMemory);
         };
-        self.remove_reported(envelope, status);
+        Ok(())
+    }
+
+    /// Takes a report that `judge_report` of this mail has let pass, with what it found. For want of
+    /// memory, which is never wanted where an earlier report is replaced, nothing changes.
+    pub fn report_judged(
+        &mut self,
+        judged: &ReportOpening,
+        envelope: &Envelope,
+        status: DeliveryStatus,
+        stamp: Stamp,
+        pdu: Bits<A>,
+    ) -> Result<(), AllocError>
+        requires last { ComesLast self.old stamp.number (key_of envelope.now kind.Report) }
+        requires found { judged.now ≡ report_opening self.old judged.now.opening.keep envelope.now status }
+        requires refusal { MayReport self.old envelope.now status (item_in judged.now.opening stamp pdu) }
+        ensures ok { OnOk result (self.new ≡ reported self.old envelope.now status (item_in judged.now.opening stamp pdu)) }
+        ensures err { OnErr result (self.new ≡ self.old) }
+        ensures memory { OnErr result (holds self.old (key_of envelope.now kind.Report) ≡ false) }
+    {
+        let opening = &judged.opening;
+        self.put(
+            item_in(opening, stamp, pdu),
+            &judged.earlier,
+            opening.is_first,
+        )?;
+        self.remove_reported(envelope, status, judged.ends);
         Ok(())
     }
 
@@ -359,27 +370,49 @@ impl<A: Allocator + Clone> Mail<A> {
         ensures ok { OnOk result (self.new ≡ with_item self.old item) }
         ensures err { OnErr result (self.new ≡ self.old) }
     {
+        let is_first = self.items_of(item.key().destination).is_empty();
+        self.put_last(item, is_first)
+    }
+
+    /// As above, told whether nothing waits for its destination.
+    fn put_last(&mut self, item: Item<A>, is_first: bool) -> Result<(), AllocError>
+        requires last { ComesLast self.old item.number item.key }
+        requires free { holds self.old item.key ≡ false }
+        requires first { is_first ≡ none_waits self.old item.key.destination }
+        ensures ok { OnOk result (self.new ≡ with_item self.old item) }
+        ensures err { OnErr result (self.new ≡ self.old) }
+    {
         let place = item.place();
+        let _whole = place.key.destination.number();
         let spare = self.order.spare(&place)?;
-        self.boxes.put(self.order.allocator(), item)?;
+        self.boxes.put(self.order.allocator(), item, is_first)?;
         self.order.append(&place, spare);
         Ok(())
     }
 
-    /// Puts the item at the end, in place of any at its key, and then without memory. Its number and
-    /// key come after those of all that wait. For want of memory nothing changes.
-    pub(crate) fn put(&mut self, item: Item<A>) -> Result<(), AllocError>
-        requires { ComesLast self.old item.number item.key }
+    /// Puts the item at the end, in place of the one at its key, which stands at the earlier place, and
+    /// then without memory. Its number and key come after those of all that wait. For want of memory
+    /// nothing changes.
+    fn put(
+        &mut self,
+        item: Item<A>,
+        earlier: &Option<Place>,
+        is_first: bool,
+    ) -> Result<(), AllocError>
+        requires last { ComesLast self.old item.number item.key }
+        requires earlier { earlier.now ≡ option_map place_of (find (is_at item.key) self.old.items) }
+        requires first { is_first ≡ none_waits self.old item.key.destination }
         ensures ok { OnOk result (self.new ≡ with_item (without (is_at item.key) self.old) item) }
         ensures err { OnErr result (self.new ≡ self.old) }
         ensures memory { OnErr result (holds self.old item.key ≡ false) }
     {
-        let place = item.place();
-        let Some(old) = self.boxes.place_at(&place.key) else {
-            return self.put_new(item);
+        let Some(old) = earlier else {
+            return self.put_last(item, is_first);
         };
-        self.boxes.put(self.order.allocator(), item)?;
-        self.order.renew(&old, &place);
+        let place = item.place();
+        let _whole = place.key.destination.number();
+        self.boxes.put(self.order.allocator(), item, is_first)?;
+        self.order.renew(old, &place);
         Ok(())
     }
 }
@@ -405,16 +438,10 @@ pub(crate) fn deadline_by(rule: Option<Rule>, moment: u32) -> u64
     }
 }
 
-/// The item that a command makes.
-pub(crate) fn item_for<A: Allocator + Clone>(
-    registry: &Registry<A>,
-    key: Key,
-    stamp: Stamp,
-    pdu: Bits<A>,
-) -> Item<A>
-    ensures { result ≡ waiting_for registry.now key stamp pdu }
+/// The item that a command makes at this place.
+fn item_in<A: Allocator>(opening: &Opening, stamp: Stamp, pdu: Bits<A>) -> Item<A>
+    ensures { result ≡ item_in opening.now stamp pdu }
 {
-    let rule = registry.rule_of(key.destination.number());
-    let deadline = deadline_by(rule, stamp.moment);
-    Item::new(key, stamp.number, deadline, pdu, None)
+    let deadline = u64::from(stamp.moment) + u64::from(opening.keep);
+    Item::new(opening.key, stamp.number, deadline, pdu, None)
 }

@@ -1,14 +1,17 @@
 //! Why the mail would refuse a call, memory aside.
 
-ghost use Rattle.std.specs.Prelude.{◌≡◌, ◌+◌, ℕ, length, count_by, Bool, List, Option};
+ghost use Rattle.std.specs.Prelude.{◌≡◌, ◌==◌, ◌+◌, ℕ, length, count_by, Bool, List, Option, IfOk};
 ghost use Rattle.mailbox.specs.declared.key.Kind.TheVariants as kind;
 ghost use Rattle.mailbox.specs.declared.key.Stamp.{Stamp};
 ghost use Rattle.mailbox.specs.Tests.{key_of, is_to, is_ended_by};
-ghost use Rattle.mailbox.specs.Mail.{without, waiting_for};
+ghost use Rattle.std.specs.Result.{result_err};
+ghost use Rattle.registration.specs.Registered.{rule_of};
+ghost use Rattle.mailbox.specs.Mail.{without, waiting, waiting_for};
+ghost use Rattle.mailbox.specs.Judged.{keep_of, opening, item_in, report_opening};
 ghost use Rattle.mailbox.specs.Refusals.{or_then, unknown_refusal, absent_refusal, busy_refusal, missing_refusal, restore_refusal, crowd_refusal, post_refusal, report_refusal, ack_refusal, sent_refusal, delete_refusal};
 
-use crate::items::any_at;
-use crate::{Envelope, Key, Kind, Mail, MailFault};
+use crate::items::{any_at, any_reported, count_at, count_left, count_reported, place_at};
+use crate::{Envelope, Item, Key, Kind, Mail, MailFault, Opening, ReportOpening};
 use identity::Itsi;
 use registration::{Registry, Rule};
 use sds_tl::DeliveryStatus;
@@ -70,11 +73,11 @@ impl<A: Allocator> Mail<A> {
         }
     }
 
-    // Of one more item, at this key.
-    fn item_refusal(&self, key: &Key) -> Option<MailFault>
+    // Of one more item, at this key, beside these for its destination.
+    fn item_refusal(&self, items: &[Item<A>], key: &Key) -> Option<MailFault>
+        requires { items.now ≡ waiting self.now key.now.destination }
         ensures { result ≡ or_then (busy_refusal self.now key.now) (crowd_refusal self.now.room (count_by (is_to key.now.destination) self.now.items + 1) (length self.now.items + 1)) }
     {
-        let items = self.items_of(key.destination);
         if any_at(items, key) {
             return Some(MailFault::ReferenceBusy);
         }
@@ -86,14 +89,25 @@ impl<A: Allocator> Mail<A> {
     pub fn restore_refusal(&self, key: &Key) -> Option<MailFault>
         ensures { (number deadline : ℕ) (pdu : List Bool) (group : Option ℕ) → result ≡ restore_refusal self.now (record { key = key.now; number = number; deadline = deadline; pdu = pdu; group = group }) }
     {
-        self.item_refusal(key)
+        self.item_refusal(self.items_of(key.destination), key)
     }
 
-    fn full_by_report(&self, envelope: &Envelope, status: DeliveryStatus) -> Option<MailFault>
+    // Of a report, with what waits for its source and its destination.
+    fn full_by_report(
+        &self,
+        at_source: &[Item<A>],
+        at_destination: &[Item<A>],
+        envelope: &Envelope,
+        status: DeliveryStatus,
+    ) -> Option<MailFault>
+        requires source { at_source.now ≡ waiting self.now envelope.now.source }
+        requires destination { at_destination.now ≡ waiting self.now envelope.now.destination }
         ensures { let left = without (is_ended_by envelope.now status) self.now in result ≡ crowd_refusal self.now.room (count_by (is_to envelope.now.destination) left.items + 1) (length left.items + 1) }
     {
-        let for_one = self.count_after(envelope, status);
-        let in_all = self.len_after(envelope, status);
+        let for_one = count_left(at_destination, envelope, status);
+        let ended = count_reported(at_source, envelope, status);
+        let replaced = count_at(at_destination, &envelope.key(Kind::Report));
+        let in_all = self.len() - ended - replaced;
         crowd_refusal(self.room(), for_one, in_all)
     }
 }
@@ -104,14 +118,31 @@ impl<A: Allocator + Clone> Mail<A> {
     pub fn post_refusal(&self, registry: &Registry<A>, envelope: &Envelope) -> Option<MailFault>
         ensures { (stamp : Stamp) (pdu : List Bool) → result ≡ post_refusal registry.now self.now (waiting_for registry.now (key_of envelope.now kind.Message) stamp pdu) }
     {
-        let rule = registry.rule_of(envelope.destination.number());
-        if let Some(fault) = unknown_refusal(rule) {
-            return Some(fault);
-        }
+        self.judge_post(registry, envelope).err()
+    }
+
+    /// Judges a message as `post_refusal` does; what it found is for `post_judged`. It takes no memory.
+    pub fn judge_post(
+        &self,
+        registry: &Registry<A>,
+        envelope: &Envelope,
+    ) -> Result<Opening, MailFault>
+        ensures refusal { (stamp : Stamp) (pdu : List Bool) → result_err result ≡ post_refusal registry.now self.now (waiting_for registry.now (key_of envelope.now kind.Message) stamp pdu) }
+        ensures found { let k = key_of envelope.now kind.Message in IfOk result (λ o. o ≡ opening self.now (keep_of (rule_of registry.now k.destination)) k) }
+        ensures item { let k = key_of envelope.now kind.Message in IfOk result (λ o. (stamp : Stamp) (pdu : List Bool) → item_in o stamp pdu ≡ waiting_for registry.now k stamp pdu) }
+    {
+        let Some(rule) = registry.rule_of(envelope.destination.number()) else {
+            return Err(MailFault::UnknownDestination);
+        };
         if let Some(fault) = absent_refusal(registry, envelope.source) {
-            return Some(fault);
+            return Err(fault);
         }
-        self.item_refusal(&envelope.key(Kind::Message))
+        let key = envelope.key(Kind::Message);
+        let items = self.items_of(envelope.destination);
+        if let Some(fault) = self.item_refusal(items, &key) {
+            return Err(fault);
+        }
+        Ok(opening(items, key, rule))
     }
 
     /// Why `report` would refuse a report of this status: `UnknownDestination`, `NotAttached` (the
@@ -125,17 +156,41 @@ impl<A: Allocator + Clone> Mail<A> {
     ) -> Option<MailFault>
         ensures { (stamp : Stamp) (pdu : List Bool) → result ≡ report_refusal registry.now self.now envelope.now status (waiting_for registry.now (key_of envelope.now kind.Report) stamp pdu) }
     {
-        let rule = registry.rule_of(envelope.destination.number());
-        if let Some(fault) = unknown_refusal(rule) {
-            return Some(fault);
-        }
+        self.judge_report(registry, envelope, status).err()
+    }
+
+    /// Judges a report as `report_refusal` does; what it found is for `report_judged`. It takes no
+    /// memory.
+    pub fn judge_report(
+        &self,
+        registry: &Registry<A>,
+        envelope: &Envelope,
+        status: DeliveryStatus,
+    ) -> Result<ReportOpening, MailFault>
+        ensures refusal { (stamp : Stamp) (pdu : List Bool) → result_err result ≡ report_refusal registry.now self.now envelope.now status (waiting_for registry.now (key_of envelope.now kind.Report) stamp pdu) }
+        ensures found { IfOk result (λ o. o ≡ report_opening self.now (keep_of (rule_of registry.now envelope.now.destination)) envelope.now status) }
+        ensures item { let k = key_of envelope.now kind.Report in IfOk result (λ o. (stamp : Stamp) (pdu : List Bool) → item_in o.opening stamp pdu ≡ waiting_for registry.now k stamp pdu) }
+    {
+        let Some(rule) = registry.rule_of(envelope.destination.number()) else {
+            return Err(MailFault::UnknownDestination);
+        };
         if let Some(fault) = absent_refusal(registry, envelope.source) {
-            return Some(fault);
+            return Err(fault);
         }
-        if let Some(fault) = self.missing_refusal(&envelope.answered(Kind::Message)) {
-            return Some(fault);
+        let at_source = self.items_of(envelope.source);
+        if !any_at(at_source, &envelope.answered(Kind::Message)) {
+            return Err(MailFault::NoSuchMessage);
         }
-        self.full_by_report(envelope, status)
+        let at_destination = self.items_of(envelope.destination);
+        if let Some(fault) = self.full_by_report(at_source, at_destination, envelope, status) {
+            return Err(fault);
+        }
+        let key = envelope.key(Kind::Report);
+        Ok(ReportOpening {
+            opening: opening(at_destination, key, rule),
+            earlier: place_at(at_destination, &key),
+            ends: any_reported(at_source, envelope, status),
+        })
     }
 
     /// Why `ack` would refuse an acknowledgement: `UnknownDestination`, `NotAttached` (the source)
@@ -162,5 +217,16 @@ impl<A: Allocator + Clone> Mail<A> {
             return Some(fault);
         }
         self.missing_refusal(key)
+    }
+}
+
+/// Of an item at this key, which the rule serves, beside these for its destination.
+fn opening<A: Allocator>(items: &[Item<A>], key: Key, rule: Rule) -> Opening
+    ensures { result ≡ record { key = key; keep = rule.keep; is_first = length items.now == 0 } }
+{
+    Opening {
+        key,
+        keep: rule.keep(),
+        is_first: items.is_empty(),
     }
 }

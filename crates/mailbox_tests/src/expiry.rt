@@ -106,12 +106,23 @@ fn reports(
     first_wrong(alloc, mail, &REPORTED)
 }
 
+fn both(
+    alloc: Global,
+    registry: &Registry<Global>,
+    mail: &mut Mail<Global>,
+) -> Result<[Option<u32>; 2], Fail> {
+    let late = messages(alloc, registry, mail)?;
+    Ok([late, reports(alloc, registry, mail)?])
+}
+
 fn all_wrong(alloc: Global) -> Result<[Option<u32>; 2], Fail> {
     let limits = limits(16)?;
     let registry = registry(alloc)?;
     let mut mail = Mail::new(alloc, limits);
-    let late = messages(alloc, &registry, &mut mail)?;
-    Ok([late, reports(alloc, &registry, &mut mail)?])
+    let both = both(alloc, &registry, &mut mail);
+    drop(mail);
+    drop(registry);
+    both
 }
 
 #[test]

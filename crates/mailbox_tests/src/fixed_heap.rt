@@ -91,7 +91,10 @@ fn is_kept_even<'a>(
     let limits = limits(16)?;
     let registry = registry(other)?;
     let mut mail = Mail::new(heap, limits);
-    is_even(alloc, heap, &registry, &mut mail, 900)
+    let is_even = is_even(alloc, heap, &registry, &mut mail, 900);
+    drop(mail);
+    drop(registry);
+    is_even
 }
 
 #[test]

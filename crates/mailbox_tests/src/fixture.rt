@@ -53,25 +53,21 @@ fn rule(area: LocationArea) -> Result<Rule, Fail> {
     Ok(Rule::new(area, area, Lifetime::NextItsiAttach, 3600).ok_or("a rule")?)
 }
 
-fn fill<A: Allocator + Clone>(registry: &mut Registry<A>, rule: Rule) -> Result<(), Fail> {
-    let _ = registry.set_rule(Prefix::of(radio(0)?.number(), 24), rule);
+fn fill<A: Allocator + Clone>(registry: &mut Registry<A>, network: Itsi, rule: Rule) {
+    let _ = registry.set_rule(Prefix::of(network.number(), 24), rule);
     for number in 1..4 {
-        let _ = registry.locate(
-            radio(number)?,
-            1,
-            rule.low(),
-            LocationUpdateType::ItsiAttach,
-        );
+        if let Some(itsi) = Itsi::new(234, 14, number) {
+            let _ = registry.locate(itsi, 1, rule.low(), LocationUpdateType::ItsiAttach);
+        }
     }
-    Ok(())
 }
 
 /// A register whose one rule, for network 234-14, keeps messages for an hour; radios 1, 2 and 3 are present.
 pub fn registry<A: Allocator + Clone>(alloc: A) -> Result<Registry<A>, Fail> {
     let area = LocationArea::new(7).ok_or("a location area")?;
-    let (limits, rule) = (limits(16)?, rule(area)?);
+    let (limits, network, rule) = (limits(16)?, radio(0)?, rule(area)?);
     let mut registry = Registry::new(alloc, limits)?;
-    fill(&mut registry, rule)?;
+    fill(&mut registry, network, rule);
     Ok(registry)
 }
 

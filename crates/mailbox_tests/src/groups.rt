@@ -73,7 +73,10 @@ fn are_told(alloc: Global) -> Result<bool, Fail> {
     let limits = limits(3)?;
     let registry = registry(alloc)?;
     let mut mail = Mail::new(alloc, limits);
-    are_answered(alloc, &registry, &mut mail)
+    let are_answered = are_answered(alloc, &registry, &mut mail);
+    drop(mail);
+    drop(registry);
+    are_answered
 }
 
 #[test]

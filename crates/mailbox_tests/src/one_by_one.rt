@@ -72,7 +72,10 @@ fn tried(alloc: Global) -> Result<bool, Fail> {
     let limits = limits(6)?;
     let registry = registry(alloc)?;
     let mut mail = Mail::new(alloc, limits);
-    are_followed(alloc, &registry, &mut mail)
+    let are_followed = are_followed(alloc, &registry, &mut mail);
+    drop(mail);
+    drop(registry);
+    are_followed
 }
 
 #[test]

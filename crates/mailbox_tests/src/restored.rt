@@ -1,9 +1,10 @@
 //! Items put back as they were kept, without a rule and without a radio.
 
 use crate::fixture::{Call, envelope, limits, pdu, text};
-use identity::parse_bits;
+use identity::{Bits, parse_bits};
 use linked_list_allocator::LocalHeap;
-use mailbox::{Item, Kind, Mail, MailFault};
+use mailbox::{Item, Key, Kind, Mail, MailFault};
+use registration::Limits;
 use std::alloc::{Allocator, Global};
 use std::test::Fail;
 
@@ -50,12 +51,18 @@ fn are_kept(mail: &Mail<Global>) -> Result<bool, Fail> {
     Ok(mail.next(last).is_none())
 }
 
+fn are_all_kept(alloc: Global, mail: &mut Mail<Global>) -> Result<bool, Fail> {
+    let done = all_restored(alloc, mail)?;
+    let busy = restored(mail, alloc, 8, 1, 2)? == Err(MailFault::ReferenceBusy);
+    let full = restored(mail, alloc, 8, 1, 3)? == Err(MailFault::CentreFull);
+    Ok(done && busy && full && are_kept(mail)?)
+}
+
 fn are_restored(alloc: Global) -> Result<bool, Fail> {
     let mut mail = Mail::new(alloc, limits(3)?);
-    let done = all_restored(alloc, &mut mail)?;
-    let busy = restored(&mut mail, alloc, 8, 1, 2)? == Err(MailFault::ReferenceBusy);
-    let full = restored(&mut mail, alloc, 8, 1, 3)? == Err(MailFault::CentreFull);
-    Ok(done && busy && full && are_kept(&mail)?)
+    let are_kept = are_all_kept(alloc, &mut mail);
+    drop(mail);
+    are_kept
 }
 
 #[test]
@@ -65,43 +72,57 @@ fn items_are_restored_in_order(rt: HostRuntime) -> Result<(), Fail> {
 }
 
 /// Which of these messages for one destination is the first that finds no place.
-fn first_refused(alloc: Global) -> Result<Option<u32>, Fail> {
-    let mut mail = Mail::new(alloc, limits(200)?);
+fn first_refused(alloc: Global, mail: &mut Mail<Global>) -> Result<Option<u32>, Fail> {
     for source in 0..130u32 {
-        if let Err(fault) = restored(&mut mail, alloc, u64::from(source) + 1, source, 2)? {
+        if let Err(fault) = restored(mail, alloc, u64::from(source) + 1, source, 2)? {
             return Ok((fault == MailFault::MailboxFull).then_some(source));
         }
     }
     Ok(None)
 }
 
+fn places(alloc: Global) -> Result<Option<u32>, Fail> {
+    let mut mail = Mail::new(alloc, limits(200)?);
+    let places = first_refused(alloc, &mut mail);
+    drop(mail);
+    places
+}
+
 #[test]
 fn one_destination_has_128_places(rt: HostRuntime) -> Result<(), Fail> {
-    assert!(rt; first_refused(rt.alloc())? == Some(128));
+    assert!(rt; places(rt.alloc())? == Some(128));
     Ok(())
 }
 
-/// Whether a message finds memory in a heap of this size; nothing where a refusal leaves something.
-fn restored_in(alloc: Global, size: usize) -> Result<Option<bool>, Fail> {
-    let heap = LocalHeap::new(alloc, size)?;
-    let mut mail = Mail::new(&heap, limits(3)?);
-    let key = envelope(8, 2, 5)?.key(Kind::Message);
-    let Ok(pdu) = parse_bits(&heap, text(Call::Post(0)).as_bytes()) else {
-        return Ok(Some(false));
-    };
+/// Whether the message finds memory; nothing where it is refused for another reason.
+fn is_put<'a>(mail: &mut Mail<&'a LocalHeap>, key: Key, pdu: Bits<&'a LocalHeap>) -> Option<bool> {
     if !mail.is_next(1, &key) {
-        return Ok(None);
+        return None;
     }
-    let told = mail.restore(Item::new(key, 1, 5000, pdu, None));
-    let is_empty = mail.next(None).is_none();
+    match mail.restore(Item::new(key, 1, 5000, pdu, None)) {
+        Ok(()) => Some(true),
+        Err(fault) => (fault == MailFault::NoMemory).then_some(false),
+    }
+}
+
+/// The same of a new mail in this heap; nothing where a refusal leaves something, too.
+fn is_put_in(heap: &LocalHeap, limits: Limits, key: Key) -> Option<bool> {
+    let Ok(pdu) = parse_bits(heap, text(Call::Post(0)).as_bytes()) else {
+        return Some(false);
+    };
+    let mut mail = Mail::new(heap, limits);
+    let is_put = is_put(&mut mail, key, pdu);
+    let is_there = mail.next(None).is_some();
     drop(mail);
-    match told {
-        Ok(()) => Ok((!is_empty && heap.used() == 0).then_some(true)),
-        Err(fault) => {
-            let same = is_empty && heap.used() == 0;
-            Ok((same && fault == MailFault::NoMemory).then_some(false))
-        }
-    }
+    (is_put == Some(is_there)).then_some(is_there)
+}
+
+/// The same of a heap of this size; nothing where some of it stays in use, too.
+fn restored_in(alloc: Global, size: usize) -> Result<Option<bool>, Fail> {
+    let (limits, key) = (limits(3)?, envelope(8, 2, 5)?.key(Kind::Message));
+    let heap = LocalHeap::new(alloc, size)?;
+    let is_put = is_put_in(&heap, limits, key);
+    Ok(if heap.used() == 0 { is_put } else { None })
 }
 
 /// The heap's size, in units of 16 bytes, from which on the message finds memory.

@@ -162,7 +162,9 @@ fn is_apart(alloc: Global, both: &mut Both, copy: &Mail<Global>) -> Result<bool,
 
 fn is_copied(alloc: Global, both: &mut Both) -> Result<bool, Fail> {
     let copy = both.mail.try_copy()?;
-    is_apart(alloc, both, &copy)
+    let is_apart = is_apart(alloc, both, &copy);
+    drop(copy);
+    is_apart
 }
 
 /// Whether 1,000 turns are alike, with six items at most, and then a copy.
@@ -181,7 +183,10 @@ fn is_compared(alloc: Global) -> Result<bool, Fail> {
         mail: Mail::new(alloc, limits),
         plain: PlainMail::new(alloc, 6),
     };
-    are_turns_alike(alloc, &registry, &mut both)
+    let are_alike = are_turns_alike(alloc, &registry, &mut both);
+    drop(both);
+    drop(registry);
+    are_alike
 }
 
 #[test]

@@ -76,15 +76,23 @@ fn taken_in<'a>(
     let limits = limits(16)?;
     let registry = registry(ample)?;
     let mut mail = Mail::new(heap, limits);
-    taken(alloc, ample, &registry, &mut mail)
+    let taken = taken(alloc, ample, &registry, &mut mail);
+    drop(mail);
+    drop(registry);
+    taken
+}
+
+/// The same of a heap of this size.
+fn taken_of(alloc: Global, ample: &LocalHeap, size: usize) -> Result<Option<usize>, Fail> {
+    let heap = LocalHeap::new(alloc, size)?;
+    taken_in(alloc, ample, &heap)
 }
 
 /// Which numbers of calls heaps of rising size carry out.
 fn ends(alloc: Global, ample: &LocalHeap) -> Result<[bool; 18], Fail> {
     let mut seen = [false; 18];
     for size in 1..320usize {
-        let heap = LocalHeap::new(alloc, 64 * size)?;
-        let Some(count) = taken_in(alloc, ample, &heap)? else {
+        let Some(count) = taken_of(alloc, ample, 64 * size)? else {
             return Err(Fail::from("a refusal changed something"));
         };
         seen[count.min(17)] = true;
@@ -133,15 +141,23 @@ fn is_posted_in<'a>(
     let limits = limits(16)?;
     let registry = registry(ample)?;
     let mut mail = Mail::new(heap, limits);
-    is_posted(alloc, ample, &registry, &mut mail)
+    let is_posted = is_posted(alloc, ample, &registry, &mut mail);
+    drop(mail);
+    drop(registry);
+    is_posted
+}
+
+/// The same of a heap of this size.
+fn is_posted_of(alloc: Global, ample: &LocalHeap, size: usize) -> Result<Option<bool>, Fail> {
+    let heap = LocalHeap::new(alloc, size)?;
+    is_posted_in(alloc, ample, &heap)
 }
 
 /// Whether heaps of rising size take the message for nobody, and then for all.
 fn are_all_or_nobody(alloc: Global, ample: &LocalHeap) -> Result<[bool; 2], Fail> {
     let mut seen = [false; 2];
     for size in 1..64usize {
-        let heap = LocalHeap::new(alloc, 32 * size)?;
-        let Some(posted) = is_posted_in(alloc, ample, &heap)? else {
+        let Some(posted) = is_posted_of(alloc, ample, 32 * size)? else {
             return Err(Fail::from("not all or nobody"));
         };
         seen[usize::from(posted)] = true;
@@ -173,8 +189,12 @@ fn are_lists_refused(alloc: Global, heap: &LocalHeap) -> Result<bool, Fail> {
     let (limits, itsi) = (limits(16)?, radio(2)?);
     let registry = registry(alloc)?;
     let mut mail = Mail::new(alloc, limits);
-    put_eight(alloc, &registry, &mut mail)?;
-    Ok(mail.items(heap).is_err() && mail.waiting(heap, itsi).is_err())
+    let are_put = put_eight(alloc, &registry, &mut mail);
+    let are_refused = mail.items(heap).is_err() && mail.waiting(heap, itsi).is_err();
+    drop(mail);
+    drop(registry);
+    are_put?;
+    Ok(are_refused)
 }
 
 #[test]

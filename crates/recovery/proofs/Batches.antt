@@ -8,6 +8,7 @@ use Rattle.std.proofs.lemmas.Option.{slice_get-map, slice_get_read, slice_get_wi
 use Rattle.std.specs.Prelude.{if◌then◌else◌}
 use Rattle.std.specs.Borrow.{Bor}
 use Rattle.std.proofs.lemmas.List.{append-nil, length-append, length-map, length-take-le, map-append, map_more, replicate_more, take-append-drop, take-map}
+use Rattle.std.proofs.lemmas.Simd.{map-map}
 use mathlib.Core.Bool.{false≢true}
 use Rattle.registration.specs.declared.limits.Limits.{Limits}
 use Rattle.centre_core.specs.Asked.{Asked}
@@ -23,8 +24,10 @@ use Rattle.centre_core.proofs.SameLaws.{accepts_are_same, step_is_same}
 use Rattle.centre_core.proofs.StepLaws as core
 use Rattle.recovery.specs.declared.outcome.Outcome.{Outcome}
 use Rattle.recovery.specs.declared.outcome.Outcome.TheVariants.{NoMemory, Replied}
+use Rattle.centre_core.specs.Same.{under}
 use Rattle.command_bytes.specs.Text.{command_text}
-use Rattle.recovery.specs.Outcomes.{AreApplied, IsAnswered, IsEnd, accepted_of, asked, replies}
+use Rattle.gated_journal.specs.Record.{given}
+use Rattle.recovery.specs.Outcomes.{AreApplied, AreKept, IsAnswered, IsEnd, accepted_of, asked, replies}
 use Rattle.recovery.proofs.Limited.{step_limits}
 
 -- one more of the same behind a list
@@ -238,6 +241,13 @@ module _ {B : Type 0} where
     pub ends_none : accepted_of s (asked cs) ≡ [] → items ≡ []
     ends_none none = nothing_asked items (e.are.taken ∙ none_accepted s (asked cs) e.applied none)
 
+    pub ends_kept : (A : Type 0) → AreKept A s (asked cs) t (given A items)
+    ends_kept A = record {
+      applied = e.applied;
+      state = e.are.state;
+      these = sym (map-map (under A) (λ (x : Bor (Asked B)). x.now) items) ∙ ap (map (under A)) e.are.taken;
+    }
+
     pub ends_size : length (flat_map (λ c. command_text c.now) items) ≤ length (flat_map (λ c. command_text c.now) cs)
     ends_size =
         omega (
@@ -248,3 +258,15 @@ module _ {B : Type 0} where
           accepted_size s applied,
           front_size (asked cs) e.applied,
         )
+
+-- nothing is kept, where nothing was applied
+pub none_kept : {B : Type 0} (A : Type 0) (s t : State) (cs : List (Asked B)) → t ≡ s → AreKept A s cs t []
+none_kept A s t cs same = record { applied = 0; state = same; these = refl }
+
+-- a batch applied after a checkpoint, which left the state as it was
+pub kept_behind : {B : Type 0} (A : Type 0) (s m t u : State) (cs : List (Asked B)) (given_are items : List (Bor (Asked B))) → m ≡ s → given_are ≡ items → u ≡ t → AreKept A m cs t (given A items) → AreKept A s cs u (given A given_are)
+kept_behind A s m t u cs given_are items same are last kept = record {
+  applied = kept.applied;
+  state = last ∙ kept.state ∙ ap (λ x. after x (take kept.applied cs)) same;
+  these = ap (given A) are ∙ kept.these ∙ ap (λ x. map (under A) (accepted_of x (take kept.applied cs))) same;
+}

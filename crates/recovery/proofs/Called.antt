@@ -1,16 +1,20 @@
--- The calls that a format has made.
-use Rattle.std.proofs.Common.{◌≡◌, [], ◌∷◌, ◌++◌, Result, Ok, Err, OnOk}
+-- The calls that a format, a checkpoint and a commit have made.
+use Rattle.std.proofs.Common.{◌≡◌, ℕ, ◌≤◌, ◌+◌, List, [], ◌∷◌, ◌++◌, length, Result, Ok, Err, OnOk, refl, sym, ap, ◌∙◌, append_assoc, arith}
+use Rattle.std.specs.Borrow.{Bor}
 use Rattle.sector_disk.specs.Disk.{View, IsCalled}
 use Rattle.sector_disk.specs.Run.{HasMade}
 use Rattle.sector_disk.specs.declared.disk.DiskError.{DiskError}
 use Rattle.sector_disk.specs.declared.record.Call.{Call}
 use Rattle.sector_disk.specs.declared.record.Call.TheVariants.{Sync, Write}
 use Rattle.sector_disk.proofs.Made.{all_made, made_on}
-use Rattle.gated_journal.specs.Calls.{closed_gate, open_gate}
+use Rattle.centre_core.specs.Asked.{Asked}
+use Rattle.gated_journal.specs.Calls.{append_calls, closed_gate, open_gate}
+use Rattle.gated_journal.specs.Record.{given, record_text}
 use Rattle.checkpoint.specs.declared.layout.Layout.{Layout}
+use Rattle.checkpoint.specs.declared.side.Side.{Side}
 use Rattle.checkpoint.specs.declared.side.Side.TheVariants as side
-use Rattle.checkpoint.specs.Layout.{half_at, label_at, root_at, slot_at}
-use Rattle.recovery.specs.Calls.{first_header, format_calls, label_sector, side_calls}
+use Rattle.checkpoint.specs.Layout.{half_at, label_at, other_of, root_at, slot_at}
+use Rattle.recovery.specs.Calls.{first_header, format_calls, keep_calls, label_sector, side_calls}
 
 -- ---- the sides
 
@@ -81,3 +85,27 @@ module _ (layout : Layout) (old : View) where
 
       pub calls_in_last : (new : View) (result : Result Unit DiskError) → IsCalled labelled new Sync result → HasMade old new (format_calls layout)
       calls_in_last new result called = made_on old labelled new (side_calls layout ++ label ∷ []) [] Sync result all_but_one called
+
+-- ---- two runs, the second behind the first
+
+module _ (old mid new : View) (first second : List Call) (were : mid.calls ≡ old.calls ++ first) where
+  pub made_both : new.calls ≡ mid.calls ++ second → new.calls ≡ old.calls ++ (first ++ second)
+  made_both is = is ∙ ap (λ (some : List Call). some ++ second) were ∙ append_assoc old.calls first second
+
+  pub made_in_second : HasMade mid new second → HasMade old new (first ++ second)
+  made_in_second has = record {
+    made = first ++ has.made;
+    left = has.left;
+    front = ap (λ (some : List Call). first ++ some) has.front ∙ sym (append_assoc first has.made has.left);
+    now = has.now ∙ ap (λ (some : List Call). some ++ has.made) were ∙ append_assoc old.calls first has.made;
+  }
+
+-- some commands are kept by an append
+pub kept_by_append : {B : Type 0} (A : Type 0) (gate : ℕ) (items : List (Bor (Asked B))) → 1 ≤ length items → keep_calls gate (given A items) ≡ append_calls gate (record_text (given A items))
+kept_by_append A gate [] some = absurd (omega (arith, some))
+kept_by_append A gate (x ∷ xs) some = refl
+
+-- behind a checkpoint the next gate is the other half's first one
+pub gate_behind : {T E : Type 0} (r : Result T E) (layout same : Layout) (side now : Side) (epoch later next : ℕ) → same ≡ layout → OnOk r ((now ≡ other_of side) × (later ≡ epoch + 1)) → OnOk r (next ≡ half_at same now) → OnOk r (next ≡ half_at layout (other_of side))
+gate_behind (Ok t) layout same side now epoch later next stays moved is = is ∙ ap (λ l. half_at l now) stays ∙ ap (half_at layout) moved.0
+gate_behind (Err e) layout same side now epoch later next stays moved is = tt

@@ -1,5 +1,5 @@
 -- A register that is kept stays so: through a checkpoint, and through an append of commands that it accepts.
-use Rattle.std.proofs.Common.{◌≡◌, ◌⊎◌, inl, inr, ℕ, ◌+◌, ◌-◌, ◌<◌, ◌≤◌, List, [], ◌∷◌, ◌++◌, length, map, take, true, Ok, refl, sym, ap, subst, ◌∙◌, arith}
+use Rattle.std.proofs.Common.{◌≡◌, ◌⊎◌, inl, inr, ℕ, ◌+◌, ◌-◌, ◌<◌, ◌≤◌, List, [], ◌∷◌, ◌++◌, length, map, take, true, false, Ok, refl, sym, ap, subst, ◌∙◌, arith}
 use Rattle.std.specs.Prelude.{nat_eq}
 use Rattle.std.specs.Borrow.{Bor}
 use Rattle.std.proofs.lemmas.Bool.Decides.{nat_tests}
@@ -197,6 +197,9 @@ batch_done s m t u cs outcomes same last is = (is.applied, last ∙ is.state ∙
 
 pub no_length : (n : ℕ) → nat_eq n 0 ≡ true → n ≡ 0
 no_length n e = grind (arith, nat_tests)
+
+pub some_length : (n : ℕ) → nat_eq n 0 ≡ false → 1 ≤ n
+some_length n e = grind (arith, nat_tests)
 
 -- nothing is asked
 pub none_answered : {B C : Type 0} (s : State) (cs : List (Bor (Asked B))) (outcomes : List (Outcome C)) → cs ≡ [] → outcomes ≡ [] → IsAnswered s (asked cs) s outcomes

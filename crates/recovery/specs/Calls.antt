@@ -1,15 +1,23 @@
--- The calls of the disk that a format makes.
-use Rattle.std.specs.Prelude.{ℕ, List, [], ◌∷◌, ◌++◌}
+-- The calls of the disk that a format, a checkpoint and a commit make.
+use Rattle.std.specs.Prelude.{ℕ, ◌+◌, Bool, true, false, List, [], ◌∷◌, ◌++◌, nat_le}
+use Rattle.std.specs.Borrow.{Bor}
 use Rattle.sector_disk.specs.declared.record.Call.{Call}
 use Rattle.sector_disk.specs.declared.record.Call.TheVariants.{Sync, Write}
+use Rattle.centre_core.specs.Asked.{Asked}
+use Rattle.centre_core.specs.State.{State}
 use Rattle.image_rows.specs.Rows.{HeaderRow}
 use Rattle.image_rows.specs.RowText.{padded, sector_of}
 use Rattle.image_rows.specs.Worked.{bare}
-use Rattle.gated_journal.specs.Calls.{closed_gate, open_gate}
+use Rattle.gated_journal.specs.declared.place.Place.{Place}
+use Rattle.gated_journal.specs.Calls.{append_calls, closed_gate, open_gate}
+use Rattle.gated_journal.specs.Record.{data_size, given, record_text}
+use Rattle.gated_journal.specs.Settled.{room_of}
+use Rattle.checkpoint.specs.Calls.{image_calls, switch_calls}
 use Rattle.checkpoint.specs.declared.layout.Layout.{Layout}
+use Rattle.checkpoint.specs.declared.side.Side.{Side}
 use Rattle.checkpoint.specs.declared.side.Side.TheVariants as side
 use Rattle.checkpoint.specs.Label.{label_text}
-use Rattle.checkpoint.specs.Layout.{half_at, label_at, root_at, slot_at}
+use Rattle.checkpoint.specs.Layout.{half_at, label_at, other_of, root_at, slot_at}
 
 -- the sector of the one row that an empty register has, of epoch 1
 abbrev pub first_header : List ℕ
@@ -33,3 +41,32 @@ side_calls layout =
 -- then the label
 abbrev pub format_calls : Layout → List Call
 format_calls layout = side_calls layout ++ Write label_at (label_sector layout) ∷ Sync ∷ []
+
+-- ---- a register that is kept
+
+-- the register's image is written to the other side, with the next epoch, and that side is made to count
+abbrev pub checkpoint_calls : Layout → Side → ℕ → State → List (List ℕ) → List Call
+checkpoint_calls layout side epoch state reads = image_calls layout (other_of side) reads (epoch + 1, state) ++ switch_calls (other_of side)
+
+-- may a record of all these commands go to the next gate?
+abbrev pub fits_in : {B : Type 0} (A : Type 0) → Place → List (Bor (Asked B)) → Bool
+fits_in A place commands = nat_le (data_size (record_text (given A commands))) (room_of place)
+
+-- a checkpoint first, where it may not
+abbrev pub room_calls : Bool → Layout → Side → ℕ → State → List (List ℕ) → List Call
+room_calls true layout side epoch state reads = []
+room_calls false layout side epoch state reads = checkpoint_calls layout side epoch state reads
+
+-- the next gate then
+abbrev pub gate_then : Bool → Layout → Side → ℕ → ℕ
+gate_then true layout side gate = gate
+gate_then false layout side gate = half_at layout (other_of side)
+
+-- these commands as one record at a gate; of none nothing
+abbrev pub keep_calls : {A : Type 0} → ℕ → List (Asked A) → List Call
+keep_calls gate [] = []
+keep_calls gate (c ∷ cs) = append_calls gate (record_text (c ∷ cs))
+
+-- room is made, and then the accepted ones are kept
+abbrev pub commit_calls : {A : Type 0} → Bool → Layout → Side → ℕ → ℕ → State → List (List ℕ) → List (Asked A) → List Call
+commit_calls fits layout side epoch gate state reads accepted = room_calls fits layout side epoch state reads ++ keep_calls (gate_then fits layout side gate) accepted

@@ -2,6 +2,7 @@
 use Rattle.std.specs.Prelude.{◌≡◌, ◌⊎◌, ℕ, ◌-◌, ◌≤◌, IsTrue, List, [], ◌∷◌, ◌++◌, length, map, take, replicate, slice_get, Some, if◌then◌else◌}
 use Rattle.std.specs.Borrow.{Bor}
 use Rattle.centre_core.specs.Asked.{Asked}
+use Rattle.centre_core.specs.Same.{under}
 use Rattle.centre_core.specs.declared.reply.Reply.{Reply}
 use Rattle.centre_core.specs.State.{State}
 use Rattle.centre_core.specs.Step.{step}
@@ -40,6 +41,12 @@ module _ {B : Type 0} where
   -- the state after the first commands, applied in turn as far as there was memory
   abbrev pub IsAfterBatch : State → List (Asked B) → State → Type 0
   IsAfterBatch s commands t = (applied : ℕ) × (t ≡ after s (take applied commands)) × IsEnd commands applied t
+
+  -- commands that a journal under the allocator A keeps: the accepted ones of the first commands, which made the state t
+  pub record AreKept (A : Type 0) (s : State) (commands : List (Asked B)) (t : State) (kept : List (Asked A)) : Type 0 where
+    pub applied : ℕ
+    pub state : t ≡ after s (take applied commands)
+    pub these : kept ≡ map (under A) (accepted_of s (take applied commands))
 
   -- so the batch is answered: the first commands by their replies, and from the first one that found no memory on each by want of memory
   pub record IsAnswered {C : Type 0} (s : State) (commands : List (Asked B)) (t : State) (outcomes : List (Outcome C)) : Type 0 where

@@ -1,13 +1,14 @@
 //! A checkpoint of a register that is kept on a disk.
 
-ghost use Rattle.std.specs.Prelude.{◌≡◌, ◌+◌, ◌<◌, ◌≤◌, Err, IfErr, IsErrOf, OnErr, OnOk, true, false};
+ghost use Rattle.std.specs.Prelude.{◌≡◌, ◌+◌, ◌<◌, ◌≤◌, ◌++◌, Err, IfErr, IsErrOf, OnErr, OnOk, true, false};
 ghost use Rattle.sector_disk.specs.Disk.{HasFailed};
-ghost use Rattle.sector_disk.specs.Run.{LeavesOnly};
+ghost use Rattle.sector_disk.specs.Run.{HasMade, LeavesOnly};
 ghost use Rattle.image_rows.specs.Rows.{last_epoch};
 ghost use Rattle.checkpoint.specs.declared.fault.CheckpointError.TheVariants as checkpoint;
 ghost use Rattle.checkpoint.specs.Layout.{disk_size, half_at, half_end, other_of};
 ghost use Rattle.checkpoint.specs.Standing.{Base, Held, InEach, IsEither, Stands, fresh};
 ghost use Rattle.recovery.specs.declared.fault.StoreFault.TheVariants.{Broken, DiskFault, EpochsUsedUp};
+ghost use Rattle.recovery.specs.Calls.{checkpoint_calls};
 ghost use Rattle.recovery.specs.Kept.{IsKept};
 ghost use Rattle.recovery.specs.Refusals.{IsOfCheckpoint};
 ghost use Rattle.recovery.specs.Standing.{StandsFor};
@@ -32,6 +33,8 @@ fn write_side<A: Allocator + Clone, D: Disk>(
         → LeavesOnly (D.view disk.old) (D.view disk.new) (IsEither layout.now current base (epoch + 1, register.now) held) }
     ensures switched { OnOk result ((base : Base) (held : Held A) → base.0 ≡ epoch → (D.view disk.old).honest → InEach (D.view disk.old) (Stands layout.now current base held)
         → InEach (D.view disk.new) (Stands {A = A} layout.now (other_of current) (epoch + 1, register.now) (fresh layout.now (other_of current)))) }
+    ensures calls { OnOk result ((D.view disk.old).honest → (D.view disk.new).calls ≡ (D.view disk.old).calls ++ checkpoint_calls layout.now current epoch register.now (D.view disk.old).reads) }
+    ensures some_calls { (D.view disk.old).honest → HasMade (D.view disk.old) (D.view disk.new) (checkpoint_calls layout.now current epoch register.now (D.view disk.old).reads) }
     ensures fault { IsErrOf result checkpoint.DiskFault → HasFailed (D.view disk.old) (D.view disk.new) }
     ensures epochs { IsErrOf result checkpoint.EpochsUsedUp → (last_epoch ≤ epoch) × (disk.new ≡ disk.old) }
     ensures used_up { last_epoch ≤ epoch → result ≡ Err checkpoint.EpochsUsedUp }
@@ -63,6 +66,11 @@ impl<A: Allocator + Clone, D: Disk> Store<A, D> {
         ensures no_record { OnOk result (self.new.journal.next ≡ half_at self.new.layout self.new.side) }
         ensures same { (self.new.layout ≡ self.old.layout) × (self.new.register ≡ self.old.register) }
         ensures unmoved { OnErr result ((self.new.side ≡ self.old.side) × (self.new.epoch ≡ self.old.epoch) × (self.new.journal ≡ self.old.journal)) }
+
+        // The other side's root is read, and written only where it reads open; its first gate is closed; then each row is
+        // written once, and the root opened. A call that fails is the last.
+        ensures calls { OnOk result ((D.view self.old.disk).honest → (D.view self.new.disk).calls ≡ (D.view self.old.disk).calls ++ checkpoint_calls self.old.layout self.old.side self.old.epoch self.old.register (D.view self.old.disk).reads) }
+        ensures some_calls { (D.view self.old.disk).honest → HasMade (D.view self.old.disk) (D.view self.new.disk) (checkpoint_calls self.old.layout self.old.side self.old.epoch self.old.register (D.view self.old.disk).reads) }
 
         // It does not give up by itself.
         ensures broken { self.old.broken ≡ true → result ≡ Err Broken }

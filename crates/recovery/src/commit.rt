@@ -1,8 +1,9 @@
 //! A batch of commands kept on a disk.
 
-ghost use Rattle.std.specs.Prelude.{◌≡◌, ◌⊎◌, ◌+◌, ◌<◌, ◌≤◌, [], Err, IfErr, IfOk, IsErrOf, Ok, OnErr, OnOk, length, true, false};
+ghost use Rattle.std.specs.Prelude.{◌≡◌, ◌⊎◌, ◌+◌, ◌<◌, ◌≤◌, ◌++◌, [], Err, IfErr, IfOk, IsErrOf, IsOk, List, Ok, OnErr, OnOk, length, true, false};
 ghost use Rattle.sector_disk.specs.Disk.{HasFailed};
-ghost use Rattle.sector_disk.specs.Run.{LeavesOnly};
+ghost use Rattle.sector_disk.specs.Run.{HasMade, LeavesOnly};
+ghost use Rattle.centre_core.specs.Asked.{Asked};
 ghost use Rattle.centre_core.specs.History.{after};
 ghost use Rattle.centre_core.specs.Histories.{IsHistory};
 ghost use Rattle.centre_core.specs.State.{State};
@@ -12,8 +13,9 @@ ghost use Rattle.gated_journal.specs.Settled.{room_of};
 ghost use Rattle.checkpoint.specs.Layout.{other_of};
 ghost use Rattle.checkpoint.specs.Standing.{InEach};
 ghost use Rattle.recovery.specs.declared.fault.StoreFault.TheVariants.{Broken, DiskFault, EpochsUsedUp, NoMemory};
+ghost use Rattle.recovery.specs.Calls.{commit_calls, fits_in, gate_then, keep_calls, room_calls};
 ghost use Rattle.recovery.specs.Kept.{IsKept};
-ghost use Rattle.recovery.specs.Outcomes.{IsAfterBatch, IsAnswered, StandsForEither, accepted_of, asked};
+ghost use Rattle.recovery.specs.Outcomes.{AreKept, IsAfterBatch, IsAnswered, StandsForEither, accepted_of, asked};
 ghost use Rattle.recovery.specs.Refusals.{IsOfCheckpoint, IsOfCommit};
 ghost use Rattle.recovery.specs.Standing.{StandsFor};
 
@@ -34,6 +36,9 @@ impl<A: Allocator + Clone, D: Disk> Store<A, D> {
         ensures fits { OnOk result (data_size (record_text (given A commands.now)) ≤ room_of self.new.journal) }
         ensures stays { data_size (record_text (given A commands.now)) ≤ room_of self.old.journal → (result ≡ Ok tt) × (self.new ≡ self.old) }
         ensures moves { OnOk result (room_of self.old.journal < data_size (record_text (given A commands.now)) → (self.new.side ≡ other_of self.old.side) × (self.new.epoch ≡ self.old.epoch + 1)) }
+        ensures calls { OnOk result ((D.view self.old.disk).honest → (D.view self.new.disk).calls ≡ (D.view self.old.disk).calls ++ room_calls (fits_in A self.old.journal commands.now) self.old.layout self.old.side self.old.epoch self.old.register (D.view self.old.disk).reads) }
+        ensures some_calls { (D.view self.old.disk).honest → HasMade (D.view self.old.disk) (D.view self.new.disk) (room_calls (fits_in A self.old.journal commands.now) self.old.layout self.old.side self.old.epoch self.old.register (D.view self.old.disk).reads) }
+        ensures gate { OnOk result (self.new.journal.next ≡ gate_then (fits_in A self.old.journal commands.now) self.old.layout self.old.side self.old.journal.next) }
         ensures same { (self.new.layout ≡ self.old.layout) × (self.new.register ≡ self.old.register) }
         ensures unmoved { OnErr result ((self.new.side ≡ self.old.side) × (self.new.epoch ≡ self.old.epoch) × (self.new.journal ≡ self.old.journal)) }
         ensures only_broken { IsErrOf result Broken → (self.old.broken ≡ true) × (self.new ≡ self.old) }
@@ -60,6 +65,8 @@ impl<A: Allocator + Clone, D: Disk> Store<A, D> {
         ensures kept { OnOk result ((state : State) → IsHistory state (asked accepted.now) → (D.view self.old.disk).honest → IsKept A self.old.layout self.old.side self.old.epoch self.old.journal.next state (D.view self.old.disk)
             → IsKept A self.new.layout self.new.side self.new.epoch self.new.journal.next (after state (asked accepted.now)) (D.view self.new.disk)) }
         ensures none { accepted.now ≡ [] → self.new ≡ self.old }
+        ensures calls { OnOk result ((D.view self.new.disk).calls ≡ (D.view self.old.disk).calls ++ keep_calls self.old.journal.next (given A accepted.now)) }
+        ensures some_calls { HasMade (D.view self.old.disk) (D.view self.new.disk) (keep_calls self.old.journal.next (given A accepted.now)) }
         ensures same { (self.new.layout ≡ self.old.layout) × (self.new.side ≡ self.old.side) × (self.new.epoch ≡ self.old.epoch) × (self.new.register ≡ self.old.register) }
         ensures fault { IfErr result (λ fault. (fault ≡ DiskFault) × HasFailed (D.view self.old.disk) (D.view self.new.disk) × (self.new.broken ≡ true)) }
         ensures sound { OnOk result (self.new.broken ≡ self.old.broken) }
@@ -104,12 +111,20 @@ impl<A: Allocator + Clone, D: Disk> Store<A, D> {
             → InEach (D.view self.new.disk) (StandsFor A self.new.register)) }
 
         // A checkpoint is made exactly where a record of all commands would not fit. Nothing is written of no commands,
-        // nor, where they would fit, of commands none of which is accepted.
+        // nor, where they would fit, of commands none of which is accepted; no commands take no memory.
         ensures empty { commands.now ≡ [] → self.old.broken ≡ false → OnOk result (self.new ≡ self.old) }
+        ensures at_once { commands.now ≡ [] → self.old.broken ≡ false → IsOk result }
         ensures idle { data_size (record_text (given A commands.now)) ≤ room_of self.old.journal → accepted_of self.old.register (asked commands.now) ≡ [] → self.new.disk ≡ self.old.disk }
         ensures stays { data_size (record_text (given A commands.now)) ≤ room_of self.old.journal → (self.new.side ≡ self.old.side) × (self.new.epoch ≡ self.old.epoch) }
         ensures moves { OnOk result (1 ≤ length commands.now → room_of self.old.journal < data_size (record_text (given A commands.now)) → (self.new.side ≡ other_of self.old.side) × (self.new.epoch ≡ self.old.epoch + 1)) }
         ensures layout { self.new.layout ≡ self.old.layout }
+
+        // The calls of that checkpoint, and then of one record of the accepted commands; of no commands none. A call that
+        // fails is the last.
+        ensures calls { OnOk result (1 ≤ length commands.now → (D.view self.old.disk).honest → (kept : List (Asked A)) × AreKept A self.old.register (asked commands.now) self.new.register kept
+            × ((D.view self.new.disk).calls ≡ (D.view self.old.disk).calls ++ commit_calls (fits_in A self.old.journal commands.now) self.old.layout self.old.side self.old.epoch self.old.journal.next self.old.register (D.view self.old.disk).reads kept)) }
+        ensures some_calls { (D.view self.old.disk).honest → (kept : List (Asked A)) × AreKept A self.old.register (asked commands.now) self.new.register kept
+            × HasMade (D.view self.old.disk) (D.view self.new.disk) (commit_calls (fits_in A self.old.journal commands.now) self.old.layout self.old.side self.old.epoch self.old.journal.next self.old.register (D.view self.old.disk).reads kept) }
 
         // It does not give up by itself.
         ensures broken { self.old.broken ≡ true → result ≡ Err Broken }
@@ -126,10 +141,10 @@ impl<A: Allocator + Clone, D: Disk> Store<A, D> {
         if self.broken {
             return Err(StoreFault::Broken);
         }
-        let mut outcomes = Vec::with_capacity(alloc, commands.len())?;
         if commands.is_empty() {
-            return Ok(outcomes);
+            return Ok(Vec::new(alloc));
         }
+        let mut outcomes = Vec::with_capacity(alloc, commands.len())?;
         let mut accepted = Vec::with_capacity(alloc, commands.len())?;
         self.make_room(commands)?;
         apply_all(

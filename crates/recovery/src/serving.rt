@@ -7,7 +7,7 @@ ghost use Rattle.centre_core.specs.declared.reply.Reply.{Reply};
 ghost use Rattle.recovery.specs.declared.outcome.Outcome.TheVariants as outcome;
 ghost use Rattle.recovery.specs.declared.outcome.Outcome.TheVariants.{Replied};
 ghost use Rattle.recovery.specs.Refusals.{IsOfCommit};
-ghost use Rattle.recovery.specs.Serving.{service_of};
+ghost use Rattle.recovery.specs.Serving.{IsWordFor};
 
 use crate::{Outcome, Store, StoreFault};
 use centre_core::{Command, Query, Reply, Told};
@@ -59,7 +59,7 @@ fn reply_of<C: Allocator>(outcomes: Vec<Outcome<C>, C>) -> Result<Reply<C>, Serv
 // The word for a fault of a commit.
 fn service_of(fault: StoreFault) -> Service
     requires { IsOfCommit fault }
-    ensures { result ≡ service_of fault }
+    ensures { IsWordFor fault result }
 {
     match fault {
         StoreFault::DiskFault => Service::Device,

@@ -1,129 +1,15 @@
 //! Batches of commands that are kept on a disk, and checkpoints.
-ghost use Rattle.std.specs.Prelude.{◌≡◌, ◌≤◌, length};
 
 use crate::made;
+use crate::runs::{begin, commit, commit_each, count, run, run_as_one, stands_for, stop};
 use centre_core::{Command, Refusal, Reply};
-use linked_list_allocator::LocalHeap;
 use recovery::{Outcome, Store, StoreFault};
 use sector_disk::{Disk, Failing, FailingDisk, MemoryDisk};
-use std::alloc::{Allocator, Global};
+use std::alloc::Global;
 use std::test::Fail;
 
 /// What a stop puts into sectors that are pending.
 const BYTES: [u8; 3] = [0, 1, 77];
-
-// ---- running
-
-/// How many commands the register has accepted; nothing where the store is broken.
-fn count<A: Allocator + Copy, D: Disk>(store: &Store<A, D>) -> Option<u64> {
-    match store.register() {
-        Some(register) => Some(register.count()),
-        None => None,
-    }
-}
-
-/// Whether a command was accepted with this number.
-fn is_accepted<C: Allocator>(outcome: &Outcome<C>, want: u64) -> bool {
-    match outcome {
-        Outcome::Replied(Reply::Accepted { number, .. }) => *number == want,
-        _ => false,
-    }
-}
-
-/// Whether the commands were accepted with numbers from this one on.
-fn are_accepted<C: Allocator>(outcomes: &[Outcome<C>], first: u64) -> bool {
-    for k in 0..outcomes.len() {
-        if !is_accepted(&outcomes[k], first.saturating_add(k as u64)) {
-            return false;
-        }
-    }
-    true
-}
-
-/// Commits one batch; tells whether all of it was accepted, with the next numbers.
-fn commit<D: Disk>(
-    alloc: Global,
-    store: &mut Store<Global, D>,
-    commands: &[&Command<Global>],
-) -> Result<bool, StoreFault>
-    requires { length commands.now ≤ 64 }
-{
-    let before = count(store).unwrap_or(0);
-    let outcomes = store.commit(alloc, commands)?;
-    Ok(outcomes.len() == commands.len() && are_accepted(&outcomes, before.saturating_add(1)))
-}
-
-/// Commits commands one by one; tells how many commits were answered, up to the first fault.
-fn commit_each<D: Disk>(
-    alloc: Global,
-    store: &mut Store<Global, D>,
-    commands: &[&Command<Global>],
-) -> u64 {
-    let mut answered: u64 = 0;
-    for command in commands {
-        if commit(alloc, store, &[*command]) != Ok(true) {
-            return answered;
-        }
-        answered = answered.saturating_add(1);
-    }
-    answered
-}
-
-/// Opens a disk, and commits commands one by one; tells how many commits were answered, and gives the disk.
-fn run<D: Disk>(alloc: Global, disk: D, commands: &[&Command<Global>]) -> (u64, D) {
-    match Store::open(alloc, disk) {
-        Ok(mut store) => {
-            let answered = commit_each(alloc, &mut store, commands);
-            (answered, store.into_disk())
-        }
-        Err((_, disk)) => (0, disk),
-    }
-}
-
-/// The same with all commands in one commit; tells whether it was answered.
-fn run_as_one<D: Disk>(alloc: Global, disk: D, commands: &[&Command<Global>]) -> (bool, D)
-    requires { length commands.now ≤ 64 }
-{
-    match Store::open(alloc, disk) {
-        Ok(mut store) => {
-            let answered = commit(alloc, &mut store, commands) == Ok(true);
-            (answered, store.into_disk())
-        }
-        Err((_, disk)) => (false, disk),
-    }
-}
-
-/// How many commands the register of a disk has accepted; nothing where it does not open.
-fn stands_for<D: Disk>(alloc: Global, disk: D) -> (Option<u64>, D) {
-    match Store::open(alloc, disk) {
-        Ok(store) => (count(&store), store.into_disk()),
-        Err((_, disk)) => (None, disk),
-    }
-}
-
-/// Whether sectors begin with these bytes.
-fn begin<D: Disk>(disk: &mut D, sectors: &[(u64, &[u8])]) -> bool {
-    for (at, front) in sectors {
-        let mut bytes = [7; 512];
-        if disk.read(*at, &mut bytes).is_err() || !bytes.starts_with(front) {
-            return false;
-        }
-    }
-    true
-}
-
-/// What a stop leaves of a disk that puts these bytes into each pending sector.
-fn stop(
-    alloc: Global,
-    disk: MemoryDisk<Global>,
-    bytes: [u8; 512],
-) -> Result<MemoryDisk<Global>, Fail> {
-    let mut fill = Vec::new(alloc);
-    for at in &disk.pending(alloc)? {
-        fill.push((*at, bytes))?;
-    }
-    Ok(disk.crash(&fill))
-}
 
 // ---- one after the other
 
@@ -179,7 +65,7 @@ fn is_stopped_well(alloc: Global, call: u64, byte: u8) -> Result<bool, Fail> {
     Ok(count == Some(if whole { 2 } else { 1 }))
 }
 
-/// The opening makes 12 calls, the commit the next five, of which the last one syncs the gate.
+/// The opening makes ten calls, the commit the next five, of which the last one syncs the gate.
 fn are_stopped_well(alloc: Global, byte: u8) -> Result<bool, Fail> {
     for call in 1..=18 {
         if !is_stopped_well(alloc, call, byte)? {
@@ -506,81 +392,5 @@ fn is_refused_without_epochs(alloc: Global) -> Result<bool, Fail> {
 #[test]
 fn epochs_are_used_up(rt: HostRuntime) -> Result<(), Fail> {
     assert!(rt; is_refused_without_epochs(rt.alloc())?);
-    Ok(())
-}
-
-// ---- small heaps
-
-/// How many commands were accepted, the first ones first, where the others found no memory; nothing of other outcomes.
-fn accepted<C: Allocator>(outcomes: &[Outcome<C>]) -> Option<u64> {
-    let mut accepted: u64 = 0;
-    for outcome in outcomes {
-        match outcome {
-            Outcome::Replied(Reply::Accepted { number, .. }) => {
-                accepted = accepted.saturating_add(1);
-                if *number != accepted {
-                    return None;
-                }
-            }
-            Outcome::NoMemory => return Some(accepted),
-            Outcome::Replied(_) => return None,
-        }
-    }
-    Some(accepted)
-}
-
-/// How many of the commands were accepted, with the outcomes under this allocator; nothing where the register does not
-/// stand after just these.
-fn accepted_in<A: Allocator + Copy, C: Allocator + Copy, D: Disk>(
-    alloc: C,
-    store: &mut Store<A, D>,
-    commands: &[&Command<Global>],
-) -> Option<u64>
-    requires { length commands.now ≤ 64 }
-{
-    let accepted = match store.commit(alloc, commands) {
-        Ok(outcomes) => accepted(&outcomes)?,
-        Err(StoreFault::NoMemory) => 0,
-        Err(_) => return None,
-    };
-    (count(store) == Some(accepted)).then_some(accepted)
-}
-
-/// Commits a rule and an attach at once with outcomes in a heap of this size; tells as `accepted_in` does, and nothing
-/// where the disk stands for other commands, or not all memory comes back.
-fn in_heap(alloc: Global, size: usize) -> Result<Option<u64>, Fail> {
-    let rule = made::rule().ok_or("a rule")?;
-    let attach = made::attach(alloc).ok_or("an attach")?;
-    let heap = LocalHeap::new(alloc, size)?;
-    let Ok(mut store) = Store::open(alloc, made::formatted(alloc)?) else {
-        return Ok(None);
-    };
-    let accepted = accepted_in(&heap, &mut store, &[&rule, &attach]);
-    let (count, _) = stands_for(alloc, store.into_disk());
-    Ok(if heap.used() == 0 && count == accepted {
-        accepted
-    } else {
-        None
-    })
-}
-
-/// Whether heaps of rising size let none, one and then both of the commands be answered.
-fn are_refused_in_turn(alloc: Global) -> Result<bool, Fail> {
-    let mut none = false;
-    let mut one = false;
-    for k in 0..100 {
-        match in_heap(alloc, 16 * k)? {
-            Some(0) => none = true,
-            Some(1) => one = true,
-            Some(2) => return Ok(none && one),
-            _ => return Ok(false),
-        }
-    }
-    Ok(false)
-}
-
-#[test]
-fn each_growth_for_outcomes_is_refused_in_turn(rt: HostRuntime) -> Result<(), Fail> {
-    assert!(rt; are_refused_in_turn(rt.alloc())?);
     Ok(())
 }

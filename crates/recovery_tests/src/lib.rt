@@ -6,6 +6,14 @@ mod commits;
 #[cfg(test)]
 mod formats;
 #[cfg(test)]
+mod greatest;
+#[cfg(test)]
 mod made;
 #[cfg(test)]
 mod opens;
+#[cfg(test)]
+mod resent;
+#[cfg(test)]
+mod runs;
+#[cfg(test)]
+mod small_heaps;

@@ -2,7 +2,7 @@
 
 use centre_core::{Body, Command};
 use checkpoint::Layout;
-use identity::{BitWriter, Itsi, Prefix};
+use identity::{BitWriter, Bits, Itsi, Prefix};
 use mm_pdus::Lifetime;
 use recovery::format;
 use registration::{Limits, LocationArea, Rule};
@@ -34,14 +34,59 @@ pub fn rule() -> Option<Command<Global>> {
     Command::new(1, 1, 0, Body::RuleSet { prefix, rule })
 }
 
-/// The ITSI attach of a radio, sequence 2 of station 1: 23 bytes.
-pub fn attach(alloc: Global) -> Option<Command<Global>> {
-    let itsi = Itsi::from_number(0x3a80_0e00_07d1)?;
+/// The radio 234-14-2001.
+pub fn sender() -> Option<Itsi> {
+    Itsi::from_number(0x3a80_0e00_07d1)
+}
+
+/// The radio 234-14-2002.
+pub fn receiver() -> Option<Itsi> {
+    Itsi::from_number(0x3a80_0e00_07d2)
+}
+
+/// The ITSI attach of a radio, with this sequence of station 1: 23 bytes.
+fn attach_of(alloc: Global, sequence: u32, itsi: Itsi) -> Option<Command<Global>> {
     let area = LocationArea::new(7)?;
     let mut writer = BitWriter::new(alloc);
     writer.put(0x98, 10).ok()?;
     let pdu = writer.finish();
-    Command::new(1, 2, 10, Body::Mm { itsi, area, pdu })
+    Command::new(1, sequence, 10, Body::Mm { itsi, area, pdu })
+}
+
+/// The ITSI attach of 234-14-2001, sequence 2 of station 1: 23 bytes.
+pub fn attach(alloc: Global) -> Option<Command<Global>> {
+    attach_of(alloc, 2, sender()?)
+}
+
+/// The ITSI attach of 234-14-2002, sequence 3 of station 1: 23 bytes.
+pub fn second_attach(alloc: Global) -> Option<Command<Global>> {
+    attach_of(alloc, 3, receiver()?)
+}
+
+/// An SDS-TRANSFER of text messaging that asks for no report, with this reference: its user data are so many times 48
+/// bits, and seven more, all 1. With 42 times these are 2,047 bits.
+fn transfer(alloc: Global, reference: u8, times: u32) -> Option<Bits<Global>> {
+    let mut writer = BitWriter::new(alloc);
+    writer.put(0x82, 8).ok()?;
+    writer.put(0, 8).ok()?;
+    writer.put(u64::from(reference), 8).ok()?;
+    for _ in 0..times {
+        writer.put(0xffff_ffff_ffff, 48).ok()?;
+    }
+    writer.put(0x7f, 7).ok()?;
+    Some(writer.finish())
+}
+
+/// That message from 234-14-2001 to 234-14-2002, with this sequence of station 1.
+pub fn message(alloc: Global, sequence: u32, reference: u8, times: u32) -> Option<Command<Global>> {
+    let pdu = transfer(alloc, reference, times)?;
+    let (source, destination) = (sender()?, receiver()?);
+    let body = Body::Sds {
+        source,
+        destination,
+        pdu,
+    };
+    Command::new(1, sequence, 20, body)
 }
 
 /// An expiry of station 2 with this sequence: 11 bytes.

@@ -1,2 +1,3 @@
+pub mod Refusals
 mod TypeLaws
 mod Whole

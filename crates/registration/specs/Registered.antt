@@ -84,6 +84,14 @@ first_of_three (Some fault) second third = Some fault
 first_of_three None (Some fault) third = Some fault
 first_of_three None None third = third
 
+-- the first two of them, which are the same whether the radio is known or new
+abbrev pub first_of_two : Option RegFault → Option RegFault → Option RegFault
+first_of_two (Some fault) second = Some fault
+first_of_two None second = second
+
+abbrev pub service_refusal : Registered → ℕ → ℕ → LocationUpdateType → Option RegFault
+service_refusal s itsi area update = first_of_two (type_refusal update) (area_refusal (rule_of s itsi) area)
+
 abbrev pub locate_refusal : Registered → ℕ → ℕ → LocationUpdateType → Option RegFault
 locate_refusal s itsi area update = first_of_three (type_refusal update) (area_refusal (rule_of s itsi) area) (room_refusal s itsi)
 

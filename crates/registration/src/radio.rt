@@ -1,6 +1,6 @@
 //! What is known of a radio.
 
-ghost use Rattle.std.specs.Prelude.{◌≡◌, IfOk};
+ghost use Rattle.std.specs.Prelude.{◌≡◌, IfOk, true};
 
 use crate::LocationArea;
 use prefix_tree::TryCopy;
@@ -15,6 +15,19 @@ pub struct Radio {
     pub area: LocationArea,
     /// Whether it has not left since.
     pub present: bool,
+}
+
+impl Radio {
+    // Present there.
+    pub(crate) fn at(station: u16, area: LocationArea) -> Radio
+        ensures { result ≡ record { station = station; area = area; present = true } }
+    {
+        Radio {
+            station,
+            area,
+            present: true,
+        }
+    }
 }
 
 impl TryCopy for Radio {

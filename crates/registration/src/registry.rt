@@ -1,13 +1,13 @@
 //! The register: rules, radios, and the calls that change them.
 
-ghost use Rattle.std.specs.Prelude.{◌≡◌, length, None, Some, OnOk, IfOk, IfErr, IsOk, IsSome, unwrap_or};
+ghost use Rattle.std.specs.Prelude.{◌≡◌, ◌↔◌, length, nat_lt, None, Some, OnOk, OnErr, OnSome, IfOk, IfErr, IfNone, IsOk, IsSome, unwrap_or};
 ghost use Rattle.std.specs.List.{All};
 ghost use Rattle.std.specs.Option.{option_map};
 ghost use Rattle.std.specs.FinMap as map;
 ghost use Rattle.identity.specs.Path.{id_path};
 ghost use Rattle.prefix_tree.specs.Next.{next_entry};
 ghost use Rattle.registration.specs.Listed.{under_bits, under_its_bits};
-ghost use Rattle.registration.specs.Registered.{has_rule, longest_rule, rule_of, radio_of, type_refusal, area_refusal, room_refusal, locate_refusal, located, with_radio, detach_refusal, detached, is_present, has_radio, without_radio, set_refusal, with_rule, without_rule, empty_registered};
+ghost use Rattle.registration.specs.Registered.{has_rule, longest_rule, rule_of, radio_of, type_refusal, area_refusal, service_refusal, room_refusal, locate_refusal, located, with_radio, detach_refusal, detached, is_present, has_radio, without_radio, set_refusal, with_rule, without_rule, empty_registered};
 ghost use Rattle.registration.specs.declared.fault.RegFault.TheVariants.{NoMemory};
 
 use crate::{Limits, LocationArea, Radio, RegFault, Rule};
@@ -211,13 +211,25 @@ impl<A: Allocator + Clone> Registry<A> {
     ) -> Option<RegFault>
         ensures { result ≡ locate_refusal self.now itsi area update }
     {
-        if let Some(fault) = type_refusal(update) {
-            return Some(fault);
-        }
-        if let Some(fault) = area_refusal(self.rule_of(itsi.number()), area) {
+        if let Some(fault) = self.service_refusal(itsi, area, update) {
             return Some(fault);
         }
         self.room_refusal(itsi)
+    }
+
+    // Why no radio may be located so, be it known or new.
+    fn service_refusal(
+        &self,
+        itsi: Itsi,
+        area: LocationArea,
+        update: LocationUpdateType,
+    ) -> Option<RegFault>
+        ensures { result ≡ service_refusal self.now itsi area update }
+    {
+        if let Some(fault) = type_refusal(update) {
+            return Some(fault);
+        }
+        area_refusal(self.rule_of(itsi.number()), area)
     }
 
     /// The radio is present at this station and location area from now on (clause 16.4, location
@@ -234,15 +246,21 @@ impl<A: Allocator + Clone> Registry<A> {
         ensures err { IfErr result (λ e. (e ≡ unwrap_or (locate_refusal self.old itsi area update) NoMemory) × (self.new ≡ self.old)) }
         ensures moves { IsSome (radio_of self.old itsi) → locate_refusal self.old itsi area update ≡ None → IsOk result }
     {
-        if let Some(fault) = self.locate_refusal(itsi, area, update) {
+        if let Some(fault) = self.service_refusal(itsi, area, update) {
             return Err(fault);
         }
-        let present = Radio {
-            station,
-            area,
-            present: true,
-        };
-        self.put(itsi, present)
+        self.restore(itsi, Radio::at(station, area))
+    }
+
+    /// As `locate`, where `locate_refusal` has told nothing: it fails only where a new radio has no memory, and
+    /// then nothing changes.
+    pub fn place(&mut self, itsi: Itsi, station: u16, area: LocationArea) -> Result<(), AllocError>
+        requires room { room_refusal self.old itsi ≡ None }
+        ensures ok { OnOk result (self.new ≡ located self.old itsi station area) }
+        ensures err { OnErr result (self.new ≡ self.old) }
+        ensures moves { IsSome (radio_of self.old itsi) → IsOk result }
+    {
+        self.put(itsi, Radio::at(station, area))
     }
 
     /// The radio is where it was when this was kept, present or not; no rule is asked. `Congestion` where
@@ -252,10 +270,10 @@ impl<A: Allocator + Clone> Registry<A> {
         ensures err { IfErr result (λ e. (e ≡ unwrap_or (room_refusal self.old itsi) NoMemory) × (self.new ≡ self.old)) }
         ensures moves { IsSome (radio_of self.old itsi) → IsOk result }
     {
-        if let Some(fault) = self.room_refusal(itsi) {
-            return Err(fault);
+        if !self.has_room() {
+            return self.renew(itsi, radio).ok_or(RegFault::Congestion);
         }
-        self.put(itsi, radio)
+        self.put(itsi, radio).map_err(|_| RegFault::NoMemory)
     }
 
     /// The radio is as if it had never come; whether it had. It takes no memory.
@@ -273,10 +291,10 @@ impl<A: Allocator + Clone> Registry<A> {
     }
 
     // There is room for it.
-    fn put(&mut self, itsi: Itsi, radio: Radio) -> Result<(), RegFault>
+    fn put(&mut self, itsi: Itsi, radio: Radio) -> Result<(), AllocError>
         requires room { room_refusal self.old itsi ≡ None }
         ensures ok { OnOk result (self.new ≡ with_radio self.old itsi radio) }
-        ensures err { IfErr result (λ e. (e ≡ NoMemory) × (self.new ≡ self.old)) }
+        ensures err { OnErr result (self.new ≡ self.old) }
         ensures moves { IsSome (radio_of self.old itsi) → IsOk result }
     {
         match self.radios.insert(itsi.path(), radio) {
@@ -285,7 +303,19 @@ impl<A: Allocator + Clone> Registry<A> {
                 self.radio_count += 1;
                 Ok(())
             }
-            Err(_) => Err(RegFault::NoMemory),
+            Err(_) => Err(AllocError),
+        }
+    }
+
+    // A radio that came before is as this one; `None` where it never came. It takes no memory.
+    fn renew(&mut self, itsi: Itsi, radio: Radio) -> Option<()>
+        ensures known { IsSome result ↔ IsSome (radio_of self.old itsi) }
+        ensures there { OnSome result (self.new ≡ with_radio self.old itsi radio) }
+        ensures absent { IfNone result (self.new ≡ self.old) }
+    {
+        match self.radios.replace(&itsi.path(), radio) {
+            Some(_) => Some(()),
+            None => None,
         }
     }
 
@@ -312,14 +342,18 @@ impl<A: Allocator + Clone> Registry<A> {
     fn room_refusal(&self, itsi: Itsi) -> Option<RegFault>
         ensures { result ≡ room_refusal self.now itsi }
     {
-        if self.where_is(itsi).is_some() {
-            return None;
-        }
-        if self.radio_count < self.limits.radios {
+        if self.has_room() || self.where_is(itsi).is_some() {
             None
         } else {
             Some(RegFault::Congestion)
         }
+    }
+
+    // Whether one more radio may be known.
+    fn has_room(&self) -> bool
+        ensures { result ≡ nat_lt (map.len self.now.radios) self.now.limits.radios }
+    {
+        self.radio_count < self.limits.radios
     }
 }
 

@@ -81,14 +81,13 @@ impl<A: Allocator + Clone> Tables<A> {
         ensures err { OnErr result (self.new ≡ self.old) }
         ensures memory { OnErr result (IsTrue (is_none (post_refusal self.old.registered self.old.mail (message_of self.old command.now.moment envelope.now pdu.now)))) }
     {
-        if let Some(fault) = self.mail.post_refusal(&self.registry, envelope) {
-            return Ok(Reply::Refused(Refusal::Mail(fault)));
-        }
+        let opening = match self.mail.judge_post(&self.registry, envelope) {
+            Ok(opening) => opening,
+            Err(fault) => return Ok(Reply::Refused(Refusal::Mail(fault))),
+        };
         let kept = bits_copy(self.alloc.clone()?, pdu)?;
         let stamp = self.stamp(command);
-        let Ok(()) = self.mail.post(&self.registry, envelope, stamp, kept) else {
-            return Err(AllocError);
-        };
+        self.mail.post_judged(&opening, stamp, kept)?;
         // The item has the next number already, which is counted now.
         keep(&mut self.served, &mut self.count, command, None);
         Ok(Reply::Accepted {
@@ -110,19 +109,16 @@ impl<A: Allocator + Clone> Tables<A> {
         ensures err { OnErr result (self.new ≡ self.old) }
         ensures memory { OnErr result (IsTrue (is_none (report_refusal self.old.registered self.old.mail envelope.now status (report_of self.old command.now.moment envelope.now pdu.now)))) }
     {
-        if let Some(fault) = self.mail.report_refusal(&self.registry, envelope, status) {
-            return Ok(Reply::Refused(Refusal::Mail(fault)));
-        }
+        let judged = match self.mail.judge_report(&self.registry, envelope, status) {
+            Ok(judged) => judged,
+            Err(fault) => return Ok(Reply::Refused(Refusal::Mail(fault))),
+        };
         let Ok(kept) = sds_tl::canonical(self.alloc.clone()?, pdu) else {
             return Err(AllocError);
         };
         let stamp = self.stamp(command);
-        let Ok(()) = self
-            .mail
-            .report(&self.registry, envelope, status, stamp, kept)
-        else {
-            return Err(AllocError);
-        };
+        self.mail
+            .report_judged(&judged, envelope, status, stamp, kept)?;
         // The item has the next number already, which is counted now.
         keep(&mut self.served, &mut self.count, command, None);
         Ok(Reply::Accepted {

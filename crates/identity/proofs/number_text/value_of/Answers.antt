@@ -1,21 +1,17 @@
 use Rattle.std.proofs.Common.{arith, sym, ◌+◌}
-use Rattle.identity.proofs.NumberText.{number_digit, value_more, value_large, value_small}
+use Rattle.identity.proofs.NumberText.{all_of_number, all_take, number_digit, value_more, value_large}
 use Rattle.identity.proofs.number_text.value_of.Goals as goal
 
-pub overflow_sub-digit : goal.overflow_sub-digit
-overflow_sub-digit c = (number_digit c.args.digits.now c.loop-digit.digit-index c.requires.form (omega (arith, c.loop-digit-test.true))).0
+pub short_value-requires-clause-digits : goal.short_value-requires-clause-digits
+short_value-requires-clause-digits c = all_take c.args.digits.now c.min-front.result (all_of_number c.args.digits.now c.requires.form)
 
 pub returns-then-value-most : goal.returns-then-value-most
-returns-then-value-most c =
-    let text = c.args.digits.now in let i = c.loop-digit.digit-index in
-    let more = value_more text i c.requires.form (omega (arith, c.loop-digit-test.true)) in
-    sym (value_large text (i + 1) c.args.most (omega (arith, more, c.loop-digit.invariant.0, c.from.ensures, c.if-value-most.true)))
+returns-then-value-most c = sym (value_large c.args.digits.now c.loop-at.at c.args.most (omega (arith, c.loop-at.invariant.0, c.if-value-most.true)))
 
-pub loop-digit-preserved : goal.loop-digit-preserved
-loop-digit-preserved c =
-    let text = c.args.digits.now in let i = c.loop-digit.digit-index in
-    let more = value_more text i c.requires.form (omega (arith, c.loop-digit-test.true)) in
-    (omega (arith, more, c.loop-digit.invariant.0, c.from.ensures), omega (arith, c.if-value-most.false))
+pub overflow_sub-digits : goal.overflow_sub-digits
+overflow_sub-digits c = (number_digit c.args.digits.now c.loop-at.at c.requires.form (omega (arith, c.loop-at-test.true))).0
 
-pub returns : goal.returns
-returns c = value_small c.args.digits.now c.loop-digit.digit-index c.args.most c.loop-digit.value (omega arith) c.loop-digit.invariant.0 c.loop-digit.invariant.1
+pub loop-at-preserved : goal.loop-at-preserved
+loop-at-preserved c =
+    let more = value_more c.args.digits.now c.loop-at.at c.requires.form (omega (arith, c.loop-at-test.true)) in
+    (omega (arith, more, c.loop-at.invariant.0, c.from.ensures), omega (arith, c.loop-at-test.true))

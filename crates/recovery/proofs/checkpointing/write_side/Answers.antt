@@ -1,6 +1,10 @@
 use Rattle.std.proofs.Common.{◌≡◌, ◌+◌, ◌<◌, Result, Ok, Err, OnOk, arith}
 use Rattle.checkpoint.specs.Standing.{Base, Stands}
+use Rattle.checkpoint.specs.Calls.{image_calls, switch_calls}
+use Rattle.checkpoint.specs.Layout.{other_of}
 use Rattle.checkpoint.proofs.Spared.{left_each}
+use Rattle.sector_disk.proofs.Made.{made_of_more}
+use Rattle.recovery.proofs.Called.{made_both, made_in_second}
 use Rattle.recovery.proofs.Keeping.{not_switched, then_switched}
 use Rattle.recovery.proofs.checkpointing.write_side.Goals as goal
 
@@ -32,3 +36,18 @@ returns-clause-switched g c = on_ok c.switch.result c.switch.ensures.switched (�
     let still = c.write_image.ensures.honest honest in
     let newer : base.0 < next.0 = omega (arith, same) in
     then base next held newer still (left_each old mid (Stands c.args.layout.now c.args.current base held) written (g.met.D.Disk.sound c.write_image.new.disk still)) (c.in_ok-write_image.ensures.ready honest))
+
+pub returns-in_err-write_image-clause-some_calls : goal.returns-in_err-write_image-clause-some_calls
+returns-in_err-write_image-clause-some_calls g c honest =
+    let old = g.D.Disk.view c.args.disk.now in
+    made_of_more old (g.D.Disk.view c.write_image.new.disk) (image_calls c.args.layout.now (other_of c.args.current) old.reads (c.args.epoch + 1, c.args.register.now)) (switch_calls (other_of c.args.current)) (c.write_image.ensures.some_calls honest)
+
+pub returns-clause-calls : goal.returns-clause-calls
+returns-clause-calls g c = on_ok c.switch.result c.switch.ensures.calls (λ made honest.
+    let old = g.D.Disk.view c.args.disk.now in
+    made_both old (g.D.Disk.view c.write_image.new.disk) (g.D.Disk.view c.switch.new.disk) (image_calls c.args.layout.now (other_of c.args.current) old.reads (c.args.epoch + 1, c.args.register.now)) (switch_calls (other_of c.args.current)) (c.in_ok-write_image.ensures.calls honest) made)
+
+pub returns-clause-some_calls : goal.returns-clause-some_calls
+returns-clause-some_calls g c honest =
+    let old = g.D.Disk.view c.args.disk.now in
+    made_in_second old (g.D.Disk.view c.write_image.new.disk) (g.D.Disk.view c.switch.new.disk) (image_calls c.args.layout.now (other_of c.args.current) old.reads (c.args.epoch + 1, c.args.register.now)) (switch_calls (other_of c.args.current)) (c.in_ok-write_image.ensures.calls honest) c.switch.ensures.some_calls

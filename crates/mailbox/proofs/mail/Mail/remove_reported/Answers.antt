@@ -1,20 +1,14 @@
 use Rattle.std.proofs.Common.{ap, sym, ◌∙◌}
-use Rattle.std.specs.List.{list_any}
 use Rattle.mailbox.specs.declared.key.Kind.TheVariants.{Message}
-use Rattle.mailbox.specs.Tests.{answered, is_at, is_reported, ends_request, request_of}
-use Rattle.mailbox.specs.Mail.{without, waiting}
-use Rattle.mailbox.proofs.Effects.{removed_some, removed_none}
+use Rattle.mailbox.specs.Tests.{answered, is_at, ends_request, request_of}
+use Rattle.mailbox.specs.Mail.{without}
+use Rattle.mailbox.proofs.Effects.{removed_if, kept_if}
 use Rattle.mailbox.proofs.mail.Mail.remove_reported.Goals as goal
 
-pub returns-then-any_reported : goal.returns-then-any_reported
-returns-then-any_reported g c =
-    let is = c.any_reported.ensures ∙ ap (list_any (is_reported c.args.envelope.now c.args.status)) c.items_of.ensures.items
-    ∙ ap (λ k. list_any (is_reported c.args.envelope.now c.args.status) (waiting c.args.self.now k.destination)) c.answered-key.ensures in
-    c.remove_at.ensures ∙ ap (λ k. without (is_at k) c.args.self.now) c.answered-key.ensures
-    ∙ removed_some (answered c.args.envelope.now Message) (λ w. ends_request c.args.status (request_of w.pdu)) c.args.self.now c.items_of.ensures.apart (sym is ∙ c.if-any_reported.true)
+pub returns-then-ends : goal.returns-then-ends
+returns-then-ends g c =
+    c.remove_at.ensures ∙ ap (λ k. without (is_at k) c.args.self.now) c.answered.ensures
+    ∙ removed_if (answered c.args.envelope.now Message) (λ w. ends_request c.args.status (request_of w.pdu)) c.args.self.now c.keep_order.ensures.apart (sym c.requires ∙ c.if-ends.true)
 
-pub returns-else-any_reported : goal.returns-else-any_reported
-returns-else-any_reported g c =
-    let is = c.any_reported.ensures ∙ ap (list_any (is_reported c.args.envelope.now c.args.status)) c.items_of.ensures.items
-    ∙ ap (λ k. list_any (is_reported c.args.envelope.now c.args.status) (waiting c.args.self.now k.destination)) c.answered-key.ensures in
-    removed_none (answered c.args.envelope.now Message) (λ w. ends_request c.args.status (request_of w.pdu)) c.args.self.now (sym is ∙ c.if-any_reported.false)
+pub returns-else-ends : goal.returns-else-ends
+returns-else-ends g c = kept_if (answered c.args.envelope.now Message) (λ w. ends_request c.args.status (request_of w.pdu)) c.args.self.now (sym c.requires ∙ c.if-ends.false)

@@ -1,16 +1,13 @@
-use Rattle.std.proofs.Common.{refl, sym, ap, ◌∙◌}
-use Rattle.mailbox.specs.Tests.{is_at, is_reported}
-use Rattle.mailbox.specs.Mail.{without, with_item, waiting_for}
-use Rattle.mailbox.proofs.Effects.{reported_then}
+use Rattle.std.proofs.Common.{sym, ap, ◌∙◌}
+use Rattle.mailbox.specs.declared.opening.ReportOpening.{ReportOpening}
+use Rattle.mailbox.specs.Judged.{report_opening}
+use Rattle.mailbox.specs.Refusals.{report_refusal}
 use Rattle.mailbox.proofs.mail.Mail.report.Goals as goal
 
-pub returns-clause-ok : goal.returns-clause-ok
-returns-clause-ok g c =
-    let item = c.item_for-item.ensures ∙ ap (λ k. waiting_for c.args.registry.now k c.args.stamp c.args.pdu) c.key.ensures in (
-      sym (c.report_refusal.ensures c.args.stamp c.args.pdu) ∙ c.in_default.is,
-      c.remove_reported.ensures ∙ ap (without (is_reported c.args.envelope.now c.args.status)) (c.in-Ok.ensures.ok ∙ ap (λ w. with_item (without (is_at w.key) c.args.self.now) w) item)
-          ∙ reported_then c.args.self.now c.args.envelope.now c.args.status _ refl,
-    )
+pub report_judged-requires-clause-found : goal.report_judged-requires-clause-found
+report_judged-requires-clause-found g c =
+    c.in_ok-judged.ensures.found ∙ sym (ap (λ keep. report_opening c.args.self.now keep c.args.envelope.now c.args.status) (ap (λ (o : ReportOpening). o.opening.keep) c.in_ok-judged.ensures.found))
 
-pub returns-in-Some-clause-memory : goal.returns-in-Some-clause-memory
-returns-in-Some-clause-memory g c = λ none. let told = c.report_refusal.ensures c.args.stamp c.args.pdu in cc (c.in-Some.is, told, none)
+pub report_judged-requires-clause-refusal : goal.report_judged-requires-clause-refusal
+report_judged-requires-clause-refusal g c =
+    (c.args.registry.now, ap (report_refusal c.args.registry.now c.args.self.now c.args.envelope.now c.args.status) (c.in_ok-judged.ensures.item c.args.stamp c.args.pdu) ∙ sym (c.in_ok-judged.ensures.refusal c.args.stamp c.args.pdu))

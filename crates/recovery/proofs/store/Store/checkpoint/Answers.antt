@@ -1,5 +1,6 @@
 use Rattle.std.proofs.Common.{◌≡◌, ◌+◌, refl, rules}
 use Rattle.checkpoint.specs.Layout.{half_at, other_of}
+use Rattle.sector_disk.proofs.Made.{made_none}
 use Rattle.recovery.proofs.Keeping.{in_checkpoint, kept_fresh, nothing_done}
 use Rattle.recovery.proofs.store.Store.checkpoint.Goals as goal
 
@@ -30,3 +31,6 @@ returns-in-Ok-clause-kept g c = λ honest kept.
     let next : c.restart.new.self.next ≡ half_at c.args.self.now.layout c.other-self.result = search rules in
     rw (next, side) (kept_fresh g.row.A.Denot c.args.self.now.layout (other_of c.args.self.now.side) (c.args.self.now.epoch + 1) c.args.self.now.register (g.D.Disk.view c.write_side.new.disk)
     (c.in-Ok.ensures.switched (c.args.self.now.epoch, kept.base) (kept.entries, c.args.self.now.journal.next) refl honest kept.each))
+
+pub returns-then-self-clause-some_calls : goal.returns-then-self-clause-some_calls
+returns-then-self-clause-some_calls g c = λ honest. made_none (g.D.Disk.view c.args.self.now.disk) _

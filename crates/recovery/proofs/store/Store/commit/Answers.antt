@@ -1,6 +1,11 @@
-use Rattle.std.proofs.Common.{sym, ◌≡◌, [], inr, length, Result, Ok, Err, OnErr, ◌∙◌}
+use Rattle.std.proofs.Common.{rules, sym, refl, ◌≡◌, [], inr, length, Result, Ok, Err, OnErr, ◌∙◌, arith}
 use Rattle.std.proofs.lemmas.List.{nil_from_length}
 use Rattle.recovery.proofs.Keeping.{batch_done, commit_history, commit_keeps, commit_leaves, fewer_fit, kept_stands, no_length, none_answered, nothing_done, only_before}
+use Rattle.sector_disk.proofs.Made.{made_none, made_of_more}
+use Rattle.gated_journal.specs.Record.{given}
+use Rattle.recovery.specs.Calls.{fits_in, gate_then, keep_calls, room_calls}
+use Rattle.recovery.proofs.Batches.{kept_behind, none_kept}
+use Rattle.recovery.proofs.Called.{made_both, made_in_second}
 use Rattle.recovery.specs.Outcomes.{asked}
 use Rattle.recovery.proofs.store.Store.commit.Goals as goal
 
@@ -27,7 +32,8 @@ returns-in_err-accepted-clause-any_moment g c = λ honest kept.
 pub returns-then-is_empty-clause-outcomes : goal.returns-then-is_empty-clause-outcomes
 returns-then-is_empty-clause-outcomes g c =
     let nothing : length c.args.commands.now ≡ 0 = no_length (length c.args.commands.now) (sym c.is_empty.ensures ∙ c.if-is_empty.true) in
-    none_answered c.args.self.now.register c.args.commands.now c.in_ok-outcomes.outcomes.items (nil_from_length c.args.commands.now nothing) c.in_ok-outcomes.ensures.items
+    let empty : c.new.result.items ≡ [] = search rules in
+    none_answered c.args.self.now.register c.args.commands.now c.new.result.items (nil_from_length c.args.commands.now nothing) empty
 
 pub returns-then-is_empty-clause-acknowledged : goal.returns-then-is_empty-clause-acknowledged
 returns-then-is_empty-clause-acknowledged g c = λ honest kept. kept_stands g.row.A.Denot c.args.self.now.layout c.args.self.now.side c.args.self.now.epoch c.args.self.now.journal.next c.args.self.now.register (g.D.Disk.view c.args.self.now.disk) kept
@@ -70,3 +76,66 @@ returns-clause-acknowledged g c = λ honest kept.
 
 pub returns-clause-sound : goal.returns-clause-sound
 returns-clause-sound g c = c.in_ok-keep.ensures.sound ∙ c.in_ok-make_room.ensures.sound c.if-self.false
+
+pub returns-then-self-clause-some_calls : goal.returns-then-self-clause-some_calls
+returns-then-self-clause-some_calls g c = λ honest. ([], none_kept g.row.A.Denot c.args.self.now.register c.args.self.now.register (asked c.args.commands.now) refl, made_none (g.D.Disk.view c.args.self.now.disk) _)
+
+pub returns-in_err-outcomes-clause-some_calls : goal.returns-in_err-outcomes-clause-some_calls
+returns-in_err-outcomes-clause-some_calls g c = λ honest. ([], none_kept g.row.A.Denot c.args.self.now.register c.args.self.now.register (asked c.args.commands.now) refl, made_none (g.D.Disk.view c.args.self.now.disk) _)
+
+pub returns-then-is_empty-clause-some_calls : goal.returns-then-is_empty-clause-some_calls
+returns-then-is_empty-clause-some_calls g c = λ honest. ([], none_kept g.row.A.Denot c.args.self.now.register c.args.self.now.register (asked c.args.commands.now) refl, made_none (g.D.Disk.view c.args.self.now.disk) _)
+
+pub returns-in_err-accepted-clause-some_calls : goal.returns-in_err-accepted-clause-some_calls
+returns-in_err-accepted-clause-some_calls g c = λ honest. ([], none_kept g.row.A.Denot c.args.self.now.register c.args.self.now.register (asked c.args.commands.now) refl, made_none (g.D.Disk.view c.args.self.now.disk) _)
+
+pub returns-then-is_empty-clause-calls : goal.returns-then-is_empty-clause-calls
+returns-then-is_empty-clause-calls g c = λ some honest.
+    let nothing : length c.args.commands.now ≡ 0 = no_length (length c.args.commands.now) (sym c.is_empty.ensures ∙ c.if-is_empty.true) in
+    absurd (omega (arith, some, nothing))
+
+pub returns-in_err-make_room-clause-some_calls : goal.returns-in_err-make_room-clause-some_calls
+returns-in_err-make_room-clause-some_calls g c = λ honest.
+    let self = c.args.self.now in
+    let fits = fits_in g.row.A.Denot self.journal c.args.commands.now in
+    let old = g.D.Disk.view self.disk in (
+      [],
+      none_kept g.row.A.Denot self.register c.make_room.new.self.register (asked c.args.commands.now) c.make_room.ensures.same.1,
+      made_of_more old (g.D.Disk.view c.make_room.new.self.disk) (room_calls fits self.layout self.side self.epoch self.register old.reads) [] (c.make_room.ensures.some_calls honest),
+    )
+
+pub returns-in_err-keep-clause-some_calls : goal.returns-in_err-keep-clause-some_calls
+returns-in_err-keep-clause-some_calls g c = λ honest.
+    let self = c.args.self.now in
+    let fits = fits_in g.row.A.Denot self.journal c.args.commands.now in
+    let old = g.D.Disk.view self.disk in
+    let mid = g.D.Disk.view c.make_room.new.self.disk in
+    let these = given g.row.A.Denot c.deref.result.now in (
+      these,
+      kept_behind g.row.A.Denot self.register c.make_room.new.self.register c.apply_all.new.register c.keep.new.self.register (asked c.args.commands.now) c.deref.result.now c.apply_all.new.accepted.items c.make_room.ensures.same.1 c.deref.ensures.value c.keep.ensures.same.3 c.apply_all.ensures.kept,
+      made_in_second old mid (g.D.Disk.view c.keep.new.self.disk) (room_calls fits self.layout self.side self.epoch self.register old.reads) (keep_calls (gate_then fits self.layout self.side self.journal.next) these) (c.in_ok-make_room.ensures.calls honest) (rw c.in_ok-make_room.ensures.gate at c.keep.ensures.some_calls),
+    )
+
+pub returns-clause-some_calls : goal.returns-clause-some_calls
+returns-clause-some_calls g c = λ honest.
+    let self = c.args.self.now in
+    let fits = fits_in g.row.A.Denot self.journal c.args.commands.now in
+    let old = g.D.Disk.view self.disk in
+    let mid = g.D.Disk.view c.make_room.new.self.disk in
+    let these = given g.row.A.Denot c.deref.result.now in (
+      these,
+      kept_behind g.row.A.Denot self.register c.make_room.new.self.register c.apply_all.new.register c.keep.new.self.register (asked c.args.commands.now) c.deref.result.now c.apply_all.new.accepted.items c.make_room.ensures.same.1 c.deref.ensures.value c.keep.ensures.same.3 c.apply_all.ensures.kept,
+      made_in_second old mid (g.D.Disk.view c.keep.new.self.disk) (room_calls fits self.layout self.side self.epoch self.register old.reads) (keep_calls (gate_then fits self.layout self.side self.journal.next) these) (c.in_ok-make_room.ensures.calls honest) (rw c.in_ok-make_room.ensures.gate at c.keep.ensures.some_calls),
+    )
+
+pub returns-clause-calls : goal.returns-clause-calls
+returns-clause-calls g c = λ some honest.
+    let self = c.args.self.now in
+    let fits = fits_in g.row.A.Denot self.journal c.args.commands.now in
+    let old = g.D.Disk.view self.disk in
+    let mid = g.D.Disk.view c.make_room.new.self.disk in
+    let these = given g.row.A.Denot c.deref.result.now in (
+      these,
+      kept_behind g.row.A.Denot self.register c.make_room.new.self.register c.apply_all.new.register c.keep.new.self.register (asked c.args.commands.now) c.deref.result.now c.apply_all.new.accepted.items c.make_room.ensures.same.1 c.deref.ensures.value c.keep.ensures.same.3 c.apply_all.ensures.kept,
+      made_both old mid (g.D.Disk.view c.keep.new.self.disk) (room_calls fits self.layout self.side self.epoch self.register old.reads) (keep_calls (gate_then fits self.layout self.side self.journal.next) these) (c.in_ok-make_room.ensures.calls honest) (rw c.in_ok-make_room.ensures.gate at c.in_ok-keep.ensures.calls),
+    )

@@ -1,12 +1,15 @@
-use Rattle.std.proofs.Common.{rules, ◌≡◌, ◌+◌, [], length, ap, subst, ◌∙◌, Result, Ok, OnOk, arith}
-use Rattle.std.proofs.lemmas.List.{nil_from_length}
+use Rattle.std.proofs.Common.{rules, ◌≡◌, ◌≤◌, ◌+◌, [], length, ap, subst, sym, ◌∙◌, Result, Ok, OnOk, arith}
+use Rattle.std.proofs.lemmas.List.{append-nil, nil_from_length}
 use Rattle.centre_core.specs.History.{after}
 use Rattle.gated_journal.specs.declared.place.Place.{Place}
 use Rattle.gated_journal.specs.Record.{data_size, given, record_text}
 use Rattle.gated_journal.proofs.Given.{given_size}
+use Rattle.sector_disk.proofs.Made.{made_none}
+use Rattle.recovery.specs.Calls.{keep_calls}
 use Rattle.recovery.specs.Kept.{IsKept}
 use Rattle.recovery.specs.Outcomes.{asked}
-use Rattle.recovery.proofs.Keeping.{append_keeps, append_leaves, nothing_done, only_before, settled}
+use Rattle.recovery.proofs.Called.{kept_by_append}
+use Rattle.recovery.proofs.Keeping.{append_keeps, append_leaves, nothing_done, only_before, settled, some_length}
 use Rattle.recovery.proofs.store.Store.keep.Goals as goal
 
 ok_part : {T E P : Type 0} {r : Result T E} {t : T} → r ≡ Ok t → OnOk r P → P
@@ -54,3 +57,28 @@ returns-clause-kept g c = λ state history honest kept.
     let first : c.append.new.self.first ≡ c.args.self.now.journal.first = ap (λ (p : Place). p.first) is in
     let end : c.append.new.self.end ≡ c.args.self.now.journal.end = ap (λ (p : Place). p.end) is in
     append_keeps g.row.A.Denot c.args.self.now.layout c.args.self.now.side c.args.self.now.epoch c.args.self.now.journal c.args.self.now.first c.args.self.now.end c.args.self.now.next state (g.D.Disk.view c.args.self.now.disk) kept c.args.accepted.now history (g.D.Disk.view c.append.new.disk) c.append.new.self first end leaves sound (ok_part done c.append.ensures.acknowledged kept.entries honest here)
+
+pub returns-then-is_empty-clause-calls : goal.returns-then-is_empty-clause-calls
+returns-then-is_empty-clause-calls g c =
+    let nothing : length c.args.accepted.now ≡ 0 = search rules in
+    let none : c.args.accepted.now ≡ [] = nil_from_length c.args.accepted.now nothing in
+    rw none (sym (append-nil (g.D.Disk.view c.args.self.now.disk).calls))
+
+pub returns-then-is_empty-clause-some_calls : goal.returns-then-is_empty-clause-some_calls
+returns-then-is_empty-clause-some_calls g c = made_none (g.D.Disk.view c.args.self.now.disk) (keep_calls c.args.self.now.journal.next (given g.row.A.Denot c.args.accepted.now))
+
+pub returns-then-is_err-clause-some_calls : goal.returns-then-is_err-clause-some_calls
+returns-then-is_err-clause-some_calls g c =
+    let some : 1 ≤ length c.args.accepted.now = some_length (length c.args.accepted.now) (sym c.is_empty.ensures ∙ c.if-is_empty.false) in
+    rw (kept_by_append g.row.A.Denot c.args.self.now.journal.next c.args.accepted.now some) c.append.ensures.some_calls
+
+pub returns-clause-calls : goal.returns-clause-calls
+returns-clause-calls g c =
+    let done : c.append.result ≡ Ok tt = search rules in
+    let some : 1 ≤ length c.args.accepted.now = some_length (length c.args.accepted.now) (sym c.is_empty.ensures ∙ c.if-is_empty.false) in
+    rw (kept_by_append g.row.A.Denot c.args.self.now.journal.next c.args.accepted.now some) (ok_part done c.append.ensures.calls)
+
+pub returns-clause-some_calls : goal.returns-clause-some_calls
+returns-clause-some_calls g c =
+    let some : 1 ≤ length c.args.accepted.now = some_length (length c.args.accepted.now) (sym c.is_empty.ensures ∙ c.if-is_empty.false) in
+    rw (kept_by_append g.row.A.Denot c.args.self.now.journal.next c.args.accepted.now some) c.append.ensures.some_calls

@@ -1,5 +1,38 @@
+use Rattle.std.proofs.Common.{◌≡◌, true, false, refl, sym, ◌∙◌}
+use Rattle.std.proofs.lemmas.List.{append-nil}
+use Rattle.sector_disk.proofs.Made.{made_none}
+use Rattle.recovery.specs.Calls.{fits_in}
+use Rattle.recovery.proofs.Called.{gate_behind}
 use Rattle.recovery.proofs.Keeping.{nothing_done}
 use Rattle.recovery.proofs.store.Store.make_room.Goals as goal
 
 pub returns-then-has_room-clause-any_moment : goal.returns-then-has_room-clause-any_moment
 returns-then-has_room-clause-any_moment g c = λ honest kept. nothing_done g.row.A.Denot c.args.self.now.layout c.args.self.now.side c.args.self.now.epoch c.args.self.now.journal.next c.args.self.now.register (g.D.Disk.view c.args.self.now.disk) kept (g.met.D.Disk.sound c.args.self.now.disk honest)
+
+pub returns-then-has_room-clause-calls : goal.returns-then-has_room-clause-calls
+returns-then-has_room-clause-calls g c = λ honest.
+    let fits : fits_in g.row.A.Denot c.args.self.now.journal c.args.commands.now ≡ true = sym c.has_room.ensures.exact ∙ c.if-has_room.true in
+    rw fits (sym (append-nil (g.D.Disk.view c.args.self.now.disk).calls))
+
+pub returns-then-has_room-clause-some_calls : goal.returns-then-has_room-clause-some_calls
+returns-then-has_room-clause-some_calls g c = λ honest. made_none (g.D.Disk.view c.args.self.now.disk) _
+
+pub returns-then-has_room-clause-gate : goal.returns-then-has_room-clause-gate
+returns-then-has_room-clause-gate g c =
+    let fits : fits_in g.row.A.Denot c.args.self.now.journal c.args.commands.now ≡ true = sym c.has_room.ensures.exact ∙ c.if-has_room.true in
+    rw fits refl
+
+pub returns-clause-calls : goal.returns-clause-calls
+returns-clause-calls g c =
+    let fits : fits_in g.row.A.Denot c.args.self.now.journal c.args.commands.now ≡ false = sym c.has_room.ensures.exact ∙ c.if-has_room.false in
+    rw fits c.checkpoint.ensures.calls
+
+pub returns-clause-some_calls : goal.returns-clause-some_calls
+returns-clause-some_calls g c =
+    let fits : fits_in g.row.A.Denot c.args.self.now.journal c.args.commands.now ≡ false = sym c.has_room.ensures.exact ∙ c.if-has_room.false in
+    rw fits c.checkpoint.ensures.some_calls
+
+pub returns-clause-gate : goal.returns-clause-gate
+returns-clause-gate g c =
+    let fits : fits_in g.row.A.Denot c.args.self.now.journal c.args.commands.now ≡ false = sym c.has_room.ensures.exact ∙ c.if-has_room.false in
+    rw fits (gate_behind c.checkpoint.result c.args.self.now.layout c.checkpoint.new.self.layout c.args.self.now.side c.checkpoint.new.self.side c.args.self.now.epoch c.checkpoint.new.self.epoch c.checkpoint.new.self.journal.next c.checkpoint.ensures.same.0 c.checkpoint.ensures.sides c.checkpoint.ensures.no_record)
