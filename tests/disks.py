@@ -6,7 +6,6 @@ faults of images put together by hand, and bugs planted in the calls have to be 
 case of a part that is wrong, and last 'N passed, M failed'.
 Usage: disks.py COMMAND..."""
 import collections
-import functools
 import random
 import subprocess
 import sys
@@ -14,15 +13,15 @@ import sys
 import batches
 import faulty_disks
 import reading
-from reading_disks import ROOTS, BadGeometry, Damaged, Unformatted, copied, is_open, layout_in, opens
+from images import fault_of, told_as
+from pending import SYNC, Disk, Write, choices
+from reading_disks import ROOTS, copied, is_open, layout_in, opens
 from reading_rows import SECTOR
 
 BATCHES, DRAWS = 200, 2
 CLOSED = b'\0' * SECTOR
-# A write of the disk; a sync is None. What a disk got in a commit, and how its lines were answered. All commits, after the
-# calls that made the disk ready and those that opened it.
-Write = collections.namedtuple('Write', 'at bytes')
-SYNC = None
+# What a disk got in a commit, and how its lines were answered. All commits, after the calls that made the disk ready and those
+# that opened it.
 Commit = collections.namedtuple('Commit', 'calls answers')
 Stream = collections.namedtuple('Stream', 'sectors commits')
 
@@ -60,96 +59,13 @@ def ran(command, script):
     return stream_in(ended.stdout.decode())
 
 
-# A disk, and what a stop may leave of it
-
-class Disk:
-    """Sectors as they last, and of each pending one what it held at the last sync and got since. It holds anything at first,
-    with a 1 in front, so that each root and gate that is not written is open."""
-
-    def __init__(self, sectors, dice):
-        self.lasting = [b'\1' + dice.randbytes(SECTOR - 1) for _ in range(sectors)]
-        self.pending, self.last = {}, None
-
-    def call(self, call):
-        if call is SYNC:
-            self.lasting = self.image({at: held[-1] for at, held in self.pending.items()})
-            self.pending = {}
-        else:
-            self.pending.setdefault(call.at, [self.lasting[call.at]]).append(call.bytes)
-            self.last = call.at
-
-    def image(self, chosen):
-        image = self.lasting[:]
-        for at, held in chosen.items():
-            image[at] = held
-        return image
-
-
-def torn(dice, held):
-    """What may stand in a pending sector: what it held, or got; the first bytes of the last write and old ones behind, or old
-    ones and then those of the write; or anything."""
-    kind, old, new = dice.randrange(6), held[0], held[-1]
-    cut = dice.randrange(SECTOR)
-    return (dice.choice(held), old, new, new[:cut] + old[cut:], old[:cut] + new[cut:], dice.randbytes(SECTOR))[kind]
-
-
-def beginning(dice, held, byte):
-    """A torn sector with this byte in front."""
-    return bytes([byte]) + torn(dice, held)[1:]
-
-
-def choices(disk, dice):
-    """What may stand in the pending sectors: nothing that was written; all; the last write alone; all but that; with each byte
-    that makes or spoils a gate in front of it; and others by chance."""
-    yield {}
-    if not disk.pending:
-        return
-    done, last = {at: held[-1] for at, held in disk.pending.items()}, disk.last
-    yield done
-    yield {last: done[last]}
-    yield {at: new for at, new in done.items() if at != last}
-    by_chance = lambda: {at: torn(dice, held) for at, held in disk.pending.items()}
-    for byte in (0, 1, 77):
-        yield {**by_chance(), last: beginning(dice, disk.pending[last], byte)}
-    for _ in range(DRAWS):
-        yield by_chance()
-
-
-# What images have to stand for
-
-def kept(register):
-    """All that a register keeps, as values that can be compared."""
-    mail = {key: item._replace(pdu=item.pdu.kept) for key, item in register.mail.items()}
-    return register.count, register.rules, register.radios, register.groups, mail, register.served
-
-
-@functools.lru_cache(maxsize=4096)
-def are_same(register, other):
-    return kept(register) == kept(other)
-
-
-def told_as(fault):
-    return f'{type(fault).__name__}({fault})'
-
-
-def fault_of(image, registers):
-    """None where an image stands for one of these registers, or what is wrong with it."""
-    try:
-        register = opens(image).register
-    except (Unformatted, BadGeometry, Damaged) as fault:
-        return told_as(fault)
-    if any(are_same(register, other) for other in registers):
-        return None
-    return f'a register of {register.count} commands, not that of {" or ".join(str(other.count) for other in registers)}'
-
-
 def stops(disk, dice, commit, before, after):
     """For each stop in a commit and at its end its fault, or None."""
     for call in commit.calls:
         disk.call(call)
-        for chosen in choices(disk, dice):
+        for chosen in choices(disk, dice, DRAWS):
             yield fault_of(disk.image(chosen), (before, after))
-    for chosen in choices(disk, dice):
+    for chosen in choices(disk, dice, DRAWS):
         yield fault_of(disk.image(chosen), (after,))
 
 
@@ -165,6 +81,11 @@ class Script:
             self.registers.append(register)
 
 
+def new_disk(sectors, dice):
+    """It holds anything, with a 1 in front, so that each root and gate that is not written is open."""
+    return Disk([b'\1' + dice.randbytes(SECTOR - 1) for _ in range(sectors)])
+
+
 def run(disk, calls):
     for call in calls:
         disk.call(call)
@@ -173,7 +94,7 @@ def run(disk, calls):
 def faults(script, stream):
     """For each stop since the disk was made ready the number of the batch, 0 while it was opened, and the fault or None."""
     dice = random.Random(batches.SEED)
-    disk = Disk(stream.sectors, dice)
+    disk = new_disk(stream.sectors, dice)
     ready, *commits = stream.commits
     run(disk, ready.calls)
     registers = script.registers[:1] + script.registers
@@ -297,7 +218,7 @@ def the_answers(script, stream):
 
 def the_checkpoints(script, stream):
     """There are some, and each makes the other side count, by the next epoch."""
-    disk = Disk(stream.sectors, random.Random(batches.SEED))
+    disk = new_disk(stream.sectors, random.Random(batches.SEED))
     for commit in stream.commits:
         run(disk, commit.calls)
     made = sum(bool(parts(commit.calls).image) for commit in stream.commits[1:])

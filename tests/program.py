@@ -17,60 +17,20 @@ import tempfile
 import termios
 import time
 
+import disk_files
 import reading
 import refusing
+from running import SECONDS, Differs, compare, ends, gives, started
 
 HERE = pathlib.Path(__file__).resolve().parent
 TOP = HERE.parent
 EXAMPLE = (TOP / 'examples' / 'commands.txt').read_bytes()
 ANSWERS = (TOP / 'examples' / 'answers.txt').read_bytes()
 EVERY_FORM = (HERE / 'growths.txt').read_bytes()
-SECONDS = 20
 ON_FILE, ON_MEMORY = b'fault: file -\n', b'fault: memory\n'
 # 100 messages of 2,040 bits for one radio: its mail is told in 55,000 bytes, by one answer
 MESSAGES = [b'%d 3 sds 234-14-1 234-14-2 2040:8200%02X' % (k + 3, k) + b'A5' * 252 for k in range(100)]
 LONG = b'\n'.join([b'1 0 rule 234-14-0/24 1 99 1 3600', b'2 1 mm 234-14-1 7 10:260', *MESSAGES, *[b'mail 234-14-2'] * 3, b''])
-
-
-class Differs(Exception):
-    """What the program did, and what it had to do."""
-
-
-def compare(what, got, wanted):
-    if got != wanted:
-        show = [value[:200] if isinstance(value, bytes) else value for value in (got, wanted)]
-        raise Differs(f'{what} {show[0]!r}, wanted {show[1]!r}')
-
-
-@contextlib.contextmanager
-def started(command, **how):
-    """The program, ended in any case."""
-    with subprocess.Popen(command, stderr=subprocess.PIPE, **how) as program:
-        try:
-            yield program
-        finally:
-            program.kill()
-
-
-def ends(program, status, err=b''):
-    """Waits for the end, and returns what is left of the output."""
-    out, said = program.communicate(timeout=SECONDS)
-    compare('standard error', said, err)
-    compare('status', program.returncode, status)
-    return out
-
-
-def gives(command, status, out=b'', err=b'', data=b'', **how):
-    """Runs the program on this input, or on the standard streams given, and compares all that it does."""
-    how = {'stdin': subprocess.PIPE, 'stdout': subprocess.PIPE, **how}
-    with started(command, **how) as program:
-        if how['stdin'] == subprocess.PIPE:
-            with contextlib.suppress(BrokenPipeError), program.stdin as text:
-                text.write(data)
-            program.stdin = None
-        got = ends(program, status, err)
-        if how['stdout'] == subprocess.PIPE:
-            compare('output', got, out)
 
 
 def without(stream):
@@ -120,9 +80,23 @@ def the_readme(_):
     """The sample of README.md stands in examples/ in this order: each line beside its answer, or the first line of it."""
     pairs = iter([(line, told) for line, (answer, _) in zip(EXAMPLE.decode().splitlines(), reading.answers(EXAMPLE))
                   for line, told in zip([line, *[''] * len(answer)], answer)])
-    for row in (TOP / 'README.md').read_text().split('```')[1].splitlines()[1:]:
+    for row in (TOP / 'README.md').read_text().split('```')[3].splitlines()[1:]:
         if tuple(re.split('   +', row)) not in pairs:
             raise Differs(f'the sample has {row!r}')
+
+
+def the_manual(command):
+    """The examples of docs/tetra-switch.1, one after another in a folder with the settings of examples/; a file that is shown there
+    is made."""
+    text = (TOP / 'docs' / 'tetra-switch.1').read_text().replace('\\-', '-')
+    examples = re.findall(r'^    \$ (.*)\n((?:    [^$].*\n)*)', text, re.M)
+    compare('examples', len(examples) > 4, True)
+    with disk_files.place(command) as folder:
+        folder.write('settings.toml', (TOP / 'examples' / 'settings.toml').read_bytes())
+        for words, shown in examples:
+            name, *rest = words.split(' ')
+            shown = re.sub('^    ', '', shown, flags=re.M).encode()
+            folder.write(rest[0], shown) if name == 'cat' else folder.gives(rest, 0, shown)
 
 
 # The statuses
@@ -138,7 +112,9 @@ def a_bad_line(command):
 
 def a_word(command):
     for words in ['count'], [''], ['--', 'count']:
-        gives([*command, *words], 2, data=b'count\n')
+        with started([*command, *words], stdin=subprocess.DEVNULL, stdout=subprocess.PIPE) as program:
+            compare('output', program.communicate(timeout=SECONDS)[0], b'')
+            compare('status', program.returncode, 2)
 
 
 def a_directory_to_read(command):
@@ -273,7 +249,7 @@ def output_that_takes_little(command):
 
 
 CASES = [
-    the_example, the_readme, no_line, a_bad_line, a_word, a_directory_to_read, closed_input, input_that_is_only_written,
+    the_example, the_readme, the_manual, no_line, a_bad_line, a_word, a_directory_to_read, closed_input, input_that_is_only_written,
     input_that_fails_behind_lines, closed_output, full_output, output_that_is_only_read, output_that_ends_between,
     nowhere_to_tell_of_it, no_memory, bytes_one_by_one, lines_one_by_one, lines_in_parts, output_that_takes_little,
 ]

@@ -394,8 +394,12 @@ def lines_of(data):
 
 def answers(data, station=1, limits=None):
     """For each line of these bytes the lines of its answer, and whether it is a bad line."""
-    register = Register(limits)
-    for place, line in enumerate(lines_of(data), 1):
+    return answered(Register(limits), station, lines_of(data))
+
+
+def answered(register, station, lines):
+    """The same for lines that a register is given."""
+    for place, line in enumerate(lines, 1):
         try:
             yield answer(register, station, line), False
         except BadLine as fault:

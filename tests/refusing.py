@@ -1,27 +1,21 @@
 """A program's allocations refused: refuse.c, compiled and preloaded. The program's heap has to be the C library's, as in
 every proved build, by either compiler; what `rt try` builds has a heap of its own."""
 import contextlib
-import os
 import pathlib
-import subprocess
-import sys
-import tempfile
+
+import preloading
 
 SOURCE = pathlib.Path(__file__).resolve().parent / 'refuse.c'
 
 
-@contextlib.contextmanager
 def library():
     """The compiled file, for as long as it is used."""
-    with tempfile.TemporaryDirectory() as folder:
-        made = f'{folder}/refuse.so'
-        subprocess.run([os.environ.get('CC', 'cc'), '-O2', '-shared', '-fPIC', '-o', made, SOURCE], check=True)
-        yield made
+    return preloading.library(SOURCE)
 
 
 def environment(made, number):
     """The environment in which a program's allocation of that number, counted from 1, gets no memory."""
-    return dict(os.environ, LD_PRELOAD=made, REFUSED=str(number))
+    return preloading.environment(made, REFUSED=str(number))
 
 
 def is_script(command):

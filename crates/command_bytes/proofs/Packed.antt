@@ -4,9 +4,11 @@ use Rattle.std.specs.Prelude.{not, ◌==◌}
 use Rattle.std.specs.List.{list_all, flat_map}
 use Rattle.std.specs.Int.{byte_at}
 use Rattle.std.proofs.lemmas.Bool.{cases_eq, eq-eqb, ne_eqb, le-ltb, lt-ltb}
-use Rattle.std.proofs.lemmas.List.{append-nil, take_all, take_at, drop-take, take-take, length-take}
+use Rattle.std.proofs.lemmas.List.{append-nil, take_all, take_at, drop-take, take-take, length-take, take-append-drop}
+use Rattle.std.proofs.lemmas.List.Concat.{flat_map-append}
 use Rattle.std.proofs.lemmas.Nat.{shr_below}
 use Rattle.byteorder.specs.Endian.{big_number}
+use Rattle.byteorder.specs.Numbers.{big_from-lt}
 use Rattle.identity.specs.Number.{num, number}
 use Rattle.identity.specs.NumberLaws.{length-num, num-append, num-mod, take-num, drop-num, zeros_if, zeros_then, num-number}
 use Rattle.identity.specs.Packed.{AreBytes, bits_of}
@@ -43,21 +45,31 @@ is_left w bytes bits are long le is =
     let back : num (8 * w) (number filled) ≡ filled = subst (λ (n : ℕ). num n (number filled) ≡ filled) len (num-number filled) in
     bytes_from_bits bytes (big w (number filled)) are (are-big w (number filled)) (is ∙ sym back ∙ sym (bits_of-big w (number filled)))
 
--- ---- a byte's first bits
+-- ---- the first bits of bytes, as a number
 
-pub front_byte : (byte left width v : ℕ) → byte < 2 ^ 8 → width ≡ min left 8 → v ≡ byte / 2 ^ (8 - width) → (num width v ≡ take left (num 8 byte)) × (v < 2 ^ width)
-front_byte byte left width v small is_width is_v = (rw is_v (sym (take-num width 8 byte (omega arith))) ∙ same, rw is_v (shr_below byte width (8 - width) (subst (λ (n : ℕ). byte < 2 ^ n) whole small)))
+pub front_bytes : (bytes : List ℕ) (left width value v : ℕ) → AreBytes bytes → value ≡ big_number (length bytes) bytes → width ≡ min left (8 * length bytes) → v ≡ value / 2 ^ (8 * length bytes - width)
+    → (num width v ≡ take left (bits_of bytes)) × (v < 2 ^ width)
+front_bytes bytes left width value v are is_value is_width is_v = (
+  rw is_v (sym (take-num width (8 * length bytes) value (omega (arith, is_width)))) ∙ ap (take width) bits ∙ same,
+  rw is_v (shr_below value width (8 * length bytes - width) (subst (λ (n : ℕ). value < 2 ^ n) whole small)),
+)
   where
-    whole : 8 ≡ width + (8 - width)
-    whole = omega arith
+    bits : num (8 * length bytes) value ≡ bits_of bytes
+    bits = ap (num (8 * length bytes)) is_value ∙ number_bits (length bytes) bytes are (omega arith) ∙ ap bits_of (take_all (length bytes) bytes (omega arith))
 
-    same : take width (num 8 byte) ≡ take left (num 8 byte)
+    small : value < 2 ^ (8 * length bytes)
+    small = rw is_value (rw (pow_256 (length bytes)) at (big_from-lt 0 (length bytes) bytes are))
+
+    whole : 8 * length bytes ≡ width + (8 * length bytes - width)
+    whole = omega (arith, is_width)
+
+    same : take width (bits_of bytes) ≡ take left (bits_of bytes)
     same = elim (cases_eq width left) [
-      | inl e ↦ ap (λ (n : ℕ). take n (num 8 byte)) e
-      | inr other ↦ take_all width (num 8 byte) (omega (arith, length-num 8 byte)) ∙ sym (take_all left (num 8 byte) (omega (arith, length-num 8 byte)))
+      | inl e ↦ ap (λ (n : ℕ). take n (bits_of bytes)) e
+      | inr other ↦ take_all width (bits_of bytes) (omega (arith, length-bits_of bytes, is_width, other)) ∙ sym (take_all left (bits_of bytes) (omega (arith, length-bits_of bytes, is_width, other)))
     ]
 
--- ---- the first bits of bytes, one byte after the other
+-- ---- the first bits of bytes, some bytes after others
 
 take_as : (n m : ℕ) (bits : List Bool) → n ≡ m → take n bits ≡ take m bits
 take_as n m bits e = ap (λ (k : ℕ). take k bits) e
@@ -71,17 +83,17 @@ take_behind (suc n) [] behind = take_as (suc n) (suc n - 0) behind (omega arith)
 take_behind zero (b ∷ ahead) behind = take_as 0 (0 - suc (length ahead)) behind (omega arith)
 take_behind (suc n) (b ∷ ahead) behind = ap (λ (l : List Bool). b ∷ l) (take_behind n ahead behind ∙ ap (λ (l : List Bool). take n ahead ++ l) (take_as (n - length ahead) (suc n - suc (length ahead)) behind (omega arith)))
 
--- what was put, and what is still to be put of the bytes from a place on
-pub next_bits : (out now : List Bool) (bytes : List ℕ) (i n m : ℕ) → i < length bytes → m ≡ n - 8 → now ≡ out ++ take n (num 8 (slice_index bytes i)) → now ++ take m (bits_of (drop (i + 1) bytes)) ≡ out ++ take n (bits_of (drop i bytes))
+-- what was put of the first bytes, and what is still to be put of those behind them
+pub next_bits : (out now : List Bool) (bytes front behind : List ℕ) (k n m : ℕ) → front ≡ take k bytes → behind ≡ drop k bytes → m ≡ n - 8 * length front → now ≡ out ++ take n (bits_of front)
+    → now ++ take m (bits_of behind) ≡ out ++ take n (bits_of bytes)
 unfolding bits_of
-next_bits out now [] i n m lt is put = absurd (omega arith)
-next_bits out now (b ∷ bytes) zero n m lt is put =
-    let rest = take m (flat_map (num 8) bytes) in
-    let part : take n (num 8 b ++ flat_map (num 8) bytes) ≡ take n (num 8 b) ++ rest = take_behind n (num 8 b) (flat_map (num 8) bytes) ∙ ap (λ (l : List Bool). take n (num 8 b) ++ l) (take_as (n - length (num 8 b)) m (flat_map (num 8) bytes) (omega (arith, length-num 8 b, is))) in
-    ap (λ (l : List Bool). l ++ rest) put ∙ append_assoc out (take n (num 8 b)) rest ∙ ap (λ (l : List Bool). out ++ l) (sym part)
-next_bits out now (b ∷ bytes) (suc i) n m lt is put =
-    let on : suc i + 1 ≡ suc (i + 1) = omega arith in
-    subst (λ (k : ℕ). now ++ take m (flat_map (num 8) (drop k (b ∷ bytes))) ≡ out ++ take n (flat_map (num 8) (drop i bytes))) (sym on) (next_bits out now bytes i n m (omega arith) is put)
+next_bits out now bytes front behind k n m front_is behind_is is put =
+    let parts : front ++ behind ≡ bytes = ap (λ (l : List ℕ). l ++ behind) front_is ∙ ap (λ (l : List ℕ). take k bytes ++ l) behind_is ∙ take-append-drop k bytes in
+    let all : bits_of bytes ≡ bits_of front ++ bits_of behind = ap (flat_map (num 8)) (sym parts) ∙ flat_map-append (num 8) front behind in
+    let rest = take m (bits_of behind) in
+    let part : take n (bits_of front ++ bits_of behind) ≡ take n (bits_of front) ++ rest =
+    take_behind n (bits_of front) (bits_of behind) ∙ ap (λ (l : List Bool). take n (bits_of front) ++ l) (take_as (n - length (bits_of front)) m (bits_of behind) (omega (arith, length-bits_of front, is))) in
+    ap (λ (l : List Bool). l ++ rest) put ∙ append_assoc out (take n (bits_of front)) rest ∙ ap (λ (l : List Bool). out ++ l) (sym part ∙ ap (take n) (sym all))
 
 no_bits : List Bool
 no_bits = []
@@ -91,12 +103,10 @@ unfolding no_bits
 take_none zero = refl
 take_none (suc n) = refl
 
-pub done_bits : (out : List Bool) (bytes : List ℕ) (i n : ℕ) → length bytes ≤ i → out ++ take n (bits_of (drop i bytes)) ≡ out
+pub done_bits : (out : List Bool) (bytes : List ℕ) (n : ℕ) → length bytes ≡ 0 → out ++ take n (bits_of bytes) ≡ out
 unfolding bits_of no_bits
-done_bits out [] zero n le = ap (λ (l : List Bool). out ++ l) (take_none n) ∙ append-nil out
-done_bits out [] (suc i) n le = ap (λ (l : List Bool). out ++ l) (take_none n) ∙ append-nil out
-done_bits out (b ∷ bytes) zero n le = absurd (omega arith)
-done_bits out (b ∷ bytes) (suc i) n le = done_bits out bytes i n (omega arith)
+done_bits out [] n none = ap (λ (l : List Bool). out ++ l) (take_none n) ∙ append-nil out
+done_bits out (b ∷ bytes) n none = absurd (omega (arith, none))
 
 -- ---- what fills the last byte
 

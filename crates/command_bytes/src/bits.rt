@@ -8,6 +8,7 @@ ghost use Rattle.command_bytes.specs.Fields.{bytes_for, left_at};
 ghost use Rattle.command_bytes.specs.Reading.{bits_at};
 
 use crate::fields::number;
+use byteorder::{BigEndian, ByteOrder};
 use identity::{BitWriter, Bits};
 use std::alloc::{AllocError, Allocator};
 use std::marker::Model;
@@ -43,19 +44,23 @@ fn put<A: Allocator>(writer: &mut BitWriter<A>, value: u64, width: u32) -> Resul
     writer.put(value, width).or(Err(AllocError))
 }
 
-// Puts the first `left` bits of a byte at the end, or all of them.
+// Puts the first `left` bits of one to six bytes at the end, or all of them.
 fn put_front<A: Allocator>(
     writer: &mut BitWriter<A>,
-    byte: u8,
+    bytes: &[u8],
     left: usize,
 ) -> Result<(), AllocError>
-    ensures { OnOk result (writer.new ≡ writer.old ++ take left (num 8 byte)) }
+    requires some { 1 ≤ length bytes.now }
+    requires few { length bytes.now ≤ 6 }
+    ensures { OnOk result (writer.new ≡ writer.old ++ take left (bits_of bytes.now)) }
 {
-    let width = left.min(8) as u32;
-    put(writer, u64::from(byte) >> (8 - width), width)
+    let bits = 8 * bytes.len();
+    let width = left.min(bits);
+    let value = BigEndian::read_uint(bytes, bytes.len()) >> (bits - width);
+    put(writer, value, width as u32)
 }
 
-// Puts the first `len` bits of bytes at the end.
+// Puts the first `len` bits of bytes at the end, six bytes at a time.
 fn put_bits<A: Allocator>(
     writer: &mut BitWriter<A>,
     bytes: &[u8],
@@ -63,10 +68,13 @@ fn put_bits<A: Allocator>(
 ) -> Result<(), AllocError>
     ensures { OnOk result (writer.new ≡ writer.old ++ take len (bits_of bytes.now)) }
 {
+    let mut rest = bytes;
     let mut left = len;
-    for byte in bytes {
-        put_front(writer, *byte, left)?;
-        left = left.saturating_sub(8);
+    while !rest.is_empty() {
+        let (front, behind) = rest.split_at(rest.len().min(6));
+        put_front(writer, front, left)?;
+        left = left.saturating_sub(8 * front.len());
+        rest = behind;
     }
     Ok(())
 }

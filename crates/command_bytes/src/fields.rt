@@ -12,6 +12,7 @@ use registration::{LocationArea, Rule};
 
 /// The number in the first `width` bytes (1 to 8), the highest first, and the bytes after them; `None` where there are
 /// fewer.
+#[inline(always)]
 #[tactic(auto, unfolding(crate::specs::Fields::number_at))]
 pub fn number(bytes: &[u8], width: usize) -> Option<(u64, &[u8])>
     requires low { 1 ≤ width }

@@ -107,6 +107,10 @@ module _ {A : Type 0} where
   joined front more (Ok half) = ap (λ (entries : List (Entry A)). Ok (entries, half.1)) (sym (append_assoc front more half.0))
   joined front more (Err s) = refl
 
+  pub front_none : (half : Half A) → with_front [] half ≡ half
+  front_none (Ok half) = refl
+  front_none (Err s) = refl
+
   pub front_more : (image : List (List ℕ)) (at end : ℕ) (front : List (Entry A)) (commands : List (Asked A)) (next : ℕ) (total : Half A) → at < end → record_at image at end ≡ Ok (Some (commands, next))
       → with_front front (half_of image at end) ≡ total → with_front (front ++ (at + 1, commands) ∷ []) (half_of image next end) ≡ total
   front_more image at end front commands next total lt e so_far =

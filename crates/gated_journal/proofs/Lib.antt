@@ -5,6 +5,7 @@ pub mod Chain
 pub mod Cut
 pub mod Given
 pub mod Halves
+pub mod Judged
 pub mod Listed
 pub mod Packed
 pub mod Steps

@@ -6,11 +6,11 @@ use Rattle.std.specs.Option.{is_some}
 use Rattle.byteorder.specs.Endian.{big_from}
 use Rattle.std.proofs.lemmas.Bool.Decides.{nat_tests}
 use Rattle.sector_disk.specs.Disk.{sector}
-use Rattle.gated_journal.specs.Half.{data_from, record_at, told_size}
+use Rattle.gated_journal.specs.Half.{bytes_at, data_from, told_size}
 use Rattle.centre_core.specs.Asked.{Asked}
 use Rattle.command_bytes.specs.Fields.{◌>>=◌}
 use Rattle.command_bytes.specs.Reading.{first_command}
-use Rattle.gated_journal.specs.Record.{commands_in, most_sectors, record_of}
+use Rattle.gated_journal.specs.Record.{commands_in, most_sectors}
 use Rattle.gated_journal.proofs.Halves.{both}
 
 -- ---- sectors
@@ -23,7 +23,10 @@ pub data_none : (image : List (List ℕ)) (at : ℕ) → [] ≡ data_from image 
 unfolding data_from
 data_none image at = refl
 
--- ---- one record, as it is read
+pub data_one : (image : List (List ℕ)) (at : ℕ) (front bytes : List ℕ) → front ≡ [] → bytes ≡ sector image at → front ++ bytes ≡ data_from image at 1
+data_one image at front bytes none is = let here : at ≡ at + 0 = omega arith in data_more image at 0 front bytes (none ∙ data_none image at) (is ∙ ap (sector image) here)
+
+-- ---- the bytes at a gate
 
 no_and : (a b : Bool) → (a ≡ false) ⊎ (b ≡ false) → (a && b) ≡ false
 no_and false b e = refl
@@ -35,30 +38,22 @@ not_both : (size next end : ℕ) → (most_sectors < size) ⊎ (end ≤ next) �
 not_both size next end (inl many) = no_and (leb size most_sectors) (ltb next end) (inl (grind (arith, nat_tests)))
 not_both size next end (inr past) = no_and (leb size most_sectors) (ltb next end) (inr (grind (arith, nat_tests)))
 
-pub too_long : {A : Type 0} (image : List (List ℕ)) (at end size : ℕ) → at + 1 < end → slice_index (sector image at) 0 ≡ 1 → told_size (sector image (at + 1)) ≡ size → (most_sectors < size) ⊎ (end ≤ at + 1 + size) → record_at {A = A} image at end ≡ Err (at + 1)
-unfolding record_at
+pub too_long : (image : List (List ℕ)) (at end size : ℕ) → at + 1 < end → slice_index (sector image at) 0 ≡ 1 → told_size (sector image (at + 1)) ≡ size → (most_sectors < size) ⊎ (end ≤ at + 1 + size) → bytes_at image at end ≡ Err (at + 1)
+unfolding bytes_at
 too_long image at end size lt gate told past =
     let a : eqb (slice_index (sector image at) 0) 1 ≡ true = grind (arith, nat_tests) in
     let b : eqb (at + 1) end ≡ false = grind (arith, nat_tests) in
     let d : (leb size most_sectors && ltb (at + 1 + size) end) ≡ false = not_both size (at + 1 + size) end past in
     rw (a, b, told, d) refl
 
-pub no_record : {A : Type 0} (image : List (List ℕ)) (at end size : ℕ) → size ≤ most_sectors → at + 1 + size < end → slice_index (sector image at) 0 ≡ 1 → told_size (sector image (at + 1)) ≡ size → record_of {A = A} (data_from image (at + 1) size) ≡ None → record_at {A = A} image at end ≡ Err (at + 1)
-unfolding record_at
-no_record image at end size few lt gate told none =
+pub bytes_found : (image : List (List ℕ)) (at end size : ℕ) → size ≤ most_sectors → at + 1 + size < end → slice_index (sector image at) 0 ≡ 1 → told_size (sector image (at + 1)) ≡ size
+    → bytes_at image at end ≡ Ok (Some (data_from image (at + 1) size, at + 1 + size))
+unfolding bytes_at
+bytes_found image at end size few lt gate told =
     let a : eqb (slice_index (sector image at) 0) 1 ≡ true = grind (arith, nat_tests) in
     let b : eqb (at + 1) end ≡ false = grind (arith, nat_tests) in
     let d : (leb size most_sectors && ltb (at + 1 + size) end) ≡ true = both size (at + 1 + size) end few lt in
-    rw (a, b, told, d, none) refl
-
-pub some_record : {A : Type 0} (image : List (List ℕ)) (at end size : ℕ) (commands : List (Asked A)) → size ≤ most_sectors → at + 1 + size < end → slice_index (sector image at) 0 ≡ 1 → told_size (sector image (at + 1)) ≡ size → record_of (data_from image (at + 1) size) ≡ Some commands
-    → record_at image at end ≡ Ok (Some (commands, at + 1 + size))
-unfolding record_at
-some_record image at end size commands few lt gate told read =
-    let a : eqb (slice_index (sector image at) 0) 1 ≡ true = grind (arith, nat_tests) in
-    let b : eqb (at + 1) end ≡ false = grind (arith, nat_tests) in
-    let d : (leb size most_sectors && ltb (at + 1 + size) end) ≡ true = both size (at + 1 + size) end few lt in
-    rw (a, b, told, d, read) refl
+    rw (a, b, told, d) refl
 
 -- four bytes from the third on
 pub told_from : (bytes : List ℕ) (n : ℕ) → 4 ≤ n → big_from 0 4 (take n (drop 2 bytes)) ≡ big_from 2 4 bytes

@@ -33,6 +33,16 @@ Found A = Result (Option (List (Asked A) × ℕ)) ℕ
 abbrev pub Half : Type 0 → Type 0
 Half A = Result (List (Entry A) × ℕ) ℕ
 
+-- What stands at a gate, before its bytes are judged: nothing, or those of a record's data sectors and the next gate; or the sector at fault.
+unfoldable pub bytes_at : List (List ℕ) → ℕ → ℕ → Result (Option (List ℕ × ℕ)) ℕ
+bytes_at image at end =
+    if slice_index (sector image at) 0 == 1
+    then (if at + 1 == end
+    then Err at
+    else (let size = told_size (sector image (at + 1)) in
+    if nat_le size most_sectors && nat_lt (at + 1 + size) end then Ok (Some (data_from image (at + 1) size, at + 1 + size)) else Err (at + 1)))
+    else Ok None
+
 module _ {A : Type 0} where
   abbrev pub found : ℕ → ℕ → Option (List (Asked A)) → Found A
   found at next None = Err at
@@ -48,6 +58,12 @@ module _ {A : Type 0} where
       else (let size = told_size (sector image (at + 1)) in
       if nat_le size most_sectors && nat_lt (at + 1 + size) end then found (at + 1) (at + 1 + size) (record_of (data_from image (at + 1) size)) else Err (at + 1)))
       else Ok None
+
+  -- the record that these bytes are; other bytes are a fault of the first data sector
+  abbrev pub judged : ℕ → Result (Option (List ℕ × ℕ)) ℕ → Found A
+  judged at (Err s) = Err s
+  judged at (Ok None) = Ok None
+  judged at (Ok (Some bytes_and_next)) = found (at + 1) bytes_and_next.1 (record_of bytes_and_next.0)
 
   -- more records before those of a half
   abbrev pub with_front : List (Entry A) → Half A → Half A

@@ -1,7 +1,7 @@
 -- What the calls that read a half answer.
-use Rattle.std.specs.Prelude.{◌≡◌, ℕ, List, map, Option, Some, None, Result, Ok, Err, Vec}
+use Rattle.std.specs.Prelude.{◌≡◌, ℕ, List, map, option_map, Option, Some, None, Result, Ok, Err, Vec}
 use Rattle.centre_core.specs.Asked.{Asked}
-use Rattle.gated_journal.specs.Half.{Entry}
+use Rattle.gated_journal.specs.Half.{Entry, Found, Half, half_of, record_at}
 use Rattle.gated_journal.specs.declared.fault.JournalError.{JournalError}
 use Rattle.gated_journal.specs.declared.fault.JournalError.TheVariants.{JournalFull, DiskFault, Damaged, NoMemory}
 
@@ -27,3 +27,30 @@ module _ {A : Type 0} where
 
   abbrev pub entries_view : List (ℕ × Vec (Asked A) A) → List (Entry A)
   entries_view xs = map entry_view xs
+
+  -- a record with its first data sector, and the gate behind it
+  abbrev pub next_view : ℕ → Option (ℕ × Vec (Asked A) A) → Option (List (Asked A) × ℕ)
+  next_view gate found = option_map (λ x. (x.1.items, gate)) found
+
+  -- ---- what is judged, and not kept
+
+  -- the record stands there, and so does what is told to be behind it
+  abbrev pub IsJudged : Result (Option ℕ) JournalError → Found A → Type 0
+  IsJudged (Ok None) is = is ≡ Ok None
+  IsJudged (Ok (Some next)) is = (commands : List (Asked A)) × (is ≡ Ok (Some (commands, next)))
+  IsJudged (Err e) is = Fails e is
+
+  -- there are records, up to a closed gate
+  abbrev pub AreJudged : Result Unit JournalError → Half A → Type 0
+  AreJudged (Ok u) is = (held : List (Entry A) × ℕ) × (is ≡ Ok held)
+  AreJudged (Err e) is = Fails e is
+
+-- ---- where memory may be wanted
+
+-- a record stands at the gate
+abbrev pub HasRecord : Type 0 → List (List ℕ) → ℕ → ℕ → Type 0
+HasRecord A image at end = (x : List (Asked A) × ℕ) × (record_at image at end ≡ Ok (Some x))
+
+-- from the gate on there are records alone, up to a closed one
+abbrev pub HasRecords : Type 0 → List (List ℕ) → ℕ → ℕ → Type 0
+HasRecords A image at end = (held : List (Entry A) × ℕ) × (half_of image at end ≡ Ok held)

@@ -1,5 +1,5 @@
 // A journal: a place on a disk, and a buffer for the records' bytes.
-ghost use Rattle.std.specs.Prelude.{◌≡◌, ◌<◌, ◌≤◌, ◌+◌, ◌*◌, ◌^◌, ◌-◌, ℕ, List, [], ◌∷◌, ◌++◌, Err, IfErr, IfOk, IsErrOf, OnErr, OnOk, length, map, nat_le, vec_capacity, vec_len};
+ghost use Rattle.std.specs.Prelude.{◌≡◌, ◌⊎◌, ◌<◌, ◌≤◌, ◌+◌, ◌*◌, ◌^◌, ◌-◌, ℕ, List, [], ◌∷◌, ◌++◌, Err, IfErr, IfNone, IfOk, IfSome, IsErrOf, OnErr, OnOk, length, map, nat_le, vec_capacity, vec_len};
 ghost use Rattle.std.specs.List.{All, flat_map};
 ghost use Rattle.command_bytes.specs.Fields.{big};
 ghost use Rattle.command_bytes.specs.Text.{IsCommand, command_text, longest};
@@ -8,12 +8,12 @@ ghost use Rattle.sector_disk.specs.Run.{HasLooked, HasMade, LeavesOnly};
 ghost use Rattle.gated_journal.specs.declared.fault.JournalError.TheVariants.{DiskFault, Damaged, JournalFull, NoMemory};
 ghost use Rattle.gated_journal.specs.declared.place.Place.{Place};
 ghost use Rattle.gated_journal.specs.Calls.{append_calls};
-ghost use Rattle.gated_journal.specs.Half.{Entry, half_of};
-ghost use Rattle.gated_journal.specs.Reading.{Answers, entries_view};
+ghost use Rattle.gated_journal.specs.Half.{Entry, half_of, record_at};
+ghost use Rattle.gated_journal.specs.Reading.{Answers, AreJudged, HasRecord, HasRecords, entries_view, next_view};
 ghost use Rattle.gated_journal.specs.Record.{IsRecord, data_size, given, most_commands, most_sectors, record_text};
 ghost use Rattle.gated_journal.specs.Settled.{IsSettled, Leaves, room_of};
 
-use crate::reading::{MOST_SECTORS, read_half};
+use crate::reading::{MOST_SECTORS, judge_half, read_or_judge, read_record};
 use crate::{JournalError, Place};
 use centre_core::Command;
 use command_bytes::text_len;
@@ -127,11 +127,68 @@ impl<A: Allocator> Journal<A> {
     }
 }
 
+impl<A: Allocator> Journal<A> {
+    /// Judges the records from the next gate on, and stays there. Takes no memory, and only reads.
+    ///
+    /// `Damaged` names the first sector at fault.
+    pub fn judge_rest<D: Disk>(&mut self, disk: &mut D) -> Result<(), JournalError>
+        requires before { self.old.next < self.old.end }
+        requires within { self.old.end ≤ (D.view disk.old).sectors }
+        ensures exact { (D.view disk.old).honest → AreJudged result (half_of {A = A} (D.view disk.old).reads self.old.next self.old.end) }
+        ensures same { self.new ≡ self.old }
+        ensures looked { (D.view disk.old).honest → HasLooked (D.view disk.old) (D.view disk.new) }
+        ensures sectors { (D.view disk.new).sectors ≡ (D.view disk.old).sectors }
+        ensures later { (D.view disk.old).failures ≤ (D.view disk.new).failures }
+        ensures fault { IsErrOf result JournalError.DiskFault → HasFailed (D.view disk.old) (D.view disk.new) }
+        ensures damaged { (s : ℕ) → IsErrOf result (JournalError.Damaged s) → s < self.old.end }
+        ensures full { IsErrOf result JournalError.JournalFull → ⊥ }
+        ensures memory { IsErrOf result JournalError.NoMemory → ⊥ }
+    {
+        judge_half(disk, self.place.next, self.place.end, &mut self.text)
+    }
+}
+
 impl<A: Allocator + Clone> Journal<A> {
+    /// Reads the record at the next gate, and goes on behind it: its first data sector, and its commands. `None` where
+    /// that gate is closed; there the next record goes.
+    ///
+    /// `Damaged` names the sector at fault. `NoMemory` comes only where there is a record.
+    pub fn read_next<D: Disk>(
+        &mut self,
+        alloc: A,
+        disk: &mut D,
+    ) -> Result<Option<(u64, Vec<Command<A>, A>)>, JournalError>
+        requires before { self.old.next < self.old.end }
+        requires within { self.old.end ≤ (D.view disk.old).sectors }
+        ensures exact { (D.view disk.old).honest → Answers (next_view self.new.next) result (record_at (D.view disk.old).reads self.old.next self.old.end) }
+        ensures memory { IsErrOf result JournalError.NoMemory → (D.view disk.old).honest → HasRecord A (D.view disk.old).reads self.old.next self.old.end }
+        ensures looked { (D.view disk.old).honest → HasLooked (D.view disk.old) (D.view disk.new) }
+        ensures at { IfOk result (λ found. IfSome found (λ x. (x.0 ≡ self.old.next + 1) × (x.0 < self.new.next))) }
+        ensures first { self.new.first ≡ self.old.first }
+        ensures end { self.new.end ≡ self.old.end }
+        ensures next { self.new.next < self.old.end }
+        ensures closed { IfOk result (λ found. IfNone found (self.new ≡ self.old)) }
+        ensures same { OnErr result (self.new ≡ self.old) }
+        ensures sectors { (D.view disk.new).sectors ≡ (D.view disk.old).sectors }
+        ensures later { (D.view disk.old).failures ≤ (D.view disk.new).failures }
+        ensures fault { IsErrOf result JournalError.DiskFault → HasFailed (D.view disk.old) (D.view disk.new) }
+        ensures damaged { (s : ℕ) → IsErrOf result (JournalError.Damaged s) → s < self.old.end }
+        ensures full { IsErrOf result JournalError.JournalFull → ⊥ }
+    {
+        let at = self.place.next;
+        let Some((commands, next)) = read_record(alloc, disk, at, self.place.end, &mut self.text)?
+        else {
+            return Ok(None);
+        };
+        self.place.next = next;
+        Ok(Some((at + 1, commands)))
+    }
+
     /// Reads a half, and gives the journal that goes on behind its records, and these: of each its first data sector,
     /// and its commands.
     ///
-    /// `first` is the half's first sector, `sectors` how many it has. `Damaged` names the first sector at fault.
+    /// `first` is the half's first sector, `sectors` how many it has. `Damaged` names the first sector at fault. `NoMemory`
+    /// comes before anything was read, or where no sector is at fault.
     pub fn replay<D: Disk>(
         alloc: A,
         disk: &mut D,
@@ -142,6 +199,7 @@ impl<A: Allocator + Clone> Journal<A> {
         requires within { first + sectors ≤ (D.view disk.old).sectors }
         requires fits { first + sectors < 2 ^ 64 }
         ensures exact { (D.view disk.old).honest → Answers (λ x. (entries_view x.1.items, x.0.next)) result (half_of (D.view disk.old).reads first (first + sectors)) }
+        ensures memory { IsErrOf result JournalError.NoMemory → (D.view disk.old).honest → ((D.view disk.new).calls ≡ (D.view disk.old).calls) ⊎ HasRecords A (D.view disk.old).reads first (first + sectors) }
         ensures looked { (D.view disk.old).honest → HasLooked (D.view disk.old) (D.view disk.new) }
         ensures place { IfOk result (λ x. (x.0.first ≡ first) × (x.0.end ≡ first + sectors) × (x.0.next < first + sectors)) }
         ensures sectors { (D.view disk.new).sectors ≡ (D.view disk.old).sectors }
@@ -152,16 +210,17 @@ impl<A: Allocator + Clone> Journal<A> {
     {
         let mut text = Vec::with_capacity(alloc.clone()?, MOST_SECTORS as usize * 512)?;
         let end = first + sectors;
-        let (entries, next) = read_half(alloc, disk, first, end, &mut text)?;
+        let (entries, next) = read_or_judge(alloc, disk, first, end, &mut text)?;
         let place = Place { first, end, next };
         Ok((Journal { place, text }, entries))
     }
 }
 
 // Adds bytes for which there is room.
-fn add<A: Allocator>(out: &mut Vec<u8, A>, bytes: &[u8])
+pub(crate) fn add<A: Allocator>(out: &mut Vec<u8, A>, bytes: &[u8])
     requires { vec_len out.old + length bytes.now ≤ vec_capacity out.old }
     ensures items { out.new.items ≡ out.old.items ++ bytes.now }
+    ensures len { vec_len out.new ≡ vec_len out.old + length bytes.now }
     ensures capacity { vec_capacity out.old ≤ vec_capacity out.new }
 {
     out.extend_from_slice(bytes).unwrap();

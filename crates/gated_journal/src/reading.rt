@@ -1,64 +1,72 @@
 // Reading a half.
-ghost use Rattle.std.specs.Prelude.{◌≡◌, ◌+◌, ◌<◌, ◌≤◌, ◌^◌, ℕ, List, length, IsErrOf, OnOk, IfOk, IfSome, vec_capacity};
+ghost use Rattle.std.specs.Prelude.{◌≡◌, ◌+◌, ◌*◌, ◌-◌, ◌<◌, ◌≤◌, ◌^◌, ℕ, length, IsErr, IsErrOf, OnOk, IfOk, IfSome, option_map, vec_capacity, vec_len};
 ghost use Rattle.sector_disk.specs.Disk.{HasFailed};
-ghost use Rattle.gated_journal.specs.declared.fault.JournalError.TheVariants.{DiskFault, JournalFull, Damaged};
 ghost use Rattle.sector_disk.specs.Run.{HasLooked};
-ghost use Rattle.gated_journal.specs.Half.{data_from, half_of, record_at};
-ghost use Rattle.gated_journal.specs.Reading.{Answers, entries_view, found_view};
+ghost use Rattle.sector_disk.specs.declared.disk.DiskError.TheVariants.{OutOfRange};
+ghost use Rattle.gated_journal.specs.declared.fault.JournalError.TheVariants.{DiskFault, JournalFull, Damaged, NoMemory};
+ghost use Rattle.gated_journal.specs.Half.{bytes_at, data_from, half_of, record_at};
+ghost use Rattle.gated_journal.specs.Reading.{Answers, AreJudged, HasRecord, HasRecords, IsJudged, entries_view, found_view};
+ghost use Rattle.gated_journal.specs.Record.{most_sectors};
 
+use crate::journal::add;
+use crate::record::is_record;
 use crate::{JournalError, decode_record};
 use byteorder::{BigEndian, ByteOrder};
 use centre_core::Command;
-use sector_disk::Disk;
+use sector_disk::{Disk, DiskError};
 use std::alloc::Allocator;
 
 // How many data sectors a record may have.
 pub(crate) const MOST_SECTORS: u64 = 36;
 
-// The bytes of so many sectors.
+// Adds the bytes of the sectors behind the first `from`, up to so many, where there is room for them.
 fn read_sectors<A: Allocator, D: Disk>(
     disk: &mut D,
     at: u64,
+    from: u64,
     n: u64,
     buffer: &mut Vec<u8, A>,
-) -> Result<(), JournalError>
-    requires room { at + n ≤ (D.view disk.old).sectors }
+) -> Result<(), DiskError>
+    requires inside { at + n ≤ (D.view disk.old).sectors }
     requires fits { at + n < 2 ^ 64 }
-    ensures effect { (D.view disk.old).honest → HasLooked (D.view disk.old) (D.view disk.new) × OnOk result (buffer.new.items ≡ data_from (D.view disk.old).reads at n) }
+    requires some { from ≤ n }
+    requires room { vec_len buffer.old + 512 * (n - from) ≤ vec_capacity buffer.old }
+    ensures effect { (D.view disk.old).honest → HasLooked (D.view disk.old) (D.view disk.new)
+        × OnOk result (buffer.old.items ≡ data_from (D.view disk.old).reads at from → buffer.new.items ≡ data_from (D.view disk.old).reads at n) }
     ensures sectors { (D.view disk.new).sectors ≡ (D.view disk.old).sectors }
     ensures later { (D.view disk.old).failures ≤ (D.view disk.new).failures }
-    ensures fault { IsErrOf result JournalError.DiskFault → HasFailed (D.view disk.old) (D.view disk.new) }
-    ensures whole { (s : ℕ) → IsErrOf result (JournalError.Damaged s) → ⊥ }
-    ensures full { IsErrOf result JournalError.JournalFull → ⊥ }
+    ensures fault { IsErr result → HasFailed (D.view disk.old) (D.view disk.new) }
+    ensures in_range { IsErrOf result OutOfRange → ⊥ }
     ensures capacity { vec_capacity buffer.old ≤ vec_capacity buffer.new }
 {
-    buffer.clear();
-    for k in 0..n {
+    for k in from..n {
         let mut bytes = [0; 512];
         disk.read(at + k, &mut bytes)?;
-        buffer.extend_from_slice(&bytes)?;
+        add(buffer, &bytes);
     }
     Ok(())
 }
 
-// What stands at a gate: a record and the next gate, or nothing.
-#[tactic(auto, unfolding(crate::specs::Half::record_at))]
-fn read_record<A: Allocator + Clone, D: Disk>(
-    alloc: &A,
+// The bytes of a record's data sectors behind an open gate, and the next gate; `None` at a closed one. Takes no memory.
+#[tactic(auto, unfolding(crate::specs::Half::bytes_at))]
+fn read_data<A: Allocator, D: Disk>(
     disk: &mut D,
     at: u64,
     end: u64,
     buffer: &mut Vec<u8, A>,
-) -> Result<Option<(Vec<Command<A>, A>, u64)>, JournalError>
+) -> Result<Option<u64>, JournalError>
     requires before { at < end }
     requires within { end ≤ (D.view disk.old).sectors }
-    ensures effect { (D.view disk.old).honest → HasLooked (D.view disk.old) (D.view disk.new) × Answers found_view result (record_at (D.view disk.old).reads at end) }
+    requires room { 512 * most_sectors ≤ vec_capacity buffer.old }
+    ensures effect { (D.view disk.old).honest → HasLooked (D.view disk.old) (D.view disk.new)
+        × Answers (λ found. option_map (λ next. (buffer.new.items, next)) found) result (bytes_at (D.view disk.old).reads at end) }
     ensures sectors { (D.view disk.new).sectors ≡ (D.view disk.old).sectors }
     ensures later { (D.view disk.old).failures ≤ (D.view disk.new).failures }
     ensures fault { IsErrOf result JournalError.DiskFault → HasFailed (D.view disk.old) (D.view disk.new) }
-    ensures on { IfOk result (λ found. IfSome found (λ x. (at + 1 < x.1) × (x.1 < end))) }
+    ensures on { IfOk result (λ found. IfSome found (λ next. (at + 1 < next) × (next < end))) }
     ensures damaged { (s : ℕ) → IsErrOf result (JournalError.Damaged s) → s < end }
     ensures full { IsErrOf result JournalError.JournalFull → ⊥ }
+    ensures memory { IsErrOf result JournalError.NoMemory → ⊥ }
     ensures capacity { vec_capacity buffer.old ≤ vec_capacity buffer.new }
 {
     let mut bytes = [0; 512];
@@ -77,15 +85,73 @@ fn read_record<A: Allocator + Clone, D: Disk>(
     if end - (at + 1) <= size {
         return Err(JournalError::Damaged(at + 1));
     }
-    read_sectors(disk, at + 1, size, buffer)?;
-    match decode_record(alloc.clone()?, buffer)? {
+    buffer.clear();
+    add(buffer, &bytes);
+    read_sectors(disk, at + 1, 1, size, buffer)?;
+    Ok(Some(at + 1 + size))
+}
+
+// What stands at a gate: a record and the next gate, or nothing.
+pub(crate) fn read_record<A: Allocator + Clone, D: Disk>(
+    alloc: A,
+    disk: &mut D,
+    at: u64,
+    end: u64,
+    buffer: &mut Vec<u8, A>,
+) -> Result<Option<(Vec<Command<A>, A>, u64)>, JournalError>
+    requires before { at < end }
+    requires within { end ≤ (D.view disk.old).sectors }
+    requires room { 512 * most_sectors ≤ vec_capacity buffer.old }
+    ensures effect { (D.view disk.old).honest → HasLooked (D.view disk.old) (D.view disk.new) × Answers found_view result (record_at (D.view disk.old).reads at end) }
+    ensures memory { IsErrOf result JournalError.NoMemory → (D.view disk.old).honest → HasRecord A (D.view disk.old).reads at end }
+    ensures sectors { (D.view disk.new).sectors ≡ (D.view disk.old).sectors }
+    ensures later { (D.view disk.old).failures ≤ (D.view disk.new).failures }
+    ensures fault { IsErrOf result JournalError.DiskFault → HasFailed (D.view disk.old) (D.view disk.new) }
+    ensures on { IfOk result (λ found. IfSome found (λ x. (at + 1 < x.1) × (x.1 < end))) }
+    ensures damaged { (s : ℕ) → IsErrOf result (JournalError.Damaged s) → s < end }
+    ensures full { IsErrOf result JournalError.JournalFull → ⊥ }
+    ensures capacity { vec_capacity buffer.old ≤ vec_capacity buffer.new }
+{
+    let Some(next) = read_data(disk, at, end, buffer)? else {
+        return Ok(None);
+    };
+    match decode_record(alloc, buffer)? {
         None => Err(JournalError::Damaged(at + 1)),
-        Some(commands) => Ok(Some((commands, at + 1 + size))),
+        Some(commands) => Ok(Some((commands, next))),
     }
 }
 
+// The gate behind the record at a gate, if one stands there. Takes no memory.
+fn judge_record<A: Allocator, D: Disk>(
+    disk: &mut D,
+    at: u64,
+    end: u64,
+    buffer: &mut Vec<u8, A>,
+) -> Result<Option<u64>, JournalError>
+    requires before { at < end }
+    requires within { end ≤ (D.view disk.old).sectors }
+    requires room { 512 * most_sectors ≤ vec_capacity buffer.old }
+    ensures effect { (D.view disk.old).honest → HasLooked (D.view disk.old) (D.view disk.new) × IsJudged result (record_at {A = A} (D.view disk.old).reads at end) }
+    ensures sectors { (D.view disk.new).sectors ≡ (D.view disk.old).sectors }
+    ensures later { (D.view disk.old).failures ≤ (D.view disk.new).failures }
+    ensures fault { IsErrOf result JournalError.DiskFault → HasFailed (D.view disk.old) (D.view disk.new) }
+    ensures on { IfOk result (λ found. IfSome found (λ next. (at + 1 < next) × (next < end))) }
+    ensures damaged { (s : ℕ) → IsErrOf result (JournalError.Damaged s) → s < end }
+    ensures full { IsErrOf result JournalError.JournalFull → ⊥ }
+    ensures memory { IsErrOf result JournalError.NoMemory → ⊥ }
+    ensures capacity { vec_capacity buffer.old ≤ vec_capacity buffer.new }
+{
+    let Some(next) = read_data(disk, at, end, buffer)? else {
+        return Ok(None);
+    };
+    if !is_record::<A>(buffer) {
+        return Err(JournalError::Damaged(at + 1));
+    }
+    Ok(Some(next))
+}
+
 // The records of a half, of each its first data sector and its commands, and the gate behind them.
-pub(crate) fn read_half<A: Allocator + Clone, D: Disk>(
+fn read_half<A: Allocator + Clone, D: Disk>(
     alloc: A,
     disk: &mut D,
     first: u64,
@@ -94,6 +160,7 @@ pub(crate) fn read_half<A: Allocator + Clone, D: Disk>(
 ) -> Result<(Vec<(u64, Vec<Command<A>, A>), A>, u64), JournalError>
     requires some { first < end }
     requires within { end ≤ (D.view disk.old).sectors }
+    requires room { 512 * most_sectors ≤ vec_capacity buffer.old }
     ensures exact { (D.view disk.old).honest → Answers (λ x. (entries_view x.0.items, x.1)) result (half_of (D.view disk.old).reads first end) }
     ensures looked { (D.view disk.old).honest → HasLooked (D.view disk.old) (D.view disk.new) }
     ensures gate { IfOk result (λ x. x.1 < end) }
@@ -106,9 +173,67 @@ pub(crate) fn read_half<A: Allocator + Clone, D: Disk>(
 {
     let mut entries = Vec::new(alloc.clone()?);
     let mut next = first;
-    while let Some((commands, after)) = read_record(&alloc, disk, next, end, buffer)? {
+    while let Some((commands, after)) = read_record(alloc.clone()?, disk, next, end, buffer)? {
         entries.push((next + 1, commands))?;
         next = after;
     }
     Ok((entries, next))
+}
+
+// Judges the records of a half. Takes no memory.
+pub(crate) fn judge_half<A: Allocator, D: Disk>(
+    disk: &mut D,
+    first: u64,
+    end: u64,
+    buffer: &mut Vec<u8, A>,
+) -> Result<(), JournalError>
+    requires some { first < end }
+    requires within { end ≤ (D.view disk.old).sectors }
+    requires room { 512 * most_sectors ≤ vec_capacity buffer.old }
+    ensures exact { (D.view disk.old).honest → AreJudged result (half_of {A = A} (D.view disk.old).reads first end) }
+    ensures looked { (D.view disk.old).honest → HasLooked (D.view disk.old) (D.view disk.new) }
+    ensures sectors { (D.view disk.new).sectors ≡ (D.view disk.old).sectors }
+    ensures later { (D.view disk.old).failures ≤ (D.view disk.new).failures }
+    ensures fault { IsErrOf result JournalError.DiskFault → HasFailed (D.view disk.old) (D.view disk.new) }
+    ensures damaged { (s : ℕ) → IsErrOf result (JournalError.Damaged s) → s < end }
+    ensures full { IsErrOf result JournalError.JournalFull → ⊥ }
+    ensures memory { IsErrOf result JournalError.NoMemory → ⊥ }
+    ensures capacity { vec_capacity buffer.old ≤ vec_capacity buffer.new }
+{
+    let mut next = first;
+    while let Some(after) = judge_record(disk, next, end, buffer)? {
+        next = after;
+    }
+    Ok(())
+}
+
+// The same. Where memory is wanted, the whole half is judged first.
+pub(crate) fn read_or_judge<A: Allocator + Clone, D: Disk>(
+    alloc: A,
+    disk: &mut D,
+    first: u64,
+    end: u64,
+    buffer: &mut Vec<u8, A>,
+) -> Result<(Vec<(u64, Vec<Command<A>, A>), A>, u64), JournalError>
+    requires some { first < end }
+    requires within { end ≤ (D.view disk.old).sectors }
+    requires room { 512 * most_sectors ≤ vec_capacity buffer.old }
+    ensures exact { (D.view disk.old).honest → Answers (λ x. (entries_view x.0.items, x.1)) result (half_of (D.view disk.old).reads first end) }
+    ensures memory { IsErrOf result JournalError.NoMemory → (D.view disk.old).honest → HasRecords A (D.view disk.old).reads first end }
+    ensures looked { (D.view disk.old).honest → HasLooked (D.view disk.old) (D.view disk.new) }
+    ensures gate { IfOk result (λ x. x.1 < end) }
+    ensures sectors { (D.view disk.new).sectors ≡ (D.view disk.old).sectors }
+    ensures later { (D.view disk.old).failures ≤ (D.view disk.new).failures }
+    ensures fault { IsErrOf result JournalError.DiskFault → HasFailed (D.view disk.old) (D.view disk.new) }
+    ensures damaged { (s : ℕ) → IsErrOf result (JournalError.Damaged s) → s < end }
+    ensures full { IsErrOf result JournalError.JournalFull → ⊥ }
+    ensures capacity { vec_capacity buffer.old ≤ vec_capacity buffer.new }
+{
+    match read_half(alloc, disk, first, end, buffer) {
+        Err(JournalError::NoMemory) => {
+            judge_half(disk, first, end, buffer)?;
+            Err(JournalError::NoMemory)
+        }
+        read => read,
+    }
 }

@@ -91,10 +91,22 @@ pub fn decode_record<A: Allocator + Clone>(
     ensures exact { IfOk result (λ found. option_map (λ commands. commands.items) found ≡ record_of bytes.now) }
     ensures memory { OnErr result (IsSome (record_of {A = A} bytes.now)) }
 {
+    let Some((count, commands)) = packed(bytes) else {
+        return Ok(None);
+    };
+    match commands_in(alloc, count, commands) {
+        // Want of memory stands in no other answer's place.
+        Err(AllocError) if !are_commands::<A>(count, commands) => Ok(None),
+        found => found,
+    }
+}
+
+/// Whether the data sectors of a record, given whole, hold one, as `decode_record` gives it. Takes no memory.
+pub(crate) fn is_record<A: Allocator>(bytes: &[u8]) -> bool
+    ensures { result ≡ is_some (record_of {A = A} bytes.now) }
+{
     match packed(bytes) {
-        Some((count, commands)) if are_commands::<A>(count, commands) => {
-            commands_in(alloc, count, commands)
-        }
-        _ => Ok(None),
+        Some((count, commands)) => are_commands::<A>(count, commands),
+        None => false,
     }
 }

@@ -218,11 +218,26 @@ fn is_read<D: Disk>(alloc: Global, disk: &mut D, row: &Row) -> bool {
     }
 }
 
-/// The first row that is read otherwise.
+/// Whether a half is judged as it is read.
+fn is_judged<D: Disk>(alloc: Global, disk: &mut D, row: &Row) -> bool {
+    if disk.sectors() < 4 {
+        return false;
+    }
+    let Ok(mut journal) = Journal::start(alloc, 0, 4) else {
+        return false;
+    };
+    match (journal.judge_rest(disk), row.want) {
+        (Ok(()), Ok(_)) => true,
+        (Err(JournalError::Damaged(at)), Err(fault)) => at == fault,
+        _ => false,
+    }
+}
+
+/// The first row that is read or judged otherwise.
 fn first_wrong(alloc: Global) -> Result<Option<usize>, AllocError> {
     let mut disk = MemoryDisk::new(alloc, 4, 999)?;
     for k in 0..17 {
-        if !is_read(alloc, &mut disk, &ROWS[k]) {
+        if !is_read(alloc, &mut disk, &ROWS[k]) || !is_judged(alloc, &mut disk, &ROWS[k]) {
             return Ok(Some(k));
         }
     }

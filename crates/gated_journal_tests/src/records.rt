@@ -120,6 +120,28 @@ fn one_command_in_one_record(rt: HostRuntime) -> Result<(), Fail> {
     Ok(())
 }
 
+/// Whether a journal that begins anew judges what is there, reads the one record of a rule's command, and stays at the closed gate.
+fn goes_through<D: Disk>(alloc: Global, disk: &mut D) -> Option<bool> {
+    if disk.sectors() < 39 {
+        return None;
+    }
+    let mut journal = Journal::start(alloc, 0, 39).ok()?;
+    journal.judge_rest(disk).ok()?;
+    let (at, commands) = journal.read_next(alloc, disk).ok()??;
+    let is_read = at == 1 && commands.len() == 1 && is_the_rule(&commands[0]);
+    let is_last = journal.read_next(alloc, disk).ok()?.is_none();
+    Some(is_read && is_last && journal.room() == 35)
+}
+
+#[test]
+fn records_are_read_one_by_one(rt: HostRuntime) -> Result<(), Fail> {
+    let rule = made::rule().ok_or("a rule")?;
+    let mut disk = MemoryDisk::new(rt.alloc(), 39, 99)?;
+    assert!(rt; one_is_kept(rt.alloc(), &mut disk, &rule)?);
+    assert_eq!(rt; goes_through(rt.alloc(), &mut disk), Some(true));
+    Ok(())
+}
+
 /// Adds 19 records; then there is room for none.
 fn is_filled<D: Disk>(
     journal: &mut Journal<Global>,

@@ -1,6 +1,6 @@
 -- What single changes of a list under a path come to.
-use Rattle.std.proofs.Common.{◌≡◌, ℕ, Bool, true, false, cond, Option, Some, None, Result, Ok, Err, refl, sym, ap, ◌∙◌, subst}
-use Rattle.std.specs.Prelude.{◌==◌, IsSome, IfNone, OnErr, unwrap_or}
+use Rattle.std.proofs.Common.{◌≡◌, ℕ, Bool, true, false, cond, Option, Some, None, Result, Ok, Err, ◌⊎◌, inl, inr, refl, sym, ap, ◌∙◌}
+use Rattle.std.specs.Prelude.{◌==◌, IsSome, OnErr, unwrap_or}
 use Rattle.std.specs.Option.{is_some, option_map}
 use Rattle.std.specs.Ordering.{eq_by_cmp}
 use Rattle.std.specs.FinMap as finite
@@ -9,7 +9,8 @@ use Rattle.identity.specs.Path.{Path, path_cmp}
 use Rattle.identity.specs.PathLaws.{paths_total, paths_exact, tie_exact}
 use Rattle.group_attach.specs.declared.ending.Ending.{Ending}
 use Rattle.group_attach.specs.Attached.{Attached, Pair, Usage, pair_cmp, no_groups, attachment_of, attachment_at}
-use Rattle.group_attach.specs.Filed.{Filed, filed_in, under, placed, IsEnded, ended}
+use Rattle.group_attach.specs.Filed.{Filed, filed_in, under, placed, kept, ended}
+use Rattle.prefix_tree.specs.Change.{with_value}
 use Rattle.group_attach.proofs.Endings.{nothing_ends}
 
 -- no tree has no list
@@ -36,18 +37,6 @@ insert_same f p list there =
     finite.get-insert paths_total f p list q
     ∙ at_tie (eq_by_cmp path_cmp q p) (Some list) (finite.get f q) (λ tie. there ∙ ap (finite.get f) (sym (tie_exact q p tie))))
 
-twice : {A : Type 0} (b : Bool) (x y z : A) → cond b x (cond b y z) ≡ cond b x z
-twice true x y z = refl
-twice false x y z = refl
-
-remove_inserted : (f : Filed) (p : Path) (list : Attached) → finite.remove (finite.insert f p list) p ≡ finite.remove f p
-remove_inserted f p list =
-    finite.same_map paths_total paths_exact _ _ (λ q.
-    finite.get-remove paths_total (finite.insert f p list) p q
-    ∙ ap (cond (eq_by_cmp path_cmp q p) None) (finite.get-insert paths_total f p list q)
-    ∙ twice (eq_by_cmp path_cmp q p) None (Some list) (finite.get f q)
-    ∙ sym (finite.get-remove paths_total f p q))
-
 -- where the change failed, the list is as it was
 pub unchanged : {X E : Type 0} (r : Result X E) (f : Filed) (p : Path) (list new : Attached) → Some list ≡ finite.get f p → OnErr r (new ≡ list) → OnErr r (finite.insert f p new ≡ f)
 unchanged (Ok x) f p list new there same = tt
@@ -59,46 +48,28 @@ none_under f p none = ap (λ o. unwrap_or o no_groups) (sym none)
 pub absent_not : {A : Type 0} {o : Option A} → None ≡ o → IsSome o → ⊥
 absent_not none there = false≢true (ap is_some none ∙ there)
 
-pub nothing_ended : (f n : Filed) (p : Path) (list : Attached) → None ≡ finite.get f p → n ≡ f → IsEnded f p list false n
-nothing_ended f n p list none same = record {
-  changed = λ there. absurd (absent_not none there);
-  told = λ there. absurd (absent_not none there);
-  absent = subst (λ o. IfNone o ((false ≡ false) × (n ≡ f))) none (refl, same);
-}
+by_test : (b : Bool) (f : Filed) (p : Path) (list : Attached) → with_value f p (cond b None (Some list)) ≡ cond b (finite.remove f p) (finite.insert f p list)
+by_test true f p list = refl
+by_test false f p list = refl
 
-if_none : {A : Type 0} {P : Type 0} {o : Option A} → None ≡ o → IfNone o P → P
-if_none {P = P} none told = subst (λ o. IfNone o P) (sym none) told
+-- a list that is left empty goes
+pub with_kept : (f : Filed) (p : Path) (list : Attached) → with_value f p (kept list) ≡ placed f p list
+with_kept f p list = by_test (finite.len list == 0) f p list
 
-if_true : {A : Type 0} (b : Bool) (x y : A) → b ≡ true → cond b x y ≡ x
-if_true true x y e = refl
-if_true false x y e = absurd (false≢true e)
+-- nothing is left of no list
+pub none_kept : (itsi : ℕ) (e : Ending) → kept (ended no_groups itsi e) ≡ None
+none_kept itsi e =
+    let empty : finite.len (ended no_groups itsi e) ≡ 0 = ap finite.len (nothing_ends itsi e) ∙ finite.len-empty pair_cmp Usage in
+    ap (λ n. cond (n == 0) None (Some (ended no_groups itsi e))) empty
 
-if_false : {A : Type 0} (b : Bool) (x y : A) → b ≡ false → cond b x y ≡ y
-if_false true x y e = absurd (false≢true (sym e))
-if_false false x y e = refl
+pub nothing_placed : (f : Filed) (p : Path) (itsi : ℕ) (e : Ending) → None ≡ finite.get f p → f ≡ placed f p (ended (under f p) itsi e)
+nothing_placed f p itsi e none =
+    sym (ap (λ list. placed f p (ended list itsi e)) (none_under f p none) ∙ sym (with_kept f p (ended no_groups itsi e)) ∙ ap (with_value f p) (none_kept itsi e) ∙ remove_nothing f p none)
 
--- a list that is emptied is taken out
-pub end_then : (f mid n : Filed) (p : Path) (itsi : ℕ) (e : Ending) (b : Bool) → IsEnded f p (ended (under f p) itsi e) b mid → b ≡ true → n ≡ finite.remove mid p → n ≡ placed f p (ended (under f p) itsi e)
-end_then f mid n p itsi e b told emptied removed =
-    elim (finite.get f p) as (λ o. o ≡ finite.get f p → n ≡ placed f p (ended (under f p) itsi e)) [
-      | None ↦ λ none. absurd (false≢true (sym (if_none none told.absent).0 ∙ emptied))
-      | Some list ↦ λ there.
-          let is : IsSome (finite.get f p) = ap is_some (sym there) in
-          removed ∙ ap (λ g. finite.remove g p) (told.changed is) ∙ remove_inserted f p _
-          ∙ sym (if_true (finite.len (ended (under f p) itsi e) == 0) _ _ (sym (told.told is) ∙ emptied))
-    ] refl
-
-pub end_else : (f mid : Filed) (p : Path) (itsi : ℕ) (e : Ending) (b : Bool) → IsEnded f p (ended (under f p) itsi e) b mid → b ≡ false → mid ≡ placed f p (ended (under f p) itsi e)
-end_else f mid p itsi e b told some_left =
-    elim (finite.get f p) as (λ o. o ≡ finite.get f p → mid ≡ placed f p (ended (under f p) itsi e)) [
-      | None ↦ λ none.
-          let empty : finite.len (ended (under f p) itsi e) ≡ 0 = ap (λ list. finite.len (ended list itsi e)) (none_under f p none) ∙ ap finite.len (nothing_ends itsi e) ∙ finite.len-empty pair_cmp Usage in
-          (if_none none told.absent).1 ∙ sym (remove_nothing f p none)
-          ∙ sym (if_true (finite.len (ended (under f p) itsi e) == 0) _ _ (ap (λ n. n == 0) empty))
-      | Some list ↦ λ there.
-          let is : IsSome (finite.get f p) = ap is_some (sym there) in
-          told.changed is ∙ sym (if_false (finite.len (ended (under f p) itsi e) == 0) _ _ (sym (told.told is) ∙ some_left))
-    ] refl
+-- there is no list, or this one
+pub list_or_none : (o : Option Attached) → (o ≡ None) ⊎ ((list : Attached) × (o ≡ Some list))
+list_or_none None = inl refl
+list_or_none (Some list) = inr (list, refl)
 
 -- where there is no list, an attachment is not overwritten
 pub none_to_overwrite : (f : Filed) (p : Path) (q : Pair) → false ≡ is_some (finite.get f p) → IsSome (finite.get (under f p) q) → ⊥

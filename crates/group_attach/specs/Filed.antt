@@ -1,5 +1,5 @@
 -- Attachments in lists, each list under the path of a radio or of a group.
-use Rattle.std.specs.Prelude.{◌≡◌, ℕ, ◌<◌, ◌==◌, Bool, List, Option, None, Some, IsSome, IfNone, false, unwrap_or, if◌then◌else◌}
+use Rattle.std.specs.Prelude.{◌≡◌, ℕ, ◌<◌, ◌==◌, Bool, List, Option, None, Some, IsSome, unwrap_or, if◌then◌else◌}
 use Rattle.std.specs.List.{flat_map, fold}
 use Rattle.std.specs.Option.{is_some}
 use Rattle.std.specs.Ordering.{eq_by_cmp}
@@ -35,11 +35,9 @@ under f p = held (finite.get f p)
 abbrev pub placed : Filed → Path → Attached → Filed
 placed f p list = if finite.len list == 0 then finite.remove f p else finite.insert f p list
 
--- the list under a path, if there is one, became this one; whether that is empty
-pub record IsEnded (f : Filed) (p : Path) (list : Attached) (emptied : Bool) (n : Filed) : Type 0 where
-  pub changed : IsSome (finite.get f p) → n ≡ finite.insert f p list
-  pub told : IsSome (finite.get f p) → emptied ≡ (finite.len list == 0)
-  pub absent : IfNone (finite.get f p) ((emptied ≡ false) × (n ≡ f))
+-- the list, if it is not empty
+abbrev pub kept : Attached → Option Attached
+kept list = if finite.len list == 0 then None else Some list
 
 -- of each list the pairs whose number has the list's path
 abbrev pub of_entries : (Pair → ℕ) → List (Path × Attached) → List (Pair × Usage)

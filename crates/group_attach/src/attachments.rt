@@ -6,7 +6,7 @@ ghost use Rattle.std.specs.FinMap as finite;
 ghost use Rattle.group_attach.specs.Attached.{no_groups, listed, attachment_at};
 ghost use Rattle.group_attach.specs.Applied.{applied};
 ghost use Rattle.group_attach.specs.InOrder.{IsInOrder, map_of, pair_of};
-ghost use Rattle.group_attach.specs.Filed.{attached, ended, held};
+ghost use Rattle.group_attach.specs.Filed.{attached, ended, kept, held};
 
 use crate::Attachment;
 use crate::edit::{attach, change_all, drop_ended, leave};
@@ -95,14 +95,15 @@ impl<A: Allocator> AttachmentList<A> {
         attach(&mut self.entries, attachment)
     }
 
-    /// Takes away what ends. It takes no memory.
-    pub(crate) fn end(&mut self, itsi: Itsi, ending: Ending)
-        ensures { self.new ≡ ended self.old itsi ending }
+    /// What is left of it where this ends, if that is anything. It takes no memory.
+    pub(crate) fn ended(mut self, itsi: Itsi, ending: Ending) -> Option<Self>
+        ensures { result ≡ kept (ended self itsi ending) }
     {
         match ending {
             Ending::Leave(gtsi) => leave(&mut self.entries, itsi, gtsi),
             Ending::Update(update) => drop_ended(&mut self.entries, itsi, update),
         }
+        if self.is_empty() { None } else { Some(self) }
     }
 
     /// Changes the list as a PDU of the radio asks.

@@ -5,7 +5,7 @@ ghost use Rattle.std.specs.Option.{option_copied, is_some};
 ghost use Rattle.std.specs.FinMap as finite;
 ghost use Rattle.group_attach.specs.Attached.{attachment_at};
 ghost use Rattle.group_attach.specs.InOrder.{pair_of};
-ghost use Rattle.group_attach.specs.Filed.{under, placed, attached, ended, IsEnded};
+ghost use Rattle.group_attach.specs.Filed.{under, placed, attached, ended};
 
 use crate::Attachment;
 use crate::attachments::AttachmentList;
@@ -72,23 +72,14 @@ impl<A: Allocator> Lists<A> {
     }
 
     /// Takes away what ends of the list under the path, and the list where nothing is left. It takes no
-    /// memory.
+    /// memory, and goes down the tree once.
     pub(crate) fn end(&mut self, path: &Prefix, itsi: Itsi, ending: Ending)
         ensures { self.new ≡ placed self.old path.now (ended (under self.old path.now) itsi ending) }
     {
-        if self.end_there(path, itsi, ending) {
-            self.clear(path);
-        }
-    }
-
-    // Takes away what ends of the list under the path; whether nothing is left of it.
-    fn end_there(&mut self, path: &Prefix, itsi: Itsi, ending: Ending) -> bool
-        ensures { IsEnded self.old path.now (ended (under self.old path.now) itsi ending) result self.new }
-    {
-        if let Some(tree) = &mut self.tree {
-            return end_from::<A, Brand>(tree, path, itsi, ending, Blank::new(1));
-        }
-        false
+        let Some(tree) = &mut self.tree else {
+            return;
+        };
+        end_under(tree, path, itsi, ending);
     }
 
     // Attaches in the list under the path; `None` where there is none.
@@ -210,25 +201,14 @@ fn attach_from<A: Allocator, L: Ledger>(
     }
 }
 
-// Takes away what ends of the list under the path; whether nothing is left of it. Counted by this ledger.
-fn end_from<A: Allocator, L: Ledger>(
+// Takes away what ends of the list under the path, and the list where nothing is left.
+fn end_under<A: Allocator>(
     tree: &mut PrefixTree<AttachmentList<A>, A>,
     path: &Prefix,
     itsi: Itsi,
     ending: Ending,
-    blank: Blank,
-) -> bool
-    requires name { blank.name ≡ L.name }
-    requires parts { blank.parts ≡ L.parts }
-    requires some { 0 < blank.parts }
-    ensures { IsEnded tree.old path.now (ended (under tree.old path.now) itsi ending) result tree.new }
+)
+    ensures { tree.new ≡ placed tree.old path.now (ended (under tree.old path.now) itsi ending) }
 {
-    let mut steps = Steps::<L>::new(blank);
-    match tree.get_mut(path, &mut steps) {
-        Some(list) => {
-            list.end(itsi, ending);
-            list.is_empty()
-        }
-        None => false,
-    }
+    let _ = tree.change(path, |list| ((), list.ended(itsi, ending)));
 }

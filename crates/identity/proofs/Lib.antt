@@ -1,5 +1,6 @@
 pub mod Numbers
 pub mod Bytes
+pub mod Pieces
 pub mod SameBytes
 pub mod Reading
 pub mod Prefixes

@@ -95,12 +95,17 @@ pub fn parse_number(text: &[u8], most: u64) -> Result<u64, Fault>
 
 /// Appends a number in decimal. Where there is no memory for it, `out` holds what it held: so it is with
 /// each print call, and each fails only where `out` has no room for its text.
+#[tactic(auto, using(std::proofs::lemmas::Fmt::decimal_digit))]
 pub fn print_number<A: Allocator>(out: &mut Vec<u8, A>, number: u64) -> Result<(), AllocError>
     ensures ok { OnOk result (out.new.items ≡ out.old.items ++ decimal number) }
     ensures err { OnErr result (out.new.items ≡ out.old.items) }
     ensures full { OnErr result (vec_capacity out.old < vec_len out.old + length (decimal number)) }
     ensures capacity { vec_capacity out.old ≤ vec_capacity out.new }
 {
+    if number < 10 {
+        out.push(b'0' + number as u8)?;
+        return Ok(());
+    }
     out.extend_from_slice(Buffer::new().format(number).as_bytes())
 }
 

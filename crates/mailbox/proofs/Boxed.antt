@@ -1,5 +1,5 @@
 -- What each change makes of the boxes.
-use Rattle.std.proofs.Common.{◌≡◌, Bool, true, false, cond, List, [], ◌∷◌, ◌++◌, refl, ap, sym, ◌∙◌, arith, Option, Some, None, Result, Ok, Err}
+use Rattle.std.proofs.Common.{◌≡◌, Bool, true, false, cond, List, [], ◌∷◌, ◌++◌, refl, ap, sym, ◌∙◌, arith, Option, Some, None, Result, Ok, Err, ◌⊎◌, inl, inr}
 use Rattle.std.specs.Prelude.{IfErr, ◌==◌, not, ◌&&◌, unwrap_or, length}
 use Rattle.std.specs.List.{filter}
 use Rattle.std.specs.FinMap as finite
@@ -10,9 +10,10 @@ use Rattle.std.proofs.lemmas.List.{append-nil}
 use Rattle.std.proofs.lemmas.List.Elements.{filter_agree, filter-append}
 use Rattle.identity.specs.Path.{Path, path_cmp, id_path}
 use Rattle.identity.specs.PathLaws.{paths_total, paths_exact, tie_exact, tied}
+use Rattle.prefix_tree.specs.Change.{with_value}
 use Rattle.mailbox.specs.Values.{Waiting}
 use Rattle.mailbox.specs.Tests.{is_at}
-use Rattle.mailbox.specs.Boxes.{Boxes, contents, items_under, box_of, with_items, with_less, swept, put_last, put, is_under}
+use Rattle.mailbox.specs.Boxes.{Boxes, contents, items_under, box_of, with_items, swept, put_last, put, is_under}
 use Rattle.mailbox.proofs.Lists.{beside, filter_twice, filter_within, filter_turned}
 use Rattle.mailbox.proofs.Keys.{same_number, key_exact, under_other}
 
@@ -102,48 +103,19 @@ pub none_removed : (boxes : Boxes) (p : Path) → finite.get boxes p ≡ None �
 none_removed boxes p none = same_map paths_total paths_exact _ _ (λ q.
     get-remove paths_total boxes p q ∙ unless_there (eq_by_cmp path_cmp q p) None (finite.get boxes q) (λ e. ap (finite.get boxes) (tie_exact q p e) ∙ none))
 
-twice_chosen : (b : Bool) (x y z : Option (List Waiting)) → cond b x (cond b y z) ≡ cond b x z
-twice_chosen true x y z = refl
-twice_chosen false x y z = refl
-
--- to write and to remove is to remove
-pub written_removed : (boxes : Boxes) (p : Path) (ws : List Waiting) → finite.remove (finite.insert boxes p ws) p ≡ finite.remove boxes p
-written_removed boxes p ws = same_map paths_total paths_exact _ _ (λ q.
-    get-remove paths_total (finite.insert boxes p ws) p q ∙ ap (cond (eq_by_cmp path_cmp q p) None) (get-insert paths_total boxes p ws q)
-    ∙ twice_chosen (eq_by_cmp path_cmp q p) None (Some ws) (finite.get boxes q) ∙ sym (get-remove paths_total boxes p q))
-
-pub get_less : (boxes : Boxes) (p : Path) (ws : List Waiting) → items_under (finite.insert boxes p ws) p ≡ ws
-get_less boxes p ws = ap contents (get-insert paths_total boxes p ws p ∙ ap (λ b. cond b (Some ws) (finite.get boxes p)) (tied p))
-
 -- no tree is no box
 pub none_under : (tree : Option Boxes) (boxes : Boxes) (p : Path) → tree ≡ None → unwrap_or tree finite.empty ≡ boxes → [] ≡ items_under boxes p
 none_under tree boxes p none is = sym (ap contents (ap (λ b. finite.get b p) (sym is ∙ ap (λ o. unwrap_or o finite.empty) none) ∙ get-empty path_cmp p))
 
-no_items : (ws : List Waiting) → (length ws == 0) ≡ true → ws ≡ []
-no_items [] e = refl
-no_items (w ∷ ws) e = let none : length (w ∷ ws) ≡ 0 = same_number (length (w ∷ ws)) 0 e in absurd (omega (arith, none))
+-- without a box for nothing
+pub with_box : (boxes : Boxes) (p : Path) (ws : List Waiting) → with_value boxes p (box_of ws) ≡ with_items boxes p ws
+with_box boxes p [] = refl
+with_box boxes p (w ∷ ws) = refl
 
-some_items : (boxes : Boxes) (p : Path) (ws : List Waiting) → (length ws == 0) ≡ false → with_items boxes p ws ≡ finite.insert boxes p ws
-some_items boxes p [] e = absurd (false≢true (sym e))
-some_items boxes p (w ∷ ws) e = refl
-
--- with what ends gone, and then the box if it is empty: swept
-pub less_taken : (boxes less : Boxes) (p : Path) (o : Option (List Waiting)) (test : Waiting → Bool) → o ≡ finite.get boxes p → less ≡ with_less boxes p o test → (length (items_under less p) == 0) ≡ true → finite.remove less p ≡ swept boxes p test
-less_taken boxes less p None test is less_is empty =
-    ap (λ b. finite.remove b p) less_is ∙ ap (λ o. with_items boxes p (filter (λ w. not (test w)) (contents o))) is
-less_taken boxes less p (Some ws) test is less_is empty =
-    let left : List Waiting = filter (λ w. not (test w)) ws in
-    let none : left ≡ [] = sym (ap (λ b. items_under b p) less_is ∙ get_less boxes p left) ∙ no_items (items_under less p) empty in
-    ap (λ b. finite.remove b p) less_is ∙ written_removed boxes p left ∙ ap (with_items boxes p) (sym none) ∙ ap (λ o. with_items boxes p (filter (λ w. not (test w)) (contents o))) is
-
-pub less_left : (boxes less : Boxes) (p : Path) (o : Option (List Waiting)) (test : Waiting → Bool) → o ≡ finite.get boxes p → less ≡ with_less boxes p o test → (length (items_under less p) == 0) ≡ false → less ≡ swept boxes p test
-less_left boxes less p None test is less_is some =
-    let none : items_under less p ≡ [] = ap (λ b. items_under b p) less_is ∙ ap contents (sym is) in
-    absurd (false≢true (sym some ∙ ap (λ (ws : List Waiting). length ws == 0) none))
-less_left boxes less p (Some ws) test is less_is some =
-    let left : List Waiting = filter (λ w. not (test w)) ws in
-    let there : items_under less p ≡ left = ap (λ b. items_under b p) less_is ∙ get_less boxes p left in
-    less_is ∙ sym (some_items boxes p left (ap (λ (ws : List Waiting). length ws == 0) (sym there) ∙ some)) ∙ ap (λ o. with_items boxes p (filter (λ w. not (test w)) (contents o))) is
+-- there is no box, or one with these
+pub box_or_none : (o : Option (List Waiting)) → (o ≡ None) ⊎ ((ws : List Waiting) × (o ≡ Some ws))
+box_or_none None = inl refl
+box_or_none (Some ws) = inr (ws, refl)
 
 pub none_swept : (tree : Option Boxes) (boxes : Boxes) (p : Path) (test : Waiting → Bool) → tree ≡ None → unwrap_or tree finite.empty ≡ boxes → unwrap_or tree finite.empty ≡ swept boxes p test
 none_swept tree boxes p test none is =

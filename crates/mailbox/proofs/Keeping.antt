@@ -171,6 +171,11 @@ module _ (ws : List Waiting) (boxes : Boxes) (order : List Place) (k : Key) (kep
   pub none_deleted : None ≡ option_map place_of (item_at boxes k) → filter (λ w. not (is_at k w)) ws ≡ ws
   none_deleted none = filter_all (is_at k) ws (never_found (is_at k) ws (sym found_at_key ∙ no_item (item_at boxes k) none))
 
+  -- and no place goes
+  pub none_left_out : None ≡ option_map place_of (item_at boxes k) → order ≡ filter (λ place. not (same_key k place.key)) order
+  none_left_out none =
+      kept.indexed ∙ sym (ap (filter (λ place. not (same_key k place.key))) kept.indexed ∙ filter_mapped place_of (λ place. not (same_key k place.key)) ws ∙ ap (map place_of) (none_deleted none))
+
   module _ (p : Place) (at : Some p ≡ option_map place_of (item_at boxes k)) where
     the_item : OfItem p (item_at boxes k)
     the_item = of_item p (item_at boxes k) at

@@ -37,11 +37,6 @@ with_items boxes p (w ∷ ws) = finite.insert boxes p (w ∷ ws)
 abbrev pub swept : Boxes → Path → (Waiting → Bool) → Boxes
 swept boxes p test = with_items boxes p (filter (λ w. not (test w)) (items_under boxes p))
 
--- as above, where a box that is left with nothing stays
-abbrev pub with_less : Boxes → Path → Option (List Waiting) → (Waiting → Bool) → Boxes
-with_less boxes p None test = boxes
-with_less boxes p (Some ws) test = finite.insert boxes p (filter (λ w. not (test w)) ws)
-
 -- the item is the last of these, in place of any at its key
 abbrev pub put_last : List Waiting → Waiting → List Waiting
 put_last ws w = filter (λ o. not (is_at w.key o)) ws ++ w ∷ []

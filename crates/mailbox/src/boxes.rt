@@ -1,13 +1,13 @@
 //! The inboxes of all destinations.
 
-ghost use Rattle.std.specs.Prelude.{◌≡◌, ◌==◌, ◌<◌, ◌^◌, ◌++◌, [], false, length, map, None, OnOk, OnErr, IfOk, IsSome};
-ghost use Rattle.std.specs.List.{cons_option, list_any};
+ghost use Rattle.std.specs.Prelude.{◌≡◌, ◌<◌, ◌^◌, ◌++◌, [], false, map, None, OnOk, OnErr, IfOk, IsSome};
+ghost use Rattle.std.specs.List.{cons_option, find, list_any};
 ghost use Rattle.std.specs.Option.{is_none, option_copied, option_map};
 ghost use Rattle.std.specs.FinMap as finite;
 ghost use Rattle.identity.specs.Path.{id_path};
 ghost use Rattle.mailbox.specs.Tests.{is_at};
 ghost use Rattle.mailbox.specs.Places.{places_of};
-ghost use Rattle.mailbox.specs.Boxes.{items_under, with_items, with_less, swept, put, put_last, item_at, place_of, is_kept, in_order};
+ghost use Rattle.mailbox.specs.Boxes.{items_under, with_items, swept, put, put_last, item_at, place_of, is_kept, in_order};
 
 use crate::inbox::Inbox;
 use crate::node::Link;
@@ -75,13 +75,6 @@ impl<A: Allocator> Boxes<A> {
         items::item_at(self.items_of(key.destination), key)
     }
 
-    /// The place of the item at a key.
-    pub(crate) fn place_at(&self, key: &Key) -> Option<Place>
-        ensures { result ≡ option_map place_of (item_at self.now key.now) }
-    {
-        items::place_at(self.items_of(key.destination), key)
-    }
-
     /// The items at these places, as far as there are any.
     pub(crate) fn items_at<B: Allocator>(
         &self,
@@ -95,14 +88,16 @@ impl<A: Allocator> Boxes<A> {
         Ok(items)
     }
 
-    /// Takes the item at a key away, and the inbox where nothing is left. It takes no memory.
-    pub(crate) fn remove_at(&mut self, key: &Key)
-        ensures { self.new ≡ swept self.old (id_path key.now.destination) (is_at key.now) }
+    /// Takes the item at a key away, and the inbox where nothing is left, and answers the item's place. It takes no
+    /// memory, and goes down the tree once.
+    pub(crate) fn remove_at(&mut self, key: &Key) -> Option<Place>
+        ensures left { self.new ≡ swept self.old (id_path key.now.destination) (is_at key.now) }
+        ensures place { result ≡ option_map place_of (item_at self.old key.now) }
     {
         let Some(tree) = &mut self.tree else {
-            return;
+            return None;
         };
-        remove_under(tree, &key.destination.path(), key);
+        remove_under(tree, &key.destination.path(), key)
     }
 }
 
@@ -231,33 +226,9 @@ fn put_from<A: Allocator, L: Ledger>(
     }
 }
 
-fn remove_under<A: Allocator>(tree: &mut Tree<A>, path: &Prefix, key: &Key)
-    ensures { tree.new ≡ swept tree.old path.now (is_at key.now) }
+fn remove_under<A: Allocator>(tree: &mut Tree<A>, path: &Prefix, key: &Key) -> Option<Place>
+    ensures left { tree.new ≡ swept tree.old path.now (is_at key.now) }
+    ensures place { result ≡ option_map place_of (find (is_at key.now) (items_under tree.old path.now)) }
 {
-    if remove_from::<A, Brand>(tree, path, key, Blank::new(1)) {
-        let _ = tree.take(path);
-    }
-}
-
-// Takes the item at the key out of the inbox, counted by this ledger. Whether nothing is left there.
-fn remove_from<A: Allocator, L: Ledger>(
-    tree: &mut Tree<A>,
-    path: &Prefix,
-    key: &Key,
-    blank: Blank,
-) -> bool
-    requires name { blank.name ≡ L.name }
-    requires parts { blank.parts ≡ L.parts }
-    requires some { 0 < blank.parts }
-    ensures left { tree.new ≡ with_less tree.old path.now (finite.get tree.old path.now) (is_at key.now) }
-    ensures empty { result ≡ (length (items_under tree.new path.now) == 0) }
-{
-    let mut steps = Steps::<L>::new(blank);
-    match tree.get_mut(path, &mut steps) {
-        Some(inbox) => {
-            inbox.remove_at(key);
-            inbox.as_slice().is_empty()
-        }
-        None => true,
-    }
+    tree.change(path, |inbox| inbox.without(key))?
 }

@@ -1,11 +1,13 @@
 //! The items of one destination.
 
 ghost use Rattle.std.specs.Prelude.{◌≡◌, ◌<◌, [], false, not, OnOk, OnErr, IfOk, vec_len, vec_capacity};
-ghost use Rattle.std.specs.List.{filter, list_any};
+ghost use Rattle.std.specs.List.{filter, find, list_any};
+ghost use Rattle.std.specs.Option.{option_map};
 ghost use Rattle.mailbox.specs.Tests.{is_at};
-ghost use Rattle.mailbox.specs.Boxes.{put_last};
+ghost use Rattle.mailbox.specs.Boxes.{box_of, place_of, put_last};
 
-use crate::items::any_at;
+use crate::items::{any_at, place_at};
+use crate::place::Place;
 use crate::{Item, Key};
 use prefix_tree::TryCopy;
 use std::alloc::{AllocError, Allocator};
@@ -58,11 +60,18 @@ impl<A: Allocator> Inbox<A> {
         Ok(())
     }
 
-    /// Takes away the item at the key.
-    pub(crate) fn remove_at(&mut self, key: &Key)
-        ensures { self.new ≡ filter (λ w. not (is_at key.now w)) self.old }
+    /// The place of the item at the key, and what is left without it, where that is anything.
+    pub(crate) fn without(mut self, key: &Key) -> (Option<Place>, Option<Self>)
+        ensures place { result.0 ≡ option_map place_of (find (is_at key.now) self) }
+        ensures left { result.1 ≡ box_of (filter (λ w. not (is_at key.now w)) self) }
     {
+        let place = place_at(&self.items, key);
         remove_at(&mut self.items, key);
+        if self.items.is_empty() {
+            (place, None)
+        } else {
+            (place, Some(self))
+        }
     }
 }
 

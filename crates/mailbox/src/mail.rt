@@ -163,11 +163,9 @@ impl<A: Allocator> Mail<A> {
     fn remove_at(&mut self, key: &Key)
         ensures { self.new ≡ deleted self.old key.now }
     {
-        let Some(place) = self.boxes.place_at(key) else {
-            return;
-        };
-        self.boxes.remove_at(key);
-        self.order.remove(&place);
+        if let Some(place) = self.boxes.remove_at(key) {
+            self.order.remove(&place);
+        }
     }
 
     fn remove_confirmed(&mut self, key: &Key)
@@ -204,7 +202,7 @@ impl<A: Allocator> Mail<A> {
         let Some(place) = self.order.pop() else {
             return;
         };
-        self.boxes.remove_at(&place.key);
+        let _ = self.boxes.remove_at(&place.key);
     }
 
     /// All that waits, in order of number, then of key.

@@ -11,10 +11,9 @@ use Rattle.std.specs.FinMap as map
 use Rattle.std.specs.FinMap.{get-insert, same_map}
 use Rattle.identity.specs.Path.{Path, path_cmp, begins}
 use Rattle.identity.specs.PathLaws.{paths_total, paths_exact, tie_exact}
-use Rattle.prefix_tree.specs.Table.{PathMap}
 use Rattle.prefix_tree.specs.declared.node.Node.TheInside.{Inside}
-use Rattle.prefix_tree.specs.Visits.{is_place, visits_beyond}
-use Rattle.prefix_tree.specs.Joined.{NodeSeen, joined, KeysUnder, table_of, is_under, leads_to, link_visits, IsFirm, IsUnder, node_view}
+use Rattle.prefix_tree.specs.Visits.{visits_beyond}
+use Rattle.prefix_tree.specs.Joined.{NodeSeen, KeysUnder, table_of, leads_to, link_visits, IsFirm, IsUnder, node_view}
 use Rattle.prefix_tree.specs.Lending.{IsOnWay, IsLike, IsGrafted}
 use Rattle.prefix_tree.proofs.Begins.{pick, pick_zero, pick_one, begins_self, begins_trans, begins_length, begins_whole, longer_side, side_begins}
 use Rattle.prefix_tree.proofs.JoinedLaws.{get_joined, keys_joined, under_off}

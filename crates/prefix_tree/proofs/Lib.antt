@@ -1,4 +1,5 @@
 pub mod Begins
+pub mod ChangeLaws
 pub mod CountLaws
 pub mod Following
 pub mod GrowLaws

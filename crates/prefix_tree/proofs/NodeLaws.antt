@@ -1,7 +1,7 @@
 -- A node seen as a map, and its parts.
 use Rattle.std.proofs.Common.{◌≡◌, ◌<◌, ◌≤◌, inl, inr, arith, length, Bool, true, false, cond, [], ◌∷◌, ◌++◌, Option, Some, None, refl, sym, ap, subst, ◌∙◌}
 use mathlib.Core.Bool.{false≢true}
-use Rattle.std.specs.Prelude.{IsTrue, Result, Ok, Err, OnOk, IfOk, IfErr, IsSome, IfSome, IfNone}
+use Rattle.std.specs.Prelude.{IsTrue, Result, Ok, Err, OnOk, IfOk, IfErr, IsSome}
 use Rattle.std.proofs.lemmas.Bool.{cases_eq}
 use Rattle.std.specs.Box.{with_value}
 use Rattle.std.specs.FinMap as map

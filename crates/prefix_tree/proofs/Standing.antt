@@ -11,7 +11,7 @@ use Rattle.identity.specs.Path.{Path, path_cmp, begins}
 use Rattle.identity.specs.PathLaws.{paths_total, tie_exact, tied}
 use Rattle.prefix_tree.specs.Table.{PathMap}
 use Rattle.prefix_tree.specs.Visits.{any_under, goes_on, is_place}
-use Rattle.prefix_tree.specs.Joined.{NodeSeen, joined, KeysUnder, all_under, is_under, table_of, IsFirm, IsLoose, IsUnder, node_view}
+use Rattle.prefix_tree.specs.Joined.{NodeSeen, joined, KeysUnder, all_under, is_under, table_of, IsUnder, node_view}
 use Rattle.prefix_tree.proofs.Begins.{begins_self, begins_trans, begins_push, side_begins}
 use Rattle.prefix_tree.proofs.JoinedLaws.{get_here, get_zero, get_one}
 use Rattle.prefix_tree.proofs.OrderLaws.{AllUnder, entries_under}

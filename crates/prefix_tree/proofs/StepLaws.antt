@@ -1,22 +1,19 @@
 -- One step down: what is visited, and what links may be changed.
-use Rattle.std.proofs.Common.{◌≡◌, ℕ, ◌+◌, ◌-◌, ◌<◌, ◌≤◌, Bool, true, false, cond, [], ◌∷◌, ◌++◌, Option, Some, None, length, take, refl, sym, ap, subst, ◌∙◌, arith}
-use mathlib.Core.Bool.{false≢true}
+use Rattle.std.proofs.Common.{◌≡◌, ℕ, ◌+◌, Bool, true, false, cond, [], ◌∷◌, ◌++◌, Option, Some, None, refl, sym, ap, subst, ◌∙◌}
 use Rattle.std.specs.Prelude.{IsTrue, ◌&&◌}
-use Rattle.std.specs.Option.{is_some, option_map, option_or}
+use Rattle.std.specs.Option.{is_some}
 use Rattle.std.specs.FinMap as map
-use Rattle.std.specs.FinMap.{get-empty}
 use Rattle.std.specs.declared.boxed.Box.{Box}
-use Rattle.identity.specs.Path.{Path, path_cmp, begins}
-use Rattle.prefix_tree.specs.Table.{PathMap, longest, longest_below}
+use Rattle.identity.specs.Path.{Path, begins}
+use Rattle.prefix_tree.specs.Table.{PathMap}
 use Rattle.prefix_tree.specs.declared.node.Node.TheInside.{Inside}
 use Rattle.prefix_tree.specs.Visits.{visits_beyond}
-use Rattle.prefix_tree.specs.Joined.{NodeSeen, table_of, is_under, leads_to, link_visits, own_entry, IsFirm, IsLoose, IsUnder, IsLooseUnder, node_view}
-use Rattle.prefix_tree.proofs.Begins.{begins_trans, begins_length, longer_side, side_begins}
-use Rattle.prefix_tree.proofs.JoinedLaws.{under_off}
+use Rattle.prefix_tree.specs.Joined.{NodeSeen, table_of, is_under, leads_to, link_visits, own_entry, IsUnder, node_view}
+use Rattle.prefix_tree.proofs.Begins.{begins_trans, side_begins}
 use Rattle.prefix_tree.proofs.OrderLaws.{entries_joined}
-use Rattle.prefix_tree.proofs.Standing.{sound_when, never_so}
+use Rattle.prefix_tree.proofs.Standing.{sound_when}
 use Rattle.prefix_tree.proofs.VisitLaws.{visits_step}
-use Rattle.prefix_tree.proofs.NodeLaws.{at_is, table_is, fits, zero_keys, one_keys, zero_under, one_under, read_zero, read_one, firm_node, none_behind, table_behind}
+use Rattle.prefix_tree.proofs.NodeLaws.{at_is, table_is, fits, zero_keys, one_keys, zero_under, one_under, read_zero, read_one, firm_node, table_behind}
 use Rattle.prefix_tree.proofs.JoinLaws.{under_up}
 
 pub turn : (p q : Path) (b c : Bool) → b ≡ c → IsTrue (begins (p ++ b ∷ []) q) → IsTrue (begins (p ++ c ∷ []) q)

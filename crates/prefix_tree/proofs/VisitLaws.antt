@@ -1,10 +1,10 @@
 -- The nodes that are visited on the way to a key.
-use Rattle.std.proofs.Common.{◌≡◌, ℕ, zero, suc, ◌+◌, ◌-◌, ◌<◌, ◌≤◌, Bool, true, false, cond, [], ◌∷◌, ◌++◌, Option, Some, None, inl, inr, length, length-append, drop, refl, sym, ap, subst, ◌∙◌, arith}
+use Rattle.std.proofs.Common.{◌≡◌, ℕ, zero, suc, ◌+◌, ◌<◌, ◌≤◌, Bool, true, false, cond, [], ◌∷◌, ◌++◌, Option, Some, None, inl, inr, length, length-append, drop, refl, sym, ap, subst, ◌∙◌, arith}
 use mathlib.Core.Bool.{false≢true}
 use Rattle.std.proofs.lemmas.Bool.{cases_eq}
 use Rattle.std.proofs.lemmas.List.{append_assoc}
 use Rattle.std.proofs.Math.Seq.{drop-append_seam}
-use Rattle.std.specs.Prelude.{◌&&◌, ◌||◌, IsTrue}
+use Rattle.std.specs.Prelude.{◌&&◌, ◌||◌}
 use Rattle.std.specs.Option.{is_some}
 use Rattle.std.specs.FinMap as map
 use Rattle.std.specs.FinMap.{get-empty}
@@ -13,7 +13,7 @@ use Rattle.identity.specs.Path.{Path, path_cmp, begins}
 use Rattle.prefix_tree.specs.Table.{PathMap}
 use Rattle.prefix_tree.specs.Visits.{goes_on, is_place, visits, visits_beyond, nodes_on_way}
 use Rattle.prefix_tree.specs.Joined.{NodeSeen, KeysUnder, table_of, IsUnder, link_visits}
-use Rattle.prefix_tree.proofs.Begins.{begins_self, begins_trans, begins_push, side_begins, begins_length, begins_whole, longer_side}
+use Rattle.prefix_tree.proofs.Begins.{begins_self, begins_push, side_begins, begins_length, begins_whole}
 use Rattle.prefix_tree.proofs.Numbers.{begins_front}
 use Rattle.prefix_tree.proofs.JoinedLaws.{under_off}
 use Rattle.prefix_tree.proofs.Standing.{never_so, goes_same, goes_wider, goes_none, place_same, place_goes}

@@ -1,14 +1,12 @@
 -- The entries of a node and of those below it, one after the other.
-use Rattle.std.proofs.Common.{◌≡◌, Bool, true, false, List, [], ◌∷◌, ◌++◌, Option, Some, None, refl, sym, ap, ◌∙◌}
+use Rattle.std.proofs.Common.{◌≡◌, false, List, [], ◌∷◌, ◌++◌, Some, None, refl, sym, ap, ◌∙◌}
 use mathlib.Core.Bool.{false≢true}
 use Rattle.std.proofs.lemmas.List.{append_assoc, append-nil, map-append}
 use Rattle.std.specs.Prelude.{IsTrue, Result, Ok, Err, is_ok, if◌then◌else◌}
 use Rattle.std.specs.Result.{is_err}
 use Rattle.std.specs.FinMap as map
 use Rattle.std.specs.Borrow.{Bor}
-use Rattle.std.specs.declared.boxed.Box.{Box}
 use Rattle.identity.specs.Path.{Path}
-use Rattle.prefix_tree.specs.Table.{PathMap}
 use Rattle.prefix_tree.specs.Walk.{seen}
 use Rattle.prefix_tree.specs.declared.node.Node.TheInside.{Inside}
 use Rattle.prefix_tree.specs.Joined.{NodeSeen, own_entry, table_of, node_view}

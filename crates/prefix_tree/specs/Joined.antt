@@ -1,5 +1,5 @@
 -- A map put together from what is at a node and what is below it on either side, all under whole paths.
-use Rattle.std.specs.Prelude.{◌≡◌, ℕ, ◌+◌, ◌<◌, length, not, Bool, true, false, ◌&&◌, ◌||◌, cond, refl, List, [], ◌∷◌, ◌++◌, Option, Some, None, IsTrue}
+use Rattle.std.specs.Prelude.{◌≡◌, ℕ, ◌+◌, ◌<◌, length, not, Bool, true, false, ◌&&◌, cond, refl, List, [], ◌∷◌, ◌++◌, Option, Some, None, IsTrue}
 use Rattle.std.specs.Option.{is_some}
 use Rattle.std.specs.Coded.{Coded, code_by, coded×, coded_ℕ, coded_bool}
 use Rattle.std.specs.FinMap as map

@@ -3,6 +3,7 @@ pub mod PrefixList
 pub mod Paths
 pub mod Visits
 pub mod Joined
+pub mod Change
 pub mod Lending
 pub mod Following
 pub mod Next

@@ -1,10 +1,11 @@
 //! Changing the tree: at most two new nodes, made before either is linked; a node that is left without a value and
 //! with one side goes.
 
-ghost use Rattle.std.specs.Prelude.{◌≡◌, cond, Some, None, ◌+◌, ◌<◌, ◌≤◌, ◌∷◌, ◌++◌, [], IsTrue, IsSome, IsOk, OnOk, IfOk, IfErr, true, false, not, length};
+ghost use Rattle.std.specs.Prelude.{◌≡◌, cond, Option, Some, None, ◌+◌, ◌<◌, ◌≤◌, ◌∷◌, ◌++◌, [], IsTrue, IsSome, IsOk, OnOk, IfOk, IfErr, true, false, not, length};
 ghost use Rattle.std.specs.FinMap as map;
 ghost use Rattle.std.specs.Option.{is_some};
 ghost use Rattle.identity.specs.Path.{begins};
+ghost use Rattle.prefix_tree.specs.Change.{with_value, Makes};
 ghost use Rattle.prefix_tree.specs.Joined.{table_of, nodes_of, leads_to, spread, KeysUnder, IsFirm, IsUnder, IsLoose, IsLooseUnder, PartsAt, is_lone, link_visits};
 ghost use Rattle.prefix_tree.specs.Visits.{is_place, visits_beyond};
 
@@ -201,37 +202,44 @@ fn grow<V: Drop, A: Allocator + Clone>(
 }
 
 impl<V: Drop, A: Allocator> Node<V, A> {
-    /// The value that was there. What is below and is left without a value and with one side is joined.
-    #[cycle(remove)]
-    pub(crate) fn remove<L: Ledger>(&mut self, key: &Prefix, steps: &mut Steps<L>) -> Option<V>
+    /// What the closure answers of the value that is there, which it changes or lets go. What is below and is left
+    /// without a value and with one side is joined.
+    #[cycle(change)]
+    pub(crate) fn change<R, F: FnOnce(V) -> (R, Option<V>), L: Ledger>(
+        &mut self,
+        key: &Prefix,
+        change: F,
+        steps: &mut Steps<L>,
+    ) -> Option<R>
         requires within { IsTrue (begins self.old.at key.now) }
         requires sound { IsTrue self.old.sound }
+        requires callable { F.IsAlwaysCallable change }
         ensures at { self.new.at ≡ self.old.at }
         ensures sound { IsTrue self.new.sound }
-        ensures before { result ≡ map.get self.old.table key.now }
-        ensures removed { self.new.table ≡ map.remove self.old.table key.now }
+        ensures changed { (left : Option V) × (self.new.table ≡ with_value self.old.table key.now left) × Makes (F.post change) (map.get self.old.table key.now) result left }
         ensures cost { steps.new ≡ steps.old + visits_beyond self.old.table self.old.at key.now }
     {
         if self.at.len() == key.len() {
-            return self.value.take();
+            return apply(&mut self.value, change);
         }
         if path::side(&self.at, key) {
-            Node::remove_below(&mut self.one, key, steps)
+            Node::change_below(&mut self.one, key, change, steps)
         } else {
-            Node::remove_below(&mut self.zero, key, steps)
+            Node::change_below(&mut self.zero, key, change, steps)
         }
     }
 
-    // As `remove`, of what a link leads to.
-    #[cycle(remove)]
-    fn remove_below<L: Ledger>(
+    // As `change`, of what a link leads to.
+    #[cycle(change)]
+    fn change_below<R, F: FnOnce(V) -> (R, Option<V>), L: Ledger>(
         link: &mut Option<Link<V, A>>,
         key: &Prefix,
+        change: F,
         steps: &mut Steps<L>,
-    ) -> Option<V>
-        requires { IsUnder [] link.old }
-        ensures before { result ≡ map.get (table_of link.old) key.now }
-        ensures removed { table_of link.new ≡ map.remove (table_of link.old) key.now }
+    ) -> Option<R>
+        requires under { IsUnder [] link.old }
+        requires callable { F.IsAlwaysCallable change }
+        ensures changed { (left : Option V) × (table_of link.new ≡ with_value (table_of link.old) key.now left) × Makes (F.post change) (map.get (table_of link.old) key.now) result left }
         ensures under { (p : _) → IsUnder p link.old → IsUnder p link.new }
         ensures cost { steps.new ≡ steps.old + link_visits link.old key.now }
     {
@@ -239,10 +247,21 @@ impl<V: Drop, A: Allocator> Node<V, A> {
             return None;
         }
         let Some(node) = link else { unreachable!() };
-        let gone = node.remove(key, steps);
+        let answer = node.change(key, change, steps);
         join(link);
-        gone
+        answer
     }
+}
+
+// What the closure answers of the value, if there is one, and leaves of it.
+fn apply<V: Drop, R, F: FnOnce(V) -> (R, Option<V>)>(value: &mut Option<V>, change: F) -> Option<R>
+    requires { F.IsAlwaysCallable change }
+    ensures { Makes (F.post change) value.old result value.new }
+{
+    let old = value.take()?;
+    let (answer, left) = change(old);
+    *value = left;
+    Some(answer)
 }
 
 // A node without a value and with one side at most gives its place to that side.

@@ -1,12 +1,13 @@
 //! The map as a tree with a node only where prefixes part.
 
-ghost use Rattle.std.specs.Prelude.{◌≡◌, ◌+◌, ◌*◌, ◌<◌, ◌≤◌, IfNone, IfOk, IfErr, OnOk, OnSome, IsOk, IsSome};
+ghost use Rattle.std.specs.Prelude.{◌≡◌, Option, ◌+◌, ◌*◌, ◌<◌, ◌≤◌, IfNone, IfOk, IfErr, OnOk, OnSome, IsOk, IsSome};
 ghost use Rattle.std.specs.Option.{option_copied, option_copied_mut, option_map};
 ghost use Rattle.std.specs.Borrow.{sem};
 ghost use Rattle.std.specs.FinMap as map;
 ghost use Rattle.identity.specs.Path.{id_path};
 ghost use Rattle.prefix_tree.specs.Table.{longest};
 ghost use Rattle.prefix_tree.specs.Walk.{seen};
+ghost use Rattle.prefix_tree.specs.Change.{with_value, Makes};
 ghost use Rattle.prefix_tree.specs.Lending.{LendsEntry};
 ghost use Rattle.prefix_tree.specs.Next.{next_entry};
 ghost use Rattle.prefix_tree.specs.Visits.{nodes_on_way};
@@ -178,7 +179,7 @@ impl<V, A: Allocator> PrefixTree<V, A> {
     {
         let _ = prefix.len();
         steps.tick();
-        self.root.remove(prefix, steps)
+        self.root.change(prefix, |value| (value, None), steps)
     }
 
     /// As `remove`, for a caller that counts nothing.
@@ -189,6 +190,22 @@ impl<V, A: Allocator> PrefixTree<V, A> {
         ensures removed { self.new ≡ map.remove self.old prefix.now }
     {
         take_from::<V, A, Brand>(self, prefix, Blank::new(1))
+    }
+
+    /// What the closure answers of the value at a prefix, if there is one. The value becomes what the closure leaves
+    /// of it; where that is nothing, it goes as `remove` takes it out. It takes no memory, and goes down the tree
+    /// once.
+    pub fn change<R, F: FnOnce(V) -> (R, Option<V>)>(
+        &mut self,
+        prefix: &Prefix,
+        change: F,
+    ) -> Option<R>
+    where
+        V: Drop,
+        requires { F.IsAlwaysCallable change }
+        ensures { (left : Option V) × (self.new ≡ with_value self.old prefix.now left) × Makes (F.post change) (map.get self.old prefix.now) result left }
+    {
+        change_from::<V, A, R, F, Brand>(self, prefix, change, Blank::new(1))
     }
 }
 
@@ -271,6 +288,23 @@ fn take_from<V: Drop, A: Allocator, L: Ledger>(
 {
     let mut steps = Steps::<L>::new(blank);
     tree.remove(prefix, &mut steps)
+}
+
+// As `change`, counted by this ledger.
+fn change_from<V: Drop, A: Allocator, R, F: FnOnce(V) -> (R, Option<V>), L: Ledger>(
+    tree: &mut PrefixTree<V, A>,
+    prefix: &Prefix,
+    change: F,
+    blank: Blank,
+) -> Option<R>
+    requires name { blank.name ≡ L.name }
+    requires parts { blank.parts ≡ L.parts }
+    requires some { 0 < blank.parts }
+    requires callable { F.IsAlwaysCallable change }
+    ensures { (left : Option V) × (tree.new ≡ with_value tree.old prefix.now left) × Makes (F.post change) (map.get tree.old prefix.now) result left }
+{
+    let mut steps = Steps::<L>::new(blank);
+    tree.root.change(prefix, change, &mut steps)
 }
 
 // As `replace`, counted by this ledger.

@@ -47,7 +47,7 @@ module _ {B : Type 0} where
   idle_by s t c (Kept number pdu) says refused = says
   idle_by s t c (Refused refusal) says refused = says
 
-  idle : (s : State) (c : Asked B) → accepts s c ≡ false → next s c ≡ s
+  pub idle : (s : State) (c : Asked B) → accepts s c ≡ false → next s c ≡ s
   idle s c refused = idle_by s (next s c) c (step s c).1 (core.says B s c) refused
 
   -- ---- the accepted ones of a list, by whether its first is one

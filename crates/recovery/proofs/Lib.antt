@@ -8,10 +8,11 @@ mod Called
 mod Formatted
 mod Faults
 mod Batches
-mod Keeping
+pub mod Keeping
 mod Chained
 mod Limited
 mod Applied
+mod Replayed
 mod Stood
 mod Synced
 mod Ranged

@@ -1,14 +1,19 @@
 -- What an image that stands opens to.
-use Rattle.std.proofs.Common.{◌≡◌, ℕ, List, Ok, refl, ap}
+use Rattle.std.proofs.Common.{◌≡◌, ◌⊎◌, inl, inr, ℕ, List, ◌++◌, length, Result, Ok, Err, refl, ap, ◌∙◌}
+use Rattle.sector_disk.specs.declared.record.Call.{Call}
+use Rattle.image_rows.specs.Rows.{rows_of}
+use Rattle.gated_journal.specs.Reading.{HasRecords}
 use Rattle.centre_core.specs.History.{after}
 use Rattle.centre_core.specs.Histories.{IsHistory}
 use Rattle.checkpoint.specs.declared.layout.Layout.{Layout}
 use Rattle.checkpoint.specs.declared.side.Side.{Side}
-use Rattle.checkpoint.specs.Layout.{slot_at}
+use Rattle.checkpoint.specs.Layout.{half_at, half_end, slot_at}
+use Rattle.checkpoint.specs.Reading.{image_looks, slot_in}
 use Rattle.checkpoint.specs.Standing.{Base, Held, IsInSlot, Stands}
 use Rattle.checkpoint.proofs.Apart.{lies}
 use Rattle.checkpoint.proofs.Epochs.{slot_tells}
 use Rattle.recovery.specs.Opens.{base_in, opening, opens, opens_by, placed, played_by}
+use Rattle.recovery.specs.Opening.{AreGoodSoFar}
 use Rattle.recovery.specs.Standing.{commands_of}
 use Rattle.recovery.proofs.Labelled.{label_read}
 use Rattle.recovery.proofs.Sided.{side_found}
@@ -17,6 +22,22 @@ use Rattle.recovery.proofs.Played.{history_played}
 base_found : (layout : Layout) (s : Side) (base : Base) (image : List (List ℕ)) → IsInSlot layout s base image → base_in layout s image ≡ Ok base
 unfolding base_in
 base_found layout s base image is = ap (placed (slot_at layout s)) is
+
+-- where memory was wanted behind the rows: the calls are those that read them, or the records are good too
+pub so_far : (A : Type 0) (layout : Layout) (s : Side) (base : Base) (image : List (List ℕ)) (old mid new : List Call) → base_in layout s image ≡ Ok base → mid ≡ old ++ image_looks (slot_at layout s) base
+    → (new ≡ mid) ⊎ HasRecords A image (half_at layout s) (half_end layout s) → AreGoodSoFar A layout s image new
+unfolding base_in
+so_far A layout s base image old mid new rows calls (inr records) = inr (record { base = base; rows = rows; records = records })
+so_far A layout s base image old mid new rows calls (inl none) = inl (record {
+  before = old;
+  read = length (rows_of base.0 base.1);
+  last = none ∙ calls;
+  good = λ place bad. absurd (no_bad (slot_in layout s image) base place rows bad);
+})
+  where
+    no_bad : (r : Result Base ℕ) (base : Base) (place : ℕ) → placed (slot_at layout s) r ≡ Ok base → r ≡ Err place → ⊥
+    no_bad (Ok b) base place good bad = absurd cc
+    no_bad (Err p) base place good bad = absurd cc
 
 module _ {A : Type 0} (layout : Layout) (s : Side) (base : Base) (held : Held A) (image : List (List ℕ)) where
   by_side : Stands layout s base held image → IsHistory base.1 (commands_of held.0) → opens_by A layout s image ≡ Ok (opening layout s base.0 held.1 (after base.1 (commands_of held.0)))

@@ -1,14 +1,19 @@
 -- A commit of one command.
-use Rattle.std.proofs.Common.{◌≡◌, ◌⊎◌, inl, inr, ℕ, zero, suc, Bool, true, false, refl, Result, Ok, Err, ◌-◌, ◌≤◌, List, [], ◌∷◌, ◌++◌, length, map, take, replicate, ap, ap₂, ◌∙◌, sym, arith}
+use Rattle.std.proofs.Common.{◌≡◌, ◌⊎◌, inl, inr, ⊎_elim, subst, IsTrue, ℕ, zero, suc, Bool, true, false, refl, Result, Ok, Err, ◌-◌, ◌≤◌, List, [], ◌∷◌, ◌++◌, length, map, take, replicate, ap, ap₂, ◌∙◌, sym, arith}
 use Rattle.centre_core.specs.Asked.{Asked}
 use Rattle.centre_core.specs.declared.reply.Reply.{Reply}
 use Rattle.centre_core.specs.State.{State}
 use Rattle.centre_core.specs.Step.{step}
-use Rattle.centre_core.specs.History.{after, next}
+use Rattle.centre_core.specs.History.{accepts, after, next}
 use Rattle.centre_core.proofs.StateLaws.{step_is_next}
 use Rattle.recovery.specs.declared.outcome.Outcome.{Outcome}
 use Rattle.recovery.specs.declared.outcome.Outcome.TheVariants.{NoMemory, Replied}
-use Rattle.recovery.specs.Outcomes.{IsAnswered, replies}
+use Rattle.recovery.specs.declared.fault.StoreFault.{StoreFault}
+use Rattle.recovery.specs.declared.fault.StoreFault.TheVariants as fault
+use Rattle.recovery.specs.Outcomes.{IsAfterBatch, IsAnswered, replies}
+use Rattle.recovery.specs.Refusals.{IsOfCommit}
+use Rattle.recovery.specs.Serving.{IsAfterOne}
+use Rattle.recovery.proofs.Batches.{idle}
 use Rattle.desk.specs.declared.service.Service.{Service}
 use Rattle.desk.specs.declared.service.Service.TheVariants.{Memory}
 use Rattle.desk.specs.OfStore.{StoreApplies, Stored}
@@ -39,3 +44,30 @@ clash x e is = absurd cc
 pub was_sound : {X E : Type 0} (broken : Bool) (x : X) (e : E) → (broken ≡ true → Ok x ≡ Err e) → broken ≡ false
 was_sound true x e is = absurd (clash x e (is refl))
 was_sound false x e is = refl
+
+module _ {B : Type 0} (s : State) (c : Asked B) where
+  by_verdict : (b : Bool) → accepts s c ≡ b → IsAfterOne s c (next s c)
+  by_verdict true is = inr (is, refl)
+  by_verdict false is = inl (idle s c is)
+
+  by_applied : (t : State) (applied : ℕ) → applied ≤ 1 → t ≡ after s (take applied (c ∷ [])) → IsAfterOne s c t
+  by_applied t zero few is = inl is
+  by_applied t (suc zero) few is = subst (λ u. IsAfterOne s c u) (sym is) (by_verdict (accepts s c) refl)
+  by_applied t (suc (suc n)) few is = absurd (omega arith)
+
+  -- a batch of one command is that command done, where it is accepted
+  pub after_answered : {C : Type 0} (t : State) (outcomes : List (Outcome C)) → IsAnswered s (c ∷ []) t outcomes → IsAfterOne s c t
+  after_answered t outcomes is = by_applied t is.applied is.end.most is.state
+
+  pub after_refused : (t : State) → (t ≡ s) ⊎ IsAfterBatch s (c ∷ []) t → IsAfterOne s c t
+  after_refused t is = ⊎_elim inl (λ batch. by_applied t batch.0 batch.2.most batch.1) is
+
+-- what holds after each fault of a commit but a failed device
+pub kept_behind : (e : StoreFault) (P : Type 0) → IsOfCommit e → (e ≡ fault.Broken → P) → (e ≡ fault.NoMemory → P) → (e ≡ fault.EpochsUsedUp → P) → (e ≡ fault.DiskFault → P) → P
+kept_behind fault.Unformatted P is broken memory epochs device = absurd is
+kept_behind fault.BadGeometry P is broken memory epochs device = absurd is
+kept_behind (fault.Damaged at) P is broken memory epochs device = absurd is
+kept_behind fault.DiskFault P is broken memory epochs device = device refl
+kept_behind fault.Broken P is broken memory epochs device = broken refl
+kept_behind fault.NoMemory P is broken memory epochs device = memory refl
+kept_behind fault.EpochsUsedUp P is broken memory epochs device = epochs refl

@@ -86,10 +86,14 @@ pub record Opening : Type 0 where
 abbrev pub opening : Layout → Side → ℕ → ℕ → State → Opening
 opening layout side epoch gate state = record { layout = layout; side = side; epoch = epoch; next = gate; state = state }
 
+-- the state after the commands of the records of a half, or of a part of one, and the first closed gate: all records are judged before one is played
+abbrev pub played_from : {A : Type 0} → State → Half A → Result (State × ℕ) StoreFault
+played_from s half = then_on (held_by half) (λ held. then_on (played s held.0) (λ t. Ok (t, held.1)))
+
 module _ (A : Type 0) where
-  -- the state after the commands of a side's half, and its first closed gate: all records are judged before one is played
+  -- the same of a side's half
   unfoldable pub played_by : Layout → Side → State → List (List ℕ) → Result (State × ℕ) StoreFault
-  played_by layout side s image = then_on (held_by {A = A} (half_of image (half_at layout side) (half_end layout side))) (λ held. then_on (played s held.0) (λ t. Ok (t, held.1)))
+  played_by layout side s image = played_from s (half_of {A = A} image (half_at layout side) (half_end layout side))
 
   -- by this side: its image, then its records
   unfoldable pub opens_by : Layout → Side → List (List ℕ) → Result Opening StoreFault

@@ -1,5 +1,10 @@
--- The words that a store says at a desk.
-use Rattle.std.specs.Prelude.{◌≡◌}
+-- What a store is as a desk.
+use Rattle.std.specs.Prelude.{◌≡◌, ◌⊎◌, ℕ, Bool, IsTrue, nat_le}
+use Rattle.centre_core.specs.Asked.{Asked}
+use Rattle.centre_core.specs.State.{State}
+use Rattle.centre_core.specs.History.{accepts, next}
+use Rattle.image_rows.specs.Rows.{last_epoch}
+use Rattle.desk.specs.OfStore.{Stored}
 use Rattle.desk.specs.declared.service.Service.{Service}
 use Rattle.desk.specs.declared.service.Service.TheVariants as service
 use Rattle.recovery.specs.declared.fault.StoreFault.{StoreFault}
@@ -14,3 +19,11 @@ IsWordFor EpochsUsedUp word = word ≡ service.Epochs
 IsWordFor Unformatted word = ⊥
 IsWordFor BadGeometry word = ⊥
 IsWordFor (Damaged at) word = ⊥
+
+-- what a store stands for, by the failures of its disk, its epoch, whether it is broken, and its register
+abbrev pub stored_of : ℕ → ℕ → Bool → State → Stored
+stored_of failures epoch broken state = record { register = state; broken = broken; failures = failures; last = nat_le last_epoch epoch }
+
+-- nothing was done, or the command was accepted
+abbrev pub IsAfterOne : {B : Type 0} → State → Asked B → State → Type 0
+IsAfterOne s c t = (t ≡ s) ⊎ (IsTrue (accepts s c) × (t ≡ next s c))

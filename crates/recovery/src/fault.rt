@@ -1,7 +1,9 @@
 //! Why a call on a register that is kept on a disk is refused.
 ghost use Rattle.std.specs.Prelude.{◌≡◌};
 ghost use Rattle.recovery.specs.declared.fault.StoreFault.TheVariants.{DiskFault, NoMemory};
+ghost use Rattle.recovery.specs.Opening.{fault_of};
 
+use gated_journal::JournalError;
 use sector_disk::DiskError;
 use std::alloc::AllocError;
 use thiserror::Error;
@@ -45,5 +47,17 @@ impl From<AllocError> for StoreFault {
 
     fn from(_: AllocError) -> Self {
         StoreFault::NoMemory
+    }
+}
+
+impl From<JournalError> for StoreFault {
+    ghost from_gives = { λ told e. e ≡ fault_of told };
+
+    fn from(told: JournalError) -> Self {
+        match told {
+            JournalError::Damaged(at) => StoreFault::Damaged(at),
+            JournalError::NoMemory => StoreFault::NoMemory,
+            JournalError::DiskFault | JournalError::JournalFull => StoreFault::DiskFault,
+        }
     }
 }

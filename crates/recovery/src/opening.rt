@@ -1,7 +1,8 @@
 // A disk, read from its label to its last record.
-ghost use Rattle.std.specs.Prelude.{◌≡◌, ◌<◌, ◌≤◌, IfErr, IfOk, IsErrOf, OnOk};
+ghost use Rattle.std.specs.Prelude.{◌≡◌, ◌⊎◌, ◌<◌, ◌≤◌, IfErr, IfOk, IsErrOf, OnOk};
 ghost use Rattle.sector_disk.specs.Disk.{HasFailed};
 ghost use Rattle.sector_disk.specs.Run.{HasLooked};
+ghost use Rattle.gated_journal.specs.Reading.{HasRecords};
 ghost use Rattle.checkpoint.specs.Layout.{disk_size, half_at, half_end};
 ghost use Rattle.recovery.specs.declared.fault.StoreFault.TheVariants.{DiskFault, NoMemory};
 ghost use Rattle.recovery.specs.Opens.{opens, opens_by, played_by};
@@ -10,7 +11,7 @@ ghost use Rattle.recovery.specs.Opened.{IsWhole, opened_view};
 
 use crate::StoreFault;
 use crate::label::read_layout;
-use crate::records::{play, read_base, read_records};
+use crate::records::{play, read_base};
 use crate::sides::read_side;
 use centre_core::Register;
 use checkpoint::{Layout, Side};
@@ -39,6 +40,7 @@ fn read_half<A: Allocator + Copy, D: Disk>(
 ) -> Result<Journal<A>, StoreFault>
     requires room { disk_size layout.now ≤ (D.view disk.old).sectors }
     ensures exact { (D.view disk.old).honest → EndsAt (λ journal. journal.next) result register.new (played_by A layout.now side register.old (D.view disk.old).reads) }
+    ensures memory { IsErrOf result NoMemory → (D.view disk.old).honest → ((D.view disk.new).calls ≡ (D.view disk.old).calls) ⊎ HasRecords A (D.view disk.old).reads (half_at layout.now side) (half_end layout.now side) }
     ensures limits { register.new.registered.limits ≡ register.old.registered.limits }
     ensures first { IfOk result (λ journal. journal.first ≡ half_at layout.now side) }
     ensures end { IfOk result (λ journal. journal.end ≡ half_end layout.now side) }
@@ -49,8 +51,8 @@ fn read_half<A: Allocator + Copy, D: Disk>(
     ensures sectors { (D.view disk.new).sectors ≡ (D.view disk.old).sectors }
     ensures later { (D.view disk.old).failures ≤ (D.view disk.new).failures }
 {
-    let (journal, entries) = read_records(alloc, disk, layout, side)?;
-    play(alloc, register, &entries)?;
+    let mut journal = Journal::start(alloc, layout.half(side), u64::from(layout.journal()))?;
+    play(alloc, disk, &mut journal, register)?;
     Ok(journal)
 }
 
@@ -64,7 +66,7 @@ fn read_by<A: Allocator + Copy, D: Disk>(
 ) -> Result<Opened<A>, StoreFault>
     requires room { disk_size layout ≤ (D.view disk.old).sectors }
     ensures exact { (D.view disk.old).honest → Gives opened_view result (opens_by A layout side (D.view disk.old).reads) }
-    ensures memory { IsErrOf result NoMemory → (D.view disk.old).honest → AreGoodSoFar layout side (D.view disk.old).reads (D.view disk.new).calls }
+    ensures memory { IsErrOf result NoMemory → (D.view disk.old).honest → AreGoodSoFar A layout side (D.view disk.old).reads (D.view disk.new).calls }
     ensures whole { IfOk result IsWhole }
     ensures layout { IfOk result (λ opened. opened.layout ≡ layout) }
     ensures kinds { IfErr result IsOfOpening }
@@ -96,7 +98,7 @@ pub(crate) fn read_all<A: Allocator + Copy, D: Disk>(
     disk: &mut D,
 ) -> Result<Opened<A>, StoreFault>
     ensures exact { (D.view disk.old).honest → Gives opened_view result (opens A (D.view disk.old).reads) }
-    ensures memory { IsErrOf result NoMemory → (D.view disk.old).honest → HasNoFaultYet (D.view disk.old).reads (D.view disk.new).calls }
+    ensures memory { IsErrOf result NoMemory → (D.view disk.old).honest → HasNoFaultYet A (D.view disk.old).reads (D.view disk.new).calls }
     ensures whole { IfOk result IsWhole }
     ensures room { IfOk result (λ opened. disk_size opened.layout ≤ (D.view disk.old).sectors) }
     ensures kinds { IfErr result IsOfOpening }

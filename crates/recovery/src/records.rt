@@ -1,24 +1,22 @@
 // The image in a side's slot, and the commands in its half.
-ghost use Rattle.std.specs.Prelude.{◌≡◌, ◌<◌, ◌≤◌, IfErr, IfOk, IsErrOf, OnOk};
+ghost use Rattle.std.specs.Prelude.{◌≡◌, ◌⊎◌, ◌<◌, ◌≤◌, ◌++◌, ℕ, IfErr, IfOk, IsErrOf, OnOk, Result, true};
 ghost use Rattle.sector_disk.specs.Disk.{HasFailed};
 ghost use Rattle.sector_disk.specs.Run.{HasLooked};
 ghost use Rattle.gated_journal.specs.Half.{half_of};
-ghost use Rattle.gated_journal.specs.Reading.{entries_view};
-ghost use Rattle.checkpoint.specs.Layout.{disk_size, half_at, half_end};
-ghost use Rattle.checkpoint.specs.Reading.{IsGoodSoFar};
+ghost use Rattle.gated_journal.specs.Reading.{HasRecords};
+ghost use Rattle.centre_core.specs.State.{State};
+ghost use Rattle.checkpoint.specs.Layout.{disk_size, slot_at};
+ghost use Rattle.checkpoint.specs.Reading.{IsGoodSoFar, image_looks};
 ghost use Rattle.recovery.specs.declared.fault.StoreFault.TheVariants.{DiskFault, NoMemory};
-ghost use Rattle.recovery.specs.Opens.{base_in, held_by, played, run, taken};
-ghost use Rattle.recovery.specs.Opening.{Gives, IsOfOpening, PlaysTo};
+ghost use Rattle.recovery.specs.Opens.{base_in, held_by, played_from, run, taken};
+ghost use Rattle.recovery.specs.Opening.{BeginsWith, EndsAt, Fails, Gives, IsOfOpening, PlaysOn, PlaysTo, Stops, StopsAt};
 
 use crate::StoreFault;
 use centre_core::{Command, Register};
 use checkpoint::{Layout, ReadFault, Side, read_image};
-use gated_journal::{Journal, JournalError};
+use gated_journal::Journal;
 use sector_disk::Disk;
 use std::alloc::Allocator;
-
-/// The records of a half, each with its first data sector, and the journal that goes on behind them.
-type Records<A> = (Journal<A>, Vec<(u64, Vec<Command<A>, A>), A>);
 
 // The epoch and the register of a side's slot.
 #[tactic(auto, unfolding(crate::specs::Opens::base_in))]
@@ -32,6 +30,7 @@ pub(crate) fn read_base<A: Allocator + Copy, D: Disk>(
     ensures exact { (D.view disk.old).honest → Gives (λ base. base) result (base_in layout.now side (D.view disk.old).reads) }
     ensures limits { IfOk result (λ base. base.1.registered.limits ≡ layout.now.limits) }
     ensures memory { IsErrOf result NoMemory → (D.view disk.old).honest → IsGoodSoFar layout.now side (D.view disk.old) (D.view disk.new) }
+    ensures calls { IfOk result (λ base. (D.view disk.old).honest → (D.view disk.new).calls ≡ (D.view disk.old).calls ++ image_looks (slot_at layout.now side) base) }
     ensures kinds { IfErr result IsOfOpening }
     ensures looked { (D.view disk.old).honest → HasLooked (D.view disk.old) (D.view disk.new) }
     ensures fault { IsErrOf result DiskFault → HasFailed (D.view disk.old) (D.view disk.new) }
@@ -43,30 +42,6 @@ pub(crate) fn read_base<A: Allocator + Copy, D: Disk>(
         Err(ReadFault::Damaged(at)) => Err(StoreFault::Damaged(at)),
         Err(ReadFault::DiskFault) => Err(StoreFault::DiskFault),
         Err(ReadFault::NoMemory) => Err(StoreFault::NoMemory),
-    }
-}
-
-// The records of a side's half.
-pub(crate) fn read_records<A: Allocator + Copy, D: Disk>(
-    alloc: A,
-    disk: &mut D,
-    layout: &Layout,
-    side: Side,
-) -> Result<Records<A>, StoreFault>
-    requires room { disk_size layout.now ≤ (D.view disk.old).sectors }
-    ensures exact { (D.view disk.old).honest → Gives (λ x. (entries_view x.1.items, x.0.next)) result (held_by (half_of (D.view disk.old).reads (half_at layout.now side) (half_end layout.now side))) }
-    ensures place { IfOk result (λ x. (x.0.first ≡ half_at layout.now side) × (x.0.end ≡ half_end layout.now side) × (x.0.next < half_end layout.now side)) }
-    ensures kinds { IfErr result IsOfOpening }
-    ensures looked { (D.view disk.old).honest → HasLooked (D.view disk.old) (D.view disk.new) }
-    ensures fault { IsErrOf result DiskFault → HasFailed (D.view disk.old) (D.view disk.new) }
-    ensures sectors { (D.view disk.new).sectors ≡ (D.view disk.old).sectors }
-    ensures later { (D.view disk.old).failures ≤ (D.view disk.new).failures }
-{
-    match Journal::replay(alloc, disk, layout.half(side), u64::from(layout.journal())) {
-        Ok(records) => Ok(records),
-        Err(JournalError::Damaged(at)) => Err(StoreFault::Damaged(at)),
-        Err(JournalError::NoMemory) => Err(StoreFault::NoMemory),
-        Err(_) => Err(StoreFault::DiskFault),
     }
 }
 
@@ -91,19 +66,112 @@ fn play_record<A: Allocator + Copy>(
     Ok(())
 }
 
-// The commands of all records.
-pub(crate) fn play<A: Allocator + Copy>(
+// Reads the record at the next gate, and gives its commands to the register; whether one stood there.
+fn play_next<A: Allocator + Copy, D: Disk>(
     alloc: A,
+    disk: &mut D,
+    journal: &mut Journal<A>,
     register: &mut Register<A>,
-    entries: &[(u64, Vec<Command<A>, A>)],
-) -> Result<(), StoreFault>
-    ensures exact { PlaysTo result register.new (played register.old (entries_view entries.now)) }
+) -> Result<bool, StoreFault>
+    requires before { journal.old.next < journal.old.end }
+    requires within { journal.old.end ≤ (D.view disk.old).sectors }
+    ensures exact { (D.view disk.old).honest → PlaysOn result register.new journal.new.next (half_of {A = A} (D.view disk.old).reads journal.new.next journal.old.end)
+        (played_from register.old (half_of {A = A} (D.view disk.old).reads journal.old.next journal.old.end)) }
+    ensures begins { (D.view disk.old).honest → BeginsWith (half_of {A = A} (D.view disk.old).reads journal.old.next journal.old.end) (half_of {A = A} (D.view disk.old).reads journal.new.next journal.old.end) }
     ensures limits { register.new.registered.limits ≡ register.old.registered.limits }
+    ensures first { journal.new.first ≡ journal.old.first }
+    ensures end { journal.new.end ≡ journal.old.end }
+    ensures next { journal.new.next < journal.old.end }
+    ensures on { IfOk result (λ more. more ≡ true → journal.old.next < journal.new.next) }
     ensures kinds { IfErr result IsOfOpening }
-    ensures device { IsErrOf result DiskFault → ⊥ }
+    ensures looked { (D.view disk.old).honest → HasLooked (D.view disk.old) (D.view disk.new) }
+    ensures fault { IsErrOf result DiskFault → HasFailed (D.view disk.old) (D.view disk.new) }
+    ensures sectors { (D.view disk.new).sectors ≡ (D.view disk.old).sectors }
+    ensures later { (D.view disk.old).failures ≤ (D.view disk.new).failures }
 {
-    for (at, commands) in entries {
-        play_record(alloc, register, *at, commands)?;
-    }
+    let Some((at, commands)) = journal.read_next(alloc, disk)? else {
+        return Ok(false);
+    };
+    play_record(alloc, register, at, &commands)?;
+    Ok(true)
+}
+
+// Reads the records from the next gate on, and gives the commands of each to the register as it is read, up to a fault.
+fn play_on<A: Allocator + Copy, D: Disk>(
+    alloc: A,
+    disk: &mut D,
+    journal: &mut Journal<A>,
+    register: &mut Register<A>,
+) -> Result<(), StoreFault>
+    requires before { journal.old.next < journal.old.end }
+    requires within { journal.old.end ≤ (D.view disk.old).sectors }
+    ensures exact { (D.view disk.old).honest → StopsAt result register.new journal.new.next (half_of {A = A} (D.view disk.old).reads journal.new.next journal.old.end)
+        (played_from register.old (half_of {A = A} (D.view disk.old).reads journal.old.next journal.old.end)) }
+    ensures begins { (D.view disk.old).honest → BeginsWith (half_of {A = A} (D.view disk.old).reads journal.old.next journal.old.end) (half_of {A = A} (D.view disk.old).reads journal.new.next journal.old.end) }
+    ensures limits { register.new.registered.limits ≡ register.old.registered.limits }
+    ensures first { journal.new.first ≡ journal.old.first }
+    ensures end { journal.new.end ≡ journal.old.end }
+    ensures next { journal.new.next < journal.old.end }
+    ensures kinds { IfErr result IsOfOpening }
+    ensures looked { (D.view disk.old).honest → HasLooked (D.view disk.old) (D.view disk.new) }
+    ensures fault { IsErrOf result DiskFault → HasFailed (D.view disk.old) (D.view disk.new) }
+    ensures sectors { (D.view disk.new).sectors ≡ (D.view disk.old).sectors }
+    ensures later { (D.view disk.old).failures ≤ (D.view disk.new).failures }
+{
+    while play_next(alloc, disk, journal, register)? {}
     Ok(())
+}
+
+// The fault of the records from the next gate on, or else this one.
+fn first_fault<A: Allocator, D: Disk>(
+    disk: &mut D,
+    journal: &mut Journal<A>,
+    fault: StoreFault,
+) -> StoreFault
+    requires before { journal.old.next < journal.old.end }
+    requires within { journal.old.end ≤ (D.view disk.old).sectors }
+    ensures exact { (D.view disk.old).honest → (is : Result (State × ℕ) StoreFault) → Stops fault (held_by (half_of {A = A} (D.view disk.old).reads journal.old.next journal.old.end)) is → Fails result is }
+    ensures memory { result ≡ NoMemory → (D.view disk.old).honest → HasRecords A (D.view disk.old).reads journal.old.next journal.old.end }
+    ensures same { journal.new ≡ journal.old }
+    ensures kinds { IsOfOpening fault → IsOfOpening result }
+    ensures looked { (D.view disk.old).honest → HasLooked (D.view disk.old) (D.view disk.new) }
+    ensures device { result ≡ DiskFault → (fault ≡ DiskFault) ⊎ HasFailed (D.view disk.old) (D.view disk.new) }
+    ensures sectors { (D.view disk.new).sectors ≡ (D.view disk.old).sectors }
+    ensures later { (D.view disk.old).failures ≤ (D.view disk.new).failures }
+{
+    match fault {
+        StoreFault::DiskFault => StoreFault::DiskFault,
+        _ => match journal.judge_rest(disk) {
+            Ok(()) => fault,
+            Err(told) => StoreFault::from(told),
+        },
+    }
+}
+
+// Reads the records from the next gate on, and gives the commands of each to the register. Where one is not accepted, or
+// memory is wanted, the records behind it are judged first.
+pub(crate) fn play<A: Allocator + Copy, D: Disk>(
+    alloc: A,
+    disk: &mut D,
+    journal: &mut Journal<A>,
+    register: &mut Register<A>,
+) -> Result<(), StoreFault>
+    requires before { journal.old.next < journal.old.end }
+    requires within { journal.old.end ≤ (D.view disk.old).sectors }
+    ensures exact { (D.view disk.old).honest → EndsAt (λ done. journal.new.next) result register.new (played_from register.old (half_of {A = A} (D.view disk.old).reads journal.old.next journal.old.end)) }
+    ensures memory { IsErrOf result NoMemory → (D.view disk.old).honest → HasRecords A (D.view disk.old).reads journal.old.next journal.old.end }
+    ensures limits { register.new.registered.limits ≡ register.old.registered.limits }
+    ensures first { journal.new.first ≡ journal.old.first }
+    ensures end { journal.new.end ≡ journal.old.end }
+    ensures next { journal.new.next < journal.old.end }
+    ensures kinds { IfErr result IsOfOpening }
+    ensures looked { (D.view disk.old).honest → HasLooked (D.view disk.old) (D.view disk.new) }
+    ensures fault { IsErrOf result DiskFault → HasFailed (D.view disk.old) (D.view disk.new) }
+    ensures sectors { (D.view disk.new).sectors ≡ (D.view disk.old).sectors }
+    ensures later { (D.view disk.old).failures ≤ (D.view disk.new).failures }
+{
+    match play_on(alloc, disk, journal, register) {
+        Ok(()) => Ok(()),
+        Err(fault) => Err(first_fault(disk, journal, fault)),
+    }
 }

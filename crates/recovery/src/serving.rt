@@ -1,13 +1,15 @@
 //! A register that is kept on a disk as a desk: a command is a commit of one.
-ghost use Rattle.std.specs.Prelude.{◌≡◌, ◌∷◌, [], Err, Ok, nat_le};
-ghost use Rattle.image_rows.specs.Rows.{last_epoch};
+ghost use Rattle.std.specs.Prelude.{◌≡◌, ◌∷◌, [], Err, Ok, true, false};
+ghost use Rattle.sector_disk.specs.Run.{LeavesOnly};
 ghost use Rattle.desk.specs.OfStore.{Stored, of_store};
 ghost use Rattle.desk.specs.declared.service.Service.TheVariants as service;
 ghost use Rattle.centre_core.specs.declared.reply.Reply.{Reply};
 ghost use Rattle.recovery.specs.declared.outcome.Outcome.TheVariants as outcome;
 ghost use Rattle.recovery.specs.declared.outcome.Outcome.TheVariants.{Replied};
+ghost use Rattle.recovery.specs.Kept.{IsKept};
+ghost use Rattle.recovery.specs.Outcomes.{StandsForEither};
 ghost use Rattle.recovery.specs.Refusals.{IsOfCommit};
-ghost use Rattle.recovery.specs.Serving.{IsWordFor};
+ghost use Rattle.recovery.specs.Serving.{IsAfterOne, IsWordFor, stored_of};
 
 use crate::{Outcome, Store, StoreFault};
 use centre_core::{Command, Query, Reply, Told};
@@ -18,7 +20,7 @@ use std::alloc::Allocator;
 impl<A: Allocator + Clone, D: Disk> Desk for Store<A, D> {
     ghost World = { Stored };
 
-    ghost world = { λ store. record { register = store.register; broken = store.broken; failures = (D.view store.disk).failures; last = nat_le last_epoch store.epoch } };
+    ghost world = { λ store. stored_of (D.view store.disk).failures store.epoch store.broken store.register };
 
     ghost rules = { of_store };
 
@@ -26,7 +28,20 @@ impl<A: Allocator + Clone, D: Disk> Desk for Store<A, D> {
         &mut self,
         alloc: C,
         command: &Command<B>,
-    ) -> Result<Reply<C>, Service> {
+    ) -> Result<Reply<C>, Service>
+        ensures applies { of_store.applies (stored_of (D.view self.old.disk).failures self.old.epoch self.old.broken self.old.register) command.now result
+            (stored_of (D.view self.new.disk).failures self.new.epoch self.new.broken self.new.register) }
+
+        // The register is as before, or the command was accepted; each stop leaves the disk standing for one of the two, and,
+        // where the disk has not failed, for the register after the call.
+        ensures register { IsAfterOne self.old.register command.now self.new.register }
+        ensures any_moment { (D.view self.old.disk).honest → IsKept A self.old.layout self.old.side self.old.epoch self.old.journal.next self.old.register (D.view self.old.disk)
+            → LeavesOnly (D.view self.old.disk) (D.view self.new.disk) (StandsForEither A self.old.register self.new.register) }
+        ensures kept { self.new.broken ≡ false → (D.view self.old.disk).honest → IsKept A self.old.layout self.old.side self.old.epoch self.old.journal.next self.old.register (D.view self.old.disk)
+            → IsKept A self.new.layout self.new.side self.new.epoch self.new.journal.next self.new.register (D.view self.new.disk) }
+        ensures broken { self.old.broken ≡ true → self.new ≡ self.old }
+        ensures honest { (D.view self.old.disk).honest → (D.view self.new.disk).honest }
+    {
         match self.commit(alloc, &[command]) {
             Ok(outcomes) => reply_of(outcomes),
             Err(fault) => Err(service_of(fault)),

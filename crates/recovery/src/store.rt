@@ -51,8 +51,8 @@ impl<A: Allocator + Copy, D: Disk> Store<A, D> {
         ensures left { IfOk result (λ store. (D.view disk).honest → LeavesOnly (D.view disk) (D.view store.disk) (IsImageOf (D.view disk))) }
         ensures left_by { IfErr result (λ e. (D.view disk).honest → LeavesOnly (D.view disk) (D.view e.1) (IsImageOf (D.view disk))) }
 
-        // Want of memory hides no fault of what was read.
-        ensures memory { IfErr result (λ e. e.0 ≡ NoMemory → (D.view disk).honest → HasNoFaultYet (D.view disk).reads (D.view e.1).calls) }
+        // Want of memory hides no fault of what was read: behind the rows, all records are judged before it is told.
+        ensures memory { IfErr result (λ e. e.0 ≡ NoMemory → (D.view disk).honest → HasNoFaultYet A (D.view disk).reads (D.view e.1).calls) }
 
         // It does not give up by itself.
         ensures fault { IfErr result (λ e. e.0 ≡ DiskFault → HasFailed (D.view disk) (D.view e.1)) }

@@ -65,7 +65,7 @@ fn is_stopped_well(alloc: Global, call: u64, byte: u8) -> Result<bool, Fail> {
     Ok(count == Some(if whole { 2 } else { 1 }))
 }
 
-/// The opening makes ten calls, the commit the next five, of which the last one syncs the gate.
+/// The opening makes nine calls, the commit the next five, of which the last one syncs the gate.
 fn are_stopped_well(alloc: Global, byte: u8) -> Result<bool, Fail> {
     for call in 1..=18 {
         if !is_stopped_well(alloc, call, byte)? {

@@ -41,7 +41,7 @@ fn answer<T: Desk>(alloc: Global, desk: &mut T, command: &Command<Global>) -> Wo
     }
 }
 
-/// A rule is committed, and then an attach while the call that makes its gate last fails: the opening makes ten calls, the
+/// A rule is committed, and then an attach while the call that makes its gate last fails: the opening makes nine calls, the
 /// commit five. A stop leaves this byte in the gate, which is the one sector that is pending.
 fn stopped(alloc: Global, byte: u8) -> Result<MemoryDisk<Global>, Fail> {
     let rule = made::rule().ok_or("a rule")?;
@@ -49,7 +49,7 @@ fn stopped(alloc: Global, byte: u8) -> Result<MemoryDisk<Global>, Fail> {
     let (answered, disk) = run(alloc, made::formatted(alloc)?, &[&rule]);
     let (lost, disk) = run(
         alloc,
-        FailingDisk::new(disk, 15, Failing::Always),
+        FailingDisk::new(disk, 14, Failing::Always),
         &[&attach],
     );
     let disk = disk.into_inner();

@@ -260,6 +260,10 @@ impl<A: Allocator + Clone> Registry<A> {
         ensures err { OnErr result (self.new ≡ self.old) }
         ensures moves { IsSome (radio_of self.old itsi) → IsOk result }
     {
+        // Most radios have come before, and to change one in its place is cheaper than to put one.
+        if self.renew(itsi, Radio::at(station, area)).is_some() {
+            return Ok(());
+        }
         self.put(itsi, Radio::at(station, area))
     }
 

@@ -1,14 +1,23 @@
-//! Answers station 1's lines from standard input over a new register in memory.
+//! The switch's program: it serves standard input over a new register in memory, or makes, serves and shows a register that is kept
+//! on a disk.
 #![tactic(auto)]
 
 use centre_core::Register;
-use console::{Ran, RunFault, run};
+use command_line::{Refusal, Request, read_command_line};
+use console::{RunFault, run};
+use recovery::Store;
 use registration::Limits;
-use std::alloc::AllocError;
+use sector_disk::Disk;
+use served_disk::{
+    Fault, TURNS, format_disk, layout_of, open_disk, serve, show, tell_formatted, tell_station,
+};
+use std::alloc::Global;
+use std::fs::File;
+use std::io::{ErrorKind, Write};
 use std::process::ExitCode;
-use std::{env, io};
+use std::{env, fs, io};
 
-/// How much the register holds at most.
+/// How much the register in memory holds at most.
 const LIMITS: Limits = Limits {
     rules: 16,
     radios: 16,
@@ -16,51 +25,148 @@ const LIMITS: Limits = Limits {
     stations: 4,
 };
 
-/// The most calls of the reader: a text that has no end by then is refused.
-const TURNS: u32 = 1_073_741_824;
-
 fn main(rt: HostRuntime) -> ExitCode {
-    match is_alone(&rt) {
-        Ok(true) => exit_code(&rt, serve(&rt)),
-        Ok(false) => ExitCode::from(2),
-        Err(AllocError) => exit_code(&rt, Err(RunFault::NoMemory)),
-    }
-}
-
-/// Whether the command line has no word behind the program's name.
-fn is_alone(rt: &HostRuntime) -> Result<bool, AllocError> {
-    match env::args(rt) {
-        Ok(words) => Ok(words.count() <= 1),
-        Err(e) => {
-            if e.kind() == io::ErrorKind::OutOfMemory {
-                Err(AllocError)
-            } else {
-                Ok(false)
-            }
-        }
-    }
-}
-
-fn serve(rt: &HostRuntime) -> Result<Ran, RunFault> {
-    let Ok(mut desk) = Register::new(rt.alloc(), LIMITS) else {
-        return Err(RunFault::NoMemory);
+    let words = match read_words(&rt) {
+        Ok(words) => words,
+        Err(refusal) => return tell_refusal(&rt, &refusal),
     };
-    let mut reader = rt.stdin();
-    let mut writer = io::writer(rt);
-    run(rt.alloc(), &mut reader, &mut writer, 1, TURNS, &mut desk)
+    match read_command_line(rt.alloc(), &words) {
+        Ok(request) => exit_code(&rt, carry_out(&rt, &request)),
+        Err(refusal) => tell_refusal(&rt, &refusal),
+    }
+}
+
+/// The words that the program was started with; the first is its name.
+fn read_words(rt: &HostRuntime) -> Result<Vec<String>, Refusal> {
+    let mut words = Vec::new(rt.alloc());
+    for word in env::args(rt)? {
+        words.push(word).or(Err(Refusal::NoMemory))?;
+    }
+    Ok(words)
+}
+
+/// Tells help and the version on standard output, and what is wrong with the words on standard error.
+fn tell_refusal(rt: &HostRuntime, refusal: &Refusal) -> ExitCode {
+    let told = match refusal {
+        Refusal::Help(_) | Refusal::Version(_) => print!(rt; "{refusal}"),
+        _ => eprint!(rt; "{refusal}"),
+    };
+    match told {
+        Err(_) if refusal.status() == 0 => exit_code(rt, Err(Fault::File("-"))),
+        _ => ExitCode::from(refusal.status()),
+    }
 }
 
 /// Tells a fault on standard error.
-fn exit_code(rt: &HostRuntime, ended: Result<Ran, RunFault>) -> ExitCode {
+fn exit_code(rt: &HostRuntime, ended: Result<bool, Fault<'_>>) -> ExitCode {
     match ended {
-        Ok(ran) => ExitCode::from(u8::from(ran.troubled)),
-        Err(RunFault::Read) | Err(RunFault::Write) => {
-            let _ = eprintln!(rt; "fault: file -");
-            ExitCode::from(4)
-        }
-        Err(RunFault::NoMemory) => {
-            let _ = eprintln!(rt; "fault: memory");
-            ExitCode::from(5)
+        Ok(troubled) => ExitCode::from(u8::from(troubled)),
+        Err(fault) => {
+            let _ = fault.tell(&mut rt.stderr());
+            ExitCode::from(fault.status())
         }
     }
+}
+
+/// Does what is asked, and tells whether an answer told of trouble.
+fn carry_out<'a>(rt: &HostRuntime, request: &Request<'a>) -> Result<bool, Fault<'a>> {
+    match request {
+        Request::Serve => serve_lines(rt),
+        Request::Format { settings, disk } => make_disk(rt, settings, disk),
+        Request::Run { disk, file } => run_file(rt, disk, file),
+        Request::Show { disk, words } => show_words(rt, disk, words),
+    }
+}
+
+/// Answers station 1's lines from standard input over a new register in memory.
+fn serve_lines<'a>(rt: &HostRuntime) -> Result<bool, Fault<'a>> {
+    let Ok(mut desk) = Register::new(rt.alloc(), LIMITS) else {
+        return Err(Fault::Memory);
+    };
+    let mut reader = rt.stdin();
+    let mut writer = io::writer(rt);
+    match run(rt.alloc(), &mut reader, &mut writer, 1, TURNS, &mut desk) {
+        Ok(ran) => Ok(ran.troubled),
+        Err(RunFault::Read | RunFault::Write) => Err(Fault::File("-")),
+        Err(RunFault::NoMemory) => Err(Fault::Memory),
+    }
+}
+
+/// Why a file of this name was not opened or read.
+fn not_read(error: io::Error, name: &str) -> Fault<'_> {
+    match error.kind() {
+        ErrorKind::OutOfMemory => Fault::Memory,
+        _ => Fault::File(name),
+    }
+}
+
+/// Makes a disk for an empty register in a new file, by the settings in another.
+fn make_disk<'a>(rt: &HostRuntime, settings: &'a str, disk: &'a str) -> Result<bool, Fault<'a>> {
+    let text = match fs::read(rt, settings) {
+        Ok(text) => text,
+        Err(error) => return Err(not_read(error, settings)),
+    };
+    let layout = layout_of(rt.alloc(), &text)?;
+    let sectors = format_disk(rt, &layout, disk)?;
+    printed(tell_formatted(&mut io::writer(rt), sectors), false)
+}
+
+/// What has come of a request whose answer was printed.
+fn printed<'a>(told: io::Result<()>, troubled: bool) -> Result<bool, Fault<'a>> {
+    match told {
+        Ok(()) => Ok(troubled),
+        Err(_) => Err(Fault::File("-")),
+    }
+}
+
+/// Serves a file's lines as station 1 over the register on a disk.
+fn run_file<'a>(rt: &HostRuntime, disk: &'a str, name: &'a str) -> Result<bool, Fault<'a>> {
+    let mut store = open_disk(rt, rt.alloc(), disk)?;
+    let ended = serve_file(rt, &mut store, name);
+    drop(store);
+    ended
+}
+
+/// Serves a file's lines as station 1, and prints the answers.
+fn serve_file<'a, D: Disk>(
+    rt: &HostRuntime,
+    store: &mut Store<Global, D>,
+    name: &'a str,
+) -> Result<bool, Fault<'a>> {
+    let mut file = match File::open(rt, name) {
+        Ok(file) => file,
+        Err(error) => return Err(not_read(error, name)),
+    };
+    let served = serve(rt.alloc(), &mut file, 1, store);
+    let told = tell_station(&mut io::writer(rt), 1, name, &served.answers);
+    match served.ended {
+        Ok(ran) => printed(told, ran.troubled),
+        Err(fault) => Err(Fault::of_run(fault, name)),
+    }
+}
+
+/// Prints the answer to the query that the words are, of the register on a disk.
+fn show_words<'a>(rt: &HostRuntime, disk: &'a str, words: &[&str]) -> Result<bool, Fault<'a>> {
+    let store = open_disk(rt, rt.alloc(), disk)?;
+    let shown = show_query(rt, &store, words);
+    drop(store);
+    shown
+}
+
+/// Prints the answer to the query that the words are.
+fn show_query<'a, D: Disk>(
+    rt: &HostRuntime,
+    store: &Store<Global, D>,
+    words: &[&str],
+) -> Result<bool, Fault<'a>> {
+    let Some(register) = store.register() else {
+        return Err(Fault::Device);
+    };
+    let Ok(line) = words.join(rt.alloc(), " ") else {
+        return Err(Fault::Memory);
+    };
+    let Ok(shown) = show(rt.alloc(), register, line.as_bytes()) else {
+        return Err(Fault::Memory);
+    };
+    printed(io::writer(rt).write_all(&shown.text), shown.troubled)
 }

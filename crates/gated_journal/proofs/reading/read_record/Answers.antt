@@ -1,85 +1,46 @@
-use Rattle.std.proofs.Common.{◌≡◌, ◌+◌, ◌/◌, ◌<◌, ◌≤◌, inl, inr, List, ℕ, None, Some, option_map, slice_index, sym, ap, ◌∙◌, arith}
-use Rattle.sector_disk.specs.Disk.{View, sector}
-use Rattle.gated_journal.specs.Half.{told_size, data_from}
-use Rattle.gated_journal.specs.Record.{most_sectors, record_of}
-use Rattle.sector_disk.proofs.Looked.{looked_on, one_look}
-use Rattle.gated_journal.proofs.Steps.{told_from, too_long, no_record, some_record}
+use Rattle.std.proofs.Common.{◌≡◌, None, Some, option_map, sym, ap, ◌∙◌}
+use Rattle.std.proofs.lemmas.Result.{err_from_is_err_and}
+use Rattle.sector_disk.specs.Disk.{View}
+use Rattle.std.proofs.Common.{List, ℕ, subst}
+use Rattle.std.specs.Prelude.{IsSome}
+use Rattle.gated_journal.specs.Record.{record_of}
+use Rattle.gated_journal.proofs.Judged.{bytes_fail, no_bytes, no_record, some_judged, some_record}
 use Rattle.gated_journal.proofs.reading.read_record.Goals as goal
 
-pub returns-then-size-gt-MOST_SECTORS-clause-effect : goal.returns-then-size-gt-MOST_SECTORS-clause-effect
-returns-then-size-gt-MOST_SECTORS-clause-effect g c honest =
+pub returns-in_err-next-clause-effect : goal.returns-in_err-next-clause-effect
+returns-in_err-next-clause-effect g c honest =
     let old : View = g.D.Disk.view c.args.disk.now in
-    let mid : View = g.D.Disk.view c.read.new.self in
-    let next : View = g.D.Disk.view c.read-2.new.self in
-    let size = (c.read_u32.result + 517) / 512 in
-    let inside : c.args.at < old.sectors = omega (arith, c.requires.before, c.requires.within) in
-    let first = c.in_ok-read.ensures.effect inside honest in
-    let lt : c.args.at + 1 < c.args.end = omega (arith, c.requires.before, c.if-at-end.false) in
-    let inside_2 : c.args.at + 1 < mid.sectors = omega (arith, lt, c.requires.within, c.in_ok-read.ensures.cause.sectors) in
-    let second = c.in_ok-read-2.ensures.effect inside_2 first.honest in
-    let looked = looked_on old mid next (one_look _ _ _ _ _ first) (one_look _ _ _ _ _ second) in
-    let here : sector old.reads (c.args.at + 1) ≡ c.read-2.new.bytes = sym (second.given ∙ ap (λ (reads : List (List ℕ)). sector reads (c.args.at + 1)) first.reads) in
-    let gate : slice_index (sector old.reads c.args.at) 0 ≡ 1 = ap (λ (bytes : List ℕ). slice_index bytes 0) (sym first.given) ∙ omega (arith, c.if-bytes-ne1.false) in
-    let told : told_size (sector old.reads (c.args.at + 1)) ≡ size = ap (λ (bytes : List ℕ). told_size bytes) here ∙ ap (λ (n : ℕ). (n + 517) / 512) (sym (c.read_u32.ensures ∙ told_from c.read-2.new.bytes 510 (omega arith))) in
-    (looked, too_long old.reads c.args.at c.args.end size lt gate told (inl (omega (arith, c.if-size-gt-MOST_SECTORS.true))))
+    let p = err_from_is_err_and c.from_residual.result c.from_residual.ensures.1 in
+    let read = c.in_err-next.ensures.effect honest in
+    (read.0, rw (p.1, p.2) (bytes_fail g.row.A.Denot old.reads c.args.at c.args.end c.in_err-next.field-0.0 read.1))
 
-pub returns-then-end-at-clause-effect : goal.returns-then-end-at-clause-effect
-returns-then-end-at-clause-effect g c honest =
+pub returns-in_default-clause-effect : goal.returns-in_default-clause-effect
+returns-in_default-clause-effect g c honest =
     let old : View = g.D.Disk.view c.args.disk.now in
-    let mid : View = g.D.Disk.view c.read.new.self in
-    let next : View = g.D.Disk.view c.read-2.new.self in
-    let size = (c.read_u32.result + 517) / 512 in
-    let inside : c.args.at < old.sectors = omega (arith, c.requires.before, c.requires.within) in
-    let first = c.in_ok-read.ensures.effect inside honest in
-    let lt : c.args.at + 1 < c.args.end = omega (arith, c.requires.before, c.if-at-end.false) in
-    let inside_2 : c.args.at + 1 < mid.sectors = omega (arith, lt, c.requires.within, c.in_ok-read.ensures.cause.sectors) in
-    let second = c.in_ok-read-2.ensures.effect inside_2 first.honest in
-    let looked = looked_on old mid next (one_look _ _ _ _ _ first) (one_look _ _ _ _ _ second) in
-    let here : sector old.reads (c.args.at + 1) ≡ c.read-2.new.bytes = sym (second.given ∙ ap (λ (reads : List (List ℕ)). sector reads (c.args.at + 1)) first.reads) in
-    let gate : slice_index (sector old.reads c.args.at) 0 ≡ 1 = ap (λ (bytes : List ℕ). slice_index bytes 0) (sym first.given) ∙ omega (arith, c.if-bytes-ne1.false) in
-    let told : told_size (sector old.reads (c.args.at + 1)) ≡ size = ap (λ (bytes : List ℕ). told_size bytes) here ∙ ap (λ (n : ℕ). (n + 517) / 512) (sym (c.read_u32.ensures ∙ told_from c.read-2.new.bytes 510 (omega arith))) in
-    (looked, too_long old.reads c.args.at c.args.end size lt gate told (inr (omega (arith, lt, c.if-end-at.true))))
+    let read = c.in_ok-next.ensures.effect honest in
+    let none = rw c.in_default.is at read.1 in
+    (read.0, no_bytes old.reads c.args.at c.args.end none)
 
 pub returns-in-None-clause-effect : goal.returns-in-None-clause-effect
 returns-in-None-clause-effect g c honest =
     let old : View = g.D.Disk.view c.args.disk.now in
-    let mid : View = g.D.Disk.view c.read.new.self in
-    let next : View = g.D.Disk.view c.read-2.new.self in
-    let size = (c.read_u32.result + 517) / 512 in
-    let inside : c.args.at < old.sectors = omega (arith, c.requires.before, c.requires.within) in
-    let first = c.in_ok-read.ensures.effect inside honest in
-    let lt : c.args.at + 1 < c.args.end = omega (arith, c.requires.before, c.if-at-end.false) in
-    let inside_2 : c.args.at + 1 < mid.sectors = omega (arith, lt, c.requires.within, c.in_ok-read.ensures.cause.sectors) in
-    let second = c.in_ok-read-2.ensures.effect inside_2 first.honest in
-    let looked = looked_on old mid next (one_look _ _ _ _ _ first) (one_look _ _ _ _ _ second) in
-    let here : sector old.reads (c.args.at + 1) ≡ c.read-2.new.bytes = sym (second.given ∙ ap (λ (reads : List (List ℕ)). sector reads (c.args.at + 1)) first.reads) in
-    let gate : slice_index (sector old.reads c.args.at) 0 ≡ 1 = ap (λ (bytes : List ℕ). slice_index bytes 0) (sym first.given) ∙ omega (arith, c.if-bytes-ne1.false) in
-    let told : told_size (sector old.reads (c.args.at + 1)) ≡ size = ap (λ (bytes : List ℕ). told_size bytes) here ∙ ap (λ (n : ℕ). (n + 517) / 512) (sym (c.read_u32.ensures ∙ told_from c.read-2.new.bytes 510 (omega arith))) in
-    let all = c.in_ok-read_sectors.ensures.effect looked.honest in
-    let within : c.args.at + 1 + size < c.args.end = omega (arith, lt, c.if-end-at.false) in
-    let text : c.deref.result.now ≡ data_from old.reads (c.args.at + 1) size = c.deref.ensures.value ∙ all.1 ∙ ap (λ (reads : List (List ℕ)). data_from reads (c.args.at + 1) size) looked.reads in
-    let few : size ≤ most_sectors = omega (arith, c.if-size-gt-MOST_SECTORS.false) in
-    let none : record_of (data_from old.reads (c.args.at + 1) size) ≡ None = ap record_of (sym text) ∙ sym (c.in_ok-decode_record.ensures.exact) ∙ ap (option_map (λ commands. commands.items)) c.in-None.is in
-    (looked_on old next _ looked all.0, no_record old.reads c.args.at c.args.end size few within gate told none)
+    let read = c.in_ok-next.ensures.effect honest in
+    let found = rw c.in-Some.is at read.1 in
+    let none : record_of c.read_data.new.buffer.items ≡ None = ap record_of (sym c.deref.ensures.value) ∙ sym (c.in_ok-decode_record.ensures.exact) ∙ ap (option_map (λ commands. commands.items)) c.in-None.is in
+    (read.0, no_record old.reads c.args.at c.args.end c.read_data.new.buffer.items c.in-Some.next found none)
 
-pub returns-in-Some-clause-effect : goal.returns-in-Some-clause-effect
-returns-in-Some-clause-effect g c honest =
+pub returns-in-Some-2-clause-effect : goal.returns-in-Some-2-clause-effect
+returns-in-Some-2-clause-effect g c honest =
     let old : View = g.D.Disk.view c.args.disk.now in
-    let mid : View = g.D.Disk.view c.read.new.self in
-    let next : View = g.D.Disk.view c.read-2.new.self in
-    let size = (c.read_u32.result + 517) / 512 in
-    let inside : c.args.at < old.sectors = omega (arith, c.requires.before, c.requires.within) in
-    let first = c.in_ok-read.ensures.effect inside honest in
-    let lt : c.args.at + 1 < c.args.end = omega (arith, c.requires.before, c.if-at-end.false) in
-    let inside_2 : c.args.at + 1 < mid.sectors = omega (arith, lt, c.requires.within, c.in_ok-read.ensures.cause.sectors) in
-    let second = c.in_ok-read-2.ensures.effect inside_2 first.honest in
-    let looked = looked_on old mid next (one_look _ _ _ _ _ first) (one_look _ _ _ _ _ second) in
-    let here : sector old.reads (c.args.at + 1) ≡ c.read-2.new.bytes = sym (second.given ∙ ap (λ (reads : List (List ℕ)). sector reads (c.args.at + 1)) first.reads) in
-    let gate : slice_index (sector old.reads c.args.at) 0 ≡ 1 = ap (λ (bytes : List ℕ). slice_index bytes 0) (sym first.given) ∙ omega (arith, c.if-bytes-ne1.false) in
-    let told : told_size (sector old.reads (c.args.at + 1)) ≡ size = ap (λ (bytes : List ℕ). told_size bytes) here ∙ ap (λ (n : ℕ). (n + 517) / 512) (sym (c.read_u32.ensures ∙ told_from c.read-2.new.bytes 510 (omega arith))) in
-    let all = c.in_ok-read_sectors.ensures.effect looked.honest in
-    let within : c.args.at + 1 + size < c.args.end = omega (arith, lt, c.if-end-at.false) in
-    let text : c.deref.result.now ≡ data_from old.reads (c.args.at + 1) size = c.deref.ensures.value ∙ all.1 ∙ ap (λ (reads : List (List ℕ)). data_from reads (c.args.at + 1) size) looked.reads in
-    let few : size ≤ most_sectors = omega (arith, c.if-size-gt-MOST_SECTORS.false) in
-    let some : record_of (data_from old.reads (c.args.at + 1) size) ≡ Some c.in-Some.commands.items = ap record_of (sym text) ∙ sym (c.in_ok-decode_record.ensures.exact) ∙ ap (option_map (λ commands. commands.items)) c.in-Some.is in
-    (looked_on old next _ looked all.0, some_record old.reads c.args.at c.args.end size c.in-Some.commands.items few within gate told some)
+    let read = c.in_ok-next.ensures.effect honest in
+    let found = rw c.in-Some.is at read.1 in
+    let some : record_of c.read_data.new.buffer.items ≡ Some c.in-Some-2.commands.items = ap record_of (sym c.deref.ensures.value) ∙ sym (c.in_ok-decode_record.ensures.exact) ∙ ap (option_map (λ commands. commands.items)) c.in-Some-2.is in
+    (read.0, some_record old.reads c.args.at c.args.end c.read_data.new.buffer.items c.in-Some.next c.in-Some-2.commands.items found some)
+
+pub returns-in_err-decode_record-clause-memory : goal.returns-in_err-decode_record-clause-memory
+returns-in_err-decode_record-clause-memory g c e honest =
+    let old : View = g.D.Disk.view c.args.disk.now in
+    let read = c.in_ok-next.ensures.effect honest in
+    let found = rw c.in-Some.is at read.1 in
+    some_judged old.reads c.args.at c.args.end c.read_data.new.buffer.items c.in-Some.next found
+    (subst (λ (bytes : List ℕ). IsSome (record_of {A = g.row.A.Denot} bytes)) c.deref.ensures.value c.in_err-decode_record.ensures.memory)

@@ -1,33 +1,35 @@
 use Rattle.std.proofs.Common.{◌≡◌, ◌+◌, ◌<◌, ℕ, List, ap, refl, ◌∙◌, arith}
 use Rattle.sector_disk.specs.Disk.{View, sector}
 use Rattle.sector_disk.proofs.Looked.{not_looked, looked_on, one_look}
-use Rattle.gated_journal.proofs.Steps.{data_more, data_none}
+use Rattle.gated_journal.proofs.Steps.{data_more}
 use Rattle.gated_journal.proofs.reading.read_sectors.Goals as goal
 
 pub loop-k-init : goal.loop-k-init
 loop-k-init g c = record {
   sectors = refl;
-  capacity = omega (arith, c.clear.ensures.capacity);
+  room = c.requires.room;
+  capacity = omega arith;
   later = omega arith;
   looked = λ honest. not_looked _ honest;
-  bytes = λ honest. c.clear.ensures.items ∙ data_none _ _;
+  bytes = λ honest front. front;
 }
 
 pub loop-k-preserved : goal.loop-k-preserved
 loop-k-preserved g c =
     let old : View = g.D.Disk.view c.args.disk.now in
     let mid : View = g.D.Disk.view c.loop-k.disk in
-    let inside : c.args.at + c.loop-k.k < mid.sectors = omega (arith, c.loop-k.invariant.sectors, c.requires.room) in
+    let inside : c.args.at + c.loop-k.k < mid.sectors = omega (arith, c.loop-k.invariant.sectors, c.requires.inside) in
     record {
       sectors = c.in_ok-read.ensures.cause.sectors ∙ c.loop-k.invariant.sectors;
-      capacity = omega (arith, c.in_ok-extend_from_slice.ensures.capacity, c.loop-k.invariant.capacity);
+      room = omega (arith, c.add.ensures.len, c.add.ensures.capacity, c.loop-k.invariant.room);
+      capacity = omega (arith, c.add.ensures.capacity, c.loop-k.invariant.capacity);
       later = omega (arith, c.in_ok-read.ensures.cause.later, c.loop-k.invariant.later);
       looked = λ honest.
           let before = c.loop-k.invariant.looked honest in
           looked_on _ mid _ before (one_look _ _ _ _ _ (c.in_ok-read.ensures.effect inside before.honest));
-      bytes = λ honest.
+      bytes = λ honest front.
           let before = c.loop-k.invariant.looked honest in
           let given = (c.in_ok-read.ensures.effect inside before.honest).given in
           let more : c.read.new.bytes ≡ sector old.reads (c.args.at + c.loop-k.k) = given ∙ ap (λ (reads : List (List ℕ)). sector reads (c.args.at + c.loop-k.k)) before.reads in
-          c.in_ok-extend_from_slice.ensures.items ∙ data_more old.reads c.args.at c.loop-k.k c.loop-k.buffer.items c.read.new.bytes (c.loop-k.invariant.bytes honest) more;
+          c.add.ensures.items ∙ data_more old.reads c.args.at c.loop-k.k c.loop-k.buffer.items c.read.new.bytes (c.loop-k.invariant.bytes honest front) more;
     }

@@ -1,4 +1,4 @@
-use Rattle.std.proofs.Common.{◌≡◌, ◌≤◌, vec_capacity}
+use Rattle.std.proofs.Common.{◌≡◌, ◌+◌, ◌*◌, ◌-◌, ◌≤◌, vec_capacity, vec_len}
 use Rattle.sector_disk.specs.Disk.{View}
 use Rattle.sector_disk.specs.Run.{HasLooked}
 use Rattle.gated_journal.specs.Half.{data_from}
@@ -10,8 +10,9 @@ invariant-loop-k g l =
     let now : View = g.D.Disk.view l.disk in
     record {
       sectors : now.sectors ≡ old.sectors;
+      room : vec_len l.buffer + 512 * (l.n - l.k) ≤ vec_capacity l.buffer;
       capacity : vec_capacity l.initial.buffer ≤ vec_capacity l.buffer;
       later : old.failures ≤ now.failures;
       looked : old.honest → HasLooked old now;
-      bytes : old.honest → l.buffer.items ≡ data_from old.reads l.at l.k;
+      bytes : old.honest → l.initial.buffer.items ≡ data_from old.reads l.at l.from → l.buffer.items ≡ data_from old.reads l.at l.k;
     }

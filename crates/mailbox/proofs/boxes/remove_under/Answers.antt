@@ -1,12 +1,18 @@
-use Rattle.std.proofs.Common.{refl, sym, ◌∙◌}
+use Rattle.std.proofs.Common.{◌≡◌, rules, ap, ◌∙◌, not, inl, inr}
+use Rattle.std.specs.FinMap as finite
+use Rattle.std.specs.List.{filter}
+use Rattle.prefix_tree.specs.Change.{with_value}
 use Rattle.mailbox.specs.Tests.{is_at}
-use Rattle.mailbox.proofs.Boxed.{less_taken, less_left}
+use Rattle.mailbox.specs.Boxes.{box_of, items_under}
+use Rattle.mailbox.proofs.Boxed.{with_box, box_or_none}
 use Rattle.mailbox.proofs.boxes.remove_under.Goals as goal
 
-pub returns-then-remove_from : goal.returns-then-remove_from
-returns-then-remove_from g c =
-    c.take.ensures.removed
-    ∙ less_taken c.args.tree.now c.remove_from.new.tree c.args.path.now _ (is_at c.args.key.now) refl c.remove_from.ensures.left (sym c.remove_from.ensures.empty ∙ c.if-remove_from.true)
-
-pub returns-else-remove_from : goal.returns-else-remove_from
-returns-else-remove_from g c = less_left c.args.tree.now c.remove_from.new.tree c.args.path.now _ (is_at c.args.key.now) refl c.remove_from.ensures.left (sym c.remove_from.ensures.empty ∙ c.if-remove_from.false)
+pub returns-clause-left : goal.returns-clause-left
+returns-clause-left g c =
+    let boxes = c.args.tree.now in let p = c.args.path.now in
+    let left : c.change.ensures.0 ≡ box_of (filter (λ w. not (is_at c.args.key.now w)) (items_under boxes p)) =
+    elim (box_or_none (finite.get boxes p)) [
+      | inl none ↦ let made = rw none at c.change.ensures.2 in rw none made.1
+      | inr found ↦ let made = rw found.1 at c.change.ensures.2 in rw found.1 (search rules)
+    ] in
+    c.change.ensures.1 ∙ ap (with_value boxes p) left ∙ with_box boxes p (filter (λ w. not (is_at c.args.key.now w)) (items_under boxes p))

@@ -1,4 +1,4 @@
-use Rattle.std.proofs.Common.{◌≡◌, ◌≤◌, length, arith}
+use Rattle.std.proofs.Common.{arith}
 use Rattle.recovery.specs.Outcomes.{asked}
 use Rattle.recovery.proofs.Batches.{ends, ends_answered, ends_count, ends_history, ends_kept, ends_limits, ends_none, ends_places, ends_size, ends_state}
 use Rattle.recovery.proofs.batch.apply_all.Goals as goal

@@ -1,4 +1,4 @@
-use Rattle.std.proofs.Common.{◌≡◌, ◌<◌, Result, Ok, Err, OnErr, length, arith}
+use Rattle.std.proofs.Common.{◌<◌, Result, Ok, Err, OnErr, length, arith}
 use Rattle.recovery.proofs.Batches.{applied_one, stopped}
 use Rattle.recovery.proofs.batch.apply_in_turn.Goals as goal
 

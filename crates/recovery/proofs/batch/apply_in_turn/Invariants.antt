@@ -1,4 +1,4 @@
-use Rattle.std.proofs.Common.{◌≡◌, ◌≤◌, vec_capacity, vec_len}
+use Rattle.std.proofs.Common.{◌≤◌, vec_capacity, vec_len}
 use Rattle.recovery.specs.Outcomes.{AreApplied, asked}
 use Rattle.recovery.proofs.batch.apply_in_turn.Given as goal
 

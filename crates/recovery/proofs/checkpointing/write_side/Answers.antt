@@ -1,4 +1,4 @@
-use Rattle.std.proofs.Common.{◌≡◌, ◌+◌, ◌<◌, Result, Ok, Err, OnOk, arith}
+use Rattle.std.proofs.Common.{◌+◌, ◌<◌, Result, Ok, Err, OnOk, arith}
 use Rattle.checkpoint.specs.Standing.{Base, Stands}
 use Rattle.checkpoint.specs.Calls.{image_calls, switch_calls}
 use Rattle.checkpoint.specs.Layout.{other_of}

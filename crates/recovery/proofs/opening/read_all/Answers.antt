@@ -14,5 +14,5 @@ returns-clause-memory g c e honest =
       side = c.in_ok-side.side;
       label = c.in_ok-layout.ensures.exact honest;
       counts = rw looked.reads at (c.in_ok-side.ensures.exact looked.honest);
-      rows = rw looked_2.reads at (c.read_by.ensures.memory e looked_2.honest);
+      good = rw looked_2.reads at (c.read_by.ensures.memory e looked_2.honest);
     }

@@ -1,4 +1,4 @@
-use Rattle.std.proofs.Common.{List, Bool, ◌≡◌, ◌+◌, ◌*◌, ◌≤◌, ◌∙◌, ap, sym, subst, take, drop, length}
+use Rattle.std.proofs.Common.{List, Bool, ◌+◌, ◌*◌, ◌≤◌, ◌∙◌, ap, sym, subst, take, drop}
 use Rattle.command_bytes.proofs.Packed.{octet_in, so_many}
 use Rattle.command_bytes.proofs.bits.PackedBits.octet.Goals as goal
 

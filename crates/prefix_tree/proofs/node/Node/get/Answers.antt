@@ -1,9 +1,9 @@
-use Rattle.std.proofs.Common.{◌≡◌, ◌<◌, ◌≤◌, ◌+◌, ◌++◌, ◌∷◌, [], true, false, length, sym, ap, subst, ◌∙◌, arith}
+use Rattle.std.proofs.Common.{◌≡◌, ◌<◌, ◌+◌, ◌++◌, ◌∷◌, [], false, length, sym, ap, subst, ◌∙◌, arith}
 use Rattle.std.specs.Prelude.{IsTrue}
 use Rattle.identity.specs.Path.{Path, begins}
 use Rattle.std.specs.FinMap as map
 use Rattle.prefix_tree.specs.Visits.{visits_beyond}
-use Rattle.prefix_tree.proofs.Begins.{begins_whole, begins_length}
+use Rattle.prefix_tree.proofs.Begins.{begins_whole}
 use Rattle.prefix_tree.proofs.NodeLaws.{at_is, none_there, off_there, on_there, longer_there, same_at}
 use Rattle.prefix_tree.proofs.StepLaws.{none_visits, off_visits, on_visits, sound_there}
 use Rattle.prefix_tree.proofs.VisitLaws.{visits_done}

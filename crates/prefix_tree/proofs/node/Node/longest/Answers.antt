@@ -1,11 +1,9 @@
-use Rattle.std.proofs.Common.{◌≡◌, ◌<◌, ◌≤◌, ◌+◌, ◌++◌, ◌∷◌, [], true, false, length, refl, sym, ap, subst, ◌∙◌, arith}
+use Rattle.std.proofs.Common.{◌≡◌, ◌<◌, ◌≤◌, ◌+◌, ◌++◌, ◌∷◌, [], false, length, refl, sym, ap, subst, ◌∙◌, arith}
 use Rattle.std.specs.Prelude.{IsTrue}
 use Rattle.std.specs.Option.{option_copied, option_map}
-use Rattle.std.specs.FinMap as map
 use Rattle.identity.specs.Path.{Path, begins}
-use Rattle.prefix_tree.specs.Table.{longest, longest_below}
+use Rattle.prefix_tree.specs.Table.{longest_below}
 use Rattle.prefix_tree.specs.Visits.{visits_beyond}
-use Rattle.prefix_tree.proofs.Begins.{begins_length}
 use Rattle.prefix_tree.proofs.NodeLaws.{at_is, longer_there, same_at}
 use Rattle.prefix_tree.proofs.StepLaws.{none_visits, off_visits, on_visits, sound_there, same_there}
 use Rattle.prefix_tree.proofs.VisitLaws.{visits_done}

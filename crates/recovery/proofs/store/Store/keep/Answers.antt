@@ -6,7 +6,6 @@ use Rattle.gated_journal.specs.Record.{data_size, given, record_text}
 use Rattle.gated_journal.proofs.Given.{given_size}
 use Rattle.sector_disk.proofs.Made.{made_none}
 use Rattle.recovery.specs.Calls.{keep_calls}
-use Rattle.recovery.specs.Kept.{IsKept}
 use Rattle.recovery.specs.Outcomes.{asked}
 use Rattle.recovery.proofs.Called.{kept_by_append}
 use Rattle.recovery.proofs.Keeping.{append_keeps, append_leaves, nothing_done, only_before, settled, some_length}

@@ -1,0 +1,54 @@
+/* The yardsticks of bench/durable, each in seconds on standard output.
+   limit sync FILE COUNT: so many times one write of 512 bytes and one fdatasync after another, over the sectors of a file in turn.
+   limit read FILE SIZE: the bytes of a file, read in pieces of this size. */
+#define _GNU_SOURCE
+#include <fcntl.h>
+#include <stdio.h>
+#include <stdlib.h>
+#include <string.h>
+#include <sys/stat.h>
+#include <time.h>
+#include <unistd.h>
+
+enum { SECTOR = 512 };
+
+static double now(void)
+{
+    struct timespec time;
+    clock_gettime(CLOCK_MONOTONIC, &time);
+    return time.tv_sec + time.tv_nsec / 1e9;
+}
+
+static int syncs(int file, long sectors, long count)
+{
+    char bytes[SECTOR];
+    for (long done = 0; done < count; done++) {
+        memset(bytes, (int)done, SECTOR);
+        if (pwrite(file, bytes, SECTOR, done % sectors * SECTOR) != SECTOR || fdatasync(file) != 0)
+            return 1;
+    }
+    return 0;
+}
+
+static int reads(int file, long length, long size)
+{
+    char *bytes = malloc(size);
+    for (long at = 0; bytes && at + size <= length; at += size)
+        if (pread(file, bytes, size, at) != size)
+            return 1;
+    free(bytes);
+    return bytes == NULL;
+}
+
+int main(int argc, char **argv)
+{
+    struct stat told;
+    int file = argc == 4 ? open(argv[2], O_RDWR) : -1;
+    if (file < 0 || fstat(file, &told) != 0)
+        return 2;
+    double start = now();
+    int is_sync = strcmp(argv[1], "sync") == 0;
+    int status = is_sync ? syncs(file, told.st_size / SECTOR, atol(argv[3])) : reads(file, told.st_size, atol(argv[3]));
+    printf("%.6f\n", now() - start);
+    return status;
+}

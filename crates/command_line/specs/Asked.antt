@@ -1,0 +1,102 @@
+-- What the words of a command line, the program's name first, ask for.
+use Rattle.std.specs.Prelude.{◌≡◌, ◌⊎◌, ℕ, Bool, true, false, List, [], Option, Some, None, codes, if◌then◌else◌, length, map, nat_le, option_and_then, option_map}
+use Rattle.std.specs.Str.{bytes_eq}
+use Rattle.std.specs.declared.io.ErrorKind as io_kind
+use Rattle.std.specs.declared.io.ErrorKind.TheVariants as fault
+use Rattle.clap.specs.Words.{IsAmong, Kinds, Row, Text, all_of, fault_of, first_of, kind_of, subcommand_of}
+use Rattle.clap.specs.declared.error.Error.{Error}
+use Rattle.clap.specs.declared.error.kind.ErrorKind.{ErrorKind}
+use Rattle.clap.specs.declared.error.kind.ErrorKind.TheVariants as kind
+use Rattle.command_line.specs.Program.{program}
+use Rattle.command_line.specs.declared.request.Request.{Request}
+use Rattle.command_line.specs.declared.request.Request.TheVariants as request
+use Rattle.command_line.specs.declared.request.Refusal.{Refusal}
+use Rattle.command_line.specs.declared.request.Refusal.TheVariants as refusal
+
+-- what is asked for, with the texts of its words
+pub data Asked : Type 0 where
+  serve : Asked
+  format : Text → Text → Asked
+  run : Text → Text → Asked
+  show : Text → List Text → Asked
+
+-- what a request stands for
+abbrev pub asked_by : Request → Asked
+asked_by request.Serve = serve
+asked_by (request.Format settings disk) = format settings.now disk.now
+asked_by (request.Run disk file) = run disk.now file.now
+asked_by (request.Show disk words) = show disk.now (map (λ word. word.now) words.items)
+
+-- two parts of a request, where neither is missing
+abbrev pub both : {X : Type 0} → (Text → X → Asked) → Option Text → Option X → Option Asked
+both made first second = option_and_then (λ a. option_map (made a) second) first
+
+-- what each subcommand asks for, by the words that clap found for it
+abbrev pub format_in : List Row → Option Asked
+format_in found = both format (first_of (codes "SETTINGS") found) (first_of (codes "DISK") found)
+
+abbrev pub run_in : List Row → Option Asked
+run_in found = both run (first_of (codes "DISK") found) (first_of (codes "FILE") found)
+
+abbrev pub show_in : List Row → Option Asked
+show_in found = both show (first_of (codes "DISK") found) (all_of (codes "WORD") found)
+
+abbrev pub asked_of : Text × List Row → Option Asked
+asked_of found =
+    if bytes_eq found.0 (codes "format") then format_in found.1
+    else (if bytes_eq found.0 (codes "run") then run_in found.1
+    else (if bytes_eq found.0 (codes "show") then show_in found.1
+    else None))
+
+-- no word stands behind the program's name
+abbrev pub is_bare : List Text → Bool
+is_bare words = nat_le (length words) 1
+
+-- the kinds of fault that clap finds in the words: none where it takes them
+abbrev pub faults : List Text → Kinds
+faults words = fault_of program words
+
+-- what words that clap takes ask for
+abbrev pub taken : List Text → Option Asked
+taken words = option_and_then asked_of (subcommand_of program words)
+
+-- the words ask for this
+abbrev pub Asks : List Text → Asked → Type 0
+Asks words asked =
+    ((is_bare words ≡ true) × (asked ≡ serve))
+    ⊎ ((is_bare words ≡ false) × (faults words ≡ []) × (taken words ≡ Some asked))
+
+-- how an error of clap's is told
+abbrev pub told_by : ErrorKind → Error → Refusal
+told_by kind.DisplayHelp = refusal.Help
+told_by kind.DisplayVersion = refusal.Version
+told_by kind.OutOfMemory = λ error. refusal.NoMemory
+told_by _ = refusal.Wrong
+
+-- how it is told that the words could not be read: one of them is no text, unless memory ran out
+abbrev pub unread_by : io_kind.ErrorKind → Refusal
+unread_by fault.OutOfMemory = refusal.NoMemory
+unread_by _ = refusal.NoText
+
+-- it tells an error of one of these kinds, or that memory ran out
+abbrev pub TellsOne : Kinds → Refusal → Type 0
+TellsOne kinds told = (told ≡ refusal.NoMemory)
+    ⊎ ((error : Error) × (told ≡ told_by (kind_of error) error) × IsAmong (kind_of error) kinds)
+
+-- clap takes the words, and yet a word is missing among what it found
+abbrev pub LacksOne : List Text → Type 0
+LacksOne words = (faults words ≡ []) × (taken words ≡ None)
+
+-- the words are answered so, in place of what they ask for
+abbrev pub Refuses : List Text → Refusal → Type 0
+Refuses words told =
+    (is_bare words ≡ false) × (TellsOne (faults words) told ⊎ ((told ≡ refusal.Missing) × LacksOne words))
+
+-- the exit status: 0 where help or the version was asked for, 2 for a wrong command line, 5 for want of memory
+abbrev pub status_of : Refusal → ℕ
+status_of (refusal.Help error) = 0
+status_of (refusal.Version error) = 0
+status_of (refusal.Wrong error) = 2
+status_of refusal.Missing = 2
+status_of refusal.NoText = 2
+status_of refusal.NoMemory = 5

@@ -1,0 +1,53 @@
+-- The program's words as clap is told of them: three subcommands, each with its words in order. What clap makes of
+-- words that are given is `subcommand_of` and `fault_of` of its own definitions.
+use Rattle.std.specs.Prelude.{◌≡◌, false, true, Some, codes}
+use Rattle.clap.specs.Words.{App, Rule, Text, app_of, new_app, new_rule, with_rule, with_subcommand}
+use Rattle.clap.specs.Lexer.{usize_max}
+use Rattle.clap.specs.Simple.{on_top}
+use Rattle.clap.specs.declared.builder.command.Command.{Command}
+use Rattle.clap.specs.declared.builder.command.Command.TheViews.{out-Command as fields_of}
+
+-- one word that must be there
+abbrev pub one_word : Text → Rule
+one_word name = record (new_rule name) { required = true }
+
+-- one word or more
+abbrev pub some_words : Text → Rule
+some_words name = record (one_word name) {
+  range = Some (record {
+    start_inclusive = 1;
+    end_inclusive = usize_max;
+  });
+}
+
+-- a subcommand of two words
+abbrev pub with_two_words : Text → Rule → Rule → App
+with_two_words name first second = with_rule (with_rule (new_app name) first) second
+
+-- `format SETTINGS DISK`
+abbrev pub format : App
+format = with_two_words (codes "format") (one_word (codes "SETTINGS")) (one_word (codes "DISK"))
+
+-- `run DISK FILE`
+abbrev pub run : App
+run = with_two_words (codes "run") (one_word (codes "DISK")) (one_word (codes "FILE"))
+
+-- `show DISK WORD...`
+abbrev pub show : App
+show = with_two_words (codes "show") (one_word (codes "DISK")) (some_words (codes "WORD"))
+
+-- the program without its subcommands: one of them must be named, it has a version, and `help` is no subcommand
+abbrev pub bare : App
+bare = on_top (λ top. record top {
+  subcommand_required = true;
+  disable_help_subcommand = true;
+  has_version = true;
+}) (new_app (codes "tetra-switch"))
+
+-- the program
+abbrev pub program : App
+program = with_subcommand (with_subcommand (with_subcommand bare format.top) run.top) show.top
+
+-- clap is told of this command, and none of its arguments is passed down to subcommands
+abbrev pub Tells : App → Command → Type 0
+Tells app command = (app_of command ≡ app) × ((fields_of command).has_globals ≡ false)

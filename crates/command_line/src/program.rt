@@ -1,0 +1,112 @@
+//! The command line, as clap is told of it: a function for each subcommand and each of its words.
+ghost use Rattle.std.specs.Prelude.{◌≡◌, IfOk, false};
+ghost use Rattle.clap.specs.Words.{new_app, rule_of};
+ghost use Rattle.command_line.specs.Program as spec;
+
+use clap::{Arg, Command};
+use std::alloc::{AllocError, Global};
+
+const DISK: &str = "The disk file";
+
+/// The program with its subcommands.
+pub(crate) fn program<'a>(alloc: Global) -> Result<Command<'a>, AllocError>
+    ensures { IfOk result (spec.Tells spec.program) }
+{
+    bare(alloc)
+        .subcommand(format(alloc)?)?
+        .subcommand(run(alloc)?)?
+        .subcommand(show(alloc)?)
+}
+
+/// The program without its subcommands.
+fn bare<'a>(alloc: Global) -> Command<'a>
+    ensures { spec.Tells spec.bare result }
+{
+    named(alloc, "tetra-switch", ABOUT, STATUSES)
+        .override_usage("tetra-switch [COMMAND]")
+        .version(VERSION)
+        .subcommand_required(true)
+        .disable_help_subcommand(true)
+}
+
+/// A command with what help tells of it.
+fn named<'a>(alloc: Global, name: &'a str, about: &'a str, after: &'a str) -> Command<'a>
+    ensures { spec.Tells (new_app name.now) result }
+{
+    Command::new(alloc, name).about(about).after_help(after)
+}
+
+fn format<'a>(alloc: Global) -> Result<Command<'a>, AllocError>
+    ensures { IfOk result (spec.Tells spec.format) }
+{
+    let settings = one_word(alloc, "SETTINGS", "The settings: five numbers in TOML");
+    let disk = one_word(alloc, "DISK", "The disk file, which may not exist yet");
+    named(alloc, "format", FORMAT, AFTER_FORMAT)
+        .arg(settings)?
+        .arg(disk)
+}
+
+fn run<'a>(alloc: Global) -> Result<Command<'a>, AllocError>
+    ensures { IfOk result (spec.Tells spec.run) }
+{
+    let disk = one_word(alloc, "DISK", DISK);
+    let file = one_word(alloc, "FILE", "The lines of station 1");
+    named(alloc, "run", RUN, AFTER_RUN).arg(disk)?.arg(file)
+}
+
+fn show<'a>(alloc: Global) -> Result<Command<'a>, AllocError>
+    ensures { IfOk result (spec.Tells spec.show) }
+{
+    let disk = one_word(alloc, "DISK", DISK);
+    let words = some_words(alloc, "WORD", "The words of the query");
+    named(alloc, "show", SHOW, AFTER_SHOW).arg(disk)?.arg(words)
+}
+
+/// One word that must be there.
+fn one_word<'a>(alloc: Global, name: &'a str, help: &'a str) -> Arg<'a>
+    ensures rule { rule_of result ≡ spec.one_word name.now }
+    ensures local { result.global ≡ false }
+{
+    Arg::new(alloc, name).required(true).help(help)
+}
+
+/// One word or more.
+fn some_words<'a>(alloc: Global, name: &'a str, help: &'a str) -> Arg<'a>
+    ensures rule { rule_of result ≡ spec.some_words name.now }
+    ensures local { result.global ≡ false }
+{
+    one_word(alloc, name, help).num_args(1..)
+}
+
+const VERSION: &str = "0.1.0 (disk layout 1)";
+
+const ABOUT: &str =
+    "The location register and message centre of a TETRA switch. Without a command it answers station 1's lines from \
+     standard input, over an empty register in memory.";
+
+const FORMAT: &str = "Makes a disk file for an empty register, and prints how many sectors it has.";
+
+const RUN: &str =
+    "Serves the lines of a file as station 1 on a disk file, and prints the answers when it has ended.";
+
+const SHOW: &str = "Answers one query of a disk file, and changes nothing.";
+
+const STATUSES: &str =
+    "Exit status: 0 each line was answered; 1 a line was bad, or an answer told of the service; 2 the command line is \
+     wrong; 3 settings; 4 a file; 5 the disk, or no memory.";
+
+const AFTER_FORMAT: &str = "Example: tetra-switch format settings.toml centre.disk
+
+Exit status: 0 the disk file is made; 2 the command line is wrong; 3 the settings are not five numbers in TOML; 4 the \
+     settings can't be read, or the disk file exists or can't be made; 5 no disk has these limits, the disk failed, or \
+     no memory.";
+
+const AFTER_RUN: &str = "Example: tetra-switch run centre.disk station1.txt
+
+Exit status: 0 each line was answered; 1 a line was bad, or an answer told of the service; 2 the command line is \
+     wrong; 4 a file can't be read or written; 5 the disk file holds no register or the disk failed, or no memory.";
+
+const AFTER_SHOW: &str = "Example: tetra-switch show centre.disk where 234-14-2001
+
+Exit status: 0 the query was answered; 1 it is no query, or the answer told of the service; 2 the command line is \
+     wrong; 4 the disk file can't be read; 5 it holds no register or the disk failed, or no memory.";

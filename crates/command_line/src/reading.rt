@@ -1,0 +1,131 @@
+//! The words of a command line, read by clap.
+ghost use Rattle.std.specs.Prelude.{◌≡◌, ◌⊎◌, [], IfOk, IfErr, None, Some, map, option_and_then, option_map};
+ghost use Rattle.clap.specs.Words.{all_of, first_of, found_of, rows_of, subcommand_of, subcommand_rows_of};
+ghost use Rattle.command_line.specs.Asked as spec;
+ghost use Rattle.command_line.specs.Program.{program};
+ghost use Rattle.command_line.specs.declared.request.Refusal.TheVariants.{Missing, NoMemory};
+
+use crate::program::program;
+use crate::request::{Refusal, Request, told};
+use clap::ArgMatches;
+use std::alloc::{AllocError, Global};
+use std::convert::AsStr;
+
+/// What the words of a command line ask for; the first is the program's name. With no further word that is to serve
+/// standard input. Else clap reads them: `format SETTINGS DISK`, `run DISK FILE` or `show DISK WORD...`, where a word
+/// behind `--` is never taken for a flag.
+///
+/// # Errors
+/// `Help` and `Version` where these are asked for by `--help`, `-h`, `--version` or `-V`, of a subcommand by its own
+/// `--help`; `Wrong` or `Missing` for every other command line; `NoMemory` where memory ran out.
+pub fn read_command_line<'a, S: AsStr>(
+    alloc: Global,
+    words: &'a [S],
+) -> Result<Request<'a>, Refusal>
+    ensures asked { IfOk result (λ request. spec.Asks (map S.text words.now) (spec.asked_by request)) }
+    ensures refused { IfErr result (spec.Refuses (map S.text words.now)) }
+{
+    if words.len() <= 1 {
+        return Ok(Request::Serve);
+    }
+    let matches = matches_of(alloc, words)?;
+    requested(alloc, &matches)
+}
+
+/// What clap finds in the words.
+fn matches_of<'a, S: AsStr>(alloc: Global, words: &'a [S]) -> Result<ArgMatches<'a>, Refusal>
+    ensures taken { IfOk result (λ matches. (spec.faults (map S.text words.now) ≡ [])
+        × (subcommand_rows_of matches ≡ subcommand_of program (map S.text words.now))) }
+    ensures refused { IfErr result (spec.TellsOne (spec.faults (map S.text words.now))) }
+{
+    let command = program(alloc)?;
+    match command.try_get_matches_from(words) {
+        Ok(matches) => Ok(matches),
+        Err(error) => Err(told(error)),
+    }
+}
+
+/// What is asked for by what clap found.
+fn requested<'a>(alloc: Global, matches: &ArgMatches<'a>) -> Result<Request<'a>, Refusal>
+    ensures asked { IfOk result (λ request. option_and_then spec.asked_of (subcommand_rows_of matches.now) ≡ Some (spec.asked_by request)) }
+    ensures refused { IfErr result (λ told. (told ≡ NoMemory)
+        ⊎ ((told ≡ Missing) × (option_and_then spec.asked_of (subcommand_rows_of matches.now) ≡ None))) }
+{
+    match entered(alloc, matches)? {
+        Some(request) => Ok(request),
+        None => Err(Refusal::Missing),
+    }
+}
+
+/// What the subcommand that clap met asks for, where it lacks no word.
+fn entered<'a>(alloc: Global, matches: &ArgMatches<'a>) -> Result<Option<Request<'a>>, AllocError>
+    ensures { IfOk result (λ request. option_map spec.asked_by request ≡ option_and_then spec.asked_of (subcommand_rows_of matches.now)) }
+{
+    match matches.subcommand() {
+        Some((name, found)) => request_of(alloc, name, found),
+        None => Ok(None),
+    }
+}
+
+/// What a subcommand asks for by its words.
+fn request_of<'a>(
+    alloc: Global,
+    name: &str,
+    found: &ArgMatches<'a>,
+) -> Result<Option<Request<'a>>, AllocError>
+    ensures { IfOk result (λ request. option_map spec.asked_by request ≡ spec.asked_of (name.now, rows_of (found_of found.now))) }
+{
+    if name == "format" {
+        return Ok(format_of(found));
+    }
+    if name == "run" {
+        return Ok(run_of(found));
+    }
+    if name == "show" {
+        return show_of(alloc, found);
+    }
+    Ok(None)
+}
+
+fn format_of<'a>(found: &ArgMatches<'a>) -> Option<Request<'a>>
+    ensures { option_map spec.asked_by result ≡ spec.format_in (rows_of (found_of found.now)) }
+{
+    let settings = word(found, "SETTINGS")?;
+    let disk = word(found, "DISK")?;
+    Some(Request::Format { settings, disk })
+}
+
+fn run_of<'a>(found: &ArgMatches<'a>) -> Option<Request<'a>>
+    ensures { option_map spec.asked_by result ≡ spec.run_in (rows_of (found_of found.now)) }
+{
+    let disk = word(found, "DISK")?;
+    let file = word(found, "FILE")?;
+    Some(Request::Run { disk, file })
+}
+
+fn show_of<'a>(alloc: Global, found: &ArgMatches<'a>) -> Result<Option<Request<'a>>, AllocError>
+    ensures { IfOk result (λ request. option_map spec.asked_by request ≡ spec.show_in (rows_of (found_of found.now))) }
+{
+    let Some(disk) = word(found, "DISK") else {
+        return Ok(None);
+    };
+    let Some(words) = all_words(found, "WORD") else {
+        return Ok(None);
+    };
+    let words = Vec::from_slice(alloc, words)?;
+    Ok(Some(Request::Show { disk, words }))
+}
+
+/// The word that clap found under a name.
+fn word<'a>(found: &ArgMatches<'a>, name: &str) -> Option<&'a str>
+    ensures { option_map (λ word. word.now) result ≡ first_of name.now (rows_of (found_of found.now)) }
+{
+    found.get_str(name)
+}
+
+/// All the words that it found under a name.
+fn all_words<'m, 'a>(found: &'m ArgMatches<'a>, name: &str) -> Option<&'m [&'a str]>
+    ensures { option_map (λ words. map (λ word. word.now) words.now) result ≡ all_of name.now (rows_of (found_of found.now)) }
+{
+    found.get_strs(name)
+}

@@ -1,0 +1,153 @@
+//! Command lines, and what each of them asks for.
+
+use command_line::{Refusal, Request, read_command_line};
+use std::alloc::{AllocError, Global};
+use std::test::Fail;
+
+/// The words behind the program's name, and what they ask for.
+const LINES: &str = "\
+format settings.toml centre.disk = format settings.toml centre.disk
+format - s = format - s
+format -- -s --help = format -s --help
+format s -- d = format s d
+format  d = format  d
+run centre.disk station1.txt = run centre.disk station1.txt
+run run format = run run format
+run -- centre.disk -x = run centre.disk -x
+show centre.disk count = show centre.disk count
+show centre.disk where 234-14-2001 = show centre.disk where 234-14-2001
+show d 1 0 rule 234-14-0/24 1 99 1 3600 = show d 1 0 rule 234-14-0/24 1 99 1 3600
+show d where -- -x = show d where -x
+show d  where = show d  where
+--help = help
+-h = help
+-hx = help
+--help x = help
+--help --version = help
+format --help = help
+format -h = help
+format s d --help = help
+run --help = help
+show --help = help
+show d where --help = help
+--version = version
+-V = version
+--version --help = version
+ = wrong
+- = wrong
+-- = wrong
+-- format s d = wrong
+x = wrong
+-x = wrong
+--x = wrong
+--help=x = wrong
+--version=1 = wrong
+--hel = wrong
+help = wrong
+help format = wrong
+serve = wrong
+Format s d = wrong
+form s d = wrong
+format = wrong
+format s = wrong
+format -- s = wrong
+format s d x = wrong
+format s d x --help = wrong
+format -x s d = wrong
+format --settings s d = wrong
+format --version = wrong
+run = wrong
+run d = wrong
+run d -- = wrong
+run d a b = wrong
+run d -1 = wrong
+run d a --turns 3 = wrong
+show = wrong
+show d = wrong
+show d -- = wrong
+show d where -x = wrong
+show --disk d count = wrong";
+
+fn push_words(text: &mut String, words: &[&str]) -> Result<(), AllocError> {
+    for word in words {
+        text.push_str(" ")?;
+        text.push_str(word)?;
+    }
+    Ok(())
+}
+
+/// A request, as its words.
+fn request_text(alloc: Global, request: &Request<'_>) -> Result<String, AllocError> {
+    let mut text = String::new(alloc);
+    match request {
+        Request::Serve => text.push_str("serve")?,
+        Request::Format { settings, disk } => {
+            text.push_str("format")?;
+            push_words(&mut text, &[*settings, *disk])?;
+        }
+        Request::Run { disk, file } => {
+            text.push_str("run")?;
+            push_words(&mut text, &[*disk, *file])?;
+        }
+        Request::Show { disk, words } => {
+            text.push_str("show")?;
+            push_words(&mut text, &[*disk])?;
+            push_words(&mut text, words.as_slice())?;
+        }
+    }
+    Ok(text)
+}
+
+fn refusal_name(refusal: &Refusal) -> &'static str {
+    match refusal {
+        Refusal::Help(_) => "help",
+        Refusal::Version(_) => "version",
+        Refusal::Wrong(_) => "wrong",
+        Refusal::Missing => "missing",
+        Refusal::NoText => "no text",
+        Refusal::NoMemory => "no memory",
+    }
+}
+
+/// What words ask for, as a text.
+fn answer(alloc: Global, words: &[&str]) -> Result<String, AllocError> {
+    match read_command_line(alloc, words) {
+        Ok(request) => request_text(alloc, &request),
+        Err(refusal) => String::from_str(alloc, refusal_name(&refusal)),
+    }
+}
+
+/// Whether the words of a line ask for what it says.
+fn is_answered(alloc: Global, line: &str) -> Result<bool, Fail> {
+    let (given, wanted) = line.split_once(" = ").ok_or("a line without =")?;
+    let mut words = Vec::new(alloc);
+    words.push("tetra-switch")?;
+    for word in given.split(' ') {
+        words.push(word)?;
+    }
+    Ok(answer(alloc, words.as_slice())?.as_str() == wanted)
+}
+
+/// The first line that asks for something else.
+fn first_wrong(alloc: Global) -> Result<Option<&'static str>, Fail> {
+    for line in LINES.lines() {
+        if !is_answered(alloc, line)? {
+            return Ok(Some(line));
+        }
+    }
+    Ok(None)
+}
+
+#[test]
+fn words_and_requests(rt: HostRuntime) -> Result<(), Fail> {
+    assert_eq!(rt; first_wrong(rt.alloc())?, None);
+    Ok(())
+}
+
+#[test]
+fn no_words(rt: HostRuntime) -> Result<(), Fail> {
+    let alloc = rt.alloc();
+    assert!(rt; answer(alloc, &[])?.as_str() == "serve");
+    assert!(rt; answer(alloc, &["--help"])?.as_str() == "serve");
+    Ok(())
+}

@@ -1,0 +1,93 @@
+//! What is told in place of a request: texts and exit statuses.
+
+use command_line::{Refusal, read_command_line};
+use std::alloc::Global;
+use std::io;
+use std::test::Fail;
+
+/// What words are refused with.
+fn refused(alloc: Global, words: &[&str]) -> Result<Refusal, Fail> {
+    match read_command_line(alloc, words) {
+        Ok(_) => Err(Fail::from("a request")),
+        Err(refusal) => Ok(refusal),
+    }
+}
+
+/// The text that words are answered with.
+fn text_of(alloc: Global, words: &[&str]) -> Result<String, Fail> {
+    let refusal = refused(alloc, words)?;
+    Ok(format!(in alloc; "{refusal}")?)
+}
+
+/// Whether help of these words has all of this.
+fn tells(alloc: Global, words: &[&str], parts: &[&str]) -> Result<bool, Fail> {
+    let text = text_of(alloc, words)?;
+    for part in parts {
+        if !text.as_str().contains(*part) {
+            return Ok(false);
+        }
+    }
+    Ok(true)
+}
+
+#[test]
+fn help_of_the_program(rt: HostRuntime) -> Result<(), Fail> {
+    let parts = [
+        "Usage: tetra-switch [COMMAND]\n",
+        "format",
+        "run",
+        "show",
+        "--version",
+        "Exit status:",
+    ];
+    assert!(rt; tells(rt.alloc(), &["tetra-switch", "--help"], &parts)?);
+    Ok(())
+}
+
+#[test]
+fn help_of_each_subcommand(rt: HostRuntime) -> Result<(), Fail> {
+    let alloc = rt.alloc();
+    let format = [
+        "Usage: tetra-switch format <SETTINGS> <DISK>\n",
+        "Example: tetra-switch format ",
+        "Exit status:",
+    ];
+    let run = [
+        "Usage: tetra-switch run <DISK> <FILE>\n",
+        "Example: tetra-switch run ",
+        "Exit status:",
+    ];
+    let show = [
+        "Usage: tetra-switch show <DISK> <WORD>...\n",
+        "Example: tetra-switch show ",
+        "Exit status:",
+    ];
+    assert!(rt; tells(alloc, &["bin/tetra-switch", "format", "--help"], &format)?);
+    assert!(rt; tells(alloc, &["tetra-switch", "run", "--help"], &run)?);
+    assert!(rt; tells(alloc, &["tetra-switch", "show", "--help"], &show)?);
+    Ok(())
+}
+
+#[test]
+fn version(rt: HostRuntime) -> Result<(), Fail> {
+    let text = text_of(rt.alloc(), &["tetra-switch", "--version"])?;
+    assert!(rt; text.as_str() == "tetra-switch 0.1.0 (disk layout 1)\n");
+    Ok(())
+}
+
+#[test]
+fn statuses(rt: HostRuntime) -> Result<(), Fail> {
+    let alloc = rt.alloc();
+    assert!(rt; refused(alloc, &["t", "--help"])?.status() == 0);
+    assert!(rt; refused(alloc, &["t", "--version"])?.status() == 0);
+    assert!(rt; refused(alloc, &["t", "run", "d"])?.status() == 2);
+    assert!(rt; Refusal::Missing.status() == 2 && Refusal::NoMemory.status() == 5);
+    Ok(())
+}
+
+#[test]
+fn words_that_are_no_text(rt: HostRuntime) {
+    let no_text = Refusal::from(io::Error::from(io::ErrorKind::InvalidData));
+    let no_memory = Refusal::from(io::Error::from(io::ErrorKind::OutOfMemory));
+    assert!(rt; no_text.status() == 2 && no_memory.status() == 5);
+}

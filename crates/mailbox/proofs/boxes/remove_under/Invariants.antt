@@ -1,4 +1,0 @@
-use Rattle.mailbox.proofs.boxes.remove_under.Given as goal
-
-abbrev pub ghosts-remove_from : goal.ghosts-remove_from
-ghosts-remove_from g a = record { name = a.blank.name; parts = a.blank.parts }

@@ -1,0 +1,99 @@
+-- Records read and played one after another.
+use Rattle.std.proofs.Common.{◌≡◌, ◌⊎◌, inl, inr, ℕ, ◌+◌, ◌<◌, List, [], ◌∷◌, ◌++◌, Option, Some, None, Result, Ok, Err, refl, sym, subst, ap, append_assoc, ◌∙◌}
+use Rattle.centre_core.specs.Asked.{Asked}
+use Rattle.centre_core.specs.State.{State}
+use Rattle.gated_journal.specs.declared.fault.JournalError.{JournalError}
+use Rattle.gated_journal.specs.declared.fault.JournalError.TheVariants as journal
+use Rattle.gated_journal.specs.Half.{Entry, Half, Found, half_of, half_on, record_at, with_front}
+use Rattle.gated_journal.specs.Reading as reading
+use Rattle.gated_journal.proofs.Halves.{front_none, unrolled}
+use Rattle.checkpoint.specs.Standing.{Held}
+use Rattle.recovery.specs.declared.fault.StoreFault.{StoreFault}
+use Rattle.recovery.specs.declared.fault.StoreFault.TheVariants.{BadGeometry, Broken, Damaged, DiskFault, EpochsUsedUp, NoMemory, Unformatted}
+use Rattle.recovery.specs.Opens.{held_by, played, played_from, run, taken, then_on}
+use Rattle.recovery.specs.Opening.{BeginsWith, Fails, Stops, fault_of}
+use Rattle.recovery.proofs.Chained.{fails_then, fails_is}
+
+-- ---- a fault before a half, or in it
+
+module _ {A : Type 0} where
+  -- the records of the half are good
+  pub stops_good : (e : StoreFault) (held : Held A) (half : Half A) (is : Result (State × ℕ) StoreFault) → half ≡ Ok held → Stops e (held_by half) is → Fails e is
+  stops_good e held half is good stops = subst (λ (h : Half A). Stops e (held_by h) is) good stops
+
+  -- they are not
+  pub stops_bad : (e : StoreFault) (told : JournalError) (half : Half A) (is : Result (State × ℕ) StoreFault) → reading.Fails told half → Stops e (held_by half) is → Fails (fault_of told) is
+  stops_bad e (journal.Damaged s) half is bad stops = subst (λ (h : Half A). Stops e (held_by h) is) bad stops
+  stops_bad e journal.DiskFault half is bad stops = tt
+  stops_bad e journal.NoMemory half is bad stops = tt
+  stops_bad e journal.JournalFull half is bad stops = absurd bad
+
+  -- ---- fronts of records
+
+  pub begins_same : (half : Half A) → BeginsWith half half
+  begins_same half = ([], sym (front_none half))
+
+  front_twice : (front more : List (Entry A)) (half : Half A) → with_front front (with_front more half) ≡ with_front (front ++ more) half
+  front_twice front more (Ok half) = ap (λ (entries : List (Entry A)). Ok (entries, half.1)) (sym (append_assoc front more half.0))
+  front_twice front more (Err s) = refl
+
+  pub begins_on : (half mid rest : Half A) → BeginsWith half mid → BeginsWith mid rest → BeginsWith half rest
+  begins_on half mid rest (front, is) (more, then) = (front ++ more, is ∙ ap (with_front front) then ∙ front_twice front more rest)
+
+  pub begins_good : (half rest : Half A) → BeginsWith half rest → (held : Held A) × (rest ≡ Ok held) → (held : Held A) × (half ≡ Ok held)
+  begins_good half rest (front, is) (held, good) = ((front ++ held.0, held.1), is ∙ ap (with_front front) good)
+
+  -- ---- one record
+
+  module _ (image : List (List ℕ)) (at end : ℕ) (lt : at < end) where
+    from : (r : Found A) → record_at image at end ≡ r → half_of image at end ≡ half_on at r (λ next. half_of image next end)
+    from r is = unrolled image at end lt ∙ ap (λ (q : Found A). half_on at q (λ next. half_of image next end)) is
+
+    pub begins_record : (commands : List (Asked A)) (next : ℕ) → record_at image at end ≡ Ok (Some (commands, next)) → BeginsWith {A = A} (half_of image at end) (half_of image next end)
+    begins_record commands next there = ((at + 1, commands) ∷ [], from (Ok (Some (commands, next))) there)
+
+    module _ (s : State) where
+      pub plays_closed : record_at {A = A} image at end ≡ Ok None → played_from s (half_of {A = A} image at end) ≡ Ok (s, at)
+      unfolding played
+      plays_closed is = ap (played_from s) (from (Ok None) is)
+
+      module _ (commands : List (Asked A)) (next : ℕ) (there : record_at image at end ≡ Ok (Some (commands, next))) where
+        with_more : (half : Half A) (r : Result State StoreFault) → taken (at + 1) (run s commands) ≡ r
+            → played_from s (with_front ((at + 1, commands) ∷ []) half) ≡ then_on (held_by half) (λ held. then_on (then_on r (λ t. played t held.0)) (λ t. Ok (t, held.1)))
+        unfolding played
+        with_more (Ok held) r is = ap (λ (q : Result State StoreFault). then_on (then_on q (λ t. played t held.0)) (λ t. Ok (t, held.1))) is
+        with_more (Err x) r is = refl
+
+        -- its commands are accepted
+        pub plays_record : (t : State) → taken (at + 1) (run s commands) ≡ Ok t → played_from s (half_of {A = A} image at end) ≡ played_from t (half_of {A = A} image next end)
+        plays_record t is = ap (played_from s) (from (Ok (Some (commands, next))) there) ∙ with_more (half_of image next end) (Ok t) is
+
+        -- one of them is not, or wants memory
+        pub plays_stop : (e : StoreFault) → Fails e (taken (at + 1) (run s commands)) → Stops e (held_by (half_of {A = A} image next end)) (played_from s (half_of {A = A} image at end))
+        plays_stop e failed =
+            let r = taken (at + 1) (run s commands) in
+            let whole : played_from s (half_of {A = A} image at end) ≡ then_on (held_by (half_of {A = A} image next end)) (λ held. then_on (then_on (taken (at + 1) (run s commands)) (λ t. played t held.0)) (λ t. Ok (t, held.1))) = ap (played_from s) (from (Ok (Some (commands, next))) there) ∙ with_more (half_of image next end) r refl in
+            by (half_of image next end) (played_from s (half_of {A = A} image at end)) whole
+          where
+            by : (half : Half A) (is : Result (State × ℕ) StoreFault) → is ≡ then_on (held_by half) (λ held. then_on (then_on (taken (at + 1) (run s commands)) (λ t. played t held.0)) (λ t. Ok (t, held.1))) → Stops e (held_by half) is
+            by (Ok held) is whole =
+                subst (λ (q : Result (State × ℕ) StoreFault). Fails e q) (sym whole)
+                (fails_then e (then_on (taken (at + 1) (run s commands)) (λ t. played t held.0)) (λ t. Ok (t, held.1)) (fails_then e (taken (at + 1) (run s commands)) (λ t. played t held.0) failed))
+            by (Err x) is whole = whole
+
+-- the sector that is at fault at a gate is so in the half
+pub plays_fault : (A : Type 0) (image : List (List ℕ)) (at end : ℕ) → at < end → (s : State) (e : JournalError) → reading.Fails e (record_at {A = A} image at end) → Stops (fault_of e) (held_by (half_of {A = A} image at end)) (played_from s (half_of {A = A} image at end))
+plays_fault A image at end lt s e is = by (half_of image at end) e (bad e is)
+  where
+    bad : (e : JournalError) → reading.Fails e (record_at {A = A} image at end) → reading.Fails e (half_of {A = A} image at end)
+    bad (journal.Damaged x) is = from {A = A} image at end lt (Err x) is
+    bad journal.DiskFault is = tt
+    bad journal.NoMemory is = tt
+    bad journal.JournalFull is = is
+
+    by : (half : Half A) (e : JournalError) → reading.Fails e half → Stops (fault_of e) (held_by half) (played_from s half)
+    by (Err x) e is = refl
+    by (Ok held) (journal.Damaged x) is = absurd cc
+    by (Ok held) journal.DiskFault is = tt
+    by (Ok held) journal.NoMemory is = tt
+    by (Ok held) journal.JournalFull is = absurd is

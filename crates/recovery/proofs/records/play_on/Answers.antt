@@ -1,0 +1,61 @@
+use Rattle.std.proofs.Common.{◌≡◌, ◌<◌, ◌∙◌, refl, sym, arith}
+use Rattle.std.proofs.lemmas.Result.{err_from_is_err_and}
+use Rattle.sector_disk.specs.Disk.{View}
+use Rattle.sector_disk.proofs.Looked.{looked_on, not_looked}
+use Rattle.gated_journal.specs.Half.{half_of}
+use Rattle.recovery.proofs.Replayed.{begins_on, begins_same}
+use Rattle.recovery.proofs.records.play_on.Goals as goal
+
+pub loop-init : goal.loop-init
+loop-init g c = record {
+  before = c.requires.before;
+  first = refl;
+  end = refl;
+  limits = refl;
+  sectors = refl;
+  later = omega arith;
+  looked = λ honest. not_looked _ honest;
+  begins = λ honest. begins_same _;
+  so_far = λ honest. refl;
+}
+
+pub returns-in_err-play_next-clause-begins : goal.returns-in_err-play_next-clause-begins
+returns-in_err-play_next-clause-begins g c honest =
+    let old : View = g.D.Disk.view c.args.disk.now in
+    let looked = c.loop.invariant.looked honest in
+    let begins = rw (looked.reads, c.loop.invariant.end) at (c.play_next.ensures.begins looked.honest) in
+    begins_on (half_of {A = g.row.A.Denot} old.reads c.args.journal.now.next c.args.journal.now.end) (half_of {A = g.row.A.Denot} old.reads c.loop.journal.next c.args.journal.now.end) (half_of {A = g.row.A.Denot} old.reads c.play_next.new.journal.next c.args.journal.now.end)
+    (c.loop.invariant.begins honest) begins
+
+pub returns-clause-begins : goal.returns-clause-begins
+returns-clause-begins g c honest =
+    let old : View = g.D.Disk.view c.args.disk.now in
+    let looked = c.loop.invariant.looked honest in
+    let begins = rw (looked.reads, c.loop.invariant.end) at (c.play_next.ensures.begins looked.honest) in
+    begins_on (half_of {A = g.row.A.Denot} old.reads c.args.journal.now.next c.args.journal.now.end) (half_of {A = g.row.A.Denot} old.reads c.loop.journal.next c.args.journal.now.end) (half_of {A = g.row.A.Denot} old.reads c.play_next.new.journal.next c.args.journal.now.end)
+    (c.loop.invariant.begins honest) begins
+
+pub loop-preserved : goal.loop-preserved
+loop-preserved g c =
+    let old : View = g.D.Disk.view c.args.disk.now in
+    let mid : View = g.D.Disk.view c.loop.disk in
+    record {
+      before = omega (arith, c.play_next.ensures.next, c.loop.invariant.end);
+      first = c.play_next.ensures.first ∙ c.loop.invariant.first;
+      end = c.play_next.ensures.end ∙ c.loop.invariant.end;
+      limits = c.play_next.ensures.limits ∙ c.loop.invariant.limits;
+      sectors = c.play_next.ensures.sectors ∙ c.loop.invariant.sectors;
+      later = omega (arith, c.play_next.ensures.later, c.loop.invariant.later);
+      looked = λ honest.
+          let looked = c.loop.invariant.looked honest in
+          looked_on _ mid _ looked (c.play_next.ensures.looked looked.honest);
+      begins = λ honest.
+          let looked = c.loop.invariant.looked honest in
+          let begins = rw (looked.reads, c.loop.invariant.end) at (c.play_next.ensures.begins looked.honest) in
+          begins_on (half_of {A = g.row.A.Denot} old.reads c.args.journal.now.next c.args.journal.now.end) (half_of {A = g.row.A.Denot} old.reads c.loop.journal.next c.args.journal.now.end) (half_of {A = g.row.A.Denot} old.reads c.play_next.new.journal.next c.args.journal.now.end)
+          (c.loop.invariant.begins honest) begins;
+      so_far = λ honest.
+          let looked = c.loop.invariant.looked honest in
+          let one = rw (c.if-branch.true, looked.reads, c.loop.invariant.end) at (c.in_ok-play_next.ensures.exact looked.honest) in
+          c.loop.invariant.so_far honest ∙ one;
+    }

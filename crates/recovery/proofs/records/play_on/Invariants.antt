@@ -1,0 +1,26 @@
+use Rattle.std.proofs.Common.{◌≡◌, ◌<◌, ◌≤◌, ◌-◌}
+use Rattle.sector_disk.specs.Disk.{View}
+use Rattle.sector_disk.specs.Run.{HasLooked}
+use Rattle.gated_journal.specs.Half.{half_of}
+use Rattle.recovery.specs.Opening.{BeginsWith}
+use Rattle.recovery.specs.Opens.{played_from}
+use Rattle.recovery.proofs.records.play_on.Given as goal
+
+abbrev pub invariant-loop : goal.invariant-loop
+invariant-loop g l =
+    let old : View = g.D.Disk.view l.initial.disk in
+    let now : View = g.D.Disk.view l.disk in
+    record {
+      before : l.journal.next < l.initial.journal.end;
+      first : l.journal.first ≡ l.initial.journal.first;
+      end : l.journal.end ≡ l.initial.journal.end;
+      limits : l.register.registered.limits ≡ l.initial.register.registered.limits;
+      sectors : now.sectors ≡ old.sectors;
+      later : old.failures ≤ now.failures;
+      looked : old.honest → HasLooked old now;
+      begins : old.honest → BeginsWith (half_of {A = g.row.A.Denot} old.reads l.initial.journal.next l.initial.journal.end) (half_of {A = g.row.A.Denot} old.reads l.journal.next l.initial.journal.end);
+      so_far : old.honest → played_from l.initial.register (half_of {A = g.row.A.Denot} old.reads l.initial.journal.next l.initial.journal.end) ≡ played_from l.register (half_of {A = g.row.A.Denot} old.reads l.journal.next l.initial.journal.end);
+    }
+
+abbrev pub decreases-loop : goal.decreases-loop
+decreases-loop g l = l.initial.journal.end - l.journal.next

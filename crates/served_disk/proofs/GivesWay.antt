@@ -1,0 +1,65 @@
+-- Want of memory told in the place of a list.
+use Rattle.std.proofs.Common.{◌≡◌, ℕ, ◌+◌, ◌≤◌, ◌<◌, ◌∙◌, ap, arith, Result, Ok, Err, OnOk, OnErr, IsTrue, is_ok, length, [], ◌++◌, true, false, Bool, List, refl, sym, subst, inl, inr, ⊎_elim}
+use Rattle.std.proofs.lemmas.Bool.{true≢false}
+use mathlib.Core.Bool.{false≢true}
+use Rattle.centre_core.specs.State.{State}
+use Rattle.centre_core.specs.declared.query.Query.{Query}
+use Rattle.centre_core.specs.declared.query.Told.{Told}
+use Rattle.centre_core.specs.declared.query.Told.TheVariants as told
+use Rattle.desk.specs.declared.service.Service.TheVariants.{Memory}
+use Rattle.desk.specs.OfRegister.{of_register}
+use Rattle.console.specs.declared.line.Line.{Line}
+use Rattle.console.specs.declared.line.Line.TheVariants.{Silent, Bad, Order, Ask}
+use Rattle.console.specs.declared.answer.Answer.{Answer}
+use Rattle.console.specs.declared.answer.Answer.TheVariants as answer
+use Rattle.console.specs.Answer.{is_list, IsLine, IsOneLine}
+use Rattle.console.specs.Dialogue.{AnswersQuery}
+use Rattle.console.specs.Reading.{reading}
+use Rattle.served_disk.specs.Showing.{IsShown, IsTextOf, ShowsReading}
+
+listed : {B : Type 0} (t : Told B) → (IsOneLine t → ⊥) → is_list t ≡ true
+listed (told.Whereabouts itsi radio) long = absurd (long tt)
+listed (told.Look itsi rule) long = absurd (long tt)
+listed (told.Groups itsi groups) long = refl
+listed (told.Members gtsi members) long = refl
+listed (told.Waiting itsi items) long = refl
+listed (told.Total count) long = absurd (long tt)
+
+module _ {A : Type 0} where
+  untold : (s : State) (q : Query) (a : Answer A) → (IsLine a → ⊥) → AnswersQuery of_register 1 s q a s → AnswersQuery {A = A} of_register 1 s q (answer.Untold 1 Memory) s
+  untold s q (answer.Told told) long is = (refl, inr (refl, (told, listed told long, is)))
+  untold s q (answer.Untold number word) long is = absurd (long tt)
+  untold s q answer.Quiet long is = absurd is
+  untold s q (answer.Bad number fault) long is = absurd is
+  untold s q (answer.Replied sequence reply) long is = absurd is
+  untold s q (answer.Unserved sequence word) long is = absurd is
+
+  short : (a b : Answer A) → a ≡ b → IsLine b → IsLine a
+  short a b same is = subst (λ (c : Answer A). IsLine c) (sym same) is
+
+  gives_way : (s : State) (said : Line A) (a : Answer A) → (IsLine a → ⊥) → ShowsReading s said a → ShowsReading {A = A} s said (answer.Untold 1 Memory)
+  gives_way s Silent a long is = absurd (long (short a _ is tt))
+  gives_way s (Bad fault) a long is = absurd (long (short a _ is tt))
+  gives_way s (Order c) a long is = absurd (long (short a _ is tt))
+  gives_way s (Ask q) a long is = untold s q a long is
+
+  pub shown : (s : State) (whole out : List ℕ) (troubled : Bool) (a : Answer A) → ShowsReading s (reading 1 whole) a → IsTextOf a out troubled → IsShown A s whole out troubled
+  shown s whole out troubled a is (inl (written, trouble)) = record { given = a; answers = is; written = written; trouble = trouble }
+  shown s whole out troubled a is (inr (long, written, trouble)) = record { given = answer.Untold 1 Memory; answers = gives_way s (reading 1 whole) a long is; written = written; trouble = trouble }
+
+-- what was written behind nothing
+pub written_first : {X E : Type 0} (r : Result X E) (old new more : List ℕ) → old ≡ [] → is_ok r ≡ true → OnOk r (new ≡ old ++ more) → new ≡ more
+written_first (Ok x) old new more none ok is = is ∙ ap (λ l. l ++ more) none
+written_first (Err e) old new more none ok is = absurd (false≢true ok)
+
+-- what finds no room there is no line
+pub no_line : {X E : Type 0} (r : Result X E) (capacity size : ℕ) (P : Type 0) → 1024 ≤ capacity → size ≡ 0 → is_ok r ≡ false → (P → OnErr r (capacity < size + 1024)) → P → ⊥
+no_line (Ok x) capacity size P room none err full line = absurd (true≢false err)
+no_line (Err e) capacity size P room none err full line = let is = full line in absurd (omega (arith, is, room, none))
+
+-- what was written in the place of what found no room
+pub written_over : {X Y E F : Type 0} (r : Result X E) (q : Result Y F) (y : Y) (old mid new more : List ℕ) → old ≡ [] → is_ok r ≡ false → OnErr r (mid ≡ old) → q ≡ Ok y → OnOk q (new ≡ mid ++ more) → new ≡ more
+written_over {Y = Y} {F = F} (Ok x) q y old mid new more none err same ok is = absurd (true≢false err)
+written_over {Y = Y} {F = F} (Err e) q y old mid new more none err same ok is =
+    let put : new ≡ mid ++ more = subst (λ (w : Result Y F). OnOk w (new ≡ mid ++ more)) ok is in
+    put ∙ ap (λ l. l ++ more) (same ∙ none)

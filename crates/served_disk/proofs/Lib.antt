@@ -1,0 +1,2 @@
+mod GivesWay
+mod Lacking

@@ -1,0 +1,65 @@
+-- The lines and the exit statuses of faults, and which fault is told of what the parts answer.
+use Rattle.std.specs.Prelude.{◌≡◌, ℕ, List, ◌++◌, codes, decimal}
+use Rattle.console.specs.declared.running.RunFault.{RunFault}
+use Rattle.console.specs.declared.running.RunFault.TheVariants as run
+use Rattle.file_disk.specs.declared.fault.FileFault.{FileFault}
+use Rattle.file_disk.specs.declared.fault.FileFault.TheVariants as file
+use Rattle.recovery.specs.declared.fault.StoreFault.{StoreFault}
+use Rattle.recovery.specs.declared.fault.StoreFault.TheVariants as store
+use Rattle.settings.specs.declared.reading.SettingsFault.{SettingsFault}
+use Rattle.settings.specs.declared.reading.SettingsFault.TheVariants as settings
+use Rattle.served_disk.specs.declared.fault.Fault.{Fault}
+use Rattle.served_disk.specs.declared.fault.Fault.TheVariants as fault
+
+abbrev pub fault_text : Fault → List ℕ
+fault_text fault.Settings = codes "fault: settings\n"
+fault_text (fault.File name) = codes "fault: file " ++ name.now ++ codes "\n"
+fault_text fault.Unformatted = codes "fault: unformatted\n"
+fault_text fault.BadGeometry = codes "fault: bad geometry\n"
+fault_text (fault.Damaged sector) = codes "fault: damaged sector " ++ decimal sector ++ codes "\n"
+fault_text fault.Device = codes "fault: device\n"
+fault_text fault.Memory = codes "fault: memory\n"
+fault_text fault.Epochs = codes "fault: epochs\n"
+
+-- 3 for settings, 4 for a file, 5 for what stands on a disk, the device and memory
+abbrev pub fault_status : Fault → ℕ
+fault_status fault.Settings = 3
+fault_status (fault.File name) = 4
+fault_status fault.Unformatted = 5
+fault_status fault.BadGeometry = 5
+fault_status (fault.Damaged sector) = 5
+fault_status fault.Device = 5
+fault_status fault.Memory = 5
+fault_status fault.Epochs = 5
+
+-- the fault names a file, this one
+abbrev pub Names : Fault → List ℕ → Type 0
+Names (fault.File name) text = name.now ≡ text
+Names other text = ⊥
+
+-- ---- of what the parts answer
+
+abbrev pub of_settings : SettingsFault → Fault
+of_settings settings.BadSettings = fault.Settings
+of_settings settings.NoMemory = fault.Memory
+
+-- of a disk in the file of this name
+abbrev pub IsOfFile : FileFault → List ℕ → Fault → Type 0
+IsOfFile file.NotOpened name is = Names is name
+IsOfFile file.DiskFault name is = is ≡ fault.Device
+IsOfFile file.NoMemory name is = is ≡ fault.Memory
+
+abbrev pub of_store : StoreFault → Fault
+of_store store.Unformatted = fault.Unformatted
+of_store store.BadGeometry = fault.BadGeometry
+of_store (store.Damaged sector) = fault.Damaged sector
+of_store store.DiskFault = fault.Device
+of_store store.Broken = fault.Device
+of_store store.NoMemory = fault.Memory
+of_store store.EpochsUsedUp = fault.Epochs
+
+-- of the lines in the file of this name, whose answers wait in memory: these find no room, and so are not written
+abbrev pub IsOfRun : RunFault → List ℕ → Fault → Type 0
+IsOfRun run.Read name is = Names is name
+IsOfRun run.Write name is = is ≡ fault.Memory
+IsOfRun run.NoMemory name is = is ≡ fault.Memory

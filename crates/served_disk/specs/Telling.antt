@@ -1,0 +1,20 @@
+-- What the program writes beside the answers.
+use Rattle.std.specs.Prelude.{ℕ, List, ◌++◌, codes, decimal}
+use Rattle.std.specs.List.{flat_map}
+use Rattle.served_disk.specs.declared.telling.Part.{Part}
+use Rattle.served_disk.specs.declared.telling.Part.TheVariants as part
+
+abbrev pub part_text : Part → List ℕ
+part_text (part.Text text) = text.now
+part_text (part.Number number) = decimal number
+
+abbrev pub parts_text : List Part → List ℕ
+parts_text parts = flat_map part_text parts
+
+-- a disk of so many sectors was made
+abbrev pub formatted_text : ℕ → List ℕ
+formatted_text sectors = codes "formatted " ++ decimal sectors ++ codes " sectors\n"
+
+-- a station, and the name of the file in which its lines stood
+abbrev pub station_text : ℕ → List ℕ → List ℕ
+station_text station name = codes "station " ++ decimal station ++ codes " " ++ name ++ codes "\n"

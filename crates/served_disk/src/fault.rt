@@ -1,0 +1,129 @@
+//! Why the program does not do what it is asked.
+ghost use Rattle.std.specs.Prelude.{◌≡◌, ◌++◌, OnOk, codes, decimal};
+ghost use Rattle.std.specs.Io.KnownBytes.{Appends};
+ghost use Rattle.served_disk.specs.Faults.{IsOfFile, IsOfRun, fault_status, fault_text, of_settings, of_store};
+
+use crate::telling::{Part, tell};
+use console::RunFault;
+use file_disk::FileFault;
+use recovery::StoreFault;
+use settings::SettingsFault;
+use std::io;
+use std::io::Write;
+
+/// Why the program does not do what it is asked.
+#[derive(Clone, Copy, Debug, PartialEq, Eq)]
+pub enum Fault<'a> {
+    /// The settings are not the five numbers, in TOML.
+    Settings,
+    /// The file of this name can't be opened, made, read or written, or another process holds it.
+    File(&'a str),
+    /// The disk has no label.
+    Unformatted,
+    /// The settings, or the disk's label, tell of numbers out of range, or the disk has too few sectors.
+    BadGeometry,
+    /// The sector of this number is not what has to stand there.
+    Damaged(u64),
+    /// The device failed.
+    Device,
+    /// There was no memory.
+    Memory,
+    /// The register's image has the last epoch.
+    Epochs,
+}
+
+impl<'a> Fault<'a> {
+    /// Why there are no settings.
+    pub fn of_settings(fault: SettingsFault) -> Fault<'a>
+        ensures { result ≡ of_settings fault }
+    {
+        match fault {
+            SettingsFault::BadSettings => Fault::Settings,
+            SettingsFault::NoMemory => Fault::Memory,
+        }
+    }
+
+    /// Why the file of this name is no disk.
+    pub fn of_file(fault: FileFault, name: &'a str) -> Fault<'a>
+        ensures { IsOfFile fault name.now result }
+    {
+        match fault {
+            FileFault::NotOpened => Fault::File(name),
+            FileFault::DiskFault => Fault::Device,
+            FileFault::NoMemory => Fault::Memory,
+        }
+    }
+
+    /// Why a disk gives no register.
+    pub fn of_store(fault: StoreFault) -> Fault<'a>
+        ensures { result ≡ of_store fault }
+    {
+        match fault {
+            StoreFault::Unformatted => Fault::Unformatted,
+            StoreFault::BadGeometry => Fault::BadGeometry,
+            StoreFault::Damaged(sector) => Fault::Damaged(sector),
+            StoreFault::DiskFault | StoreFault::Broken => Fault::Device,
+            StoreFault::NoMemory => Fault::Memory,
+            StoreFault::EpochsUsedUp => Fault::Epochs,
+        }
+    }
+
+    /// Why the lines of the file of this name were not all answered, where the answers wait in memory.
+    pub fn of_run(fault: RunFault, name: &'a str) -> Fault<'a>
+        ensures { IsOfRun fault name.now result }
+    {
+        match fault {
+            RunFault::Read => Fault::File(name),
+            RunFault::Write | RunFault::NoMemory => Fault::Memory,
+        }
+    }
+
+    /// The exit status: 3 for settings, 4 for a file, 5 for what stands on a disk, the device and memory.
+    pub fn status(&self) -> u8
+        ensures { result ≡ fault_status self.now }
+    {
+        match self {
+            Fault::Settings => 3,
+            Fault::File(_) => 4,
+            _ => 5,
+        }
+    }
+
+    /// Writes the line that tells it.
+    pub fn tell<W: Write>(&self, out: &mut W) -> io::Result<()>
+        ensures { OnOk result (Appends (W.contents out.old) (W.contents out.new) (fault_text self.now)) }
+    {
+        match self {
+            Fault::Settings => tell(out, &[Part::Text("fault: settings\n")]),
+            Fault::File(name) => tell_named(out, name),
+            Fault::Unformatted => tell(out, &[Part::Text("fault: unformatted\n")]),
+            Fault::BadGeometry => tell(out, &[Part::Text("fault: bad geometry\n")]),
+            Fault::Damaged(sector) => tell_damaged(out, *sector),
+            Fault::Device => tell(out, &[Part::Text("fault: device\n")]),
+            Fault::Memory => tell(out, &[Part::Text("fault: memory\n")]),
+            Fault::Epochs => tell(out, &[Part::Text("fault: epochs\n")]),
+        }
+    }
+}
+
+fn tell_named<W: Write>(out: &mut W, name: &str) -> io::Result<()>
+    ensures { OnOk result (Appends (W.contents out.old) (W.contents out.new) (codes "fault: file " ++ name.now ++ codes "\n")) }
+{
+    let parts = [
+        Part::Text("fault: file "),
+        Part::Text(name),
+        Part::Text("\n"),
+    ];
+    tell(out, &parts)
+}
+
+fn tell_damaged<W: Write>(out: &mut W, sector: u64) -> io::Result<()>
+    ensures { OnOk result (Appends (W.contents out.old) (W.contents out.new) (codes "fault: damaged sector " ++ decimal sector ++ codes "\n")) }
+{
+    let parts = [
+        Part::Text("fault: damaged sector "),
+        Part::Number(sector),
+        Part::Text("\n"),
+    ];
+    tell(out, &parts)
+}

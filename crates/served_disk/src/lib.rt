@@ -1,0 +1,17 @@
+//! What the program does with the disks and files that it is named: it makes a disk for an empty register, serves a station's
+//! lines over the register that is kept on a disk, and answers a query of one.
+#![tactic(auto)]
+
+mod fault;
+mod making;
+mod opening;
+mod serving;
+mod showing;
+mod telling;
+
+pub use fault::Fault;
+pub use making::{format_disk, layout_of};
+pub use opening::open_disk;
+pub use serving::{Served, TURNS, serve};
+pub use showing::{Shown, show};
+pub use telling::{tell_formatted, tell_station};

@@ -1,0 +1,64 @@
+//! A disk made for an empty register.
+ghost use Rattle.std.specs.Prelude.{◌≡◌, ◌↔◌, IfErr, IfOk, IfSome, IsSome};
+ghost use Rattle.checkpoint.specs.Layout.{disk_size};
+ghost use Rattle.served_disk.specs.Making.{AreInRange, AsksFor, AsksForNone, IsFor, IsOfMaking};
+
+use crate::Fault;
+use checkpoint::Layout;
+use file_disk::{FileDisk, HostFile};
+use recovery::format;
+use registration::Limits;
+use sector_disk::Disk;
+use settings::{Settings, read_settings};
+use std::alloc::Global;
+use std::fs::{File, Files};
+
+/// The layout for these numbers, where each is in its range.
+fn layout_for(settings: &Settings) -> Option<Layout>
+    ensures fits { IsSome result ↔ AreInRange settings.now }
+    ensures value { IfSome result (IsFor settings.now) }
+{
+    let limits = Limits::new(
+        settings.rules,
+        settings.radios,
+        settings.mail,
+        settings.stations,
+    )?;
+    Layout::new(limits, settings.journal)
+}
+
+/// The layout of the disk that a settings text asks for.
+///
+/// # Errors
+/// `Settings` where the text holds no settings, `BadGeometry` where one of its numbers is out of range, and `Memory`.
+pub fn layout_of<'a>(alloc: Global, text: &[u8]) -> Result<Layout, Fault<'a>>
+    ensures layout { IfOk result (AsksFor text.now) }
+    ensures none { IfErr result (AsksForNone text.now) }
+{
+    match read_settings(alloc, text) {
+        Ok(settings) => layout_for(&settings).ok_or(Fault::BadGeometry),
+        Err(fault) => Err(Fault::of_settings(fault)),
+    }
+}
+
+/// Makes a disk in a new file of this name, for an empty register, and tells how many sectors it has.
+///
+/// # Errors
+/// `File` where the file can't be made or exists already, `Device` and `Memory`. A file that could not be finished is left.
+pub fn format_disk<'a, R: Files<File = File>>(
+    rt: &R,
+    layout: &Layout,
+    name: &'a str,
+) -> Result<u64, Fault<'a>>
+    ensures sectors { IfOk result (λ sectors. sectors ≡ disk_size layout.now) }
+    ensures kinds { IfErr result (IsOfMaking name.now) }
+{
+    let mut disk = match FileDisk::<HostFile>::create(rt, name, layout.sectors()) {
+        Ok(disk) => disk,
+        Err(fault) => return Err(Fault::of_file(fault, name)),
+    };
+    match format::<Global, FileDisk<HostFile>>(&mut disk, layout) {
+        Ok(()) => Ok(disk.sectors()),
+        Err(fault) => Err(Fault::of_store(fault)),
+    }
+}

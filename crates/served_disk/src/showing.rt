@@ -1,0 +1,85 @@
+//! A query of a register, answered by itself.
+ghost use Rattle.std.specs.Prelude.{◌≡◌, ◌≤◌, [], IfOk, vec_capacity};
+ghost use Rattle.desk.specs.OfRegister.{of_register};
+ghost use Rattle.console.specs.Answer.{answer_room};
+ghost use Rattle.console.specs.Dialogue.{AnswersQuery};
+ghost use Rattle.console.specs.Reading.{reading};
+ghost use Rattle.served_disk.specs.Showing.{IsShown, IsTextOf, ShowsReading};
+
+use centre_core::{Query, Register};
+use console::{Answer, Line, LineFault, Service, parse_line, print_answer};
+use std::alloc::{AllocError, Allocator};
+
+/// What a query has shown.
+#[derive(Drop)]
+pub struct Shown<A: Allocator> {
+    /// The text of its answer.
+    pub text: Vec<u8, A>,
+    /// Whether it tells of a bad line or of want of memory.
+    pub troubled: bool,
+}
+
+/// The answer to a query.
+fn told<A: Allocator + Copy, B: Allocator + Clone>(
+    alloc: A,
+    register: &Register<B>,
+    query: &Query,
+) -> Answer<A>
+    ensures { AnswersQuery of_register 1 register.now query.now result register.now }
+{
+    match register.query(alloc, query) {
+        Ok(told) => Answer::Told(told),
+        Err(_) => Answer::Untold(1, Service::Memory),
+    }
+}
+
+/// The answer to the only line; a command is no query, and so a bad line.
+fn answer<A: Allocator + Copy, B: Allocator + Clone>(
+    alloc: A,
+    register: &Register<B>,
+    line: &[u8],
+) -> Answer<A>
+    ensures shows { ShowsReading register.now (reading 1 line.now) result }
+{
+    let said = parse_line(alloc, 1, line);
+    match &said {
+        Ok(Line::Silent) => Answer::Quiet,
+        Ok(Line::Bad(fault)) => Answer::Bad(1, *fault),
+        Ok(Line::Ask(query)) => told(alloc, register, query),
+        Ok(Line::Order(_)) | Err(_) => Answer::Bad(1, LineFault::Syntax),
+    }
+}
+
+/// Room for any text but a list's.
+const ROOM: usize = 1024;
+
+/// Makes the text of an answer, and tells whether there is trouble in it: a list for which there is no memory gives way to that.
+fn write_text<A: Allocator, B: Allocator>(text: &mut Vec<u8, A>, answer: &Answer<B>) -> bool
+    requires empty { text.old.items ≡ [] }
+    requires room { answer_room ≤ vec_capacity text.old }
+    ensures { IsTextOf answer.now text.new.items result }
+{
+    if print_answer(text, answer).is_ok() {
+        return answer.is_trouble();
+    }
+    print_answer(text, &Answer::<B>::Untold(1, Service::Memory)).unwrap();
+    true
+}
+
+/// Answers a line that is to be a query, as the only line of a station; the register is only read. A command is a bad line.
+///
+/// # Errors
+/// There is no memory for a text of 1,024 bytes. (Where there is none for a longer one, the answer says so.)
+pub fn show<A: Allocator + Copy + Drop, B: Allocator + Clone>(
+    alloc: A,
+    register: &Register<B>,
+    line: &[u8],
+) -> Result<Shown<A>, AllocError>
+    ensures shown { IfOk result (λ shown. IsShown A register.now line.now shown.text.items shown.troubled) }
+{
+    let mut text = Vec::with_capacity(alloc, ROOM)?;
+    let answer = answer(alloc, register, line);
+    let troubled = write_text(&mut text, &answer);
+    drop(answer);
+    Ok(Shown { text, troubled })
+}

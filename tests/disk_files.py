@@ -1,0 +1,116 @@
+"""Disks in files, and the program's `format`, `run` and `show` over them in a folder of its own, so that their names are short."""
+import contextlib
+import os
+import pathlib
+import shutil
+import subprocess
+import tempfile
+
+import reading
+from reading_disks import BadGeometry, Damaged, Unformatted, opens
+from reading_rows import SECTOR
+from running import Differs, compare, gives
+
+SETTINGS = {'rules': 16, 'radios': 16, 'mail': 256, 'stations': 4, 'journal': 39}
+SECTORS = 667
+DISK, LINES = 'd.img', 'a.txt'
+# A folder that lies in memory, where there is one: its syncs cost nothing
+MEMORY = '/dev/shm' if os.access('/dev/shm', os.W_OK) else None
+
+
+class Place:
+    """A folder in which a program is run."""
+
+    def __init__(self, command, folder):
+        self.command, self.folder = [os.path.abspath(command[0]), *command[1:]], pathlib.Path(folder)
+
+    def path(self, name=DISK):
+        return self.folder / name
+
+    def write(self, name, data):
+        self.path(name).write_bytes(data)
+
+    def put(self, image, name=DISK):
+        self.write(name, b''.join(image))
+
+    def image(self, name=DISK):
+        """The whole sectors of a file; a rest is ignored."""
+        data = self.path(name).read_bytes()
+        return [data[at:at + SECTOR] for at in range(0, len(data) - SECTOR + 1, SECTOR)]
+
+    def copy(self, name, other):
+        shutil.copyfile(self.path(name), self.path(other))
+
+    def gives(self, words, status, out=b'', err=b'', **how):
+        """Runs a subcommand, and compares all that it does."""
+        gives([*self.command, *words], status, out, err, **{'stdin': subprocess.DEVNULL, 'cwd': self.folder, **how})
+
+    def format(self, name=DISK):
+        self.write('s.toml', settings().encode())
+        self.gives(['format', 's.toml', name], 0, f'formatted {SECTORS} sectors\n'.encode())
+
+    def shows(self, register, query, name=DISK):
+        wanted = reading.answer(register, 1, query.encode())
+        self.gives(['show', name, *query.split(' ')], 0, text(wanted))
+
+
+@contextlib.contextmanager
+def place(command, folder=None):
+    """A new folder, for as long as it is used."""
+    with tempfile.TemporaryDirectory(dir=folder) as made:
+        os.chmod(made, 0o755)
+        yield Place(command, made)
+
+
+@contextlib.contextmanager
+def untouched(path):
+    """A file that is not written, and has the same bytes in the end."""
+    before = path.read_bytes(), path.stat().st_mtime_ns
+    yield
+    compare('the file is as it was', (path.read_bytes(), path.stat().st_mtime_ns) == before, True)
+
+
+def settings(**others):
+    return ''.join(f'{key} = {value}\n' for key, value in {**SETTINGS, **others}.items())
+
+
+def text(lines):
+    return ''.join(line + '\n' for line in lines).encode()
+
+
+# What is said of a disk
+
+def fault_line(fault):
+    """Of one that stands for nothing."""
+    words = {Unformatted: 'unformatted', BadGeometry: 'bad geometry', Damaged: f'damaged sector {fault}'}
+    return f'fault: {words[type(fault)]}\n'.encode()
+
+
+def file_fault(name):
+    return f'fault: file {name}\n'.encode()
+
+
+def register_of(image):
+    """The register that an image stands for, by the independent reading."""
+    try:
+        return opens(image).register
+    except (Unformatted, BadGeometry, Damaged) as fault:
+        raise Differs(f'the disk {fault_line(fault)!r}')
+
+
+def queries(register):
+    """Each query that shows something of a register: of every radio, group, item and rule."""
+    radios = {*register.radios, *(key[0] for key in register.mail)}
+    groups = {group for _, group in register.groups}
+    ruled = {under.ljust(48, '0') for under in register.rules}
+    yield 'count'
+    for words, bits in (('where', radios), ('groups', radios), ('mail', radios), ('members', groups), ('look', radios | groups | ruled)):
+        yield from (f'{words} {reading.print_identity(one)}' for one in sorted(bits))
+
+
+def shows_all(place, register, name=DISK):
+    """The program's `show` tells of a disk what the independent reading does; how many queries that took."""
+    asked = list(queries(register))
+    for query in asked:
+        place.shows(register, query, name)
+    return len(asked)

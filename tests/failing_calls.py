@@ -1,0 +1,63 @@
+"""Reads, writes and syncs of the disk file that fail while the program serves a station's file, one in each run. Where it opens the
+disk that is a fault; else the command at hand is answered `device`, each later one and each query `broken`. The file is left alone
+from there on. What it has stands for a front of the accepted commands, with all that were answered."""
+from images import fault_of
+from running import compare
+from station_lines import printed
+
+RUNS = 20
+
+
+def when_broken(number, told):
+    """How a line is answered behind the fault, by its number and what it is answered else."""
+    first = told[0].split(' ')[0] if told else ''
+    if not told or told[0].startswith('line '):
+        return told
+    return [f'{first} no broken'] if first.isdigit() else [f'line {number} no broken']
+
+
+def answers(serving, place):
+    """The answers where the line at this place, from 0, meets the fault."""
+    sequence = serving.answers[place][0].split(' ')[0]
+    behind = enumerate(serving.answers[place + 1:], place + 2)
+    return [*serving.answers[:place], [f'{sequence} no device'], *(when_broken(number, told) for number, told in behind)]
+
+
+def call(record, number):
+    """The place in the record of the call of this number, from 1, and how many lines were answered by then; None where no line
+    was asked for."""
+    place = [k for k, done in enumerate(record) if done.kind != 'r'][number - 1]
+    asked = [done.number for done in record[:place] if done.kind == 'r']
+    return place, asked[-1] if asked else None
+
+
+def run(recorder, serving, asked, number):
+    """What the program does where that call fails while it opens the disk, or serves a line; and the registers that are allowed."""
+    if asked is None:
+        return recorder.run(5, b'', b'fault: device\n', number), serving.registers[:1]
+    kept = [0, *serving.counts][asked]
+    return recorder.run(1, printed(answers(serving, asked)), fails=number), serving.registers[kept:kept + 2]
+
+
+def calls_of(record):
+    return [done for done in record if done.kind != 'r']
+
+
+def a_call_fails(recorder, whole, number):
+    """Of a run that went well before: the image that it began with, the record, and the serving."""
+    image, record, serving = whole
+    place, asked = call(record, number)
+    recorder.place.put(image)
+    failed, registers = run(recorder, serving, asked, number)
+    compare('the calls before', calls_of(failed)[:-1], calls_of(record[:place]))
+    compare('the disk stands for', fault_of(recorder.place.image(), registers), None)
+
+
+def fail(recorder, whole, dice, count):
+    """Each call that opens the disk, and some by chance."""
+    record = whole[1]
+    calls, opening = len(calls_of(record)), len(calls_of(record[:[done.kind for done in record].index('r')]))
+    numbers = [*range(1, opening + 1), *dice.sample(range(opening + 1, calls + 1), RUNS)]
+    for number in numbers:
+        count.case(f'call {number} fails', a_call_fails, recorder, whole, number)
+    print(f'{len(numbers)} of {calls} calls failed, {opening} of them while the disk was opened')

@@ -1,0 +1,109 @@
+#!/usr/bin/env python3
+"""Gives the program disks that stand for nothing, files that are no disks, and command files and settings that can't be read
+(file_cases.py). It has to tell the fault that the independent reading beside this file finds, or that the case names, with its
+status, and `show` has to write nothing. Prints the seed, a line for each part, the first cases that fail, and last 'N passed, M
+failed'.
+Usage: hostile_disks.py PROGRAM [--seed N]"""
+import random
+
+import file_cases
+import reading
+from changed_disks import kinds
+from disk_files import DISK, LINES, MEMORY, fault_line, place, text, untouched
+from reading_disks import BadGeometry, Damaged, Unformatted, opens
+from reading_rows import SECTOR
+from running import Differs
+from station_lines import Serving, data_of, lines
+from testing import Count, options
+
+READY, COMMANDS = 'ready.img', 60
+
+
+def told_of(image):
+    """How the program has to answer `count`: its status, output and standard error."""
+    try:
+        return 0, text([f'count {opens(image).register.count}']), b''
+    except (Unformatted, BadGeometry, Damaged) as fault:
+        return 5, b'', fault_line(fault)
+
+
+def shown(place):
+    """`show` tells what the disk stands for, and writes nothing. Answers the fault."""
+    status, out, err = told_of(place.image())
+    with untouched(place.path()):
+        place.gives(['show', DISK, 'count'], status, out, err)
+    return err
+
+
+def served(place):
+    """`run` says the same; its file has no line, so it writes nothing."""
+    status, out, err = told_of(place.image())
+    with untouched(place.path()):
+        place.gives(['run', DISK, LINES], status, out and text([f'station 1 {LINES}']), err)
+
+
+def an_image(place, image, is_served):
+    place.put(image)
+    if is_served:
+        served(place)
+    return shown(place)
+
+
+def the_images(place, dice, count):
+    """All are shown, and one in ten is served too."""
+    for name, images in kinds(place.image(READY), dice).items():
+        told = [count.case(f'{name}, image {k}', an_image, place, image, k % 10 == 0) for k, image in enumerate(images)]
+        print(f'{name}: {len(told)} images, {sum(bool(fault) for fault in told)} of them faulty', flush=True)
+
+
+def lengths(data):
+    """Files that end within a sector or behind one."""
+    for length in (0, 1, 511, 512, 513, 1023, 4 * SECTOR, len(data) - SECTOR, len(data) - 1):
+        yield data[:length]
+    yield from (data + b'\1', data + b'\1' * SECTOR)
+
+
+def a_length(place, data):
+    place.write(DISK, data)
+    served(place)
+    shown(place)
+
+
+def the_lengths(place, count):
+    for data in lengths(place.path(READY).read_bytes()):
+        count.case(f'a file of {len(data)} bytes', a_length, place, data)
+
+
+def the_files(command, count):
+    for case in file_cases.CASES:
+        with place(command) as folder:
+            count.case(case.__name__, case, folder)
+
+
+def made(place, dice):
+    """A disk whose two sides are open, with a record or more behind the image: that of the last command at least."""
+    serving = Serving(reading.Register(), lines(dice, COMMANDS))
+    place.format(READY)
+    place.write(LINES, data_of(serving.lines))
+    place.gives(['run', READY, LINES], int(serving.troubled), serving.text())
+    opening = opens(place.image(READY))
+    if opening.epoch == 1 or opening.register.count != serving.registers[-1].count:
+        raise Differs(f'a disk of epoch {opening.epoch} and {opening.register.count} commands')
+
+
+def main():
+    words = options(__doc__)
+    print(f'seed {words.seed}', flush=True)
+    dice, count = random.Random(words.seed), Count()
+    with place(words.program, MEMORY) as folder:
+        count.case('a disk made', made, folder, dice)
+        if not count.failed:
+            folder.write(LINES, b'')
+            the_images(folder, dice, count)
+            the_lengths(folder, count)
+    the_files(words.program, count)
+    count.end()
+
+
+if __name__ == '__main__':
+    main()

@@ -1,0 +1,69 @@
+"""What the program does with its disk file while it serves a station's file, written down by record.c, which is compiled and
+preloaded; and one of these calls failing."""
+import collections
+import contextlib
+import pathlib
+import struct
+
+import preloading
+from disk_files import DISK, LINES
+from pending import SYNC, Write
+from reading_rows import SECTOR
+
+SOURCE = pathlib.Path(__file__).resolve().parent / 'record.c'
+RECORD = 'record'
+HEAD = struct.Struct('=cQQ')
+
+# What the program did: a write of these bytes from an offset on, a read, a sync, a call that failed, or that it asked for a line,
+# having read so many
+Done = collections.namedtuple('Done', 'kind number bytes', defaults=[0, b''])
+
+
+def record_in(data):
+    done, at = [], 0
+    while at < len(data):
+        kind, number, length = HEAD.unpack_from(data, at)
+        at += HEAD.size
+        done.append(Done(kind.decode(), number, data[at:at + length]))
+        at += length
+    return done
+
+
+class Recorder:
+    """A folder in which a program is run with record.c."""
+
+    def __init__(self, place, made):
+        self.place, self.made = place, made
+
+    def run(self, status, out, err=b'', fails=0):
+        """What the program does while it serves the file, once its answers are compared; the call of that number fails, from 1."""
+        self.place.write(RECORD, b'')
+        names = {name: self.place.path(file) for name, file in {'RECORD': RECORD, 'DISK': DISK, 'LINES': LINES}.items()}
+        how = preloading.environment(self.made, FAILS=fails, **names)
+        self.place.gives(['run', DISK, LINES], status, out, err, env=how)
+        return record_in(self.place.path(RECORD).read_bytes())
+
+
+@contextlib.contextmanager
+def recorder(place):
+    """One, for as long as it is used."""
+    with preloading.library(SOURCE) as made:
+        yield Recorder(place, made)
+
+
+def writes(disk, done):
+    """The sectors that a write changes, whole."""
+    end = done.number + len(done.bytes)
+    for at in range(done.number // SECTOR, -(-end // SECTOR)):
+        start = at * SECTOR
+        old, new = disk.now(at), done.bytes[max(start - done.number, 0):start + SECTOR - done.number]
+        front = max(done.number - start, 0)
+        yield Write(at, old[:front] + new + old[front + len(new):])
+
+
+def follow(disk, done):
+    """Does to a disk what the program did to its file."""
+    if done.kind == 's':
+        disk.call(SYNC)
+    for write in writes(disk, done) if done.kind == 'w' else ():
+        disk.call(write)

@@ -1,0 +1,203 @@
+#!/usr/bin/env python3
+"""Writes down each read, write and sync of the disk file while the program serves a station's file, with two checkpoints or more
+(record.c, compiled and preloaded), and takes the moments between these calls, drawn anew each time. At each one the writes since
+the last sync are done, left out or torn in 20 ways: the independent reading beside this file opens each image to what a front of
+the accepted commands made, all that were answered by then among them, and for one of the ways the program's `show` tells the same.
+On some of the images the file is served again, and that run stopped in turn. Bugs planted in the record have to be found, and some
+of the calls fail (failing_calls.py). Prints the seed, what was done, and last 'N passed, M failed'.
+Usage: recording.py PROGRAM [--seconds N] [--lines N] [--seed N]"""
+import collections
+import random
+import time
+
+import failing_calls
+import reading
+from disk_files import LINES, MEMORY, place, queries, register_of
+from images import fault_of
+from pending import Disk, choices
+from reading_disks import opens
+from recorder import follow, recorder
+from running import Differs, compare
+from station_lines import Serving, data_of, lines
+from testing import Count, options
+
+TORN = 'torn.img'
+# With the ways that are always taken these are 20
+DRAWS, CHECKPOINTS = 13, 2
+# How many of the stops are followed by a second run, and how many moments of each of these are taken
+TWICE, SECOND = 15, 20
+
+# A disk between two calls, and the registers that its images may stand for
+Moment = collections.namedtuple('Moment', 'disk registers')
+
+
+# The moments
+
+def may_stand(serving, asked):
+    """The registers that are allowed once so many lines are answered, and while the next one is."""
+    counts = [0, *serving.counts, serving.counts[-1]]
+    return serving.registers[counts[asked]:counts[asked + 1] + 1]
+
+
+def moments(image, record, serving):
+    """The disk at first and after each call of the file that changes what a stop may leave."""
+    disk, asked = Disk(image), 0
+    yield Moment(disk.copy(), may_stand(serving, asked))
+    for done in (done for done in record if done.kind != 'p'):
+        asked = done.number if done.kind == 'r' else asked
+        follow(disk, done)
+        yield Moment(disk.copy(), may_stand(serving, asked))
+
+
+def images(moment, dice):
+    """The images that a stop at that moment may leave."""
+    return (moment.disk.image(chosen) for chosen in choices(moment.disk, dice, DRAWS))
+
+
+def shown(place, image, dice):
+    """The program's `show` tells what the reading does of this image: the number of commands, and one thing more."""
+    register = register_of(image)
+    place.put(image, TORN)
+    for query in ('count', dice.choice(list(queries(register)))):
+        place.shows(register, query, TORN)
+
+
+def judged(moment, dice):
+    """The images that a stop at that moment may leave, each of which the reading opens to a register that is allowed."""
+    torn = list(images(moment, dice))
+    for image in torn:
+        compare('an image stands for', fault_of(image, moment.registers), None)
+    return torn
+
+
+def one_moment(place, moment, dice):
+    """How many images there were."""
+    torn = judged(moment, dice)
+    shown(place, dice.choice(torn), dice)
+    return len(torn)
+
+
+def stopped_twice(made, moment, lines, dice):
+    """The same run again on what a stop has left, and stops of that run in turn; how many images these left."""
+    image = dice.choice(judged(moment, dice))
+    serving = Serving(register_of(image), lines)
+    made.place.put(image)
+    record = made.run(int(serving.troubled), serving.text())
+    second = list(moments(image, record, serving))
+    the_end(made.place, second[-1], serving)
+    return sum(len(judged(moment, dice)) for moment in dice.sample(second, min(SECOND, len(second))))
+
+
+# The record as a whole
+
+def the_end(place, last, serving):
+    """The record leaves the disk as the file is, and all lasts."""
+    image = place.image()
+    compare('the writes that no sync made last', len(last.disk.pending), 0)
+    compare('the file as it was recorded', last.disk.lasting == image, True)
+    compare('the commands', register_of(image).count, serving.registers[-1].count)
+
+
+def checkpoints(image):
+    """There were enough."""
+    if opens(image).epoch <= CHECKPOINTS:
+        raise Differs(f'{opens(image).epoch - 1} checkpoints')
+
+
+# Bugs planted in the record, in what is done for each line
+
+def turns(record):
+    """What the program did for each line, and at first before it asked for one."""
+    starts = [0] + [k for k, done in enumerate(record) if done.kind == 'r']
+    return [record[start:end] for start, end in zip(starts, [*starts[1:], len(record)])]
+
+
+def without(turn, kind, number):
+    """It without the call of that kind and number, counted from 0."""
+    places = [k for k, done in enumerate(turn) if done.kind == kind]
+    return turn[:places[number]] + turn[places[number] + 1:] if len(places) > number else turn
+
+
+def is_checkpoint(turn):
+    return sum(done.kind == 's' for done in turn) > 2
+
+
+BUGS = {
+    'records synced once': lambda turn: turn if is_checkpoint(turn) else without(turn, 's', 0),
+    'answers before the last sync': lambda turn: turn if is_checkpoint(turn) else without(turn, 's', 1),
+    'records without their data': lambda turn: turn if is_checkpoint(turn) else without(turn, 'w', 0),
+    'a gate that is not closed': lambda turn: turn if is_checkpoint(turn) else without(turn, 'w', 1),
+    'roots synced with their image': lambda turn: without(turn, 's', 1) if is_checkpoint(turn) else turn,
+    'an image without a row': lambda turn: without(turn, 'w', 3) if is_checkpoint(turn) else turn,
+}
+
+
+def is_found(image, record, serving, dice):
+    return any(fault_of(torn, moment.registers) for moment in moments(image, record, serving) for torn in images(moment, dice))
+
+
+def bug_found(whole, change, dice):
+    """Of a run that went well: the image that it began with, the record, and the serving."""
+    image, record, serving = whole
+    planted = [done for turn in turns(record) for done in change(turn)]
+    compare('the record changed', planted != record, True)
+    compare('found', is_found(image, planted, serving, dice), True)
+
+
+# The whole
+
+def taken(place, all_moments, dice, count, seconds):
+    """Takes the moments in any order for so many seconds."""
+    until, tried = time.monotonic() + seconds, []
+    for number, moment in dice.sample(list(enumerate(all_moments)), len(all_moments)):
+        if time.monotonic() > until:
+            break
+        tried.append(count.case(f'moment {number}', one_moment, place, moment, dice) or 0)
+    print(f'{len(tried)} of {len(all_moments)} moments, {sum(tried)} images')
+
+
+def ready(place, serving):
+    """The image of a disk made ready, beside the station's file."""
+    place.format()
+    place.write(LINES, data_of(serving.lines))
+    return place.image()
+
+
+def taken_twice(made, all_moments, serving, dice, count):
+    told = [count.case(f'stop {k} of a second run', stopped_twice, made, moment, serving.lines, dice)
+            for k, moment in enumerate(dice.sample(all_moments, TWICE), 1)]
+    print(f'{TWICE} runs on what a stop left, {sum(images or 0 for images in told)} images')
+
+
+def the_run(made, serving, count):
+    """The image that a run begins with, its record, and the serving; nothing where it fails."""
+    image = count.case('a disk made ready', ready, made.place, serving)
+    record = image and count.case('the run', made.run, int(serving.troubled), serving.text())
+    return record and (image, record, serving)
+
+
+def recording(made, dice, count, words):
+    whole = the_run(made, Serving(reading.Register(), lines(dice, words.lines)), count)
+    if not whole:
+        return
+    all_moments = list(moments(*whole))
+    count.case('the end', the_end, made.place, all_moments[-1], whole[2])
+    count.case('checkpoints', checkpoints, made.place.image())
+    for name, change in BUGS.items():
+        count.case(name, bug_found, whole, change, dice)
+    failing_calls.fail(made, whole, dice, count)
+    taken_twice(made, all_moments, whole[2], dice, count)
+    taken(made.place, all_moments, dice, count, words.seconds)
+
+
+def main():
+    words = options(__doc__, seconds=30, lines=110)
+    print(f'seed {words.seed}', flush=True)
+    count = Count()
+    with place(words.program, MEMORY) as folder, recorder(folder) as made:
+        recording(made, random.Random(words.seed), count, words)
+    count.end()
+
+
+if __name__ == '__main__':
+    main()

@@ -1,0 +1,41 @@
+"""What scripts of tests share: cases run one after another, counted, and told in one last line."""
+import argparse
+import random
+import subprocess
+import sys
+
+from running import Differs
+
+
+class Count:
+    """How many cases passed, and how many failed; the first few that fail are told."""
+    MOST_TOLD = 5
+
+    def __init__(self):
+        self.passed, self.failed = 0, 0
+
+    def case(self, name, call, *arguments):
+        """Runs a case, and gives what it answers; None where it fails."""
+        try:
+            answer = call(*arguments)
+            self.passed += 1
+            return answer
+        except (Differs, OSError, subprocess.TimeoutExpired) as fault:
+            self.failed += 1
+            if self.failed <= self.MOST_TOLD:
+                print(f'{name}: FAILED: {fault}', flush=True)
+        return None
+
+    def end(self):
+        print(f'{self.passed} passed, {self.failed} failed')
+        sys.exit(1 if self.failed or not self.passed else 0)
+
+
+def options(told, **numbers):
+    """The words of the command line: the program, and numbers with their defaults. Without a seed a new one is drawn."""
+    words = argparse.ArgumentParser(description=told, formatter_class=argparse.RawDescriptionHelpFormatter)
+    words.add_argument('program', nargs='+')
+    for name, number in numbers.items():
+        words.add_argument(f'--{name}', type=int, default=number)
+    words.add_argument('--seed', type=int, default=random.randrange(10 ** 9))
+    return words.parse_args()
