@@ -10,6 +10,7 @@ import reading
 from reading_disks import BadGeometry, Damaged, Unformatted, opens
 from reading_rows import SECTOR
 from running import Differs, compare, gives
+from testing import Count, options
 
 SETTINGS = {'rules': 16, 'radios': 16, 'mail': 256, 'stations': 4, 'journal': 39}
 SECTORS = 667
@@ -114,3 +115,12 @@ def shows_all(place, register, name=DISK):
     for query in asked:
         place.shows(register, query, name)
     return len(asked)
+
+
+def run_cases(told, cases):
+    """Runs each case in a place of its own; the words of the command line are told so."""
+    words, count = options(told), Count()
+    for case in cases:
+        with place(words.program) as there:
+            count.case(case.__name__, case, there)
+    count.end()

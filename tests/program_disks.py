@@ -3,15 +3,17 @@
 Tells the cases that fail, and last 'N passed, M failed'.
 Usage: program_disks.py PROGRAM (the program itself, not a script that starts it)"""
 import os
+import pathlib
+import re
 import resource
 import signal
 import subprocess
+import tempfile
 
 import refusing
-from disk_files import DISK, SECTORS, file_fault, place, settings, untouched
+from disk_files import DISK, SECTORS, file_fault, run_cases, settings, untouched
 from program import TOP
-from running import compare
-from testing import Count, options
+from running import SECONDS, Differs, compare
 
 FORMATTED = f'formatted {SECTORS} sectors\n'.encode()
 LINES = b'1 0 rule 234-14-0/24 1 99 1 3600\n2 10 mm 234-14-2001 7 10:260\n'
@@ -78,6 +80,42 @@ def lines_without_trouble_and_with(place):
         place.gives(['run', 'd.img', 'a.txt'], status, b'station 1 a.txt\n' + out)
 
 
+def peak(program):
+    """The most memory that it has had so far, in KiB."""
+    status = pathlib.Path(f'/proc/{program.pid}/status').read_text()
+    return int(re.search(r'VmHWM:\s+(\d+) kB', status)[1])
+
+
+def long_text(program, lines):
+    """Sends 1,010,000 lines, of which 1,010 are answered: the last million may take no memory but for their answers."""
+    thousand = b'# a line that says nothing\n' * 999 + b'2 10 mm 234-14-2001 7 10:260\n'
+    with lines:
+        lines.write(LINES + thousand * 10)
+        lines.flush()
+        before = peak(program)
+        lines.write(thousand * 1000)
+        lines.flush()
+        after = peak(program)
+    if after > before + 256:
+        raise Differs(f'{after} KiB of memory after 1,010,000 lines, {before} KiB after 10,000')
+
+
+def a_long_file(place):
+    answers = FIRST + b'2 kept 2 8:56\n' * 1010
+    place.format()
+    os.mkfifo(place.path('a.txt'))
+    for words, title in (['run', 'd.img', 'a.txt'], b'station 1 a.txt\n'), ([], b''):
+        with tempfile.TemporaryFile() as out:
+            how = {'cwd': place.folder, 'stdin': subprocess.PIPE, 'stdout': out, 'stderr': subprocess.PIPE}
+            with subprocess.Popen([*place.command, *words], **how) as program:
+                long_text(program, open(place.path('a.txt'), 'wb') if words else program.stdin)
+                program.stdin.close()
+                compare('standard error', program.stderr.read(), b'')
+                compare('status', program.wait(SECONDS), 0)
+            out.seek(0)
+            compare('output', out.read(), title + answers)
+
+
 # The command line
 
 def wrong_words(place):
@@ -91,6 +129,30 @@ def wrong_words(place):
             compare(f'status of {words}', program.returncode, 2)
             compare('output', out, b'')
     compare('files', sorted(os.listdir(place.folder)), ['a.txt', 'd.img', 's.toml'])
+
+
+def told(place, *words):
+    """What is told on standard output where nothing is asked of a disk."""
+    program = subprocess.run([*place.command, *words], stdin=subprocess.DEVNULL, capture_output=True, timeout=SECONDS, cwd=place.folder)
+    compare(f'status and standard error of {words}', (program.returncode, program.stderr), (0, b''))
+    return program.stdout
+
+
+def help_and_version(place):
+    for words, parts in (([], [b'format', b'run', b'show', b'--help', b'--version', b'\nExample: tetra-switch < ']),
+                         (['format'], [b'SETTINGS', b'DISK', b'\nExample: tetra-switch format ']),
+                         (['run'], [b'DISK', b'FILE', b'\nExample: tetra-switch run ']),
+                         (['show'], [b'DISK', b'WORD', b'\nExample: tetra-switch show '])):
+        for flag in '--help', '-h':
+            text = told(place, *words, flag)
+            compare(f'parts of the help of {words}', [part for part in [b'Usage: ', *parts, b'\nExit status: 0 '] if part not in text], [])
+    place.format()
+    layout = int.from_bytes(place.path().read_bytes()[8:10], 'big')
+    for flag in '--version', '-V':
+        compare('version', told(place, flag), f'tetra-switch 0.1.0 (disk layout {layout})\n'.encode())
+    with open('/dev/full', 'wb') as full:
+        for words in ['--help'], ['run', '--help'], ['--version']:
+            place.gives(words, 4, err=file_fault('-'), stdout=full)
 
 
 # Faults of format
@@ -181,14 +243,23 @@ def files_that_can_not_be_served(place):
 
 
 def the_order_of_faults(place):
-    """Of the settings before the disk, and of the disk before the file."""
+    """Of the settings before the disk, of the disk before the file, and of the output last."""
     place.write('d.img', b'')
     place.write('s.toml', b'')
     place.gives(['format', 's.toml', 'd.img'], 3, err=fault('settings'))
     written(place, rules=0)
     place.gives(['format', 's.toml', 'd.img'], 5, err=fault('bad geometry'))
+    place.gives(['format', 'no.toml', 'd.img'], 4, err=file_fault('no.toml'))
     place.gives(['run', 'd.img', 'no.txt'], 5, err=fault('unformatted'))
+    place.gives(['run', 'no.img', 'no.txt'], 4, err=file_fault('no.img'))
     place.gives(['show', 'd.img', 'x'], 5, err=fault('unformatted'))
+    with open('/dev/full', 'wb') as full:
+        place.gives(['format', 's.toml', 'd.img'], 5, err=fault('bad geometry'), stdout=full)
+        place.gives(['show', 'd.img', 'x'], 5, err=fault('unformatted'), stdout=full)
+        place.path().unlink()
+        place.format()
+        for name in 'no.txt', '.':
+            place.gives(['run', 'd.img', name], 4, err=file_fault(name), stdout=full)
 
 
 def no_memory(place):
@@ -199,20 +270,37 @@ def no_memory(place):
             place.gives(words, 5, err=fault('memory'), env=refusing.environment(made, 1))
 
 
+def said_before(out):
+    """The answers of a run up to the first that tells of no memory."""
+    return re.sub(rb'^[^\n]* no memory\n.*', b'', out, flags=re.M | re.S)
+
+
+def memory_that_ends_between(place):
+    """Each allocation in turn is refused: that is a fault, or the answer to a line; then all is answered as if nothing had been."""
+    place.write('a.txt', LINES + b'where 234-14-2001\n')
+    place.format()
+    place.copy('d.img', 'new.img')
+    good, statuses = b'station 1 a.txt\n' + FIRST + WHERE, []
+    with refusing.library() as made:
+        while statuses[-1:] != [0]:
+            place.copy('new.img', 'd.img')
+            program = subprocess.run([*place.command, 'run', 'd.img', 'a.txt'], stdin=subprocess.DEVNULL, capture_output=True,
+                                     timeout=SECONDS, cwd=place.folder, env=refusing.environment(made, len(statuses) + 1))
+            statuses.append(program.returncode)
+            compare('standard error', program.stderr, fault('memory') if program.returncode == 5 else b'')
+            compare(f'{program.stdout!r} is a front of the answers', good.startswith(said_before(program.stdout)), True)
+            again = subprocess.run([*place.command, 'run', 'd.img', 'a.txt'], capture_output=True, timeout=SECONDS, cwd=place.folder)
+            compare('status of the next run', again.returncode, 0)
+            place.gives(['show', 'd.img', 'where', '234-14-2001'], 0, WHERE)
+    compare('statuses', sorted(set(statuses)), [0, 1, 5])
+
+
 CASES = [
-    the_sample, the_example, what_is_shown, lines_without_trouble_and_with, wrong_words, bad_settings, bad_geometry, settings_that_can_not_be_read,
+    the_sample, the_example, what_is_shown, lines_without_trouble_and_with, a_long_file, wrong_words, help_and_version, bad_settings, bad_geometry, settings_that_can_not_be_read,
     a_disk_that_can_not_be_made, no_room_for_a_disk, nowhere_to_say_it, disks_that_can_not_be_opened,
-    hostile_disks, files_that_can_not_be_served, the_order_of_faults, no_memory,
+    hostile_disks, files_that_can_not_be_served, the_order_of_faults, no_memory, memory_that_ends_between,
 ]
 
 
-def main():
-    words, count = options(__doc__), Count()
-    for case in CASES:
-        with place(words.program) as there:
-            count.case(case.__name__, case, there)
-    count.end()
-
-
 if __name__ == '__main__':
-    main()
+    run_cases(__doc__, CASES)

@@ -1,6 +1,7 @@
 // The register of a side's slot, read back.
 ghost use Rattle.std.specs.Prelude.{◌≡◌, ◌<◌, ◌≤◌, ◌++◌, ◌∷◌, [], ℕ, IfOk, IfSome, IsErrOf, IsSome, None, OnOk, Some};
 ghost use Rattle.sector_disk.specs.Disk.{HasFailed, sector};
+ghost use Rattle.sector_disk.specs.Reading.{before_reads};
 ghost use Rattle.sector_disk.specs.Run.{HasLooked, HasMade};
 ghost use Rattle.sector_disk.specs.declared.record.Call.TheVariants.{Read};
 ghost use Rattle.image_rows.specs.Loading.{begun, finished};
@@ -17,6 +18,7 @@ use sector_disk::Disk;
 use std::alloc::Allocator;
 
 // Takes the row in a sector.
+#[tactic(auto, using(sector_disk::proofs::Reading::one_read))]
 fn take_row<A: Allocator + Clone, D: Disk>(
     disk: &mut D,
     at: u64,
@@ -27,6 +29,7 @@ fn take_row<A: Allocator + Clone, D: Disk>(
     ensures damaged { (s : ℕ) → IsErrOf result (Damaged s) → (s ≡ at) × ((D.view disk.old).honest → taken_from loader.old (sector (D.view disk.old).reads at) ≡ None) }
     ensures memory { IsErrOf result NoMemory → ((D.view disk.new).calls ≡ (D.view disk.old).calls ++ Read at ∷ []) × ((D.view disk.old).honest → IsSome (taken_from loader.old (sector (D.view disk.old).reads at))) }
     ensures looked { (D.view disk.old).honest → HasLooked (D.view disk.old) (D.view disk.new) }
+    ensures only_reads { before_reads (D.view disk.new).calls ≡ before_reads (D.view disk.old).calls }
     ensures calls { OnOk result ((D.view disk.new).calls ≡ (D.view disk.old).calls ++ Read at ∷ []) }
     ensures some_calls { HasMade (D.view disk.old) (D.view disk.new) (Read at ∷ []) }
     ensures fault { IsErrOf result DiskFault → HasFailed (D.view disk.old) (D.view disk.new) }
@@ -56,6 +59,7 @@ fn take_rows<A: Allocator + Clone, D: Disk>(
     ensures damaged { (at : ℕ) → IsErrOf result (Damaged at) → (D.view disk.old).honest → IsBadSector layout.now side at (D.view disk.old).reads }
     ensures memory { IsErrOf result NoMemory → (D.view disk.old).honest → IsGoodSoFar layout.now side (D.view disk.old) (D.view disk.new) }
     ensures looked { (D.view disk.old).honest → HasLooked (D.view disk.old) (D.view disk.new) }
+    ensures only_reads { before_reads (D.view disk.new).calls ≡ before_reads (D.view disk.old).calls }
     ensures calls { OnOk result ((D.view disk.old).honest → IfSome (finished loader.new) (λ image. (D.view disk.new).calls ≡ (D.view disk.old).calls ++ image_looks (slot_at layout.now side) image)) }
     ensures some_calls { HasMade (D.view disk.old) (D.view disk.new) (looks (slot_at layout.now side) (slot_size layout.now)) }
     ensures fault { IsErrOf result DiskFault → HasFailed (D.view disk.old) (D.view disk.new) }
@@ -99,6 +103,7 @@ pub fn read_image<A: Allocator + Clone, D: Disk>(
 
     // It only reads, the sectors of the slot from the first on, each once; at `Ok` just those of the image.
     ensures looked { (D.view disk.old).honest → HasLooked (D.view disk.old) (D.view disk.new) }
+    ensures only_reads { before_reads (D.view disk.new).calls ≡ before_reads (D.view disk.old).calls }
     ensures calls { IfOk result (λ image. (D.view disk.old).honest → (D.view disk.new).calls ≡ (D.view disk.old).calls ++ image_looks (slot_at layout.now side) image) }
     ensures some_calls { HasMade (D.view disk.old) (D.view disk.new) (looks (slot_at layout.now side) (slot_size layout.now)) }
 

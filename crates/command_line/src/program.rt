@@ -22,7 +22,7 @@ pub(crate) fn program<'a>(alloc: Global) -> Result<Command<'a>, AllocError>
 fn bare<'a>(alloc: Global) -> Command<'a>
     ensures { spec.Tells spec.bare result }
 {
-    named(alloc, "tetra-switch", ABOUT, STATUSES)
+    named(alloc, "tetra-switch", ABOUT, AFTER)
         .override_usage("tetra-switch [COMMAND]")
         .version(VERSION)
         .subcommand_required(true)
@@ -91,8 +91,9 @@ const RUN: &str =
 
 const SHOW: &str = "Answers one query of a disk file, and changes nothing.";
 
-const STATUSES: &str =
-    "Exit status: 0 each line was answered; 1 a line was bad, or an answer told of the service; 2 the command line is \
+const AFTER: &str = "Example: tetra-switch < station1.txt > answers.txt
+
+Exit status: 0 each line was answered; 1 a line was bad, or an answer told of the service; 2 the command line is \
      wrong; 3 settings; 4 a file; 5 the disk, or no memory.";
 
 const AFTER_FORMAT: &str = "Example: tetra-switch format settings.toml centre.disk

@@ -38,6 +38,7 @@ fn help_of_the_program(rt: HostRuntime) -> Result<(), Fail> {
         "run",
         "show",
         "--version",
+        "Example: tetra-switch < ",
         "Exit status:",
     ];
     assert!(rt; tells(rt.alloc(), &["tetra-switch", "--help"], &parts)?);

@@ -18,7 +18,7 @@ use Rattle.console.specs.declared.line.LineFault.{LineFault}
 use Rattle.console.specs.declared.line.LineFault.TheVariants.{Syntax, Value, TooLong}
 use Rattle.console.specs.declared.line.Line.{Line}
 use Rattle.console.specs.declared.line.Line.TheVariants.{Silent, Bad, Order, Ask}
-use Rattle.console.specs.Reading.{words, of_words, is_silent, reading, head_in, area_in, rule_in, key_in, rule_body, mm_body, sds_body, group_sds_body, body_in, order, saying, query_in, ask}
+use Rattle.console.specs.Reading.{words, of_words, is_silent, longest_line, reading, head_in, area_in, rule_in, key_in, rule_body, mm_body, sds_body, group_sds_body, body_in, order, saying, query_in, ask}
 use Rattle.console.specs.Spelling.{has_form, SpellsSome, BadLines}
 use Rattle.console.proofs.Spelled.{only_commands, only_queries}
 use Rattle.console.proofs.Taken.{all_commands, all_queries}
@@ -169,16 +169,16 @@ module _ (A : Type 0) where
 
   -- ---- lines
 
-  is_long : (n : ℕ) → 1024 < n → nat_lt 1024 n ≡ true
+  is_long : (n : ℕ) → longest_line < n → nat_lt longest_line n ≡ true
   is_long n long = grind (arith, long)
 
-  is_short : (n : ℕ) → n ≤ 1024 → nat_lt 1024 n ≡ false
+  is_short : (n : ℕ) → n ≤ longest_line → nat_lt longest_line n ≡ false
   is_short n short = grind (arith, short)
 
-  long_flag : (n : ℕ) → nat_lt 1024 n ≡ true → 1024 < n
+  long_flag : (n : ℕ) → nat_lt longest_line n ≡ true → longest_line < n
   long_flag n e = grind (arith, e)
 
-  short_flag : (n : ℕ) → nat_lt 1024 n ≡ false → n ≤ 1024
+  short_flag : (n : ℕ) → nat_lt longest_line n ≡ false → n ≤ longest_line
   short_flag n e = grind (arith, e)
 
   -- what is judged of a line
@@ -218,18 +218,18 @@ module _ (A : Type 0) where
   value_left (Ask q) good no_order no_ask = absurd (no_ask q refl)
 
   -- what spells a command or a query is no bad line
-  spelt_is_taken : (station : ℕ) (line : List ℕ) → length line ≤ 1024 → SpellsSome A station line → reading {A = A} station line ≡ Bad Value → ⊥
+  spelt_is_taken : (station : ℕ) (line : List ℕ) → length line ≤ longest_line → SpellsSome A station line → reading {A = A} station line ≡ Bad Value → ⊥
   spelt_is_taken station line short spelt e = elim spelt [
     | inl command ↦ (let c = command.0 in let taken = subst (λ (n : ℕ). reading {A = A} n line ≡ Order c) command.1 (all_commands line c command.2 command.3 short) in
         omega (arith, same_kind (Order c) (Bad Value) (sym taken ∙ e)))
     | inr query ↦ (let q = query.0 in let same = query.2 in
-        let taken = subst (λ (text : List ℕ). reading {A = A} station text ≡ Ask q) (sym same) (all_queries {A = A} station q query.1 (subst (λ (text : List ℕ). length text ≤ 1024) same short)) in
+        let taken = subst (λ (text : List ℕ). reading {A = A} station text ≡ Ask q) (sym same) (all_queries {A = A} station q query.1 (subst (λ (text : List ℕ). length text ≤ longest_line) same short)) in
         omega (arith, same_kind (Ask q) (Bad Value) (sym taken ∙ e)))
   ]
 
   pub bad_lines : BadLines A
   bad_lines station line =
-      let long = nat_lt 1024 (length line) in let silent = is_silent line in let form = has_form (words line) in let l = of_words {A = A} station (words line) in
+      let long = nat_lt longest_line (length line) in let silent = is_silent line in let form = has_form (words line) in let l = of_words {A = A} station (words line) in
       let some = valued station (words line) in let none = formless station (words line) in (
         (λ e. long_flag (length line) (long_only long silent form l some none e), λ many. rw (is_long (length line) many) refl),
         (

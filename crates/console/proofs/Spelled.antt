@@ -30,7 +30,7 @@ use Rattle.console.specs.declared.line.LineFault.{LineFault}
 use Rattle.console.specs.declared.line.LineFault.TheVariants.{Syntax, Value, TooLong}
 use Rattle.console.specs.declared.line.Line.{Line}
 use Rattle.console.specs.declared.line.Line.TheVariants.{Silent, Bad, Order, Ask}
-use Rattle.console.specs.Reading.{words, of_words, is_silent, seconds_in, not_zero, sequence_in, head_of, head_in, area_in, lifetime_in, rule_of, rule_in, reference_in, kind_in, key_of, key_in, rule_body, mm_body, sds_body, group_sds_body, body_in, order, saying, query_in, ask}
+use Rattle.console.specs.Reading.{words, of_words, is_silent, longest_line, seconds_in, not_zero, sequence_in, head_of, head_in, area_in, lifetime_in, rule_of, rule_in, reference_in, kind_in, key_of, key_in, rule_body, mm_body, sds_body, group_sds_body, body_in, order, saying, query_in, ask}
 use Rattle.mailbox.specs.Values.{KeyInRange}
 use Rattle.centre_core.specs.Ranges.{BodyInRange, InRange}
 use Rattle.console.specs.Words.{kind_word}
@@ -69,7 +69,7 @@ named name keyword e = (bytes_eq-Decides name keyword).0 e
 le_of : (a b : ℕ) → nat_le a b ≡ true → a ≤ b
 le_of a b e = grind (arith, e)
 
-short_of_flag : (n : ℕ) → nat_lt 1024 n ≡ false → n ≤ 1024
+short_of_flag : (n : ℕ) → nat_lt longest_line n ≡ false → n ≤ longest_line
 short_of_flag n e = grind (arith, e)
 
 rule_of_only : (low high : Option ℕ) (life : Option Lifetime) (keep : Option ℕ) (rule : Terms) → rule_of low high life keep ≡ Some rule →
@@ -390,12 +390,12 @@ module _ {A : Type 0} where
 
   pub only_commands : OnlyCommands A
   only_commands station line c e =
-      let through = through_order (nat_lt 1024 (length line)) (is_silent line) (of_words station (words line)) c e in
+      let through = through_order (nat_lt longest_line (length line)) (is_silent line) (of_words station (words line)) c e in
       let f = words_spelled station (words line) c through.1 in
       (f.0, f.1, (f.2.0, f.2.1, sym (join_with_byte-slice_split 32 line) ∙ ap spaced f.2.2), short_of_flag (length line) through.0)
 
   pub only_queries : OnlyQueries A
   only_queries station line q e =
-      let through = through_ask (nat_lt 1024 (length line)) (is_silent line) (of_words station (words line)) q e in
+      let through = through_ask (nat_lt longest_line (length line)) (is_silent line) (of_words station (words line)) q e in
       let asks = words_asked station (words line) q through.1 in
       (asks.0, sym (join_with_byte-slice_split 32 line) ∙ asks.1, short_of_flag (length line) through.0)

@@ -34,7 +34,7 @@ use Rattle.console.specs.declared.order.Head.{Head}
 use Rattle.console.specs.declared.line.LineFault.{LineFault}
 use Rattle.console.specs.declared.line.Line.{Line}
 use Rattle.console.specs.declared.line.Line.TheVariants.{Order, Ask}
-use Rattle.console.specs.Reading.{Lacks, words, of_words, reading, is_silent, seconds_in, not_zero, sequence_in, head_of, head_in, area_in, lifetime_in, rule_of, rule_in, reference_in, kind_in, key_of, key_in, rule_body, mm_body, sds_body, group_sds_body, body_in, order, saying, query_in, ask}
+use Rattle.console.specs.Reading.{Lacks, words, of_words, reading, is_silent, longest_line, seconds_in, not_zero, sequence_in, head_of, head_in, area_in, lifetime_in, rule_of, rule_in, reference_in, kind_in, key_of, key_in, rule_body, mm_body, sds_body, group_sds_body, body_in, order, saying, query_in, ask}
 use Rattle.console.specs.Words.{kind_word}
 use Rattle.mailbox.specs.Values.{KeyInRange}
 use Rattle.centre_core.specs.Ranges.{BodyInRange}
@@ -179,8 +179,8 @@ first_speaks [] rest all some = absurd (omega (arith, some))
 first_speaks (c ∷ ds) rest all some = let digit = and_left (is_ascii_digit c) (list_all is_ascii_digit ds) all in grind (arith, digit)
 
 module _ {A : Type 0} where
-  passes : (station : ℕ) (line : List ℕ) (said : Line A) → length line ≤ 1024 → is_silent line ≡ false → of_words station (words line) ≡ said → reading station line ≡ said
-  passes station line said short speaks is = let fits : nat_lt 1024 (length line) ≡ false = grind (arith, short) in rw (fits, speaks) is
+  passes : (station : ℕ) (line : List ℕ) (said : Line A) → length line ≤ longest_line → is_silent line ≡ false → of_words station (words line) ≡ said → reading station line ≡ said
+  passes station line said short speaks is = let fits : nat_lt longest_line (length line) ≡ false = grind (arith, short) in rw (fits, speaks) is
 
   mm_same : (i a : ℕ) (p : List Bool) (i' a' : Option ℕ) (p' : Option (List Bool)) → i' ≡ Some i → a' ≡ Some a → p' ≡ Some p → mm_body {A = A} i' a' p' ≡ Ok (Mm i a p)
   mm_same i a p i' a' p' ei ea ep = rw (ei, ea, ep) refl
@@ -284,7 +284,7 @@ module _ {A : Type 0} where
   -- a query about an identity is taken for itself, where its keyword and an identity are
   about_again : (about : ℕ → Query) (station : ℕ) (keyword : List ℕ) (n : ℕ) → n < 2 ^ 48 → list_all (λ b. not (b == 32)) keyword ≡ true →
       ((word : List ℕ) → query_in keyword word ≡ saying about (result_ok (reading_identity word))) →
-      is_silent (spaced (keyword ∷ identity_text n ∷ [])) ≡ false → length (spaced (keyword ∷ identity_text n ∷ [])) ≤ 1024 →
+      is_silent (spaced (keyword ∷ identity_text n ∷ [])) ≡ false → length (spaced (keyword ∷ identity_text n ∷ [])) ≤ longest_line →
       reading {A = A} station (spaced (keyword ∷ identity_text n ∷ [])) ≡ Ask (about n)
   about_again about station keyword n small letters named speaks short =
       passes station (spaced (keyword ∷ identity_text n ∷ [])) (Ask (about n)) short speaks (

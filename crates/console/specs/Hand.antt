@@ -1,20 +1,20 @@
 -- What is kept of the line at hand, and which answer is given to it.
-use Rattle.std.specs.Prelude.{◌≡◌, ◌⊎◌, ℕ, ◌<◌, ◌≤◌, Bool, true, false, List, length, Option, Some, None, nat_lt}
+use Rattle.std.specs.Prelude.{◌≡◌, ◌⊎◌, ℕ, suc, ◌<◌, ◌≤◌, Bool, true, false, List, length, Option, Some, None, nat_lt}
 use Rattle.std.specs.Str.Lines.{strip_carriage_return}
 use Rattle.console.specs.declared.answer.Answer.{Answer}
 use Rattle.console.specs.declared.answer.Answer.TheVariants.{Untold}
 use Rattle.desk.specs.declared.service.Service.TheVariants.{Memory}
 use Rattle.console.specs.Answer.{tells_list}
-use Rattle.console.specs.Reading.{Lacks}
+use Rattle.console.specs.Reading.{Lacks, longest_line}
 
 -- no byte of it ends a line
 abbrev pub HasNoEnd : List ℕ → Type 0
 HasNoEnd text = Lacks 10 text
 
--- line, the bytes of the line so far, are kept while there are at most 1,025, and else it is known that there are more
+-- line, the bytes of the line so far, are kept while they can be a longest line and a carriage return, and else it is known that there are more
 abbrev pub Holds : List ℕ → Bool → List ℕ → Type 0
-Holds kept true line = 1025 < length line
-Holds kept false line = (kept ≡ line) × (length line ≤ 1025)
+Holds kept true line = suc longest_line < length line
+Holds kept false line = (kept ≡ line) × (length line ≤ suc longest_line)
 
 -- a line without its end
 abbrev pub line_at_end : Bool → List ℕ → List ℕ
@@ -23,7 +23,7 @@ line_at_end false line = line
 
 -- the line, or nothing of one that is too long
 abbrev pub StandsFor : Option (List ℕ) → List ℕ → Type 0
-StandsFor None line = nat_lt 1024 (length line) ≡ true
+StandsFor None line = nat_lt longest_line (length line) ≡ true
 StandsFor (Some text) line = text ≡ line
 
 -- the answer to the line of this number that is given: the desk's, or want of memory for the text of a list

@@ -155,15 +155,19 @@ module _ {A : Type 0} where
   of_words station (name ∷ identity ∷ []) = ask (query_in name identity)
   of_words station (sequence ∷ moment ∷ name ∷ more) = order station (head_in sequence moment) (body_in name more)
 
+-- how many bytes a line has at most, without its end
+abbrev pub longest_line : ℕ
+longest_line = 1024
+
 -- empty, or a comment
 abbrev pub is_silent : List ℕ → Bool
 is_silent [] = true
 is_silent (b ∷ bs) = b == 35
 
 module _ {A : Type 0} where
-  -- at most 1,024 bytes, also of a comment
+  -- a line that is too long is bad, also a comment
   abbrev pub reading : ℕ → List ℕ → Line A
-  reading station line = if nat_lt 1024 (length line) then Bad TooLong
+  reading station line = if nat_lt longest_line (length line) then Bad TooLong
       else (if is_silent line then Silent else of_words station (words line))
 
   abbrev pub HasPdu : Body A → Type 0

@@ -15,7 +15,7 @@ use Rattle.centre_core.specs.declared.query.Query.TheVariants.{Whereabouts, Look
 use Rattle.console.specs.declared.line.Line.TheVariants.{Bad, Order, Ask}
 use Rattle.console.specs.declared.line.LineFault.TheVariants.{Syntax, Value, TooLong}
 use Rattle.console.specs.Words.{kind_word}
-use Rattle.console.specs.Reading.{reading, words, is_silent}
+use Rattle.console.specs.Reading.{reading, words, is_silent, longest_line}
 
 -- words with single spaces between them
 abbrev pub spaced : List (List ℕ) → List ℕ
@@ -63,17 +63,17 @@ Askable Total = Unit {0}
 
 -- a line is taken for a command only where it spells that command, in range, of the station that it comes from
 abbrev pub OnlyCommands : Type 0 → Type 0
-OnlyCommands A = (station : ℕ) (line : List ℕ) (c : Command A) → reading station line ≡ Order c → (c.station ≡ station) × InRange c × SpellsCommand c line × (length line ≤ 1024)
+OnlyCommands A = (station : ℕ) (line : List ℕ) (c : Command A) → reading station line ≡ Order c → (c.station ≡ station) × InRange c × SpellsCommand c line × (length line ≤ longest_line)
 
 abbrev pub OnlyQueries : Type 0 → Type 0
-OnlyQueries A = (station : ℕ) (line : List ℕ) (q : Query) → reading {A = A} station line ≡ Ask q → Askable q × (line ≡ query_text q) × (length line ≤ 1024)
+OnlyQueries A = (station : ℕ) (line : List ℕ) (q : Query) → reading {A = A} station line ≡ Ask q → Askable q × (line ≡ query_text q) × (length line ≤ longest_line)
 
 -- each line that spells a command is taken for that command
 abbrev pub AllCommands : Type 0 → Type 0
-AllCommands A = (line : List ℕ) (c : Command A) → InRange c → SpellsCommand c line → length line ≤ 1024 → reading c.station line ≡ Order c
+AllCommands A = (line : List ℕ) (c : Command A) → InRange c → SpellsCommand c line → length line ≤ longest_line → reading c.station line ≡ Order c
 
 abbrev pub AllQueries : Type 0 → Type 0
-AllQueries A = (station : ℕ) (q : Query) → Askable q → length (query_text q) ≤ 1024 → reading {A = A} station (query_text q) ≡ Ask q
+AllQueries A = (station : ℕ) (q : Query) → Askable q → length (query_text q) ≤ longest_line → reading {A = A} station (query_text q) ≡ Ask q
 
 -- a word is one of these
 abbrev pub is_one_of : List (List ℕ) → List ℕ → Bool
@@ -96,11 +96,11 @@ SpellsSome A station line = ((c : Command A) × (c.station ≡ station) × InRan
 
 -- it is short enough, and neither empty nor a comment
 abbrev pub IsJudged : List ℕ → Type 0
-IsJudged line = (length line ≤ 1024) × (is_silent line ≡ false)
+IsJudged line = (length line ≤ longest_line) × (is_silent line ≡ false)
 
 -- how a line is bad: it is too long; or its words have no form; or they have one, and spell nothing
 abbrev pub BadLines : Type 0 → Type 0
 BadLines A = (station : ℕ) (line : List ℕ) →
-    ((reading {A = A} station line ≡ Bad TooLong) ↔ (1024 < length line))
+    ((reading {A = A} station line ≡ Bad TooLong) ↔ (longest_line < length line))
     × ((reading {A = A} station line ≡ Bad Syntax) ↔ (IsJudged line × (has_form (words line) ≡ false)))
     × ((reading {A = A} station line ≡ Bad Value) ↔ (IsJudged line × (has_form (words line) ≡ true) × (SpellsSome A station line → ⊥)))

@@ -58,6 +58,7 @@ fn is_list<B: Allocator>(told: &Told<B>) -> bool
 
 /// Adds the text of an answer: a line with its end, and nothing for [`Answer::Quiet`]. Where there is no
 /// memory for it, `out` holds what it held; room for 1,024 bytes is enough for any answer but a list.
+#[inline(always)]
 pub fn print_answer<A: Allocator, B: Allocator>(
     out: &mut Vec<u8, A>,
     answer: &Answer<B>,

@@ -19,6 +19,7 @@ use mailbox::{Item, Key};
 use registration::{Radio, Rule};
 use std::alloc::{AllocError, Allocator};
 
+#[inline(always)]
 pub(crate) fn put_answer<A: Allocator, B: Allocator>(
     out: &mut Vec<u8, A>,
     answer: &Answer<B>,
@@ -65,6 +66,7 @@ fn put_of_line<'a, A: Allocator>(
     put_parts(out, &line)
 }
 
+#[inline(always)]
 #[tactic(auto, using(std::proofs::Common::append_assoc))]
 fn put_reply<A: Allocator, B: Allocator>(
     out: &mut Vec<u8, A>,

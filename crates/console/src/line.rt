@@ -7,6 +7,9 @@ use centre_core::{Body, Command, Query};
 use memchr::memchr;
 use std::alloc::{AllocError, Allocator};
 
+/// The most bytes of a line, without its end.
+pub(crate) const LONGEST: usize = 1024;
+
 /// What is wrong with a line.
 #[derive(Clone, Copy, Debug, PartialEq, Eq)]
 pub enum LineFault {
@@ -49,6 +52,7 @@ pub fn parse_line<A: Allocator>(alloc: A, station: u16, line: &[u8]) -> Result<L
 }
 
 /// As `parse_line`, with the sequence of a command for whose PDU there is no memory.
+#[inline(always)]
 pub(crate) fn read_line<A: Allocator>(
     alloc: A,
     station: u16,
@@ -57,7 +61,7 @@ pub(crate) fn read_line<A: Allocator>(
     ensures ok { IfOk result (λ said. said ≡ reading station line.now) }
     ensures err { IfErr result (λ unread. sequence_of (reading {A = A} station line.now) ≡ Some unread.sequence) }
 {
-    if line.len() > 1024 {
+    if line.len() > LONGEST {
         return Ok(Line::Bad(LineFault::TooLong));
     }
     match line {
@@ -74,6 +78,7 @@ fn first_space(line: &[u8]) -> Option<usize>
 }
 
 /// The first word, and what stands behind the space after it.
+#[inline(always)]
 fn cut(line: &[u8]) -> (&[u8], Option<&[u8]>)
     ensures { words line.now ≡ result.0.now ∷ words_behind (option_map (λ r. r.now) result.1) }
 {
@@ -94,6 +99,7 @@ struct Words<'a> {
 }
 
 /// The words of a line, where they are no more than a form has.
+#[inline(always)]
 fn split(line: &[u8]) -> Option<Words<'_>>
     ensures few { MatchOption result Unit (λ found. found.count ≤ 8) }
     ensures words { MatchOption result (8 < length (words line.now)) (λ found. map (λ w. w.now) (take found.count found.places) ≡ words line.now) }
@@ -125,6 +131,7 @@ fn read_text<A: Allocator>(alloc: A, station: u16, line: &[u8]) -> Result<Line<A
     }
 }
 
+#[inline(always)]
 fn read_words<A: Allocator>(alloc: A, station: u16, words: &[&[u8]]) -> Result<Line<A>, Unread>
     ensures ok { IfOk result (λ said. said ≡ of_words station (map (λ w. w.now) words.now)) }
     ensures err { IfErr result (λ unread. sequence_of (of_words {A = A} station (map (λ w. w.now) words.now)) ≡ Some unread.sequence) }
@@ -179,6 +186,7 @@ fn order<A: Allocator>(
     }
 }
 
+#[inline(always)]
 #[tactic(auto, using(crate::proofs::Forms::unread, crate::proofs::Forms::headless, crate::proofs::Forms::body_short))]
 fn read_order<A: Allocator>(
     alloc: A,

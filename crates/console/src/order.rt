@@ -23,6 +23,7 @@ pub(crate) struct Head {
 }
 
 /// `SEQ MOMENT`
+#[inline(always)]
 pub(crate) fn head_in(sequence: &[u8], moment: &[u8]) -> Option<Head>
     ensures { result ≡ head_in sequence.now moment.now }
 {
@@ -52,6 +53,7 @@ pub(crate) fn query_in(name: &[u8], identity: &[u8]) -> Result<Query, LineFault>
 }
 
 /// The body of a command, behind the word that names its form.
+#[inline(always)]
 pub(crate) fn body_in<A: Allocator>(
     alloc: A,
     name: &[u8],
@@ -107,6 +109,7 @@ pub(crate) fn body_in<A: Allocator>(
 }
 
 /// The bits of a PDU, where the word is one.
+#[inline(always)]
 #[tactic(auto, using(crate::proofs::Forms::bits_are_judged))]
 fn bits_in<A: Allocator>(alloc: A, word: &[u8]) -> Result<Option<Bits<A>>, AllocError>
     ensures ok { IfOk result (λ bits. bits ≡ result_ok (reading_bits word.now)) }
@@ -120,6 +123,7 @@ fn bits_in<A: Allocator>(alloc: A, word: &[u8]) -> Result<Option<Bits<A>>, Alloc
 }
 
 /// `mm ITSI LA PDU`
+#[inline(always)]
 fn mm_body<A: Allocator>(
     alloc: A,
     itsi: &[u8],
@@ -226,6 +230,7 @@ fn sequence_in(word: &[u8]) -> Option<u32>
     }
 }
 
+#[inline(always)]
 #[tactic(auto, unfolding(identity::specs::NumberText::reading_number))]
 fn area_in(word: &[u8]) -> Option<LocationArea>
     ensures { result ≡ area_in word.now }

@@ -68,6 +68,7 @@ impl<'w, 'f, W: Write, G: Ledger> Output<'w, 'f, W, G> {
     }
 
     /// Writes all of the bytes and has them passed on, or writes a front of them.
+    #[inline(always)]
     pub(crate) fn send(&mut self, bytes: &[u8]) -> Result<(), RunFault>
         ensures writer { self.new.writer.ghost_name ≡ self.old.writer.ghost_name }
         ensures failures { self.new.failures.ghost_name ≡ self.old.failures.ghost_name }

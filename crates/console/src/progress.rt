@@ -5,17 +5,18 @@ ghost use Rattle.console.specs.Answer.{text, answer_room, HasNoLongPdu};
 ghost use Rattle.console.specs.Hand.{Holds, line_at_end, StandsFor, StandsIn};
 
 use crate::answer::{Answer, print_answer};
+use crate::line::LONGEST;
 use crate::running::RunFault;
 use desk::Service;
 use std::alloc::{AllocError, Allocator};
 
-/// The most bytes of a line that are kept: a line of 1,024 and a carriage return.
-pub(crate) const KEPT: usize = 1025;
+/// The most bytes of a line that are kept: a longest line and a carriage return.
+pub(crate) const KEPT: usize = LONGEST + 1;
 
 /// The line at hand, of which some bytes have come.
 #[derive(Drop)]
 pub(crate) struct LineAtHand<A: Allocator> {
-    // Its bytes, while there are at most 1,025.
+    // Its bytes, while there are no more than that.
     kept: Vec<u8, A>,
     // There are more.
     long: bool,
@@ -34,6 +35,7 @@ impl<A: Allocator> LineAtHand<A> {
     }
 
     /// Adds bytes to the line.
+    #[inline(always)]
     pub(crate) fn keep(&mut self, run: &[u8])
         ensures { (line : List ℕ) → Holds self.old.kept.items self.old.long line → Holds self.new.kept.items self.new.long (line ++ run.now) }
     {
@@ -55,6 +57,7 @@ impl<A: Allocator> LineAtHand<A> {
     }
 
     /// The line, which has come to a line feed or to the end of the text; `None` where it is too long.
+    #[inline(always)]
     pub(crate) fn line(&self, ended: bool) -> Option<&[u8]>
         ensures { (line : List ℕ) → Holds self.now.kept.items self.now.long line → StandsFor (option_map (λ l. l.now) result) (line_at_end ended line) }
     {
@@ -97,6 +100,7 @@ impl<A: Allocator> AnswerText<A> {
 
     /// Makes the text of the answer to the line of this number, and tells which answer that is: a list for
     /// whose text there is no memory gives way to want of memory.
+    #[inline(always)]
     pub(crate) fn hold<B: Allocator + Drop>(
         &mut self,
         number: u64,

@@ -26,6 +26,7 @@ struct Asked<'a> {
 }
 
 /// Does what a station's line says.
+#[inline(always)]
 fn answer_line<A: Allocator + Copy, D: Desk>(
     terms: Terms<A>,
     asked: Asked,
@@ -53,6 +54,7 @@ fn answer_line<A: Allocator + Copy, D: Desk>(
 }
 
 /// Does what a line says, and writes its answer, whose text is made in `out`.
+#[inline(always)]
 fn serve<A: Allocator + Copy + Drop, W: Write, G: Ledger, D: Desk>(
     terms: Terms<A>,
     out: &mut AnswerText<A>,
@@ -78,6 +80,7 @@ fn serve<A: Allocator + Copy + Drop, W: Write, G: Ledger, D: Desk>(
 }
 
 /// Answers the line at hand, which a line feed ends.
+#[inline(always)]
 fn end_line<A: Allocator + Copy + Drop, W: Write, G: Ledger, D: Desk>(
     terms: Terms<A>,
     progress: &mut Progress<A>,
@@ -110,6 +113,7 @@ fn end_line<A: Allocator + Copy + Drop, W: Write, G: Ledger, D: Desk>(
 }
 
 /// Takes bytes and the line feed behind them, and answers the line that it ends.
+#[inline(always)]
 fn take_line<A: Allocator + Copy + Drop, W: Write, G: Ledger, D: Desk>(
     terms: Terms<A>,
     progress: &mut Progress<A>,

@@ -32,6 +32,7 @@ pub(crate) fn pdu_part<B: Allocator>(pdu: &Option<Bits<B>>) -> Part<'_, B>
     }
 }
 
+#[inline(always)]
 #[tactic(auto, using(identity::proofs::Lengths::text_fits))]
 fn put_part<A: Allocator, B: Allocator>(
     out: &mut Vec<u8, A>,
@@ -67,6 +68,7 @@ fn put_part<A: Allocator, B: Allocator>(
 }
 
 /// Adds the parts of a text, or some of them.
+#[inline(always)]
 pub(crate) fn put_parts<A: Allocator, B: Allocator>(
     out: &mut Vec<u8, A>,
     parts: &[Part<'_, B>],

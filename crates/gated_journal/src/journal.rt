@@ -4,6 +4,7 @@ ghost use Rattle.std.specs.List.{All, flat_map};
 ghost use Rattle.command_bytes.specs.Fields.{big};
 ghost use Rattle.command_bytes.specs.Text.{IsCommand, command_text, longest};
 ghost use Rattle.sector_disk.specs.Disk.{HasFailed, IsImageOf};
+ghost use Rattle.sector_disk.specs.Reading.{before_reads};
 ghost use Rattle.sector_disk.specs.Run.{HasLooked, HasMade, LeavesOnly};
 ghost use Rattle.gated_journal.specs.declared.fault.JournalError.TheVariants.{DiskFault, Damaged, JournalFull, NoMemory};
 ghost use Rattle.gated_journal.specs.declared.place.Place.{Place};
@@ -137,6 +138,7 @@ impl<A: Allocator> Journal<A> {
         ensures exact { (D.view disk.old).honest → AreJudged result (half_of {A = A} (D.view disk.old).reads self.old.next self.old.end) }
         ensures same { self.new ≡ self.old }
         ensures looked { (D.view disk.old).honest → HasLooked (D.view disk.old) (D.view disk.new) }
+        ensures only_reads { before_reads (D.view disk.new).calls ≡ before_reads (D.view disk.old).calls }
         ensures sectors { (D.view disk.new).sectors ≡ (D.view disk.old).sectors }
         ensures later { (D.view disk.old).failures ≤ (D.view disk.new).failures }
         ensures fault { IsErrOf result JournalError.DiskFault → HasFailed (D.view disk.old) (D.view disk.new) }
@@ -163,6 +165,7 @@ impl<A: Allocator + Clone> Journal<A> {
         ensures exact { (D.view disk.old).honest → Answers (next_view self.new.next) result (record_at (D.view disk.old).reads self.old.next self.old.end) }
         ensures memory { IsErrOf result JournalError.NoMemory → (D.view disk.old).honest → HasRecord A (D.view disk.old).reads self.old.next self.old.end }
         ensures looked { (D.view disk.old).honest → HasLooked (D.view disk.old) (D.view disk.new) }
+        ensures only_reads { before_reads (D.view disk.new).calls ≡ before_reads (D.view disk.old).calls }
         ensures at { IfOk result (λ found. IfSome found (λ x. (x.0 ≡ self.old.next + 1) × (x.0 < self.new.next))) }
         ensures first { self.new.first ≡ self.old.first }
         ensures end { self.new.end ≡ self.old.end }
@@ -201,6 +204,7 @@ impl<A: Allocator + Clone> Journal<A> {
         ensures exact { (D.view disk.old).honest → Answers (λ x. (entries_view x.1.items, x.0.next)) result (half_of (D.view disk.old).reads first (first + sectors)) }
         ensures memory { IsErrOf result JournalError.NoMemory → (D.view disk.old).honest → ((D.view disk.new).calls ≡ (D.view disk.old).calls) ⊎ HasRecords A (D.view disk.old).reads first (first + sectors) }
         ensures looked { (D.view disk.old).honest → HasLooked (D.view disk.old) (D.view disk.new) }
+        ensures only_reads { before_reads (D.view disk.new).calls ≡ before_reads (D.view disk.old).calls }
         ensures place { IfOk result (λ x. (x.0.first ≡ first) × (x.0.end ≡ first + sectors) × (x.0.next < first + sectors)) }
         ensures sectors { (D.view disk.new).sectors ≡ (D.view disk.old).sectors }
         ensures later { (D.view disk.old).failures ≤ (D.view disk.new).failures }

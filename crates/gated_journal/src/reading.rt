@@ -1,6 +1,7 @@
 // Reading a half.
 ghost use Rattle.std.specs.Prelude.{◌≡◌, ◌+◌, ◌*◌, ◌-◌, ◌<◌, ◌≤◌, ◌^◌, ℕ, length, IsErr, IsErrOf, OnOk, IfOk, IfSome, option_map, vec_capacity, vec_len};
 ghost use Rattle.sector_disk.specs.Disk.{HasFailed};
+ghost use Rattle.sector_disk.specs.Reading.{before_reads};
 ghost use Rattle.sector_disk.specs.Run.{HasLooked};
 ghost use Rattle.sector_disk.specs.declared.disk.DiskError.TheVariants.{OutOfRange};
 ghost use Rattle.gated_journal.specs.declared.fault.JournalError.TheVariants.{DiskFault, JournalFull, Damaged, NoMemory};
@@ -20,6 +21,7 @@ use std::alloc::Allocator;
 pub(crate) const MOST_SECTORS: u64 = 36;
 
 // Adds the bytes of the sectors behind the first `from`, up to so many, where there is room for them.
+#[tactic(auto, using(sector_disk::proofs::Reading::one_read))]
 fn read_sectors<A: Allocator, D: Disk>(
     disk: &mut D,
     at: u64,
@@ -33,6 +35,7 @@ fn read_sectors<A: Allocator, D: Disk>(
     requires room { vec_len buffer.old + 512 * (n - from) ≤ vec_capacity buffer.old }
     ensures effect { (D.view disk.old).honest → HasLooked (D.view disk.old) (D.view disk.new)
         × OnOk result (buffer.old.items ≡ data_from (D.view disk.old).reads at from → buffer.new.items ≡ data_from (D.view disk.old).reads at n) }
+    ensures only_reads { before_reads (D.view disk.new).calls ≡ before_reads (D.view disk.old).calls }
     ensures sectors { (D.view disk.new).sectors ≡ (D.view disk.old).sectors }
     ensures later { (D.view disk.old).failures ≤ (D.view disk.new).failures }
     ensures fault { IsErr result → HasFailed (D.view disk.old) (D.view disk.new) }
@@ -48,7 +51,7 @@ fn read_sectors<A: Allocator, D: Disk>(
 }
 
 // The bytes of a record's data sectors behind an open gate, and the next gate; `None` at a closed one. Takes no memory.
-#[tactic(auto, unfolding(crate::specs::Half::bytes_at))]
+#[tactic(auto, unfolding(crate::specs::Half::bytes_at), using(sector_disk::proofs::Reading::one_read))]
 fn read_data<A: Allocator, D: Disk>(
     disk: &mut D,
     at: u64,
@@ -60,6 +63,7 @@ fn read_data<A: Allocator, D: Disk>(
     requires room { 512 * most_sectors ≤ vec_capacity buffer.old }
     ensures effect { (D.view disk.old).honest → HasLooked (D.view disk.old) (D.view disk.new)
         × Answers (λ found. option_map (λ next. (buffer.new.items, next)) found) result (bytes_at (D.view disk.old).reads at end) }
+    ensures only_reads { before_reads (D.view disk.new).calls ≡ before_reads (D.view disk.old).calls }
     ensures sectors { (D.view disk.new).sectors ≡ (D.view disk.old).sectors }
     ensures later { (D.view disk.old).failures ≤ (D.view disk.new).failures }
     ensures fault { IsErrOf result JournalError.DiskFault → HasFailed (D.view disk.old) (D.view disk.new) }
@@ -103,6 +107,7 @@ pub(crate) fn read_record<A: Allocator + Clone, D: Disk>(
     requires within { end ≤ (D.view disk.old).sectors }
     requires room { 512 * most_sectors ≤ vec_capacity buffer.old }
     ensures effect { (D.view disk.old).honest → HasLooked (D.view disk.old) (D.view disk.new) × Answers found_view result (record_at (D.view disk.old).reads at end) }
+    ensures only_reads { before_reads (D.view disk.new).calls ≡ before_reads (D.view disk.old).calls }
     ensures memory { IsErrOf result JournalError.NoMemory → (D.view disk.old).honest → HasRecord A (D.view disk.old).reads at end }
     ensures sectors { (D.view disk.new).sectors ≡ (D.view disk.old).sectors }
     ensures later { (D.view disk.old).failures ≤ (D.view disk.new).failures }
@@ -132,6 +137,7 @@ fn judge_record<A: Allocator, D: Disk>(
     requires within { end ≤ (D.view disk.old).sectors }
     requires room { 512 * most_sectors ≤ vec_capacity buffer.old }
     ensures effect { (D.view disk.old).honest → HasLooked (D.view disk.old) (D.view disk.new) × IsJudged result (record_at {A = A} (D.view disk.old).reads at end) }
+    ensures only_reads { before_reads (D.view disk.new).calls ≡ before_reads (D.view disk.old).calls }
     ensures sectors { (D.view disk.new).sectors ≡ (D.view disk.old).sectors }
     ensures later { (D.view disk.old).failures ≤ (D.view disk.new).failures }
     ensures fault { IsErrOf result JournalError.DiskFault → HasFailed (D.view disk.old) (D.view disk.new) }
@@ -163,6 +169,7 @@ fn read_half<A: Allocator + Clone, D: Disk>(
     requires room { 512 * most_sectors ≤ vec_capacity buffer.old }
     ensures exact { (D.view disk.old).honest → Answers (λ x. (entries_view x.0.items, x.1)) result (half_of (D.view disk.old).reads first end) }
     ensures looked { (D.view disk.old).honest → HasLooked (D.view disk.old) (D.view disk.new) }
+    ensures only_reads { before_reads (D.view disk.new).calls ≡ before_reads (D.view disk.old).calls }
     ensures gate { IfOk result (λ x. x.1 < end) }
     ensures sectors { (D.view disk.new).sectors ≡ (D.view disk.old).sectors }
     ensures later { (D.view disk.old).failures ≤ (D.view disk.new).failures }
@@ -192,6 +199,7 @@ pub(crate) fn judge_half<A: Allocator, D: Disk>(
     requires room { 512 * most_sectors ≤ vec_capacity buffer.old }
     ensures exact { (D.view disk.old).honest → AreJudged result (half_of {A = A} (D.view disk.old).reads first end) }
     ensures looked { (D.view disk.old).honest → HasLooked (D.view disk.old) (D.view disk.new) }
+    ensures only_reads { before_reads (D.view disk.new).calls ≡ before_reads (D.view disk.old).calls }
     ensures sectors { (D.view disk.new).sectors ≡ (D.view disk.old).sectors }
     ensures later { (D.view disk.old).failures ≤ (D.view disk.new).failures }
     ensures fault { IsErrOf result JournalError.DiskFault → HasFailed (D.view disk.old) (D.view disk.new) }
@@ -221,6 +229,7 @@ pub(crate) fn read_or_judge<A: Allocator + Clone, D: Disk>(
     ensures exact { (D.view disk.old).honest → Answers (λ x. (entries_view x.0.items, x.1)) result (half_of (D.view disk.old).reads first end) }
     ensures memory { IsErrOf result JournalError.NoMemory → (D.view disk.old).honest → HasRecords A (D.view disk.old).reads first end }
     ensures looked { (D.view disk.old).honest → HasLooked (D.view disk.old) (D.view disk.new) }
+    ensures only_reads { before_reads (D.view disk.new).calls ≡ before_reads (D.view disk.old).calls }
     ensures gate { IfOk result (λ x. x.1 < end) }
     ensures sectors { (D.view disk.new).sectors ≡ (D.view disk.old).sectors }
     ensures later { (D.view disk.old).failures ≤ (D.view disk.new).failures }

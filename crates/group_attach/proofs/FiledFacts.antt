@@ -1,6 +1,6 @@
 -- What single changes of a list under a path come to.
 use Rattle.std.proofs.Common.{◌≡◌, ℕ, Bool, true, false, cond, Option, Some, None, Result, Ok, Err, ◌⊎◌, inl, inr, refl, sym, ap, ◌∙◌}
-use Rattle.std.specs.Prelude.{◌==◌, IsSome, OnErr, unwrap_or}
+use Rattle.std.specs.Prelude.{◌==◌, IsSome, OnOk, OnErr, unwrap_or}
 use Rattle.std.specs.Option.{is_some, option_map}
 use Rattle.std.specs.Ordering.{eq_by_cmp}
 use Rattle.std.specs.FinMap as finite
@@ -9,13 +9,9 @@ use Rattle.identity.specs.Path.{Path, path_cmp}
 use Rattle.identity.specs.PathLaws.{paths_total, paths_exact, tie_exact}
 use Rattle.group_attach.specs.declared.ending.Ending.{Ending}
 use Rattle.group_attach.specs.Attached.{Attached, Pair, Usage, pair_cmp, no_groups, attachment_of, attachment_at}
-use Rattle.group_attach.specs.Filed.{Filed, filed_in, under, placed, kept, ended}
+use Rattle.group_attach.specs.Filed.{Filed, under, placed, kept, ended}
 use Rattle.prefix_tree.specs.Change.{with_value}
 use Rattle.group_attach.proofs.Endings.{nothing_ends}
-
--- no tree has no list
-pub nothing_in : (tree : Option Filed) (f : Filed) (p : Path) → filed_in tree ≡ f → tree ≡ None → None ≡ finite.get f p
-nothing_in tree f p view none = sym (finite.get-empty path_cmp p) ∙ ap (λ g. finite.get g p) (sym (ap filed_in none) ∙ view)
 
 once : {A : Type 0} (b : Bool) (x y : A) → cond b x (cond b y x) ≡ x
 once true x y = refl
@@ -37,10 +33,18 @@ insert_same f p list there =
     finite.get-insert paths_total f p list q
     ∙ at_tie (eq_by_cmp path_cmp q p) (Some list) (finite.get f q) (λ tie. there ∙ ap (finite.get f) (sym (tie_exact q p tie))))
 
--- where the change failed, the list is as it was
-pub unchanged : {X E : Type 0} (r : Result X E) (f : Filed) (p : Path) (list new : Attached) → Some list ≡ finite.get f p → OnErr r (new ≡ list) → OnErr r (finite.insert f p new ≡ f)
-unchanged (Ok x) f p list new there same = tt
-unchanged (Err e) f p list new there same = ap (finite.insert f p) same ∙ insert_same f p list there
+-- a closure's answer, that it is the answer, and what its relation says
+pub by_answer : {A G : Type 0} {B C : A → Type 0} → ((a : A) × B a × C a) → ((a : A) → B a → C a → G) → G
+by_answer made use_it = use_it made.0 made.1 made.2
+
+-- a closure writes the list, or leaves it as it was where it fails
+pub written : {X E : Type 0} (r : Result X E) (f new : Filed) (p : Path) (left : Option Attached) (list : Attached) → new ≡ with_value f p left → OnOk r (left ≡ Some list) → OnOk r (new ≡ finite.insert f p list)
+written (Ok x) f new p left list is made = is ∙ ap (with_value f p) made
+written (Err e) f new p left list is made = tt
+
+pub unwritten : {X E : Type 0} (r : Result X E) (f new : Filed) (p : Path) (left : Option Attached) (list : Attached) → new ≡ with_value f p left → finite.get f p ≡ Some list → OnErr r (left ≡ Some list) → OnErr r (new ≡ f)
+unwritten (Ok x) f new p left list is there same = tt
+unwritten (Err e) f new p left list is there same = is ∙ ap (with_value f p) same ∙ insert_same f p list (sym there)
 
 pub none_under : (f : Filed) (p : Path) → None ≡ finite.get f p → under f p ≡ no_groups
 none_under f p none = ap (λ o. unwrap_or o no_groups) (sym none)
@@ -61,10 +65,6 @@ pub none_kept : (itsi : ℕ) (e : Ending) → kept (ended no_groups itsi e) ≡ 
 none_kept itsi e =
     let empty : finite.len (ended no_groups itsi e) ≡ 0 = ap finite.len (nothing_ends itsi e) ∙ finite.len-empty pair_cmp Usage in
     ap (λ n. cond (n == 0) None (Some (ended no_groups itsi e))) empty
-
-pub nothing_placed : (f : Filed) (p : Path) (itsi : ℕ) (e : Ending) → None ≡ finite.get f p → f ≡ placed f p (ended (under f p) itsi e)
-nothing_placed f p itsi e none =
-    sym (ap (λ list. placed f p (ended list itsi e)) (none_under f p none) ∙ sym (with_kept f p (ended no_groups itsi e)) ∙ ap (with_value f p) (none_kept itsi e) ∙ remove_nothing f p none)
 
 -- there is no list, or this one
 pub list_or_none : (o : Option Attached) → (o ≡ None) ⊎ ((list : Attached) × (o ≡ Some list))

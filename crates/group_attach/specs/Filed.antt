@@ -19,10 +19,6 @@ use Rattle.group_attach.specs.InOrder.{map_of, pair_of}
 abbrev pub Filed : Type 0
 Filed = PathMap Attached
 
--- those of a tree that may not be there yet
-abbrev pub filed_in : Option Filed → Filed
-filed_in tree = unwrap_or tree finite.empty
-
 -- what a list that may not be there holds
 abbrev pub held : Option Attached → Attached
 held list = unwrap_or list no_groups

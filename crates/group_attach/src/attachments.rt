@@ -1,6 +1,6 @@
 //! Attachments as one list in order of radio and group.
 
-ghost use Rattle.std.specs.Prelude.{◌≡◌, ◌==◌, OnOk, OnErr, IfOk, IsOk, IsSome};
+ghost use Rattle.std.specs.Prelude.{◌≡◌, ◌==◌, Some, OnOk, OnErr, IfOk, IsOk, IsSome};
 ghost use Rattle.std.specs.Option.{option_copied};
 ghost use Rattle.std.specs.FinMap as finite;
 ghost use Rattle.group_attach.specs.Attached.{no_groups, listed, attachment_at};
@@ -93,6 +93,20 @@ impl<A: Allocator> AttachmentList<A> {
         ensures overwrites { IsSome (finite.get self.old (pair_of attachment)) → IsOk result }
     {
         attach(&mut self.entries, attachment)
+    }
+
+    /// The list with the attachment added or replaced as `attach` does, or as it was for want of memory.
+    pub(crate) fn with(
+        mut self,
+        attachment: Attachment,
+    ) -> (Result<Option<Attachment>, AllocError>, Option<Self>)
+        ensures before { IfOk result.0 (λ before. before ≡ attachment_at self (pair_of attachment)) }
+        ensures ok { OnOk result.0 (result.1 ≡ Some (attached self attachment)) }
+        ensures err { OnErr result.0 (result.1 ≡ Some self) }
+        ensures overwrites { IsSome (finite.get self (pair_of attachment)) → IsOk result.0 }
+    {
+        let attached = self.attach(attachment);
+        (attached, Some(self))
     }
 
     /// What is left of it where this ends, if that is anything. It takes no memory.

@@ -11,28 +11,26 @@ use crate::Attachment;
 use crate::attachments::AttachmentList;
 use crate::ending::Ending;
 use identity::{Itsi, Prefix};
-use prefix_tree::{PrefixTree, Steps, TryCopy};
+use prefix_tree::{LazyTree, TryCopy};
 use std::alloc::{AllocError, Allocator};
-use std::marker::{Brand, Model};
-use std::sync::ledger::{Blank, Ledger};
+use std::marker::Model;
 
-/// Lists of attachments under paths. There is no tree before the first list, so that `new` needs no
-/// allocator.
+/// Lists of attachments under paths.
 #[derive(Drop)]
 pub(crate) struct Lists<A: Allocator> {
-    tree: Option<PrefixTree<AttachmentList<A>, A>>,
+    tree: LazyTree<AttachmentList<A>, A>,
 }
 
 impl<A: Allocator> Model for Lists<A> {
     ghost use Rattle.prefix_tree.specs.Table.{coded_table};
     ghost use Rattle.group_attach.specs.Attached.{coded_attached};
-    ghost use Rattle.group_attach.specs.Filed.{Filed, filed_in};
+    ghost use Rattle.group_attach.specs.Filed.{Filed};
 
     ghost Value = { Filed };
 
     ghost coded = { coded_table coded_attached };
 
-    ghost view = { λ l. filed_in l.tree };
+    ghost view = { λ l. l.tree };
 }
 
 impl<A: Allocator> Lists<A> {
@@ -40,17 +38,16 @@ impl<A: Allocator> Lists<A> {
     pub(crate) fn new() -> Self
         ensures { result ≡ finite.empty }
     {
-        Lists { tree: None }
+        Lists {
+            tree: LazyTree::new(),
+        }
     }
 
     /// The list under the path.
     pub(crate) fn find(&self, path: &Prefix) -> Option<&AttachmentList<A>>
         ensures { option_copied result ≡ finite.get self.now path.now }
     {
-        match &self.tree {
-            Some(tree) => tree.find(path),
-            None => None,
-        }
+        self.tree.find(path)
     }
 
     /// Takes out the list under the path.
@@ -58,10 +55,7 @@ impl<A: Allocator> Lists<A> {
         ensures before { result ≡ finite.get self.old path.now }
         ensures removed { self.new ≡ finite.remove self.old path.now }
     {
-        if let Some(tree) = &mut self.tree {
-            return tree.take(path);
-        }
-        None
+        self.tree.take(path)
     }
 
     /// Takes away the list under the path.
@@ -76,29 +70,7 @@ impl<A: Allocator> Lists<A> {
     pub(crate) fn end(&mut self, path: &Prefix, itsi: Itsi, ending: Ending)
         ensures { self.new ≡ placed self.old path.now (ended (under self.old path.now) itsi ending) }
     {
-        let Some(tree) = &mut self.tree else {
-            return;
-        };
-        end_under(tree, path, itsi, ending);
-    }
-
-    // Attaches in the list under the path; `None` where there is none.
-    fn attach_there(
-        &mut self,
-        path: &Prefix,
-        attachment: Attachment,
-    ) -> Option<Result<Option<Attachment>, AllocError>>
-        ensures before { IfSome result (λ r. IfOk r (λ before. before ≡ attachment_at (under self.old path.now) (pair_of attachment))) }
-        ensures there { is_some result ≡ is_some (finite.get self.old path.now) }
-        ensures ok { IfSome result (λ r. OnOk r (self.new ≡ finite.insert self.old path.now (attached (under self.old path.now) attachment))) }
-        ensures err { IfSome result (λ r. OnErr r (self.new ≡ self.old)) }
-        ensures absent { IfNone result (self.new ≡ self.old) }
-        ensures overwrites { IsSome (finite.get (under self.old path.now) (pair_of attachment)) → IfSome result (λ r. IsOk r) }
-    {
-        if let Some(tree) = &mut self.tree {
-            return attach_from::<A, Brand>(tree, path, attachment, Blank::new(1));
-        }
-        None
+        end_under(&mut self.tree, path, itsi, ending);
     }
 }
 
@@ -116,11 +88,11 @@ impl<A: Allocator + Clone> Lists<A> {
         ensures err { OnErr result (self.new ≡ self.old) }
         ensures overwrites { IsSome (finite.get (under self.old path) (pair_of attachment)) → IsOk result }
     {
-        if let Some(tried) = self.attach_there(&path, attachment) {
+        if let Some(tried) = attach_there(&mut self.tree, &path, attachment) {
             return tried;
         }
         let list = AttachmentList::one(alloc.clone()?, attachment)?;
-        self.insert(alloc, path, list)?;
+        self.tree.insert(alloc, path, list)?;
         Ok(None)
     }
 
@@ -141,52 +113,25 @@ impl<A: Allocator + Clone> Lists<A> {
         if list.is_empty() {
             Ok(self.take(&path))
         } else {
-            self.insert(alloc, path, list)
+            self.tree.insert(alloc, path, list)
         }
-    }
-
-    fn insert(
-        &mut self,
-        alloc: &A,
-        path: Prefix,
-        list: AttachmentList<A>,
-    ) -> Result<Option<AttachmentList<A>>, AllocError>
-        ensures before { IfOk result (λ before. before ≡ finite.get self.old path) }
-        ensures ok { OnOk result (self.new ≡ finite.insert self.old path list) }
-        ensures err { OnErr result (self.new ≡ self.old) }
-        ensures overwrites { IsSome (finite.get self.old path) → IsOk result }
-    {
-        if let Some(tree) = &mut self.tree {
-            return tree.insert(path, list).or(Err(AllocError));
-        }
-        let mut tree = PrefixTree::new_in(alloc.clone()?);
-        let before = tree.insert(path, list).or(Err(AllocError))?;
-        self.tree = Some(tree);
-        Ok(before)
     }
 }
 
 impl<A: Allocator + Clone> TryCopy for Lists<A> {
     fn try_copy(&self) -> Result<Self, AllocError> {
-        match &self.tree {
-            Some(tree) => Ok(Lists {
-                tree: Some(tree.try_copy()?),
-            }),
-            None => Ok(Lists { tree: None }),
-        }
+        Ok(Lists {
+            tree: self.tree.try_copy()?,
+        })
     }
 }
 
-// Attaches in the list under the path; `None` where there is none. Counted by this ledger.
-fn attach_from<A: Allocator, L: Ledger>(
-    tree: &mut PrefixTree<AttachmentList<A>, A>,
+// Attaches in the list under the path; `None` where there is none.
+fn attach_there<A: Allocator>(
+    tree: &mut LazyTree<AttachmentList<A>, A>,
     path: &Prefix,
     attachment: Attachment,
-    blank: Blank,
 ) -> Option<Result<Option<Attachment>, AllocError>>
-    requires name { blank.name ≡ L.name }
-    requires parts { blank.parts ≡ L.parts }
-    requires some { 0 < blank.parts }
     ensures before { IfSome result (λ r. IfOk r (λ before. before ≡ attachment_at (under tree.old path.now) (pair_of attachment))) }
     ensures there { is_some result ≡ is_some (finite.get tree.old path.now) }
     ensures ok { IfSome result (λ r. OnOk r (tree.new ≡ finite.insert tree.old path.now (attached (under tree.old path.now) attachment))) }
@@ -194,16 +139,12 @@ fn attach_from<A: Allocator, L: Ledger>(
     ensures absent { IfNone result (tree.new ≡ tree.old) }
     ensures overwrites { IsSome (finite.get (under tree.old path.now) (pair_of attachment)) → IfSome result (λ r. IsOk r) }
 {
-    let mut steps = Steps::<L>::new(blank);
-    match tree.get_mut(path, &mut steps) {
-        Some(list) => Some(list.attach(attachment)),
-        None => None,
-    }
+    tree.change(path, |list| list.with(attachment))
 }
 
 // Takes away what ends of the list under the path, and the list where nothing is left.
 fn end_under<A: Allocator>(
-    tree: &mut PrefixTree<AttachmentList<A>, A>,
+    tree: &mut LazyTree<AttachmentList<A>, A>,
     path: &Prefix,
     itsi: Itsi,
     ending: Ending,

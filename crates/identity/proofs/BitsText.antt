@@ -1,13 +1,13 @@
 -- Hexadecimal digits and the bits that they stand for.
-use Rattle.std.proofs.Common.{◌≡◌, ℕ, zero, suc, ◌+◌, ◌-◌, ◌*◌, ◌/◌, ◌%◌, ◌^◌, ◌<◌, min, Bool, true, List, [], ◌∷◌, ◌++◌, length, take, drop, get_or, nat_eq, refl, sym, ap, ◌∙◌, arith}
+use Rattle.std.proofs.Common.{◌≡◌, ℕ, zero, suc, ◌+◌, ◌-◌, ◌*◌, ◌%◌, ◌^◌, ◌<◌, Bool, true, List, [], ◌∷◌, ◌++◌, length, take, drop, get_or, nat_eq, refl, sym, ap, ◌∙◌, arith}
 use Rattle.std.specs.Prelude.{◌==◌}
 use Rattle.std.specs.Char.{digit_value, is_ascii_hexdigit}
 use Rattle.std.specs.List.{list_all}
-use Rattle.std.proofs.lemmas.List.{append-nil, take_min, take_all, take_more, drop_at, drop-drop, length-append, length-take}
+use Rattle.std.proofs.lemmas.List.{append-nil, take_all, take_more, drop_at, drop-drop, length-append, length-take}
 use Rattle.std.proofs.lemmas.List.Concat.{flat_map-append}
 use Rattle.std.proofs.lemmas.Nat.{one_shl}
 use Rattle.identity.specs.Number.{num, number}
-use Rattle.identity.specs.NumberLaws.{length-num, number-num_mod, take-num, drop-num}
+use Rattle.identity.specs.NumberLaws.{length-num, number-num_mod, drop-num}
 use Rattle.identity.specs.BitsText.{digit_bits}
 use Rattle.identity.proofs.NumberText.{and_left, and_right}
 

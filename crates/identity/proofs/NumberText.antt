@@ -5,6 +5,7 @@ use mathlib.Core.Bool.{false≢true}
 use Rattle.std.specs.Char.{is_ascii_digit}
 use Rattle.std.specs.Int.{IsInRange}
 use Rattle.std.specs.List.{list_all, position}
+use Rattle.std.proofs.lemmas.Grind.{common_steps}
 use Rattle.std.proofs.lemmas.Nat.{pow-add}
 use Rattle.std.proofs.Math.Pow.{pow_mono}
 use Rattle.std.proofs.lemmas.List.{take_all}
@@ -18,6 +19,10 @@ use Rattle.identity.specs.NumberText.{is_number, value, cut}
 and_true : (b : Bool) → (b && true) ≡ b
 and_true true = refl
 and_true false = refl
+
+and_false : (b : Bool) → (b && false) ≡ false
+and_false true = refl
+and_false false = refl
 
 pub and_left : (a b : Bool) → (a && b) ≡ true → a ≡ true
 and_left true b h = refl
@@ -38,6 +43,11 @@ unfolding is_number
 number_zero [] some head = absurd (omega (arith, some))
 number_zero (c ∷ []) some head = rw head refl
 number_zero (c ∷ d ∷ text) some head = let more : (length (c ∷ d ∷ text) == 1) ≡ false = grind arith in rw (head, more) refl
+
+pub value_zero : (text : List ℕ) → length text ≡ 1 → get_or text 0 0 ≡ 48 → value text ≡ 0
+value_zero [] one head = absurd (omega (arith, one))
+value_zero (c ∷ []) one head = rw head refl
+value_zero (c ∷ d ∷ text) one head = absurd (omega (arith, one))
 
 pub number_form : (text : List ℕ) → 0 < length text → get_or text 0 0 ≢ 48 → is_number text ≡ list_all is_ascii_digit text
 unfolding is_number
@@ -95,6 +105,33 @@ all_take text zero all = refl
 all_take [] (suc n) all = refl
 all_take (c ∷ text) (suc n) all =
     rw (and_left (is_ascii_digit c) (list_all is_ascii_digit text) all, all_take text n (and_right (is_ascii_digit c) (list_all is_ascii_digit text) all)) refl
+
+-- one digit more behind digits alone
+pub all_more : (text : List ℕ) (i : ℕ) → list_all is_ascii_digit (take i text) ≡ true → i < length text → is_ascii_digit (get_or text i 0) ≡ true → list_all is_ascii_digit (take (i + 1) text) ≡ true
+all_more [] i front inside digit = absurd (omega (arith, inside))
+all_more (c ∷ text) zero front inside digit = rw digit refl
+all_more (c ∷ text) (suc i) front inside digit =
+    let first = and_left (is_ascii_digit c) (list_all is_ascii_digit (take i text)) front in
+    let rest = all_more text i (and_right (is_ascii_digit c) (list_all is_ascii_digit (take i text)) front) (omega (arith, inside)) digit in
+    let one : suc (i + 1) ≡ suc i + 1 = omega arith in
+    ap (λ (n : ℕ). list_all is_ascii_digit (take n (c ∷ text))) (sym one) ∙ rw (first, rest) refl
+
+pub digit_more : (text : List ℕ) (i : ℕ) → i < length text → is_ascii_digit (get_or text i 0) ≡ true → value (take (i + 1) text) ≡ 10 * value (take i text) + (get_or text i 0 - 48)
+digit_more text i inside is = let digit : IsInRange 48 57 (get_or text i 0) = grind (arith, is) in omega (arith, digits_value_more 10 text i inside, digit_value_digit (get_or text i 0) digit)
+
+pub front_below : (text : List ℕ) (i v : ℕ) → list_all is_ascii_digit (take i text) ≡ true → i < length text → length text ≤ 15 → v ≡ value (take i text) → v < 2 ^ 56
+front_below text i v all inside few is =
+    let front = take i text in
+    let same : take i front ≡ front = take_all i front (grind (arith, common_steps)) in
+    let below : value (take i front) < 2 ^ (4 * i) = value_below front i all (grind (arith, common_steps, inside)) in
+    let most : 2 ^ (4 * i) ≤ 2 ^ 56 = pow_mono (let h : 4 * i ≤ 56 = omega (arith, inside, few) in h) in
+    omega (arith, is, ap value same, below, most)
+
+-- a byte that is no digit
+pub not_all : (text : List ℕ) (i : ℕ) → i < length text → is_ascii_digit (get_or text i 0) ≡ false → list_all is_ascii_digit text ≡ false
+not_all [] i inside other = absurd (omega (arith, inside))
+not_all (c ∷ text) zero inside other = rw other refl
+not_all (c ∷ text) (suc i) inside other = rw (not_all text i (omega (arith, inside)) other) (and_false (is_ascii_digit c))
 
 pub value_large : (text : List ℕ) (i most : ℕ) → most < value (take i text) → (if nat_le (value text) most then Some (value text) else None) ≡ None
 value_large text i most large =

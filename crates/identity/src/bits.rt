@@ -96,6 +96,7 @@ impl<A: Allocator> Bits<A> {
     }
 
     /// Puts the low bits of `value` at the end.
+    #[inline(always)]
     pub(crate) fn append(&mut self, value: u64, width: u32) -> Result<(), Fault>
         requires { width ≤ 64 }
         ensures ok { OnOk result (self.new ≡ self.old ++ num width value) }

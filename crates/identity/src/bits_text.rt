@@ -37,6 +37,7 @@ fn digit_of(byte: u8) -> u64
 }
 
 /// Whether the last `fill` bits of hexadecimal digits are 0.
+#[inline(always)]
 fn ends_in_zeros(digits: &[u8], fill: u32) -> bool
     requires hexadecimal { IsTrue (list_all is_ascii_hexdigit digits.now) }
     requires few { fill < 4 }
@@ -50,6 +51,7 @@ fn ends_in_zeros(digits: &[u8], fill: u32) -> bool
 }
 
 /// How many bits a text has whose form is good.
+#[inline(always)]
 #[tactic(auto, unfolding(crate::specs::BitsText::bits_len, crate::specs::BitsText::is_filled))]
 fn bits_len(count: &[u8], digits: &[u8]) -> Option<u128>
     ensures value { result ≡ bits_len count.now digits.now }
@@ -80,6 +82,7 @@ fn byte_of(high: u8, low: u8) -> u8
 }
 
 /// The bytes of hexadecimal digits; the last one's low half is 0 where the digits are odd in number.
+#[inline(always)]
 fn bytes_of<A: Allocator>(alloc: A, digits: &[u8]) -> Result<Vec<u8, A>, AllocError>
     requires { IsTrue (list_all is_ascii_hexdigit digits.now) }
     ensures bits { IfOk result (λ bytes. packed_bits bytes.items ≡ digit_bits digits.now ++ replicate (4 * (length digits.now % 2)) false) }
@@ -95,6 +98,7 @@ fn bytes_of<A: Allocator>(alloc: A, digits: &[u8]) -> Result<Vec<u8, A>, AllocEr
 }
 
 /// The first `len` bits of hexadecimal digits.
+#[inline(always)]
 fn bits_of<A: Allocator>(alloc: A, digits: &[u8], len: usize) -> Result<Bits<A>, Fault>
     requires hexadecimal { IsTrue (list_all is_ascii_hexdigit digits.now) }
     requires filled { IsTrue (is_filled len digits.now) }
@@ -106,6 +110,7 @@ fn bits_of<A: Allocator>(alloc: A, digits: &[u8], len: usize) -> Result<Bits<A>,
 
 /// The bits that a text `bits:HEX` says, at most 2,048 of them; `Fault::BadText` where the text has not that
 /// form, and else `Fault::OutOfRange` where they are more; `Fault::NoMemory` only for a good text.
+#[inline(always)]
 #[tactic(auto, unfolding(crate::specs::BitsText::reading_bits, crate::specs::BitsText::bits_form))]
 pub fn parse_bits<A: Allocator>(alloc: A, text: &[u8]) -> Result<Bits<A>, Fault>
     ensures ok { IfOk result (λ bits. reading_bits text.now ≡ Ok bits) }
@@ -242,6 +247,7 @@ fn put_bits<A: Allocator, B: Allocator>(
 }
 
 /// Appends the text `bits:HEX` of bits.
+#[inline(always)]
 pub fn print_bits<A: Allocator, B: Allocator>(
     out: &mut Vec<u8, A>,
     bits: &Bits<B>,

@@ -4,7 +4,7 @@ ghost use Rattle.std.specs.Prelude.{◌≡◌, ◌<◌, ◌≤◌, ◌^◌, ◌+
 ghost use Rattle.identity.specs.NumberText.{is_number, value, Keeps};
 ghost use Rattle.identity.specs.IdentityText.{identity_text, prefix_text, three_numbers, identity_of, reading_identity, prefix_of, reading_prefix};
 
-use crate::number_text::{cut, is_number, print_number, put_whole, value_of};
+use crate::number_text::{cut, is_number, parse_number, print_number, put_whole, value_of};
 use crate::{Fault, Gtsi, Itsi, Prefix, fields};
 use std::alloc::{AllocError, Allocator};
 
@@ -48,14 +48,27 @@ fn identity_of(mcc: &[u8], mnc: &[u8], ssi: &[u8]) -> Result<u64, Fault>
     Ok(fields::number_of(mcc as u32, mnc as u32, ssi as u32))
 }
 
-#[tactic(auto, unfolding(crate::specs::IdentityText::reading_identity))]
+#[inline(always)]
+#[tactic(auto, unfolding(crate::specs::IdentityText::reading_identity, crate::specs::IdentityText::three_numbers, crate::specs::IdentityText::identity_of, crate::specs::NumberText::reading_number))]
 fn reading_identity(text: &[u8]) -> Result<u64, Fault>
     ensures value { result ≡ reading_identity text.now }
     ensures below { IfOk result (λ n. n < 2 ^ 48) }
 {
-    match three_numbers(text) {
-        None => Err(Fault::BadText),
-        Some((mcc, mnc, ssi)) => identity_of(mcc, mnc, ssi),
+    let Some((mcc, rest)) = cut(text, b'-') else {
+        return Err(Fault::BadText);
+    };
+    let Some((mnc, ssi)) = cut(rest, b'-') else {
+        return Err(Fault::BadText);
+    };
+    let mcc = parse_number(mcc, u64::from(fields::MOST_MCC));
+    let mnc = parse_number(mnc, u64::from(fields::MOST_MNC));
+    let ssi = parse_number(ssi, u64::from(fields::MOST_SSI));
+    match (mcc, mnc, ssi) {
+        (Ok(mcc), Ok(mnc), Ok(ssi)) => { Ok(fields::number_of(mcc as u32, mnc as u32, ssi as u32)) }
+        (Err(Fault::BadText), _, _) => Err(Fault::BadText),
+        (_, Err(Fault::BadText), _) => Err(Fault::BadText),
+        (_, _, Err(Fault::BadText)) => Err(Fault::BadText),
+        _ => Err(Fault::OutOfRange),
     }
 }
 

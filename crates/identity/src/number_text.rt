@@ -16,6 +16,7 @@ fn first(text: &[u8], mark: u8) -> Option<usize>
 }
 
 /// What stands before the first byte `mark`, and what stands behind it.
+#[inline(always)]
 pub(crate) fn cut(text: &[u8], mark: u8) -> Option<(&[u8], &[u8])>
     ensures { option_map (λ parts. (parts.0.now, parts.1.now)) result ≡ cut mark text.now }
 {
@@ -49,6 +50,7 @@ pub(crate) fn is_number(text: &[u8]) -> bool
 const DIGITS: usize = 15;
 
 /// The number that a few digits are.
+#[inline(always)]
 fn short_value(digits: &[u8]) -> u64
     requires digits { IsTrue (list_all is_ascii_digit digits.now) }
     requires few { length digits.now ≤ 15 }
@@ -61,7 +63,40 @@ fn short_value(digits: &[u8]) -> u64
     value
 }
 
+/// The number that a few bytes are, where all of them are digits.
+#[inline(always)]
+fn digits_in(text: &[u8]) -> Option<u64>
+    requires few { length text.now ≤ 15 }
+    ensures { result ≡ (if list_all is_ascii_digit text.now then Some (value text.now) else None) }
+{
+    let mut value = 0;
+    for byte in text {
+        if !byte.is_ascii_digit() {
+            return None;
+        }
+        value = 10 * value + u64::from(*byte - b'0');
+    }
+    Some(value)
+}
+
+/// The number that a text of a few bytes is, where it has the form of one.
+#[inline(always)]
+#[tactic(auto, using(crate::proofs::NumberText::number_empty, crate::proofs::NumberText::number_zero, crate::proofs::NumberText::number_form, crate::proofs::NumberText::value_zero))]
+fn short_number(text: &[u8]) -> Option<u64>
+    requires few { length text.now ≤ 15 }
+    ensures { result ≡ (if is_number text.now then Some (value text.now) else None) }
+{
+    if text.is_empty() {
+        return None;
+    }
+    if text[0] == b'0' {
+        return if text.len() == 1 { Some(0) } else { None };
+    }
+    digits_in(text)
+}
+
 /// The number that digits are, where it is at most `most`.
+#[inline(always)]
 pub(crate) fn value_of(digits: &[u8], most: u128) -> Option<u128>
     requires form { IsTrue (is_number digits.now) }
     requires room { most < 2 ^ 120 }
@@ -78,10 +113,9 @@ pub(crate) fn value_of(digits: &[u8], most: u128) -> Option<u128>
     if value <= most { Some(value) } else { None }
 }
 
-/// The number of at most `most` that a text says, in decimal without leading zeros; `Fault::BadText` where
-/// the text is none, and else `Fault::OutOfRange` where the number is greater.
+/// As [`parse_number`], for a text of any length.
 #[tactic(auto, unfolding(crate::specs::NumberText::reading_number))]
-pub fn parse_number(text: &[u8], most: u64) -> Result<u64, Fault>
+fn long_number(text: &[u8], most: u64) -> Result<u64, Fault>
     ensures { result ≡ reading_number most text.now }
 {
     if !is_number(text) {
@@ -93,8 +127,26 @@ pub fn parse_number(text: &[u8], most: u64) -> Result<u64, Fault>
     }
 }
 
+/// The number of at most `most` that a text says, in decimal without leading zeros; `Fault::BadText` where
+/// the text is none, and else `Fault::OutOfRange` where the number is greater.
+#[inline(always)]
+#[tactic(auto, unfolding(crate::specs::NumberText::reading_number))]
+pub fn parse_number(text: &[u8], most: u64) -> Result<u64, Fault>
+    ensures { result ≡ reading_number most text.now }
+{
+    if text.len() > DIGITS {
+        return long_number(text, most);
+    }
+    match short_number(text) {
+        Some(value) if value <= most => Ok(value),
+        Some(_) => Err(Fault::OutOfRange),
+        None => Err(Fault::BadText),
+    }
+}
+
 /// Appends a number in decimal. Where there is no memory for it, `out` holds what it held: so it is with
 /// each print call, and each fails only where `out` has no room for its text.
+#[inline(always)]
 #[tactic(auto, using(std::proofs::lemmas::Fmt::decimal_digit))]
 pub fn print_number<A: Allocator>(out: &mut Vec<u8, A>, number: u64) -> Result<(), AllocError>
     ensures ok { OnOk result (out.new.items ≡ out.old.items ++ decimal number) }

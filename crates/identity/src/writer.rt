@@ -31,6 +31,7 @@ impl<A: Allocator> BitWriter<A> {
     }
 
     /// Puts `value` at the end, the greatest of its `width` bits, at most 48, first. On `Fault::NoMemory` nothing has changed.
+    #[inline(always)]
     pub fn put(&mut self, value: u64, width: u32) -> Result<(), Fault>
         requires width { width ≤ 48 }
         requires fits { value < 2 ^ width }

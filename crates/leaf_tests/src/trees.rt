@@ -1,5 +1,6 @@
 //! Runs of the tree: in a heap of fixed size, and beside the plain list.
 
+mod changed;
 mod counted;
 mod nodes;
 pub mod number;

@@ -1,9 +1,10 @@
 -- What each change makes of the boxes.
-use Rattle.std.proofs.Common.{◌≡◌, Bool, true, false, cond, List, [], ◌∷◌, ◌++◌, refl, ap, sym, ◌∙◌, arith, Option, Some, None, Result, Ok, Err, ◌⊎◌, inl, inr}
-use Rattle.std.specs.Prelude.{IfErr, ◌==◌, not, ◌&&◌, unwrap_or, length}
+use Rattle.std.proofs.Common.{◌≡◌, Bool, true, false, cond, List, [], ◌∷◌, ◌++◌, refl, ap, sym, ◌∙◌, Option, Some, None, Result, Ok, Err, ◌⊎◌, inl, inr}
+use Rattle.std.specs.Option.{is_some}
+use Rattle.std.specs.Prelude.{IfErr, IsSome, OnOk, OnErr, not, ◌&&◌}
 use Rattle.std.specs.List.{filter}
 use Rattle.std.specs.FinMap as finite
-use Rattle.std.specs.FinMap.{get-insert, get-remove, get-empty, same_map}
+use Rattle.std.specs.FinMap.{get-insert, get-remove, same_map}
 use Rattle.std.specs.Ordering.{eq_by_cmp}
 use Rattle.std.proofs.lemmas.Bool.{not_from_false, false≢true, false_from_ne_true}
 use Rattle.std.proofs.lemmas.List.{append-nil}
@@ -15,7 +16,7 @@ use Rattle.mailbox.specs.Values.{Waiting}
 use Rattle.mailbox.specs.Tests.{is_at}
 use Rattle.mailbox.specs.Boxes.{Boxes, contents, items_under, box_of, with_items, swept, put_last, put, is_under}
 use Rattle.mailbox.proofs.Lists.{beside, filter_twice, filter_within, filter_turned}
-use Rattle.mailbox.proofs.Keys.{same_number, key_exact, under_other}
+use Rattle.mailbox.proofs.Keys.{key_exact, under_other}
 
 -- what is known where a call fails
 pub on_err : {T E Q : Type 0} (r : Result T E) → Q → IfErr r (λ _. Q)
@@ -99,14 +100,6 @@ pub written_again : (boxes : Boxes) (p : Path) (ws : List Waiting) → Some ws �
 written_again boxes p ws is = same_map paths_total paths_exact _ _ (λ q.
     get-insert paths_total boxes p ws q ∙ unless_there (eq_by_cmp path_cmp q p) (Some ws) (finite.get boxes q) (λ e. ap (finite.get boxes) (tie_exact q p e) ∙ sym is))
 
-pub none_removed : (boxes : Boxes) (p : Path) → finite.get boxes p ≡ None → finite.remove boxes p ≡ boxes
-none_removed boxes p none = same_map paths_total paths_exact _ _ (λ q.
-    get-remove paths_total boxes p q ∙ unless_there (eq_by_cmp path_cmp q p) None (finite.get boxes q) (λ e. ap (finite.get boxes) (tie_exact q p e) ∙ none))
-
--- no tree is no box
-pub none_under : (tree : Option Boxes) (boxes : Boxes) (p : Path) → tree ≡ None → unwrap_or tree finite.empty ≡ boxes → [] ≡ items_under boxes p
-none_under tree boxes p none is = sym (ap contents (ap (λ b. finite.get b p) (sym is ∙ ap (λ o. unwrap_or o finite.empty) none) ∙ get-empty path_cmp p))
-
 -- without a box for nothing
 pub with_box : (boxes : Boxes) (p : Path) (ws : List Waiting) → with_value boxes p (box_of ws) ≡ with_items boxes p ws
 with_box boxes p [] = refl
@@ -117,7 +110,18 @@ pub box_or_none : (o : Option (List Waiting)) → (o ≡ None) ⊎ ((ws : List W
 box_or_none None = inl refl
 box_or_none (Some ws) = inr (ws, refl)
 
-pub none_swept : (tree : Option Boxes) (boxes : Boxes) (p : Path) (test : Waiting → Bool) → tree ≡ None → unwrap_or tree finite.empty ≡ boxes → unwrap_or tree finite.empty ≡ swept boxes p test
-none_swept tree boxes p test none is =
-    is ∙ sym (none_removed boxes p (ap (λ b. finite.get b p) (sym is ∙ ap (λ o. unwrap_or o finite.empty) none) ∙ get-empty path_cmp p))
-    ∙ ap (λ (ws : List Waiting). with_items boxes p (filter (λ w. not (test w)) ws)) (none_under tree boxes p none is)
+pub none_there : {o : Option (List Waiting)} → o ≡ None → IsSome o → ⊥
+none_there none there = false≢true (sym (ap is_some none) ∙ there)
+
+-- a closure's answer, that it is the answer, and what its relation says
+pub by_answer : {A G : Type 0} {B C : A → Type 0} → ((a : A) × B a × C a) → ((a : A) → B a → C a → G) → G
+by_answer made use_it = use_it made.0 made.1 made.2
+
+-- a closure writes the box, or leaves it as it was where it fails
+pub written : {X E : Type 0} (r : Result X E) (boxes new : Boxes) (p : Path) (left : Option (List Waiting)) (ws : List Waiting) → new ≡ with_value boxes p left → OnOk r (left ≡ Some ws) → OnOk r (new ≡ finite.insert boxes p ws)
+written (Ok x) boxes new p left ws is made = is ∙ ap (with_value boxes p) made
+written (Err e) boxes new p left ws is made = tt
+
+pub unwritten : {X E : Type 0} (r : Result X E) (boxes new : Boxes) (p : Path) (left : Option (List Waiting)) (ws : List Waiting) → new ≡ with_value boxes p left → finite.get boxes p ≡ Some ws → OnErr r (left ≡ Some ws) → OnErr r (new ≡ boxes)
+unwritten (Ok x) boxes new p left ws is there same = tt
+unwritten (Err e) boxes new p left ws is there same = is ∙ ap (with_value boxes p) same ∙ written_again boxes p ws (sym there)

@@ -11,7 +11,7 @@ use Rattle.mailbox.specs.declared.key.Envelope.{Envelope}
 use Rattle.mailbox.specs.declared.key.Stamp.{Stamp}
 use Rattle.mailbox.specs.Values.{Waiting, Mailed}
 use Rattle.mailbox.specs.Tests.{key_of, answered, is_to, is_at, is_ended_by}
-use Rattle.mailbox.specs.Mail.{holds, without, posted, reported, waiting, waiting_for}
+use Rattle.mailbox.specs.Mail.{without, posted, reported, waiting, waiting_for}
 use Rattle.mailbox.specs.Refusals.{or_then, unknown_refusal, absent_refusal, busy_refusal, crowd_refusal, full_refusal, post_refusal, report_refusal}
 use Rattle.mailbox.proofs.Effects.{holds_waiting, one_more_waits}
 

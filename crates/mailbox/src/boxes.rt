@@ -15,23 +15,18 @@ use crate::order::Order;
 use crate::place::Place;
 use crate::{Item, Key, items};
 use identity::{Itsi, Prefix};
-use prefix_tree::{PrefixTree, Steps, TryCopy};
+use prefix_tree::{LazyTree, TryCopy};
 use std::alloc::{AllocError, Allocator};
-use std::marker::{Brand, Model};
-use std::sync::ledger::{Blank, Ledger};
+use std::marker::Model;
 
-type Tree<A> = PrefixTree<Inbox<A>, A>;
-
-/// The inboxes of all destinations for which something waits, in a tree that is made for the first item.
+/// The inboxes of all destinations for which something waits.
 #[derive(Drop)]
 pub(crate) struct Boxes<A: Allocator> {
-    tree: Option<Tree<A>>,
+    tree: LazyTree<Inbox<A>, A>,
 }
 
 impl<A: Allocator> Model for Boxes<A> {
-    ghost use Rattle.std.specs.Prelude.{unwrap_or};
     ghost use Rattle.std.specs.Coded.{coded_list};
-    ghost use Rattle.std.specs.FinMap as finite;
     ghost use Rattle.prefix_tree.specs.Table.{coded_table};
     ghost use Rattle.mailbox.specs.Values.{coded_waiting};
     ghost use Rattle.prefix_tree.specs.Table.{PathMap};
@@ -42,7 +37,7 @@ impl<A: Allocator> Model for Boxes<A> {
 
     ghost coded = { coded_table (coded_list coded_waiting) };
 
-    ghost view = { λ b. unwrap_or b.tree finite.empty };
+    ghost view = { λ b. b.tree };
 }
 
 impl<A: Allocator> Boxes<A> {
@@ -50,7 +45,9 @@ impl<A: Allocator> Boxes<A> {
     pub(crate) fn new() -> Self
         ensures { result ≡ finite.empty }
     {
-        Boxes { tree: None }
+        Boxes {
+            tree: LazyTree::new(),
+        }
     }
 
     /// What waits for a destination.
@@ -59,10 +56,7 @@ impl<A: Allocator> Boxes<A> {
         ensures whole { destination < 2 ^ 48 }
     {
         let path = Prefix::whole(destination.number());
-        let Some(tree) = &self.tree else {
-            return &[];
-        };
-        match tree.find(&path) {
+        match self.tree.find(&path) {
             Some(inbox) => inbox.as_slice(),
             None => &[],
         }
@@ -94,10 +88,7 @@ impl<A: Allocator> Boxes<A> {
         ensures left { self.new ≡ swept self.old (id_path key.now.destination) (is_at key.now) }
         ensures place { result ≡ option_map place_of (item_at self.old key.now) }
     {
-        let Some(tree) = &mut self.tree else {
-            return None;
-        };
-        remove_under(tree, &key.destination.path(), key)
+        remove_under(&mut self.tree, &key.destination.path(), key)
     }
 }
 
@@ -112,26 +103,19 @@ impl<A: Allocator + Clone> Boxes<A> {
         ensures whole { item.key.destination < 2 ^ 48 }
     {
         let path = Prefix::whole(item.key().destination.number());
-        match &mut self.tree {
-            Some(tree) => put_under(tree, alloc, &path, item, is_first),
-            None => {
-                let mut tree = PrefixTree::new_in(alloc.clone()?);
-                put_first(&mut tree, alloc, &path, item)?;
-                self.tree = Some(tree);
-                Ok(())
-            }
+        if is_first {
+            put_first(&mut self.tree, alloc, path, item)
+        } else {
+            put_there(&mut self.tree, &path, item)
         }
     }
 }
 
 impl<A: Allocator + Clone> TryCopy for Boxes<A> {
     fn try_copy(&self) -> Result<Self, AllocError> {
-        match &self.tree {
-            Some(tree) => Ok(Boxes {
-                tree: Some(tree.try_copy()?),
-            }),
-            None => Ok(Boxes { tree: None }),
-        }
+        Ok(Boxes {
+            tree: self.tree.try_copy()?,
+        })
     }
 }
 
@@ -165,68 +149,44 @@ fn push_some<'i, A: Allocator, B: Allocator>(
     Ok(())
 }
 
-fn put_under<A: Allocator + Clone>(
-    tree: &mut Tree<A>,
-    alloc: &A,
-    path: &Prefix,
-    item: Item<A>,
-    is_first: bool,
-) -> Result<(), AllocError>
-    requires { is_first ≡ is_none (finite.get tree.old path.now) }
-    ensures ok { OnOk result (tree.new ≡ with_items tree.old path.now (put_last (items_under tree.old path.now) item)) }
-    ensures err { OnErr result (tree.new ≡ tree.old) }
-    ensures memory { OnErr result (list_any (is_at item.key) (items_under tree.old path.now) ≡ false) }
-{
-    if is_first {
-        put_first(tree, alloc, path, item)
-    } else {
-        put_from::<A, Brand>(tree, path, item, Blank::new(1))
-    }
-}
-
 // Puts the item into an inbox of its own, where there is none yet.
 fn put_first<A: Allocator + Clone>(
-    tree: &mut Tree<A>,
+    tree: &mut LazyTree<Inbox<A>, A>,
     alloc: &A,
-    path: &Prefix,
+    path: Prefix,
     item: Item<A>,
 ) -> Result<(), AllocError>
-    requires { finite.get tree.old path.now ≡ None }
-    ensures ok { OnOk result (tree.new ≡ with_items tree.old path.now (put_last (items_under tree.old path.now) item)) }
+    requires { finite.get tree.old path ≡ None }
+    ensures ok { OnOk result (tree.new ≡ with_items tree.old path (put_last (items_under tree.old path) item)) }
     ensures err { OnErr result (tree.new ≡ tree.old) }
-    ensures memory { OnErr result (list_any (is_at item.key) (items_under tree.old path.now) ≡ false) }
+    ensures memory { OnErr result (list_any (is_at item.key) (items_under tree.old path) ≡ false) }
 {
     let mut inbox = Inbox::new(alloc.clone()?);
     inbox.put(item)?;
-    match tree.insert(*path, inbox) {
-        Ok(_) => Ok(()),
-        Err(_) => Err(AllocError),
-    }
+    tree.insert(alloc, path, inbox)?;
+    Ok(())
 }
 
-// Puts the item into the inbox that is there, counted by this ledger.
-fn put_from<A: Allocator, L: Ledger>(
-    tree: &mut Tree<A>,
+// Puts the item into the inbox that is there.
+fn put_there<A: Allocator>(
+    tree: &mut LazyTree<Inbox<A>, A>,
     path: &Prefix,
     item: Item<A>,
-    blank: Blank,
 ) -> Result<(), AllocError>
-    requires there { IsSome (finite.get tree.old path.now) }
-    requires name { blank.name ≡ L.name }
-    requires parts { blank.parts ≡ L.parts }
-    requires some { 0 < blank.parts }
+    requires { IsSome (finite.get tree.old path.now) }
     ensures ok { OnOk result (tree.new ≡ finite.insert tree.old path.now (put_last (items_under tree.old path.now) item)) }
     ensures err { OnErr result (tree.new ≡ tree.old) }
     ensures memory { OnErr result (list_any (is_at item.key) (items_under tree.old path.now) ≡ false) }
 {
-    let mut steps = Steps::<L>::new(blank);
-    match tree.get_mut(path, &mut steps) {
-        Some(inbox) => inbox.put(item),
-        None => Ok(()),
-    }
+    tree.change(path, |inbox| inbox.with(item))
+        .unwrap_or(Ok(()))
 }
 
-fn remove_under<A: Allocator>(tree: &mut Tree<A>, path: &Prefix, key: &Key) -> Option<Place>
+fn remove_under<A: Allocator>(
+    tree: &mut LazyTree<Inbox<A>, A>,
+    path: &Prefix,
+    key: &Key,
+) -> Option<Place>
     ensures left { tree.new ≡ swept tree.old path.now (is_at key.now) }
     ensures place { result ≡ option_map place_of (find (is_at key.now) (items_under tree.old path.now)) }
 {

@@ -1,6 +1,6 @@
 //! The items of one destination.
 
-ghost use Rattle.std.specs.Prelude.{◌≡◌, ◌<◌, [], false, not, OnOk, OnErr, IfOk, vec_len, vec_capacity};
+ghost use Rattle.std.specs.Prelude.{◌≡◌, ◌<◌, [], false, not, Some, OnOk, OnErr, IfOk, vec_len, vec_capacity};
 ghost use Rattle.std.specs.List.{filter, find, list_any};
 ghost use Rattle.std.specs.Option.{option_map};
 ghost use Rattle.mailbox.specs.Tests.{is_at};
@@ -58,6 +58,16 @@ impl<A: Allocator> Inbox<A> {
         }
         put_at_end(&mut self.items, item);
         Ok(())
+    }
+
+    /// The inbox with the item put at its end as `put` does, or as it was for want of memory.
+    pub(crate) fn with(mut self, item: Item<A>) -> (Result<(), AllocError>, Option<Self>)
+        ensures ok { OnOk result.0 (result.1 ≡ Some (put_last self item)) }
+        ensures err { OnErr result.0 (result.1 ≡ Some self) }
+        ensures memory { OnErr result.0 (list_any (is_at item.key) self ≡ false) }
+    {
+        let put = self.put(item);
+        (put, Some(self))
     }
 
     /// The place of the item at the key, and what is left without it, where that is anything.

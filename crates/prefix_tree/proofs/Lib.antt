@@ -5,6 +5,7 @@ pub mod Following
 pub mod GrowLaws
 pub mod JoinLaws
 pub mod JoinedLaws
+pub mod LazyLaws
 pub mod LendFacts
 pub mod LendLaws
 pub mod ListLaws

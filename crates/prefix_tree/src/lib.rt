@@ -8,6 +8,7 @@ use std::alloc::AllocError;
 mod copy;
 mod edit;
 pub mod laws;
+mod lazy;
 mod lend;
 mod list;
 mod next;
@@ -17,6 +18,7 @@ mod steps;
 mod tree;
 mod walk;
 
+pub use lazy::LazyTree;
 pub use list::PrefixList;
 pub use steps::Steps;
 pub use tree::PrefixTree;

@@ -1,5 +1,5 @@
 -- A register that is kept stays so: through a checkpoint, and through an append of commands that it accepts.
-use Rattle.std.proofs.Common.{◌≡◌, ◌⊎◌, inl, inr, ℕ, ◌+◌, ◌-◌, ◌<◌, ◌≤◌, List, [], ◌∷◌, ◌++◌, length, map, take, true, false, Ok, refl, sym, ap, subst, ◌∙◌, arith}
+use Rattle.std.proofs.Common.{◌≡◌, inl, inr, ℕ, ◌+◌, ◌<◌, ◌≤◌, List, [], ◌∷◌, ◌++◌, length, map, take, true, false, Ok, refl, sym, ap, subst, ◌∙◌, arith}
 use Rattle.std.specs.Prelude.{nat_eq}
 use Rattle.std.specs.Borrow.{Bor}
 use Rattle.std.proofs.lemmas.Bool.Decides.{nat_tests}
@@ -7,7 +7,7 @@ use Rattle.std.specs.List.{flat_map}
 use Rattle.std.proofs.lemmas.Grind.{flat_map-append}
 use Rattle.std.proofs.lemmas.List.{append-nil}
 use Rattle.std.proofs.lemmas.Simd.{map-map}
-use Rattle.sector_disk.specs.Disk.{IsImageOf, IsSound, View}
+use Rattle.sector_disk.specs.Disk.{IsSound, View}
 use Rattle.sector_disk.specs.Run.{IsTorn, LeavesOnly}
 use Rattle.sector_disk.proofs.Moments.{run_on, started, weaker}
 use Rattle.centre_core.specs.Asked.{Asked}

@@ -1,5 +1,5 @@
 -- Messages in what an image opens to.
-use Rattle.std.proofs.Common.{◌≡◌, ℕ, IfOk, IsTrue, List, ◌↔◌}
+use Rattle.std.proofs.Common.{ℕ, IfOk, List, ◌↔◌}
 use Rattle.mailbox.specs.Values.{Waiting}
 use Rattle.centre_core.specs.State.{State}
 use Rattle.centre_core.proofs.MailLaws.{none_lost, none_lost_made}

@@ -1,5 +1,5 @@
 -- Records read and played one after another.
-use Rattle.std.proofs.Common.{◌≡◌, ◌⊎◌, inl, inr, ℕ, ◌+◌, ◌<◌, List, [], ◌∷◌, ◌++◌, Option, Some, None, Result, Ok, Err, refl, sym, subst, ap, append_assoc, ◌∙◌}
+use Rattle.std.proofs.Common.{◌≡◌, ℕ, ◌+◌, ◌<◌, List, [], ◌∷◌, ◌++◌, Some, None, Result, Ok, Err, refl, sym, subst, ap, append_assoc, ◌∙◌}
 use Rattle.centre_core.specs.Asked.{Asked}
 use Rattle.centre_core.specs.State.{State}
 use Rattle.gated_journal.specs.declared.fault.JournalError.{JournalError}
@@ -9,10 +9,9 @@ use Rattle.gated_journal.specs.Reading as reading
 use Rattle.gated_journal.proofs.Halves.{front_none, unrolled}
 use Rattle.checkpoint.specs.Standing.{Held}
 use Rattle.recovery.specs.declared.fault.StoreFault.{StoreFault}
-use Rattle.recovery.specs.declared.fault.StoreFault.TheVariants.{BadGeometry, Broken, Damaged, DiskFault, EpochsUsedUp, NoMemory, Unformatted}
 use Rattle.recovery.specs.Opens.{held_by, played, played_from, run, taken, then_on}
 use Rattle.recovery.specs.Opening.{BeginsWith, Fails, Stops, fault_of}
-use Rattle.recovery.proofs.Chained.{fails_then, fails_is}
+use Rattle.recovery.proofs.Chained.{fails_then}
 
 -- ---- a fault before a half, or in it
 

@@ -1,6 +1,7 @@
 // The label of a disk, read.
 ghost use Rattle.std.specs.Prelude.{◌≡◌, ◌⊎◌, ◌≤◌, IfErr, IfOk, IsErrOf, length};
 ghost use Rattle.sector_disk.specs.Disk.{HasFailed};
+ghost use Rattle.sector_disk.specs.Reading.{before_reads};
 ghost use Rattle.sector_disk.specs.Run.{HasLooked};
 ghost use Rattle.checkpoint.specs.Layout.{disk_size};
 ghost use Rattle.recovery.specs.declared.fault.StoreFault.TheVariants.{BadGeometry, DiskFault, Unformatted};
@@ -96,12 +97,13 @@ fn layout_at(sectors: u64, bytes: &[u8]) -> Result<Layout, StoreFault>
 }
 
 // The layout that the disk tells.
-#[tactic(auto, unfolding(crate::specs::Label::layout_in))]
+#[tactic(auto, unfolding(crate::specs::Label::layout_in), using(sector_disk::proofs::Reading::one_read))]
 pub(crate) fn read_layout<D: Disk>(disk: &mut D) -> Result<Layout, StoreFault>
     ensures exact { (D.view disk.old).honest → Gives (λ layout. layout) result (layout_in (D.view disk.old).reads) }
     ensures room { IfOk result (λ layout. disk_size layout ≤ (D.view disk.old).sectors) }
     ensures kinds { IfErr result IsOfDisk }
     ensures looked { (D.view disk.old).honest → HasLooked (D.view disk.old) (D.view disk.new) }
+    ensures only_reads { before_reads (D.view disk.new).calls ≡ before_reads (D.view disk.old).calls }
     ensures fault { IsErrOf result DiskFault → HasFailed (D.view disk.old) (D.view disk.new) }
     ensures sectors { (D.view disk.new).sectors ≡ (D.view disk.old).sectors }
     ensures later { (D.view disk.old).failures ≤ (D.view disk.new).failures }

@@ -1,6 +1,7 @@
 // A disk, read from its label to its last record.
 ghost use Rattle.std.specs.Prelude.{◌≡◌, ◌⊎◌, ◌<◌, ◌≤◌, IfErr, IfOk, IsErrOf, OnOk};
 ghost use Rattle.sector_disk.specs.Disk.{HasFailed};
+ghost use Rattle.sector_disk.specs.Reading.{before_reads};
 ghost use Rattle.sector_disk.specs.Run.{HasLooked};
 ghost use Rattle.gated_journal.specs.Reading.{HasRecords};
 ghost use Rattle.checkpoint.specs.Layout.{disk_size, half_at, half_end};
@@ -47,6 +48,7 @@ fn read_half<A: Allocator + Copy, D: Disk>(
     ensures next { IfOk result (λ journal. journal.next < half_end layout.now side) }
     ensures kinds { IfErr result IsOfOpening }
     ensures looked { (D.view disk.old).honest → HasLooked (D.view disk.old) (D.view disk.new) }
+    ensures only_reads { before_reads (D.view disk.new).calls ≡ before_reads (D.view disk.old).calls }
     ensures fault { IsErrOf result DiskFault → HasFailed (D.view disk.old) (D.view disk.new) }
     ensures sectors { (D.view disk.new).sectors ≡ (D.view disk.old).sectors }
     ensures later { (D.view disk.old).failures ≤ (D.view disk.new).failures }
@@ -71,6 +73,7 @@ fn read_by<A: Allocator + Copy, D: Disk>(
     ensures layout { IfOk result (λ opened. opened.layout ≡ layout) }
     ensures kinds { IfErr result IsOfOpening }
     ensures looked { (D.view disk.old).honest → HasLooked (D.view disk.old) (D.view disk.new) }
+    ensures only_reads { before_reads (D.view disk.new).calls ≡ before_reads (D.view disk.old).calls }
     ensures fault { IsErrOf result DiskFault → HasFailed (D.view disk.old) (D.view disk.new) }
     ensures sectors { (D.view disk.new).sectors ≡ (D.view disk.old).sectors }
     ensures later { (D.view disk.old).failures ≤ (D.view disk.new).failures }
@@ -103,6 +106,7 @@ pub(crate) fn read_all<A: Allocator + Copy, D: Disk>(
     ensures room { IfOk result (λ opened. disk_size opened.layout ≤ (D.view disk.old).sectors) }
     ensures kinds { IfErr result IsOfOpening }
     ensures looked { (D.view disk.old).honest → HasLooked (D.view disk.old) (D.view disk.new) }
+    ensures only_reads { before_reads (D.view disk.new).calls ≡ before_reads (D.view disk.old).calls }
     ensures fault { IsErrOf result DiskFault → HasFailed (D.view disk.old) (D.view disk.new) }
     ensures sectors { (D.view disk.new).sectors ≡ (D.view disk.old).sectors }
     ensures later { (D.view disk.old).failures ≤ (D.view disk.new).failures }

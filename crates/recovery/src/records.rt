@@ -1,6 +1,7 @@
 // The image in a side's slot, and the commands in its half.
 ghost use Rattle.std.specs.Prelude.{◌≡◌, ◌⊎◌, ◌<◌, ◌≤◌, ◌++◌, ℕ, IfErr, IfOk, IsErrOf, OnOk, Result, true};
 ghost use Rattle.sector_disk.specs.Disk.{HasFailed};
+ghost use Rattle.sector_disk.specs.Reading.{before_reads};
 ghost use Rattle.sector_disk.specs.Run.{HasLooked};
 ghost use Rattle.gated_journal.specs.Half.{half_of};
 ghost use Rattle.gated_journal.specs.Reading.{HasRecords};
@@ -33,6 +34,7 @@ pub(crate) fn read_base<A: Allocator + Copy, D: Disk>(
     ensures calls { IfOk result (λ base. (D.view disk.old).honest → (D.view disk.new).calls ≡ (D.view disk.old).calls ++ image_looks (slot_at layout.now side) base) }
     ensures kinds { IfErr result IsOfOpening }
     ensures looked { (D.view disk.old).honest → HasLooked (D.view disk.old) (D.view disk.new) }
+    ensures only_reads { before_reads (D.view disk.new).calls ≡ before_reads (D.view disk.old).calls }
     ensures fault { IsErrOf result DiskFault → HasFailed (D.view disk.old) (D.view disk.new) }
     ensures sectors { (D.view disk.new).sectors ≡ (D.view disk.old).sectors }
     ensures later { (D.view disk.old).failures ≤ (D.view disk.new).failures }
@@ -85,6 +87,7 @@ fn play_next<A: Allocator + Copy, D: Disk>(
     ensures on { IfOk result (λ more. more ≡ true → journal.old.next < journal.new.next) }
     ensures kinds { IfErr result IsOfOpening }
     ensures looked { (D.view disk.old).honest → HasLooked (D.view disk.old) (D.view disk.new) }
+    ensures only_reads { before_reads (D.view disk.new).calls ≡ before_reads (D.view disk.old).calls }
     ensures fault { IsErrOf result DiskFault → HasFailed (D.view disk.old) (D.view disk.new) }
     ensures sectors { (D.view disk.new).sectors ≡ (D.view disk.old).sectors }
     ensures later { (D.view disk.old).failures ≤ (D.view disk.new).failures }
@@ -114,6 +117,7 @@ fn play_on<A: Allocator + Copy, D: Disk>(
     ensures next { journal.new.next < journal.old.end }
     ensures kinds { IfErr result IsOfOpening }
     ensures looked { (D.view disk.old).honest → HasLooked (D.view disk.old) (D.view disk.new) }
+    ensures only_reads { before_reads (D.view disk.new).calls ≡ before_reads (D.view disk.old).calls }
     ensures fault { IsErrOf result DiskFault → HasFailed (D.view disk.old) (D.view disk.new) }
     ensures sectors { (D.view disk.new).sectors ≡ (D.view disk.old).sectors }
     ensures later { (D.view disk.old).failures ≤ (D.view disk.new).failures }
@@ -135,6 +139,7 @@ fn first_fault<A: Allocator, D: Disk>(
     ensures same { journal.new ≡ journal.old }
     ensures kinds { IsOfOpening fault → IsOfOpening result }
     ensures looked { (D.view disk.old).honest → HasLooked (D.view disk.old) (D.view disk.new) }
+    ensures only_reads { before_reads (D.view disk.new).calls ≡ before_reads (D.view disk.old).calls }
     ensures device { result ≡ DiskFault → (fault ≡ DiskFault) ⊎ HasFailed (D.view disk.old) (D.view disk.new) }
     ensures sectors { (D.view disk.new).sectors ≡ (D.view disk.old).sectors }
     ensures later { (D.view disk.old).failures ≤ (D.view disk.new).failures }
@@ -166,6 +171,7 @@ pub(crate) fn play<A: Allocator + Copy, D: Disk>(
     ensures next { journal.new.next < journal.old.end }
     ensures kinds { IfErr result IsOfOpening }
     ensures looked { (D.view disk.old).honest → HasLooked (D.view disk.old) (D.view disk.new) }
+    ensures only_reads { before_reads (D.view disk.new).calls ≡ before_reads (D.view disk.old).calls }
     ensures fault { IsErrOf result DiskFault → HasFailed (D.view disk.old) (D.view disk.new) }
     ensures sectors { (D.view disk.new).sectors ≡ (D.view disk.old).sectors }
     ensures later { (D.view disk.old).failures ≤ (D.view disk.new).failures }

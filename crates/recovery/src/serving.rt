@@ -1,13 +1,17 @@
 //! A register that is kept on a disk as a desk: a command is a commit of one.
-ghost use Rattle.std.specs.Prelude.{◌≡◌, ◌∷◌, [], Err, Ok, true, false};
-ghost use Rattle.sector_disk.specs.Run.{LeavesOnly};
+ghost use Rattle.std.specs.Prelude.{◌≡◌, ◌≤◌, ◌++◌, ◌∷◌, [], Err, List, Ok, OnOk, true, false};
+ghost use Rattle.sector_disk.specs.Run.{HasMade, LeavesOnly};
+ghost use Rattle.centre_core.specs.Asked.{Asked};
+ghost use Rattle.gated_journal.specs.Record.{data_size, given, record_text};
+ghost use Rattle.gated_journal.specs.Settled.{room_of};
 ghost use Rattle.desk.specs.OfStore.{Stored, of_store};
 ghost use Rattle.desk.specs.declared.service.Service.TheVariants as service;
 ghost use Rattle.centre_core.specs.declared.reply.Reply.{Reply};
 ghost use Rattle.recovery.specs.declared.outcome.Outcome.TheVariants as outcome;
 ghost use Rattle.recovery.specs.declared.outcome.Outcome.TheVariants.{Replied};
+ghost use Rattle.recovery.specs.Calls.{commit_calls, fits_in};
 ghost use Rattle.recovery.specs.Kept.{IsKept};
-ghost use Rattle.recovery.specs.Outcomes.{StandsForEither};
+ghost use Rattle.recovery.specs.Outcomes.{AreKept, StandsForEither};
 ghost use Rattle.recovery.specs.Refusals.{IsOfCommit};
 ghost use Rattle.recovery.specs.Serving.{IsAfterOne, IsWordFor, stored_of};
 
@@ -41,6 +45,15 @@ impl<A: Allocator + Clone, D: Disk> Desk for Store<A, D> {
             → IsKept A self.new.layout self.new.side self.new.epoch self.new.journal.next self.new.register (D.view self.new.disk) }
         ensures broken { self.old.broken ≡ true → self.new ≡ self.old }
         ensures honest { (D.view self.old.disk).honest → (D.view self.new.disk).honest }
+
+        // A checkpoint is made only where a record of the command would not fit. The calls of the disk are those of a commit
+        // of this one command, and a call that fails is the last.
+        ensures layout { self.new.layout ≡ self.old.layout }
+        ensures stays { data_size (record_text (given A (command.entry ∷ []))) ≤ room_of self.old.journal → (self.new.side ≡ self.old.side) × (self.new.epoch ≡ self.old.epoch) }
+        ensures calls { OnOk result ((D.view self.old.disk).honest → (kept : List (Asked A)) × AreKept A self.old.register (command.now ∷ []) self.new.register kept
+            × ((D.view self.new.disk).calls ≡ (D.view self.old.disk).calls ++ commit_calls (fits_in A self.old.journal (command.entry ∷ [])) self.old.layout self.old.side self.old.epoch self.old.journal.next self.old.register (D.view self.old.disk).reads kept)) }
+        ensures some_calls { (D.view self.old.disk).honest → (kept : List (Asked A)) × AreKept A self.old.register (command.now ∷ []) self.new.register kept
+            × HasMade (D.view self.old.disk) (D.view self.new.disk) (commit_calls (fits_in A self.old.journal (command.entry ∷ [])) self.old.layout self.old.side self.old.epoch self.old.journal.next self.old.register (D.view self.old.disk).reads kept) }
     {
         match self.commit(alloc, &[command]) {
             Ok(outcomes) => reply_of(outcomes),
@@ -48,7 +61,13 @@ impl<A: Allocator + Clone, D: Disk> Desk for Store<A, D> {
         }
     }
 
-    fn query<C: Allocator + Copy>(&mut self, alloc: C, query: &Query) -> Result<Told<C>, Service> {
+    fn query<C: Allocator + Copy>(&mut self, alloc: C, query: &Query) -> Result<Told<C>, Service>
+        ensures tells { of_store.tells (stored_of (D.view self.old.disk).failures self.old.epoch self.old.broken self.old.register) query.now result
+            (stored_of (D.view self.new.disk).failures self.new.epoch self.new.broken self.new.register) }
+
+        // Neither the store nor its disk is touched.
+        ensures same { self.new ≡ self.old }
+    {
         let Some(register) = self.register() else {
             return Err(Service::Broken);
         };

@@ -1,6 +1,7 @@
 // The sides of a disk, and which of them counts.
 ghost use Rattle.std.specs.Prelude.{◌≡◌, ◌⊎◌, ◌≤◌, ℕ, IfErr, IsErrOf};
 ghost use Rattle.sector_disk.specs.Disk.{HasFailed};
+ghost use Rattle.sector_disk.specs.Reading.{before_reads};
 ghost use Rattle.sector_disk.specs.Run.{HasLooked};
 ghost use Rattle.image_rows.specs.RowReading.{row_in};
 ghost use Rattle.checkpoint.specs.Layout.{disk_size};
@@ -25,12 +26,13 @@ fn epoch_of(bytes: &[u8]) -> Option<u64>
 }
 
 // The epoch of a side whose root is open.
-#[tactic(auto, unfolding(crate::specs::Opens::side_at))]
+#[tactic(auto, unfolding(crate::specs::Opens::side_at), using(sector_disk::proofs::Reading::one_read))]
 fn read_epoch<D: Disk>(disk: &mut D, layout: &Layout, side: Side) -> Result<Option<u64>, StoreFault>
     requires room { disk_size layout.now ≤ (D.view disk.old).sectors }
     ensures exact { (D.view disk.old).honest → Gives (λ epoch. epoch) result (side_at layout.now side (D.view disk.old).reads) }
     ensures kinds { IfErr result IsOfDisk }
     ensures looked { (D.view disk.old).honest → HasLooked (D.view disk.old) (D.view disk.new) }
+    ensures only_reads { before_reads (D.view disk.new).calls ≡ before_reads (D.view disk.old).calls }
     ensures fault { IsErrOf result DiskFault → HasFailed (D.view disk.old) (D.view disk.new) }
     ensures sectors { (D.view disk.new).sectors ≡ (D.view disk.old).sectors }
     ensures later { (D.view disk.old).failures ≤ (D.view disk.new).failures }
@@ -76,6 +78,7 @@ pub(crate) fn read_side<D: Disk>(disk: &mut D, layout: &Layout) -> Result<Side, 
     ensures exact { (D.view disk.old).honest → Gives (λ side. side) result (side_in layout.now (D.view disk.old).reads) }
     ensures kinds { IfErr result IsOfDisk }
     ensures looked { (D.view disk.old).honest → HasLooked (D.view disk.old) (D.view disk.new) }
+    ensures only_reads { before_reads (D.view disk.new).calls ≡ before_reads (D.view disk.old).calls }
     ensures fault { IsErrOf result DiskFault → HasFailed (D.view disk.old) (D.view disk.new) }
     ensures sectors { (D.view disk.new).sectors ≡ (D.view disk.old).sectors }
     ensures later { (D.view disk.old).failures ≤ (D.view disk.new).failures }

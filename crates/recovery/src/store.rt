@@ -1,7 +1,9 @@
 //! A register that is kept on a disk.
-ghost use Rattle.std.specs.Prelude.{◌≡◌, ◌≤◌, ◌<◌, IfErr, IfOk, Ok, true, false, Some, None, option_map};
+ghost use Rattle.std.specs.Prelude.{◌≡◌, ◌⊎◌, ◌≤◌, ◌<◌, ◌++◌, ◌∷◌, [], IfErr, IfOk, Ok, true, false, Some, None, option_map};
 ghost use Rattle.sector_disk.specs.Disk.{HasFailed, IsImageOf};
+ghost use Rattle.sector_disk.specs.Reading.{before_reads};
 ghost use Rattle.sector_disk.specs.Run.{LeavesOnly};
+ghost use Rattle.sector_disk.specs.declared.record.Call.TheVariants.{Sync};
 ghost use Rattle.checkpoint.specs.Layout.{disk_size, half_at, half_end};
 ghost use Rattle.checkpoint.specs.Standing.{InEach};
 ghost use Rattle.recovery.specs.declared.fault.StoreFault.TheVariants.{DiskFault, NoMemory};
@@ -50,6 +52,10 @@ impl<A: Allocator + Copy, D: Disk> Store<A, D> {
         ensures only { IfOk result (λ store. (D.view disk).honest → InEach (D.view store.disk) (λ image. image ≡ (D.view disk).reads)) }
         ensures left { IfOk result (λ store. (D.view disk).honest → LeavesOnly (D.view disk) (D.view store.disk) (IsImageOf (D.view disk))) }
         ensures left_by { IfErr result (λ e. (D.view disk).honest → LeavesOnly (D.view disk) (D.view e.1) (IsImageOf (D.view disk))) }
+
+        // Its calls of the disk are one sync, and behind it only reads. With a `DiskFault` there may be none.
+        ensures calls { IfOk result (λ store. before_reads (D.view store.disk).calls ≡ (D.view disk).calls ++ Sync ∷ []) }
+        ensures some_calls { IfErr result (λ e. (before_reads (D.view e.1).calls ≡ (D.view disk).calls ++ Sync ∷ []) ⊎ ((e.0 ≡ DiskFault) × ((D.view e.1).calls ≡ (D.view disk).calls))) }
 
         // Want of memory hides no fault of what was read: behind the rows, all records are judged before it is told.
         ensures memory { IfErr result (λ e. e.0 ≡ NoMemory → (D.view disk).honest → HasNoFaultYet A (D.view disk).reads (D.view e.1).calls) }

@@ -3,6 +3,7 @@
 use crate::made;
 use crate::runs::{begin, commit, commit_each, count, run, run_as_one, stands_for, stop};
 use centre_core::{Command, Refusal, Reply};
+use desk::{Desk, Service};
 use recovery::{Outcome, Store, StoreFault};
 use sector_disk::{Disk, Failing, FailingDisk, MemoryDisk};
 use std::alloc::Global;
@@ -370,6 +371,14 @@ fn numbers_are_used_up(rt: HostRuntime) -> Result<(), Fail> {
     Ok(())
 }
 
+/// What a desk says in the place of a reply.
+fn word<T: Desk>(alloc: Global, desk: &mut T, command: &Command<Global>) -> Option<Service> {
+    match desk.apply(alloc, command) {
+        Ok(_) => None,
+        Err(word) => Some(word),
+    }
+}
+
 /// Fills the half; then there is no checkpoint any more, and nothing is changed.
 fn are_epochs_used_up<D: Disk>(alloc: Global, store: &mut Store<Global, D>) -> bool {
     let Some(next) = made::expiry(20) else {
@@ -379,6 +388,7 @@ fn are_epochs_used_up<D: Disk>(alloc: Global, store: &mut Store<Global, D>) -> b
     filled
         && commit(alloc, store, &[&next]) == Err(StoreFault::EpochsUsedUp)
         && store.checkpoint() == Err(StoreFault::EpochsUsedUp)
+        && word(alloc, store, &next) == Some(Service::Epochs)
         && count(store) == Some(19)
 }
 

@@ -4,3 +4,4 @@ pub mod Looked
 pub mod Made
 pub mod Moments
 mod Order
+pub mod Reading

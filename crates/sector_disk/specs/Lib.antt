@@ -4,4 +4,5 @@ pub mod Example
 pub mod Failing
 pub mod Memory
 pub mod Past
+pub mod Reading
 pub mod Run

@@ -5,13 +5,17 @@
 mod fault;
 mod making;
 mod opening;
+mod progress;
 mod serving;
 mod showing;
 mod telling;
+mod watched;
 
 pub use fault::Fault;
 pub use making::{format_disk, layout_of};
 pub use opening::open_disk;
+pub use progress::Progress;
 pub use serving::{Served, TURNS, serve};
 pub use showing::{Shown, show};
 pub use telling::{tell_formatted, tell_station};
+pub use watched::{WatchedDesk, WatchedReader};

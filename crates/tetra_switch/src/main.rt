@@ -4,16 +4,17 @@
 
 use centre_core::Register;
 use command_line::{Refusal, Request, read_command_line};
-use console::{RunFault, run};
+use console::{Desk, RunFault, run};
 use recovery::Store;
 use registration::Limits;
 use sector_disk::Disk;
 use served_disk::{
-    Fault, TURNS, format_disk, layout_of, open_disk, serve, show, tell_formatted, tell_station,
+    Fault, Progress, TURNS, WatchedDesk, WatchedReader, format_disk, layout_of, open_disk, serve,
+    show, tell_formatted, tell_station,
 };
 use std::alloc::Global;
 use std::fs::File;
-use std::io::{ErrorKind, Write};
+use std::io::{ErrorKind, IsTerminal, Write};
 use std::process::ExitCode;
 use std::{env, fs, io};
 
@@ -80,12 +81,17 @@ fn carry_out<'a>(rt: &HostRuntime, request: &Request<'a>) -> Result<bool, Fault<
 
 /// Answers station 1's lines from standard input over a new register in memory.
 fn serve_lines<'a>(rt: &HostRuntime) -> Result<bool, Fault<'a>> {
-    let Ok(mut desk) = Register::new(rt.alloc(), LIMITS) else {
+    let Ok(register) = Register::new(rt.alloc(), LIMITS) else {
         return Err(Fault::Memory);
     };
-    let mut reader = rt.stdin();
+    let talks = rt.stdin().is_terminal() || rt.stdout().is_terminal();
+    let progress = Progress::new(rt, rt.stderr().is_terminal() && !talks);
+    let mut desk = WatchedDesk::new(register, &progress);
+    let mut reader = WatchedReader::new(rt.stdin(), &progress);
     let mut writer = io::writer(rt);
-    match run(rt.alloc(), &mut reader, &mut writer, 1, TURNS, &mut desk) {
+    let ended = run(rt.alloc(), &mut reader, &mut writer, 1, TURNS, &mut desk);
+    progress.finish(&ended);
+    match ended {
         Ok(ran) => Ok(ran.troubled),
         Err(RunFault::Read | RunFault::Write) => Err(Fault::File("-")),
         Err(RunFault::NoMemory) => Err(Fault::Memory),
@@ -121,23 +127,28 @@ fn printed<'a>(told: io::Result<()>, troubled: bool) -> Result<bool, Fault<'a>> 
 
 /// Serves a file's lines as station 1 over the register on a disk.
 fn run_file<'a>(rt: &HostRuntime, disk: &'a str, name: &'a str) -> Result<bool, Fault<'a>> {
-    let mut store = open_disk(rt, rt.alloc(), disk)?;
-    let ended = serve_file(rt, &mut store, name);
-    drop(store);
+    let store = open_disk(rt, rt.alloc(), disk)?;
+    let progress = Progress::new(rt, rt.stderr().is_terminal());
+    let mut desk = WatchedDesk::new(store, &progress);
+    let ended = serve_file(rt, &mut desk, name, &progress);
+    drop(desk);
     ended
 }
 
 /// Serves a file's lines as station 1, and prints the answers.
-fn serve_file<'a, D: Disk>(
+fn serve_file<'a, D: Desk>(
     rt: &HostRuntime,
-    store: &mut Store<Global, D>,
+    desk: &mut D,
     name: &'a str,
+    progress: &Progress<'_, HostRuntime>,
 ) -> Result<bool, Fault<'a>> {
-    let mut file = match File::open(rt, name) {
+    let file = match File::open(rt, name) {
         Ok(file) => file,
         Err(error) => return Err(not_read(error, name)),
     };
-    let served = serve(rt.alloc(), &mut file, 1, store);
+    let mut reader = WatchedReader::new(file, progress);
+    let served = serve(rt.alloc(), &mut reader, 1, desk);
+    progress.finish(&served.ended);
     let told = tell_station(&mut io::writer(rt), 1, name, &served.answers);
     match served.ended {
         Ok(ran) => printed(told, ran.troubled),

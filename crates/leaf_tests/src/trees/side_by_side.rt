@@ -1,3 +1,4 @@
+use crate::trees::changed::{let_go, raise};
 use crate::trees::counted::{longest, removed, write};
 use crate::trees::number::Number;
 use identity::Prefix;
@@ -18,6 +19,8 @@ enum Step {
     Remove(Prefix),
     Replace(Prefix, Number),
     Write(Prefix, Number),
+    Raise(Prefix, u64),
+    LetGo(Prefix),
     Longest(u64),
 }
 
@@ -27,12 +30,14 @@ fn made(number: u64) -> Step {
     let ids = [0, 0xffff_ffff_ffff, 0xaaaa_aaaa_aaaa, 0x8000_0000_0000, 1];
     let id = ids[(number >> 8) as usize % 5];
     let prefix = Prefix::of(id, lens[(number >> 16) as usize % 7]);
-    match number % 8 {
+    match number % 10 {
         0..=2 => Step::Insert(prefix, Number(number)),
         3 => Step::Take(prefix),
         4 => Step::Remove(prefix),
         5 => Step::Replace(prefix, Number(number)),
         6 => Step::Write(prefix, Number(number)),
+        7 => Step::Raise(prefix, number),
+        8 => Step::LetGo(prefix),
         _ => Step::Longest(id),
     }
 }
@@ -54,6 +59,9 @@ fn alike(tree: &mut Tree, list: &mut List, step: Step) -> bool {
         Step::Write(prefix, value) => {
             write::<Brand>(tree, &prefix, value, Blank::new(1)) == list.replace(&prefix, value)
         }
+        Step::Raise(prefix, more) => raise(tree, &prefix, more)
+            == raise_in_list(list, &prefix, more),
+        Step::LetGo(prefix) => let_go(tree, &prefix) == list.remove(&prefix),
         Step::Replace(prefix, value) => tree.replace(&prefix, value)
             == list.replace(&prefix, value),
         Step::Longest(id) => {
@@ -64,6 +72,11 @@ fn alike(tree: &mut Tree, list: &mut List, step: Step) -> bool {
                 )
         }
     }
+}
+
+fn raise_in_list(list: &mut List, prefix: &Prefix, more: u64) -> Option<Number> {
+    let before = list.get(prefix)?.0;
+    list.replace(prefix, Number(before.wrapping_add(more)))
 }
 
 fn found_in_tree(tree: &Tree, id: u64) -> Option<(Prefix, Number)> {

@@ -16,6 +16,7 @@ loop-first-init g c =
       sectors = refl;
       later = omega arith;
       looked = λ honest. not_looked _ honest;
+      only_reads = refl;
       limits = ap (λ (l : Loading). l.state.registered.limits) c.requires.begun;
       calls = no_look_yet _ _;
       rest = λ honest. rest_begun old.reads c.slot-first.result c.slot_len-sectors.result layout.limits c.args.loader.now c.requires.begun;
@@ -70,6 +71,7 @@ loop-first-preserved g c =
       looked = λ honest.
           let looked = so_far.looked honest in
           looked_on _ mid _ looked (c.in_ok-take_row.ensures.looked looked.honest);
+      only_reads = c.in_ok-take_row.ensures.only_reads ∙ so_far.only_reads;
       limits = c.in_ok-take_row.ensures.limits ∙ so_far.limits;
       calls = one_look_more old.calls mid.calls _ first k so_far.calls c.in_ok-take_row.ensures.calls;
       rest = λ honest.

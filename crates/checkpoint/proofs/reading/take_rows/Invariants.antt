@@ -1,5 +1,6 @@
 use Rattle.std.proofs.Common.{◌≡◌, ◌-◌, ◌≤◌, ◌++◌}
 use Rattle.sector_disk.specs.Disk.{View}
+use Rattle.sector_disk.specs.Reading.{before_reads}
 use Rattle.sector_disk.specs.Run.{HasLooked}
 use Rattle.image_rows.specs.Image.{slot_of}
 use Rattle.checkpoint.specs.Standing.{sectors_from}
@@ -16,6 +17,7 @@ invariant-loop-first g l =
       sectors : now.sectors ≡ old.sectors;
       later : old.failures ≤ now.failures;
       looked : old.honest → HasLooked old now;
+      only_reads : before_reads now.calls ≡ before_reads old.calls;
       limits : l.loader.state.registered.limits ≡ l.layout.limits;
       calls : now.calls ≡ old.calls ++ looks l.first l.read;
       rest : old.honest → rest_of old.reads l.first l.sectors l.read l.loader ≡ slot_of l.layout.limits (sectors_from old.reads l.first l.sectors);

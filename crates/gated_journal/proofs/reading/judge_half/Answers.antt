@@ -13,6 +13,7 @@ loop-after-init g c = record {
   capacity = omega arith;
   later = omega arith;
   looked = λ honest. not_looked _ honest;
+  only_reads = refl;
   so_far = λ honest. ([], front_none _);
 }
 
@@ -38,6 +39,7 @@ loop-after-preserved g c =
       looked = λ honest.
           let looked = c.loop-after.invariant.looked honest in
           looked_on _ mid _ looked ((c.in_ok-after.ensures.effect looked.honest).0);
+      only_reads = c.in_ok-after.ensures.only_reads ∙ c.loop-after.invariant.only_reads;
       so_far = λ honest.
           let looked = c.loop-after.invariant.looked honest in
           let read = rw (c.in-Some.is, looked.reads) at ((c.in_ok-after.ensures.effect looked.honest).1) in

@@ -1,5 +1,6 @@
 use Rattle.std.proofs.Common.{◌≡◌, ◌≤◌, ◌<◌, ◌-◌, List, vec_capacity}
 use Rattle.sector_disk.specs.Disk.{View}
+use Rattle.sector_disk.specs.Reading.{before_reads}
 use Rattle.sector_disk.specs.Run.{HasLooked}
 use Rattle.gated_journal.specs.Half.{Entry, half_of, with_front}
 use Rattle.gated_journal.proofs.reading.judge_half.Given as goal
@@ -14,6 +15,7 @@ invariant-loop-after g l =
       capacity : vec_capacity l.initial.buffer ≤ vec_capacity l.buffer;
       later : old.failures ≤ now.failures;
       looked : old.honest → HasLooked old now;
+      only_reads : before_reads now.calls ≡ before_reads old.calls;
       so_far : old.honest → (front : List (Entry g.row.A.Denot)) × (with_front front (half_of old.reads l.next l.end) ≡ half_of old.reads l.first l.end);
     }
 

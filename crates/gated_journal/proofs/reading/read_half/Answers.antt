@@ -29,6 +29,7 @@ loop-entries-preserved g c =
       looked = λ honest.
           let looked = c.loop-entries.invariant.looked honest in
           looked_on _ mid _ looked ((c.in_ok-commands.ensures.effect looked.honest).0);
+      only_reads = c.in_ok-commands.ensures.only_reads ∙ c.loop-entries.invariant.only_reads;
       so_far = λ honest.
           let looked = c.loop-entries.invariant.looked honest in
           let read = rw (c.in-Some.is, looked.reads) at ((c.in_ok-commands.ensures.effect looked.honest).1) in

@@ -1,5 +1,6 @@
 use Rattle.std.proofs.Common.{◌≡◌, ◌≤◌, ◌<◌, ◌-◌, vec_capacity}
 use Rattle.sector_disk.specs.Disk.{View}
+use Rattle.sector_disk.specs.Reading.{before_reads}
 use Rattle.sector_disk.specs.Run.{HasLooked}
 use Rattle.gated_journal.specs.Half.{half_of, with_front}
 use Rattle.gated_journal.specs.Reading.{entries_view}
@@ -15,6 +16,7 @@ invariant-loop-entries g l =
       capacity : vec_capacity l.initial.buffer ≤ vec_capacity l.buffer;
       later : old.failures ≤ now.failures;
       looked : old.honest → HasLooked old now;
+      only_reads : before_reads now.calls ≡ before_reads old.calls;
       so_far : old.honest → with_front (entries_view l.entries.items) (half_of old.reads l.next l.end) ≡ half_of old.reads l.first l.end;
     }
 

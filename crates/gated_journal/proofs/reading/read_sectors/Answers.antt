@@ -1,5 +1,7 @@
 use Rattle.std.proofs.Common.{◌≡◌, ◌+◌, ◌<◌, ℕ, List, ap, refl, ◌∙◌, arith}
 use Rattle.sector_disk.specs.Disk.{View, sector}
+use Rattle.sector_disk.specs.Reading.{before_reads}
+use Rattle.sector_disk.proofs.Reading.{one_read}
 use Rattle.sector_disk.proofs.Looked.{not_looked, looked_on, one_look}
 use Rattle.gated_journal.proofs.Steps.{data_more}
 use Rattle.gated_journal.proofs.reading.read_sectors.Goals as goal
@@ -11,6 +13,7 @@ loop-k-init g c = record {
   capacity = omega arith;
   later = omega arith;
   looked = λ honest. not_looked _ honest;
+  only_reads = refl;
   bytes = λ honest front. front;
 }
 
@@ -27,6 +30,7 @@ loop-k-preserved g c =
       looked = λ honest.
           let before = c.loop-k.invariant.looked honest in
           looked_on _ mid _ before (one_look _ _ _ _ _ (c.in_ok-read.ensures.effect inside before.honest));
+      only_reads = ap before_reads c.in_ok-read.ensures.called.made ∙ one_read mid.calls (c.args.at + c.loop-k.k) ∙ c.loop-k.invariant.only_reads;
       bytes = λ honest front.
           let before = c.loop-k.invariant.looked honest in
           let given = (c.in_ok-read.ensures.effect inside before.honest).given in

@@ -1,5 +1,6 @@
 use Rattle.std.proofs.Common.{◌≡◌, ◌+◌, ◌*◌, ◌-◌, ◌≤◌, vec_capacity, vec_len}
 use Rattle.sector_disk.specs.Disk.{View}
+use Rattle.sector_disk.specs.Reading.{before_reads}
 use Rattle.sector_disk.specs.Run.{HasLooked}
 use Rattle.gated_journal.specs.Half.{data_from}
 use Rattle.gated_journal.proofs.reading.read_sectors.Given as goal
@@ -14,5 +15,6 @@ invariant-loop-k g l =
       capacity : vec_capacity l.initial.buffer ≤ vec_capacity l.buffer;
       later : old.failures ≤ now.failures;
       looked : old.honest → HasLooked old now;
+      only_reads : before_reads now.calls ≡ before_reads old.calls;
       bytes : old.honest → l.initial.buffer.items ≡ data_from old.reads l.at l.from → l.buffer.items ≡ data_from old.reads l.at l.k;
     }

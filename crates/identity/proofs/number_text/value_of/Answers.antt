@@ -1,4 +1,4 @@
-use Rattle.std.proofs.Common.{arith, sym, ◌+◌}
+use Rattle.std.proofs.Common.{arith, sym}
 use Rattle.identity.proofs.NumberText.{all_of_number, all_take, number_digit, value_more, value_large}
 use Rattle.identity.proofs.number_text.value_of.Goals as goal
 

@@ -1,4 +1,4 @@
-use Rattle.std.proofs.Common.{◌≡◌, ◌≤◌, ◌<◌, take, length}
+use Rattle.std.proofs.Common.{◌≡◌, ◌≤◌, take, length}
 use Rattle.identity.specs.NumberText.{value}
 use Rattle.identity.proofs.number_text.value_of.Given as goal
 

@@ -1,4 +1,4 @@
-use Rattle.std.proofs.Common.{◌≡◌, ◌∙◌}
+use Rattle.std.proofs.Common.{◌≡◌}
 use Rattle.sector_disk.specs.Disk.{View}
 use Rattle.gated_journal.specs.Half.{half_of}
 use Rattle.recovery.specs.declared.fault.StoreFault.TheVariants.{NoMemory}

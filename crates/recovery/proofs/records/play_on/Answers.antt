@@ -1,5 +1,4 @@
-use Rattle.std.proofs.Common.{◌≡◌, ◌<◌, ◌∙◌, refl, sym, arith}
-use Rattle.std.proofs.lemmas.Result.{err_from_is_err_and}
+use Rattle.std.proofs.Common.{◌∙◌, refl, arith}
 use Rattle.sector_disk.specs.Disk.{View}
 use Rattle.sector_disk.proofs.Looked.{looked_on, not_looked}
 use Rattle.gated_journal.specs.Half.{half_of}
@@ -15,6 +14,7 @@ loop-init g c = record {
   sectors = refl;
   later = omega arith;
   looked = λ honest. not_looked _ honest;
+  only_reads = refl;
   begins = λ honest. begins_same _;
   so_far = λ honest. refl;
 }
@@ -49,6 +49,7 @@ loop-preserved g c =
       looked = λ honest.
           let looked = c.loop.invariant.looked honest in
           looked_on _ mid _ looked (c.play_next.ensures.looked looked.honest);
+      only_reads = c.play_next.ensures.only_reads ∙ c.loop.invariant.only_reads;
       begins = λ honest.
           let looked = c.loop.invariant.looked honest in
           let begins = rw (looked.reads, c.loop.invariant.end) at (c.play_next.ensures.begins looked.honest) in

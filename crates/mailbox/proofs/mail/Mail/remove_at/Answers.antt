@@ -1,4 +1,4 @@
-use Rattle.std.proofs.Common.{sym, ◌∙◌}
+use Rattle.std.proofs.Common.{◌∙◌}
 use Rattle.mailbox.proofs.Keeping.{kept_removed, kept_again, kept_in_order, none_left_out, place_removed}
 use Rattle.mailbox.proofs.NextItem.{places_rise}
 use Rattle.mailbox.proofs.mail.Mail.remove_at.Goals as goal

@@ -1,5 +1,7 @@
-use Rattle.std.proofs.Common.{◌≡◌, ◌<◌, ◌≤◌, length, Ok, ap, ◌∙◌, arith}
+use Rattle.std.proofs.Common.{◌≡◌, ◌<◌, ◌≤◌, length, Ok, ap, ◌∙◌, arith, inl, inr, refl}
 use Rattle.sector_disk.specs.Disk.{View}
+use Rattle.sector_disk.specs.Reading.{before_reads}
+use Rattle.sector_disk.proofs.Reading.{one_sync}
 use Rattle.checkpoint.specs.Layout.{disk_size}
 use Rattle.recovery.specs.Opened.{opened_view}
 use Rattle.recovery.specs.Opens.{Opening, opens}
@@ -39,3 +41,21 @@ returns-in-Ok-read_all-clause-left g c honest =
     let syncs = c.in-Ok.ensures.effect honest in
     let looked = c.in-Ok-read_all.ensures.looked syncs.honest in
     no_image_arises given synced now (Ok tt) (g.met.D.Disk.sound c.args.disk honest) syncs looked
+
+pub returns-in-Ok-read_all-clause-calls : goal.returns-in-Ok-read_all-clause-calls
+returns-in-Ok-read_all-clause-calls g c =
+    let given : View = g.D.Disk.view c.args.disk in
+    c.read_all.ensures.only_reads ∙ ap before_reads c.in-Ok.ensures.called.made ∙ one_sync given.calls
+
+pub returns-in-Err-clause-some_calls : goal.returns-in-Err-clause-some_calls
+returns-in-Err-clause-some_calls g c =
+    let given : View = g.D.Disk.view c.args.disk in
+    inl (c.read_all.ensures.only_reads ∙ ap before_reads c.in-Ok.ensures.called.made ∙ one_sync given.calls)
+
+pub returns-in_default-clause-some_calls : goal.returns-in_default-clause-some_calls
+returns-in_default-clause-some_calls g c =
+    let given : View = g.D.Disk.view c.args.disk in
+    elim c.in_default.ensures.called.tried [
+      | inl none ↦ inr (refl, none)
+      | inr one ↦ inl (ap before_reads one ∙ one_sync given.calls)
+    ]

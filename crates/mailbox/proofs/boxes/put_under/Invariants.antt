@@ -1,4 +1,0 @@
-use Rattle.mailbox.proofs.boxes.put_under.Given as goal
-
-abbrev pub ghosts-put_from : goal.ghosts-put_from
-ghosts-put_from g a = record { name = a.blank.name; parts = a.blank.parts }

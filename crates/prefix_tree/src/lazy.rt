@@ -1,0 +1,111 @@
+//! A tree that is made for its first value.
+
+ghost use Rattle.std.specs.Prelude.{◌≡◌, Option, IfOk, IsOk, IsSome, OnErr, OnOk};
+ghost use Rattle.std.specs.FinMap as map;
+ghost use Rattle.std.specs.Option.{option_copied};
+ghost use Rattle.prefix_tree.specs.Change.{with_value, Makes};
+
+use crate::{PrefixTree, TryCopy};
+use identity::Prefix;
+use std::alloc::{AllocError, Allocator};
+use std::marker::Model;
+
+/// A finite map from prefixes, kept as a `PrefixTree` that is made for the first value. So an empty one needs no
+/// allocator, and several of them can stand under one that is kept beside them.
+#[derive(Drop)]
+pub struct LazyTree<V, A: Allocator> {
+    tree: Option<PrefixTree<V, A>>,
+}
+
+impl<V, A: Allocator> Model for LazyTree<V, A> {
+    ghost use Rattle.prefix_tree.specs.Table.{PathMap, coded_table};
+    ghost use Rattle.std.specs.Prelude.{unwrap_or};
+    ghost use Rattle.std.specs.FinMap as map;
+
+    ghost Value = { PathMap V };
+
+    ghost coded = { coded_table V.code };
+
+    ghost view = { λ t. unwrap_or t.tree map.empty };
+}
+
+impl<V, A: Allocator> LazyTree<V, A> {
+    /// The empty map. It takes no memory.
+    pub fn new() -> Self
+        ensures { result ≡ map.empty }
+    {
+        LazyTree { tree: None }
+    }
+
+    /// The value at this very prefix.
+    pub fn find(&self, prefix: &Prefix) -> Option<&V>
+        ensures { option_copied result ≡ map.get self.now prefix.now }
+    {
+        match &self.tree {
+            Some(tree) => tree.find(prefix),
+            None => None,
+        }
+    }
+
+    /// Takes the value at a prefix out, with its node. It takes no memory.
+    pub fn take(&mut self, prefix: &Prefix) -> Option<V>
+    where
+        V: Drop,
+        ensures before { result ≡ map.get self.old prefix.now }
+        ensures removed { self.new ≡ map.remove self.old prefix.now }
+    {
+        let Some(tree) = &mut self.tree else {
+            return None;
+        };
+        tree.take(prefix)
+    }
+
+    /// What the closure answers of the value at a prefix, if there is one. The value becomes what the closure leaves
+    /// of it; where that is nothing, it goes with its node. It takes no memory, and goes down the tree once.
+    pub fn change<R, F: FnOnce(V) -> (R, Option<V>)>(
+        &mut self,
+        prefix: &Prefix,
+        change: F,
+    ) -> Option<R>
+    where
+        V: Drop,
+        requires { F.IsAlwaysCallable change }
+        ensures { (left : Option V) × (self.new ≡ with_value self.old prefix.now left) × Makes (F.post change) (map.get self.old prefix.now) result left }
+    {
+        let Some(tree) = &mut self.tree else {
+            return None;
+        };
+        tree.change(prefix, change)
+    }
+
+    /// Sets the value at a prefix, and answers the one before. It takes memory only where there was none; for want
+    /// of it nothing is changed.
+    pub fn insert(&mut self, alloc: &A, prefix: Prefix, value: V) -> Result<Option<V>, AllocError>
+    where
+        V: Drop,
+        A: Clone,
+        ensures before { IfOk result (λ before. before ≡ map.get self.old prefix) }
+        ensures ok { OnOk result (self.new ≡ map.insert self.old prefix value) }
+        ensures err { OnErr result (self.new ≡ self.old) }
+        ensures overwrites { IsSome (map.get self.old prefix) → IsOk result }
+    {
+        if let Some(tree) = &mut self.tree {
+            return tree.insert(prefix, value).or(Err(AllocError));
+        }
+        let mut tree = PrefixTree::new_in(alloc.clone()?);
+        let before = tree.insert(prefix, value).or(Err(AllocError))?;
+        self.tree = Some(tree);
+        Ok(before)
+    }
+}
+
+impl<V: TryCopy + Drop, A: Allocator + Clone> TryCopy for LazyTree<V, A> {
+    fn try_copy(&self) -> Result<Self, AllocError> {
+        match &self.tree {
+            Some(tree) => Ok(LazyTree {
+                tree: Some(tree.try_copy()?),
+            }),
+            None => Ok(LazyTree { tree: None }),
+        }
+    }
+}

@@ -1,0 +1,177 @@
+//! Which calls of a disk an opening, a commit and a format make, in order.
+
+use crate::made;
+use crate::runs::{commit, run};
+use centre_core::Command;
+use recovery::{Store, StoreFault, format};
+use sector_disk::{Disk, DiskError, MemoryDisk};
+use std::alloc::Global;
+use std::test::Fail;
+
+/// A call of a disk.
+#[derive(Clone, Copy, Debug, PartialEq, Eq, Drop)]
+enum Call {
+    Read(u64),
+    Write(u64),
+    Sync,
+}
+
+/// A disk that notes each call that the disk within has answered by `Ok`, the last one last. One for which there is no
+/// memory is left out.
+#[derive(Drop)]
+struct NotingDisk {
+    inner: MemoryDisk<Global>,
+    calls: Vec<Call, Global>,
+}
+
+impl NotingDisk {
+    fn new(alloc: Global, inner: MemoryDisk<Global>) -> Self {
+        NotingDisk {
+            inner,
+            calls: Vec::new(alloc),
+        }
+    }
+
+    /// Whether it got just these calls.
+    fn got(&self, calls: &[Call]) -> bool {
+        self.calls.as_slice() == calls
+    }
+}
+
+impl Disk for NotingDisk {
+    ghost use Rattle.sector_disk.specs.Memory.{memory_view};
+    ghost use Rattle.sector_disk.specs.Past.{memory_sound};
+
+    ghost view = { λ disk. memory_view disk.inner };
+
+    ghost sound = { λ disk honest. memory_sound disk.inner honest };
+
+    fn sectors(&self) -> u64 {
+        self.inner.sectors()
+    }
+
+    fn read(&mut self, at: u64, bytes: &mut [u8; 512]) -> Result<(), DiskError> {
+        self.inner.read(at, bytes)?;
+        let _ = self.calls.push(Call::Read(at));
+        Ok(())
+    }
+
+    fn write(&mut self, at: u64, bytes: &[u8; 512]) -> Result<(), DiskError> {
+        self.inner.write(at, bytes)?;
+        let _ = self.calls.push(Call::Write(at));
+        Ok(())
+    }
+
+    fn sync(&mut self) -> Result<(), DiskError> {
+        self.inner.sync()?;
+        let _ = self.calls.push(Call::Sync);
+        Ok(())
+    }
+
+    fn failures(&self) -> u64 {
+        self.inner.failures()
+    }
+}
+
+/// Eight writes and syncs: the header, root and gates of the sides, then the label.
+const FORMAT: [Call; 8] = [
+    Call::Write(3),
+    Call::Write(1),
+    Call::Write(2),
+    Call::Write(589),
+    Call::Write(628),
+    Call::Sync,
+    Call::Write(0),
+    Call::Sync,
+];
+
+fn is_format_noted(alloc: Global) -> Result<bool, Fail> {
+    let layout = made::layout().ok_or("a layout")?;
+    let mut disk = NotingDisk::new(alloc, MemoryDisk::new(alloc, 667, 99)?);
+    let ready = format::<Global, NotingDisk>(&mut disk, &layout) == Ok(());
+    Ok(ready && disk.got(&FORMAT))
+}
+
+#[test]
+fn a_format_writes_the_label_between_two_syncs(rt: HostRuntime) -> Result<(), Fail> {
+    assert!(rt; is_format_noted(rt.alloc())?);
+    Ok(())
+}
+
+/// A disk on which a rule is kept.
+fn with_rule(alloc: Global) -> Result<NotingDisk, Fail> {
+    let rule = made::rule().ok_or("a rule")?;
+    let (_, disk) = run(alloc, made::formatted(alloc)?, &[&rule]);
+    Ok(NotingDisk::new(alloc, disk))
+}
+
+/// A sync, the label, root A, its header, root B, the header again as a row, a gate, a data sector and the next gate.
+const OPENING: [Call; 9] = [
+    Call::Sync,
+    Call::Read(0),
+    Call::Read(1),
+    Call::Read(3),
+    Call::Read(2),
+    Call::Read(3),
+    Call::Read(589),
+    Call::Read(590),
+    Call::Read(591),
+];
+
+fn opened(alloc: Global, disk: NotingDisk) -> (Result<(), StoreFault>, NotingDisk) {
+    match Store::open(alloc, disk) {
+        Ok(store) => (Ok(()), store.into_disk()),
+        Err((fault, disk)) => (Err(fault), disk),
+    }
+}
+
+fn is_opening_noted(alloc: Global) -> Result<bool, Fail> {
+    let (answer, disk) = opened(alloc, with_rule(alloc)?);
+    Ok(answer == Ok(()) && disk.got(&OPENING))
+}
+
+/// An opening that is refused begins so too.
+fn is_refusal_noted(alloc: Global) -> Result<bool, Fail> {
+    let disk = NotingDisk::new(alloc, MemoryDisk::new(alloc, 667, 99)?);
+    let (answer, disk) = opened(alloc, disk);
+    Ok(answer == Err(StoreFault::Unformatted) && disk.got(&[Call::Sync, Call::Read(0)]))
+}
+
+#[test]
+fn an_opening_syncs_first_and_then_reads(rt: HostRuntime) -> Result<(), Fail> {
+    assert!(rt; is_opening_noted(rt.alloc())?);
+    assert!(rt; is_refusal_noted(rt.alloc())?);
+    Ok(())
+}
+
+/// The record behind the rule's and the next gate, closed; and, once they are safe, the record's gate.
+const COMMIT: [Call; 5] = [
+    Call::Write(592),
+    Call::Write(593),
+    Call::Sync,
+    Call::Write(591),
+    Call::Sync,
+];
+
+/// The calls behind those of the opening, once a command is answered.
+fn committed(alloc: Global, disk: NotingDisk, command: &Command<Global>) -> bool {
+    match Store::open(alloc, disk) {
+        Ok(mut store) => {
+            let answered = commit(alloc, &mut store, &[command]) == Ok(true);
+            let disk = store.into_disk();
+            answered && disk.calls.get(9..) == Some(COMMIT.as_slice())
+        }
+        Err((_, _)) => false,
+    }
+}
+
+fn is_commit_noted(alloc: Global) -> Result<bool, Fail> {
+    let attach = made::attach(alloc).ok_or("an attach")?;
+    Ok(committed(alloc, with_rule(alloc)?, &attach))
+}
+
+#[test]
+fn a_commit_opens_its_gate_between_two_syncs(rt: HostRuntime) -> Result<(), Fail> {
+    assert!(rt; is_commit_noted(rt.alloc())?);
+    Ok(())
+}

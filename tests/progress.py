@@ -1,0 +1,178 @@
+#!/usr/bin/env python3
+"""What the built program tells on a terminal while it serves: standard error is a pseudo terminal, and the lines come over a pipe,
+with a second between. Tells the cases that fail, and last 'N passed, M failed'.
+Usage: progress.py PROGRAM (the program itself, not a script that starts it)"""
+import contextlib
+import os
+import pty
+import re
+import subprocess
+import termios
+import threading
+import time
+
+from disk_files import file_fault, run_cases
+from running import SECONDS, Differs, compare
+
+# A second, and what a timer may be late
+PAUSE = 1.1
+FIRST = b'1 0 rule 234-14-0/24 1 99 1 3600\n2 10 mm 234-14-2001 7 10:260\n'
+FIRST_SAID = b'1 ok 1 -\n2 ok 2 8:56\n'
+# A query, an empty line, a comment, a bad line, and the last command again
+REST = b'count\n\n#\nx\n2 10 mm 234-14-2001 7 10:260'
+REST_SAID = b'count 2\nline 6 bad syntax\n2 kept 2 8:56\n'
+ALL_LINES, ALL_ACCEPTED = 7, 2
+TOLD = re.compile(rb'\r(\d+) lines, (\d+) accepted')
+
+
+class Terminal:
+    """A pseudo terminal that echoes nothing, and all that is written to it."""
+
+    def __init__(self):
+        self.master, self.slave = pty.openpty()
+        modes = termios.tcgetattr(self.slave)
+        modes[3] &= ~termios.ECHO
+        termios.tcsetattr(self.slave, termios.TCSANOW, modes)
+        self.text = b''
+        self.reading = threading.Thread(target=self.read)
+        self.reading.start()
+
+    def read(self):
+        with contextlib.suppress(OSError):
+            while piece := os.read(self.master, 4096):
+                self.text += piece
+
+    def ends(self):
+        """Nobody has it open any more: all that was written to it."""
+        os.close(self.slave)
+        self.reading.join(SECONDS)
+        os.close(self.master)
+        return self.text
+
+
+def judged(text, lines, accepted, err=b''):
+    """The figures never go down, the last ones are these, and their line ends; then comes a fault."""
+    err = err.replace(b'\n', b'\r\n')
+    if not text.endswith(b'\r\n' + err):
+        raise Differs(f'the terminal {text!r}, wanted an end of the line, and {err!r}')
+    told = text[:len(text) - len(err) - 2]
+    figures = [tuple(map(int, one)) for one in TOLD.findall(told)]
+    compare('the terminal', told, b''.join(b'\r%d lines, %d accepted' % one for one in figures))
+    compare('figures', figures, sorted(figures))
+    compare('the last figures', figures[-1:], [(lines, accepted)])
+    if len(figures) < 2:
+        raise Differs(f'the figures were told at the end alone: {text!r}')
+
+
+def serving(place, words, pieces, stdin=subprocess.DEVNULL, **how):
+    """Starts the program, and sends it the pieces with a second between; gives the output and the status."""
+    with subprocess.Popen([*place.command, *words], cwd=place.folder, stdin=stdin, stdout=subprocess.PIPE, **how) as program:
+        lines = program.stdin or open(place.path('a.txt'), 'wb', buffering=0)
+        with contextlib.suppress(BrokenPipeError), lines:
+            for piece in pieces:
+                lines.write(piece)
+                lines.flush()
+                time.sleep(PAUSE)
+        program.stdin = None
+        out, err = program.communicate(timeout=SECONDS)
+        return out, err, program.returncode
+
+
+def piped(place):
+    place.format()
+    os.mkfifo(place.path('a.txt'))
+
+
+def over_a_disk(place):
+    piped(place)
+    terminal = Terminal()
+    ended = serving(place, ['run', 'd.img', 'a.txt'], [FIRST, REST], stderr=terminal.slave)
+    text = terminal.ends()
+    compare('output and status', ended, (b'station 1 a.txt\n' + FIRST_SAID + REST_SAID, None, 1))
+    judged(text, ALL_LINES, ALL_ACCEPTED)
+
+
+def over_standard_input(place):
+    terminal = Terminal()
+    ended = serving(place, [], [FIRST, REST], stdin=subprocess.PIPE, stderr=terminal.slave)
+    text = terminal.ends()
+    compare('output and status', ended, (FIRST_SAID + REST_SAID, None, 1))
+    judged(text, ALL_LINES, ALL_ACCEPTED)
+
+
+def no_terminal(place):
+    piped(place)
+    ended = serving(place, ['run', 'd.img', 'a.txt'], [FIRST, REST], stderr=subprocess.PIPE)
+    compare('output, standard error and status', ended, (b'station 1 a.txt\n' + FIRST_SAID + REST_SAID, b'', 1))
+    ended = serving(place, [], [FIRST, REST], stdin=subprocess.PIPE, stderr=subprocess.PIPE)
+    compare('output, standard error and status', ended, (FIRST_SAID + REST_SAID, b'', 1))
+
+
+def less_than_a_second(place):
+    place.format()
+    place.write('a.txt', FIRST)
+    terminal = Terminal()
+    program = subprocess.run([*place.command, 'run', 'd.img', 'a.txt'], cwd=place.folder, stdin=subprocess.DEVNULL,
+                             stdout=subprocess.PIPE, stderr=terminal.slave, timeout=SECONDS)
+    compare('the terminal', terminal.ends(), b'')
+    compare('output', program.stdout, b'station 1 a.txt\n' + FIRST_SAID)
+
+
+def a_dialogue(place):
+    """Where the answers, or the lines, stand on a terminal too, nothing is mixed into them."""
+    terminal = Terminal()
+    with subprocess.Popen(place.command, stdin=subprocess.PIPE, stdout=terminal.slave, stderr=terminal.slave) as program:
+        for piece in FIRST, REST:
+            program.stdin.write(piece)
+            program.stdin.flush()
+            time.sleep(PAUSE)
+        program.communicate(timeout=SECONDS)
+    compare('the terminal', terminal.ends(), (FIRST_SAID + REST_SAID).replace(b'\n', b'\r\n'))
+    terminal = Terminal()
+    with subprocess.Popen(place.command, stdin=terminal.slave, stdout=subprocess.PIPE, stderr=terminal.slave) as program:
+        for piece in FIRST, REST + b'\n\4':
+            os.write(terminal.master, piece)
+            time.sleep(PAUSE)
+        out, _ = program.communicate(timeout=SECONDS)
+    compare('the terminal', terminal.ends(), b'')
+    compare('output', out, FIRST_SAID + REST_SAID)
+
+
+def a_terminal_that_goes(place):
+    """What can't be told changes nothing."""
+    piped(place)
+    master, slave = pty.openpty()
+    with subprocess.Popen([*place.command, 'run', 'd.img', 'a.txt'], cwd=place.folder, stdin=subprocess.DEVNULL,
+                          stdout=subprocess.PIPE, stderr=slave) as program:
+        os.close(slave)
+        with open(place.path('a.txt'), 'wb', buffering=0) as lines:
+            lines.write(FIRST)
+            os.close(master)
+            time.sleep(PAUSE)
+            lines.write(REST)
+        out, _ = program.communicate(timeout=SECONDS)
+    compare('status', program.returncode, 1)
+    compare('output', out, b'station 1 a.txt\n' + FIRST_SAID + REST_SAID)
+
+
+def a_fault_behind_it(place):
+    """A full output: the fault's line comes behind the figures."""
+    piped(place)
+    terminal = Terminal()
+    with open('/dev/full', 'wb') as full, subprocess.Popen(
+            [*place.command, 'run', 'd.img', 'a.txt'], cwd=place.folder, stdin=subprocess.DEVNULL, stdout=full, stderr=terminal.slave) as program:
+        with open(place.path('a.txt'), 'wb', buffering=0) as lines:
+            for piece in FIRST, REST:
+                lines.write(piece)
+                time.sleep(PAUSE)
+        compare('status', program.wait(SECONDS), 4)
+    judged(terminal.ends(), ALL_LINES, ALL_ACCEPTED, file_fault('-'))
+
+
+CASES = [
+    over_a_disk, over_standard_input, no_terminal, less_than_a_second, a_dialogue, a_terminal_that_goes, a_fault_behind_it,
+]
+
+
+if __name__ == '__main__':
+    run_cases(__doc__, CASES)
