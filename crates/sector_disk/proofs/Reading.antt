@@ -1,8 +1,6 @@
 -- Calls behind others.
-use Rattle.std.proofs.Common.{◌≡◌, ℕ, List, [], ◌∷◌, ◌++◌, Result, Ok, Err, refl, ap, ◌∙◌, inl, inr}
-use Rattle.sector_disk.specs.Disk.{View, IsCalled}
+use Rattle.std.proofs.Common.{◌≡◌, ℕ, List, [], ◌∷◌, ◌++◌, refl, ap, ◌∙◌}
 use Rattle.sector_disk.specs.Reading.{before_reads, unless_last_read}
-use Rattle.sector_disk.specs.declared.disk.DiskError.{DiskError}
 use Rattle.sector_disk.specs.declared.record.Call.{Call}
 use Rattle.sector_disk.specs.declared.record.Call.TheVariants.{Read, Sync, Write}
 
@@ -23,11 +21,3 @@ pub one_sync : (calls : List Call) → before_reads (calls ++ Sync ∷ []) ≡ c
 unfolding before_reads
 one_sync [] = refl
 one_sync (call ∷ calls) = ap (unless_last_read call) (one_sync calls) ∙ before_a_sync call calls
-
--- one read, which may fail
-pub tried_read : (old new : View) (at : ℕ) (result : Result Unit DiskError) → IsCalled old new (Read at) result → before_reads new.calls ≡ before_reads old.calls
-tried_read old new at (Ok u) called = ap before_reads called.made ∙ one_read old.calls at
-tried_read old new at (Err e) called = elim called.tried [
-  | inl none ↦ ap before_reads none
-  | inr one ↦ ap before_reads one ∙ one_read old.calls at
-]
