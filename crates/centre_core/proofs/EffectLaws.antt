@@ -1,14 +1,14 @@
 -- What holds of every state holds after what a rule, a location update, a detach and groups make of it.
-use Rattle.std.proofs.Common.{◌≡◌, ℕ, List, refl, sym, subst, ap, ◌∙◌, Option, None}
+use Rattle.std.proofs.Common.{◌≡◌, ℕ, false, List, refl, sym, subst, ap, ◌∙◌, Option, None}
 use Rattle.identity.specs.Path.{Path}
 use Rattle.mm_pdus.specs.declared.update.LocationUpdateType.{LocationUpdateType}
 use Rattle.mm_pdus.specs.declared.group.GroupMode.{GroupMode}
 use Rattle.mm_pdus.specs.declared.group.GroupUp.{GroupUp}
 use Rattle.registration.specs.declared.rule.Rule.{Rule}
-use Rattle.registration.specs.Registered.{Registered, set_refusal, with_rule, without_rule, locate_refusal, located, detached}
+use Rattle.registration.specs.Registered.{Registered, set_refusal, with_rule, without_rule, has_radio, room_refusal, located, detached}
 use Rattle.group_attach.specs.Attached.{Attached}
 use Rattle.group_attach.specs.Applied.{after_update, applied, apply_refusal}
-use Rattle.group_attach.proofs.KeptLaws.{after_update_fits, after_update_known, applied_fits, applied_known, known_after}
+use Rattle.group_attach.proofs.KeptLaws.{after_update_fits, after_update_known, after_update_new, applied_fits, applied_known, known_after}
 use Rattle.mailbox.specs.Values.{Mailed}
 use Rattle.centre_core.specs.State.{State, Served, IsState}
 use Rattle.centre_core.specs.Step.{rule_set, rule_cleared, radio_located, radio_detached, groups_changed}
@@ -37,13 +37,13 @@ rule_cleared_change s prefix = record {
   state = λ h. (without_rule_within s.registered prefix h.0, h.1, h.2, h.3, h.4, h.5);
 }
 
-pub radio_located_change : (s : State) (itsi station area : ℕ) (update : LocationUpdateType) → locate_refusal s.registered itsi area update ≡ None → IsChange s (radio_located s itsi station area update)
+pub radio_located_change : (s : State) (itsi station area : ℕ) (update : LocationUpdateType) → room_refusal s.registered itsi ≡ None → IsChange s (radio_located s itsi station area update)
 radio_located_change s itsi station area update none = record {
   limits = refl;
   served = refl;
   count = refl;
   state = λ h. (
-    located_within s.registered itsi station area update none h.0,
+    located_within s.registered itsi station area none h.0,
     (
       after_update_fits s.groups itsi update h.1.0,
       after_update_known (located s.registered itsi station area) s.groups itsi update (known_after s.registered (located s.registered itsi station area) s.groups (located_keeps s.registered itsi station area) h.1.1),
@@ -92,10 +92,19 @@ rule_set_state s new prefix rule none e h = subst (λ r. IsState (record s { reg
 pub rule_cleared_state : (s : State) (new : Registered) (prefix : Path) → new ≡ without_rule s.registered prefix → IsState s → IsState (record s { registered = new })
 rule_cleared_state s new prefix e h = subst (λ r. IsState (record s { registered = r })) (sym e) ((rule_cleared_change s prefix).state h)
 
-pub radio_located_state : (s : State) (new : Registered) (groups : Attached) (itsi station area : ℕ) (update : LocationUpdateType) → locate_refusal s.registered itsi area update ≡ None → new ≡ located s.registered itsi station area → groups ≡ after_update s.groups itsi update → IsState s → IsState (record s { registered = new; groups = groups })
+pub radio_located_state : (s : State) (new : Registered) (groups : Attached) (itsi station area : ℕ) (update : LocationUpdateType) → room_refusal s.registered itsi ≡ None → new ≡ located s.registered itsi station area → groups ≡ after_update s.groups itsi update → IsState s → IsState (record s { registered = new; groups = groups })
 radio_located_state s new groups itsi station area update none e f h =
     subst (λ r. IsState (record s { registered = r; groups = groups })) (sym e)
     (subst (λ m. IsState (record s { registered = located s.registered itsi station area; groups = m })) (sym f) ((radio_located_change s itsi station area update none).state h))
+
+-- of a new radio no attachment ends
+pub new_located : (s : State) (itsi : ℕ) (update : LocationUpdateType) → IsState s → false ≡ has_radio s.registered itsi → s.groups ≡ after_update s.groups itsi update
+new_located s itsi update h new = sym (after_update_new s.registered s.groups itsi update h.1.1 (sym new))
+
+pub new_located_whole : (s : State) (new : Registered) (itsi station area : ℕ) (update : LocationUpdateType) → (room_refusal s.registered itsi ≡ None) × (new ≡ located s.registered itsi station area) → false ≡ has_radio s.registered itsi → IsState s
+    → (room_refusal s.registered itsi ≡ None) × (record s { registered = new } ≡ radio_located s itsi station area update)
+new_located_whole s new itsi station area update done is_new h =
+    (done.0, ap (λ r. record s { registered = r }) done.1 ∙ ap (λ m. record s { registered = located s.registered itsi station area; groups = m }) (new_located s itsi update h is_new))
 
 pub radio_detached_state : (s : State) (new : Registered) (itsi : ℕ) → new ≡ detached s.registered itsi → IsState s → IsState (record s { registered = new })
 radio_detached_state s new itsi e h = subst (λ r. IsState (record s { registered = r })) (sym e) ((radio_detached_change s itsi).state h)

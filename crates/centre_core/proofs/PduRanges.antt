@@ -6,7 +6,7 @@ use Rattle.std.specs.Result.{result_map_both}
 use Rattle.std.specs.List.{AllByRecursion, flat_map, filter_map, cons_option}
 use Rattle.std.proofs.lemmas.List.{length-append}
 use Rattle.identity.specs.Number.{num}
-use Rattle.identity.specs.NumberLaws.{length-num}
+use Rattle.identity.specs.Inside.NumberLaws.{length-num}
 use Rattle.identity.specs.Identity.{mcc_of, mnc_of, ssi_of}
 use Rattle.identity.proofs.Identities.{number_of_fields}
 use Rattle.mm_pdus.specs.declared.update.AcceptType.{AcceptType}

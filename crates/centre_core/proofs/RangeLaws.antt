@@ -11,7 +11,7 @@ use Rattle.std.specs.FinMap as finite
 use Rattle.std.proofs.lemmas.Bool.Decides.{nat_tests}
 use Rattle.std.proofs.lemmas.List.Elements.{All-nil, All-cons, All-append, All-filter, All-map, All-set, All-replicate, All-weaker}
 use Rattle.identity.specs.Path.{Path, path_cmp, id_path}
-use Rattle.identity.specs.PathLaws.{paths_total, paths_exact, length-id_path}
+use Rattle.identity.specs.Inside.PathLaws.{paths_total, paths_exact, length-id_path}
 use Rattle.prefix_tree.specs.Table.{NamesLongest}
 use Rattle.prefix_tree.proofs.Longest.{names_longest}
 use Rattle.mm_pdus.specs.declared.fault.MmFault.{MmFault}

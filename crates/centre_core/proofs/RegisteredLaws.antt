@@ -5,15 +5,14 @@ use Rattle.std.specs.Option.{is_some}
 use Rattle.std.specs.FinMap as map
 use Rattle.std.proofs.lemmas.Bool.Decides.{nat_tests}
 use Rattle.identity.specs.Path.{Path, path_cmp, id_path}
-use Rattle.identity.specs.PathLaws.{paths_total}
+use Rattle.identity.specs.Inside.PathLaws.{paths_total}
 use Rattle.prefix_tree.specs.Table.{PathMap}
-use Rattle.mm_pdus.specs.declared.update.LocationUpdateType.{LocationUpdateType}
 use Rattle.registration.specs.declared.limits.Limits.{Limits}
 use Rattle.registration.specs.declared.rule.Rule.{Rule}
 use Rattle.registration.specs.declared.radio.Radio.{Radio}
 use Rattle.registration.specs.declared.fault.RegFault.{RegFault}
 use Rattle.registration.specs.declared.fault.RegFault.TheVariants.{RulesFull, Congestion}
-use Rattle.registration.specs.Registered.{Registered, empty_registered, rule_of, radio_of, set_refusal, with_rule, without_rule, type_refusal, area_refusal, room_refusal, first_of_three, locate_refusal, located, detached_at, detached, absent}
+use Rattle.registration.specs.Registered.{Registered, empty_registered, radio_of, set_refusal, with_rule, without_rule, room_refusal, located, detached_at, detached, absent}
 use Rattle.centre_core.specs.State.{IsWithin}
 
 room : (known free : Bool) (n limit : ℕ) (full : RegFault) → free ≡ nat_lt n limit → (if known then None else (if free then None else Some full)) ≡ None → n ≤ limit → (if known then n else n + 1) ≤ limit
@@ -37,14 +36,8 @@ without_rule_within r prefix h =
     let fewer : map.len (map.remove r.rules prefix) ≤ map.len r.rules = subst (λ n. n ≤ map.len r.rules) (sym (map.len-remove paths_total r.rules prefix)) (one_less (is_some (map.get r.rules prefix)) (map.len r.rules)) in
     (omega (arith, fewer, h.0), h.1)
 
-none_of_three : (e f g : Option RegFault) → first_of_three e f g ≡ None → g ≡ None
-none_of_three (Some e) f g h = cc
-none_of_three None (Some f) g h = cc
-none_of_three None None g h = h
-
-pub located_within : (r : Registered) (itsi station area : ℕ) (update : LocationUpdateType) → locate_refusal r itsi area update ≡ None → IsWithin r → IsWithin (located r itsi station area)
-located_within r itsi station area update none h =
-    (h.0, room_for r.radios (id_path itsi) _ r.limits.radios Congestion (none_of_three (type_refusal update) (area_refusal (rule_of r itsi) area) (room_refusal r itsi) none) h.1)
+pub located_within : (r : Registered) (itsi station area : ℕ) → room_refusal r itsi ≡ None → IsWithin r → IsWithin (located r itsi station area)
+located_within r itsi station area none h = (h.0, room_for r.radios (id_path itsi) _ r.limits.radios Congestion none h.1)
 
 detached_at_within : (r : Registered) (itsi : ℕ) (radio : Option Radio) → radio_of r itsi ≡ radio → IsWithin r → IsWithin (detached_at r itsi radio)
 detached_at_within r itsi None e h = h

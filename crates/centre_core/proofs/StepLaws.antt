@@ -1,5 +1,5 @@
 -- What one command makes of a state.
-use Rattle.std.proofs.Common.{◌≡◌, ℕ, ◌+◌, ◌<◌, Bool, true, false, List, [], refl, ap, sym, Option, Some, None, Result, Ok, Err, arith}
+use Rattle.std.proofs.Common.{◌≡◌, ℕ, ◌+◌, ◌<◌, Bool, true, false, List, [], refl, Option, Some, None, Result, Ok, Err, arith}
 use Rattle.std.specs.Prelude.{◌==◌, nat_lt, if◌then◌else◌}
 use Rattle.std.specs.Option.{option_map}
 use Rattle.std.proofs.lemmas.Bool.Decides.{nat_tests}
@@ -9,6 +9,7 @@ use Rattle.mm_pdus.specs.declared.uplink.MmUp.TheVariants as up
 use Rattle.mm_pdus.specs.UplinkReading.{reading_up}
 use Rattle.registration.specs.declared.fault.RegFault.{RegFault}
 use Rattle.registration.specs.Registered.{set_refusal, locate_refusal, detach_refusal}
+use Rattle.registration.proofs.Refusals.{third_of_three}
 use Rattle.group_attach.specs.Applied.{apply_refusal}
 use Rattle.sds_tl.specs.declared.fault.SdsFault.{SdsFault}
 use Rattle.sds_tl.specs.declared.pdu.Head.{Head}
@@ -74,7 +75,7 @@ module _ {A : Type 0} (B : Type 0) where
 
   says_mm : (s : State) (c : Command A) (itsi area : ℕ) (read : Result (MmUp B) MmFault) → s.count < last_number → Says s c (λ _. false) [] (step_mm s c itsi area read)
   says_mm s c itsi area (Err fault) left = refl
-  says_mm s c itsi area (Ok (up.Demand update)) left = says_made s c _ _ _ _ _ (locate_refusal s.registered itsi area update) left (λ none. mail_left s _ refl (radio_located_change s itsi c.station area update none))
+  says_mm s c itsi area (Ok (up.Demand update)) left = says_made s c _ _ _ _ _ (locate_refusal s.registered itsi area update) left (λ none. mail_left s _ refl (radio_located_change s itsi c.station area update (third_of_three _ _ _ none)))
   says_mm s c itsi area (Ok up.Detach) left = says_made s c _ _ _ _ _ (detach_refusal s.registered itsi) left (λ none. mail_left s _ refl (radio_detached_change s itsi))
   says_mm s c itsi area (Ok (up.Groups mode items)) left = says_made s c _ _ _ _ _ (apply_refusal s.registered s.groups itsi mode items) left (λ none. mail_left s _ refl (groups_changed_change s itsi mode items none))
 

@@ -25,6 +25,7 @@ is_at_least sequence (Some last) = nat_le sequence last.sequence
 abbrev pub has_reached : State → ℕ → ℕ → Bool
 has_reached s station sequence = is_station s station && is_at_least sequence (kept_at s station)
 
+-- the reply accepts its command; a kept reply and a refusal do not
 abbrev pub is_acceptance : {B : Type 0} → Reply B → Bool
 is_acceptance (Accepted number pdu) = true
 is_acceptance (Kept number pdu) = false
@@ -54,9 +55,11 @@ module _ {A : Type 0} where
   abbrev pub accepts : State → Command A → Bool
   accepts s c = is_acceptance (step {B = A} s c).1
 
+  -- the state after the command
   abbrev pub next : State → Command A → State
   next s c = (step {B = A} s c).0
 
+  -- the state after the commands, one after another
   abbrev pub after : State → List (Command A) → State
   after s [] = s
   after s (c ∷ cs) = after (next s c) cs
@@ -72,6 +75,7 @@ module _ {A : Type 0} where
   names_in moment Expire m = is_expired moment m
   names_in moment (Delete key) m = is_at key m
 
+  -- the command, with its own moment and body, ends this message
   abbrev pub names : Command A → Waiting → Bool
   names c m = names_in c.moment c.body m
 
@@ -91,6 +95,7 @@ module _ {A : Type 0} where
   made_in s moment Expire = []
   made_in s moment (Delete key) = []
 
+  -- the messages that this command makes, if the state accepts it
   abbrev pub made : State → Command A → List Waiting
   made s c = made_in s c.moment c.body
 
@@ -108,5 +113,6 @@ module _ {A : Type 0} where
   fresh_from s done now (c ∷ cs) =
       cond (is_resend s done c) (fresh_from s (cond (accepts now c) (c ∷ done) done) (next now c) cs) (c ∷ fresh_from s (cond (accepts now c) (c ∷ done) done) (next now c) cs)
 
+  -- the commands that are no resends, in their turn from this state on
   abbrev pub fresh : State → List (Command A) → List (Command A)
   fresh s cs = fresh_from s [] s cs

@@ -44,6 +44,7 @@ module _ {A B : Type 0} where
   Replied s c t (Refused r) = t ≡ s
 
 module _ (A B : Type 0) where
+  -- every reply says so of the state after its command
   abbrev pub RepliesSay : Type 0
   RepliesSay = (s : State) (c : Command A) → Replied s c (step {B = B} s c).0 (step {B = B} s c).1
 

@@ -25,12 +25,15 @@ pub record IsAnswered (update : LocationUpdateType) : Type 0 where
   pub same : update_accepted accept ≡ update
   pub pdu : accept_pdu update ≡ Some (accept_text accept)
 
+-- each update whose type is not refused is answered so
 abbrev pub AcceptedAreAnswered : Type 0
 AcceptedAreAnswered = (update : LocationUpdateType) → type_refusal update ≡ None → IsAnswered update
 
+-- what holds of every state holds of an empty one
 abbrev pub EmptyIsState : Type 0
 EmptyIsState = (limits : Limits) → IsState (empty limits)
 
+-- each part of an empty state is in its range
 abbrev pub EmptyIsInRange : Type 0
 EmptyIsInRange = (limits : Limits) → StateInRange (empty limits)
 
@@ -39,9 +42,11 @@ abbrev pub KeepsMessages : Mailed → Mailed → Bool → (Waiting → Bool) →
 KeepsMessages old new accepted ends = (m : Waiting) → IsTrue (is_message m) → Contains old.items m → Contains new.items m ⊎ (IsTrue accepted × IsTrue (ends m))
 
 module _ (A : Type 0) where
+  -- what holds of every state still holds after a command
   abbrev pub StepKeepsState : Type 0
   StepKeepsState = (s : State) (c : Command A) → IsState s → IsState (next s c)
 
+  -- a state in its range is still in it after a command in its range
   abbrev pub StepKeepsRanges : Type 0
   StepKeepsRanges = (s : State) (c : Command A) → InRange c → StateInRange s → StateInRange (next s c)
 
@@ -98,18 +103,23 @@ module _ (A B : Type 0) where
   abbrev pub SameAgain : Type 0
   SameAgain = (c : Command A) → under A (under B c) ≡ c
 
+  -- it ends the same messages
   abbrev pub NamesAreSame : Type 0
   NamesAreSame = (c : Command A) (m : Waiting) → names (under B c) m ≡ names c m
 
+  -- it is accepted in the same states
   abbrev pub AcceptsAreSame : Type 0
   AcceptsAreSame = (s : State) (c : Command A) → accepts s (under B c) ≡ accepts s c
 
+  -- commands under another allocator lead to the same state
   abbrev pub AfterIsSame : Type 0
   AfterIsSame = (s : State) (cs : List (Command A)) → after s (map (under B) cs) ≡ after s cs
 
+  -- the same of them are no resends
   abbrev pub FreshIsSame : Type 0
   FreshIsSame = (s : State) (cs : List (Command A)) → fresh s (map (under B) cs) ≡ map (under B) (fresh s cs)
 
+  -- a history is one under another allocator too
   abbrev pub HistoriesAreSame : Type 0
   HistoriesAreSame = (base : State) (cs : List (Command A)) → IsHistory base cs → IsHistory base (map (under B) cs)
 

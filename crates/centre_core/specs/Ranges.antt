@@ -1,5 +1,6 @@
 -- What a command can hold.
 use Rattle.std.specs.Prelude.{◌<◌, ◌≤◌, ◌^◌, ℕ, length, Bool, List, Option, Some, None}
+use Rattle.identity.specs.BitsText.{most_bits}
 use Rattle.registration.specs.declared.rule.Rule.{Rule}
 use Rattle.mailbox.specs.Values.{KeyInRange}
 use Rattle.centre_core.specs.declared.command.Body.{Body}
@@ -10,10 +11,7 @@ use Rattle.centre_core.specs.Asked.{Asked}
 abbrev pub RuleInRange : Rule → Type 0
 RuleInRange rule = (rule.low ≤ rule.high) × (rule.high < 2 ^ 14) × (rule.keep < 2 ^ 32)
 
--- the most bits of a PDU
-abbrev pub most_bits : ℕ
-most_bits = 2048
-
+-- the bits of a PDU, if there is one, are at most 2,048
 abbrev pub IsShort : Option (List Bool) → Type 0
 IsShort None = Unit {0}
 IsShort (Some bits) = length bits ≤ most_bits

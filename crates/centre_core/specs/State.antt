@@ -16,6 +16,7 @@ pub record Served : Type 0 where
   pub number : ℕ
   pub pdu : Option (List Bool)
 
+-- how it is stored: its three fields, one after another
 abbrev pub coded_served : Coded Served
 coded_served =
     code_by (ℕ × (ℕ × Option (List Bool))) (coded× coded_ℕ (coded× coded_ℕ (coded_option (coded_list coded_bool))))
@@ -29,6 +30,7 @@ pub record State : Type 0 where
   pub served : List (Option Served)
   pub count : ℕ
 
+-- how a state is stored: its parts, one after another
 abbrev pub coded_state : Coded State
 coded_state =
     code_by (Registered × (Attached × (Mailed × (List (Option Served) × ℕ))))

@@ -10,7 +10,8 @@ use Rattle.registration.specs.declared.radio.Radio.{Radio}
 use Rattle.group_attach.specs.Attached.{Pair, Usage}
 use Rattle.sds_tl.specs.Syntax.{most_bits}
 use Rattle.mailbox.specs.Values.{Waiting, KeyInRange, latest_deadline}
-use Rattle.centre_core.specs.Ranges.{RuleInRange, most_bits as most_of_pdu}
+use Rattle.identity.specs.BitsText.{most_bits as most_of_pdu}
+use Rattle.centre_core.specs.Ranges.{RuleInRange}
 use Rattle.centre_core.specs.State.{State, Served}
 
 -- of each entry of a map this holds

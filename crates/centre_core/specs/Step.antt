@@ -41,6 +41,7 @@ use Rattle.centre_core.specs.declared.reply.Refusal.{Refusal}
 use Rattle.centre_core.specs.declared.reply.Refusal.TheVariants.{UnknownStation, OldSequence, NumbersUsedUp, Pdu, ShortData, Registration, Location, Groups, Mail}
 use Rattle.centre_core.specs.State.{State, Served, last_number}
 
+-- the register has a station of this number: they count from 1 to its limit
 abbrev pub is_station : State → ℕ → Bool
 is_station s station = nat_lt 0 station && nat_le station s.registered.limits.stations
 
@@ -72,18 +73,23 @@ acknowledge_pdu r itsi items = acknowledge_text false (answers r itsi items)
 abbrev pub rule_set : State → Path → Rule → State
 rule_set s prefix rule = record s { registered = with_rule s.registered prefix rule }
 
+-- the rule under the prefix goes
 abbrev pub rule_cleared : State → Path → State
 rule_cleared s prefix = record s { registered = without_rule s.registered prefix }
 
+-- the radio is present at the station and location area, and loses the attachments that the update ends
 abbrev pub radio_located : State → ℕ → ℕ → ℕ → LocationUpdateType → State
 radio_located s itsi station area update = record s { registered = located s.registered itsi station area; groups = after_update s.groups itsi update }
 
+-- the radio is no longer present; its attachments stay
 abbrev pub radio_detached : State → ℕ → State
 radio_detached s itsi = record s { registered = detached s.registered itsi }
 
+-- the attachments are those after the radio's group PDU
 abbrev pub groups_changed : State → ℕ → GroupMode → List GroupUp → State
 groups_changed s itsi mode items = record s { groups = applied s.registered s.groups itsi mode items }
 
+-- the mail is this, and all else is as it was
 abbrev pub mail_changed : State → Mailed → State
 mail_changed s mail = record s { mail = mail }
 
@@ -91,9 +97,11 @@ mail_changed s mail = record s { mail = mail }
 abbrev pub message_of : State → ℕ → Envelope → List Bool → Waiting
 message_of s moment e pdu = waiting_for s.registered (key_of e kind.Message) (record { number = s.count + 1; moment = moment }) pdu
 
+-- the item of a report, its PDU in the written form
 abbrev pub report_of : State → ℕ → Envelope → List Bool → Waiting
 report_of s moment e pdu = waiting_for s.registered (key_of e kind.Report) (record { number = s.count + 1; moment = moment }) (cleared pdu)
 
+-- who sent a short data PDU, whom it is for, and its message reference
 abbrev pub envelope : ℕ → ℕ → ℕ → Envelope
 envelope source destination reference = record { source = source; destination = destination; reference = reference }
 
@@ -105,11 +113,13 @@ members s group = map (λ a. a.itsi) (members_of s.groups group)
 abbrev pub copies_of : State → ℕ → GroupEnvelope → List Bool → List Waiting
 copies_of s moment e pdu = copies s.registered e (members s e.group) (record { number = s.count + 1; moment = moment }) pdu
 
+-- who sent a message to a group, the group, and the message reference
 abbrev pub group_envelope : ℕ → ℕ → ℕ → GroupEnvelope
 group_envelope source group reference = record { source = source; group = group; reference = reference }
 
 -- A and B are the allocators that a command's and a reply's bits are kept under. Nothing here depends on them.
 module _ {B : Type 0} where
+  -- the refusal of a location update: with a D-LOCATION UPDATE REJECT where there is a cause for one
   abbrev pub rejected : LocationUpdateType → RegFault → Option ℕ → Refusal B
   rejected update fault None = Registration fault
   rejected update fault (Some cause) = Location fault (reject_text update cause)
@@ -140,19 +150,24 @@ module _ {A B : Type 0} where
   step_made s c made pdu (Some refusal) = (s, Refused refusal)
   step_made s c made pdu None = (accepted made c pdu, Accepted (s.count + 1) pdu)
 
+  -- a rule is set, where it replaces one or there is room for it
   abbrev pub step_rule : State → Command A → Path → Rule → State × Reply B
   step_rule s c prefix rule = step_made s c (rule_set s prefix rule) None (option_map Registration (set_refusal s.registered prefix))
 
+  -- the rule under a prefix goes; this is never refused
   abbrev pub step_clear : State → Command A → Path → State × Reply B
   step_clear s c prefix = step_made s c (rule_cleared s prefix) None None
 
+  -- a location update: the radio is located and gets a D-LOCATION UPDATE ACCEPT, or the update is refused
   abbrev pub step_locate : State → Command A → ℕ → ℕ → LocationUpdateType → State × Reply B
   step_locate s c itsi area update =
       step_made s c (radio_located s itsi c.station area update) (accept_pdu update) (option_map (location_refusal update) (locate_refusal s.registered itsi area update))
 
+  -- a radio detaches, and the reply has no PDU; refused where the radio is not present
   abbrev pub step_detach : State → Command A → ℕ → State × Reply B
   step_detach s c itsi = step_made s c (radio_detached s itsi) None (option_map Registration (detach_refusal s.registered itsi))
 
+  -- a group PDU of a radio: its items are applied and acknowledged, or all of it is refused
   abbrev pub step_groups : State → Command A → ℕ → GroupMode → List GroupUp → State × Reply B
   step_groups s c itsi mode items =
       step_made s c (groups_changed s itsi mode items) (Some (acknowledge_pdu s.registered itsi items)) (option_map Groups (apply_refusal s.registered s.groups itsi mode items))
@@ -168,12 +183,15 @@ module _ {A B : Type 0} where
   abbrev pub step_mail : State → Command A → Mailed → Option MailFault → State × Reply B
   step_mail s c mail refusal = step_made s c (mail_changed s mail) None (option_map Mail refusal)
 
+  -- a message waits as the last item, or is refused
   abbrev pub step_message : State → Command A → Waiting → State × Reply B
   step_message s c w = step_mail s c (posted s.mail w) (post_refusal s.registered s.mail w)
 
+  -- a report waits as the last item, and its message goes where it ends that, or it is refused
   abbrev pub step_report : State → Command A → Envelope → ℕ → Waiting → State × Reply B
   step_report s c e status w = step_mail s c (reported s.mail e status w) (report_refusal s.registered s.mail e status w)
 
+  -- an acknowledgement: the report that it answers goes, or it is refused
   abbrev pub step_ack : State → Command A → Envelope → State × Reply B
   step_ack s c e = step_mail s c (acknowledged s.mail e) (ack_refusal s.registered s.mail e)
 
@@ -185,6 +203,7 @@ module _ {A B : Type 0} where
       step_report s c (envelope source destination reference) status (report_of s c.moment (envelope source destination reference) pdu)
   step_sds s c source destination pdu (Ok (heads.Ack status reference)) = step_ack s c (envelope source destination reference)
 
+  -- the copies of a message to a group wait, all of them, or the message is refused
   abbrev pub step_copies : State → Command A → GroupEnvelope → List Waiting → State × Reply B
   step_copies s c e ws = step_mail s c (group_posted s.mail ws) (group_refusal s.registered s.mail e ws)
 
@@ -193,15 +212,19 @@ module _ {A B : Type 0} where
   step_group_sds s c source group pdu (Err fault) = (s, Refused (ShortData fault))
   step_group_sds s c source group pdu (Ok reference) = step_copies s c (group_envelope source group reference) (copies_of s c.moment (group_envelope source group reference) pdu)
 
+  -- the item at the key was sent, and goes where it waits for no answer; refused where nothing waits there
   abbrev pub step_sent : State → Command A → Key → State × Reply B
   step_sent s c key = step_mail s c (confirmed s.mail key) (sent_refusal s.registered s.mail key)
 
+  -- what has ended by the command's moment goes; this is never refused
   abbrev pub step_expire : State → Command A → State × Reply B
   step_expire s c = step_mail s c (expired s.mail c.moment) None
 
+  -- what waits at the key goes; refused where nothing does
   abbrev pub step_delete : State → Command A → Key → State × Reply B
   step_delete s c key = step_mail s c (deleted s.mail key) (delete_refusal s.mail key)
 
+  -- each kind of body in its own way; a PDU is read first
   abbrev pub step_body : State → Command A → Body A → State × Reply B
   step_body s c (RuleSet prefix rule) = step_rule s c prefix rule
   step_body s c (RuleClear prefix) = step_clear s c prefix

@@ -4,14 +4,11 @@ ghost use Rattle.centre_core.specs.Ranges.{IsShort, pdu_of, BodyInRange, RuleInR
 ghost use Rattle.centre_core.specs.Same.{body_under, under};
 
 use crate::last_accepted::bits_copy;
-use identity::{Bits, Gtsi, Itsi, Prefix};
+use identity::{Bits, Gtsi, Itsi, MOST_BITS, Prefix};
 use mailbox::Key;
 use registration::{LocationArea, Rule};
 use std::alloc::{AllocError, Allocator};
 use std::marker::Model;
-
-/// The most bits of a PDU.
-const MOST_BITS: usize = 2048;
 
 /// What a station asks of the register.
 #[derive(Drop)]

@@ -3,15 +3,16 @@
 mod group_messages;
 mod messages;
 
-ghost use Rattle.std.specs.Prelude.{◌≡◌, ◌<◌, ◌≤◌, ◌+◌, IfOk, OnErr, IsTrue, IsSome, None};
+ghost use Rattle.std.specs.Prelude.{◌≡◌, ◌<◌, ◌≤◌, ◌+◌, IfErr, IfOk, OnErr, OnOk, IsTrue, IsSome, None, unwrap_or};
 ghost use Rattle.std.specs.Option.{is_none};
 ghost use Rattle.mm_pdus.specs.Values.{accept_of};
 ghost use Rattle.mm_pdus.specs.UplinkReading.{reading_up};
-ghost use Rattle.registration.specs.Registered.{locate_refusal};
+ghost use Rattle.registration.specs.Registered.{locate_refusal, room_refusal};
+ghost use Rattle.registration.specs.declared.fault.RegFault.TheVariants.{NoMemory};
 ghost use Rattle.group_attach.specs.Attached.{groups_of};
 ghost use Rattle.group_attach.specs.Applied.{apply_refusal};
 ghost use Rattle.centre_core.specs.State.{empty, IsState};
-ghost use Rattle.centre_core.specs.Step.{step, step_new, step_mm, step_rule, step_clear, step_locate, step_detach, step_groups, accept_pdu, acknowledge_pdu, accepted, IsOfStation, CanBeAccepted};
+ghost use Rattle.centre_core.specs.Step.{step, step_new, step_mm, step_rule, step_clear, step_locate, step_detach, step_groups, accept_pdu, acknowledge_pdu, accepted, radio_located, IsOfStation, CanBeAccepted};
 ghost use Rattle.centre_core.specs.declared.command.Body.TheVariants.{Mm};
 ghost use Rattle.centre_core.specs.Memory.{needs_rule, needs_update, needs_body, needs_new, needs_memory};
 ghost use Rattle.centre_core.specs.Tell.{AsksForList, present_members, tell};
@@ -26,7 +27,7 @@ use identity::{Bits, Gtsi, Itsi, Prefix};
 use mailbox::Mail;
 use mm_pdus::{GroupItems, GroupMode, GroupUp, LocationUpdateType, MmFault, MmUp, read_up};
 use prefix_tree::TryCopy;
-use registration::{Limits, LocationArea, Registry, Rule};
+use registration::{Limits, LocationArea, RegFault, Registry, Rule};
 use std::alloc::{AllocError, Allocator};
 use std::marker::Model;
 
@@ -336,14 +337,34 @@ impl<A: Allocator + Clone> Tables<A> {
         ensures err { OnErr result (self.new ≡ self.old) }
         ensures memory { OnErr result (IsTrue (needs_update (locate_refusal self.old.registered itsi area update))) }
     {
-        if let Some(fault) = self.registry.locate_refusal(itsi, area, update) {
+        if let Some(fault) = self.registry.service_refusal(itsi, area, update) {
             return Ok(Reply::Refused(location_refusal(alloc, update, fault)?));
         }
         let (kept, pdu) = self.accept_pdus(alloc, update)?;
-        self.registry.place(itsi, command.station, area)?;
-        self.groups.on_update(itsi, update);
+        if let Err(fault) = self.place(itsi, command.station, area, update) {
+            return Ok(Reply::Refused(location_refusal(alloc, update, fault)?));
+        }
         let number = self.accept(command, kept);
         Ok(Reply::Accepted { number, pdu })
+    }
+
+    // A radio that is served is located, and its update ends attachments, of which a new radio has none. No more is
+    // asked than whether there is room for it.
+    fn place(
+        &mut self,
+        itsi: Itsi,
+        station: u16,
+        area: LocationArea,
+        update: LocationUpdateType,
+    ) -> Result<(), RegFault>
+        ensures ok { OnOk result ((room_refusal self.old.registered itsi ≡ None) × (self.new ≡ radio_located self.old itsi station area update)) }
+        ensures err { IfErr result (λ e. (e ≡ unwrap_or (room_refusal self.old.registered itsi) NoMemory) × (self.new ≡ self.old)) }
+    {
+        let known = self.registry.place(itsi, station, area)?;
+        if known {
+            self.groups.on_update(itsi, update);
+        }
+        Ok(())
     }
 
     // A location update's acceptance, once to keep and once to answer; none for a type that is never

@@ -1,7 +1,8 @@
 -- An image is written behind a closed root.
 use Rattle.std.proofs.Common.{◌≡◌, ◌⊎◌, inl, inr, ℕ, zero, suc, ◌+◌, ◌-◌, ◌<◌, ◌≤◌, List, [], ◌∷◌, ◌++◌, length, Result, Ok, refl, sym, ap, ◌∙◌, arith}
 use Rattle.sector_disk.specs.Disk.{IsSound, View, HasSynced, sector}
-use Rattle.sector_disk.specs.Run.{HasFilled, IsTornImage, LeavesOnly}
+use Rattle.sector_disk.specs.Run.{IsTornImage, LeavesOnly}
+use Rattle.sector_disk.specs.Inside.Filling.{HasFilled}
 use Rattle.sector_disk.specs.declared.disk.DiskError.{DiskError}
 use Rattle.sector_disk.proofs.Moments.{durable_image, run_on, sync_on}
 use Rattle.registration.specs.declared.limits.Limits.{Limits}
@@ -17,7 +18,7 @@ use Rattle.checkpoint.specs.declared.layout.Layout.{Layout}
 use Rattle.checkpoint.specs.declared.side.Side.{Side}
 use Rattle.checkpoint.specs.Layout.{half_at, other_of, root_at, slot_at, slot_size}
 use Rattle.checkpoint.specs.Calls.{row_sector}
-use Rattle.checkpoint.specs.Closed.{IsShut}
+use Rattle.checkpoint.specs.Inside.Closed.{IsShut}
 use Rattle.checkpoint.specs.Standing.{Base, Held, InEach, IsReady, Stands, sectors_from}
 use Rattle.checkpoint.proofs.Apart.{lies}
 use Rattle.checkpoint.proofs.Spared.{closed_as, left_each, slot_torn, stands_on}

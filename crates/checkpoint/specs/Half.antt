@@ -2,6 +2,14 @@
 use Rattle.std.specs.Prelude.{ℕ, ◌≤◌}
 
 -- the fewest and the most sectors of a half
+abbrev pub fewest_sectors : ℕ
+fewest_sectors = 38
+
+-- the most sectors of a half
+abbrev pub most_sectors : ℕ
+most_sectors = 65536
+
+-- a half has so many
 pub record IsHalfSize (journal : ℕ) : Type 0 where
-  pub fewest : 38 ≤ journal
-  pub most : journal ≤ 65536
+  pub fewest : fewest_sectors ≤ journal
+  pub most : journal ≤ most_sectors

@@ -4,6 +4,7 @@ use Rattle.checkpoint.specs.declared.layout.Layout.{Layout}
 use Rattle.checkpoint.specs.declared.side.Side.{Side}
 use Rattle.checkpoint.specs.declared.side.Side.TheVariants as side
 
+-- the other one of the two sides
 abbrev pub other_of : Side → Side
 other_of side.A = side.B
 other_of side.B = side.A
@@ -12,9 +13,11 @@ other_of side.B = side.A
 abbrev pub slot_size : Layout → ℕ
 slot_size layout = 1 + layout.limits.rules + layout.limits.radios + layout.limits.mail + layout.limits.stations
 
+-- the sector of the label
 abbrev pub label_at : ℕ
 label_at = 0
 
+-- the sector of a side's root
 abbrev pub root_at : Side → ℕ
 root_at side.A = 1
 root_at side.B = 2

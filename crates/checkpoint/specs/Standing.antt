@@ -24,6 +24,7 @@ Base = ℕ × State
 abbrev pub IsInSlot : Layout → Side → Base → List (List ℕ) → Type 0
 IsInSlot layout side base image = slot_of layout.limits (sectors_from image (slot_at layout side) (slot_size layout)) ≡ Ok base
 
+-- the epoch of a header; no other row has one
 abbrev pub epoch_of : Option Row → Option ℕ
 epoch_of (Some (HeaderRow h)) = Some h.epoch
 epoch_of (Some (RuleRow prefix rule)) = None
@@ -49,6 +50,7 @@ abbrev pub Held : Type 0 → Type 0
 Held A = List (Entry A) × ℕ
 
 module _ {A : Type 0} where
+  -- the records that a side's half holds, and its first closed gate
   abbrev pub IsInHalf : Layout → Side → Held A → List (List ℕ) → Type 0
   IsInHalf layout side held image = half_of image (half_at layout side) (half_end layout side) ≡ Ok held
 

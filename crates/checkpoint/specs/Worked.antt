@@ -13,6 +13,7 @@ pub record HasWorkedLimits (layout : Layout) : Type 0 where
   pub stations : layout.limits.stations ≡ 4
   pub journal : layout.journal ≡ 39
 
+-- how large each slot is, where each slot and each half begins, how many sectors there are in all, and the bytes of the label
 pub record IsWorkedDisk (layout : Layout) : Type 0 where
   pub slot : slot_size layout ≡ 293
   pub slot_a : slot_at layout side.A ≡ 3

@@ -7,7 +7,7 @@ ghost use Rattle.gated_journal.specs.Half.{IsClosed};
 ghost use Rattle.checkpoint.specs.Layout.{disk_size, other_of, root_at};
 ghost use Rattle.checkpoint.specs.Standing.{Base, Held, InEach, Stands};
 ghost use Rattle.checkpoint.specs.Calls.{close_calls, root_calls};
-ghost use Rattle.checkpoint.specs.Closed.{IsShut};
+ghost use Rattle.checkpoint.specs.Inside.Closed.{IsShut};
 
 use crate::{Layout, Side};
 use sector_disk::{Disk, DiskError};

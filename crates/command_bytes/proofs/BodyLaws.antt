@@ -6,7 +6,8 @@ use Rattle.mailbox.specs.declared.key.Key.{Key}
 use Rattle.centre_core.specs.declared.command.Body.{Body}
 use Rattle.centre_core.specs.declared.command.Body.TheVariants.{RuleSet, RuleClear, Mm, Sds, GroupSds, Sent, Expire, Delete}
 use Rattle.centre_core.specs.Asked.{Asked}
-use Rattle.centre_core.specs.Ranges.{BodyInRange, most_bits}
+use Rattle.identity.specs.BitsText.{most_bits}
+use Rattle.centre_core.specs.Ranges.{BodyInRange}
 use Rattle.identity.specs.Packed.{AreBytes}
 use Rattle.command_bytes.specs.Fields.{◌>>=◌, big, number_at}
 use Rattle.command_bytes.specs.Text.{prefix_text, rule_text, bits_text, tag_of, body_text, command_text, IsCommand}

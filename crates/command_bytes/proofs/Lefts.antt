@@ -6,7 +6,7 @@ use Rattle.std.proofs.lemmas.List.{take_at, drop_at, take-append-drop, length-ap
 use Rattle.std.proofs.lemmas.Nat.{pow-add}
 use Rattle.std.proofs.Math.Nat.{pow-succ'}
 use Rattle.identity.specs.Number.{num, number}
-use Rattle.identity.specs.NumberLaws.{length-num, number-num, num-number, number-lt}
+use Rattle.identity.specs.Inside.NumberLaws.{length-num, number-num, num-number, number-lt}
 use Rattle.identity.specs.Packed.{AreBytes}
 use Rattle.command_bytes.specs.Fields.{◌>>=◌, big, left, number_at, front, left_at}
 use Rattle.command_bytes.proofs.Numbers.{number_takes, number_small, number_again}

@@ -10,7 +10,7 @@ use Rattle.std.proofs.lemmas.Nat.{shr_below}
 use Rattle.byteorder.specs.Endian.{big_number}
 use Rattle.byteorder.specs.Numbers.{big_from-lt}
 use Rattle.identity.specs.Number.{num, number}
-use Rattle.identity.specs.NumberLaws.{length-num, num-append, num-mod, take-num, drop-num, zeros_if, zeros_then, num-number}
+use Rattle.identity.specs.Inside.NumberLaws.{length-num, num-append, num-mod, take-num, drop-num, zeros_if, zeros_then, num-number}
 use Rattle.identity.specs.Packed.{AreBytes, bits_of}
 use Rattle.identity.proofs.Bytes.{length-bits_of}
 use Rattle.identity.proofs.SameBytes.{bytes_from_bits}

@@ -9,7 +9,8 @@ use Rattle.mailbox.specs.declared.key.Key.{Key}
 use Rattle.mailbox.specs.declared.key.Kind.{Kind}
 use Rattle.mailbox.specs.declared.key.Kind.TheVariants.{Message, Report}
 use Rattle.mailbox.specs.Values.{KeyInRange}
-use Rattle.centre_core.specs.Ranges.{RuleInRange, most_bits}
+use Rattle.identity.specs.BitsText.{most_bits}
+use Rattle.centre_core.specs.Ranges.{RuleInRange}
 use Rattle.identity.specs.Packed.{AreBytes}
 use Rattle.command_bytes.specs.Fields.{◌>>=◌, big, left, bytes_for, number_at, left_at}
 use Rattle.command_bytes.specs.Text.{prefix_text, rule_text, bits_text, kind_number, key_text}

@@ -9,7 +9,7 @@ use Rattle.centre_core.specs.Asked.{Asked}
 use Rattle.centre_core.specs.Ranges.{BodyInRange}
 use Rattle.command_bytes.specs.Fields.{big, left, bytes_for}
 use Rattle.command_bytes.specs.Text.{prefix_text, rule_text, bits_text, key_text, tag_of, body_text, command_text, IsCommand, longest}
-use Rattle.command_bytes.specs.Sizes.{body_size}
+use Rattle.command_bytes.specs.Inside.Sizes.{body_size}
 use Rattle.command_bytes.proofs.Numbers.{length-big}
 
 length-left : (w : ℕ) (bits : List Bool) → length (left w bits) ≡ w

@@ -21,6 +21,7 @@ bytes_for n = (n + 7) / 8
 -- ---- reading
 
 infixl 10 ◌>>=◌
+-- one field and what is read behind it, or nothing where one is missing
 abbrev pub ◌>>=◌ : {A B : Type 0} → Option A → (A → Option B) → Option B
 (Some x) >>= f = f x
 None >>= f = None

@@ -2,4 +2,4 @@ pub mod Fields
 pub mod Text
 pub mod Reading
 pub mod Views
-pub mod Sizes
+pub mod Inside

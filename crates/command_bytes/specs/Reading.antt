@@ -9,7 +9,8 @@ use Rattle.mailbox.specs.declared.key.Kind.TheVariants.{Message, Report}
 use Rattle.centre_core.specs.declared.command.Body.{Body}
 use Rattle.centre_core.specs.declared.command.Body.TheVariants.{RuleSet, RuleClear, Mm, Sds, GroupSds, Sent, Expire, Delete}
 use Rattle.centre_core.specs.Asked.{Asked}
-use Rattle.centre_core.specs.Ranges.{most_bits, pdu_of}
+use Rattle.identity.specs.BitsText.{most_bits}
+use Rattle.centre_core.specs.Ranges.{pdu_of}
 use Rattle.command_bytes.specs.Fields.{◌>>=◌, number_at, left_at, bytes_for}
 
 -- what was read of the first bytes, and the bytes after it
@@ -36,6 +37,7 @@ area_at bytes = do
   area ← number_at 2 bytes
   if nat_lt area.0 (2 ^ 14) then Some area else None
 
+-- a lifetime, one of the four
 unfoldable pub lifetime_at : List ℕ → Read Lifetime
 lifetime_at bytes = do
   number ← number_at 1 bytes
@@ -51,9 +53,11 @@ rule_at bytes = do
   keep ← number_at 4 lifetime.1
   if nat_le low.0 high.0 then Some (record { low = low.0; high = high.0; lifetime = lifetime.0; keep = keep.0 }, keep.1) else None
 
+-- a message is 0, a report 1
 abbrev pub kind_of : ℕ → Option Kind
 kind_of number = if number == 0 then Some Message else if number == 1 then Some Report else None
 
+-- the key of a message or a report
 unfoldable pub key_at : List ℕ → Read Key
 key_at bytes = do
   destination ← number_at 6 bytes
@@ -66,17 +70,20 @@ key_at bytes = do
 -- ---- the bodies
 
 module _ {A : Type 0} where
+  -- set a rule: its prefix, and what it says
   unfoldable pub rule_set_at : List ℕ → Read (Body A)
   rule_set_at bytes = do
     prefix ← prefix_at bytes
     rule ← rule_at prefix.1
     Some (RuleSet prefix.0 rule.0, rule.1)
 
+  -- clear a rule: its prefix
   unfoldable pub rule_clear_at : List ℕ → Read (Body A)
   rule_clear_at bytes = do
     prefix ← prefix_at bytes
     Some (RuleClear prefix.0, prefix.1)
 
+  -- a mobility management PDU: the radio, the location area, and the bits
   unfoldable pub mm_at : List ℕ → Read (Body A)
   mm_at bytes = do
     itsi ← number_at 6 bytes
@@ -84,6 +91,7 @@ module _ {A : Type 0} where
     pdu ← bits_at area.1
     Some (Mm itsi.0 area.0 pdu.0, pdu.1)
 
+  -- a short data PDU: the source, the destination, and the bits
   unfoldable pub sds_at : List ℕ → Read (Body A)
   sds_at bytes = do
     source ← number_at 6 bytes
@@ -91,16 +99,19 @@ module _ {A : Type 0} where
     pdu ← bits_at destination.1
     Some (Sds source.0 destination.0 pdu.0, pdu.1)
 
+  -- an item was sent: its key
   unfoldable pub sent_at : List ℕ → Read (Body A)
   sent_at bytes = do
     key ← key_at bytes
     Some (Sent key.0, key.1)
 
+  -- delete an item: its key
   unfoldable pub delete_at : List ℕ → Read (Body A)
   delete_at bytes = do
     key ← key_at bytes
     Some (Delete key.0, key.1)
 
+  -- a message to a group: the source, the group, and the bits
   unfoldable pub group_sds_at : List ℕ → Read (Body A)
   group_sds_at bytes = do
     source ← number_at 6 bytes

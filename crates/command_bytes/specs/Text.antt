@@ -25,6 +25,7 @@ rule_text rule = big 2 rule.low ++ big 2 rule.high ++ big 1 (lifetime_number rul
 abbrev pub bits_text : List Bool → List ℕ
 bits_text bits = big 2 (length bits) ++ left (bytes_for (length bits)) bits
 
+-- a message is 0, a report 1
 abbrev pub kind_number : Kind → ℕ
 kind_number Message = 0
 kind_number Report = 1

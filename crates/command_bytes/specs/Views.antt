@@ -7,6 +7,7 @@ use Rattle.command_bytes.specs.declared.body.ReadBody.TheVariants as read
 use Rattle.command_bytes.specs.declared.command.ReadCommand.{ReadCommand}
 
 module _ {A : Type 0} where
+  -- the body that was read
   abbrev pub body_view : ReadBody → Body A
   body_view (read.RuleSet prefix rule) = RuleSet prefix rule
   body_view (read.RuleClear prefix) = RuleClear prefix
@@ -17,5 +18,6 @@ module _ {A : Type 0} where
   body_view read.Expire = Expire
   body_view (read.Delete key) = Delete key
 
+  -- the command that was read
   abbrev pub command_view : ReadCommand → Asked A
   command_view c = record { station = c.station; sequence = c.sequence; moment = c.moment; body = body_view c.body }

@@ -3,18 +3,15 @@ ghost use Rattle.std.specs.Prelude.{◌≡◌, ◌≤◌, ◌<◌, ◌+◌, ◌-
 ghost use Rattle.std.specs.List.{list_all};
 ghost use Rattle.identity.specs.Number.{num};
 ghost use Rattle.identity.specs.Packed.{bits_of};
-ghost use Rattle.centre_core.specs.Ranges.{most_bits};
+ghost use Rattle.identity.specs.BitsText.{most_bits};
 ghost use Rattle.command_bytes.specs.Fields.{bytes_for, left_at};
 ghost use Rattle.command_bytes.specs.Reading.{bits_at};
 
 use crate::fields::number;
 use byteorder::{BigEndian, ByteOrder};
-use identity::{BitWriter, Bits};
+use identity::{BitWriter, Bits, MOST_BITS};
 use std::alloc::{AllocError, Allocator};
 use std::marker::Model;
-
-/// The most bits of a PDU.
-const MOST_BITS: u64 = 2048;
 
 /// A PDU's bits, at most 2,048, that still lie in the bytes they are read from.
 #[derive(Drop)]
@@ -26,7 +23,7 @@ pub struct PackedBits<'a> {
 impl<'a> Model for PackedBits<'a> {
     ghost use Rattle.std.specs.Prelude.{List, Bool, length, take, ◌≤◌, ◌*◌};
     ghost use Rattle.identity.specs.Packed.{bits_of};
-    ghost use Rattle.centre_core.specs.Ranges.{most_bits};
+    ghost use Rattle.identity.specs.BitsText.{most_bits};
 
     ghost Value = { List Bool };
 
@@ -141,7 +138,7 @@ pub fn bits(bytes: &[u8]) -> Option<(PackedBits<'_>, &[u8])>
     ensures { option_map (λ x. (x.0, x.1.now)) result ≡ bits_at bytes.now }
 {
     let (len, rest) = number(bytes, 2)?;
-    if len > MOST_BITS {
+    if len > MOST_BITS as u64 {
         return None;
     }
     left(rest, len as usize)

@@ -1,8 +1,9 @@
 // Commands as they are written.
 ghost use Rattle.std.specs.Prelude.{◌≡◌, ◌≤◌, ◌+◌, ◌++◌, IfOk, length, vec_capacity, vec_len};
-ghost use Rattle.centre_core.specs.Ranges.{BodyInRange, most_bits};
+ghost use Rattle.identity.specs.BitsText.{most_bits};
+ghost use Rattle.centre_core.specs.Ranges.{BodyInRange};
 ghost use Rattle.command_bytes.specs.Fields.{bytes_for};
-ghost use Rattle.command_bytes.specs.Sizes.{body_size};
+ghost use Rattle.command_bytes.specs.Inside.Sizes.{body_size};
 ghost use Rattle.command_bytes.specs.Text.{IsCommand, Spells, body_text, command_text, longest, tag_of};
 
 use crate::Room;

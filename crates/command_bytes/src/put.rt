@@ -1,6 +1,6 @@
 // The fields of the table, as they are written at the end of what has room for them.
 ghost use Rattle.std.specs.Prelude.{◌≡◌, ◌≤◌, ◌+◌, ◌++◌, length};
-ghost use Rattle.centre_core.specs.Ranges.{most_bits};
+ghost use Rattle.identity.specs.BitsText.{most_bits};
 ghost use Rattle.command_bytes.specs.Fields.{big, bytes_for};
 ghost use Rattle.command_bytes.specs.Text.{bits_text, key_text, kind_number, prefix_text, rule_text};
 

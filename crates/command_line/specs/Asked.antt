@@ -35,12 +35,15 @@ both made first second = option_and_then (λ a. option_map (made a) second) firs
 abbrev pub format_in : List Row → Option Asked
 format_in found = both format (first_of (codes "SETTINGS") found) (first_of (codes "DISK") found)
 
+-- what `run` asks for: its disk and its file
 abbrev pub run_in : List Row → Option Asked
 run_in found = both run (first_of (codes "DISK") found) (first_of (codes "FILE") found)
 
+-- what `show` asks for: its disk and its words
 abbrev pub show_in : List Row → Option Asked
 show_in found = both show (first_of (codes "DISK") found) (all_of (codes "WORD") found)
 
+-- what a subcommand that clap found asks for, with its words
 abbrev pub asked_of : Text × List Row → Option Asked
 asked_of found =
     if bytes_eq found.0 (codes "format") then format_in found.1

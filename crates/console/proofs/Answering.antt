@@ -12,7 +12,7 @@ use Rattle.console.specs.declared.running.RunFault.TheVariants.{Read, NoMemory}
 use Rattle.desk.specs.declared.service.Service.TheVariants.{Memory}
 use Rattle.console.specs.Answer.{is_list, tells_list, IsOneLine, IsLine, HasNoLongPdu}
 use Rattle.console.specs.Reading.{reading}
-use Rattle.console.specs.Hand.{StandsIn}
+use Rattle.console.specs.Inside.Hand.{StandsIn}
 use Rattle.desk.specs.Rules.{Rules}
 use Rattle.console.specs.Dialogue.{AnswersReading, Answers, Stops, GivesLongPdu}
 

@@ -9,9 +9,9 @@ use Rattle.console.specs.declared.answer.Answer.{Answer}
 use Rattle.console.specs.Answer.{text, texts, is_trouble}
 use Rattle.desk.specs.Rules.{Rules}
 use Rattle.console.specs.Dialogue.{Answers, Dialogue, RunsWell, RunsShort}
-use Rattle.console.specs.Feed.{IsGoing}
-use Rattle.console.specs.Hand.{HasNoEnd, Holds}
-use Rattle.console.proofs.Lines.{is_feed, lines_step, lines_last}
+use Rattle.console.specs.Inside.Feed.{IsGoing}
+use Rattle.console.specs.Inside.Hand.{HasNoEnd, Holds}
+use Rattle.console.proofs.Lines.{is_feed, line_ended, lines_last}
 use Rattle.console.proofs.Talk.{texts_more, trouble_more, dialogue_more}
 
 -- at the start nothing was taken
@@ -30,40 +30,22 @@ going_start rules station s before p held known calm none empty = record {
   holds = empty;
 }
 
--- bytes that end no line
-pub going_run : {A W : Type 0} (rules : Rules W) (station : ℕ) (s : W) (before taken : List ℕ) (p q : Progress A) (held : Option (List ℕ)) (t : W) (run : List ℕ) →
-    HasNoEnd run → q.lines ≡ p.lines → q.troubled ≡ p.troubled →
-    ((line : List ℕ) → Holds p.hand.kept.items p.hand.long line → Holds q.hand.kept.items q.hand.long (line ++ run)) →
-    IsGoing rules station s before taken p held t → IsGoing rules station s before (taken ++ run) q held t
-going_run rules station s before taken p q held t run plain same calm holds i = record {
-  done = i.done;
-  answers = i.answers;
-  line = i.line ++ run;
-  split = λ rest. ap lines (append_assoc taken run rest) ∙ i.split (run ++ rest) ∙ ap (λ l. i.done ++ lines l) (sym (append_assoc i.line run rest));
-  no_end = All-append (λ b. (b == 10) ≡ false) i.line run i.no_end plain;
-  each = i.each;
-  written = i.written;
-  trouble = calm ∙ i.trouble;
-  counted = same ∙ i.counted;
-  holds = holds i.line i.holds;
-}
-
--- a line feed, once its line is answered
-pub going_line : {A W : Type 0} (rules : Rules W) (station : ℕ) (s : W) (before taken : List ℕ) (p q : Progress A) (held new : Option (List ℕ)) (mid t : W) (a : Answer A)
-    (i : IsGoing rules station s before taken p held mid) → q.lines ≡ p.lines + 1 → q.troubled ≡ (p.troubled || is_trouble a) → Holds q.hand.kept.items q.hand.long [] →
-    Answers rules station (p.lines + 1) mid (strip_carriage_return i.line) a t → new ≡ Some ((before ++ texts i.answers) ++ text a) →
-    IsGoing rules station s before (taken ++ 10 ∷ []) q new t
-going_line rules station s before taken p q held new mid t a i more worse clear answers written = record {
-  done = i.done ++ strip_carriage_return i.line ∷ [];
+-- bytes and a line feed, once the line that they end is answered
+pub going_line : {A W : Type 0} (rules : Rules W) (station : ℕ) (s : W) (before taken : List ℕ) (p q : Progress A) (held new : Option (List ℕ)) (mid t : W) (run : List ℕ) (a : Answer A)
+    (i : IsGoing rules station s before taken p held mid) → HasNoEnd run → q.lines ≡ p.lines + 1 → q.troubled ≡ (p.troubled || is_trouble a) → Holds q.hand.kept.items q.hand.long [] →
+    Answers rules station (p.lines + 1) mid (strip_carriage_return (i.line ++ run)) a t → new ≡ Some ((before ++ texts i.answers) ++ text a) →
+    IsGoing rules station s before (taken ++ (run ++ 10 ∷ [])) q new t
+going_line rules station s before taken p q held new mid t run a i plain more worse clear answers written = let line = strip_carriage_return (i.line ++ run) in record {
+  done = i.done ++ line ∷ [];
   answers = i.answers ++ a ∷ [];
   line = [];
-  split = λ rest. ap lines (append_assoc taken (10 ∷ []) rest) ∙ i.split (10 ∷ rest) ∙ ap (λ ls. i.done ++ ls) (lines_step i.line rest i.no_end)
-      ∙ sym (append_assoc i.done (strip_carriage_return i.line ∷ []) (lines rest));
+  split = λ rest. line_ended taken i.line run rest i.done i.no_end plain (i.split ((run ++ 10 ∷ []) ++ rest))
+      ∙ sym (append_assoc i.done (line ∷ []) (lines rest));
   no_end = All-nil (λ b. (b == 10) ≡ false);
-  each = dialogue_more rules station 0 (p.lines + 1) s i.done i.answers mid (strip_carriage_return i.line) a t (omega (arith, i.counted)) i.each answers;
+  each = dialogue_more rules station 0 (p.lines + 1) s i.done i.answers mid line a t (omega (arith, i.counted)) i.each answers;
   written = written ∙ ap Some (append_assoc before (texts i.answers) (text a) ∙ ap (λ ts. before ++ ts) (sym (texts_more i.answers a)));
   trouble = worse ∙ ap (λ b. b || is_trouble a) i.trouble ∙ sym (trouble_more i.answers a);
-  counted = more ∙ ap (λ n. n + 1) i.counted ∙ sym (length_push i.done (strip_carriage_return i.line));
+  counted = more ∙ ap (λ n. n + 1) i.counted ∙ sym (length_push i.done line);
   holds = clear;
 }
 

@@ -1,8 +1,9 @@
 -- Lines and words, a part at a time.
-use Rattle.std.proofs.Common.{◌≡◌, ℕ, ◌+◌, ◌<◌, ◌≤◌, Bool, true, false, cond, List, [], ◌∷◌, ◌++◌, length, take, drop, get_or, add-one, drop-cons, refl, sym, ◌∙◌, ap, arith, Some}
+use Rattle.std.proofs.Common.{◌≡◌, ℕ, ◌+◌, ◌<◌, ◌≤◌, Bool, true, false, cond, List, [], ◌∷◌, ◌++◌, length, take, drop, get_or, add-one, drop-cons, append_assoc, refl, sym, ◌∙◌, ap, arith, Some}
 use Rattle.std.proofs.lemmas.List.Splits.{slice_split_none, slice_split_at}
 use Rattle.std.specs.List.{slice_split, onto_first, All, slice_get}
 use Rattle.std.proofs.lemmas.List.{take-append-drop, length-append}
+use Rattle.std.proofs.lemmas.List.Elements.{All-append}
 use Rattle.std.proofs.lemmas.Option.{get_or_from_slice_get}
 use Rattle.std.specs.Prelude.{◌==◌}
 use Rattle.console.specs.Reading.{Lacks, words}
@@ -51,11 +52,13 @@ words_some line at inside none here =
     ap (λ b. take at line ++ b ∷ drop (at + 1) line) (sym (get_or_from_slice_get line at 32 0 here)) ∙ ap (λ end. take at line ++ end) (sym cut) ∙ take-append-drop at line in
     ap words (sym whole) ∙ slice_split_at is_space (take at line) 32 (drop (at + 1) line) none refl
 
--- what a line feed ends, wherever it stands
-pub line_ended : (taken line rest : List ℕ) (done : List (List ℕ)) (byte : ℕ) → byte ≡ 10 → All (λ b. is_feed b ≡ false) line →
-    lines (taken ++ byte ∷ rest) ≡ done ++ lines (line ++ byte ∷ rest) → lines (taken ++ byte ∷ rest) ≡ done ++ strip_carriage_return line ∷ lines rest
-line_ended taken line rest done byte feed none split =
-    split ∙ ap (λ b. done ++ lines (line ++ b ∷ rest)) feed ∙ ap (λ ls. done ++ ls) (lines_step line rest none)
+-- what a line feed ends, behind bytes that end no line
+pub line_ended : (taken line run rest : List ℕ) (done : List (List ℕ)) → All (λ b. is_feed b ≡ false) line → All (λ b. is_feed b ≡ false) run →
+    lines (taken ++ ((run ++ 10 ∷ []) ++ rest)) ≡ done ++ lines (line ++ ((run ++ 10 ∷ []) ++ rest)) → lines (taken ++ (run ++ 10 ∷ []) ++ rest) ≡ done ++ strip_carriage_return (line ++ run) ∷ lines rest
+line_ended taken line run rest done none plain split =
+    ap lines (append_assoc taken (run ++ 10 ∷ []) rest) ∙ split
+    ∙ ap (λ l. done ++ lines l) (ap (λ end. line ++ end) (append_assoc run (10 ∷ []) rest) ∙ sym (append_assoc line run (10 ∷ rest)))
+    ∙ ap (λ ls. done ++ ls) (lines_step (line ++ run) rest (All-append (λ b. is_feed b ≡ false) line run none plain))
 
 -- words before those of a rest
 pub more_words : (line rest : List ℕ) (front : List (List ℕ)) → words line ≡ front ++ words rest → 8 ≤ length front → 8 < length (words line)

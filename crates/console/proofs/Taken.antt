@@ -10,7 +10,7 @@ use Rattle.std.proofs.lemmas.Fmt.{decimal_nonempty}
 use Rattle.std.proofs.lemmas.List.Elements.{All-nil, All-cons, All-append}
 use Rattle.std.proofs.lemmas.List.Splits.{slice_split_at, slice_split_none}
 use Rattle.identity.specs.Number.{number}
-use Rattle.identity.specs.NumberLaws.{number-lt}
+use Rattle.identity.specs.Inside.NumberLaws.{number-lt}
 use Rattle.identity.specs.Path.{Path, left_aligned}
 use Rattle.identity.specs.Identity.{mcc_of, mnc_of, ssi_of}
 use Rattle.identity.specs.IdentityText.{identity_text, prefix_text, reading_identity, reading_prefix}

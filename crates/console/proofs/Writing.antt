@@ -40,17 +40,15 @@ front_more piece at end byte low high here =
     ∙ sym (take_more piece end 0 high)
 
 pub taken_more : (taken piece : List ℕ) (at end byte : ℕ) → at ≤ end → end < length piece → slice_get piece end ≡ Some byte →
-    ((taken ++ take at piece) ++ take (end - at) (drop at piece)) ++ byte ∷ [] ≡ taken ++ take (end + 1) piece
+    (taken ++ take at piece) ++ (take (end - at) (drop at piece) ++ byte ∷ []) ≡ taken ++ take (end + 1) piece
 taken_more taken piece at end byte low high here =
-    append_assoc (taken ++ take at piece) (take (end - at) (drop at piece)) (byte ∷ [])
-    ∙ append_assoc taken (take at piece) (take (end - at) (drop at piece) ++ byte ∷ [])
+    append_assoc taken (take at piece) (take (end - at) (drop at piece) ++ byte ∷ [])
     ∙ ap (λ xs. taken ++ xs) (sym (append_assoc (take at piece) (take (end - at) (drop at piece)) (byte ∷ [])) ∙ front_more piece at end byte low high here)
 
 pub taken_before : (taken piece rest : List ℕ) (at end byte : ℕ) → at ≤ end → end < length piece → slice_get piece end ≡ Some byte →
-    ((taken ++ take at piece) ++ take (end - at) (drop at piece)) ++ byte ∷ (drop (end + 1) piece ++ rest) ≡ (taken ++ piece) ++ rest
+    ((taken ++ take at piece) ++ (take (end - at) (drop at piece) ++ byte ∷ [])) ++ (drop (end + 1) piece ++ rest) ≡ (taken ++ piece) ++ rest
 taken_before taken piece rest at end byte low high here =
-    sym (append_assoc ((taken ++ take at piece) ++ take (end - at) (drop at piece)) (byte ∷ []) (drop (end + 1) piece ++ rest))
-    ∙ ap (λ xs. xs ++ (drop (end + 1) piece ++ rest)) (taken_more taken piece at end byte low high here)
+    ap (λ xs. xs ++ (drop (end + 1) piece ++ rest)) (taken_more taken piece at end byte low high here)
     ∙ left_behind taken piece rest (end + 1)
 
 pub at_the_end : (input taken left : List ℕ) → input ≡ taken ++ left → left ≡ [] → input ≡ taken

@@ -2,7 +2,7 @@
 use Rattle.std.specs.Prelude.{ℕ, ◌≤◌, Bool, true, false, List, [], ◌++◌, length, Option, Some, None, codes, decimal}
 use Rattle.std.specs.List.{flat_map}
 use Rattle.identity.specs.IdentityText.{identity_text, prefix_text}
-use Rattle.identity.specs.BitsText.{bits_text}
+use Rattle.identity.specs.BitsText.{bits_text, most_bits}
 use Rattle.identity.specs.Path.{Path}
 use Rattle.mm_pdus.specs.Values.{lifetime_number}
 use Rattle.group_attach.specs.declared.attachment.Attachment.{Attachment}
@@ -18,7 +18,7 @@ use Rattle.centre_core.specs.declared.query.Told.{Told}
 use Rattle.centre_core.specs.declared.query.Told.TheVariants as told
 use Rattle.console.specs.declared.answer.Answer.{Answer}
 use Rattle.console.specs.declared.answer.Answer.TheVariants as answer
-use Rattle.centre_core.specs.Ranges.{IsShort, most_bits}
+use Rattle.centre_core.specs.Ranges.{IsShort}
 use Rattle.desk.specs.Words.{service_word}
 use Rattle.console.specs.Words.{line_word, mm_word, registration_word, group_word, sds_word, mail_word, kind_word}
 
@@ -27,10 +27,12 @@ abbrev pub pdu_text : Option (List Bool) → List ℕ
 pdu_text None = codes "-"
 pdu_text (Some bits) = bits_text bits
 
+-- whether a radio is present
 abbrev pub presence_text : Bool → List ℕ
 presence_text true = codes " present"
 presence_text false = codes " absent"
 
+-- where a radio is, or was, and whether it is present
 abbrev pub whereabouts_text : Option Radio → List ℕ
 whereabouts_text None = codes "unknown"
 whereabouts_text (Some radio) = codes "station " ++ decimal radio.station ++ codes " la " ++ decimal radio.area
@@ -45,6 +47,7 @@ rule_text (Some e) = prefix_text e.0 ++ codes " " ++ decimal e.1.low ++ codes " 
 abbrev pub group_text : Attachment → List ℕ
 group_text a = codes "group " ++ identity_text a.gtsi ++ codes " " ++ decimal a.class ++ codes " " ++ decimal (lifetime_number a.lifetime) ++ codes "\n"
 
+-- a radio that is attached to a group, with its class of usage
 abbrev pub member_text : Attachment → List ℕ
 member_text a = codes "member " ++ identity_text a.itsi ++ codes " " ++ decimal a.class ++ codes "\n"
 
@@ -57,6 +60,7 @@ abbrev pub item_end : Option ℕ → List ℕ
 item_end None = codes "\n"
 item_end (Some group) = codes " " ++ identity_text group ++ codes "\n"
 
+-- the line of an item: its number, its key, its deadline, its PDU, and the group of a copy
 abbrev pub item_text : Waiting → List ℕ
 item_text i = codes "item " ++ decimal i.number ++ codes " " ++ key_text i.key ++ codes " " ++ decimal i.deadline ++ codes " " ++ bits_text i.pdu ++ item_end i.group
 
@@ -69,6 +73,7 @@ abbrev pub answer_room : ℕ
 answer_room = 1024
 
 module _ {B : Type 0} where
+  -- why a command is refused, and the PDU that rejects a location update
   abbrev pub refusal_text : Refusal B → List ℕ
   refusal_text refusal.UnknownStation = codes "unknown-station"
   refusal_text (refusal.OldSequence last) = codes "old-sequence " ++ decimal last
@@ -80,11 +85,13 @@ module _ {B : Type 0} where
   refusal_text (refusal.Mail fault) = mail_word fault
   refusal_text (refusal.Location fault reject) = registration_word fault ++ codes " " ++ bits_text reject
 
+  -- what stands behind a sequence: that the command is accepted, or was before, with its number and PDU, or that it is refused
   abbrev pub reply_text : Reply B → List ℕ
   reply_text (reply.Accepted number pdu) = codes " ok " ++ decimal number ++ codes " " ++ pdu_text pdu
   reply_text (reply.Kept number pdu) = codes " kept " ++ decimal number ++ codes " " ++ pdu_text pdu
   reply_text (reply.Refused refusal) = codes " no " ++ refusal_text refusal
 
+  -- the answer to a query: one line, or a list
   abbrev pub told_text : Told B → List ℕ
   told_text (told.Whereabouts itsi radio) = codes "where " ++ identity_text itsi ++ codes " " ++ whereabouts_text radio ++ codes "\n"
   told_text (told.Look itsi rule) = codes "look " ++ identity_text itsi ++ codes " " ++ rule_text rule ++ codes "\n"
@@ -102,6 +109,7 @@ module _ {B : Type 0} where
   text (answer.Told told) = told_text told
   text (answer.Untold line word) = codes "line " ++ decimal line ++ codes " no " ++ service_word word ++ codes "\n"
 
+  -- the lines of all answers, one after another
   abbrev pub texts : List (Answer B) → List ℕ
   texts answers = flat_map text answers
 
@@ -119,6 +127,7 @@ module _ {B : Type 0} where
   is_list (told.Waiting itsi items) = true
   is_list other = false
 
+  -- the PDU that rejects a location update has at most 2,048 bits
   abbrev pub HasShortReject : Refusal B → Type 0
   HasShortReject (refusal.Location fault reject) = length reject ≤ most_bits
   HasShortReject other = Unit {0}
@@ -134,6 +143,7 @@ module _ {B : Type 0} where
   HasNoLongPdu (answer.Replied sequence reply) = HasShortPdu reply
   HasNoLongPdu other = Unit {0}
 
+  -- the answer is a list
   abbrev pub tells_list : Answer B → Bool
   tells_list (answer.Told told) = is_list told
   tells_list other = false

@@ -40,11 +40,13 @@ module _ {A W : Type 0} where
   abbrev pub LacksPdu : W → Command A → Service → W → Type 0
   LacksPdu s c word t = HasPdu c.body × (word ≡ Memory) × (t ≡ s)
 
+  -- the answer to a command: under its sequence the desk's reply, or why there is none
   abbrev pub AnswersOrder : Rules W → W → Command A → Answer A → W → Type 0
   AnswersOrder rules s c (answer.Replied sequence reply) t = (sequence ≡ c.sequence) × rules.applies s c (Ok reply) t
   AnswersOrder rules s c (answer.Unserved sequence word) t = (sequence ≡ c.sequence) × (rules.applies {A = A} {B = A} s c (Err word) t ⊎ LacksPdu s c word t)
   AnswersOrder rules s c other t = ⊥
 
+  -- the answer to a query: what the desk tells, or under the number of the line why it tells nothing
   abbrev pub AnswersQuery : Rules W → ℕ → W → Query → Answer A → W → Type 0
   AnswersQuery rules n s q (answer.Told told) t = rules.tells s q (Ok told) t
   AnswersQuery rules n s q (answer.Untold number word) t = (number ≡ n) × (rules.tells {B = A} s q (Err word) t ⊎ LacksText A rules s q word t)
@@ -57,6 +59,7 @@ module _ {A W : Type 0} where
   AnswersReading rules n s (line.Order c) given t = AnswersOrder rules s c given t
   AnswersReading rules n s (line.Ask q) given t = AnswersQuery rules n s q given t
 
+  -- the answer to the line numbered n, whose text this station gave
   abbrev pub Answers : Rules W → ℕ → ℕ → W → List ℕ → Answer A → W → Type 0
   Answers rules station n s text given t = AnswersReading rules n s (reading station text) given t
 
@@ -95,6 +98,7 @@ abbrev pub RunsWell : (A : Type 0) {W : Type 0} → Rules W → ℕ → W → Li
 RunsWell A rules station s input before count troubled held t =
     (out : List ℕ) × (held ≡ Some (before ++ out)) × IsDialogue A rules station s (lines input) out troubled t × (count ≡ length (lines input))
 
+-- of what the reader gives some lines are done, and their answers may be cut off
 abbrev pub RunsShort : (A : Type 0) {W : Type 0} → Rules W → ℕ → W → List ℕ → List ℕ → Option (List ℕ) → W → Type 0
 RunsShort A rules station s input before held t =
     (out : List ℕ) × (held ≡ Some (before ++ out)) × IsCutOff A rules station s (lines input) out t

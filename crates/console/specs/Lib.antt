@@ -2,10 +2,8 @@ pub mod Words
 pub mod Reading
 pub mod Answer
 pub mod Dialogue
-pub mod Feed
 pub mod Spelling
-pub mod Parts
-pub mod Hand
 pub mod Failures
 pub mod Runs
 pub mod Stored
+pub mod Inside

@@ -41,6 +41,7 @@ words_behind (Some rest) = words rest
 abbrev pub seconds_in : List ℕ → Option ℕ
 seconds_in word = result_ok (reading_number 4294967295 word)
 
+-- a number that is not 0
 abbrev pub not_zero : ℕ → Option ℕ
 not_zero zero = None
 not_zero (suc n) = Some (suc n)
@@ -49,6 +50,7 @@ not_zero (suc n) = Some (suc n)
 abbrev pub sequence_in : List ℕ → Option ℕ
 sequence_in word = option_and_then not_zero (seconds_in word)
 
+-- a sequence and a moment, where both are in range
 abbrev pub head_of : Option ℕ → Option ℕ → Option Head
 head_of (Some sequence) (Some moment) = Some (record { sequence = sequence; moment = moment })
 head_of sequence moment = None
@@ -65,11 +67,13 @@ area_in word = result_ok (reading_number 16383 word)
 abbrev pub lifetime_in : List ℕ → Option Lifetime
 lifetime_in word = option_and_then lifetime_of (result_ok (reading_number 3 word))
 
+-- a rule, where each of its values is in range and the low area is not above the high one
 abbrev pub rule_of : Option ℕ → Option ℕ → Option Lifetime → Option ℕ → Option Terms
 rule_of (Some low) (Some high) (Some lifetime) (Some keep) = if nat_le low high
     then Some (record { low = low; high = high; lifetime = lifetime; keep = keep }) else None
 rule_of low high lifetime keep = None
 
+-- LOW HIGH LIFE KEEP
 abbrev pub rule_in : List ℕ → List ℕ → List ℕ → List ℕ → Option Terms
 rule_in low high lifetime keep = rule_of (area_in low) (area_in high) (lifetime_in lifetime) (seconds_in keep)
 
@@ -81,6 +85,7 @@ reference_in word = result_ok (reading_number 255 word)
 abbrev pub kind_in : List ℕ → Option Kind
 kind_in word = if bytes_eq word (codes "m") then Some Message else (if bytes_eq word (codes "r") then Some Report else None)
 
+-- a key, where each of its parts is in range
 abbrev pub key_of : Option ℕ → Option ℕ → Option ℕ → Option Kind → Option Key
 key_of (Some destination) (Some source) (Some reference) (Some kind) = Some (record { destination = destination; source = source; reference = reference; kind = kind })
 key_of destination source reference kind = None
@@ -139,11 +144,13 @@ module _ {A : Type 0} where
       then rule_body (result_ok (reading_prefix prefix)) (rule_in low high lifetime keep) else Err Syntax
   body_in name other = Err Syntax
 
+  -- a command of this station; a fault of its body comes before one of its head
   abbrev pub order : ℕ → Option Head → Result (Body A) LineFault → Line A
   order station head (Err fault) = Bad fault
   order station None (Ok body) = Bad Value
   order station (Some head) (Ok body) = Order (record { station = station; sequence = head.sequence; moment = head.moment; body = body })
 
+  -- a query, or how the line is bad
   abbrev pub ask : Result Query LineFault → Line A
   ask (Ok query) = Ask query
   ask (Err fault) = Bad fault
@@ -170,6 +177,7 @@ module _ {A : Type 0} where
   reading station line = if nat_lt longest_line (length line) then Bad TooLong
       else (if is_silent line then Silent else of_words station (words line))
 
+  -- the body comes with a PDU
   abbrev pub HasPdu : Body A → Type 0
   HasPdu (Mm itsi area pdu) = Unit {0}
   HasPdu (Sds source destination pdu) = Unit {0}
@@ -192,6 +200,7 @@ module _ {A : Type 0} where
   with_pdu sequence Expire = None
   with_pdu sequence (Delete key) = None
 
+  -- the sequence of a line that is a command with a PDU
   abbrev pub sequence_of : Line A → Option ℕ
   sequence_of (Order c) = with_pdu c.sequence c.body
   sequence_of other = None

@@ -41,9 +41,11 @@ module _ {A : Type 0} where
   SpellsBody Expire words = words ≡ codes "expire" ∷ []
   SpellsBody (Delete key) words = words ≡ codes "delete" ∷ key_words key
 
+  -- a command's line: its sequence, its moment and the words of its body
   abbrev pub SpellsCommand : Command A → List ℕ → Type 0
   SpellsCommand c line = (body : List (List ℕ)) × SpellsBody c.body body × (line ≡ spaced (decimal c.sequence ∷ decimal c.moment ∷ body))
 
+-- a query's line
 abbrev pub query_text : Query → List ℕ
 query_text (Whereabouts itsi) = spaced (codes "where" ∷ identity_text itsi ∷ [])
 query_text (Look itsi) = spaced (codes "look" ∷ identity_text itsi ∷ [])
@@ -65,6 +67,7 @@ Askable Total = Unit {0}
 abbrev pub OnlyCommands : Type 0 → Type 0
 OnlyCommands A = (station : ℕ) (line : List ℕ) (c : Command A) → reading station line ≡ Order c → (c.station ≡ station) × InRange c × SpellsCommand c line × (length line ≤ longest_line)
 
+-- a line is taken for a query only where it is that query's line, in range
 abbrev pub OnlyQueries : Type 0 → Type 0
 OnlyQueries A = (station : ℕ) (line : List ℕ) (q : Query) → reading {A = A} station line ≡ Ask q → Askable q × (line ≡ query_text q) × (length line ≤ longest_line)
 
@@ -72,6 +75,7 @@ OnlyQueries A = (station : ℕ) (line : List ℕ) (q : Query) → reading {A = A
 abbrev pub AllCommands : Type 0 → Type 0
 AllCommands A = (line : List ℕ) (c : Command A) → InRange c → SpellsCommand c line → length line ≤ longest_line → reading c.station line ≡ Order c
 
+-- each line of a query, in range, is taken for that query
 abbrev pub AllQueries : Type 0 → Type 0
 AllQueries A = (station : ℕ) (q : Query) → Askable q → length (query_text q) ≤ longest_line → reading {A = A} station (query_text q) ≡ Ask q
 

@@ -1,6 +1,6 @@
 //! The reader of a run, and the ledgers of its calls and faults.
 ghost use Rattle.std.specs.Prelude.{◌≡◌, ◌≤◌, ◌<◌, ◌+◌, List, ℕ, length, IfOk, IfErr, OnErr, Some};
-ghost use Rattle.console.specs.Feed.{FitsPiece, IsPiece};
+ghost use Rattle.console.specs.Inside.Feed.{FitsPiece, IsPiece};
 
 use crate::running::{Piece, RunFault};
 use prefix_tree::Steps;

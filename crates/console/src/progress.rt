@@ -2,7 +2,8 @@
 ghost use Rattle.std.specs.Prelude.{◌≡◌, ◌++◌, ◌≤◌, [], List, ℕ, MatchBool, option_map, length, ◌<◌, IfOk, IfErr, false, vec_capacity};
 ghost use Rattle.console.specs.declared.progress.TheConstants.{ANSWER, KEPT};
 ghost use Rattle.console.specs.Answer.{text, answer_room, HasNoLongPdu};
-ghost use Rattle.console.specs.Hand.{Holds, line_at_end, StandsFor, StandsIn};
+ghost use Rattle.std.specs.Str.Lines.{strip_carriage_return};
+ghost use Rattle.console.specs.Inside.Hand.{Holds, HoldsWith, line_at_end, StandsFor, StandsIn};
 
 use crate::answer::{Answer, print_answer};
 use crate::line::LONGEST;
@@ -13,7 +14,7 @@ use std::alloc::{AllocError, Allocator};
 /// The most bytes of a line that are kept: a longest line and a carriage return.
 pub(crate) const KEPT: usize = LONGEST + 1;
 
-/// The line at hand, of which some bytes have come.
+/// The line at hand, of which some bytes have come: those that the end of a read cut off from its end.
 #[derive(Drop)]
 pub(crate) struct LineAtHand<A: Allocator> {
     // Its bytes, while there are no more than that.
@@ -49,7 +50,18 @@ impl<A: Allocator> LineAtHand<A> {
         self.kept.extend_from_slice(run).unwrap();
     }
 
+    /// Adds the bytes that end the line, where some of it came before: else they are served where they lie.
+    #[inline(always)]
+    pub(crate) fn join(&mut self, run: &[u8])
+        ensures { (line : List ℕ) → Holds self.old.kept.items self.old.long line → HoldsWith self.new.kept.items self.new.long line run.now }
+    {
+        if !self.is_empty() {
+            self.keep(run);
+        }
+    }
+
     /// Whether no byte of it has come.
+    #[inline(always)]
     pub(crate) fn is_empty(&self) -> bool
         ensures { (line : List ℕ) → Holds self.now.kept.items self.now.long line → MatchBool result (line ≡ []) (0 < length line) }
     {
@@ -65,10 +77,22 @@ impl<A: Allocator> LineAtHand<A> {
             return None;
         }
         let line = self.kept.as_slice();
-        if ended && !line.is_empty() && line[line.len() - 1] == b'\r' {
-            return Some(&line[..line.len() - 1]);
+        if ended {
+            return Some(without_return(line));
         }
         Some(line)
+    }
+
+    /// The line that a line feed ends behind these bytes, which were joined to it; `None` where it is too
+    /// long.
+    #[inline(always)]
+    pub(crate) fn ended<'a>(&'a self, run: &'a [u8]) -> Option<&'a [u8]>
+        ensures { (line : List ℕ) → HoldsWith self.now.kept.items self.now.long line run.now → StandsFor (option_map (λ l. l.now) result) (strip_carriage_return (line ++ run.now)) }
+    {
+        if self.is_empty() {
+            return Some(without_return(run));
+        }
+        self.line(true)
     }
 
     /// The next line begins.
@@ -78,6 +102,17 @@ impl<A: Allocator> LineAtHand<A> {
         self.kept.clear();
         self.long = false;
     }
+}
+
+/// The line without a carriage return at its end.
+#[inline(always)]
+fn without_return(line: &[u8]) -> &[u8]
+    ensures { result.now ≡ strip_carriage_return line.now }
+{
+    if !line.is_empty() && line[line.len() - 1] == b'\r' {
+        return &line[..line.len() - 1];
+    }
+    line
 }
 
 /// Room for an answer of one line: `SEQ kept NUMBER PDU` with a PDU of 2,048 bits takes no more than half.

@@ -1,10 +1,10 @@
 //! Answering lines as their bytes come.
 ghost use Rattle.std.specs.Prelude.{◌≡◌, ◌≤◌, ◌<◌, ◌+◌, ◌-◌, ◌^◌, ◌++◌, ◌∷◌, [], List, ℕ, length, take, drop, slice_get, MatchOption, option_map, IfOk, IfErr, OnOk, OnErr, Some};
 ghost use Rattle.console.specs.Answer.{text, is_trouble, HasNoLongPdu};
-ghost use Rattle.console.specs.Feed.{IsGoing};
+ghost use Rattle.console.specs.Inside.Feed.{GoesOn, StopsWithin, EndsWell, EndsShort};
 ghost use Rattle.console.specs.Failures.{failures_told};
-ghost use Rattle.console.specs.Hand.{HasNoEnd, StandsFor};
-ghost use Rattle.console.specs.Dialogue.{Answers, GivesLongPdu, Stops, RunsWell, RunsShort};
+ghost use Rattle.console.specs.Inside.Hand.{HasNoEnd, StandsFor};
+ghost use Rattle.console.specs.Dialogue.{Answers, GivesLongPdu, Stops};
 ghost use Rattle.console.specs.declared.answer.Answer.{Answer};
 
 use crate::answer::Answer;
@@ -79,39 +79,6 @@ fn serve<A: Allocator + Copy + Drop, W: Write, G: Ledger, D: Desk>(
     Ok(held.is_trouble())
 }
 
-/// Answers the line at hand, which a line feed ends.
-#[inline(always)]
-fn end_line<A: Allocator + Copy + Drop, W: Write, G: Ledger, D: Desk>(
-    terms: Terms<A>,
-    progress: &mut Progress<A>,
-    output: &mut Output<W, G>,
-    desk: &mut D,
-) -> Result<(), RunFault>
-    requires { progress.old.lines + 1 < 2 ^ 64 }
-    ensures ok { OnOk result ((s : D.World) (before taken : List ℕ) →
-        IsGoing D.rules terms.station s before taken progress.old (W.contents output.old.writer.now) (D.world desk.old) →
-        IsGoing D.rules terms.station s before (taken ++ 10 ∷ []) progress.new (W.contents output.new.writer.now) (D.world desk.new)) }
-    ensures err { OnErr result ((s : D.World) (before taken rest : List ℕ) →
-        IsGoing D.rules terms.station s before taken progress.old (W.contents output.old.writer.now) (D.world desk.old) →
-        RunsShort A D.rules terms.station s (taken ++ 10 ∷ rest) before (W.contents output.new.writer.now) (D.world desk.new)) }
-    ensures lines { progress.new.lines ≤ progress.old.lines + 1 }
-    ensures stops { IfErr result (λ e. Stops A D.rules e) }
-    ensures writer { output.new.writer.ghost_name ≡ output.old.writer.ghost_name }
-    ensures failures { output.new.failures.ghost_name ≡ output.old.failures.ghost_name }
-    ensures ledger { output.new.failures.now ≡ output.old.failures.now + failures_told result }
-{
-    let number = progress.lines + 1;
-    let asked = Asked {
-        number,
-        line: progress.hand.line(true),
-    };
-    let troubled = serve(terms, &mut progress.out, output, asked, desk)?;
-    progress.lines = number;
-    progress.troubled = progress.troubled | troubled;
-    progress.hand.clear();
-    Ok(())
-}
-
 /// Takes bytes and the line feed behind them, and answers the line that it ends.
 #[inline(always)]
 fn take_line<A: Allocator + Copy + Drop, W: Write, G: Ledger, D: Desk>(
@@ -123,20 +90,25 @@ fn take_line<A: Allocator + Copy + Drop, W: Write, G: Ledger, D: Desk>(
 ) -> Result<(), RunFault>
     requires room { progress.old.lines + 1 < 2 ^ 64 }
     requires plain { HasNoEnd run.now }
-    ensures ok { OnOk result ((s : D.World) (before taken : List ℕ) →
-        IsGoing D.rules terms.station s before taken progress.old (W.contents output.old.writer.now) (D.world desk.old) →
-        IsGoing D.rules terms.station s before (taken ++ run.now ++ 10 ∷ []) progress.new (W.contents output.new.writer.now) (D.world desk.new)) }
-    ensures err { OnErr result ((s : D.World) (before taken rest : List ℕ) →
-        IsGoing D.rules terms.station s before taken progress.old (W.contents output.old.writer.now) (D.world desk.old) →
-        RunsShort A D.rules terms.station s (taken ++ run.now ++ 10 ∷ rest) before (W.contents output.new.writer.now) (D.world desk.new)) }
+    ensures ok { OnOk result (GoesOn D.rules terms.station progress.old (W.contents output.old.writer.now) (D.world desk.old) (run.now ++ 10 ∷ []) progress.new (W.contents output.new.writer.now) (D.world desk.new)) }
+    ensures err { OnErr result (StopsWithin D.rules terms.station progress.old (W.contents output.old.writer.now) (D.world desk.old) (run.now ++ 10 ∷ []) (W.contents output.new.writer.now) (D.world desk.new)) }
     ensures lines { progress.new.lines ≤ progress.old.lines + 1 }
     ensures stops { IfErr result (λ e. Stops A D.rules e) }
     ensures writer { output.new.writer.ghost_name ≡ output.old.writer.ghost_name }
     ensures failures { output.new.failures.ghost_name ≡ output.old.failures.ghost_name }
     ensures ledger { output.new.failures.now ≡ output.old.failures.now + failures_told result }
 {
-    progress.hand.keep(run);
-    end_line(terms, progress, output, desk)
+    progress.hand.join(run);
+    let number = progress.lines + 1;
+    let asked = Asked {
+        number,
+        line: progress.hand.ended(run),
+    };
+    let troubled = serve(terms, &mut progress.out, output, asked, desk)?;
+    progress.lines = number;
+    progress.troubled = progress.troubled | troubled;
+    progress.hand.clear();
+    Ok(())
 }
 
 /// Where the next line feed stands, from `at` on.
@@ -158,12 +130,8 @@ pub(crate) fn take_piece<A: Allocator + Copy + Drop, W: Write, G: Ledger, D: Des
     desk: &mut D,
 ) -> Result<(), RunFault>
     requires { progress.old.lines + length piece.now < 2 ^ 64 }
-    ensures ok { OnOk result ((s : D.World) (before taken : List ℕ) →
-        IsGoing D.rules terms.station s before taken progress.old (W.contents output.old.writer.now) (D.world desk.old) →
-        IsGoing D.rules terms.station s before (taken ++ piece.now) progress.new (W.contents output.new.writer.now) (D.world desk.new)) }
-    ensures err { OnErr result ((s : D.World) (before taken rest : List ℕ) →
-        IsGoing D.rules terms.station s before taken progress.old (W.contents output.old.writer.now) (D.world desk.old) →
-        RunsShort A D.rules terms.station s (taken ++ piece.now ++ rest) before (W.contents output.new.writer.now) (D.world desk.new)) }
+    ensures ok { OnOk result (GoesOn D.rules terms.station progress.old (W.contents output.old.writer.now) (D.world desk.old) piece.now progress.new (W.contents output.new.writer.now) (D.world desk.new)) }
+    ensures err { OnErr result (StopsWithin D.rules terms.station progress.old (W.contents output.old.writer.now) (D.world desk.old) piece.now (W.contents output.new.writer.now) (D.world desk.new)) }
     ensures lines { progress.new.lines ≤ progress.old.lines + length piece.now }
     ensures stops { IfErr result (λ e. Stops A D.rules e) }
     ensures writer { output.new.writer.ghost_name ≡ output.old.writer.ghost_name }
@@ -187,12 +155,8 @@ pub(crate) fn finish<A: Allocator + Copy + Drop, W: Write, G: Ledger, D: Desk>(
     desk: &mut D,
 ) -> Result<Ran, RunFault>
     requires { progress.old.lines + 1 < 2 ^ 64 }
-    ensures ok { IfOk result (λ ran. (s : D.World) (before taken : List ℕ) →
-        IsGoing D.rules terms.station s before taken progress.old (W.contents output.old.writer.now) (D.world desk.old) →
-        RunsWell A D.rules terms.station s taken before ran.lines ran.troubled (W.contents output.new.writer.now) (D.world desk.new)) }
-    ensures err { OnErr result ((s : D.World) (before taken : List ℕ) →
-        IsGoing D.rules terms.station s before taken progress.old (W.contents output.old.writer.now) (D.world desk.old) →
-        RunsShort A D.rules terms.station s taken before (W.contents output.new.writer.now) (D.world desk.new)) }
+    ensures ok { IfOk result (λ ran. EndsWell D.rules terms.station progress.old (W.contents output.old.writer.now) (D.world desk.old) ran (W.contents output.new.writer.now) (D.world desk.new)) }
+    ensures err { OnErr result (EndsShort D.rules terms.station progress.old (W.contents output.old.writer.now) (D.world desk.old) (W.contents output.new.writer.now) (D.world desk.new)) }
     ensures stops { IfErr result (λ e. Stops A D.rules e) }
     ensures writer { output.new.writer.ghost_name ≡ output.old.writer.ghost_name }
     ensures failures { output.new.failures.ghost_name ≡ output.old.failures.ghost_name }

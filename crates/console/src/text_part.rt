@@ -3,7 +3,7 @@ ghost use Rattle.std.specs.Prelude.{◌≡◌, ◌≤◌, ◌<◌, ◌+◌, ◌+
 ghost use Rattle.identity.specs.NumberText.{Keeps};
 ghost use Rattle.console.specs.Answer.{pdu_text};
 ghost use Rattle.centre_core.specs.Ranges.{IsShort};
-ghost use Rattle.console.specs.Parts.{part_text, parts_text, part_room, parts_room, pdu_room};
+ghost use Rattle.console.specs.Inside.Parts.{part_text, parts_text, part_room, parts_room, pdu_room};
 
 use identity::{
     Bits, Gtsi, Itsi, Prefix, print_bits, print_gtsi, print_itsi, print_number, print_prefix,

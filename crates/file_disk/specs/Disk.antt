@@ -21,6 +21,7 @@ file_view view disk = record {
 pub file_sound : {F : Type 0} (view : F → View) (disk : FileDisk F) → IsSound (view disk.file) → (view disk.file).sectors ≡ disk.sectors → IsSound (file_view view disk)
 file_sound view disk is same = record { count = rw (← same) is.count; reads_left = is.reads_left; counts_now = is.counts_now; only_now = is.only_now; earlier = is.earlier }
 
+-- the file that the disk stands on
 abbrev pub file_of : {F : Type 0} → FileDisk F → F
 file_of disk = disk.file
 

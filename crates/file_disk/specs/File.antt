@@ -9,6 +9,7 @@ use Rattle.sector_disk.specs.Run.{HasLooked}
 use Rattle.sector_disk.specs.declared.disk.DiskError.{DiskError}
 use Rattle.sector_disk.specs.declared.disk.DiskError.TheVariants.{DiskFault}
 
+-- whether an error tells that the call was interrupted
 abbrev pub is_interrupted : ErrorKind → Bool
 is_interrupted Interrupted = true
 is_interrupted _ = false
@@ -31,9 +32,13 @@ one_more turns = min (turns + 1) (2 ^ 64 - 1)
 abbrev pub HaveTurned : ℕ → ℕ → ℕ → Type 0
 HaveTurned n old new = (old + n ≤ new) ⊎ (new ≡ 2 ^ 64 - 1)
 
+-- the most calls of the file for a sector
+abbrev pub most_calls : ℕ
+most_calls = 1024
+
 -- a call of the file has failed, or so many were not enough
 abbrev pub HasGivenUp : View → View → ℕ → ℕ → Type 0
-HasGivenUp old new turns_before turns_after = HasFailed old new ⊎ HaveTurned 1024 turns_before turns_after
+HasGivenUp old new turns_before turns_after = HasFailed old new ⊎ HaveTurned most_calls turns_before turns_after
 
 -- A read gives bytes of the sector from one of its bytes on, and changes no image.
 pub record HasReadPart (old new : View) (at from : ℕ) (bytes : List ℕ) (result : Result ℕ DiskError) : Type 0 where

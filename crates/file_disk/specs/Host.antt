@@ -16,5 +16,6 @@ host_view file = record {
   honest = ⊥;
 }
 
+-- how often it was called
 abbrev pub host_turns : HostFile → ℕ
 host_turns file = file.turns

@@ -2,5 +2,4 @@ pub mod Disk
 pub mod Fault
 pub mod File
 pub mod Host
-pub mod Note
-pub mod Noted
+pub mod Inside

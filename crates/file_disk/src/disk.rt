@@ -94,7 +94,7 @@ impl<F: SectorFile> FileDisk<F> {
 
 impl<F: SectorFile> Disk for FileDisk<F> {
     ghost use Rattle.file_disk.specs.Disk.{IsLost, failures_after, file_sound, file_view, is_lost};
-    ghost use Rattle.file_disk.specs.File.{HasGivenUp};
+    ghost use Rattle.file_disk.specs.File.{HasGivenUp, most_calls};
 
     ghost view = { file_view F.view };
 
@@ -113,7 +113,7 @@ impl<F: SectorFile> Disk for FileDisk<F> {
             → (result ≡ Err OutOfRange) × (self.new ≡ self.old) }
         ensures in_range { IsErrOf result OutOfRange → (file_view F.view self.old).sectors ≤ at }
         ensures counted { self.new.failures ≡ failures_after result self.old.failures }
-        ensures turns { F.turns self.new.file ≤ F.turns self.old.file + 1024 }
+        ensures turns { F.turns self.new.file ≤ F.turns self.old.file + most_calls }
         ensures lost { at < self.old.sectors → is_lost self.old ≡ true → IsLost self.old self.new result }
         ensures kept { is_lost self.new ≡ is_lost self.old }
         ensures given_up { IsErrOf result DiskFault → (is_lost self.old ≡ true)
@@ -141,7 +141,7 @@ impl<F: SectorFile> Disk for FileDisk<F> {
             → (result ≡ Err OutOfRange) × (self.new ≡ self.old) }
         ensures in_range { IsErrOf result OutOfRange → (file_view F.view self.old).sectors ≤ at }
         ensures counted { self.new.failures ≡ failures_after result self.old.failures }
-        ensures turns { F.turns self.new.file ≤ F.turns self.old.file + 1024 }
+        ensures turns { F.turns self.new.file ≤ F.turns self.old.file + most_calls }
         ensures lost { at < self.old.sectors → is_lost self.old ≡ true → IsLost self.old self.new result }
         ensures kept { is_lost self.new ≡ is_lost self.old }
         ensures given_up { IsErrOf result DiskFault → (is_lost self.old ≡ true)

@@ -2,7 +2,7 @@
 ghost use Rattle.std.specs.Prelude.{◌≡◌, [], List, ◌∷◌, ◌++◌};
 ghost use Rattle.std.specs.Borrow.{ftrue};
 ghost use Rattle.sector_disk.specs.declared.record.Call.{Call};
-ghost use Rattle.file_disk.specs.Noted.{calls_code};
+ghost use Rattle.file_disk.specs.Inside.Noted.{calls_code};
 
 use std::marker::Model;
 
@@ -25,7 +25,7 @@ pub(crate) enum Note<'a> {
 }
 
 impl History {
-    ghost use Rattle.file_disk.specs.Note.{call_of};
+    ghost use Rattle.file_disk.specs.Inside.Note.{call_of};
 
     pub(crate) fn new() -> History
         ensures { result.calls ≡ [] }

@@ -2,7 +2,7 @@
 ghost use Rattle.std.specs.Prelude.{◌≡◌, ◌<◌, ◌≤◌, ◌+◌, ◌-◌, ◌*◌, ◌^◌, ◌⊎◌, drop, take, IfErr, IfOk};
 ghost use Rattle.sector_disk.specs.Disk.{HasCause, HasRead, HasWritten};
 ghost use Rattle.sector_disk.specs.declared.disk.DiskError.TheVariants.{DiskFault};
-ghost use Rattle.file_disk.specs.File.{HasReadPart, HasWrittenPart, HasGivenUp, one_more};
+ghost use Rattle.file_disk.specs.File.{HasReadPart, HasWrittenPart, HasGivenUp, most_calls, one_more};
 
 use crate::SectorFile;
 use crate::file::moved;
@@ -58,7 +58,7 @@ pub(crate) fn read_sector<F: SectorFile>(
         → HasRead (F.view file.old) (F.view file.new) at bytes.new result }
     ensures sectors { (F.view file.new).sectors ≡ (F.view file.old).sectors }
     ensures given_up { IfErr result (λ e. (e ≡ DiskFault) × HasGivenUp (F.view file.old) (F.view file.new) (F.turns file.old) (F.turns file.new)) }
-    ensures turns { F.turns file.new ≤ F.turns file.old + 1024 }
+    ensures turns { F.turns file.new ≤ F.turns file.old + most_calls }
 {
     let mut done = 0;
     for _call in 0..MOST_CALLS {
@@ -80,7 +80,7 @@ pub(crate) fn write_sector<F: SectorFile>(
         → HasWritten (F.view file.old) (F.view file.new) at bytes.now result }
     ensures sectors { (F.view file.new).sectors ≡ (F.view file.old).sectors }
     ensures given_up { IfErr result (λ e. (e ≡ DiskFault) × HasGivenUp (F.view file.old) (F.view file.new) (F.turns file.old) (F.turns file.new)) }
-    ensures turns { F.turns file.new ≤ F.turns file.old + 1024 }
+    ensures turns { F.turns file.new ≤ F.turns file.old + most_calls }
 {
     let mut done = 0;
     for _call in 0..MOST_CALLS {

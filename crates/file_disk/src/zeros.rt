@@ -1,6 +1,6 @@
 // Zeros on a disk.
 ghost use Rattle.std.specs.Prelude.{◌≡◌, ◌≤◌, ◌<◌, ◌+◌, ◌^◌, replicate};
-ghost use Rattle.sector_disk.specs.Run.{HasFilled};
+ghost use Rattle.sector_disk.specs.Inside.Filling.{HasFilled};
 
 use sector_disk::{Disk, DiskError};
 

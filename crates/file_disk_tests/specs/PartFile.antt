@@ -10,5 +10,6 @@ part_view view file = record (view file.disk) { failures = file.failures }
 pub part_sound : {D : Type 0} (view : D → View) (file : PartFile D) → IsSound (view file.disk) → IsSound (part_view view file)
 part_sound view file is = record { count = is.count; reads_left = is.reads_left; counts_now = is.counts_now; only_now = is.only_now; earlier = is.earlier }
 
+-- how often the file was called
 abbrev pub part_turns : {D : Type 0} → PartFile D → ℕ
 part_turns file = file.turns

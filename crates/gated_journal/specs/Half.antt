@@ -9,6 +9,7 @@ use Rattle.gated_journal.specs.Record.{most_sectors, record_of}
 abbrev pub IsOpen : List ℕ → Type 0
 IsOpen bytes = slice_index bytes 0 ≡ 1
 
+-- a gate is closed where its first byte is anything but 1
 abbrev pub IsClosed : List ℕ → Type 0
 IsClosed bytes = slice_index bytes 0 ≢ 1
 
@@ -44,6 +45,7 @@ bytes_at image at end =
     else Ok None
 
 module _ {A : Type 0} where
+  -- the commands of a record and the place of the next gate, or the sector at fault where they are none
   abbrev pub found : ℕ → ℕ → Option (List (Asked A)) → Found A
   found at next None = Err at
   found at next (Some commands) = Ok (Some (commands, next))
@@ -70,11 +72,13 @@ module _ {A : Type 0} where
   with_front front (Ok half) = Ok (front ++ half.0, half.1)
   with_front front (Err at) = Err at
 
+  -- the records from a gate on: none where it is closed, else the one that stands there and those behind it; or the sector at fault
   abbrev pub half_on : ℕ → Found A → (ℕ → Half A) → Half A
   half_on at (Err fault) go = Err fault
   half_on at (Ok None) go = Ok ([], at)
   half_on at (Ok (Some record_and_next)) go = with_front ((at + 1, record_and_next.0) ∷ []) (go record_and_next.1)
 
+  -- the records from a gate on, so many at most, and the gate behind them; or the sector at fault
   unfoldable pub half_from : ℕ → List (List ℕ) → ℕ → ℕ → Half A
   half_from zero image at end = Ok ([], at)
   half_from (suc fuel) image at end = half_on at (record_at image at end) (λ next. half_from fuel image next end)

@@ -18,13 +18,16 @@ Answers view (Ok x) is = is ≡ Ok (view x)
 Answers view (Err e) is = Fails e is
 
 module _ {A : Type 0} where
+  -- what was read at a gate: nothing, or a record's commands and the place of the next gate
   abbrev pub found_view : Option (Vec (Asked A) A × ℕ) → Option (List (Asked A) × ℕ)
   found_view None = None
   found_view (Some x) = Some (x.0.items, x.1)
 
+  -- a record that was read, with its first data sector
   abbrev pub entry_view : ℕ × Vec (Asked A) A → Entry A
   entry_view x = (x.0, x.1.items)
 
+  -- such records, in order
   abbrev pub entries_view : List (ℕ × Vec (Asked A) A) → List (Entry A)
   entries_view xs = map entry_view xs
 

@@ -56,6 +56,7 @@ module _ {A : Type 0} where
 
 -- ---- reading
 
+-- the byte is 0
 abbrev pub is_zero : ℕ → Bool
 is_zero b = b == 0
 

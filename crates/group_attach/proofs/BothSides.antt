@@ -15,10 +15,10 @@ use Rattle.mm_pdus.specs.Address.{gtsi_of}
 use Rattle.registration.specs.declared.rule.Rule.{Rule}
 use Rattle.registration.specs.Registered.{Registered, rule_of}
 use Rattle.group_attach.specs.declared.attachment.Attachment.{Attachment}
-use Rattle.group_attach.specs.Attached.{Pair, Usage, Attached, of_radio, listed}
+use Rattle.group_attach.specs.Attached.{Pair, Usage, Attached, of_radio, listed, all_attached}
 use Rattle.group_attach.specs.Applied.{is_dropped, after_update, without_radio, attached_by, changed_by, at_start, applied}
-use Rattle.group_attach.specs.InOrder.{map_of}
-use Rattle.group_attach.specs.Filed.{AllHave, IsReplaced, all_attached, all_left, all_ended}
+use Rattle.group_attach.specs.Inside.ListedMap.{map_of}
+use Rattle.group_attach.specs.Inside.Filed.{AllHave, IsReplaced, all_left, all_ended}
 use Rattle.group_attach.proofs.Pairs.{pairs_total, pairs_exact, alike}
 use Rattle.group_attach.proofs.Counting.{part_inserted, part_removed}
 use Rattle.group_attach.proofs.Filtered.{length_listed}

@@ -12,7 +12,7 @@ use Rattle.registration.specs.declared.rule.Rule.{Rule}
 use Rattle.registration.specs.Registered.{Registered, rule_of}
 use Rattle.group_attach.specs.Attached.{Pair, Usage, Attached, pair_cmp, of_radio}
 use Rattle.group_attach.specs.Applied.{changed_by, attached_by, without_radio}
-use Rattle.group_attach.specs.Counted.{group_of, joined, joined_to, counted}
+use Rattle.group_attach.specs.Inside.Counted.{group_of, joined, joined_to, counted}
 use Rattle.group_attach.proofs.Pairs.{pairs_total, pairs_exact, pairs_tied, alike}
 
 pub same_number : (n : ℕ) → (n == n) ≡ true

@@ -14,7 +14,7 @@ use Rattle.group_attach.specs.declared.ending.Ending.{Ending}
 use Rattle.group_attach.specs.declared.ending.Ending.TheVariants as ending
 use Rattle.group_attach.specs.Attached.{Pair, Usage, Attached, pair_cmp, no_groups}
 use Rattle.group_attach.specs.Applied.{kept_where, is_dropped}
-use Rattle.group_attach.specs.Filed.{ended}
+use Rattle.group_attach.specs.Inside.Filed.{ended}
 use Rattle.group_attach.proofs.Pairs.{pairs_total, pairs_exact}
 use Rattle.group_attach.proofs.Counting.{same_number}
 use Rattle.group_attach.proofs.Filtered.{left, right, entries_kept}

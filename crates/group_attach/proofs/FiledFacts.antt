@@ -6,10 +6,10 @@ use Rattle.std.specs.Ordering.{eq_by_cmp}
 use Rattle.std.specs.FinMap as finite
 use mathlib.Core.Bool.{false≢true}
 use Rattle.identity.specs.Path.{Path, path_cmp}
-use Rattle.identity.specs.PathLaws.{paths_total, paths_exact, tie_exact}
+use Rattle.identity.specs.Inside.PathLaws.{paths_total, paths_exact, tie_exact}
 use Rattle.group_attach.specs.declared.ending.Ending.{Ending}
 use Rattle.group_attach.specs.Attached.{Attached, Pair, Usage, pair_cmp, no_groups, attachment_of, attachment_at}
-use Rattle.group_attach.specs.Filed.{Filed, under, placed, kept, ended}
+use Rattle.group_attach.specs.Inside.Filed.{Filed, under, placed, kept, ended}
 use Rattle.prefix_tree.specs.Change.{with_value}
 use Rattle.group_attach.proofs.Endings.{nothing_ends}
 

@@ -5,9 +5,10 @@ use Rattle.std.specs.List.{filter}
 use Rattle.std.specs.FinMap as finite
 use Rattle.std.specs.FinMap.Entries.{below_all, is_sorted, is_sorted-where_key, find-where_key}
 use Rattle.group_attach.specs.declared.attachment.Attachment.{Attachment}
-use Rattle.group_attach.specs.Attached.{Pair, Usage, Attached, pair_cmp, entry_of, attachment_of, listed}
+use Rattle.group_attach.specs.Attached.{Pair, Usage, Attached, pair_cmp, entry_of, attachment_of, listed, pair_of}
 use Rattle.group_attach.specs.Applied.{kept_where}
-use Rattle.group_attach.specs.InOrder.{IsInOrder, map_of, pair_of}
+use Rattle.group_attach.specs.InOrder.{IsInOrder}
+use Rattle.group_attach.specs.Inside.ListedMap.{map_of}
 use Rattle.group_attach.proofs.Pairs.{pairs_total, pairs_exact, pairs_tied, alike}
 
 pub left : (a b : Bool) → T (a && b) → T a

@@ -12,12 +12,11 @@ use mathlib.Core.Bool.{false≢true}
 use borrow.Author.Tests.{eqb-true}
 use Rattle.identity.specs.Number.{number}
 use Rattle.identity.specs.Path.{Path, path_cmp, id_path}
-use Rattle.identity.specs.PathLaws.{paths_total, tie_exact, tied, number-id_path}
+use Rattle.identity.specs.Inside.PathLaws.{paths_total, tie_exact, tied, number-id_path}
 use Rattle.group_attach.specs.declared.attachment.Attachment.{Attachment}
 use Rattle.group_attach.specs.declared.ending.Ending.{Ending}
-use Rattle.group_attach.specs.Attached.{Attached, Pair, Usage, pair_cmp, no_groups}
-use Rattle.group_attach.specs.InOrder.{pair_of}
-use Rattle.group_attach.specs.Filed.{Filed, under, held, placed, of_entries, gathered, AllHave, IsFiled, part_of, attached, ended}
+use Rattle.group_attach.specs.Attached.{Attached, Pair, Usage, pair_cmp, no_groups, pair_of, attached}
+use Rattle.group_attach.specs.Inside.Filed.{Filed, under, held, placed, of_entries, gathered, AllHave, IsFiled, part_of, ended}
 use Rattle.group_attach.proofs.Pairs.{pairs_total, pairs_exact, alike}
 use Rattle.group_attach.proofs.Counting.{same_number, same_pair}
 use Rattle.group_attach.proofs.Filtered.{left, right}

@@ -6,13 +6,12 @@ use Rattle.std.proofs.lemmas.List.Sums.{fold_more}
 use Rattle.std.specs.FinMap as finite
 use Rattle.identity.specs.Number.{number}
 use Rattle.identity.specs.Path.{Path, id_path}
-use Rattle.identity.specs.PathLaws.{number-id_path}
+use Rattle.identity.specs.Inside.PathLaws.{number-id_path}
 use Rattle.group_attach.specs.declared.attachment.Attachment.{Attachment}
 use Rattle.mm_pdus.specs.declared.update.LocationUpdateType.{LocationUpdateType}
 use Rattle.group_attach.specs.declared.ending.Ending.{Ending}
-use Rattle.group_attach.specs.Attached.{Attached, Pair, Usage, pair_cmp, no_groups, attachment_of, attachment_at, listed}
-use Rattle.group_attach.specs.InOrder.{pair_of}
-use Rattle.group_attach.specs.Filed.{Filed, under, held, placed, gathered, AllHave, IsFiled, part_of, attached, ended, left_where, all_left, left_if_ended, all_ended}
+use Rattle.group_attach.specs.Attached.{Attached, Pair, Usage, pair_cmp, no_groups, attachment_of, attachment_at, listed, pair_of, attached}
+use Rattle.group_attach.specs.Inside.Filed.{Filed, under, held, placed, gathered, AllHave, IsFiled, part_of, ended, left_where, all_left, left_if_ended, all_ended}
 use Rattle.group_attach.proofs.Filtered.{listed_map, map_of_nothing}
 use Rattle.group_attach.proofs.Endings.{ended_usage}
 use Rattle.group_attach.proofs.FiledFacts.{absent_not}

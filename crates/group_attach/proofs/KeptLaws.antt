@@ -16,13 +16,14 @@ use Rattle.mm_pdus.specs.declared.group.GroupUp.TheVariants as up
 use Rattle.mm_pdus.specs.Address.{gtsi_of}
 use Rattle.registration.specs.declared.rule.Rule.{Rule}
 use Rattle.registration.specs.declared.radio.Radio.{Radio}
-use Rattle.registration.specs.Registered.{Registered, rule_of, radio_of, is_present}
+use Rattle.registration.specs.Registered.{Registered, rule_of, radio_of, has_radio, is_present}
 use Rattle.group_attach.specs.declared.fault.GroupFault.TheVariants.{NotAttached, TooManyGroups}
 use Rattle.group_attach.specs.Attached.{Pair, Usage, Attached, pair_cmp, no_groups, of_radio}
 use Rattle.group_attach.specs.Applied.{kept_where, is_dropped, after_update, attached_by, changed_by, at_start, applied, most_of_radio, apply_refusal}
 use Rattle.group_attach.specs.Kept.{AllGroupsFit, AreKnown}
 use Rattle.group_attach.proofs.Pairs.{pairs_total, pairs_exact, pairs_tied, alike}
 use Rattle.group_attach.proofs.Filtered.{entries_kept, entries_retained, fewer}
+use Rattle.group_attach.proofs.Endings.{kept_usage, get_kept}
 
 both_alike : {A : Type 0} (b : Bool) (x : A) → cond b x x ≡ x
 both_alike true x = refl
@@ -100,6 +101,20 @@ after_update_fits m itsi update fit = part_fits m (λ e. not ((e.0.0 == itsi) &&
 
 pub after_update_known : (s : Registered) (m : Attached) (itsi : ℕ) (update : LocationUpdateType) → AreKnown s m → AreKnown s (after_update m itsi update)
 after_update_known s m itsi update known = part_known s m (λ e. not ((e.0.0 == itsi) && is_dropped update e.1.1)) known
+
+-- one of a radio that is not known ends nothing
+not_of_new : (s : Registered) (m : Attached) (itsi : ℕ) (update : LocationUpdateType) (q : Pair) (o : Option Usage) → finite.get m q ≡ o → AreKnown s m → has_radio s itsi ≡ false → kept_usage (λ e. not ((e.0.0 == itsi) && is_dropped update e.1.1)) q o ≡ o
+unfolding kept_usage
+not_of_new s m itsi update q None at known new = refl
+not_of_new s m itsi update q (Some usage) at known new =
+    (elim (q.0 == itsi) as (λ b. (q.0 == itsi) ≡ b → cond (not (b && is_dropped update usage.1)) (Some usage) None ≡ Some usage) [
+      | true ↦ λ same. absurd (false≢true (sym new ∙ subst (λ r. IsSome (radio_of s r)) (eqb-true q.0 itsi same) (known q.0 q.1 (ap is_some at))))
+      | false ↦ λ other. refl
+    ]) refl
+
+pub after_update_new : (s : Registered) (m : Attached) (itsi : ℕ) (update : LocationUpdateType) → AreKnown s m → has_radio s itsi ≡ false → after_update m itsi update ≡ m
+after_update_new s m itsi update known new =
+    finite.same_map pairs_total pairs_exact _ _ (λ q. get_kept (λ e. not ((e.0.0 == itsi) && is_dropped update e.1.1)) m q ∙ not_of_new s m itsi update q (finite.get m q) refl known new)
 
 -- a register that knows no fewer radios
 pub known_after : (s t : Registered) (m : Attached) → ((itsi : ℕ) → IsSome (radio_of s itsi) → IsSome (radio_of t itsi)) → AreKnown s m → AreKnown t m

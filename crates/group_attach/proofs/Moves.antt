@@ -8,10 +8,10 @@ use Rattle.std.specs.FinMap.{find}
 use Rattle.std.specs.FinMap.Entries.{is_sorted}
 use Rattle.mm_pdus.specs.declared.update.LocationUpdateType.{LocationUpdateType}
 use Rattle.group_attach.specs.declared.attachment.Attachment.{Attachment}
-use Rattle.group_attach.specs.Attached.{Pair, Usage, Attached, pair_cmp, attachment_of, entry_of, listed}
+use Rattle.group_attach.specs.Attached.{Pair, Usage, Attached, pair_cmp, attachment_of, entry_of, listed, pair_of, attached, all_attached}
 use Rattle.group_attach.specs.Applied.{is_dropped}
-use Rattle.group_attach.specs.InOrder.{map_of, pair_of}
-use Rattle.group_attach.specs.Filed.{attached, all_attached, has_pair, left_where, all_left, left_if_ended, all_ended, set_back}
+use Rattle.group_attach.specs.Inside.ListedMap.{map_of}
+use Rattle.group_attach.specs.Inside.Filed.{has_pair, left_where, all_left, left_if_ended, all_ended, set_back}
 use Rattle.group_attach.proofs.Pairs.{pairs_total, pairs_exact}
 use Rattle.group_attach.proofs.Counting.{same_pair}
 use Rattle.group_attach.proofs.Filtered.{left, right}

@@ -14,8 +14,9 @@ use Rattle.std.specs.FinMap as finite
 use Rattle.std.specs.FinMap.{find, put}
 use Rattle.std.specs.FinMap.Entries.{below_all, is_sorted-put}
 use Rattle.group_attach.specs.declared.attachment.Attachment.{Attachment}
-use Rattle.group_attach.specs.Attached.{Pair, Usage, pair_cmp, entry_of, attachment_of}
-use Rattle.group_attach.specs.InOrder.{IsInOrder, map_of, pair_of}
+use Rattle.group_attach.specs.Attached.{Pair, Usage, pair_cmp, entry_of, attachment_of, pair_of}
+use Rattle.group_attach.specs.InOrder.{IsInOrder}
+use Rattle.group_attach.specs.Inside.ListedMap.{map_of}
 use Rattle.group_attach.proofs.Pairs.{pairs_total, pairs_exact}
 use Rattle.group_attach.proofs.Filtered.{to_T, from_T, entries_of}
 

@@ -7,10 +7,11 @@ use Rattle.std.specs.FinMap as finite
 use Rattle.std.proofs.lemmas.List.Elements.{All-head, All-tail}
 use mathlib.Core.Bool.{false≢true}
 use Rattle.group_attach.specs.declared.attachment.Attachment.{Attachment}
-use Rattle.group_attach.specs.Attached.{Attached, Usage}
+use Rattle.group_attach.specs.Attached.{Attached, Usage, pair_of, all_attached}
 use Rattle.group_attach.specs.Applied.{restored, without_radio}
-use Rattle.group_attach.specs.InOrder.{IsInOrder, map_of, pair_of}
-use Rattle.group_attach.specs.Filed.{AllHave, IsReplaced, all_attached}
+use Rattle.group_attach.specs.InOrder.{IsInOrder}
+use Rattle.group_attach.specs.Inside.ListedMap.{map_of}
+use Rattle.group_attach.specs.Inside.Filed.{AllHave, IsReplaced}
 use Rattle.group_attach.proofs.Pairs.{pairs_total, pairs_exact, alike}
 use Rattle.group_attach.proofs.Counting.{same_number}
 use Rattle.group_attach.proofs.Filtered.{retained_map, listed_map}

@@ -8,7 +8,7 @@ use Rattle.mm_pdus.specs.declared.group.GroupUp.{GroupUp}
 use Rattle.registration.specs.Registered.{Registered}
 use Rattle.group_attach.specs.Attached.{Attached, of_radio}
 use Rattle.group_attach.specs.Applied.{changed_by}
-use Rattle.group_attach.specs.Counted.{group_of, joined, joined_to, counted}
+use Rattle.group_attach.specs.Inside.Counted.{group_of, joined, joined_to, counted}
 use Rattle.group_attach.proofs.Counting.{joined_is, count_is}
 
 pub joined_more : (s : Registered) (itsi gtsi : ℕ) (m : Attached) (items : List GroupUp) (i : ℕ) (item : GroupUp) (before : Bool)

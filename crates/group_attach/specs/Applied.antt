@@ -33,6 +33,7 @@ ends_at_attach NextItsiAttach = true
 ends_at_attach NotAllowedAtNextItsiAttach = true
 ends_at_attach NextLocationUpdate = true
 
+-- the one lifetime that other location updates end too, but no periodic one
 abbrev pub ends_at_update : Lifetime → Bool
 ends_at_update NotNeeded = false
 ends_at_update NextItsiAttach = false
@@ -68,6 +69,7 @@ abbrev pub changed_by : Registered → ℕ → Attached → GroupUp → Attached
 changed_by s itsi m (up.Attach class address) = attached_by m (itsi, gtsi_of address itsi) class (rule_of s (gtsi_of address itsi))
 changed_by s itsi m (up.Leave reason address) = finite.remove m (itsi, gtsi_of address itsi)
 
+-- the attachments before the items: as they were, or without the radio's where the mode detaches all first
 abbrev pub at_start : Attached → ℕ → GroupMode → Attached
 at_start m itsi Amendment = m
 at_start m itsi DetachAllFirst = without_radio m itsi
@@ -81,6 +83,7 @@ abbrev pub answer_by : ℕ → GroupAddress → Option Rule → GroupDown
 answer_by class address None = down.Detach reason.UnknownGroup address
 answer_by class address (Some rule) = down.Attach rule.lifetime class address
 
+-- the answer to an item: an attach has one, a detach has none
 abbrev pub answer : Registered → ℕ → GroupUp → Option GroupDown
 answer s itsi (up.Attach class address) = Some (answer_by class address (rule_of s (gtsi_of address itsi)))
 answer s itsi (up.Leave reason address) = None

@@ -1,5 +1,6 @@
 -- The attachments of radios to groups as one finite map, and what can be asked of it.
 use Rattle.std.specs.Prelude.{ℕ, ◌==◌, List, Option, map}
+use Rattle.std.specs.List.{fold}
 use Rattle.std.specs.Option.{option_map}
 use Rattle.std.specs.Ordering.{nat_cmp, ordering_then}
 use Rattle.std.specs.declared.cmp.Ordering.{Ordering}
@@ -37,6 +38,7 @@ no_groups = finite.empty
 abbrev pub attachment_of : Pair × Usage → Attachment
 attachment_of e = record { itsi = e.0.0; gtsi = e.0.1; class = e.1.0; lifetime = e.1.1 }
 
+-- an attachment as an entry of the map
 abbrev pub entry_of : Attachment → Pair × Usage
 entry_of a = ((a.itsi, a.gtsi), (a.class, a.lifetime))
 
@@ -52,6 +54,7 @@ listed m = map attachment_of (finite.entries m)
 abbrev pub of_radio : Attached → ℕ → Attached
 of_radio m itsi = finite.retain_keys m (λ pair. pair.0 == itsi)
 
+-- the attachments to one group
 abbrev pub of_group : Attached → ℕ → Attached
 of_group m gtsi = finite.retain_keys m (λ pair. pair.1 == gtsi)
 
@@ -59,5 +62,18 @@ of_group m gtsi = finite.retain_keys m (λ pair. pair.1 == gtsi)
 abbrev pub groups_of : Attached → ℕ → List Attachment
 groups_of m itsi = listed (of_radio m itsi)
 
+-- a group's attachments, by radio
 abbrev pub members_of : Attached → ℕ → List Attachment
 members_of m gtsi = listed (of_group m gtsi)
+
+-- the radio and the group of an attachment
+abbrev pub pair_of : Attachment → Pair
+pair_of a = (a.itsi, a.gtsi)
+
+-- an attachment is there as this one
+abbrev pub attached : Attached → Attachment → Attached
+attached m a = finite.insert m (pair_of a) (a.class, a.lifetime)
+
+-- those of a list, one after another
+abbrev pub all_attached : Attached → List Attachment → Attached
+all_attached m list = fold attached m list

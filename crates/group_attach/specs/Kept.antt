@@ -20,11 +20,14 @@ AreKnown s m = (itsi gtsi : ℕ) → IsSome (finite.get m (itsi, gtsi)) → IsSo
 abbrev pub AreKept : Registered → Attached → Type 0
 AreKept s m = AllGroupsFit m × AreKnown s m
 
+-- both hold where no radio is attached to any group
 abbrev pub EmptyIsKept : Type 0
 EmptyIsKept = (s : Registered) → AreKept s no_groups
 
+-- both still hold after a location update
 abbrev pub UpdatesKeep : Type 0
 UpdatesKeep = (s : Registered) (m : Attached) (itsi : ℕ) (update : LocationUpdateType) → AreKept s m → AreKept s (after_update m itsi update)
 
+-- both still hold after a group PDU that is not refused
 abbrev pub PdusKeep : Type 0
 PdusKeep = (s : Registered) (m : Attached) (itsi : ℕ) (mode : GroupMode) (items : List GroupUp) → apply_refusal s m itsi mode items ≡ None → AreKept s m → AreKept s (applied s m itsi mode items)

@@ -2,5 +2,4 @@ pub mod Attached
 pub mod Applied
 pub mod Kept
 pub mod InOrder
-pub mod Counted
-pub mod Filed
+pub mod Inside

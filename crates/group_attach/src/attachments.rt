@@ -3,10 +3,11 @@
 ghost use Rattle.std.specs.Prelude.{◌≡◌, ◌==◌, Some, OnOk, OnErr, IfOk, IsOk, IsSome};
 ghost use Rattle.std.specs.Option.{option_copied};
 ghost use Rattle.std.specs.FinMap as finite;
-ghost use Rattle.group_attach.specs.Attached.{no_groups, listed, attachment_at};
+ghost use Rattle.group_attach.specs.Attached.{no_groups, listed, attachment_at, pair_of, attached};
 ghost use Rattle.group_attach.specs.Applied.{applied};
-ghost use Rattle.group_attach.specs.InOrder.{IsInOrder, map_of, pair_of};
-ghost use Rattle.group_attach.specs.Filed.{attached, ended, kept, held};
+ghost use Rattle.group_attach.specs.InOrder.{IsInOrder};
+ghost use Rattle.group_attach.specs.Inside.ListedMap.{map_of};
+ghost use Rattle.group_attach.specs.Inside.Filed.{ended, kept, held};
 
 use crate::Attachment;
 use crate::edit::{attach, change_all, drop_ended, leave};
@@ -26,7 +27,8 @@ pub(crate) struct AttachmentList<A: Allocator> {
 
 impl<A: Allocator> Model for AttachmentList<A> {
     ghost use Rattle.group_attach.specs.Attached.{Attached, coded_attached};
-    ghost use Rattle.group_attach.specs.InOrder.{map_of, IsInOrder};
+    ghost use Rattle.group_attach.specs.InOrder.{IsInOrder};
+    ghost use Rattle.group_attach.specs.Inside.ListedMap.{map_of};
 
     ghost Value = { Attached };
 

@@ -6,8 +6,9 @@ ghost use Rattle.std.specs.Option.{is_some};
 ghost use Rattle.std.specs.FinMap as finite;
 ghost use Rattle.group_attach.specs.Attached.{of_radio};
 ghost use Rattle.group_attach.specs.Applied.{changed_by, at_start, applied};
-ghost use Rattle.group_attach.specs.InOrder.{IsInOrder, map_of};
-ghost use Rattle.group_attach.specs.Counted.{group_of, joined, joined_to, counted};
+ghost use Rattle.group_attach.specs.InOrder.{IsInOrder};
+ghost use Rattle.group_attach.specs.Inside.ListedMap.{map_of};
+ghost use Rattle.group_attach.specs.Inside.Counted.{group_of, joined, joined_to, counted};
 
 use crate::Attachment;
 use crate::list::{count_of, has};

@@ -3,10 +3,10 @@
 ghost use Rattle.std.specs.Prelude.{◌≡◌, ◌==◌, ◌<◌, ◌≤◌, ◌+◌, ◌&&◌, not, length, vec_len, vec_capacity, IsSome, IsOk, IfOk, OnOk, OnErr};
 ghost use Rattle.std.specs.List.{filter};
 ghost use Rattle.std.specs.FinMap as finite;
-ghost use Rattle.group_attach.specs.Attached.{attachment_at};
-ghost use Rattle.group_attach.specs.Filed.{attached};
+ghost use Rattle.group_attach.specs.Attached.{attachment_at, attached, pair_of};
 ghost use Rattle.group_attach.specs.Applied.{ends_at_attach, ends_at_update, is_dropped, after_update, without_radio, changed_by, at_start, applied};
-ghost use Rattle.group_attach.specs.InOrder.{IsInOrder, map_of, pair_of};
+ghost use Rattle.group_attach.specs.InOrder.{IsInOrder};
+ghost use Rattle.group_attach.specs.Inside.ListedMap.{map_of};
 
 use crate::Attachment;
 use crate::list::place;

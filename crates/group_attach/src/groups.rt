@@ -7,8 +7,9 @@ ghost use Rattle.std.specs.FinMap as finite;
 ghost use Rattle.prefix_tree.specs.Following.{next_of};
 ghost use Rattle.group_attach.specs.Attached.{no_groups, of_radio, groups_of, members_of};
 ghost use Rattle.group_attach.specs.Applied.{after_update, applied, answers, apply_refusal, restore_refusal, restored};
-ghost use Rattle.group_attach.specs.Filed.{AllHave, IsReplaced};
-ghost use Rattle.group_attach.specs.InOrder.{IsInOrder, map_of};
+ghost use Rattle.group_attach.specs.Inside.Filed.{AllHave, IsReplaced};
+ghost use Rattle.group_attach.specs.InOrder.{IsInOrder};
+ghost use Rattle.group_attach.specs.Inside.ListedMap.{map_of};
 ghost use Rattle.group_attach.specs.declared.fault.GroupFault.TheVariants.{NoMemory};
 
 use crate::answer::answers;

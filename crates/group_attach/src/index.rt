@@ -2,10 +2,11 @@
 
 ghost use Rattle.std.specs.Prelude.{◌≡◌, ◌<◌, ◌^◌, length, OnOk, OnErr, IfOk, IsOk, IsSome};
 ghost use Rattle.std.specs.FinMap as finite;
-ghost use Rattle.group_attach.specs.Attached.{Attached, no_groups, listed, attachment_at, of_radio};
+ghost use Rattle.group_attach.specs.Attached.{Attached, no_groups, listed, attachment_at, of_radio, pair_of, attached, all_attached};
 ghost use Rattle.group_attach.specs.Applied.{after_update};
-ghost use Rattle.group_attach.specs.InOrder.{IsInOrder, map_of, pair_of};
-ghost use Rattle.group_attach.specs.Filed.{part_of, attached, all_attached, all_left, set_back, held, left_where, left_if_ended, all_ended, AllHave, IsReplaced};
+ghost use Rattle.group_attach.specs.InOrder.{IsInOrder};
+ghost use Rattle.group_attach.specs.Inside.ListedMap.{map_of};
+ghost use Rattle.group_attach.specs.Inside.Filed.{part_of, all_left, set_back, held, left_where, left_if_ended, all_ended, AllHave, IsReplaced};
 
 use crate::Attachment;
 use crate::attachments::{AttachmentList, slice_of};
@@ -29,7 +30,7 @@ pub(crate) struct Index<S: Side, A: Allocator> {
 
 impl<S: Side, A: Allocator> Model for Index<S, A> {
     ghost use Rattle.group_attach.specs.Attached.{Attached, coded_attached};
-    ghost use Rattle.group_attach.specs.Filed.{gathered, IsFiled};
+    ghost use Rattle.group_attach.specs.Inside.Filed.{gathered, IsFiled};
 
     ghost Value = { Attached };
 

@@ -8,9 +8,10 @@ ghost use Rattle.std.specs.FinMap as finite;
 ghost use Rattle.std.specs.Ordering.{nat_cmp};
 ghost use Rattle.std.specs.declared.cmp.Ordering.TheVariants.{Less};
 ghost use Rattle.prefix_tree.specs.Following.{is_after, next_of};
-ghost use Rattle.group_attach.specs.Attached.{pair_cmp};
+ghost use Rattle.group_attach.specs.Attached.{pair_cmp, pair_of};
 ghost use Rattle.group_attach.specs.Applied.{is_dropped};
-ghost use Rattle.group_attach.specs.InOrder.{IsInOrder, map_of, pair_of};
+ghost use Rattle.group_attach.specs.InOrder.{IsInOrder};
+ghost use Rattle.group_attach.specs.Inside.ListedMap.{map_of};
 
 use crate::Attachment;
 use crate::edit::is_dropped;

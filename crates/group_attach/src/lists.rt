@@ -3,9 +3,8 @@
 ghost use Rattle.std.specs.Prelude.{◌≡◌, ◌<◌, OnOk, OnErr, IfOk, IfSome, IfNone, IsOk, IsSome};
 ghost use Rattle.std.specs.Option.{option_copied, is_some};
 ghost use Rattle.std.specs.FinMap as finite;
-ghost use Rattle.group_attach.specs.Attached.{attachment_at};
-ghost use Rattle.group_attach.specs.InOrder.{pair_of};
-ghost use Rattle.group_attach.specs.Filed.{under, placed, attached, ended};
+ghost use Rattle.group_attach.specs.Attached.{attachment_at, pair_of, attached};
+ghost use Rattle.group_attach.specs.Inside.Filed.{under, placed, ended};
 
 use crate::Attachment;
 use crate::attachments::AttachmentList;
@@ -24,7 +23,7 @@ pub(crate) struct Lists<A: Allocator> {
 impl<A: Allocator> Model for Lists<A> {
     ghost use Rattle.prefix_tree.specs.Table.{coded_table};
     ghost use Rattle.group_attach.specs.Attached.{coded_attached};
-    ghost use Rattle.group_attach.specs.Filed.{Filed};
+    ghost use Rattle.group_attach.specs.Inside.Filed.{Filed};
 
     ghost Value = { Filed };
 

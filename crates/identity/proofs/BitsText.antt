@@ -7,7 +7,7 @@ use Rattle.std.proofs.lemmas.List.{append-nil, take_all, take_more, drop_at, dro
 use Rattle.std.proofs.lemmas.List.Concat.{flat_map-append}
 use Rattle.std.proofs.lemmas.Nat.{one_shl}
 use Rattle.identity.specs.Number.{num, number}
-use Rattle.identity.specs.NumberLaws.{length-num, number-num_mod, drop-num}
+use Rattle.identity.specs.Inside.NumberLaws.{length-num, number-num_mod, drop-num}
 use Rattle.identity.specs.BitsText.{digit_bits}
 use Rattle.identity.proofs.NumberText.{and_left, and_right}
 

@@ -8,7 +8,7 @@ use Rattle.std.proofs.lemmas.Bool.Decides.{nat_tests}
 use Rattle.std.proofs.lemmas.Bool.{eq-eqb}
 use Rattle.std.proofs.lemmas.List.{take_at, drop_at, take-append-drop, length-append, length-replicate, length-take, length-drop}
 use Rattle.identity.specs.Number.{num, number}
-use Rattle.identity.specs.NumberLaws.{number-lt, num-number}
+use Rattle.identity.specs.Inside.NumberLaws.{number-lt, num-number}
 use Rattle.identity.specs.NumberText.{is_number, value, cut}
 use Rattle.identity.specs.BitsText.{hex_of, bits_text, digit_bits, SpellsBits, IsBitsForm, is_filled, bits_len, bits_form, reading_bits}
 use Rattle.identity.proofs.BitsText.{length-digit_bits}

@@ -9,7 +9,7 @@ use Rattle.std.proofs.lemmas.List.Concat.{flat_map-append}
 use Rattle.std.proofs.lemmas.Grind.{div_ceil_times}
 use Rattle.identity.specs.Number.{num}
 use Rattle.identity.specs.Packed.{bits_of, IsPacked, Shows}
-use Rattle.identity.specs.NumberLaws.{length-num, get_or-num}
+use Rattle.identity.specs.Inside.NumberLaws.{length-num, get_or-num}
 
 pub length-bits_of : (bytes : List ℕ) → length (bits_of bytes) ≡ 8 * length bytes
 unfolding bits_of

@@ -6,7 +6,7 @@ use Rattle.std.proofs.lemmas.Bool.{cases_lt}
 use Rattle.std.proofs.lemmas.Bool.Decides.{nat_tests}
 use Rattle.std.proofs.lemmas.List.{append-nil, append_assoc, take_all, take-append-le, get_or_append_left, get_or-append_right, get_or-drop, length-append, length-replicate}
 use Rattle.identity.specs.Number.{num, number}
-use Rattle.identity.specs.NumberLaws.{num-number, num-zero, num-append, num-mod}
+use Rattle.identity.specs.Inside.NumberLaws.{num-number, num-zero, num-append, num-mod}
 use Rattle.identity.specs.Packed.{bits_of, IsPacked}
 use Rattle.identity.specs.BitsText.{digit_bits, is_filled}
 use Rattle.identity.proofs.NumberText.{and_left, and_right}

@@ -3,9 +3,9 @@ use Rattle.std.proofs.Common.{◌≡◌, ℕ, ◌+◌, ◌*◌, ◌/◌, ◌%◌
 use Rattle.std.proofs.lemmas.List.{length-take}
 use Rattle.std.specs.declared.cmp.Ordering.TheVariants.{Less}
 use Rattle.identity.specs.Number.{num}
-use Rattle.identity.specs.NumberLaws.{num-append, num-mod}
+use Rattle.identity.specs.Inside.NumberLaws.{num-append, num-mod}
 use Rattle.identity.specs.Path.{Path, path_cmp, id_path, begins}
-use Rattle.identity.specs.PathLaws.{begins_if}
+use Rattle.identity.specs.Inside.PathLaws.{begins_if}
 use Rattle.identity.specs.Identity.{identity_number, AreFields, mcc_of, mnc_of, ssi_of}
 
 pub fields_of_number : (mcc mnc ssi : ℕ) → AreFields mcc mnc ssi → (mcc_of (identity_number mcc mnc ssi) ≡ mcc) × (mnc_of (identity_number mcc mnc ssi) ≡ mnc) × (ssi_of (identity_number mcc mnc ssi) ≡ ssi)

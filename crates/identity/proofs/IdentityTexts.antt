@@ -10,9 +10,9 @@ use Rattle.std.proofs.lemmas.List.Folds.{list_all-append}
 use Rattle.std.proofs.lemmas.Nat.{pow_pos}
 use Rattle.std.proofs.Math.Nat.{mod-eq_of_lt}
 use Rattle.identity.specs.Number.{num, number}
-use Rattle.identity.specs.NumberLaws.{number-lt, number-num_mod, num-zero, num-number}
+use Rattle.identity.specs.Inside.NumberLaws.{number-lt, number-num_mod, num-zero, num-number}
 use Rattle.identity.specs.Path.{Path, id_path, left_aligned}
-use Rattle.identity.specs.PathLaws.{length-id_path, number-id_path, id_path-number}
+use Rattle.identity.specs.Inside.PathLaws.{length-id_path, number-id_path, id_path-number}
 use Rattle.identity.specs.Identity.{identity_number, mcc_of, mnc_of, ssi_of}
 use Rattle.identity.specs.NumberText.{is_number, value, cut}
 use Rattle.identity.specs.IdentityText.{identity_text, prefix_text, three_numbers, identity_of, reading_identity, prefix_of, prefix_within, prefix_form, IsIdentityForm, IsPrefixForm, reading_prefix}

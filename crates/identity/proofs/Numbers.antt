@@ -5,7 +5,7 @@ use Rattle.std.proofs.lemmas.List.{append-nil, get_or-drop, take_more, take_at, 
 use Rattle.std.proofs.lemmas.List.Concat.{flat_map-append}
 use Rattle.std.proofs.Math.Pow.{pow_mono}
 use Rattle.identity.specs.Number.{num, number}
-use Rattle.identity.specs.NumberLaws.{number-num, number-num_mod, num-number, num-append, num-mod, number-lt, take-num, drop-num}
+use Rattle.identity.specs.Inside.NumberLaws.{number-num, number-num_mod, num-number, num-append, num-mod, number-lt, take-num, drop-num}
 use Rattle.identity.specs.Packed.{bits_of}
 use Rattle.identity.proofs.Bytes.{length-bits_of}
 use Rattle.identity.proofs.Reading.{front_of}

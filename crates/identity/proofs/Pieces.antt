@@ -10,7 +10,7 @@ use Rattle.std.proofs.lemmas.Nat.Bits.{bit_at_or, bit_at-lt}
 use Rattle.std.proofs.lemmas.List.{get_or_append_left, get_or-append_right, get_or_past, get_or-replicate, get_or-set_same, get_or-set_other, get_or-take, length-set, length-take, length-replicate, append_assoc}
 use Rattle.identity.specs.Number.{num}
 use Rattle.identity.specs.Packed.{bits_of, Shows}
-use Rattle.identity.specs.NumberLaws.{length-num, get_or-num, num-mod, num-append, num-zero, zeros_if, take-num, drop-num}
+use Rattle.identity.specs.Inside.NumberLaws.{length-num, get_or-num, num-mod, num-append, num-zero, zeros_if, take-num, drop-num}
 use Rattle.identity.proofs.Bytes.{length-bits_of, bit_of, past, shown_is}
 
 -- w bits of a number in a byte, behind r zeros and before k

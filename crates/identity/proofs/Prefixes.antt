@@ -5,11 +5,11 @@ use Rattle.std.proofs.lemmas.Bool.{cases_eq, ne_eqb}
 use Rattle.std.proofs.lemmas.Bool.Decides.{nat_tests}
 use Rattle.std.proofs.lemmas.Nat.{shl_whole, shl_below}
 use Rattle.identity.specs.Number.{num, number}
-use Rattle.identity.specs.NumberLaws.{length-num, number-num, number-num_mod, zeros_if, zeros_then}
+use Rattle.identity.specs.Inside.NumberLaws.{length-num, number-num, number-num_mod, zeros_if, zeros_then}
 use Rattle.identity.specs.Path.{Path, id_path, left_aligned, begins}
 use Rattle.identity.specs.IdentityText.{prefix_of}
 use Rattle.identity.specs.declared.fault.Fault.TheVariants.{OutOfRange}
-use Rattle.identity.specs.PathLaws.{length-id_path, number-id_path, id_path-mod, take-id, drop-id, first_bits_fit, aligned, begins_test}
+use Rattle.identity.specs.Inside.PathLaws.{length-id_path, number-id_path, id_path-mod, take-id, drop-id, first_bits_fit, aligned, begins_test}
 
 -- the test of the fields says whether the bits begin the identity's
 pub begins_bits : (n a v : ℕ) → n ≤ 48 → a < 2 ^ n → nat_eq (v % 2 ^ 48 / 2 ^ (48 - n)) a ≡ begins (num n a) (id_path v)

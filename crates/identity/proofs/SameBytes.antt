@@ -8,7 +8,7 @@ use Rattle.std.proofs.lemmas.Bool.Decides.{Decides-eqb, Decides-like}
 use Rattle.std.proofs.lemmas.List.{get_or-take, ext_get_or, length-append}
 use Rattle.std.proofs.Math.Seq.{take-append_seam, drop-append_seam}
 use Rattle.identity.specs.Number.{num, number}
-use Rattle.identity.specs.NumberLaws.{length-num, number-num}
+use Rattle.identity.specs.Inside.NumberLaws.{length-num, number-num}
 use Rattle.identity.specs.Packed.{bits_of, IsPacked, AreBytes}
 use Rattle.identity.proofs.Bytes.{length-bits_of, length_packed}
 

@@ -63,6 +63,10 @@ bits_len count digits = if is_number count && list_all is_ascii_hexdigit digits 
 unfoldable pub bits_form : List ℕ → Option (ℕ × List ℕ)
 bits_form text = option_and_then (λ p. option_map (λ n. (n, p.1)) (bits_len p.0 p.1)) (cut 58 text)
 
--- what a text says that is to be at most 2,048 bits
+-- the most bits of a string
+abbrev pub most_bits : ℕ
+most_bits = 2048
+
+-- what a text says that is to be at most so many bits
 unfoldable pub reading_bits : List ℕ → Result (List Bool) Fault
-reading_bits text = judged (λ form. if nat_le form.0 2048 then Ok (take form.0 (digit_bits form.1)) else Err OutOfRange) (bits_form text)
+reading_bits text = judged (λ form. if nat_le form.0 most_bits then Ok (take form.0 (digit_bits form.1)) else Err OutOfRange) (bits_form text)

@@ -64,6 +64,7 @@ prefix_of identity len =
 unfoldable pub prefix_form : List ℕ → Option ((List ℕ × List ℕ × List ℕ) × List ℕ)
 prefix_form text = option_and_then (λ p. option_and_then (λ numbers. if is_number p.1 then Some (numbers, p.1) else None) (three_numbers p.0)) (cut 47 text)
 
+-- the first `len` bits of an identity that was read, or the fault
 abbrev pub prefix_within : ℕ → Result ℕ Fault → Result Path Fault
 prefix_within len (Err fault) = Err fault
 prefix_within len (Ok identity) = prefix_of identity len

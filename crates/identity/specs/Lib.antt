@@ -1,10 +1,8 @@
 pub mod Number
-pub mod NumberLaws
 pub mod NumberText
 pub mod Path
-pub mod PathLaws
 pub mod Identity
-pub mod PrefixInside
 pub mod IdentityText
 pub mod Packed
 pub mod BitsText
+pub mod Inside

@@ -5,11 +5,14 @@ ghost use Rattle.std.specs.Ordering.{eq_by_cmp};
 ghost use Rattle.identity.specs.Number.{num};
 ghost use Rattle.identity.specs.Packed.{bits_of, IsPacked};
 ghost use Rattle.identity.specs.Path.{path_cmp};
+ghost use Rattle.identity.specs.BitsText.{bits_text};
 ghost use Rattle.identity.specs.declared.fault.Fault.TheVariants.{NoMemory};
 
-use crate::Fault;
+use crate::display::write_hex;
 use crate::packed::{append_bits, bit_in, same_bytes};
+use crate::{BitReader, Fault};
 use std::alloc::{Allocator, Global};
+use std::fmt;
 use std::marker::Model;
 
 /// A string of bits.
@@ -113,7 +116,7 @@ impl<A: Allocator> Bits<A> {
 
 impl<A: Allocator> PartialEq for Bits<A> {
     ghost use Rattle.std.specs.Cmp.{partial_equiv_from_equiv, eq_by_cmp_equiv};
-    ghost use Rattle.identity.specs.PathLaws.{paths_total};
+    ghost use Rattle.identity.specs.Inside.PathLaws.{paths_total};
 
     ghost eq = { eq_by_cmp path_cmp };
 
@@ -126,7 +129,25 @@ impl<A: Allocator> PartialEq for Bits<A> {
 
 impl<A: Allocator> Eq for Bits<A> {
     ghost use Rattle.std.specs.Cmp.{eq_by_cmp_equiv};
-    ghost use Rattle.identity.specs.PathLaws.{paths_total};
+    ghost use Rattle.identity.specs.Inside.PathLaws.{paths_total};
 
     ghost laws = { eq_by_cmp_equiv paths_total };
+}
+
+/// Writes what [`print_bits`](crate::print_bits) appends, whatever options stand in `{}`. There is no `FromStr`
+/// beside it, since bits lie in memory: [`parse_bits`](crate::parse_bits) takes where.
+///
+/// ```
+/// let bits = parse_bits(rt.alloc(), b"10:264")?;
+/// let text = bits.to_string(rt.alloc())?;
+/// assert_eq!(rt; text.as_str(), "10:264");
+/// ```
+impl<A: Allocator> fmt::Display for Bits<A> {
+    ghost output = { λ bits. Some (bits_text bits) };
+
+    fn fmt<W: fmt::Write>(&self, f: &mut fmt::Formatter<W>) -> fmt::Result {
+        let len = self.len();
+        write!(f, "{len}:")?;
+        write_hex(f, &mut BitReader::new(self))
+    }
 }

@@ -14,8 +14,8 @@ use crate::number_text::{cut, is_number, print_number, put_whole, value_of};
 use crate::{BitReader, Bits, Fault};
 use std::alloc::{AllocError, Allocator};
 
-/// The most bits that a text may have.
-const MOST_BITS: u128 = 2048;
+/// The most bits of a PDU, and of a string of bits that is read as text.
+pub const MOST_BITS: usize = 2048;
 
 fn all_hexadecimal(text: &[u8]) -> bool
     ensures { result ≡ list_all is_ascii_hexdigit text.now }
@@ -108,7 +108,7 @@ fn bits_of<A: Allocator>(alloc: A, digits: &[u8], len: usize) -> Result<Bits<A>,
     Ok(Bits::packed(bytes_of(alloc, digits)?, len))
 }
 
-/// The bits that a text `bits:HEX` says, at most 2,048 of them; `Fault::BadText` where the text has not that
+/// The bits that a text `bits:HEX` says, at most [`MOST_BITS`] of them; `Fault::BadText` where the text has not that
 /// form, and else `Fault::OutOfRange` where they are more; `Fault::NoMemory` only for a good text.
 #[inline(always)]
 #[tactic(auto, unfolding(crate::specs::BitsText::reading_bits, crate::specs::BitsText::bits_form))]
@@ -122,7 +122,7 @@ pub fn parse_bits<A: Allocator>(alloc: A, text: &[u8]) -> Result<Bits<A>, Fault>
     let Some(len) = bits_len(count, digits) else {
         return Err(Fault::BadText);
     };
-    if len > MOST_BITS {
+    if len > MOST_BITS as u128 {
         return Err(Fault::OutOfRange);
     }
     bits_of(alloc, digits, len as usize)
@@ -131,7 +131,8 @@ pub fn parse_bits<A: Allocator>(alloc: A, text: &[u8]) -> Result<Bits<A>, Fault>
 /// The capital digit of a value.
 fn glyph(value: u64) -> u8
     requires { value < 16 }
-    ensures { result ≡ digit_glyph true value }
+    ensures value { result ≡ digit_glyph true value }
+    ensures ascii { result < 128 }
 {
     if value < 10 {
         b'0' + value as u8
@@ -157,9 +158,10 @@ fn filled(value: u64, width: u32) -> u64
 }
 
 /// The digit of the next four bits, or of those that are left.
-fn next_digit(reader: &mut BitReader<'_>) -> u8
+pub(crate) fn next_digit(reader: &mut BitReader<'_>) -> u8
     requires { 0 < length reader.old }
     ensures digit { hex_of reader.old ≡ result ∷ hex_of reader.new }
+    ensures ascii { result < 128 }
     ensures shorter { length reader.new < length reader.old }
 {
     let width = reader.left().min(4) as u32;

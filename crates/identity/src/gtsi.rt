@@ -1,11 +1,15 @@
 //! Identities of groups.
 
-ghost use Rattle.std.specs.Prelude.{◌≡◌, ◌<◌, ◌^◌, ◌↔◌, IsSome, IfSome};
+ghost use Rattle.std.specs.Prelude.{◌≡◌, ◌<◌, ◌^◌, ◌↔◌, IsSome, IfSome, Some};
 ghost use Rattle.identity.specs.Path.{id_path};
 ghost use Rattle.identity.specs.Identity.{identity_number, AreFields, mcc_of, mnc_of, ssi_of};
+ghost use Rattle.identity.specs.IdentityText.{identity_text, reading_identity};
 
-use crate::{Prefix, fields};
+use crate::display::write_identity;
+use crate::{Fault, Prefix, fields, parse_gtsi};
+use std::fmt;
 use std::marker::Model;
+use std::str::FromStr;
 
 /// The identity of a group of radios: its 48-bit TETRA subscriber identity (ETSI EN 300 392-1, clause 7).
 #[derive(Clone, Copy, Debug, PartialEq, Eq)]
@@ -85,5 +89,39 @@ impl Gtsi {
         ensures { result ≡ id_path self.now }
     {
         Prefix::whole(self.number)
+    }
+}
+
+/// Writes what [`print_gtsi`](crate::print_gtsi) appends; options such as `{:>20}` hold for the whole text.
+///
+/// ```
+/// let gtsi = Gtsi::new(234, 14, 1000).unwrap();
+/// let text = format!(in rt.alloc(); "{gtsi:>12}.")?;
+/// assert_eq!(rt; text.as_str(), " 234-14-1000.");
+/// ```
+impl fmt::Display for Gtsi {
+    ghost output = { λ gtsi. Some (identity_text gtsi) };
+
+    fn fmt<W: fmt::Write>(&self, f: &mut fmt::Formatter<W>) -> fmt::Result {
+        write_identity(f, self.number())
+    }
+}
+
+/// Reads what [`parse_gtsi`] reads.
+///
+/// ```
+/// assert_eq!(rt;
+///     "234-14-1000".parse::<Gtsi>().ok(),
+///     Gtsi::new(234, 14, 1000)
+/// );
+/// assert_eq!(rt; "234-14".parse::<Gtsi>(), Err(Fault::BadText));
+/// ```
+impl FromStr for Gtsi {
+    type Err = Fault;
+
+    ghost from_str_gives = { λ text read. read ≡ reading_identity text };
+
+    fn from_str(text: &str) -> Result<Gtsi, Fault> {
+        parse_gtsi(text.as_bytes())
     }
 }

@@ -1,53 +1,14 @@
 //! Identities and prefixes as text.
 
-ghost use Rattle.std.specs.Prelude.{◌≡◌, ◌<◌, ◌≤◌, ◌^◌, ◌+◌, ◌++◌, OnOk, OnErr, IfOk, IfSome, IsTrue, option_map, length, take, vec_len, vec_capacity};
-ghost use Rattle.identity.specs.NumberText.{is_number, value, Keeps};
-ghost use Rattle.identity.specs.IdentityText.{identity_text, prefix_text, three_numbers, identity_of, reading_identity, prefix_of, reading_prefix};
+ghost use Rattle.std.specs.Prelude.{◌≡◌, ◌<◌, ◌≤◌, ◌^◌, ◌+◌, ◌++◌, OnOk, OnErr, IfOk, IfSome, IsTrue, length, vec_len, vec_capacity};
+ghost use Rattle.identity.specs.NumberText.{Keeps};
+ghost use Rattle.identity.specs.IdentityText.{identity_text, prefix_text, reading_identity, prefix_of, reading_prefix};
 
-use crate::number_text::{cut, is_number, parse_number, print_number, put_whole, value_of};
+use crate::number_text::{cut, parse_number, print_number, put_whole};
 use crate::{Fault, Gtsi, Itsi, Prefix, fields};
 use std::alloc::{AllocError, Allocator};
 
-/// The texts of the three numbers of an identity, where each has the form of a number.
-#[tactic(auto, unfolding(crate::specs::IdentityText::three_numbers))]
-fn three_numbers(text: &[u8]) -> Option<(&[u8], &[u8], &[u8])>
-    ensures value { option_map (λ parts. (parts.0.now, parts.1.now, parts.2.now)) result ≡ three_numbers text.now }
-    ensures form { IfSome result (λ parts. IsTrue (is_number parts.0.now) × IsTrue (is_number parts.1.now) × IsTrue (is_number parts.2.now)) }
-{
-    let Some((mcc, rest)) = cut(text, b'-') else {
-        return None;
-    };
-    let Some((mnc, ssi)) = cut(rest, b'-') else {
-        return None;
-    };
-    if is_number(mcc) && is_number(mnc) && is_number(ssi) {
-        Some((mcc, mnc, ssi))
-    } else {
-        None
-    }
-}
-
-/// The identity of three numbers, where each is in its range.
-#[tactic(auto, unfolding(crate::specs::IdentityText::identity_of))]
-fn identity_of(mcc: &[u8], mnc: &[u8], ssi: &[u8]) -> Result<u64, Fault>
-    requires mcc { IsTrue (is_number mcc.now) }
-    requires mnc { IsTrue (is_number mnc.now) }
-    requires ssi { IsTrue (is_number ssi.now) }
-    ensures value { result ≡ identity_of mcc.now mnc.now ssi.now }
-    ensures below { IfOk result (λ n. n < 2 ^ 48) }
-{
-    let Some(mcc) = value_of(mcc, u128::from(fields::MOST_MCC)) else {
-        return Err(Fault::OutOfRange);
-    };
-    let Some(mnc) = value_of(mnc, u128::from(fields::MOST_MNC)) else {
-        return Err(Fault::OutOfRange);
-    };
-    let Some(ssi) = value_of(ssi, u128::from(fields::MOST_SSI)) else {
-        return Err(Fault::OutOfRange);
-    };
-    Ok(fields::number_of(mcc as u32, mnc as u32, ssi as u32))
-}
-
+/// The number of the identity that a text says, in one pass over its bytes.
 #[inline(always)]
 #[tactic(auto, unfolding(crate::specs::IdentityText::reading_identity, crate::specs::IdentityText::three_numbers, crate::specs::IdentityText::identity_of, crate::specs::NumberText::reading_number))]
 fn reading_identity(text: &[u8]) -> Result<u64, Fault>
@@ -94,15 +55,11 @@ pub fn parse_gtsi(text: &[u8]) -> Result<Gtsi, Fault>
 }
 
 /// The first `len` bits of an identity, where those past them are 0.
-#[tactic(auto, unfolding(crate::specs::IdentityText::prefix_of))]
-fn prefix_of(identity: u64, len: &[u8]) -> Result<Prefix, Fault>
-    requires form { IsTrue (is_number len.now) }
+fn prefix_of(identity: u64, len: u64) -> Result<Prefix, Fault>
     requires identity { identity < 2 ^ 48 }
-    ensures { result ≡ prefix_of identity (value len.now) }
+    requires len { len ≤ 48 }
+    ensures { result ≡ prefix_of identity len }
 {
-    let Some(len) = value_of(len, 48) else {
-        return Err(Fault::OutOfRange);
-    };
     match Prefix::new(identity, len as u32) {
         Some(prefix) => Ok(prefix),
         None => Err(Fault::OutOfRange),
@@ -111,22 +68,18 @@ fn prefix_of(identity: u64, len: &[u8]) -> Result<Prefix, Fault>
 
 /// The prefix that a text `mcc-mnc-ssi/len` names; `Fault::BadText` where the text is no four numbers, and
 /// else `Fault::OutOfRange` where one of them is too great or a bit past `len` is 1.
-#[tactic(auto, unfolding(crate::specs::IdentityText::reading_prefix, crate::specs::IdentityText::prefix_form))]
+#[tactic(auto, unfolding(crate::specs::IdentityText::reading_prefix, crate::specs::IdentityText::prefix_form, crate::specs::IdentityText::reading_identity, crate::specs::IdentityText::three_numbers, crate::specs::IdentityText::identity_of, crate::specs::IdentityText::prefix_of, crate::specs::NumberText::reading_number))]
 pub fn parse_prefix(text: &[u8]) -> Result<Prefix, Fault>
     ensures { result ≡ reading_prefix text.now }
 {
     let Some((identity, len)) = cut(text, b'/') else {
         return Err(Fault::BadText);
     };
-    let Some((mcc, mnc, ssi)) = three_numbers(identity) else {
-        return Err(Fault::BadText);
-    };
-    if !is_number(len) {
-        return Err(Fault::BadText);
-    }
-    match identity_of(mcc, mnc, ssi) {
-        Ok(identity) => prefix_of(identity, len),
-        Err(fault) => Err(fault),
+    match (reading_identity(identity), parse_number(len, 48)) {
+        (Ok(identity), Ok(len)) => prefix_of(identity, len),
+        (Err(Fault::BadText), _) => Err(Fault::BadText),
+        (_, Err(Fault::BadText)) => Err(Fault::BadText),
+        _ => Err(Fault::OutOfRange),
     }
 }
 

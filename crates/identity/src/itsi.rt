@@ -1,11 +1,15 @@
 //! Identities of radios.
 
-ghost use Rattle.std.specs.Prelude.{◌≡◌, ◌<◌, ◌^◌, ◌↔◌, IsSome, IfSome};
+ghost use Rattle.std.specs.Prelude.{◌≡◌, ◌<◌, ◌^◌, ◌↔◌, IsSome, IfSome, Some};
 ghost use Rattle.identity.specs.Path.{id_path};
 ghost use Rattle.identity.specs.Identity.{identity_number, AreFields, mcc_of, mnc_of, ssi_of};
+ghost use Rattle.identity.specs.IdentityText.{identity_text, reading_identity};
 
-use crate::{Prefix, fields};
+use crate::display::write_identity;
+use crate::{Fault, Prefix, fields, parse_itsi};
+use std::fmt;
 use std::marker::Model;
+use std::str::FromStr;
 
 /// The identity of a radio: its 48-bit TETRA subscriber identity (ETSI EN 300 392-1, clause 7).
 #[derive(Clone, Copy, Debug, PartialEq, Eq)]
@@ -85,5 +89,39 @@ impl Itsi {
         ensures { result ≡ id_path self.now }
     {
         Prefix::whole(self.number)
+    }
+}
+
+/// Writes what [`print_itsi`](crate::print_itsi) appends; options such as `{:>20}` hold for the whole text.
+///
+/// ```
+/// let itsi = Itsi::new(234, 14, 2001).unwrap();
+/// let text = itsi.to_string(rt.alloc())?;
+/// assert_eq!(rt; text.as_str(), "234-14-2001");
+/// ```
+impl fmt::Display for Itsi {
+    ghost output = { λ itsi. Some (identity_text itsi) };
+
+    fn fmt<W: fmt::Write>(&self, f: &mut fmt::Formatter<W>) -> fmt::Result {
+        write_identity(f, self.number())
+    }
+}
+
+/// Reads what [`parse_itsi`] reads.
+///
+/// ```
+/// assert_eq!(rt;
+///     "234-14-2001".parse::<Itsi>().ok(),
+///     Itsi::new(234, 14, 2001)
+/// );
+/// assert_eq!(rt; "1024-14-2001".parse::<Itsi>(), Err(Fault::OutOfRange));
+/// ```
+impl FromStr for Itsi {
+    type Err = Fault;
+
+    ghost from_str_gives = { λ text read. read ≡ reading_identity text };
+
+    fn from_str(text: &str) -> Result<Itsi, Fault> {
+        parse_itsi(text.as_bytes())
     }
 }

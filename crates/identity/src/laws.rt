@@ -8,7 +8,7 @@ ghost use Rattle.identity.specs.Packed.{bits_of, IsPacked, AreBytes};
 ghost use Rattle.identity.specs.Identity.{identity_number, AreFields, mcc_of, mnc_of, ssi_of};
 ghost use Rattle.identity.specs.NumberText.{is_number, reading_number};
 ghost use Rattle.identity.specs.IdentityText.{identity_text, prefix_text, IsIdentityForm, IsPrefixForm, reading_identity, reading_prefix};
-ghost use Rattle.identity.specs.BitsText.{SpellsBits, IsBitsForm, bits_text, reading_bits};
+ghost use Rattle.identity.specs.BitsText.{SpellsBits, IsBitsForm, bits_text, reading_bits, most_bits};
 ghost use Rattle.identity.specs.Path.{Path, path_cmp, id_path, begins};
 ghost use Rattle.identity.specs.declared.fault.Fault.{Fault};
 ghost use Rattle.identity.specs.declared.fault.Fault.TheVariants.{BadText, OutOfRange};
@@ -66,8 +66,8 @@ pub fn prefix_texts()
 /// Bits have the text that is printed, and those whose digits differ from it only in their case.
 pub fn bits_texts()
     ensures printed { (bits : List Bool) → length bits < 2 ^ 64 → SpellsBits (bits_text bits) bits }
-    ensures again { (bits : List Bool) (text : List ℕ) → length bits ≤ 2048 → SpellsBits text bits → reading_bits text ≡ Ok bits }
-    ensures only { (bits : List Bool) (text : List ℕ) → reading_bits text ≡ Ok bits → (length bits ≤ 2048) × SpellsBits text bits }
+    ensures again { (bits : List Bool) (text : List ℕ) → length bits ≤ most_bits → SpellsBits text bits → reading_bits text ≡ Ok bits }
+    ensures only { (bits : List Bool) (text : List ℕ) → reading_bits text ≡ Ok bits → (length bits ≤ most_bits) × SpellsBits text bits }
     ensures form { (text : List ℕ) → (reading_bits text ≡ Err BadText) ↔ ¬ IsBitsForm text }
     ensures faults { (text : List ℕ) (fault : Fault) → reading_bits text ≡ Err fault → (fault ≡ BadText) ⊎ (fault ≡ OutOfRange) }
 {}

@@ -3,6 +3,7 @@
 
 mod bits;
 mod bits_text;
+mod display;
 mod fault;
 mod fields;
 mod gtsi;
@@ -16,7 +17,7 @@ mod reader;
 mod writer;
 
 pub use bits::Bits;
-pub use bits_text::{parse_bits, print_bits};
+pub use bits_text::{MOST_BITS, parse_bits, print_bits};
 pub use fault::Fault;
 pub use gtsi::Gtsi;
 pub use identity_text::{

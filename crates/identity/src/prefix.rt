@@ -1,11 +1,16 @@
 //! The first bits of identities.
 
-ghost use Rattle.std.specs.Prelude.{◌≡◌, ◌<◌, ◌≤◌, ◌^◌, ◌-◌, ◌++◌, ◌↔◌, length, take, drop, replicate, false, IsSome, IfSome, IsTrue};
+ghost use Rattle.std.specs.Prelude.{◌≡◌, ◌<◌, ◌≤◌, ◌^◌, ◌-◌, ◌++◌, ◌↔◌, length, take, drop, replicate, false, IsSome, IfSome, IsTrue, Some};
 ghost use Rattle.std.specs.Ordering.{eq_by_cmp};
 ghost use Rattle.identity.specs.Number.{num};
 ghost use Rattle.identity.specs.Path.{id_path, path_cmp, left_aligned, begins};
+ghost use Rattle.identity.specs.IdentityText.{prefix_text, reading_prefix};
 
+use crate::display::pad;
+use crate::{Fault, fields, parse_prefix};
+use std::fmt;
 use std::marker::Model;
+use std::str::FromStr;
 
 /// How many numbers 48 bits have.
 const IDENTITIES: u64 = 1 << 48;
@@ -23,7 +28,7 @@ impl Model for Prefix {
     ghost Value = { List Bool };
 
     ghost use Rattle.identity.specs.Number.{num, number};
-    ghost use Rattle.identity.specs.PrefixInside.{inverse_of_num};
+    ghost use Rattle.identity.specs.Inside.PrefixInside.{inverse_of_num};
 
     ghost view = { λ p. num p.len p.bits };
 
@@ -111,5 +116,62 @@ impl Prefix {
         ensures test { result ≡ eq_by_cmp path_cmp self.now other.now }
     {
         self.len == other.len && self.bits == other.bits
+    }
+}
+
+impl PartialEq for Prefix {
+    ghost use Rattle.std.specs.Cmp.{partial_equiv_from_equiv, eq_by_cmp_equiv};
+    ghost use Rattle.identity.specs.Inside.PathLaws.{paths_total};
+
+    ghost eq = { eq_by_cmp path_cmp };
+
+    ghost laws = { partial_equiv_from_equiv (eq_by_cmp_equiv paths_total) };
+
+    fn eq(&self, other: &Prefix) -> bool {
+        self.same(other)
+    }
+}
+
+impl Eq for Prefix {
+    ghost use Rattle.std.specs.Cmp.{eq_by_cmp_equiv};
+    ghost use Rattle.identity.specs.Inside.PathLaws.{paths_total};
+
+    ghost laws = { eq_by_cmp_equiv paths_total };
+}
+
+/// Writes what [`print_prefix`](crate::print_prefix) appends; options such as `{:>20}` hold for the whole text.
+///
+/// ```
+/// let network = Prefix::of(0x3A80_0E00_07D1, 24);
+/// let text = format!(in rt.alloc(); "under {network}")?;
+/// assert_eq!(rt; text.as_str(), "under 234-14-0/24");
+/// ```
+impl fmt::Display for Prefix {
+    ghost output = { λ prefix. Some (prefix_text prefix) };
+
+    fn fmt<W: fmt::Write>(&self, f: &mut fmt::Formatter<W>) -> fmt::Result {
+        let bits = self.bits();
+        let (mcc, mnc, ssi) = (fields::mcc(bits), fields::mnc(bits), fields::ssi(bits));
+        let len = self.len();
+        pad(f, format_args!("{mcc}-{mnc}-{ssi}/{len}"))
+    }
+}
+
+/// Reads what [`parse_prefix`] reads.
+///
+/// ```
+/// assert_eq!(rt;
+///     "234-14-0/24".parse::<Prefix>().ok(),
+///     Prefix::new(0x3A80_0E00_0000, 24)
+/// );
+/// assert_eq!(rt; "234-14-1/24".parse::<Prefix>(), Err(Fault::OutOfRange));
+/// ```
+impl FromStr for Prefix {
+    type Err = Fault;
+
+    ghost from_str_gives = { λ text read. read ≡ reading_prefix text };
+
+    fn from_str(text: &str) -> Result<Prefix, Fault> {
+        parse_prefix(text.as_bytes())
     }
 }

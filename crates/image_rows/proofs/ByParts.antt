@@ -13,7 +13,7 @@ use Rattle.std.proofs.lemmas.List.Elements.{All-head, All-tail, All-weaker}
 use Rattle.std.proofs.lemmas.List.Folds.{find-append}
 use Rattle.identity.specs.Number.{number}
 use Rattle.identity.specs.Path.{Path, path_cmp, id_path}
-use Rattle.identity.specs.PathLaws.{length-id_path, number-id_path}
+use Rattle.identity.specs.Inside.PathLaws.{length-id_path, number-id_path}
 use Rattle.prefix_tree.specs.Following.{is_after, next_of}
 use Rattle.prefix_tree.proofs.Order.{by_number}
 use Rattle.registration.specs.declared.rule.Rule.{Rule}

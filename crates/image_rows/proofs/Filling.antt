@@ -5,11 +5,10 @@ use Rattle.std.specs.Ordering.{nat_cmp, is_lt}
 use Rattle.std.specs.List.{All}
 use Rattle.std.specs.Option.{is_some}
 use Rattle.std.proofs.lemmas.Bool.{le-leb}
-use Rattle.std.proofs.lemmas.List.{append-nil, take-append-drop}
+use Rattle.std.proofs.lemmas.List.{append-nil, take-append-drop, take_more_set}
 use Rattle.std.proofs.lemmas.List.Elements.{All-nil, All-cons}
 use Rattle.group_attach.specs.Applied.{most_of_radio}
 use Rattle.std.specs.FinMap.Entries.{below_all, is_sorted}
-use Rattle.std.proofs.lemmas.List.{take_more_set}
 use Rattle.prefix_tree.specs.Following.{is_after}
 use Rattle.group_attach.specs.declared.attachment.Attachment.{Attachment}
 use Rattle.image_rows.specs.Rows.{Group}

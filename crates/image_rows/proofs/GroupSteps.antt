@@ -6,7 +6,7 @@ use Rattle.command_bytes.specs.Fields.{◌>>=◌}
 use Rattle.command_bytes.specs.Reading.{Read}
 use Rattle.image_rows.specs.Rows.{Group}
 use Rattle.image_rows.specs.RowReading.{group_at, groups_at}
-use Rattle.image_rows.specs.GroupViews.{listed, groups_from}
+use Rattle.image_rows.specs.Inside.GroupViews.{listed, groups_from}
 
 -- the bytes after so many groups
 abbrev pub behind_groups : ℕ → List ℕ → Option (List ℕ)

@@ -11,8 +11,7 @@ use Rattle.std.specs.FinMap as map
 use Rattle.std.specs.FinMap.Entries.{below_all, is_sorted}
 use Rattle.std.proofs.lemmas.Bool.{eqb-true}
 use Rattle.std.proofs.lemmas.List.Elements.{All-head, All-tail, filter_passes}
-use Rattle.group_attach.specs.Attached.{Attached, Pair, Usage, pair_cmp, of_radio, attachment_of}
-use Rattle.group_attach.specs.Filed.{all_attached}
+use Rattle.group_attach.specs.Attached.{Attached, Pair, Usage, pair_cmp, of_radio, attachment_of, all_attached}
 use Rattle.group_attach.proofs.Pairs.{alike}
 use Rattle.group_attach.proofs.Filtered.{entries_retained, from_T}
 use Rattle.group_attach.proofs.Moves.{get_added}

@@ -8,7 +8,7 @@ use Rattle.std.proofs.lemmas.List.Elements.{All-head, All-tail}
 use Rattle.std.specs.FinMap as map
 use Rattle.identity.specs.Number.{number}
 use Rattle.identity.specs.Path.{Path, id_path}
-use Rattle.identity.specs.PathLaws.{number-id_path}
+use Rattle.identity.specs.Inside.PathLaws.{number-id_path}
 use Rattle.prefix_tree.specs.Following.{is_after, one_by_one, then_on}
 use Rattle.prefix_tree.specs.Next.{next_entry}
 use Rattle.registration.specs.Registered.{Registered}
@@ -19,7 +19,7 @@ use Rattle.group_attach.specs.Attached.{Attached, of_radio, attachment_of, group
 use Rattle.mailbox.specs.Values.{Waiting, Mailed}
 use Rattle.mailbox.specs.declared.key.Key.{Key}
 use Rattle.mailbox.specs.Order.{named, named_cmp, next_item}
-use Rattle.centre_core.specs.Ranges.{most_bits}
+use Rattle.identity.specs.BitsText.{most_bits}
 use Rattle.centre_core.specs.State.{State, IsState}
 use Rattle.centre_core.specs.StateRanges.{StateInRange, ItemInRange}
 use Rattle.image_rows.specs.declared.place.RowPlace.{RowPlace}

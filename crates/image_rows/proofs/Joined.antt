@@ -12,14 +12,14 @@ use Rattle.std.proofs.lemmas.Bool.{eqb-true, ne_eqb}
 use Rattle.std.proofs.lemmas.List.Elements.{All-head, All-tail}
 use Rattle.identity.specs.Number.{number}
 use Rattle.identity.specs.Path.{Path, path_cmp, id_path}
-use Rattle.identity.specs.PathLaws.{paths_total, id_path-number, tied}
+use Rattle.identity.specs.Inside.PathLaws.{paths_total, id_path-number, tied}
 use Rattle.prefix_tree.specs.Table.{PathMap}
 use Rattle.registration.specs.declared.radio.Radio.{Radio}
 use Rattle.group_attach.specs.declared.attachment.Attachment.{Attachment}
-use Rattle.group_attach.specs.Attached.{Attached, Pair, Usage, pair_cmp, entry_of, of_radio}
+use Rattle.group_attach.specs.Attached.{Attached, Pair, Usage, pair_cmp, entry_of, of_radio, all_attached}
 use Rattle.group_attach.specs.Applied.{most_of_radio}
-use Rattle.group_attach.specs.Filed.{all_attached}
-use Rattle.group_attach.specs.InOrder.{IsInOrder, map_of}
+use Rattle.group_attach.specs.InOrder.{IsInOrder}
+use Rattle.group_attach.specs.Inside.ListedMap.{map_of}
 use Rattle.group_attach.specs.Kept.{AllGroupsFit}
 use Rattle.group_attach.proofs.Pairs.{pairs_total, pairs_exact, pairs_tied, alike}
 use Rattle.group_attach.proofs.Filtered.{entries_of, listed_map}

@@ -12,7 +12,7 @@ use Rattle.std.specs.FinMap as map
 use Rattle.std.specs.FinMap.Entries as entries
 use Rattle.identity.specs.Path.{Path, path_cmp, begins, id_path}
 use Rattle.std.proofs.lemmas.Bool.{ltb-true, ltb-false}
-use Rattle.identity.specs.PathLaws.{paths_total, tied, tie_exact, begins_then}
+use Rattle.identity.specs.Inside.PathLaws.{paths_total, tied, tie_exact, begins_then}
 use Rattle.prefix_tree.specs.Table.{PathMap, longest, NamesLongest}
 use Rattle.prefix_tree.specs.Next.{next_entry}
 use Rattle.prefix_tree.specs.Following.{next_of}

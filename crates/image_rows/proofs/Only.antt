@@ -10,7 +10,7 @@ use Rattle.std.proofs.lemmas.List.Elements.{All-push, All-set, All-weaker, All-g
 use Rattle.std.proofs.lemmas.List.Quantifiers.{all_pairs_push}
 use Rattle.std.proofs.lemmas.List.Sums.{AllPass-from_list_all, sum_by_push}
 use Rattle.identity.specs.Path.{Path, id_path}
-use Rattle.identity.specs.PathLaws.{paths_total, paths_exact, length-id_path, number-id_path}
+use Rattle.identity.specs.Inside.PathLaws.{paths_total, paths_exact, length-id_path, number-id_path}
 use Rattle.registration.specs.declared.rule.Rule.{Rule}
 use Rattle.registration.specs.declared.radio.Radio.{Radio}
 use Rattle.group_attach.specs.Attached.{Pair}

@@ -4,7 +4,7 @@ use Rattle.std.specs.Prelude.{◌&&◌, not}
 use Rattle.std.proofs.lemmas.Bool.{eqb-true, leb-true, le-leb, eq-eqb}
 use Rattle.std.proofs.lemmas.List.{drop-drop, drop-take, take-take}
 use Rattle.identity.specs.Number.{num, number}
-use Rattle.identity.specs.NumberLaws.{number-num, take-num, drop-num, number-num_mod}
+use Rattle.identity.specs.Inside.NumberLaws.{number-num, take-num, drop-num, number-num_mod}
 use Rattle.sds_tl.specs.declared.fault.SdsFault.{SdsFault}
 use Rattle.sds_tl.specs.declared.pdu.DeliveryReportRequest.{DeliveryReportRequest}
 use Rattle.sds_tl.specs.declared.pdu.Head.{Head}
@@ -14,7 +14,7 @@ use Rattle.sds_tl.proofs.Cleared.{cleared-message}
 use Rattle.sds_tl.proofs.Fitting.{passes, passed_on, transfer_fits, report_fits, data_passes}
 use Rattle.mailbox.specs.declared.key.Kind.TheVariants.{Message, Report}
 use Rattle.mailbox.specs.Kept.{is_head_of}
-use Rattle.image_rows.specs.PduTest.{is_of_type}
+use Rattle.image_rows.specs.Inside.PduTest.{is_of_type}
 use Rattle.image_rows.proofs.RowParts.{both_true, all_true}
 use Rattle.image_rows.proofs.Settled.{faultless}
 

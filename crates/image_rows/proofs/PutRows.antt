@@ -6,14 +6,13 @@ use Rattle.std.specs.Ordering.{nat_cmp, eq_by_cmp}
 use Rattle.std.specs.FinMap as map
 use Rattle.std.proofs.lemmas.Bool.{ltb-true, leb-true, eqb-true}
 use Rattle.identity.specs.Path.{path_cmp, id_path}
-use Rattle.identity.specs.PathLaws.{paths_total, paths_exact, tie_exact}
+use Rattle.identity.specs.Inside.PathLaws.{paths_total, paths_exact, tie_exact}
 use Rattle.prefix_tree.specs.Table.{PathMap}
 use Rattle.registration.specs.declared.radio.Radio.{Radio}
 use Rattle.registration.specs.Registered.{Registered, radio_of, with_radio, without_radio}
 use Rattle.group_attach.specs.declared.attachment.Attachment.{Attachment}
-use Rattle.group_attach.specs.Attached.{Attached}
+use Rattle.group_attach.specs.Attached.{Attached, all_attached}
 use Rattle.group_attach.specs.Applied.{most_of_radio, restored, without_radio as without_groups}
-use Rattle.group_attach.specs.Filed.{all_attached}
 use Rattle.group_attach.specs.Kept.{AreKnown}
 use Rattle.group_attach.proofs.Pairs.{pairs_total, pairs_exact, alike}
 use Rattle.centre_core.specs.State.{State, Served}

@@ -9,9 +9,9 @@ use Rattle.std.proofs.lemmas.Bool.{lt-ltb, le-leb, eqb-true, eq-eqb}
 use Rattle.std.proofs.lemmas.List.{append-nil}
 use Rattle.std.proofs.lemmas.List.Elements.{All-head, All-tail}
 use Rattle.identity.specs.Number.{number}
-use Rattle.identity.specs.NumberLaws.{number-lt}
+use Rattle.identity.specs.Inside.NumberLaws.{number-lt}
 use Rattle.identity.specs.Path.{Path, path_cmp, id_path}
-use Rattle.identity.specs.PathLaws.{paths_total, id_path-number, id_path-injective, same_test}
+use Rattle.identity.specs.Inside.PathLaws.{paths_total, id_path-number, id_path-injective, same_test}
 use Rattle.prefix_tree.specs.Table.{PathMap}
 use Rattle.registration.specs.declared.radio.Radio.{Radio}
 use Rattle.group_attach.specs.Attached.{Attached, Pair, Usage, pair_cmp}

@@ -7,7 +7,7 @@ use Rattle.std.specs.FinMap as map
 use Rattle.std.proofs.lemmas.List.Elements.{All-nil, All-cons, All-head, All-tail, All-append, All-map, All-weaker}
 use Rattle.std.proofs.lemmas.List.Sums.{count_by-le-length}
 use Rattle.identity.specs.Number.{number}
-use Rattle.identity.specs.NumberLaws.{number-lt}
+use Rattle.identity.specs.Inside.NumberLaws.{number-lt}
 use Rattle.identity.specs.Path.{Path}
 use Rattle.registration.specs.declared.radio.Radio.{Radio}
 use Rattle.group_attach.specs.Attached.{Attached, of_radio}

@@ -7,7 +7,7 @@ use Rattle.registration.specs.declared.rule.Rule.{Rule}
 use Rattle.registration.specs.declared.radio.Radio.{Radio}
 use Rattle.mailbox.specs.declared.key.Key.{Key}
 use Rattle.mailbox.specs.Values.{Waiting, latest_deadline}
-use Rattle.centre_core.specs.Ranges.{most_bits}
+use Rattle.identity.specs.BitsText.{most_bits}
 use Rattle.centre_core.specs.StateRanges.{IsReply}
 use Rattle.centre_core.specs.State.{Served}
 use Rattle.identity.specs.Packed.{AreBytes}

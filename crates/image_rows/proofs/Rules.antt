@@ -5,7 +5,7 @@ use Rattle.std.specs.FinMap as map
 use Rattle.std.proofs.lemmas.Bool.{lt-ltb}
 use Rattle.std.proofs.lemmas.List.{append-nil}
 use Rattle.identity.specs.Path.{Path, path_cmp}
-use Rattle.identity.specs.PathLaws.{paths_total}
+use Rattle.identity.specs.Inside.PathLaws.{paths_total}
 use Rattle.prefix_tree.specs.Table.{PathMap}
 use Rattle.registration.specs.declared.rule.Rule.{Rule}
 use Rattle.centre_core.specs.State.{State}

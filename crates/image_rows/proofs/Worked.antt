@@ -7,7 +7,7 @@ use Rattle.std.specs.declared.cmp.Ordering.{Ordering}
 use Rattle.std.specs.Cmp.{IsTotalOrder}
 use Rattle.std.specs.FinMap as map
 use Rattle.identity.specs.Path.{Path, path_cmp, id_path}
-use Rattle.identity.specs.PathLaws.{paths_total, number-id_path}
+use Rattle.identity.specs.Inside.PathLaws.{paths_total, number-id_path}
 use Rattle.registration.specs.declared.limits.Limits.{Limits}
 use Rattle.registration.specs.declared.rule.Rule.{Rule}
 use Rattle.registration.specs.declared.radio.Radio.{Radio}

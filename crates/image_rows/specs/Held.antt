@@ -1,21 +1,19 @@
 -- What a loader holds: the loading that the rows so far make.
-use Rattle.std.specs.Prelude.{◌≡◌, ℕ, ◌<◌, ◌≤◌, Bool, true, false, ◌&&◌, List, length, Option, Some, None, if◌then◌else◌, nat_le, nat_lt, unwrap_or, refl}
+use Rattle.std.specs.Prelude.{◌≡◌, ℕ, ◌<◌, ◌≤◌, Bool, true, false, ◌&&◌, List, length, Option, Some, None, if◌then◌else◌, nat_le, nat_lt, unwrap_or}
 use Rattle.std.specs.List.{All, list_all}
 use Rattle.mailbox.specs.Values.{Waiting}
 use Rattle.mailbox.specs.Order.{named, named_cmp}
 use Rattle.std.specs.Option.{is_some}
 use Rattle.std.specs.Ordering.{nat_cmp, is_lt}
 use Rattle.std.specs.FinMap as map
-use Rattle.std.specs.Coded.{Coded, code_by, coded×, coded_option}
 use Rattle.identity.specs.Path.{id_path}
 use Rattle.registration.specs.declared.limits.Limits.{Limits}
 use Rattle.registration.specs.declared.radio.Radio.{Radio}
 use Rattle.registration.specs.Registered.{radio_of}
 use Rattle.group_attach.specs.Applied.{most_of_radio}
 use Rattle.group_attach.specs.Kept.{AreKnown}
-use Rattle.centre_core.specs.State.{State, coded_state}
+use Rattle.centre_core.specs.State.{State}
 use Rattle.image_rows.specs.Rows.{Row, HeaderRow, RuleRow, RadioRow, MailRow, ServedRow, Header, Group, RowInRange}
-use Rattle.image_rows.specs.Headers.{coded_header}
 use Rattle.image_rows.specs.RowReading.{row_in}
 use Rattle.image_rows.specs.Loading.{◌>>=◌, Loading, begun, row_taken, all_taken, is_next, is_numbered, rules_done, radios_done, taken_radio}
 
@@ -26,10 +24,6 @@ loading header s = record { header = header; state = s }
 -- the loading with the row that the bytes spell, where that can come next
 abbrev pub taken_from : Loading → List ℕ → Option Loading
 taken_from l bytes = row_in bytes >>= row_taken l
-
--- how a loading is stored, for proofs
-abbrev pub coded_loading : Coded Loading
-coded_loading = code_by (Option Header × State) (coded× (coded_option coded_header) coded_state) (λ l. (l.header, l.state)) (λ p. record { header = p.0; state = p.1 }) (λ _. refl)
 
 -- it is what rows in their ranges make, taken one after another
 pub record IsLoaded (l : Loading) : Type 0 where

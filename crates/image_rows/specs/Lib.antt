@@ -3,11 +3,6 @@ pub mod Loading
 pub mod RowText
 pub mod RowReading
 pub mod RowSizes
-pub mod Headers
-pub mod PduTest
-pub mod GroupViews
-pub mod ItemViews
-pub mod RowViews
 pub mod Walking
 pub mod Worked
 pub mod Parts
@@ -15,3 +10,6 @@ pub mod Slot
 pub mod Image
 pub mod InTurn
 pub mod Held
+pub mod RowViews
+pub mod ItemViews
+pub mod Inside

@@ -10,6 +10,7 @@ use Rattle.image_rows.specs.declared.place.RowPlace.{RowPlace}
 use Rattle.image_rows.specs.declared.place.RowPlace.TheVariants as place
 use Rattle.image_rows.specs.Rows.{Row, HeaderRow, MailRow, rule_row, radio_row, served_rows, header_of}
 
+-- the first of these rows, if there is one
 abbrev pub first : List Row → Option Row
 first [] = None
 first (row ∷ rows) = Some row
@@ -18,15 +19,19 @@ first (row ∷ rows) = Some row
 abbrev pub after_station : State → ℕ → Option Row
 after_station s station = first (served_rows (station + 1) (drop station s.served))
 
+-- the row of the first item after this one, or of all, or else the first one behind the items
 abbrev pub after_item : State → Option (ℕ × Key) → Option Row
 after_item s after = option_or (option_map MailRow (next_item s.mail after)) (after_station s 0)
 
+-- the row of the first radio after this one, or of all, or else the first one behind the radios
 abbrev pub after_radio : State → Option ℕ → Option Row
 after_radio s after = option_or (option_map (radio_row s.groups) (next_entry s.registered.radios (option_map id_path after))) (after_item s None)
 
+-- the row of the first rule after this one, or of all, or else the first one behind the rules
 abbrev pub after_rule : State → Option Path → Option Row
 after_rule s after = option_or (option_map rule_row (next_entry s.registered.rules after)) (after_radio s None)
 
+-- the row after a place of the image; the first of all is the header
 abbrev pub told_after : ℕ → State → Option RowPlace → Option Row
 told_after epoch s None = Some (HeaderRow (header_of epoch s))
 told_after epoch s (Some place.Header) = after_rule s None

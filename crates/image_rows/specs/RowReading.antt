@@ -5,7 +5,7 @@ use Rattle.sds_tl.specs.Reading.{heading, cleared}
 use Rattle.group_attach.specs.Attached.{Usage}
 use Rattle.mailbox.specs.Kept.{is_head_of}
 use Rattle.mailbox.specs.Values.{Waiting, KeyInRange, latest_deadline}
-use Rattle.centre_core.specs.Ranges.{most_bits}
+use Rattle.identity.specs.BitsText.{most_bits}
 use Rattle.centre_core.specs.StateRanges.{RuleEntryInRange}
 use Rattle.command_bytes.specs.Fields.{◌>>=◌, number_at}
 use Rattle.command_bytes.specs.Reading.{Read, prefix_at, rule_at, area_at, key_at, bits_at}
@@ -25,12 +25,14 @@ header_at bytes = do
   served ← number_at 4 mail.1
   if nat_lt 0 epoch.0 && nat_le epoch.0 last_epoch then Some (record { epoch = epoch.0; count = count.0; rules = rules.0; radios = radios.0; mail = mail.0; served = served.0 }, served.1) else None
 
+-- a rule behind its prefix
 unfoldable pub rule_row_at : List ℕ → Read Row
 rule_row_at bytes = do
   prefix ← prefix_at bytes
   rule ← rule_at prefix.1
   Some (RuleRow prefix.0 rule.0, rule.1)
 
+-- whether a radio is present: 0 or 1
 abbrev pub present_of : ℕ → Option Bool
 present_of number = if number == 0 then Some false else if number == 1 then Some true else None
 
@@ -38,6 +40,7 @@ present_of number = if number == 0 then Some false else if number == 1 then Some
 abbrev pub usage_of : ℕ → Option Usage
 usage_of number = if nat_lt number 32 then (lifetime_of (number % 4) >>= λ lifetime. Some (number / 4, lifetime)) else None
 
+-- a group, and how the radio is attached to it
 unfoldable pub group_at : List ℕ → Read Group
 group_at bytes = do
   gtsi ← number_at 6 bytes
@@ -50,6 +53,7 @@ abbrev pub groups_at : ℕ → List ℕ → Read (List Group)
 groups_at zero bytes = Some ([], bytes)
 groups_at (suc n) bytes = group_at bytes >>= λ g. groups_at n g.1 >>= λ gs. Some (g.0 ∷ gs.0, gs.1)
 
+-- a radio, where it is, and its groups
 unfoldable pub radio_row_at : List ℕ → Read Row
 radio_row_at bytes = do
   itsi ← number_at 6 bytes
@@ -123,6 +127,7 @@ written (RadioRow itsi radio groups) = RadioRow itsi radio groups
 written (MailRow w) = MailRow (record w { pdu = cleared w.pdu })
 written (ServedRow station last) = ServedRow station last
 
+-- the row as it is written, where what waits is what its key says
 abbrev pub settled : Row → Option Row
 settled row = if is_known row then Some (written row) else None
 

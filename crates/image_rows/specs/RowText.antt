@@ -30,6 +30,7 @@ usage_number usage = 4 * usage.0 + lifetime_number usage.1
 abbrev pub group_in : Attachment → Group
 group_in a = (a.gtsi, (a.class, a.lifetime))
 
+-- a group, and how the radio is attached to it
 abbrev pub group_text : Group → List ℕ
 group_text g = big 6 g.0 ++ big 1 (usage_number g.1)
 
@@ -42,6 +43,7 @@ abbrev pub copied_text : Option ℕ → List ℕ
 copied_text None = []
 copied_text (Some gtsi) = big 6 gtsi
 
+-- an item: its number, its deadline, its key, the group of a copy, and its PDU
 abbrev pub item_text : Waiting → List ℕ
 item_text w = big 8 w.number ++ big 8 w.deadline ++ key_text w.key ++ copied_text w.group ++ bits_text w.pdu
 
@@ -50,6 +52,7 @@ abbrev pub reply_bits : Option (List Bool) → List Bool
 reply_bits None = []
 reply_bits (Some bits) = bits
 
+-- a station, and what is kept of it
 abbrev pub served_text : ℕ → Served → List ℕ
 served_text station last = big 2 station ++ big 4 last.sequence ++ big 8 last.number ++ bits_text (reply_bits last.pdu)
 
@@ -60,6 +63,7 @@ abbrev pub mail_tag : Option ℕ → ℕ
 mail_tag None = 19
 mail_tag (Some gtsi) = 21
 
+-- the tag of a row
 abbrev pub tag_of : Row → ℕ
 tag_of (HeaderRow h) = 16
 tag_of (RuleRow prefix rule) = 17

@@ -3,6 +3,7 @@ use Rattle.image_rows.specs.Rows.{Row, HeaderRow, RuleRow, RadioRow, MailRow, Se
 use Rattle.image_rows.specs.declared.reading.ReadRow.{ReadRow}
 use Rattle.image_rows.specs.declared.reading.ReadRow.TheVariants as read
 
+-- the row that was read
 abbrev pub row_view : ReadRow → Row
 row_view (read.Header header) = HeaderRow header
 row_view (read.Rule prefix rule) = RuleRow prefix rule

@@ -78,6 +78,7 @@ pub record ServedRowInRange (station : ℕ) (last : Served) : Type 0 where
   pub kept : ServedInRange last
   pub number : last.number < 2 ^ 64
 
+-- the fields of a row are in their ranges
 abbrev pub RowInRange : Row → Type 0
 RowInRange (HeaderRow h) = HeaderInRange h
 RowInRange (RuleRow prefix rule) = RuleEntryInRange prefix rule
@@ -91,6 +92,7 @@ RowInRange (ServedRow station last) = ServedRowInRange station last
 abbrev pub how_many : List (Option Served) → ℕ
 how_many served = count_by is_some served
 
+-- the header of a state's image with this epoch
 abbrev pub header_of : ℕ → State → Header
 header_of epoch s = record {
   epoch = epoch;
@@ -101,6 +103,7 @@ header_of epoch s = record {
   served = how_many s.served;
 }
 
+-- the row of a rule under its prefix
 abbrev pub rule_row : Path × Rule → Row
 rule_row e = RuleRow e.0 e.1
 
@@ -108,6 +111,7 @@ rule_row e = RuleRow e.0 e.1
 abbrev pub group_of : Pair × Usage → Group
 group_of e = (e.0.1, e.1)
 
+-- a radio's groups by number, each with how the radio is attached to it
 abbrev pub groups_of : Attached → ℕ → List Group
 groups_of m itsi = each group_of (map.entries (of_radio m itsi))
 

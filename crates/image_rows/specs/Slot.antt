@@ -10,6 +10,7 @@ abbrev pub or_later : Option (ℕ × State) → Result (ℕ × State) ℕ → Re
 or_later (Some image) later = Ok image
 or_later None later = later
 
+-- the row of a sector is taken and more are read, unless it was the last; else the sector at this place is at fault
 abbrev pub with_row : ℕ → Option Loading → (Loading → Result (ℕ × State) ℕ) → Result (ℕ × State) ℕ
 with_row place None more = Err place
 with_row place (Some l) more = or_later (finished l) (more l)

@@ -11,6 +11,7 @@ use Rattle.image_rows.specs.declared.place.RowPlace.{RowPlace}
 use Rattle.image_rows.specs.declared.place.RowPlace.TheVariants as place
 use Rattle.image_rows.specs.Rows.{Row, HeaderRow, RuleRow, RadioRow, MailRow, ServedRow, rows_of}
 
+-- where a row stands in its image
 abbrev pub place_of : Row → RowPlace
 place_of (HeaderRow h) = place.Header
 place_of (RuleRow prefix rule) = place.Rule prefix

@@ -16,6 +16,7 @@ bare epoch = record { epoch = epoch; count = 0; rules = 0; radios = 0; mail = 0;
 
 -- one rule, one radio in one group, one item, and the last of two stations served; two commands were accepted
 module _ (limits : Limits) (prefix : Path) (rule : Rule) (itsi : ℕ) (radio : Radio) (gtsi : ℕ) (usage : Usage) (item : Waiting) (last : Served) where
+  -- the register that has them
   abbrev pub one_of_each : State
   one_of_each = record {
     registered = record { limits = limits; rules = map.insert map.empty prefix rule; radios = map.insert map.empty (id_path itsi) radio };
@@ -25,6 +26,7 @@ module _ (limits : Limits) (prefix : Path) (rule : Rule) (itsi : ℕ) (radio : R
     count = 2;
   }
 
+  -- the rows of its image with this epoch
   abbrev pub its_rows : ℕ → List Row
   its_rows epoch =
       HeaderRow (record { epoch = epoch; count = 2; rules = 1; radios = 1; mail = 1; served = 1 })

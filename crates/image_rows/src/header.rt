@@ -20,7 +20,7 @@ pub struct Header {
 
 impl Model for Header {
     ghost use Rattle.image_rows.specs.Rows.{Header as HeaderValue};
-    ghost use Rattle.image_rows.specs.Headers.{coded_header};
+    ghost use Rattle.image_rows.specs.Inside.Codes.{coded_header};
 
     ghost Value = { HeaderValue };
 

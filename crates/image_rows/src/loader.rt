@@ -23,7 +23,8 @@ pub struct Loader<A: Allocator> {
 
 impl<A: Allocator> Model for Loader<A> {
     ghost use Rattle.image_rows.specs.Loading.{Loading};
-    ghost use Rattle.image_rows.specs.Held.{IsLoaded, coded_loading, loading};
+    ghost use Rattle.image_rows.specs.Held.{IsLoaded, loading};
+    ghost use Rattle.image_rows.specs.Inside.Codes.{coded_loading};
 
     ghost Value = { Loading };
 

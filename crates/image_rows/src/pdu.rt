@@ -1,20 +1,19 @@
 // PDUs that still lie in the bytes they are read from.
 ghost use Rattle.std.specs.Prelude.{◌≡◌, ◌≤◌, ◌/◌, ◌%◌, ◌==◌, ◌&&◌, nat_le};
+ghost use Rattle.sds_tl.specs.Identifier.{first_identifier};
 ghost use Rattle.sds_tl.specs.Reading.{heading};
 ghost use Rattle.mailbox.specs.Kept.{is_head_of};
-ghost use Rattle.image_rows.specs.PduTest.{is_of_type};
+ghost use Rattle.image_rows.specs.Inside.PduTest.{is_of_type};
 
 use command_bytes::bits::PackedBits;
 use mailbox::{Key, Kind};
-
-/// The most bits of a short data PDU.
-const MOST_BITS: usize = 2047;
+use sds_tl::{FIRST_IDENTIFIER, MOST_BITS};
 
 // Whether these octets are of a PDU of this message type and reference.
 fn tell(first: u8, second: u8, last: u8, kind: u8, reference: u8) -> bool
-    ensures { result ≡ (nat_le 128 first && (second / 16 == kind) && (second % 2 == 0) && (last == reference)) }
+    ensures { result ≡ (nat_le first_identifier first && (second / 16 == kind) && (second % 2 == 0) && (last == reference)) }
 {
-    first >= 128 && second / 16 == kind && second % 2 == 0 && last == reference
+    first >= FIRST_IDENTIFIER && second / 16 == kind && second % 2 == 0 && last == reference
 }
 
 // Whether the PDU has this message type, and its reference as the last of its first octets.

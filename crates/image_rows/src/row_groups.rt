@@ -20,7 +20,7 @@ impl<'a> Model for PackedGroups<'a> {
     ghost use Rattle.std.specs.Prelude.{List, IsSome};
     ghost use Rattle.image_rows.specs.Rows.{Group};
     ghost use Rattle.image_rows.specs.RowReading.{groups_at};
-    ghost use Rattle.image_rows.specs.GroupViews.{groups_from};
+    ghost use Rattle.image_rows.specs.Inside.GroupViews.{groups_from};
 
     ghost Value = { List Group };
 

@@ -1,7 +1,8 @@
 //! Rows as they are written, each a sector. No call takes memory.
 ghost use Rattle.std.specs.Prelude.{◌≡◌, ◌≤◌, ◌+◌, ◌*◌, ◌++◌, IfSome, length, map};
 ghost use Rattle.std.specs.List.{flat_map};
-ghost use Rattle.centre_core.specs.Ranges.{IsShort, most_bits};
+ghost use Rattle.identity.specs.BitsText.{most_bits};
+ghost use Rattle.centre_core.specs.Ranges.{IsShort};
 ghost use Rattle.centre_core.specs.declared.reply.Reply.{Reply};
 ghost use Rattle.group_attach.specs.Applied.{most_of_radio};
 ghost use Rattle.command_bytes.specs.Fields.{big, bytes_for};

@@ -10,11 +10,11 @@ use Rattle.std.proofs.lemmas.Bool.{not_from_false, false≢true, false_from_ne_t
 use Rattle.std.proofs.lemmas.List.{append-nil}
 use Rattle.std.proofs.lemmas.List.Elements.{filter_agree, filter-append}
 use Rattle.identity.specs.Path.{Path, path_cmp, id_path}
-use Rattle.identity.specs.PathLaws.{paths_total, paths_exact, tie_exact, tied}
+use Rattle.identity.specs.Inside.PathLaws.{paths_total, paths_exact, tie_exact, tied}
 use Rattle.prefix_tree.specs.Change.{with_value}
 use Rattle.mailbox.specs.Values.{Waiting}
 use Rattle.mailbox.specs.Tests.{is_at}
-use Rattle.mailbox.specs.Boxes.{Boxes, contents, items_under, box_of, with_items, swept, put_last, put, is_under}
+use Rattle.mailbox.specs.Inside.Boxes.{Boxes, contents, items_under, box_of, with_items, swept, put_last, put, is_under}
 use Rattle.mailbox.proofs.Lists.{beside, filter_twice, filter_within, filter_turned}
 use Rattle.mailbox.proofs.Keys.{key_exact, under_other}
 

@@ -7,7 +7,7 @@ use Rattle.std.proofs.lemmas.Bool.{false≢true, not-true}
 use Rattle.mailbox.specs.declared.place.Place.{Place}
 use Rattle.mailbox.specs.Values.{Waiting}
 use Rattle.mailbox.specs.Tests.{same_key, is_at, is_expired}
-use Rattle.mailbox.specs.Boxes.{place_of}
+use Rattle.mailbox.specs.Order.{place_of}
 use Rattle.mailbox.proofs.Lists.{implied, filter_twice, filter_alike, filter_all, fewer_left, found_passes, found_with, found_any, never_found, find_each}
 use Rattle.mailbox.proofs.Keys.{key_itself, key_exact}
 use Rattle.mailbox.proofs.Keeping.{OfItem, no_item, of_item, unwrap_or_item}

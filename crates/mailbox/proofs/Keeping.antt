@@ -16,9 +16,9 @@ use Rattle.mailbox.specs.declared.key.Key.{Key}
 use Rattle.mailbox.specs.declared.place.Place.{Place}
 use Rattle.mailbox.specs.Values.{Waiting}
 use Rattle.mailbox.specs.Tests.{same_key, is_at, is_to, is_expired}
-use Rattle.mailbox.specs.Order.{IsBefore, named}
-use Rattle.mailbox.specs.Places.{same_place, is_due}
-use Rattle.mailbox.specs.Boxes.{Boxes, items_under, box_of, swept, put_last, put, item_at, is_kept, place_of, in_order, is_under, AreKept}
+use Rattle.mailbox.specs.Order.{IsBefore, named, place_of}
+use Rattle.mailbox.specs.Inside.Places.{same_place, is_due}
+use Rattle.mailbox.specs.Inside.Boxes.{Boxes, items_under, box_of, swept, put_last, put, item_at, is_kept, in_order, is_under, AreKept}
 use Rattle.mailbox.proofs.Lists.{implied, both_ways, filter_alike, any_within, find_within, found_passes, found_with, found_any, never_found, none_passes, any_of_none, find_agree, find_mapped, filter_all, none_left, looked_up, filter_mapped, any_mapped, find_each}
 use Rattle.mailbox.proofs.Keys.{key_itself, key_exact, at_is_under, under_is_to, named_total, total_itself, is_equal}
 use Rattle.mailbox.proofs.Boxed.{IsBoxed, items_boxed, boxed_swept, boxed_put}

@@ -10,13 +10,13 @@ use Rattle.mailbox.specs.Order.{place_at, named_cmp}
 use Rattle.std.proofs.lemmas.Bool.{and_parts, false≢true}
 use Rattle.std.proofs.lemmas.Bool.Decides.{nat_tests}
 use Rattle.identity.specs.Path.{Path, path_cmp, id_path}
-use Rattle.identity.specs.PathLaws.{paths_total, tie_exact, tied, id_path-injective}
+use Rattle.identity.specs.Inside.PathLaws.{paths_total, tie_exact, tied, id_path-injective}
 use Rattle.mailbox.specs.declared.key.Kind.{Kind}
 use Rattle.mailbox.specs.declared.key.Kind.TheVariants.{Message, Report}
 use Rattle.mailbox.specs.declared.key.Key.{Key}
 use Rattle.mailbox.specs.Values.{Waiting}
 use Rattle.mailbox.specs.Tests.{same_kind, same_key, is_at, is_to}
-use Rattle.mailbox.specs.Boxes.{is_under}
+use Rattle.mailbox.specs.Inside.Boxes.{is_under}
 use Rattle.mailbox.proofs.Lists.{both_ways}
 
 pub same_number : (a b : ℕ) → (a == b) ≡ true → a ≡ b

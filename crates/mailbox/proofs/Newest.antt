@@ -10,7 +10,8 @@ use Rattle.mailbox.specs.declared.key.Key.{Key}
 use Rattle.mailbox.specs.declared.place.Place.{Place}
 use Rattle.mailbox.specs.Values.{Waiting}
 use Rattle.mailbox.specs.Tests.{same_key, is_at}
-use Rattle.mailbox.specs.Boxes.{Boxes, swept, place_of, AreKept}
+use Rattle.mailbox.specs.Inside.Boxes.{Boxes, swept, AreKept}
+use Rattle.mailbox.specs.Order.{place_of}
 use Rattle.mailbox.proofs.Lists.{pairs_head, pairs_tail, filter_mapped}
 use Rattle.mailbox.proofs.Keys.{key_itself}
 use Rattle.mailbox.proofs.Keeping.{kept_removed}

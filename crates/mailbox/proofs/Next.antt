@@ -1,8 +1,7 @@
 -- What comes after the last of all comes after all.
-use Rattle.std.proofs.Common.{◌≡◌, ℕ, ◌+◌, ◌-◌, ◌<◌, Bool, true, false, List, [], ◌∷◌, length, get_or, map, Some, refl, ap, sym, ◌∙◌, subst, arith}
+use Rattle.std.proofs.Common.{◌≡◌, ℕ, ◌+◌, ◌-◌, ◌<◌, Bool, true, false, List, [], ◌∷◌, length, get_or, map, Some, refl, ap, sym, ◌∙◌, subst, arith, inl, inr}
 use Rattle.std.specs.Prelude.{◌↔◌, ◌⊎◌, IsTrue, nat_lt}
 use Rattle.std.specs.List.{All, AllPairs}
-use Rattle.std.proofs.Common.{inl, inr}
 use Rattle.std.specs.Ordering.{nat_cmp}
 use Rattle.std.specs.declared.cmp.Ordering.TheVariants.{Less}
 use Rattle.std.specs.Cmp.Lexicographic.{slice_cmp}
@@ -13,9 +12,8 @@ use Rattle.std.proofs.lemmas.List.{length-append, length-map, get_or-append-add}
 use Rattle.mailbox.specs.declared.key.Key.{Key}
 use Rattle.mailbox.specs.declared.place.Place.{Place}
 use Rattle.mailbox.specs.Values.{Waiting, Mailed}
-use Rattle.mailbox.specs.Order.{place_at, IsBefore, ComesLast}
-use Rattle.mailbox.specs.Boxes.{place_of}
-use Rattle.mailbox.specs.Places.{EndsWith}
+use Rattle.mailbox.specs.Order.{place_at, IsBefore, ComesLast, place_of}
+use Rattle.mailbox.specs.Inside.Places.{EndsWith}
 
 -- the place is before this number and key
 abbrev IsUnder : ℕ → Key → Place → Type 0

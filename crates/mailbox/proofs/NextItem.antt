@@ -10,8 +10,8 @@ use Rattle.prefix_tree.specs.Following.{is_after, next_of, AreRising}
 use Rattle.mailbox.specs.declared.key.Key.{Key}
 use Rattle.mailbox.specs.declared.place.Place.{Place}
 use Rattle.mailbox.specs.Values.{Waiting}
-use Rattle.mailbox.specs.Order.{named_cmp, named}
-use Rattle.mailbox.specs.Boxes.{Boxes, item_at, place_of, name_of, AreKept}
+use Rattle.mailbox.specs.Order.{named_cmp, named, place_of}
+use Rattle.mailbox.specs.Inside.Boxes.{Boxes, item_at, name_of, AreKept}
 use Rattle.mailbox.proofs.Keeping.{found_each}
 
 module _ {X : Type 0} where

@@ -6,8 +6,8 @@ use Rattle.std.specs.declared.boxed.Box.{Box}
 use Rattle.std.proofs.lemmas.List.Elements.{filter_map-append}
 use Rattle.mailbox.specs.declared.place.Place.{Place}
 use Rattle.mailbox.specs.Values.{Waiting}
-use Rattle.mailbox.specs.Boxes.{Boxes, item_at, in_order}
-use Rattle.mailbox.specs.Places.{places_of, joined}
+use Rattle.mailbox.specs.Inside.Boxes.{Boxes, item_at, in_order}
+use Rattle.mailbox.specs.Inside.Places.{places_of, joined}
 use Rattle.mailbox.proofs.Sides.{there}
 
 one_first : (o : Option Waiting) (ws : List Waiting) → cons_option o ws ≡ cons_option o [] ++ ws

@@ -18,8 +18,8 @@ use Rattle.prefix_tree.specs.Following.{is_after}
 use Rattle.mailbox.specs.declared.key.Key.{Key}
 use Rattle.mailbox.specs.declared.place.Place.{Place}
 use Rattle.mailbox.specs.Order.{place_at, named_cmp}
-use Rattle.mailbox.specs.Boxes.{name_of}
-use Rattle.mailbox.specs.Places.{place_cmp, same_place, InOrder, NoneBefore, is_due, places_of, joined, EndsWith}
+use Rattle.mailbox.specs.Inside.Boxes.{name_of}
+use Rattle.mailbox.specs.Inside.Places.{place_cmp, same_place, InOrder, NoneBefore, is_due, places_of, joined, EndsWith}
 use Rattle.mailbox.proofs.Lists.{pairs_head, pairs_tail, filter_all, any_of_none}
 
 module _ {X : Type 0} where

@@ -12,7 +12,7 @@ use Rattle.mailbox.specs.declared.opening.Opening.{Opening}
 use Rattle.mailbox.specs.declared.opening.ReportOpening.{ReportOpening}
 use Rattle.mailbox.specs.Values.{Waiting, Mailed}
 use Rattle.mailbox.specs.Tests.{key_of, is_at, is_reported}
-use Rattle.mailbox.specs.Boxes.{place_of}
+use Rattle.mailbox.specs.Order.{place_of}
 use Rattle.mailbox.specs.Mail.{waiting}
 use Rattle.mailbox.specs.Refusals.{post_refusal, report_refusal}
 
@@ -42,5 +42,6 @@ report_opening m keep e status =
 abbrev pub MayPost : Mailed → Waiting → Type 0
 MayPost m w = (s : Registered) × (post_refusal s m w ≡ None)
 
+-- so too a report, with this envelope and status
 abbrev pub MayReport : Mailed → Envelope → ℕ → Waiting → Type 0
 MayReport m e status w = (s : Registered) × (report_refusal s m e status w ≡ None)

@@ -18,6 +18,7 @@ use Rattle.mailbox.specs.Refusals.{post_refusal, report_refusal}
 use Rattle.mailbox.specs.GroupPost.{copies, group_posted, group_refusal}
 use Rattle.mailbox.specs.Kept.{is_head_of, IsSpelt, IsMail}
 
+-- what holds of the mail holds of an empty one, after any number of accepted commands
 abbrev pub EmptyIsMail : Type 0
 EmptyIsMail = (limits : Limits) (count : ℕ) → IsMail count (empty_mailed limits)
 
@@ -25,13 +26,16 @@ EmptyIsMail = (limits : Limits) (count : ℕ) → IsMail count (empty_mailed lim
 abbrev pub MoreIsMail : Type 0
 MoreIsMail = (count more : ℕ) (m : Mailed) → count ≤ more → IsMail count m → IsMail more m
 
+-- what holds of the mail still holds without the items that pass a test
 abbrev pub RemovalIsMail : Type 0
 RemovalIsMail = (count : ℕ) (m : Mailed) (test : Waiting → Bool) → IsMail count m → IsMail count (without test m)
 
+-- it holds with a message of the next accepted command, where the message is in its written form and not refused
 abbrev pub PostIsMail : Type 0
 PostIsMail =
     (s : Registered) (count : ℕ) (m : Mailed) (w : Waiting) → IsMail count m → w.number ≡ count + 1 → IsSpelt w → post_refusal s m w ≡ None → IsMail (count + 1) (posted m w)
 
+-- so too with a report of the next accepted command, and without what that ends
 abbrev pub ReportIsMail : Type 0
 ReportIsMail =
     (s : Registered) (count : ℕ) (m : Mailed) (e : Envelope) (status : ℕ) (w : Waiting) → IsMail count m → w.number ≡ count + 1 → w.key ≡ key_of e Report → IsSpelt w → report_refusal s m e status w ≡ None → IsMail (count + 1) (reported m e status w)

@@ -1,11 +1,10 @@
 pub mod Values
 pub mod Tests
 pub mod Order
-pub mod Boxes
-pub mod Places
 pub mod Mail
 pub mod Refusals
 pub mod GroupPost
 pub mod Kept
 pub mod Laws
 pub mod Judged
+pub mod Inside

@@ -10,6 +10,7 @@ use Rattle.mailbox.specs.declared.key.Stamp.{Stamp}
 use Rattle.mailbox.specs.Values.{Waiting, Mailed}
 use Rattle.mailbox.specs.Tests.{answered, is_at, is_to, is_ended_by, is_confirmed, is_expired}
 
+-- whether something waits at the key
 abbrev pub holds : Mailed → Key → Bool
 holds m k = list_any (is_at k) m.items
 
@@ -30,6 +31,7 @@ deadline_by (Some rule) moment = moment + rule.keep
 abbrev pub waiting_for : Registered → Key → Stamp → List Bool → Waiting
 waiting_for s k stamp pdu = record { key = k; number = stamp.number; deadline = deadline_by (rule_of s k.destination) stamp.moment; pdu = pdu; group = None }
 
+-- a new message is the last item
 abbrev pub posted : Mailed → Waiting → Mailed
 posted = with_item
 
@@ -37,15 +39,19 @@ posted = with_item
 abbrev pub reported : Mailed → Envelope → ℕ → Waiting → Mailed
 reported m e status w = with_item (without (is_ended_by e status) m) w
 
+-- the report that an acknowledgement in this envelope answers goes
 abbrev pub acknowledged : Mailed → Envelope → Mailed
 acknowledged m e = without (is_at (answered e Report)) m
 
+-- the item at the key was sent, and goes if it waits for no answer
 abbrev pub confirmed : Mailed → Key → Mailed
 confirmed m k = without (is_confirmed k) m
 
+-- what has ended by the moment goes
 abbrev pub expired : Mailed → ℕ → Mailed
 expired m moment = without (is_expired moment) m
 
+-- what waits at the key goes
 abbrev pub deleted : Mailed → Key → Mailed
 deleted m k = without (is_at k) m
 

@@ -9,8 +9,10 @@ use Rattle.prefix_tree.specs.Following.{next_of}
 use Rattle.mailbox.specs.declared.key.Key.{Key}
 use Rattle.mailbox.specs.declared.key.Kind.{Kind}
 use Rattle.mailbox.specs.declared.key.Kind.TheVariants.{Message, Report}
+use Rattle.mailbox.specs.declared.place.Place.{Place}
 use Rattle.mailbox.specs.Values.{Waiting, Mailed}
 
+-- a kind as a number: a message comes before a report
 abbrev pub kind_number : Kind → ℕ
 kind_number Message = 0
 kind_number Report = 1
@@ -19,6 +21,7 @@ kind_number Report = 1
 abbrev pub place_at : ℕ → Key → List ℕ
 place_at number k = number ∷ k.destination ∷ k.source ∷ k.reference ∷ kind_number k.kind ∷ []
 
+-- the first item comes before the second
 abbrev pub IsBefore : Waiting → Waiting → Type 0
 IsBefore a b = slice_cmp nat_cmp (place_at a.number a.key) (place_at b.number b.key) ≡ Less
 
@@ -37,3 +40,7 @@ named w = (w.number, w.key)
 -- the first item after this number and key, or the first of all
 abbrev pub next_item : Mailed → Option (ℕ × Key) → Option Waiting
 next_item m after = next_of named_cmp named m.items after
+
+-- an item's place in the order of all, with its deadline
+abbrev pub place_of : Waiting → Place
+place_of w = record { number = w.number; key = w.key; deadline = w.deadline }

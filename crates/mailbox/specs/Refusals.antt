@@ -11,6 +11,7 @@ use Rattle.mailbox.specs.Values.{Waiting, Mailed}
 use Rattle.mailbox.specs.Tests.{answered, is_to}
 use Rattle.mailbox.specs.Mail.{holds, with_item, reported}
 
+-- the first of two refusals that applies
 abbrev pub or_then : Option MailFault → Option MailFault → Option MailFault
 or_then (Some fault) next = Some fault
 or_then None next = next
@@ -48,18 +49,23 @@ full_refusal m destination = crowd_refusal m.room (count_by (is_to destination) 
 abbrev pub restore_refusal : Mailed → Waiting → Option MailFault
 restore_refusal m w = or_then (busy_refusal m w.key) (full_refusal (with_item m w) w.key.destination)
 
+-- why a message is refused: no rule serves its destination, its sender is not present, or it has no place
 abbrev pub post_refusal : Registered → Mailed → Waiting → Option MailFault
 post_refusal s m w = or_then (unknown_refusal (rule_of s w.key.destination)) (or_then (absent_refusal s w.key.source) (restore_refusal m w))
 
+-- why a report is refused: no rule serves its destination, its sender is not present, the message that it is on does not wait, or there is no room for it
 abbrev pub report_refusal : Registered → Mailed → Envelope → ℕ → Waiting → Option MailFault
 report_refusal s m e status w =
     or_then (unknown_refusal (rule_of s e.destination)) (or_then (absent_refusal s e.source) (or_then (missing_refusal m (answered e Message)) (full_refusal (reported m e status w) e.destination)))
 
+-- why an acknowledgement is refused: no rule serves its destination, its sender is not present, or the report that it answers does not wait
 abbrev pub ack_refusal : Registered → Mailed → Envelope → Option MailFault
 ack_refusal s m e = or_then (unknown_refusal (rule_of s e.destination)) (or_then (absent_refusal s e.source) (missing_refusal m (answered e Report)))
 
+-- why it is refused that an item was sent: the destination is not present, or nothing waits at the key
 abbrev pub sent_refusal : Registered → Mailed → Key → Option MailFault
 sent_refusal s m k = or_then (absent_refusal s k.destination) (missing_refusal m k)
 
+-- why a deletion is refused: nothing waits at the key
 abbrev pub delete_refusal : Mailed → Key → Option MailFault
 delete_refusal m k = missing_refusal m k

@@ -12,12 +12,14 @@ use Rattle.mailbox.specs.declared.key.Key.{Key}
 use Rattle.mailbox.specs.declared.key.Envelope.{Envelope}
 use Rattle.mailbox.specs.Values.{Waiting}
 
+-- two kinds are one
 abbrev pub same_kind : Kind → Kind → Bool
 same_kind Message Message = true
 same_kind Message Report = false
 same_kind Report Message = false
 same_kind Report Report = true
 
+-- two keys are one, in all four parts
 abbrev pub same_key : Key → Key → Bool
 same_key k j = (k.destination == j.destination) && (k.source == j.source) && (k.reference == j.reference) && same_kind k.kind j.kind
 
@@ -36,15 +38,18 @@ requested (Ok (heads.Report acknowledge status reference)) = requests.None
 requested (Ok (heads.Ack status reference)) = requests.None
 requested (Err fault) = requests.None
 
+-- which reports the PDU of an item asks for
 abbrev pub request_of : List Bool → DeliveryReportRequest
 request_of pdu = requested (heading pdu)
 
+-- it asks for no report
 abbrev pub asks_nothing : DeliveryReportRequest → Bool
 asks_nothing requests.None = true
 asks_nothing requests.Received = false
 asks_nothing requests.Consumed = false
 asks_nothing requests.Both = false
 
+-- it asks for a report once the message is consumed
 abbrev pub asks_consumed : DeliveryReportRequest → Bool
 asks_consumed requests.None = false
 asks_consumed requests.Received = false
@@ -58,6 +63,7 @@ acknowledge_of (Ok (heads.Report acknowledge status reference)) = acknowledge
 acknowledge_of (Ok (heads.Ack status reference)) = false
 acknowledge_of (Err fault) = false
 
+-- the PDU is a report's, and asks for an acknowledgement
 abbrev pub wants_acknowledgement : List Bool → Bool
 wants_acknowledgement pdu = acknowledge_of (heading pdu)
 
@@ -66,6 +72,7 @@ abbrev pub is_message_kind : Kind → Bool
 is_message_kind Message = true
 is_message_kind Report = false
 
+-- the item is a message, and no report
 abbrev pub is_message : Waiting → Bool
 is_message w = is_message_kind w.key.kind
 
@@ -73,6 +80,7 @@ is_message w = is_message_kind w.key.kind
 abbrev pub is_to : ℕ → Waiting → Bool
 is_to destination w = w.key.destination == destination
 
+-- the item's key is this one
 abbrev pub is_at : Key → Waiting → Bool
 is_at k w = same_key k w.key
 
@@ -97,5 +105,6 @@ is_answerless Report pdu = not (wants_acknowledgement pdu)
 abbrev pub is_confirmed : Key → Waiting → Bool
 is_confirmed k w = is_at k w && is_answerless w.key.kind w.pdu
 
+-- the item has ended by the moment
 abbrev pub is_expired : ℕ → Waiting → Bool
 is_expired moment w = nat_le w.deadline moment

@@ -34,6 +34,7 @@ coded_waiting =
     (λ w. (w.key, (w.number, (w.deadline, (w.pdu, w.group)))))
     (λ p. record { key = p.0; number = p.1.0; deadline = p.1.1.0; pdu = p.1.1.1.0; group = p.1.1.1.1 }) (λ _. refl)
 
+-- how the mail is stored: its room, and its items one after another
 abbrev pub coded_mailed : Coded Mailed
 coded_mailed =
     code_by (ℕ × List Waiting) (coded× coded_ℕ (coded_list coded_waiting))

@@ -6,8 +6,9 @@ ghost use Rattle.std.specs.Option.{is_none, option_copied, option_map};
 ghost use Rattle.std.specs.FinMap as finite;
 ghost use Rattle.identity.specs.Path.{id_path};
 ghost use Rattle.mailbox.specs.Tests.{is_at};
-ghost use Rattle.mailbox.specs.Places.{places_of};
-ghost use Rattle.mailbox.specs.Boxes.{items_under, with_items, swept, put, put_last, item_at, place_of, is_kept, in_order};
+ghost use Rattle.mailbox.specs.Inside.Places.{places_of};
+ghost use Rattle.mailbox.specs.Inside.Boxes.{items_under, with_items, swept, put, put_last, item_at, is_kept, in_order};
+ghost use Rattle.mailbox.specs.Order.{place_of};
 
 use crate::inbox::Inbox;
 use crate::node::Link;

@@ -4,7 +4,8 @@ ghost use Rattle.std.specs.Prelude.{◌≡◌, ◌<◌, [], false, not, Some, On
 ghost use Rattle.std.specs.List.{filter, find, list_any};
 ghost use Rattle.std.specs.Option.{option_map};
 ghost use Rattle.mailbox.specs.Tests.{is_at};
-ghost use Rattle.mailbox.specs.Boxes.{box_of, place_of, put_last};
+ghost use Rattle.mailbox.specs.Inside.Boxes.{box_of, put_last};
+ghost use Rattle.mailbox.specs.Order.{place_of};
 
 use crate::items::{any_at, place_at};
 use crate::place::Place;

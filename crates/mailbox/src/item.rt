@@ -3,7 +3,7 @@
 ghost use Rattle.std.specs.Prelude.{◌≡◌, ◌≤◌, IfOk};
 ghost use Rattle.sds_tl.specs.Reading.{heading};
 ghost use Rattle.mailbox.specs.Values.{latest_deadline};
-ghost use Rattle.mailbox.specs.Boxes.{place_of};
+ghost use Rattle.mailbox.specs.Order.{place_of};
 ghost use Rattle.mailbox.specs.GroupPost.{addressed};
 ghost use Rattle.mailbox.specs.Tests.{request_of, asks_nothing, asks_consumed, wants_acknowledgement, ends_request, is_at, is_to, is_reported, is_ended_by, is_answerless, is_confirmed, is_expired};
 
@@ -131,7 +131,7 @@ impl<A: Allocator> Item<A> {
     pub(crate) fn is_at(&self, key: &Key) -> bool
         ensures { result ≡ is_at key.now self.now }
     {
-        key.is(&self.key)
+        *key == self.key
     }
 
     pub(crate) fn is_to(&self, destination: Itsi) -> bool

@@ -1,7 +1,7 @@
 //! Who sent what to whom.
 
 ghost use Rattle.std.specs.Prelude.{◌≡◌};
-ghost use Rattle.mailbox.specs.Tests.{key_of, answered, same_kind, same_key};
+ghost use Rattle.mailbox.specs.Tests.{key_of, answered};
 ghost use Rattle.mailbox.specs.GroupPost.{copy_key};
 
 use identity::{Gtsi, Itsi};
@@ -13,17 +13,6 @@ pub enum Kind {
     Message,
     /// An SDS-REPORT.
     Report,
-}
-
-impl Kind {
-    pub(crate) fn is(self, other: Kind) -> bool
-        ensures { result ≡ same_kind self other }
-    {
-        match (self, other) {
-            (Kind::Message, Kind::Message) | (Kind::Report, Kind::Report) => true,
-            (Kind::Message, Kind::Report) | (Kind::Report, Kind::Message) => false,
-        }
-    }
 }
 
 /// By what an item is named. No two that wait have the same key.
@@ -40,15 +29,6 @@ pub struct Key {
 }
 
 impl Key {
-    pub(crate) fn is(&self, other: &Key) -> bool
-        ensures { result ≡ same_key self.now other.now }
-    {
-        self.destination.number() == other.destination.number()
-            && self.source.number() == other.source.number()
-            && self.reference == other.reference
-            && self.kind.is(other.kind)
-    }
-
     pub(crate) fn with_destination(&self, destination: Itsi) -> Key
         ensures { result ≡ record self.now { destination = destination } }
     {

@@ -7,8 +7,7 @@ ghost use Rattle.mailbox.specs.declared.fault.MailFault.TheVariants.{NoMemory};
 ghost use Rattle.mailbox.specs.declared.key.Kind.TheVariants as kind;
 ghost use Rattle.mailbox.specs.Values.{empty_mailed, latest_deadline};
 ghost use Rattle.mailbox.specs.Tests.{same_key, key_of, is_to, is_at, is_reported, is_expired};
-ghost use Rattle.mailbox.specs.Order.{IsBefore, ComesLast, next_item};
-ghost use Rattle.mailbox.specs.Boxes.{place_of};
+ghost use Rattle.mailbox.specs.Order.{IsBefore, ComesLast, next_item, place_of};
 ghost use Rattle.mailbox.specs.Mail.{holds, without, with_item, deadline_by, waiting_for, posted, reported, acknowledged, confirmed, expired, deleted, waiting};
 ghost use Rattle.mailbox.specs.GroupPost.{shortened};
 ghost use Rattle.mailbox.specs.Judged.{none_waits, item_in, report_opening, MayPost, MayReport};
@@ -41,7 +40,7 @@ impl<A: Allocator> Model for Mail<A> {
 
     ghost coded = { coded_mailed };
 
-    ghost use Rattle.mailbox.specs.Boxes.{AreKept, in_order};
+    ghost use Rattle.mailbox.specs.Inside.Boxes.{AreKept, in_order};
 
     ghost view = { λ m. record { room = m.room; items = in_order m.boxes m.order } };
 

@@ -6,8 +6,8 @@ ghost use Rattle.std.specs.List.{filter, find, list_any};
 ghost use Rattle.std.specs.Option.{option_copied, option_map};
 ghost use Rattle.prefix_tree.specs.Following.{next_of};
 ghost use Rattle.mailbox.specs.Order.{named_cmp};
-ghost use Rattle.mailbox.specs.Boxes.{name_of};
-ghost use Rattle.mailbox.specs.Places.{same_place, InOrder, NoneBefore, is_due, places_of, joined, IsFirstOf, IsLastOf, EndsWith};
+ghost use Rattle.mailbox.specs.Inside.Boxes.{name_of};
+ghost use Rattle.mailbox.specs.Inside.Places.{same_place, InOrder, NoneBefore, is_due, places_of, joined, IsFirstOf, IsLastOf, EndsWith};
 
 use crate::Key;
 use crate::place::Place;
@@ -32,7 +32,7 @@ pub(crate) struct Node<A: Allocator> {
 impl<A: Allocator> Model for Node<A> {
     ghost use Rattle.std.specs.Prelude.{List, length};
     ghost use Rattle.mailbox.specs.declared.place.Place.{Place};
-    ghost use Rattle.mailbox.specs.Places.{coded_places, joined, NoneBefore};
+    ghost use Rattle.mailbox.specs.Inside.Places.{coded_places, joined, NoneBefore};
 
     ghost Value = { List Place };
 

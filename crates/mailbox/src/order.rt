@@ -5,8 +5,8 @@ ghost use Rattle.std.specs.List.{filter, find, list_any};
 ghost use Rattle.std.specs.Option.{option_copied};
 ghost use Rattle.prefix_tree.specs.Following.{next_of};
 ghost use Rattle.mailbox.specs.Order.{named_cmp};
-ghost use Rattle.mailbox.specs.Boxes.{name_of};
-ghost use Rattle.mailbox.specs.Places.{same_place, InOrder, is_due, places_of, IsLastOf, EndsWith};
+ghost use Rattle.mailbox.specs.Inside.Boxes.{name_of};
+ghost use Rattle.mailbox.specs.Inside.Places.{same_place, InOrder, is_due, places_of, IsLastOf, EndsWith};
 
 use crate::Key;
 use crate::node::{self, Link, Node};
@@ -26,7 +26,7 @@ pub(crate) struct Order<A: Allocator> {
 impl<A: Allocator> Model for Order<A> {
     ghost use Rattle.std.specs.Prelude.{◌≡◌, List, length};
     ghost use Rattle.mailbox.specs.declared.place.Place.{Place};
-    ghost use Rattle.mailbox.specs.Places.{coded_places, places_of};
+    ghost use Rattle.mailbox.specs.Inside.Places.{coded_places, places_of};
 
     ghost Value = { List Place };
 

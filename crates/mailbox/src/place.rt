@@ -6,8 +6,8 @@ ghost use Rattle.std.specs.declared.cmp.Ordering.TheVariants.{Less};
 ghost use Rattle.std.specs.Cmp.Lexicographic.{slice_cmp};
 ghost use Rattle.prefix_tree.specs.Following.{is_after};
 ghost use Rattle.mailbox.specs.Order.{kind_number, place_at, named_cmp};
-ghost use Rattle.mailbox.specs.Boxes.{name_of};
-ghost use Rattle.mailbox.specs.Places.{place_cmp};
+ghost use Rattle.mailbox.specs.Inside.Boxes.{name_of};
+ghost use Rattle.mailbox.specs.Inside.Places.{place_cmp};
 
 use crate::{Key, Kind};
 use std::cmp::Ordering;

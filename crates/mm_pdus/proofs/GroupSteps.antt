@@ -3,7 +3,7 @@ use Rattle.std.proofs.Common.{◌≡◌, ℕ, suc, ◌-◌, ◌+◌, ◌*◌, �
 use Rattle.std.specs.List.{flat_map}
 use Rattle.std.proofs.lemmas.List.{append-nil}
 use Rattle.identity.specs.Number.{num}
-use Rattle.identity.specs.NumberLaws.{length-num}
+use Rattle.identity.specs.Inside.NumberLaws.{length-num}
 use Rattle.identity.specs.Identity.{mcc_of, mnc_of, ssi_of}
 use Rattle.mm_pdus.specs.declared.fault.MmFault.{MmFault}
 use Rattle.mm_pdus.specs.Reading.{◌>>=◌, made_element}

@@ -23,9 +23,11 @@ rejects items = list_any is_detach items
 abbrev pub accept_text : AcceptType → List Bool
 accept_text update = num 4 5 ++ num 3 (update_number (update_accepted update)) ++ false ∷ []
 
+-- a D-LOCATION UPDATE REJECT: the type of the update, and the reject cause
 abbrev pub reject_text : LocationUpdateType → ℕ → List Bool
 reject_text update cause = num 4 7 ++ num 3 (update_number update) ++ num 5 cause ++ false ∷ false ∷ []
 
+-- a D-ATTACH/DETACH GROUP IDENTITY ACKNOWLEDGEMENT, with this bit in the place of the reserved one
 abbrev pub acknowledge_text : Bool → List GroupDown → List Bool
 acknowledge_text reserved items = num 4 11 ++ rejects items ∷ reserved ∷ extension (groups_extension group_down identity_downlink items)
 

@@ -28,6 +28,7 @@ module _ (group_at : List Bool → Result (GroupDown × List Bool) MmFault) wher
     rest ← clear_at body.1
     Ok (items, rest)
 
+  -- the O-bit, and the groups where it is 1
   unfoldable pub answers_at : List Bool → Result (List GroupDown × List Bool) MmFault
   answers_at bits = do
     more ← bit_at bits
@@ -67,6 +68,7 @@ module _ {A : Type 0} where
       items ← answers_at group_at reserved.1
       Ok ((Acknowledge items.0, beq rejected.0 (rejects items.0)), items.1)
 
+    -- the PDU type, and what stands behind it in a PDU of that type
     unfoldable pub down_at : List Bool → Result ((MmDown A × Bool) × List Bool) MmFault
     down_at bits = do
       kind ← field_at 4 bits
@@ -79,6 +81,7 @@ module _ {A : Type 0} where
     said ← needs read.1
     Ok read.0
 
+  -- the PDU to a radio that all of the bits are, or the first fault
   unfoldable pub reading_down : List Bool → Result (MmDown A) MmFault
   reading_down bits = judged (whole (down_at group_down_at bits))
 

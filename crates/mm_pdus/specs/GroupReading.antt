@@ -21,6 +21,7 @@ address_at bits = do
       if kind.0 == 0 then Ok (Short gssi.0, gssi.1)
       else (field_at 10 gssi.1 >>= λ mcc. field_at 14 mcc.1 >>= λ mnc. Ok (Full (identity_number mcc.0 mnc.0 gssi.0), mnc.1)))
 
+-- one group from a radio: a class of usage or the reason for leaving, and the address
 unfoldable pub group_up_at : List Bool → Result (GroupUp × List Bool) MmFault
 group_up_at bits = do
   leaves ← bit_at bits
@@ -28,6 +29,7 @@ group_up_at bits = do
       then (field_at 2 leaves.1 >>= λ number. known (leave_of number.0) >>= λ reason. address_at number.1 >>= λ a. Ok (up.Leave reason a.0, a.1))
       else (field_at 3 leaves.1 >>= λ class. address_at class.1 >>= λ a. Ok (up.Attach class.0 a.0, a.1))
 
+-- one group to a radio: a lifetime and a class of usage or the reason of the detach, and the address
 unfoldable pub group_down_at : List Bool → Result (GroupDown × List Bool) MmFault
 group_down_at bits = do
   detached ← bit_at bits
@@ -45,6 +47,7 @@ inside fault.UnsupportedAddress = fault.UnsupportedAddress
 inside fault.TooMany = fault.TooMany
 inside fault.NoMemory = fault.NoMemory
 
+-- what is read inside an element, or its fault there
 abbrev pub read_inside : {X : Type 0} → Result X MmFault → Result X MmFault
 read_inside (Ok x) = Ok x
 read_inside (Err f) = Err (inside f)
@@ -55,6 +58,7 @@ unkept group_at bits = group_at bits >>= λ group. Err fault.NoMemory
 
 -- Groups one after the other, each read by this function.
 module _ {T : Type 0} (group_at : List Bool → Result (T × List Bool) MmFault) where
+  -- so many groups, and the bits behind them
   unfoldable pub groups_at : ℕ → List Bool → Result (List T × List Bool) MmFault
   groups_at zero bits = Ok ([], bits)
   groups_at (suc n) bits = do
@@ -77,5 +81,6 @@ module _ {T : Type 0} (group_at : List Bool → Result (T × List Bool) MmFault)
 abbrev pub behind : {T : Type 0} → List T → Result (List T) MmFault → Result (List T) MmFault
 behind front read = read >>= λ more. Ok (front ++ more)
 
+-- the same, with the bits behind them
 abbrev pub with_front : {T : Type 0} → List T → Result (List T × List Bool) MmFault → Result (List T × List Bool) MmFault
 with_front front read = read >>= λ x. Ok (front ++ x.0, x.1)

@@ -17,6 +17,7 @@ abbrev pub address : GroupAddress → List Bool
 address (Short gssi) = num 2 0 ++ num 24 gssi
 address (Full gtsi) = num 2 1 ++ num 24 (ssi_of gtsi) ++ num 10 (mcc_of gtsi) ++ num 14 (mnc_of gtsi)
 
+-- A GSSI has 24 bits, and a GTSI 48.
 abbrev pub IsAddress : GroupAddress → Type 0
 IsAddress (Short gssi) = gssi < 2 ^ 24
 IsAddress (Full gtsi) = gtsi < 2 ^ 48
@@ -26,6 +27,7 @@ abbrev pub group_up : GroupUp → List Bool
 group_up (up.Attach class a) = false ∷ num 3 class ++ address a
 group_up (up.Leave reason a) = true ∷ num 2 (leave_number reason) ++ address a
 
+-- A class of usage has 3 bits, and the address those that it needs.
 abbrev pub IsGroupUp : GroupUp → Type 0
 IsGroupUp (up.Attach class a) = (class < 2 ^ 3) × IsAddress a
 IsGroupUp (up.Leave reason a) = IsAddress a
@@ -35,10 +37,12 @@ abbrev pub group_down : GroupDown → List Bool
 group_down (down.Attach lifetime class a) = false ∷ num 2 (lifetime_number lifetime) ++ num 3 class ++ address a
 group_down (down.Detach reason a) = true ∷ num 2 (detach_number reason) ++ address a
 
+-- The same of a group to a radio.
 abbrev pub IsGroupDown : GroupDown → Type 0
 IsGroupDown (down.Attach lifetime class a) = (class < 2 ^ 3) × IsAddress a
 IsGroupDown (down.Detach reason a) = IsAddress a
 
+-- whether the group is detached
 abbrev pub is_detach : GroupDown → Bool
 is_detach (down.Attach lifetime class a) = false
 is_detach (down.Detach reason a) = true

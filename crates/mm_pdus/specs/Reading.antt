@@ -6,6 +6,7 @@ use Rattle.mm_pdus.specs.declared.fault.MmFault.TheVariants.{Short, Trailing, Ba
 use Rattle.mm_pdus.specs.Syntax.{Element}
 
 infixl 10 ◌>>=◌
+-- one part and what is read behind it, up to the first fault
 abbrev pub ◌>>=◌ : {A B : Type 0} → Result A MmFault → (A → Result B MmFault) → Result B MmFault
 (Ok x) >>= f = f x
 (Err e) >>= f = Err e
@@ -55,6 +56,7 @@ optional_at w bits = do
   there ← bit_at bits
   if there.0 then (piece_at w there.1 >>= λ part. Ok part.1) else Ok there.1
 
+-- such parts of these widths, one after another
 unfoldable pub optionals_at : List ℕ → List Bool → Result (List Bool) MmFault
 optionals_at [] bits = Ok bits
 optionals_at (w ∷ ws) bits = do
@@ -69,6 +71,7 @@ element_at bits = do
       then (field_at 4 more.1 >>= λ identifier. field_at 11 identifier.1 >>= λ len. piece_at len.0 len.1 >>= λ body. Ok (Some (record { identifier = identifier.0; body = body.0 }), body.1))
       else Ok (None, more.1)
 
+-- the element with this identifier and these bits
 abbrev pub made_element : ℕ → List Bool → Element
 made_element identifier body = record { identifier = identifier; body = body }
 

@@ -20,9 +20,11 @@ pub record Element : Type 0 where
   pub identifier : ℕ
   pub body : List Bool
 
+-- The text of such an element.
 abbrev pub element : Element → List Bool
 element e = true ∷ num 4 e.identifier ++ num 11 (length e.body) ++ e.body
 
+-- Its identifier fits 4 bits, and its length 11.
 pub record IsElement (e : Element) : Type 0 where
   pub identifier : e.identifier < 2 ^ 4
   pub body : length e.body < 2 ^ 11

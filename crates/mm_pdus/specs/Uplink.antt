@@ -37,14 +37,17 @@ elements_of (Some x) = x.elements
 abbrev pub detach_text : List Bool
 detach_text = num 4 1 ++ false ∷ []
 
+-- that of a U-LOCATION UPDATE DEMAND
 abbrev pub demand_text : LocationUpdateType → List Bool
 demand_text update = num 4 2 ++ num 3 (update_number update) ++ false ∷ false ∷ false ∷ []
 
+-- that of a U-ATTACH/DETACH GROUP IDENTITY, with all groups in one element
 abbrev pub groups_text : GroupMode → List GroupUp → List Bool
 groups_text mode items = num 4 7 ++ false ∷ mode_bit mode ∷ extension (groups_extension group_up identity_uplink items)
 
 -- The bits are a spelling of the PDU. No value depends on A, the allocator that a PDU keeps its groups under.
 module _ {A : Type 0} where
+  -- The bits have the values of the PDU in their fields; whatever else may stand in a PDU of that type is free.
   abbrev pub SpellsUp : MmUp A → List Bool → Type 0
   SpellsUp Detach bits = (x : Option Extension) × IsExtension detach_widths x × (bits ≡ num 4 1 ++ extension x)
   SpellsUp (Demand update) bits =
@@ -54,6 +57,7 @@ module _ {A : Type 0} where
       (report : Bool) × (x : Option Extension) × IsExtension [] x × GroupsOf (elements_of x) items × (length items ≤ most_groups)
       × (bits ≡ num 4 7 ++ report ∷ mode_bit mode ∷ extension x)
 
+  -- The written form.
   abbrev pub canon_up : MmUp A → List Bool
   canon_up Detach = detach_text
   canon_up (Demand update) = demand_text update

@@ -18,6 +18,7 @@ module _ (group_at : List Bool → Result (GroupUp × List Bool) MmFault) where
   abbrev pub join_groups : List GroupUp → Element → Result (List GroupUp) MmFault
   join_groups items e = if e.identifier == identity_uplink then behind items (body_at group_at (length items) e.body) else Ok items
 
+  -- the O-bit, and the groups of all elements where it is 1
   unfoldable pub all_groups_at : List Bool → Result (List GroupUp × List Bool) MmFault
   all_groups_at bits = do
     more ← bit_at bits
@@ -28,11 +29,13 @@ abbrev pub names_groups : List Bool → Bool
 names_groups bits = number (take 4 bits) == 7
 
 module _ {A : Type 0} where
+  -- a U-ITSI DETACH behind its PDU type
   unfoldable pub detach_at : List Bool → Result (MmUp A × List Bool) MmFault
   detach_at bits = do
     rest ← extension_at detach_widths bits
     Ok (Detach, rest)
 
+  -- a U-LOCATION UPDATE DEMAND behind its PDU type
   unfoldable pub demand_at : List Bool → Result (MmUp A × List Bool) MmFault
   demand_at bits = do
     number ← field_at 3 bits
@@ -43,6 +46,7 @@ module _ {A : Type 0} where
     Ok (Demand update, rest)
 
   module _ (group_at : List Bool → Result (GroupUp × List Bool) MmFault) where
+    -- a U-ATTACH/DETACH GROUP IDENTITY behind its PDU type
     unfoldable pub groups_up_at : List Bool → Result (MmUp A × List Bool) MmFault
     groups_up_at bits = do
       report ← bit_at bits
@@ -50,11 +54,13 @@ module _ {A : Type 0} where
       items ← all_groups_at group_at mode.1
       Ok (Groups (mode_of mode.0) items.0, items.1)
 
+    -- the PDU type, and what stands behind it in a PDU of that type
     unfoldable pub up_at : List Bool → Result (MmUp A × List Bool) MmFault
     up_at bits = do
       kind ← field_at 4 bits
       if kind.0 == 1 then detach_at kind.1 else if kind.0 == 2 then demand_at kind.1 else if kind.0 == 7 then groups_up_at kind.1 else Err UnknownType
 
+  -- the PDU from a radio that all of the bits are, or the first fault
   unfoldable pub reading_up : List Bool → Result (MmUp A) MmFault
   reading_up bits = whole (up_at group_up_at bits)
 

@@ -13,6 +13,7 @@ use Rattle.mm_pdus.specs.declared.detachment.DetachReason.TheVariants as detach
 use Rattle.mm_pdus.specs.declared.group.GroupMode.{GroupMode}
 use Rattle.mm_pdus.specs.declared.group.GroupMode.TheVariants.{Amendment, DetachAllFirst}
 
+-- the number of a location update type
 abbrev pub update_number : LocationUpdateType → ℕ
 update_number Roaming = 0
 update_number Migrating = 1
@@ -54,6 +55,7 @@ update_accepted accept.ItsiAttach = ItsiAttach
 update_accepted accept.ServiceRestorationRoaming = ServiceRestorationRoaming
 update_accepted accept.Demand = Demand
 
+-- the number of a lifetime
 abbrev pub lifetime_number : Lifetime → ℕ
 lifetime_number NotNeeded = 0
 lifetime_number NextItsiAttach = 1
@@ -68,6 +70,7 @@ lifetime_of (suc (suc zero)) = Some NotAllowedAtNextItsiAttach
 lifetime_of (suc (suc (suc zero))) = Some NextLocationUpdate
 lifetime_of (suc (suc (suc (suc n)))) = None
 
+-- the number of the reason for which a radio leaves a group
 abbrev pub leave_number : LeaveReason → ℕ
 leave_number leave.UnknownGroup = 0
 leave_number leave.NoValidEncryptionKey = 1
@@ -82,6 +85,7 @@ leave_of (suc (suc zero)) = Some leave.UserInitiated
 leave_of (suc (suc (suc zero))) = Some leave.CapacityExceeded
 leave_of (suc (suc (suc (suc n)))) = None
 
+-- the number of the reason for which a group is detached
 abbrev pub detach_number : DetachReason → ℕ
 detach_number detach.UnknownGroup = 0
 detach_number detach.TemporaryFirst = 1
@@ -101,6 +105,7 @@ abbrev pub mode_bit : GroupMode → Bool
 mode_bit Amendment = false
 mode_bit DetachAllFirst = true
 
+-- the mode that a bit stands for
 abbrev pub mode_of : Bool → GroupMode
 mode_of false = Amendment
 mode_of true = DetachAllFirst

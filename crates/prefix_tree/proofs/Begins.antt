@@ -5,7 +5,7 @@ use Rattle.std.specs.Prelude.{not}
 use Rattle.std.specs.Option.{option_or}
 use Rattle.std.specs.Ordering.{eq_by_cmp}
 use Rattle.identity.specs.Path.{Path, path_cmp, begins}
-use Rattle.prefix_tree.specs.Paths.{common}
+use Rattle.prefix_tree.specs.Inside.Paths.{common}
 
 pub begins_self : (p : Path) → begins p p ≡ true
 begins_self [] = refl

@@ -5,7 +5,7 @@ use Rattle.identity.specs.Path.{Path, begins}
 use Rattle.prefix_tree.specs.declared.node.Node.TheInside.{Inside}
 use Rattle.prefix_tree.specs.Table.{PathMap}
 use Rattle.prefix_tree.specs.Change.{with_value}
-use Rattle.prefix_tree.specs.Joined.{NodeSeen, joined, table_of, node_view, IsLoose, IsFirm}
+use Rattle.prefix_tree.specs.Inside.Joined.{NodeSeen, joined, table_of, node_view, IsLoose, IsFirm}
 use Rattle.prefix_tree.proofs.NodeLaws.{write_here, take_here, into_zero, into_one, out_of_zero, out_of_one, firm_put, loose_after}
 
 module _ {V A : Type 0} (n : Inside V A) (d : NodeSeen V) (seen : node_view n.at n.value n.zero n.one ≡ d) (sound : IsTrue d.sound) where

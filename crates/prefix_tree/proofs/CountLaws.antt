@@ -7,7 +7,7 @@ use Rattle.std.specs.FinMap as map
 use Rattle.std.proofs.Math.Pow.{pow_mono}
 use Rattle.std.proofs.lemmas.Nat.{pow-add}
 use Rattle.prefix_tree.specs.declared.node.Node.TheInside.{Inside}
-use Rattle.prefix_tree.specs.Joined.{NodeSeen, table_of, node_view}
+use Rattle.prefix_tree.specs.Inside.Joined.{NodeSeen, table_of, node_view}
 use Rattle.prefix_tree.specs.Visits.{is_place}
 use Rattle.prefix_tree.proofs.JoinLaws.{place_parts}
 use Rattle.prefix_tree.proofs.NodeLaws.{table_is, zero_keys, one_keys}

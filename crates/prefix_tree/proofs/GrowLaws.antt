@@ -9,8 +9,8 @@ use Rattle.prefix_tree.proofs.Standing.{place_single, place_joined, goes_link, s
 use Rattle.std.specs.declared.boxed.Box.{Box}
 use Rattle.identity.specs.Path.{Path, begins}
 use Rattle.prefix_tree.specs.Table.{PathMap}
-use Rattle.prefix_tree.specs.Paths.{common}
-use Rattle.prefix_tree.specs.Joined.{NodeSeen, joined, spread, KeysUnder, table_of, is_under, IsFirm, IsUnder, IsParting, leads_to}
+use Rattle.prefix_tree.specs.Inside.Paths.{common}
+use Rattle.prefix_tree.specs.Inside.Joined.{NodeSeen, joined, spread, KeysUnder, table_of, is_under, IsFirm, IsUnder, IsParting, leads_to}
 use Rattle.prefix_tree.proofs.Begins.{begins_self, common_second, common_under, common_parts, other_side, begins_whole, begins_length}
 use Rattle.prefix_tree.proofs.JoinedLaws.{under_empty, keys_insert, insert_here, insert_zero, insert_one, joined_zero, joined_one, keys_joined}
 use Rattle.prefix_tree.proofs.NodeLaws.{keys_of}

@@ -7,7 +7,7 @@ use Rattle.std.specs.FinMap as map
 use Rattle.std.specs.declared.boxed.Box.{Box}
 use Rattle.identity.specs.Path.{Path, begins}
 use Rattle.prefix_tree.specs.declared.node.Node.TheInside.{Inside}
-use Rattle.prefix_tree.specs.Joined.{NodeSeen, joined, table_of, IsLoose, IsUnder, node_view}
+use Rattle.prefix_tree.specs.Inside.Joined.{NodeSeen, joined, table_of, IsLoose, IsUnder, node_view}
 use Rattle.prefix_tree.proofs.Begins.{begins_trans, begins_self, side_begins}
 use Rattle.prefix_tree.proofs.JoinedLaws.{joined_zero, joined_one}
 use Rattle.prefix_tree.proofs.NodeLaws.{at_is, table_is, fits, zero_keys, one_keys, none_behind}

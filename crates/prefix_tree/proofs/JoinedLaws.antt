@@ -6,9 +6,9 @@ use Rattle.std.specs.Ordering.{eq_by_cmp}
 use Rattle.std.specs.FinMap as map
 use Rattle.std.specs.FinMap.{find, get-entries, get-from_entries, get-insert, get-remove, get-empty, same_map}
 use Rattle.identity.specs.Path.{Path, path_cmp, begins}
-use Rattle.identity.specs.PathLaws.{paths_total, paths_exact, tie_exact}
+use Rattle.identity.specs.Inside.PathLaws.{paths_total, paths_exact, tie_exact}
 use Rattle.prefix_tree.specs.Table.{PathMap}
-use Rattle.prefix_tree.specs.Joined.{own_entry, joined_entries, joined, KeysUnder}
+use Rattle.prefix_tree.specs.Inside.Joined.{own_entry, joined_entries, joined, KeysUnder}
 use Rattle.prefix_tree.proofs.Begins.{begins_trans, pick, pick_is, pick_here, pick_zero, pick_one, pick_off, set_here, set_zero, set_one}
 
 pub under_empty : (V : Type 0) → (p : Path) → KeysUnder {V = V} p map.empty

@@ -10,11 +10,11 @@ use Rattle.std.specs.Ordering.{eq_by_cmp}
 use Rattle.std.specs.FinMap as map
 use Rattle.std.specs.FinMap.{get-insert, same_map}
 use Rattle.identity.specs.Path.{Path, path_cmp, begins}
-use Rattle.identity.specs.PathLaws.{paths_total, paths_exact, tie_exact}
+use Rattle.identity.specs.Inside.PathLaws.{paths_total, paths_exact, tie_exact}
 use Rattle.prefix_tree.specs.declared.node.Node.TheInside.{Inside}
 use Rattle.prefix_tree.specs.Visits.{visits_beyond}
-use Rattle.prefix_tree.specs.Joined.{NodeSeen, KeysUnder, table_of, leads_to, link_visits, IsFirm, IsUnder, node_view}
-use Rattle.prefix_tree.specs.Lending.{IsOnWay, IsLike, IsGrafted}
+use Rattle.prefix_tree.specs.Inside.Joined.{NodeSeen, KeysUnder, table_of, leads_to, link_visits, IsFirm, IsUnder, node_view}
+use Rattle.prefix_tree.specs.Inside.Grafting.{IsOnWay, IsLike, IsGrafted}
 use Rattle.prefix_tree.proofs.Begins.{pick, pick_zero, pick_one, begins_self, begins_trans, begins_length, begins_whole, longer_side, side_begins}
 use Rattle.prefix_tree.proofs.JoinedLaws.{get_joined, keys_joined, under_off}
 use Rattle.prefix_tree.proofs.Standing.{place_joined, goes_link, sound_when}

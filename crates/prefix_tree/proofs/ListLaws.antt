@@ -3,7 +3,7 @@ use Rattle.std.proofs.Common.{◌≡◌, ℕ, ◌≤◌, None, arith}
 use Rattle.std.specs.FinMap as map
 use Rattle.std.specs.FinMap.{entries_sorted, len-entries}
 use Rattle.identity.specs.Path.{path_cmp}
-use Rattle.identity.specs.PathLaws.{paths_total}
+use Rattle.identity.specs.Inside.PathLaws.{paths_total}
 use Rattle.prefix_tree.specs.Table.{PathMap}
 use Rattle.prefix_tree.specs.Following.{AreRising}
 use Rattle.prefix_tree.specs.Next.{followed}

@@ -8,9 +8,9 @@ use Rattle.std.proofs.lemmas.List.Folds.{find-append}
 use mathlib.Core.Bool.{false≢true}
 use Rattle.std.specs.FinMap as map
 use Rattle.identity.specs.Path.{Path, path_cmp, begins}
-use Rattle.identity.specs.PathLaws.{begins_then, tie_exact, tied}
+use Rattle.identity.specs.Inside.PathLaws.{begins_then, tie_exact, tied}
 use Rattle.prefix_tree.specs.Table.{PathMap, longest, longest_below, IsLongest, NamesLongest}
-use Rattle.prefix_tree.specs.PrefixList.{map_of, IsInOrder}
+use Rattle.prefix_tree.specs.Inside.PrefixList.{map_of, IsInOrder}
 use Rattle.std.specs.FinMap.Entries.{below_all}
 use Rattle.std.proofs.lemmas.List.{reverse-append, length-take-le}
 use Rattle.prefix_tree.proofs.Places.{get_of, less_of, left_of, right_of, equal_self, equal_not_less, greater_not_less}

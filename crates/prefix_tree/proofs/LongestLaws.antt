@@ -7,7 +7,7 @@ use Rattle.std.specs.FinMap as map
 use Rattle.std.specs.declared.boxed.Box.{Box}
 use Rattle.identity.specs.Path.{Path, begins}
 use Rattle.prefix_tree.specs.Table.{PathMap, longest, longest_below}
-use Rattle.prefix_tree.specs.Joined.{NodeSeen, table_of, IsFirm, IsUnder}
+use Rattle.prefix_tree.specs.Inside.Joined.{NodeSeen, table_of, IsFirm, IsUnder}
 use Rattle.prefix_tree.proofs.Begins.{begins_self, begins_trans, begins_length, side_begins, longer_side}
 use Rattle.prefix_tree.proofs.JoinedLaws.{under_off}
 use Rattle.prefix_tree.proofs.Standing.{never_so}

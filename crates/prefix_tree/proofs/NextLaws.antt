@@ -10,9 +10,9 @@ use Rattle.std.specs.declared.boxed.Box.{Box}
 use Rattle.prefix_tree.specs.declared.node.Node.TheInside.{Inside}
 use Rattle.identity.specs.Path.{Path, path_cmp, begins}
 use Rattle.prefix_tree.specs.Table.{PathMap}
-use Rattle.prefix_tree.specs.Paths.{common}
+use Rattle.prefix_tree.specs.Inside.Paths.{common}
 use Rattle.prefix_tree.specs.Visits.{goes_on, any_under}
-use Rattle.prefix_tree.specs.Joined.{NodeSeen, own_entry, joined, KeysUnder, table_of, IsUnder, node_view}
+use Rattle.prefix_tree.specs.Inside.Joined.{NodeSeen, own_entry, joined, KeysUnder, table_of, IsUnder, node_view}
 use Rattle.prefix_tree.specs.Next.{first_entry, entry_past}
 use Rattle.prefix_tree.proofs.Begins.{begins_length, side_begins}
 use Rattle.prefix_tree.proofs.Standing.{never_so, place_goes}

@@ -9,11 +9,11 @@ use Rattle.std.specs.FinMap.{get-empty, get-remove, same_map}
 use Rattle.std.specs.Ordering.{eq_by_cmp}
 use Rattle.std.specs.declared.boxed.Box.{Box}
 use Rattle.identity.specs.Path.{Path, path_cmp, begins}
-use Rattle.identity.specs.PathLaws.{paths_total, paths_exact, tie_exact}
+use Rattle.identity.specs.Inside.PathLaws.{paths_total, paths_exact, tie_exact}
 use Rattle.prefix_tree.specs.Table.{PathMap}
 use Rattle.prefix_tree.specs.declared.node.Node.TheInside.{Inside}
 use Rattle.prefix_tree.specs.Visits.{is_place}
-use Rattle.prefix_tree.specs.Joined.{NodeSeen, joined, KeysUnder, table_of, IsLoose, IsFirm, IsUnder, node_view, leads_to}
+use Rattle.prefix_tree.specs.Inside.Joined.{NodeSeen, joined, KeysUnder, table_of, IsLoose, IsFirm, IsUnder, node_view, leads_to}
 use Rattle.prefix_tree.proofs.Standing.{fits_when, place_inserted}
 use Rattle.prefix_tree.proofs.Begins.{longer_side, begins_whole, begins_length}
 use Rattle.prefix_tree.proofs.JoinedLaws.{under_wider, under_empty, under_off, get_here, get_zero, get_one, keys_joined, keys_insert, keys_remove, insert_here, insert_zero, insert_one, remove_here, remove_zero, remove_one, joined_empty}

@@ -6,10 +6,10 @@ use Rattle.std.proofs.lemmas.List.{take_at}
 use Rattle.std.specs.Prelude.{◌==◌, ◌⊎◌}
 use mathlib.Core.Bool.{false≢true}
 use Rattle.identity.specs.Number.{num, number}
-use Rattle.identity.specs.NumberLaws.{length-num, number-num, num-append, take-num}
+use Rattle.identity.specs.Inside.NumberLaws.{length-num, number-num, num-append, take-num}
 use Rattle.identity.specs.Path.{Path, begins, id_path}
-use Rattle.identity.specs.PathLaws.{begins_test, aligned}
-use Rattle.prefix_tree.specs.Paths.{common}
+use Rattle.identity.specs.Inside.PathLaws.{begins_test, aligned}
+use Rattle.prefix_tree.specs.Inside.Paths.{common}
 use Rattle.prefix_tree.proofs.Begins.{begins_length}
 
 pub fits_cut : (w n b : ℕ) → w ≤ n → b < 2 ^ n → b / 2 ^ (n - w) < 2 ^ w

@@ -6,9 +6,9 @@ use Rattle.std.specs.Ordering.{nat_cmp, ordering_then}
 use Rattle.std.proofs.Math.ListN.{length-replicate}
 use Rattle.std.proofs.lemmas.Bool.Decides.{nat_tests}
 use Rattle.identity.specs.Number.{number}
-use Rattle.identity.specs.NumberLaws.{number-lt}
+use Rattle.identity.specs.Inside.NumberLaws.{number-lt}
 use Rattle.identity.specs.Path.{Path, path_cmp, id_path}
-use Rattle.identity.specs.PathLaws.{length-id_path, number-id_path}
+use Rattle.identity.specs.Inside.PathLaws.{length-id_path, number-id_path}
 
 above : (k x y : ℕ) → x < 2 ^ k → nat_cmp (1 * 2 ^ k + y) (0 * 2 ^ k + x) ≡ Greater
 above k x y lt = grind (arith, nat_tests)

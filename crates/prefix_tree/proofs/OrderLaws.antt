@@ -9,9 +9,9 @@ use Rattle.std.specs.FinMap as map
 use Rattle.std.specs.FinMap.{find, is_sorted, entries_sorted, entries-from_sorted, get-from_sorted, get-entries, get-from_entries, len-entries, same_map}
 use Rattle.std.specs.FinMap.Entries.{below_all}
 use Rattle.identity.specs.Path.{Path, path_cmp, begins}
-use Rattle.identity.specs.PathLaws.{paths_total, paths_exact, tied}
+use Rattle.identity.specs.Inside.PathLaws.{paths_total, paths_exact, tied}
 use Rattle.prefix_tree.specs.Table.{PathMap}
-use Rattle.prefix_tree.specs.Joined.{own_entry, joined_entries, joined, KeysUnder}
+use Rattle.prefix_tree.specs.Inside.Joined.{own_entry, joined_entries, joined, KeysUnder}
 
 -- a path before what goes on from it, and what goes on with 0 before what goes on with 1
 pub own_before : (p x : Path) (b : Bool) → begins (p ++ b ∷ []) x ≡ true → path_cmp p x ≡ Less

@@ -12,9 +12,9 @@ use Rattle.std.specs.FinMap as map
 use Rattle.std.specs.FinMap.{find, put}
 use Rattle.std.specs.FinMap.Entries.{below_all, is_sorted-put}
 use Rattle.identity.specs.Path.{Path, path_cmp}
-use Rattle.identity.specs.PathLaws.{paths_total, paths_exact, tied}
+use Rattle.identity.specs.Inside.PathLaws.{paths_total, paths_exact, tied}
 use Rattle.prefix_tree.specs.Table.{PathMap}
-use Rattle.prefix_tree.specs.PrefixList.{map_of, IsInOrder}
+use Rattle.prefix_tree.specs.Inside.PrefixList.{map_of, IsInOrder}
 
 pub less_of : (o : Ordering) → is_lt o ≡ true → o ≡ Less
 less_of Less e = refl

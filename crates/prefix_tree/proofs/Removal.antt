@@ -6,9 +6,9 @@ use Rattle.std.specs.FinMap as map
 use Rattle.std.specs.FinMap.{find, get-remove, same_map}
 use Rattle.std.specs.FinMap.Entries.{below_all}
 use Rattle.identity.specs.Path.{Path, path_cmp}
-use Rattle.identity.specs.PathLaws.{paths_total, paths_exact, tie_exact}
+use Rattle.identity.specs.Inside.PathLaws.{paths_total, paths_exact, tie_exact}
 use Rattle.prefix_tree.specs.Table.{PathMap}
-use Rattle.prefix_tree.specs.PrefixList.{map_of, IsInOrder}
+use Rattle.prefix_tree.specs.Inside.PrefixList.{map_of, IsInOrder}
 use Rattle.prefix_tree.proofs.NodeLaws.{remove_absent}
 use Rattle.prefix_tree.proofs.Places.{IsAt, IsGap, tail_at, head_before, less_of, left_of, right_of, both, get_of, get_absent}
 

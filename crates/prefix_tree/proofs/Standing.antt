@@ -8,10 +8,10 @@ use Rattle.std.specs.FinMap as map
 use Rattle.std.specs.FinMap.{find, get-entries, get-empty, get-insert}
 use Rattle.std.specs.declared.boxed.Box.{Box}
 use Rattle.identity.specs.Path.{Path, path_cmp, begins}
-use Rattle.identity.specs.PathLaws.{paths_total, tie_exact, tied}
+use Rattle.identity.specs.Inside.PathLaws.{paths_total, tie_exact, tied}
 use Rattle.prefix_tree.specs.Table.{PathMap}
 use Rattle.prefix_tree.specs.Visits.{any_under, goes_on, is_place}
-use Rattle.prefix_tree.specs.Joined.{NodeSeen, joined, KeysUnder, all_under, is_under, table_of, IsUnder, node_view}
+use Rattle.prefix_tree.specs.Inside.Joined.{NodeSeen, joined, KeysUnder, all_under, is_under, table_of, IsUnder, node_view}
 use Rattle.prefix_tree.proofs.Begins.{begins_self, begins_trans, begins_push, side_begins}
 use Rattle.prefix_tree.proofs.JoinedLaws.{get_here, get_zero, get_one}
 use Rattle.prefix_tree.proofs.OrderLaws.{AllUnder, entries_under}

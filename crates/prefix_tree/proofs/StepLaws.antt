@@ -8,7 +8,7 @@ use Rattle.identity.specs.Path.{Path, begins}
 use Rattle.prefix_tree.specs.Table.{PathMap}
 use Rattle.prefix_tree.specs.declared.node.Node.TheInside.{Inside}
 use Rattle.prefix_tree.specs.Visits.{visits_beyond}
-use Rattle.prefix_tree.specs.Joined.{NodeSeen, table_of, is_under, leads_to, link_visits, own_entry, IsUnder, node_view}
+use Rattle.prefix_tree.specs.Inside.Joined.{NodeSeen, table_of, is_under, leads_to, link_visits, own_entry, IsUnder, node_view}
 use Rattle.prefix_tree.proofs.Begins.{begins_trans, side_begins}
 use Rattle.prefix_tree.proofs.OrderLaws.{entries_joined}
 use Rattle.prefix_tree.proofs.Standing.{sound_when}

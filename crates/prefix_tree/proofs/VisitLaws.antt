@@ -12,7 +12,7 @@ use Rattle.std.specs.declared.boxed.Box.{Box}
 use Rattle.identity.specs.Path.{Path, path_cmp, begins}
 use Rattle.prefix_tree.specs.Table.{PathMap}
 use Rattle.prefix_tree.specs.Visits.{goes_on, is_place, visits, visits_beyond, nodes_on_way}
-use Rattle.prefix_tree.specs.Joined.{NodeSeen, KeysUnder, table_of, IsUnder, link_visits}
+use Rattle.prefix_tree.specs.Inside.Joined.{NodeSeen, KeysUnder, table_of, IsUnder, link_visits}
 use Rattle.prefix_tree.proofs.Begins.{begins_self, begins_push, side_begins, begins_length, begins_whole}
 use Rattle.prefix_tree.proofs.Numbers.{begins_front}
 use Rattle.prefix_tree.proofs.JoinedLaws.{under_off}

@@ -18,6 +18,7 @@ next_of cmp key xs after = find (is_after cmp key after) xs
 abbrev pub AreRising : {K X : Type 0} → (K → K → Ordering) → (X → K) → List X → Type 0
 AreRising cmp key xs = AllPairs (λ a b. cmp (key a) (key b) ≡ Less) xs
 
+-- an item and those that follow on it, or none where there is no item
 abbrev pub then_on : {X : Type 0} → (X → List X) → Option X → List X
 then_on on None = []
 then_on on (Some x) = x ∷ on x

@@ -1,11 +1,8 @@
 pub mod Table
-pub mod PrefixList
-pub mod Paths
 pub mod Visits
-pub mod Joined
 pub mod Change
 pub mod Lending
 pub mod Following
 pub mod Next
 pub mod Walk
-pub mod Counts
+pub mod Inside

@@ -5,9 +5,11 @@ use Rattle.identity.specs.Path.{Path, path_cmp}
 use Rattle.prefix_tree.specs.Table.{PathMap}
 use Rattle.prefix_tree.specs.Following.{next_of, one_by_one}
 
+-- the first of these entries
 abbrev pub first_entry : {V : Type 0} → List (Path × V) → Option (Path × V)
 first_entry es = next_of path_cmp (λ e. e.0) es None
 
+-- the first of these entries that comes after the path
 abbrev pub entry_past : {V : Type 0} → Path → List (Path × V) → Option (Path × V)
 entry_past q es = next_of path_cmp (λ e. e.0) es (Some q)
 

@@ -33,5 +33,6 @@ NamesLongest m q (Some entry) = IsLongest m q entry
 abbrev pub coded_path : Coded Path
 coded_path = coded_list coded_bool
 
+-- a map, by how its paths and its values are stored
 abbrev pub coded_table : {V : Type 0} → Coded V → Coded (PathMap V)
 coded_table v = map.code coded_path v

@@ -5,6 +5,7 @@ use Rattle.std.specs.FinMap as map
 use Rattle.identity.specs.Path.{Path, begins}
 use Rattle.prefix_tree.specs.Table.{PathMap}
 
+-- the path begins the key of some of these entries
 abbrev pub any_under : {V : Type 0} → Path → List (Path × V) → Bool
 any_under p [] = false
 any_under p (e ∷ es) = begins p e.0 || any_under p es

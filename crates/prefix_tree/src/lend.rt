@@ -6,7 +6,7 @@ ghost use Rattle.std.specs.Option.{option_copied_mut};
 ghost use Rattle.std.specs.Borrow.{sem};
 ghost use Rattle.identity.specs.Path.{begins};
 ghost use Rattle.prefix_tree.specs.Visits.{visits_beyond};
-ghost use Rattle.prefix_tree.specs.Lending.{IsOnWay, LendsBelow, LendsValue, LendsInside};
+ghost use Rattle.prefix_tree.specs.Inside.Grafting.{IsOnWay, LendsBelow, LendsValue, LendsInside};
 
 use crate::edit::visit;
 use crate::node::{Link, Node};

@@ -22,7 +22,7 @@ pub struct PrefixList<V, A: Allocator> {
 
 impl<V, A: Allocator> Model for PrefixList<V, A> {
     ghost use Rattle.prefix_tree.specs.Table.{PathMap, coded_table};
-    ghost use Rattle.prefix_tree.specs.PrefixList.{map_of, IsInOrder};
+    ghost use Rattle.prefix_tree.specs.Inside.PrefixList.{map_of, IsInOrder};
 
     ghost Value = { PathMap V };
 

@@ -5,7 +5,7 @@ ghost use Rattle.std.specs.FinMap as map;
 ghost use Rattle.std.specs.Option.{option_copied, option_map, is_some};
 ghost use Rattle.prefix_tree.specs.Table.{longest};
 ghost use Rattle.identity.specs.Path.{begins};
-ghost use Rattle.prefix_tree.specs.Joined.{table_of, nodes_of, IsUnder};
+ghost use Rattle.prefix_tree.specs.Inside.Joined.{table_of, nodes_of, IsUnder};
 ghost use Rattle.prefix_tree.specs.Visits.{is_place, visits_beyond};
 
 use crate::{Steps, path};
@@ -17,17 +17,18 @@ use std::sync::ledger::Ledger;
 /// A node in a box of its own.
 pub(crate) type Link<V, A> = Box<Node<V, A>, A>;
 
-/// A place where prefixes part, or where one ends: its whole prefix, its value, and what goes on with each bit.
+/// A place where prefixes part, or where one ends: its whole prefix, what goes on with each bit, and its value. What a
+/// walk reads of a node that it goes past lies together at its front.
 #[derive(Drop)]
 pub(crate) struct Node<V, A: Allocator> {
     pub(crate) at: Prefix,
-    pub(crate) value: Option<V>,
     pub(crate) zero: Option<Link<V, A>>,
     pub(crate) one: Option<Link<V, A>>,
+    pub(crate) value: Option<V>,
 }
 
 impl<V, A: Allocator> Model for Node<V, A> {
-    ghost use Rattle.prefix_tree.specs.Joined.{NodeSeen, coded_node, node_view};
+    ghost use Rattle.prefix_tree.specs.Inside.Joined.{NodeSeen, coded_node, node_view};
 
     ghost Value = { NodeSeen V };
 

@@ -2,7 +2,7 @@
 
 ghost use Rattle.std.specs.Prelude.{◌≡◌, ◌<◌, ◌≤◌, ◌++◌, ◌∷◌, [], length, IsTrue};
 ghost use Rattle.identity.specs.Path.{begins};
-ghost use Rattle.prefix_tree.specs.Paths.{common};
+ghost use Rattle.prefix_tree.specs.Inside.Paths.{common};
 
 use identity::Prefix;
 

@@ -22,7 +22,7 @@ use Rattle.checkpoint.specs.Layout.{disk_size, half_at, half_end, label_at, root
 use Rattle.checkpoint.specs.Standing.{InEach, IsInSlot, Stands, fresh, sectors_from}
 use Rattle.recovery.specs.Calls.{first_header, label_sector}
 use Rattle.recovery.specs.Opens.{opening, opens}
-use Rattle.recovery.specs.Sides.{AreReady}
+use Rattle.recovery.specs.Inside.Sides.{AreReady}
 use Rattle.recovery.specs.Standing.{first_base}
 use Rattle.recovery.proofs.Labelled.{label_length}
 use Rattle.recovery.proofs.Opened.{standing_opens}

@@ -1,16 +1,15 @@
 -- A label is read as the layout that was written, and as no other.
 use Rattle.std.proofs.Common.{◌≡◌, ℕ, ◌<◌, ◌≤◌, ◌^◌, Bool, true, false, ◌&&◌, List, ◌++◌, length, drop, Option, Some, None, Ok, refl, sym, ap, ◌∙◌, arith, append_assoc}
-use Rattle.std.specs.Prelude.{IfSome, IsSome}
+use Rattle.std.specs.Prelude.{IfSome, IsSome, nat_le}
 use Rattle.std.proofs.lemmas.Bool.{false≢true, le-leb}
 use Rattle.std.proofs.lemmas.List.{length-append, take-append-drop}
-use Rattle.std.specs.Prelude.{nat_le}
 use Rattle.std.specs.Coded.{le_prop}
 use Rattle.sector_disk.specs.Disk.{sector}
-use Rattle.registration.specs.Limits.{AreLimits}
+use Rattle.registration.specs.Limits.{AreLimits, rule_capacity, radio_capacity, mail_capacity, station_capacity}
 use Rattle.registration.specs.declared.limits.Limits.{Limits}
 use Rattle.command_bytes.specs.Fields.{◌>>=◌, big}
 use Rattle.command_bytes.proofs.Numbers.{length-big, number_again}
-use Rattle.checkpoint.specs.Half.{IsHalfSize}
+use Rattle.checkpoint.specs.Half.{IsHalfSize, fewest_sectors, most_sectors}
 use Rattle.checkpoint.specs.declared.layout.Layout.{Layout}
 use Rattle.checkpoint.specs.Label.{IsLabel, label_size, label_text, layout_number, name}
 use Rattle.checkpoint.specs.Layout.{disk_size, label_at}
@@ -30,9 +29,9 @@ within_passes low high n above below = pass (nat_le low n) (nat_le n high) (le-l
 limits_are : (limits : Limits) → are_limits limits.rules limits.radios limits.mail limits.stations ≡ true
 limits_are limits =
     let is = limits.in_range in
-    pass (is_within 1 4096 limits.rules && is_within 1 65536 limits.radios) (is_within 1 65536 limits.mail && is_within 1 64 limits.stations)
-    (pass (is_within 1 4096 limits.rules) (is_within 1 65536 limits.radios) (within_passes 1 4096 limits.rules is.some_rules is.most_rules) (within_passes 1 65536 limits.radios is.some_radios is.most_radios))
-    (pass (is_within 1 65536 limits.mail) (is_within 1 64 limits.stations) (within_passes 1 65536 limits.mail is.some_mail is.most_mail) (within_passes 1 64 limits.stations is.some_stations is.most_stations))
+    pass (is_within 1 rule_capacity limits.rules && is_within 1 radio_capacity limits.radios) (is_within 1 mail_capacity limits.mail && is_within 1 station_capacity limits.stations)
+    (pass (is_within 1 rule_capacity limits.rules) (is_within 1 radio_capacity limits.radios) (within_passes 1 rule_capacity limits.rules is.some_rules is.most_rules) (within_passes 1 radio_capacity limits.radios is.some_radios is.most_radios))
+    (pass (is_within 1 mail_capacity limits.mail) (is_within 1 station_capacity limits.stations) (within_passes 1 mail_capacity limits.mail is.some_mail is.most_mail) (within_passes 1 station_capacity limits.stations is.some_stations is.most_stations))
 
 same_ranges : (rules radios mail stations : ℕ) (p q : AreLimits rules radios mail stations) → p ≡ q
 same_ranges rules radios mail stations p q = λ i. record {
@@ -63,7 +62,7 @@ layout_made layout true is passes = λ i. Some (record { limits = layout.limits;
 layout_made layout false is passes = absurd cc
 
 layout_again : (layout : Layout) → layout_of layout.limits layout.journal ≡ Some layout
-layout_again layout = layout_made layout (is_half_size layout.journal) (half_size_passes layout.journal) (within_passes 38 65536 layout.journal layout.in_range.fewest layout.in_range.most)
+layout_again layout = layout_made layout (is_half_size layout.journal) (half_size_passes layout.journal) (within_passes fewest_sectors most_sectors layout.journal layout.in_range.fewest layout.in_range.most)
 
 -- ---- the numbers of a layout
 

@@ -23,8 +23,7 @@ use Rattle.gated_journal.proofs.Listed.{record_taken}
 use Rattle.checkpoint.specs.Layout.{half_at, half_end, slot_at, slot_size}
 use Rattle.checkpoint.specs.Standing.{sectors_from}
 use Rattle.recovery.specs.Opens.{Opening, opens}
-use Rattle.recovery.specs.Standing.{IsRanged}
-use Rattle.recovery.specs.Standing.{commands_of}
+use Rattle.recovery.specs.Standing.{IsRanged, commands_of}
 use Rattle.recovery.proofs.Limited.{step_limits}
 use Rattle.recovery.proofs.Stood.{behind}
 

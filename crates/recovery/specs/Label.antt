@@ -39,6 +39,7 @@ fitting sectors (Some layout) = if nat_le (disk_size layout) sectors then Ok lay
 abbrev pub layout_behind : List ℕ → Option Layout
 layout_behind bytes = told_at bytes >>= layout_told
 
+-- the layout that a label tells, on a disk of so many sectors
 abbrev pub layout_at : ℕ → List ℕ → Result Layout StoreFault
 layout_at sectors bytes = if is_named bytes then fitting sectors (layout_behind (drop 8 bytes)) else Err Unformatted
 

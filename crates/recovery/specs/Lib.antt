@@ -2,12 +2,11 @@ pub mod Ranges
 pub mod Label
 pub mod Opens
 pub mod Opening
-pub mod Opened
 pub mod Standing
 pub mod Calls
-pub mod Sides
 pub mod Kept
 pub mod Outcomes
 pub mod Refusals
 pub mod Serving
 pub mod Lasting
+pub mod Inside

@@ -38,6 +38,7 @@ chosen (Some a) None = Ok side.A
 chosen None (Some b) = Ok side.B
 chosen (Some a) (Some b) = if a == b then Err (Damaged (root_at side.B)) else (if nat_lt a b then Ok side.B else Ok side.A)
 
+-- the side that counts: of those with an open root the one of the greater epoch
 unfoldable pub side_in : Layout → List (List ℕ) → Result Side StoreFault
 side_in layout image = then_on (side_at layout side.A image) (λ a. then_on (side_at layout side.B image) (λ b. chosen a b))
 
@@ -48,6 +49,7 @@ abbrev pub placed : ℕ → Result Base ℕ → Result Base StoreFault
 placed at (Ok base) = Ok base
 placed at (Err place) = Err (Damaged (at + place))
 
+-- the image of a register in a side's slot
 unfoldable pub base_in : Layout → Side → List (List ℕ) → Result Base StoreFault
 base_in layout side image = placed (slot_at layout side) (slot_of layout.limits (sectors_from image (slot_at layout side) (slot_size layout)))
 
@@ -69,6 +71,7 @@ module _ {A : Type 0} where
   played s [] = Ok s
   played s (entry ∷ entries) = then_on (taken entry.0 (run s entry.1)) (λ t. played t entries)
 
+  -- the records that a half holds, and its first closed gate; the first bad sector is at fault
   abbrev pub held_by : Half A → Result (Held A) StoreFault
   held_by (Ok held) = Ok held
   held_by (Err at) = Err (Damaged at)
@@ -83,6 +86,7 @@ pub record Opening : Type 0 where
   pub next : ℕ
   pub state : State
 
+-- what an image opens to, put together from its parts
 abbrev pub opening : Layout → Side → ℕ → ℕ → State → Opening
 opening layout side epoch gate state = record { layout = layout; side = side; epoch = epoch; next = gate; state = state }
 
@@ -99,5 +103,6 @@ module _ (A : Type 0) where
   unfoldable pub opens_by : Layout → Side → List (List ℕ) → Result Opening StoreFault
   opens_by layout side image = then_on (base_in layout side image) (λ base. then_on (played_by layout side base.1 image) (λ end. Ok (opening layout side base.0 end.1 end.0)))
 
+  -- what the image of a disk opens to, or the first fault
   unfoldable pub opens : List (List ℕ) → Result Opening StoreFault
   opens image = then_on (layout_in image) (λ layout. then_on (side_in layout image) (λ side. opens_by layout side image))

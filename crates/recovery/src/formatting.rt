@@ -10,7 +10,7 @@ ghost use Rattle.checkpoint.specs.Standing.{InEach, Stands, fresh};
 ghost use Rattle.recovery.specs.declared.fault.StoreFault.TheVariants.{BadGeometry, DiskFault};
 ghost use Rattle.recovery.specs.Calls.{first_header, format_calls, label_sector, side_calls};
 ghost use Rattle.recovery.specs.Opens.{opening, opens};
-ghost use Rattle.recovery.specs.Sides.{AreReady};
+ghost use Rattle.recovery.specs.Inside.Sides.{AreReady};
 ghost use Rattle.recovery.specs.Standing.{first_base};
 
 use crate::StoreFault;

@@ -8,7 +8,7 @@ ghost use Rattle.checkpoint.specs.Layout.{disk_size, half_at, half_end};
 ghost use Rattle.recovery.specs.declared.fault.StoreFault.TheVariants.{DiskFault, NoMemory};
 ghost use Rattle.recovery.specs.Opens.{opens, opens_by, played_by};
 ghost use Rattle.recovery.specs.Opening.{AreGoodSoFar, EndsAt, Gives, HasNoFaultYet, IsOfOpening};
-ghost use Rattle.recovery.specs.Opened.{IsWhole, opened_view};
+ghost use Rattle.recovery.specs.Inside.Opened.{IsWhole, opened_view};
 
 use crate::StoreFault;
 use crate::label::read_layout;

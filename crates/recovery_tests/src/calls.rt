@@ -40,7 +40,7 @@ impl NotingDisk {
 
 impl Disk for NotingDisk {
     ghost use Rattle.sector_disk.specs.Memory.{memory_view};
-    ghost use Rattle.sector_disk.specs.Past.{memory_sound};
+    ghost use Rattle.sector_disk.specs.Inside.Past.{memory_sound};
 
     ghost view = { λ disk. memory_view disk.inner };
 

@@ -8,7 +8,7 @@ use Rattle.std.specs.FinMap as map
 use Rattle.std.specs.FinMap.Entries.{find}
 use Rattle.std.proofs.lemmas.List.Elements.{All-nil, All-cons, All-head, All-tail}
 use Rattle.identity.specs.Path.{Path, path_cmp, id_path}
-use Rattle.identity.specs.PathLaws.{length-id_path, paths_total, tied, tie_exact}
+use Rattle.identity.specs.Inside.PathLaws.{length-id_path, paths_total, tied, tie_exact}
 use Rattle.prefix_tree.specs.Table.{PathMap}
 use Rattle.prefix_tree.specs.Following.{is_after}
 use Rattle.prefix_tree.specs.Next.{next_entry}

@@ -36,6 +36,7 @@ empty_registered limits = record { limits = limits; rules = map.empty; radios = 
 abbrev pub longest_rule : Registered → ℕ → Option (Path × Rule)
 longest_rule s identity = longest s.rules (id_path identity)
 
+-- the rule that serves an identity
 abbrev pub rule_of : Registered → ℕ → Option Rule
 rule_of s identity = option_map (λ e. e.1) (longest_rule s identity)
 
@@ -51,6 +52,7 @@ radio_of s itsi = map.get s.radios (id_path itsi)
 abbrev pub set_refusal : Registered → Path → Option RegFault
 set_refusal s prefix = if is_some (map.get s.rules prefix) then None else (if nat_lt (map.len s.rules) s.limits.rules then None else Some RulesFull)
 
+-- the rule stands under the prefix, in place of any that stood there
 abbrev pub with_rule : Registered → Path → Rule → Registered
 with_rule s prefix rule = record s { rules = map.insert s.rules prefix rule }
 
@@ -58,6 +60,7 @@ with_rule s prefix rule = record s { rules = map.insert s.rules prefix rule }
 abbrev pub has_rule : Registered → Path → Bool
 has_rule s prefix = is_some (map.get s.rules prefix)
 
+-- no rule stands under the prefix
 abbrev pub without_rule : Registered → Path → Registered
 without_rule s prefix = record s { rules = map.remove s.rules prefix }
 
@@ -72,13 +75,16 @@ type_refusal ServiceRestorationMigrating = Some Migration
 type_refusal Demand = None
 type_refusal DisabledMs = Some UnsupportedType
 
+-- no rule serves the identity, or the one that does has not this location area
 abbrev pub area_refusal : Option Rule → ℕ → Option RegFault
 area_refusal None area = Some UnknownIdentity
 area_refusal (Some rule) area = if nat_le rule.low area && nat_le area rule.high then None else Some LaNotAllowed
 
+-- the radio is new, and there are as many as may be
 abbrev pub room_refusal : Registered → ℕ → Option RegFault
 room_refusal s itsi = if is_some (radio_of s itsi) then None else (if nat_lt (map.len s.radios) s.limits.radios then None else Some Congestion)
 
+-- the first of three refusals that applies
 abbrev pub first_of_three : Option RegFault → Option RegFault → Option RegFault → Option RegFault
 first_of_three (Some fault) second third = Some fault
 first_of_three None (Some fault) third = Some fault
@@ -89,9 +95,11 @@ abbrev pub first_of_two : Option RegFault → Option RegFault → Option RegFaul
 first_of_two (Some fault) second = Some fault
 first_of_two None second = second
 
+-- why a location update is refused, but for want of room
 abbrev pub service_refusal : Registered → ℕ → ℕ → LocationUpdateType → Option RegFault
 service_refusal s itsi area update = first_of_two (type_refusal update) (area_refusal (rule_of s itsi) area)
 
+-- why a location update is refused: for its type first, then by the identity's rule and the location area, then for want of room
 abbrev pub locate_refusal : Registered → ℕ → ℕ → LocationUpdateType → Option RegFault
 locate_refusal s itsi area update = first_of_three (type_refusal update) (area_refusal (rule_of s itsi) area) (room_refusal s itsi)
 
@@ -99,9 +107,11 @@ locate_refusal s itsi area update = first_of_three (type_refusal update) (area_r
 abbrev pub with_radio : Registered → ℕ → Radio → Registered
 with_radio s itsi radio = record s { radios = map.insert s.radios (id_path itsi) radio }
 
+-- whether the register knows the radio
 abbrev pub has_radio : Registered → ℕ → Bool
 has_radio s itsi = is_some (radio_of s itsi)
 
+-- the register knows nothing of the radio
 abbrev pub without_radio : Registered → ℕ → Registered
 without_radio s itsi = record s { radios = map.remove s.radios (id_path itsi) }
 
@@ -109,6 +119,7 @@ without_radio s itsi = record s { radios = map.remove s.radios (id_path itsi) }
 abbrev pub located : Registered → ℕ → ℕ → ℕ → Registered
 located s itsi station area = with_radio s itsi (record { station = station; area = area; present = true })
 
+-- whether a radio is known and present
 abbrev pub is_present : Option Radio → Bool
 is_present None = false
 is_present (Some radio) = radio.present
@@ -121,9 +132,11 @@ detach_refusal s itsi = if is_present (radio_of s itsi) then None else Some NotA
 abbrev pub absent : Radio → Radio
 absent radio = record { station = radio.station; area = radio.area; present = false }
 
+-- the radio that stood there is no longer present; without one nothing changes
 abbrev pub detached_at : Registered → ℕ → Option Radio → Registered
 detached_at s itsi None = s
 detached_at s itsi (Some radio) = with_radio s itsi (absent radio)
 
+-- the radio is no longer present, if the register knows it
 abbrev pub detached : Registered → ℕ → Registered
 detached s itsi = detached_at s itsi (radio_of s itsi)

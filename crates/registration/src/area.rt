@@ -7,7 +7,7 @@ use std::marker::Model;
 /// A location area of the network (clause 16.10, location area): a number of 14 bits.
 #[derive(Clone, Copy, Debug, PartialEq, Eq)]
 pub struct LocationArea {
-    number: u32,
+    number: u16,
 }
 
 impl Model for LocationArea {
@@ -29,7 +29,9 @@ impl LocationArea {
         ensures value { IfSome result (λ area. area ≡ number) }
     {
         if number < 1 << 14 {
-            Some(LocationArea { number })
+            Some(LocationArea {
+                number: number as u16,
+            })
         } else {
             None
         }
@@ -40,6 +42,6 @@ impl LocationArea {
         ensures value { result ≡ self.now }
         ensures below { result < 2 ^ 14 }
     {
-        self.number
+        u32::from(self.number)
     }
 }

@@ -12,7 +12,7 @@ mod rule;
 
 pub use area::LocationArea;
 pub use fault::RegFault;
-pub use limits::Limits;
+pub use limits::{Limits, MAIL_CAPACITY, RADIO_CAPACITY, RULE_CAPACITY, STATION_CAPACITY};
 pub use radio::Radio;
 pub use registry::Registry;
 pub use rule::Rule;

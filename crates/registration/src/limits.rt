@@ -3,16 +3,28 @@
 ghost use Rattle.std.specs.Prelude.{◌≡◌, ◌↔◌, IsSome, IfSome};
 ghost use Rattle.registration.specs.Limits.{AreLimits};
 
+/// The most rules that a register may be given room for.
+pub const RULE_CAPACITY: u32 = 4096;
+
+/// The most radios.
+pub const RADIO_CAPACITY: u32 = 65_536;
+
+/// The most waiting messages.
+pub const MAIL_CAPACITY: u32 = 65_536;
+
+/// The most stations.
+pub const STATION_CAPACITY: u32 = 64;
+
 /// How much a register holds at most. Limits are made in their ranges or not at all.
 #[derive(Clone, Copy, Debug, PartialEq, Eq)]
 pub struct Limits {
-    /// Rules, 1 to 4,096.
+    /// Rules, 1 to [`RULE_CAPACITY`].
     pub rules: u32,
-    /// Radios, 1 to 65,536.
+    /// Radios, 1 to [`RADIO_CAPACITY`].
     pub radios: u32,
-    /// Waiting messages, 1 to 65,536.
+    /// Waiting messages, 1 to [`MAIL_CAPACITY`].
     pub mail: u32,
-    /// Stations, 1 to 64.
+    /// Stations, 1 to [`STATION_CAPACITY`].
     pub stations: u32,
     pub ghost in_range: { AreLimits rules radios mail stations },
 }
@@ -23,10 +35,10 @@ impl Limits {
         ensures fits { IsSome result ↔ AreLimits rules radios mail stations }
         ensures value { IfSome result (λ limits. (limits.rules ≡ rules) × (limits.radios ≡ radios) × (limits.mail ≡ mail) × (limits.stations ≡ stations)) }
     {
-        if !(1..=4096).contains(&rules) || !(1..=65_536).contains(&radios) {
+        if !(1..=RULE_CAPACITY).contains(&rules) || !(1..=RADIO_CAPACITY).contains(&radios) {
             return None;
         }
-        if !(1..=65_536).contains(&mail) || !(1..=64).contains(&stations) {
+        if !(1..=MAIL_CAPACITY).contains(&mail) || !(1..=STATION_CAPACITY).contains(&stations) {
             return None;
         }
         Some(Limits {

@@ -217,8 +217,8 @@ impl<A: Allocator + Clone> Registry<A> {
         self.room_refusal(itsi)
     }
 
-    // Why no radio may be located so, be it known or new.
-    fn service_refusal(
+    /// Why no radio may be located so, be it known or new: the refusals of `locate_refusal` before `Congestion`.
+    pub fn service_refusal(
         &self,
         itsi: Itsi,
         area: LocationArea,
@@ -252,19 +252,26 @@ impl<A: Allocator + Clone> Registry<A> {
         self.restore(itsi, Radio::at(station, area))
     }
 
-    /// As `locate`, where `locate_refusal` has told nothing: it fails only where a new radio has no memory, and
-    /// then nothing changes.
-    pub fn place(&mut self, itsi: Itsi, station: u16, area: LocationArea) -> Result<(), AllocError>
-        requires room { room_refusal self.old itsi ≡ None }
-        ensures ok { OnOk result (self.new ≡ located self.old itsi station area) }
-        ensures err { OnErr result (self.new ≡ self.old) }
+    /// As `locate`, where `service_refusal` has told nothing: no rule is asked. It tells whether the radio was known
+    /// before. `Congestion` where it is new and there are `limits.radios` radios, `NoMemory` where it is new; a
+    /// refusal changes nothing.
+    pub fn place(&mut self, itsi: Itsi, station: u16, area: LocationArea) -> Result<bool, RegFault>
+        ensures ok { OnOk result ((room_refusal self.old itsi ≡ None) × (self.new ≡ located self.old itsi station area)) }
+        ensures known { IfOk result (λ known. known ≡ has_radio self.old itsi) }
+        ensures err { IfErr result (λ e. (e ≡ unwrap_or (room_refusal self.old itsi) NoMemory) × (self.new ≡ self.old)) }
         ensures moves { IsSome (radio_of self.old itsi) → IsOk result }
     {
         // Most radios have come before, and to change one in its place is cheaper than to put one.
         if self.renew(itsi, Radio::at(station, area)).is_some() {
-            return Ok(());
+            return Ok(true);
         }
-        self.put(itsi, Radio::at(station, area))
+        if !self.has_room() {
+            return Err(RegFault::Congestion);
+        }
+        match self.put(itsi, Radio::at(station, area)) {
+            Ok(()) => Ok(false),
+            Err(_) => Err(RegFault::NoMemory),
+        }
     }
 
     /// The radio is where it was when this was kept, present or not; no rule is asked. `Congestion` where

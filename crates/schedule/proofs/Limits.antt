@@ -2,10 +2,10 @@
 use Rattle.std.proofs.Common.{◌≡◌}
 use Rattle.std.specs.Coded.{le_prop}
 use Rattle.registration.specs.declared.limits.Limits.{Limits}
-use Rattle.registration.specs.Limits.{AreLimits}
+use Rattle.registration.specs.Limits.{AreLimits, rule_capacity, radio_capacity, mail_capacity, station_capacity}
 use Rattle.schedule.specs.World.{greatest}
 
-same_ranges : (p q : AreLimits 4096 65536 65536 64) → p ≡ q
+same_ranges : (p q : AreLimits rule_capacity radio_capacity mail_capacity station_capacity) → p ≡ q
 same_ranges p q = λ i. record {
   some_rules = le_prop p.some_rules q.some_rules i;
   most_rules = le_prop p.most_rules q.most_rules i;
@@ -17,8 +17,8 @@ same_ranges p q = λ i. record {
   most_stations = le_prop p.most_stations q.most_stations i;
 }
 
-abbrev made : AreLimits 4096 65536 65536 64 → Limits
-made p = record { rules = 4096; radios = 65536; mail = 65536; stations = 64; in_range = p }
+abbrev made : AreLimits rule_capacity radio_capacity mail_capacity station_capacity → Limits
+made p = record { rules = rule_capacity; radios = radio_capacity; mail = mail_capacity; stations = station_capacity; in_range = p }
 
-pub greatest_made : (p : AreLimits 4096 65536 65536 64) → made p ≡ greatest
+pub greatest_made : (p : AreLimits rule_capacity radio_capacity mail_capacity station_capacity) → made p ≡ greatest
 greatest_made p = λ i. made (same_ranges p greatest.in_range i)

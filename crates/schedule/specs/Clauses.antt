@@ -28,6 +28,7 @@ module _ {A : Type 0} where
   IsWithin base published (c, Kept n p) = Unit {0}
   IsWithin base published (c, Refused r) = Unit {0}
 
+  -- whether the event is a crash
   abbrev pub is_crash : Event A → Bool
   is_crash (Crash k) = true
   is_crash (Submit s c) = false
@@ -41,6 +42,7 @@ module _ {A : Type 0} where
   is_crash CheckpointEnd = false
   is_crash Reopen = false
 
+  -- whether the event is a reopening
   abbrev pub is_reopen : Event A → Bool
   is_reopen Reopen = true
   is_reopen (Crash k) = false
@@ -77,6 +79,7 @@ module _ {A : Type 0} where
   submitted_by t (Crash k) = []
   submitted_by t Reopen = []
 
+  -- what events submitted of a station, in order
   abbrev pub submitted : ℕ → List (Event A) → List (Command A)
   submitted t [] = []
   submitted t (e ∷ es) = submitted_by t e ++ submitted t es
@@ -95,6 +98,7 @@ module _ {A : Type 0} where
   sealed_by t w (Crash k) = []
   sealed_by t w Reopen = []
 
+  -- what events seal of a station, in order, from this world on
   abbrev pub sealed : State → ℕ → World A → List (Event A) → List (Command A)
   sealed base t w [] = []
   sealed base t w (e ∷ es) = sealed_by t w e ++ sealed base t (effect base w e) es

@@ -12,6 +12,7 @@ use Rattle.schedule.specs.declared.fault.StepFault.{StepFault}
 use Rattle.schedule.specs.declared.fault.StepFault.TheVariants.{NotNow, NoMemory}
 use Rattle.schedule.specs.World.{World, Line, line, with_line, queue_of, seen_of, Entry}
 
+-- whether a list is empty
 abbrev pub is_empty : {X : Type 0} → List X → Bool
 is_empty [] = true
 is_empty (x ∷ xs) = false
@@ -55,6 +56,7 @@ module _ {A : Type 0} where
   records_of None = []
   records_of (Some xs) = cut (accepted_of xs)
 
+  -- the batch of the commit at work with its replies, nothing where there is no such commit
   abbrev pub replies_of : Option (List (Entry A)) → List (Entry A)
   replies_of None = []
   replies_of (Some xs) = xs
@@ -64,6 +66,7 @@ module _ {A : Type 0} where
   first_of s [] = []
   first_of s (x ∷ xs) = cond (x.0.station == s) (x ∷ []) (first_of s xs)
 
+  -- the entries without the first one of a station
   abbrev pub without_first : ℕ → List (Entry A) → List (Entry A)
   without_first s [] = []
   without_first s (x ∷ xs) = cond (x.0.station == s) xs (x ∷ without_first s xs)
@@ -74,6 +77,7 @@ module _ {A : Type 0} where
   told all (Kept n p) = Kept n p
   told all (Refused r) = Refused r
 
+  -- entries, each with its reply as it is answered
   abbrev pub answered : Bool → List (Entry A) → List (Entry A)
   answered all [] = []
   answered all (x ∷ xs) = (x.0, told all x.1) ∷ answered all xs
@@ -95,6 +99,7 @@ module _ {A : Type 0} where
   abbrev pub unread : List (Line A) → List (Line A)
   unread xs = map (λ x. line x.queue 0) xs
 
+  -- whether there is a station of this number
   abbrev pub is_station : World A → ℕ → Bool
   is_station w s = is_place w.lines s
 

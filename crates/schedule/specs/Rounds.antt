@@ -47,10 +47,12 @@ module _ {A : Type 0} where
   answers_to [] = []
   answers_to (c ∷ cs) = Answer c.station ∷ answers_to cs
 
+  -- a checkpoint, or none
   abbrev pub checkpoint_if : Bool → List (Event A)
   checkpoint_if true = CheckpointBegin ∷ CheckpointEnd ∷ []
   checkpoint_if false = []
 
+  -- what is durable is published, or it is not
   abbrev pub publish_if : Bool → List (Event A)
   publish_if true = Publish ∷ []
   publish_if false = []

@@ -1,6 +1,7 @@
 -- The centre as a machine over events: its world.
 use Rattle.std.specs.Prelude.{ℕ, zero, suc, Bool, false, List, [], replicate, slice_index_or, slice_set, Option, None}
 use Rattle.std.proofs.Common.{arith}
+use Rattle.registration.specs.Limits.{rule_capacity, radio_capacity, mail_capacity, station_capacity}
 use Rattle.registration.specs.declared.limits.Limits.{Limits}
 use Rattle.centre_core.specs.declared.command.Command.{Command}
 use Rattle.centre_core.specs.declared.reply.Reply.{Reply}
@@ -9,10 +10,10 @@ use Rattle.centre_core.specs.State.{State, empty}
 -- the greatest limits that a register may have
 abbrev pub greatest : Limits
 greatest = record {
-  rules = 4096;
-  radios = 65536;
-  mail = 65536;
-  stations = 64;
+  rules = rule_capacity;
+  radios = radio_capacity;
+  mail = mail_capacity;
+  stations = station_capacity;
   in_range = record {
     some_rules = omega arith;
     most_rules = omega arith;
@@ -52,6 +53,7 @@ pub record World (A : Type 0) : Type 0 where
   pub down : Bool
 
 module _ {A : Type 0} where
+  -- a station's line: what is queued, and how many accepted commands it has seen
   abbrev pub line : List (Command A) → ℕ → Line A
   line q s = record { queue = q; seen = s }
 
@@ -80,8 +82,10 @@ module _ {A : Type 0} where
   with_line lines zero x = lines
   with_line lines (suc k) x = slice_set lines k x
 
+  -- what a station submitted that is not sealed
   abbrev pub queue_of : World A → ℕ → List (Command A)
   queue_of w s = (line_of w.lines s).queue
 
+  -- how many accepted commands a station has seen
   abbrev pub seen_of : World A → ℕ → ℕ
   seen_of w s = (line_of w.lines s).seen

@@ -9,15 +9,15 @@ ghost use Rattle.schedule.specs.Next.{told, last_answer, replies, accepted_of, t
 
 use centre_core::{Command, Register, Reply};
 use prefix_tree::TryCopy;
-use registration::Limits;
+use registration::{Limits, MAIL_CAPACITY, RADIO_CAPACITY, RULE_CAPACITY, STATION_CAPACITY};
 use std::alloc::{AllocError, Allocator};
 
 /// The greatest limits of a register.
 const GREATEST: Limits = Limits {
-    rules: 4096,
-    radios: 65_536,
-    mail: 65_536,
-    stations: 64,
+    rules: RULE_CAPACITY,
+    radios: RADIO_CAPACITY,
+    mail: MAIL_CAPACITY,
+    stations: STATION_CAPACITY,
 };
 
 /// The same command in memory of its own.

@@ -4,7 +4,7 @@ use Rattle.std.specs.Prelude.{◌==◌}
 use Rattle.std.specs.Int.{from_bool}
 use Rattle.std.proofs.lemmas.List.{take_at, drop_at, drop-drop, take-append-drop, length-take-le, length-drop}
 use Rattle.identity.specs.Number.{num, number}
-use Rattle.identity.specs.NumberLaws.{length-num, number-num, num-number, number-lt}
+use Rattle.identity.specs.Inside.NumberLaws.{length-num, number-num, num-number, number-lt}
 use Rattle.sds_tl.specs.Reading.{field, flag}
 
 pub one_bit : (b : Bool) → num 1 (from_bool b) ≡ b ∷ []

@@ -1,3 +1,4 @@
+pub mod Identifier
 pub mod Values
 pub mod Syntax
 pub mod Reading

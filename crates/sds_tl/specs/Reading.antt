@@ -7,6 +7,7 @@ use Rattle.sds_tl.specs.declared.pdu.Sds.{Sds}
 use Rattle.sds_tl.specs.declared.pdu.Sds.TheVariants.{Transfer, Report, Ack}
 use Rattle.sds_tl.specs.declared.pdu.Head.{Head}
 use Rattle.sds_tl.specs.declared.pdu.Head.TheVariants as heads
+use Rattle.sds_tl.specs.Identifier.{first_identifier}
 use Rattle.sds_tl.specs.Values.{request_of}
 use Rattle.sds_tl.specs.Syntax.{most_bits, canon}
 
@@ -35,7 +36,7 @@ unfoldable pub fault : List Bool → Option SdsFault
 fault bits =
     if nat_lt most_bits (length bits) then Some TooLong
     else if nat_lt (length bits) 8 then Some Short
-    else if nat_lt (field 0 8 bits) 128 then Some NotSdsTl
+    else if nat_lt (field 0 8 bits) first_identifier then Some NotSdsTl
     else if nat_lt (length bits) 12 then Some Short
     else if nat_lt 2 (type_of bits) then Some UnknownType
     else if nat_lt (length bits) 16 then Some Short
@@ -43,12 +44,15 @@ fault bits =
     else if type_of bits == 1 then data_fault 32 bits
     else ack_fault bits
 
+-- an SDS-TRANSFER by its fields
 abbrev pub transfer : {A : Type 0} → List Bool → Sds A
 transfer bits = Transfer (field 0 8 bits) (request_of (flag 12 bits) (flag 13 bits)) (flag 14 bits) (field 16 8 bits) (drop 24 bits)
 
+-- an SDS-REPORT by its fields
 abbrev pub report : {A : Type 0} → List Bool → Sds A
 report bits = Report (field 0 8 bits) (flag 12 bits) (field 16 8 bits) (field 24 8 bits) (drop 32 bits)
 
+-- an SDS-ACK by its fields
 abbrev pub ack : {A : Type 0} → List Bool → Sds A
 ack bits = Ack (field 0 8 bits) (field 16 8 bits) (field 24 8 bits)
 
@@ -61,6 +65,7 @@ abbrev pub unless : {A : Type 0} → Option SdsFault → A → Result A SdsFault
 unless None x = Ok x
 unless (Some f) x = Err f
 
+-- the PDU that the bits are, or their first fault
 abbrev pub reading : {A : Type 0} → List Bool → Result (Sds A) SdsFault
 reading bits = unless (fault bits) (value bits)
 
@@ -77,6 +82,7 @@ head_value bits =
     else if type_of bits == 1 then heads.Report (flag 12 bits) (field 16 8 bits) (field 24 8 bits)
     else heads.Ack (field 16 8 bits) (field 24 8 bits)
 
+-- the head of that PDU, or the first fault
 abbrev pub heading : List Bool → Result Head SdsFault
 heading bits = unless (fault bits) (head_value bits)
 
@@ -87,9 +93,11 @@ cleared bits =
     else if type_of bits == 1 then take 13 bits ++ replicate 2 false ++ drop 15 bits
     else take 12 bits ++ replicate 4 false ++ drop 16 bits
 
+-- a PDU's bits with the reserved ones 0, or the first fault
 abbrev pub clearing : List Bool → Result (List Bool) SdsFault
 clearing bits = unless (fault bits) (cleared bits)
 
+-- the written form of a value, unless it has more bits than a PDU may
 abbrev pub writing : {A : Type 0} → Sds A → Result (List Bool) SdsFault
 writing sds = if nat_lt most_bits (length (canon sds)) then Err TooLong else Ok (canon sds)
 

@@ -1,6 +1,7 @@
 -- How PDUs are spelt: the tables of ETSI EN 300 392-2, clause 29, as texts.
 use Rattle.std.specs.Prelude.{◌≡◌, ℕ, ◌<◌, ◌≤◌, ◌^◌, Bool, false, List, ◌∷◌, ◌++◌, length, replicate}
 use Rattle.identity.specs.Number.{num}
+use Rattle.sds_tl.specs.Identifier.{first_identifier}
 use Rattle.sds_tl.specs.declared.pdu.Sds.{Sds}
 use Rattle.sds_tl.specs.declared.pdu.Sds.TheVariants.{Transfer, Report, Ack}
 use Rattle.sds_tl.specs.Values.{code_of}
@@ -26,11 +27,12 @@ text (Ack identifier status reference) reserved =
 
 -- Each number is one that its field can hold, and the identifier is one of this layer.
 pub record InRange (identifier status reference : ℕ) : Type 0 where
-  pub layer : 128 ≤ identifier
+  pub layer : first_identifier ≤ identifier
   pub identifier_fits : identifier < 2 ^ 8
   pub status_fits : status < 2 ^ 8
   pub reference_fits : reference < 2 ^ 8
 
+-- Each number that the PDU has is in its range.
 abbrev pub IsInRange : {A : Type 0} → Sds A → Type 0
 IsInRange (Transfer identifier request selection reference user_data) = InRange identifier 0 reference
 IsInRange (Report identifier acknowledge status reference user_data) = InRange identifier status reference

@@ -15,6 +15,7 @@ only_transfer (Ok (Report identifier acknowledge status reference user_data)) = 
 only_transfer (Ok (Ack identifier status reference)) = Err NotATransfer
 only_transfer (Err fault) = Err fault
 
+-- the message that the bits are, or why they are none
 abbrev pub reading_transfer : {A : Type 0} → List Bool → Result (Sds A) SdsFault
 reading_transfer bits = only_transfer (reading bits)
 

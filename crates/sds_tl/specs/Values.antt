@@ -3,6 +3,7 @@ use Rattle.std.specs.Prelude.{ℕ, Bool, true, false}
 use Rattle.sds_tl.specs.declared.pdu.DeliveryReportRequest.{DeliveryReportRequest}
 use Rattle.sds_tl.specs.declared.pdu.DeliveryReportRequest.TheVariants as requests
 
+-- the number of a request, as its two bits give it
 abbrev pub code_of : DeliveryReportRequest → ℕ
 code_of requests.None = 0
 code_of requests.Received = 1

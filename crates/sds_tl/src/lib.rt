@@ -11,7 +11,10 @@ mod transfer;
 mod writing;
 
 pub use fault::SdsFault;
-pub use pdu::{DeliveryReportRequest, DeliveryStatus, Head, MOST_BITS, ProtocolIdentifier, Sds};
+pub use pdu::{
+    DeliveryReportRequest, DeliveryStatus, FIRST_IDENTIFIER, Head, MOST_BITS, ProtocolIdentifier,
+    Sds,
+};
 pub use reading::{head, read};
 pub use reserved::canonical;
 pub use transfer::{read_transfer, transfer_reference};

@@ -1,11 +1,15 @@
 ghost use Rattle.std.specs.Prelude.{◌≡◌, ◌<◌, ◌≤◌, ◌^◌, ◌==◌, nat_lt, if◌then◌else◌, Some, None};
+ghost use Rattle.sds_tl.specs.Identifier.{first_identifier};
 ghost use Rattle.sds_tl.specs.Reading.{head_of};
 
 use identity::Bits;
 use std::alloc::Allocator;
 use std::marker::Model;
 
-/// Which application a PDU is for: a number from 128 to 255. 130 is text messaging.
+/// The first protocol identifier of a PDU with the transport layer SDS-TL (clause 29.4.3.9).
+pub const FIRST_IDENTIFIER: u8 = 128;
+
+/// Which application a PDU is for: a number from [`FIRST_IDENTIFIER`] to 255. 130 is text messaging.
 #[derive(Clone, Copy, Debug, PartialEq, Eq)]
 pub struct ProtocolIdentifier {
     number: u8,
@@ -13,22 +17,23 @@ pub struct ProtocolIdentifier {
 
 impl Model for ProtocolIdentifier {
     ghost use Rattle.std.specs.Prelude.{ℕ, ◌<◌, ◌≤◌, ◌^◌};
+    ghost use Rattle.sds_tl.specs.Identifier.{first_identifier};
 
     ghost Value = { ℕ };
 
     ghost view = { λ p. p.number };
 
-    ghost invariant = { λ p. (128 ≤ p.number) × (p.number < 2 ^ 8) };
+    ghost invariant = { λ p. (first_identifier ≤ p.number) × (p.number < 2 ^ 8) };
 
     ghost inverse = { λ n. record { number = n } };
 }
 
 impl ProtocolIdentifier {
-    /// The identifier of this number; `None` below 128.
+    /// The identifier of this number; `None` below [`FIRST_IDENTIFIER`].
     pub fn new(number: u8) -> Option<ProtocolIdentifier>
-        ensures { result ≡ (if nat_lt number 128 then None else Some number) }
+        ensures { result ≡ (if nat_lt number first_identifier then None else Some number) }
     {
-        if number < 128 {
+        if number < FIRST_IDENTIFIER {
             return None;
         }
         Some(ProtocolIdentifier { number })
@@ -37,7 +42,7 @@ impl ProtocolIdentifier {
     /// Its number.
     pub fn number(&self) -> u8
         ensures value { result ≡ self.now }
-        ensures taken { 128 ≤ result }
+        ensures taken { first_identifier ≤ result }
     {
         self.number
     }

@@ -3,13 +3,15 @@
 ghost use Rattle.std.specs.Prelude.{◌≡◌, ◌<◌, ◌≤◌, ◌^◌, ◌+◌, length, drop, IfOk, IfErr, Ok, None};
 ghost use Rattle.sds_tl.specs.declared.fault.SdsFault.TheVariants.{NoMemory};
 ghost use Rattle.sds_tl.specs.declared.pdu.Sds.{Sds};
+ghost use Rattle.sds_tl.specs.Identifier.{first_identifier};
 ghost use Rattle.sds_tl.specs.Values.{request_of};
 ghost use Rattle.sds_tl.specs.Syntax.{Spells};
 ghost use Rattle.sds_tl.specs.Reading.{field, flag, type_of, data_fault, ack_fault, fault, value, transfer, report, ack, head_value, reading, heading, Gives};
 
 use crate::pieces::rest;
 use crate::{
-    DeliveryReportRequest, DeliveryStatus, Head, MOST_BITS, ProtocolIdentifier, Sds, SdsFault,
+    DeliveryReportRequest, DeliveryStatus, FIRST_IDENTIFIER, Head, MOST_BITS, ProtocolIdentifier,
+    Sds, SdsFault,
 };
 use identity::{BitReader, Bits};
 use std::alloc::Allocator;
@@ -74,7 +76,7 @@ pub fn fault<A: Allocator>(bits: &Bits<A>) -> Option<SdsFault>
     if bits.len() < 8 {
         return Some(SdsFault::Short);
     }
-    if field(bits, 0, 8) < 128 {
+    if field(bits, 0, 8) < u64::from(FIRST_IDENTIFIER) {
         return Some(SdsFault::NotSdsTl);
     }
     if bits.len() < 12 {
@@ -96,7 +98,7 @@ pub fn fault<A: Allocator>(bits: &Bits<A>) -> Option<SdsFault>
 
 fn identifier<A: Allocator>(bits: &Bits<A>) -> ProtocolIdentifier
     requires room { 8 ≤ length bits.now }
-    requires layer { 128 ≤ field 0 8 bits.now }
+    requires layer { first_identifier ≤ field 0 8 bits.now }
     ensures { result ≡ field 0 8 bits.now }
 {
     ProtocolIdentifier::new(field(bits, 0, 8) as u8).unwrap()
@@ -131,7 +133,7 @@ fn status<A: Allocator>(bits: &Bits<A>) -> DeliveryStatus
 
 fn transfer<A: Allocator, B: Allocator>(alloc: A, bits: &Bits<B>) -> Result<Sds<A>, SdsFault>
     requires room { 24 ≤ length bits.now }
-    requires layer { 128 ≤ field 0 8 bits.now }
+    requires layer { first_identifier ≤ field 0 8 bits.now }
     ensures ok { IfOk result (λ sds. sds ≡ transfer bits.now) }
     ensures err { IfErr result (λ e. e ≡ NoMemory) }
 {
@@ -146,7 +148,7 @@ fn transfer<A: Allocator, B: Allocator>(alloc: A, bits: &Bits<B>) -> Result<Sds<
 
 fn report<A: Allocator, B: Allocator>(alloc: A, bits: &Bits<B>) -> Result<Sds<A>, SdsFault>
     requires room { 32 ≤ length bits.now }
-    requires layer { 128 ≤ field 0 8 bits.now }
+    requires layer { first_identifier ≤ field 0 8 bits.now }
     ensures ok { IfOk result (λ sds. sds ≡ report bits.now) }
     ensures err { IfErr result (λ e. e ≡ NoMemory) }
 {
@@ -161,7 +163,7 @@ fn report<A: Allocator, B: Allocator>(alloc: A, bits: &Bits<B>) -> Result<Sds<A>
 
 fn ack<A: Allocator, B: Allocator>(bits: &Bits<B>) -> Sds<A>
     requires room { 32 ≤ length bits.now }
-    requires layer { 128 ≤ field 0 8 bits.now }
+    requires layer { first_identifier ≤ field 0 8 bits.now }
     ensures { result ≡ ack bits.now }
 {
     Sds::Ack {

@@ -1,6 +1,7 @@
 ghost use Rattle.std.specs.Prelude.{◌≡◌, ◌<◌, ◌≤◌, ◌^◌, ◌++◌, ◌∷◌, [], nat_lt, false, length, replicate, take, drop, OnOk, IfOk, IfErr};
 ghost use Rattle.identity.specs.Number.{num};
 ghost use Rattle.sds_tl.specs.declared.fault.SdsFault.TheVariants.{NoMemory};
+ghost use Rattle.sds_tl.specs.Identifier.{first_identifier};
 ghost use Rattle.sds_tl.specs.Values.{code_of};
 ghost use Rattle.sds_tl.specs.Syntax.{most_bits, canon, IsInRange, Spells};
 ghost use Rattle.sds_tl.specs.Reading.{writing, Gives};
@@ -45,7 +46,7 @@ fn put_start<A: Allocator>(
 ) -> Result<(), SdsFault>
     requires { kind < 2 ^ 4 }
     ensures ok { OnOk result (writer.new ≡ writer.old ++ (num 8 identifier ++ num 4 kind)) }
-    ensures layer { 128 ≤ identifier }
+    ensures layer { first_identifier ≤ identifier }
     ensures fits { identifier < 2 ^ 8 }
     ensures err { IfErr result (λ e. e ≡ NoMemory) }
 {

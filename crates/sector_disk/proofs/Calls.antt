@@ -8,7 +8,7 @@ use Rattle.std.specs.List.{range_with_len}
 use Rattle.sector_disk.specs.Disk.{AreSectors, IsSector, sector, HasRead, HasWritten, HasSynced}
 use Rattle.sector_disk.specs.Memory.{IsBlank, IsRestarted, Contents, after, called, IsReplayed, began, memory_view}
 use Rattle.sector_disk.specs.Crash.{is_pending}
-use Rattle.sector_disk.specs.Past.{after-append, time_on}
+use Rattle.sector_disk.specs.Inside.Past.{after-append, time_on}
 use Rattle.sector_disk.specs.declared.record.Call.{Call}
 use Rattle.sector_disk.specs.declared.record.Call.TheVariants.{Read, Write, Sync}
 use Rattle.sector_disk.specs.declared.memory.MemoryDisk.{MemoryDisk}

@@ -2,6 +2,7 @@
 use Rattle.std.specs.Prelude.{◌≡◌, ℕ, ◌<◌, Bool, true, false, List, [], ◌∷◌, length, slice_index_or, ◌==◌, if◌then◌else◌}
 use Rattle.sector_disk.specs.Disk.{sector}
 
+-- whether a sector is marked as pending; none past the last mark is
 abbrev pub is_pending : List Bool → ℕ → Bool
 is_pending marks at = slice_index_or marks at false
 

@@ -13,6 +13,7 @@ pub record IsSector (numbers : List ℕ) : Type 0 where
   pub size : length numbers ≡ 512
   pub bytes : (i : ℕ) → slice_index numbers i < 256
 
+-- each of these is 512 bytes
 pub record AreSectors (sectors : List (List ℕ)) : Type 0 where
   pub each : (k : ℕ) → k < length sectors → IsSector (sector sectors k)
 

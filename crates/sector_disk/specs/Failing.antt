@@ -7,6 +7,7 @@ use Rattle.sector_disk.specs.declared.failing.Failing.{Failing}
 use Rattle.sector_disk.specs.declared.failing.Failing.TheVariants.{Once, Always}
 use Rattle.sector_disk.specs.declared.failing.FailingDisk.{FailingDisk}
 
+-- the disk within
 abbrev pub disk_within : {D : Type 0} → FailingDisk D → D
 disk_within disk = disk.inner
 

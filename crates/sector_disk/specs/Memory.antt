@@ -29,6 +29,7 @@ abbrev pub left_since : Contents → List Call → ℕ → List (List ℕ) → T
 left_since was calls t image = (k : ℕ) × (t ≤ k) × (k ≤ length calls)
     × IsImage (after (take k calls) was).reads (is_pending (after (take k calls) was).pending) image
 
+-- what it began with: its sectors, and nothing pending
 abbrev pub began : {A : Type 0} → MemoryDisk A → Contents
 began disk = record { reads = disk.base.items; pending = map (λ bytes. false) disk.base.items }
 
@@ -38,6 +39,7 @@ pub record IsReplayed {A : Type 0} (disk : MemoryDisk A) : Type 0 where
   pub pending : disk.pending.items ≡ (after disk.record.calls.items (began disk)).pending
   pub bytes : (k : ℕ) → k < length disk.sectors.items → IsSector (sector disk.sectors.items k)
 
+-- what contracts see of a disk in memory: its clock counts the calls in its record
 abbrev pub memory_view : {A : Type 0} → MemoryDisk A → View
 memory_view disk = record {
   sectors = length disk.sectors.items;

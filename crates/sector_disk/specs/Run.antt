@@ -1,5 +1,5 @@
 -- What a stop may leave at some moment of a run of calls.
-use Rattle.std.specs.Prelude.{◌≡◌, ◌⊎◌, ℕ, zero, suc, ◌<◌, ◌≤◌, ◌+◌, List, [], ◌∷◌, ◌++◌, length, OnOk, Result}
+use Rattle.std.specs.Prelude.{◌≡◌, ◌⊎◌, ℕ, zero, suc, ◌<◌, ◌≤◌, ◌+◌, List, [], ◌∷◌, ◌++◌, length}
 use Rattle.sector_disk.specs.Disk.{View, Elapses, IsImageOf, sector}
 use Rattle.sector_disk.specs.declared.disk.DiskError.{DiskError}
 use Rattle.sector_disk.specs.declared.record.Call.{Call}
@@ -28,16 +28,7 @@ pub record HasLooked (old new : View) : Type 0 where
   pub pending : new.pending ≡ old.pending
   pub time : Elapses old new
 
--- A run of writes: n sectors from at on, the k-th of them with these bytes. Up to its end any bytes may stand in them.
-pub record HasFilled (old new : View) (at n : ℕ) (bytes : ℕ → List ℕ) (result : Result Unit DiskError) : Type 0 where
-  pub honest : new.honest
-  pub crash : LeavesOnly old new (IsTornImage old at n)
-  pub now : (image : List (List ℕ)) → IsImageOf new image → IsTornImage old at n image
-  pub count : length new.reads ≡ length old.reads
-  pub others : (k : ℕ) → (k < at) ⊎ (at + n ≤ k) → sector new.reads k ≡ sector old.reads k
-  pub written : OnOk result ((k : ℕ) → k < n → sector new.reads (at + k) ≡ bytes k)
-
--- the calls of such a run: each sector is written once, in order
+-- the calls of a run of writes: each sector is written once, in order
 unfoldable pub writes : ℕ → ℕ → (ℕ → List ℕ) → List Call
 writes at zero bytes = []
 writes at (suc n) bytes = writes at n bytes ++ Write (at + n) (bytes n) ∷ []

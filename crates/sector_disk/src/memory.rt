@@ -148,7 +148,7 @@ fn clear(marks: &mut [bool])
 
 impl<A: Allocator> Disk for MemoryDisk<A> {
     ghost use Rattle.sector_disk.specs.Memory.{HasRecorded, memory_view};
-    ghost use Rattle.sector_disk.specs.Past.{memory_sound};
+    ghost use Rattle.sector_disk.specs.Inside.Past.{memory_sound};
 
     ghost view = { memory_view };
 

@@ -11,6 +11,7 @@ use Rattle.settings.specs.declared.reading.SettingsFault.TheVariants as settings
 use Rattle.served_disk.specs.declared.fault.Fault.{Fault}
 use Rattle.served_disk.specs.declared.fault.Fault.TheVariants as fault
 
+-- the line of a fault
 abbrev pub fault_text : Fault → List ℕ
 fault_text fault.Settings = codes "fault: settings\n"
 fault_text (fault.File name) = codes "fault: file " ++ name.now ++ codes "\n"
@@ -39,6 +40,7 @@ Names other text = ⊥
 
 -- ---- of what the parts answer
 
+-- of reading a settings text
 abbrev pub of_settings : SettingsFault → Fault
 of_settings settings.BadSettings = fault.Settings
 of_settings settings.NoMemory = fault.Memory
@@ -49,6 +51,7 @@ IsOfFile file.NotOpened name is = Names is name
 IsOfFile file.DiskFault name is = is ≡ fault.Device
 IsOfFile file.NoMemory name is = is ≡ fault.Memory
 
+-- of a register on a disk
 abbrev pub of_store : StoreFault → Fault
 of_store store.Unformatted = fault.Unformatted
 of_store store.BadGeometry = fault.BadGeometry

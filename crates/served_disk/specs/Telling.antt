@@ -4,10 +4,12 @@ use Rattle.std.specs.List.{flat_map}
 use Rattle.served_disk.specs.declared.telling.Part.{Part}
 use Rattle.served_disk.specs.declared.telling.Part.TheVariants as part
 
+-- the bytes of a part
 abbrev pub part_text : Part → List ℕ
 part_text (part.Text text) = text.now
 part_text (part.Number number) = decimal number
 
+-- the bytes of the parts, one after another
 abbrev pub parts_text : List Part → List ℕ
 parts_text parts = flat_map part_text parts
 

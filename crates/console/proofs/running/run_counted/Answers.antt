@@ -3,7 +3,7 @@ use Rattle.std.proofs.lemmas.Grind.{common_steps}
 use Rattle.std.proofs.lemmas.Result.{IfOk-weaker, on_err_weaker}
 use Rattle.console.specs.declared.running.Piece.{Piece}
 use Rattle.console.specs.Dialogue.{RunsWell}
-use Rattle.console.specs.Feed.{IsGoing, IsPiece, FitsPiece}
+use Rattle.console.specs.Inside.Feed.{EndsWell, IsPiece, FitsPiece}
 use Rattle.console.proofs.Answering.{never_read, only_long}
 use Rattle.console.proofs.Writing.{on_err_true, at_the_end, passed_on}
 use Rattle.console.proofs.Going.{going_start, short_at_once, short_of, short_same, well_same}
@@ -42,8 +42,7 @@ pub returns-in-End-clause-ok : goal.returns-in-End-clause-ok
 returns-in-End-clause-ok g c =
     let rules = g.D.Desk.rules in let s = g.D.Desk.world c.args.desk.now in let t = g.D.Desk.world c.finish.new.desk in let written = g.W.Write.contents c.finish.new.output.writer.now in
     IfOk-weaker c.finish.result
-    (λ ran. (from : g.D.Desk.World) (before taken : List ℕ) → IsGoing rules c.args.terms.station from before taken c.loop.progress (g.W.Write.contents c.loop.output.writer.now) (g.D.Desk.world c.loop.desk) →
-    RunsWell g.row.A.Denot rules c.args.terms.station from taken before ran.lines ran.troubled written t)
+    (λ ran. EndsWell rules c.args.terms.station c.loop.progress (g.W.Write.contents c.loop.output.writer.now) (g.D.Desk.world c.loop.desk) ran written t)
     (λ ran. (input before : List ℕ) → g.R.Read.remaining c.args.input.now.reader.now ≡ Some input → g.W.Write.contents c.args.output.now.writer.now ≡ Some before →
     RunsWell g.row.A.Denot rules c.args.terms.station s input before ran.lines ran.troubled written t)
     (λ ran good. λ input before known held.

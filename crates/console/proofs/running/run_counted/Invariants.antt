@@ -1,5 +1,5 @@
 use Rattle.std.proofs.Common.{◌≡◌, ◌++◌, ◌+◌, ◌*◌, ◌≤◌, List, ℕ, Some}
-use Rattle.console.specs.Feed.{IsGoing}
+use Rattle.console.specs.Inside.Feed.{IsGoing}
 use Rattle.console.proofs.running.run_counted.Given as goal
 
 -- what the reader gave was taken, and the rest is still to come

@@ -1,5 +1,5 @@
 use Rattle.std.proofs.Common.{arith}
-use Rattle.console.specs.Parts.{part_text, part_room}
+use Rattle.console.specs.Inside.Parts.{part_text, part_room}
 use Rattle.console.proofs.Listed.{no_room, room_before}
 use Rattle.console.proofs.Writing.{on_err_true}
 use Rattle.console.proofs.text_part.put_parts.Goals as goal

@@ -1,5 +1,5 @@
 use Rattle.std.proofs.Common.{◌≡◌, ◌≤◌, ◌+◌, ◌++◌, take, sum_by, vec_len, vec_capacity}
-use Rattle.console.specs.Parts.{part_room, parts_text}
+use Rattle.console.specs.Inside.Parts.{part_room, parts_text}
 use Rattle.console.proofs.text_part.put_parts.Given as goal
 
 -- the parts so far, which took no more than their room

@@ -1,6 +1,6 @@
 use Rattle.std.proofs.Common.{◌≡◌, replicate, Ok}
 use Rattle.sector_disk.specs.Disk.{View}
-use Rattle.sector_disk.specs.Run.{HasFilled}
+use Rattle.sector_disk.specs.Inside.Filling.{HasFilled}
 use Rattle.file_disk.proofs.zeros.fill_with_zeros.Given as goal
 
 abbrev pub invariant-loop-k : goal.invariant-loop-k

@@ -1,7 +1,7 @@
 use Rattle.std.proofs.Common.{ap, sym, ◌∙◌}
 use Rattle.std.specs.Option.{option_copied}
 use Rattle.group_attach.specs.Attached.{listed}
-use Rattle.group_attach.specs.Filed.{held}
+use Rattle.group_attach.specs.Inside.Filed.{held}
 use Rattle.group_attach.proofs.IndexFacts.{nothing_listed}
 use Rattle.group_attach.proofs.attachments.slice_of.Goals as goal
 

@@ -1,7 +1,7 @@
 use Rattle.std.proofs.Common.{rules, arith, ◌∙◌, ap}
 use Rattle.group_attach.specs.Applied.{at_start}
-use Rattle.group_attach.specs.InOrder.{map_of}
-use Rattle.group_attach.specs.Counted.{counted}
+use Rattle.group_attach.specs.Inside.ListedMap.{map_of}
+use Rattle.group_attach.specs.Inside.Counted.{counted}
 use Rattle.group_attach.proofs.Steps.{counted_more}
 use Rattle.group_attach.proofs.count.count_after.Goals as goal
 

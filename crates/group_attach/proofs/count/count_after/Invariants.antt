@@ -3,7 +3,7 @@ use Rattle.std.specs.List.{fold}
 use Rattle.std.specs.FinMap as finite
 use Rattle.group_attach.specs.Attached.{of_radio}
 use Rattle.group_attach.specs.Applied.{changed_by, at_start}
-use Rattle.group_attach.specs.InOrder.{map_of}
+use Rattle.group_attach.specs.Inside.ListedMap.{map_of}
 use Rattle.group_attach.proofs.count.count_after.Given as goal
 
 abbrev pub invariant-loop-i : goal.invariant-loop-i

@@ -1,6 +1,6 @@
 use Rattle.std.proofs.Common.{arith, ◌∙◌}
 use Rattle.group_attach.specs.Applied.{at_start}
-use Rattle.group_attach.specs.InOrder.{map_of}
+use Rattle.group_attach.specs.Inside.ListedMap.{map_of}
 use Rattle.group_attach.proofs.Steps.{joined_more}
 use Rattle.group_attach.proofs.count.is_attached_after.Goals as goal
 

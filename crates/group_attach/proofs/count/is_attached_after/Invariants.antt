@@ -3,7 +3,7 @@ use Rattle.std.specs.List.{fold}
 use Rattle.std.specs.Option.{is_some}
 use Rattle.std.specs.FinMap as finite
 use Rattle.group_attach.specs.Applied.{changed_by, at_start}
-use Rattle.group_attach.specs.InOrder.{map_of}
+use Rattle.group_attach.specs.Inside.ListedMap.{map_of}
 use Rattle.group_attach.proofs.count.is_attached_after.Given as goal
 
 abbrev pub invariant-loop-item : goal.invariant-loop-item

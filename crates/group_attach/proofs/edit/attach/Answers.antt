@@ -1,4 +1,4 @@
-use Rattle.group_attach.specs.InOrder.{pair_of}
+use Rattle.group_attach.specs.Attached.{pair_of}
 use Rattle.group_attach.proofs.Places.{found_at, gap_at, set_in_order, set_is_insert, new_in_order, new_is_insert, not_in_gap, tells_found, tells_none}
 use Rattle.group_attach.proofs.edit.attach.Goals as goal
 

@@ -2,7 +2,8 @@ use Rattle.std.proofs.Common.{◌≡◌, ◌+◌, ◌≤◌, take, length}
 use Rattle.std.specs.Prelude.{vec_len, vec_capacity}
 use Rattle.std.specs.List.{fold}
 use Rattle.group_attach.specs.Applied.{changed_by, at_start}
-use Rattle.group_attach.specs.InOrder.{IsInOrder, map_of}
+use Rattle.group_attach.specs.InOrder.{IsInOrder}
+use Rattle.group_attach.specs.Inside.ListedMap.{map_of}
 use Rattle.group_attach.proofs.edit.change_all.Given as goal
 
 abbrev pub invariant-loop-item : goal.invariant-loop-item

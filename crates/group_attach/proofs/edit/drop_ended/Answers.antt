@@ -3,7 +3,8 @@ use Rattle.std.specs.Prelude.{◌&&◌, ◌==◌}
 use Rattle.std.specs.List.{filter}
 use Rattle.std.proofs.lemmas.Fn.{filter_same}
 use Rattle.group_attach.specs.Applied.{is_dropped}
-use Rattle.group_attach.specs.InOrder.{map_of, IsInOrder}
+use Rattle.group_attach.specs.InOrder.{IsInOrder}
+use Rattle.group_attach.specs.Inside.ListedMap.{map_of}
 use Rattle.group_attach.proofs.Filtered.{kept_in_order, kept_map}
 use Rattle.group_attach.proofs.edit.drop_ended.Goals as goal
 

@@ -2,7 +2,8 @@ use Rattle.std.proofs.Common.{◌≡◌, ◌∙◌, ap, rules, not, subst, sym}
 use Rattle.std.specs.Prelude.{◌==◌}
 use Rattle.std.specs.List.{filter}
 use Rattle.std.proofs.lemmas.Fn.{filter_same}
-use Rattle.group_attach.specs.InOrder.{map_of, IsInOrder}
+use Rattle.group_attach.specs.InOrder.{IsInOrder}
+use Rattle.group_attach.specs.Inside.ListedMap.{map_of}
 use Rattle.group_attach.proofs.Filtered.{kept_in_order, retained_map}
 use Rattle.group_attach.proofs.edit.leave_all.Goals as goal
 

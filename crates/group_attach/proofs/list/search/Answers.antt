@@ -1,6 +1,5 @@
 use Rattle.std.proofs.Common.{rules}
-use Rattle.group_attach.specs.Attached.{pair_cmp}
-use Rattle.group_attach.specs.InOrder.{pair_of}
+use Rattle.group_attach.specs.Attached.{pair_cmp, pair_of}
 use Rattle.std.proofs.lemmas.Fn.{always_returns_same}
 use Rattle.group_attach.proofs.list.search.Goals as goal
 

@@ -1,7 +1,7 @@
 use Rattle.std.proofs.Common.{rules, refl, ap, sym, ◌∙◌, inl, inr}
 use Rattle.std.specs.FinMap as finite
 use Rattle.prefix_tree.specs.Change.{with_value}
-use Rattle.group_attach.specs.Filed.{attached}
+use Rattle.group_attach.specs.Attached.{attached}
 use Rattle.group_attach.proofs.FiledFacts.{by_answer, list_or_none, remove_nothing, written, unwritten}
 use Rattle.group_attach.proofs.lists.attach_there.Goals as goal
 

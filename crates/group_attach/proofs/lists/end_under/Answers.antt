@@ -1,7 +1,7 @@
 use Rattle.std.proofs.Common.{◌≡◌, rules, ap, ◌∙◌, inl, inr}
 use Rattle.std.specs.FinMap as finite
 use Rattle.prefix_tree.specs.Change.{with_value}
-use Rattle.group_attach.specs.Filed.{kept, ended, under}
+use Rattle.group_attach.specs.Inside.Filed.{kept, ended, under}
 use Rattle.group_attach.proofs.FiledFacts.{with_kept, none_kept, list_or_none}
 use Rattle.group_attach.proofs.lists.end_under.Goals as goal
 

@@ -20,4 +20,4 @@ returns c =
           let shift : 0 ≡ 8 * (i / 2 + 1) - (4 * i + 4) = omega (arith, w.if-i-eq0) in
           w.value-is ∙ low ∙ half_byte bytes (4 * i) (i / 2) b 0 (omega arith) shift (omega arith) c.requires c.from-byte.ensures small
     ] in
-    c.glyph.ensures ∙ ap (digit_glyph true) value
+    c.glyph.ensures.value ∙ ap (digit_glyph true) value

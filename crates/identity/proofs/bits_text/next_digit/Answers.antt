@@ -11,4 +11,4 @@ returns-clause-digit c =
     let is_w : w ≡ min (length bits) 4 = search rules in
     let is_v : c.unwrap-value.result ≡ number (take w bits) = grind (arith, common_steps) in
     let is_rest : c.take.new.self ≡ drop w bits = grind (arith, common_steps) in
-    hex_next bits c.take.new.self w c.unwrap-value.result c.filled.result c.glyph.result c.requires is_w is_v is_rest c.filled.ensures.value c.glyph.ensures
+    hex_next bits c.take.new.self w c.unwrap-value.result c.filled.result c.glyph.result c.requires is_w is_v is_rest c.filled.ensures.value c.glyph.ensures.value

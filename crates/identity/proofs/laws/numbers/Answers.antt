@@ -1,4 +1,4 @@
-use Rattle.identity.specs.NumberLaws.{length-num, number-num, num-number}
+use Rattle.identity.specs.Inside.NumberLaws.{length-num, number-num, num-number}
 use Rattle.identity.proofs.laws.numbers.Goals as goal
 
 pub returns-clause-size : goal.returns-clause-size

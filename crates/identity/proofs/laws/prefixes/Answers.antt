@@ -1,4 +1,4 @@
-use Rattle.identity.specs.PathLaws.{begins_then}
+use Rattle.identity.specs.Inside.PathLaws.{begins_then}
 use Rattle.identity.proofs.Identities.{begins_front, before_extension, zero_before_one}
 use Rattle.identity.proofs.laws.prefixes.Goals as goal
 

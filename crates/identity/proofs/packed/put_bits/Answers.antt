@@ -2,7 +2,7 @@ use Rattle.std.proofs.Common.{◌≡◌, ◌≤◌, ◌+◌, ◌*◌, ◌∙◌,
 use Rattle.std.proofs.lemmas.List.{take_all, length-take}
 use Rattle.identity.specs.Number.{num}
 use Rattle.identity.specs.Packed.{bits_of}
-use Rattle.identity.specs.NumberLaws.{length-num}
+use Rattle.identity.specs.Inside.NumberLaws.{length-num}
 use Rattle.identity.proofs.Bytes.{length-bits_of}
 use Rattle.identity.proofs.Pieces.{put_next}
 use Rattle.identity.proofs.packed.put_bits.Goals as goal

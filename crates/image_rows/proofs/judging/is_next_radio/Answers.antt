@@ -1,7 +1,7 @@
 use Rattle.std.proofs.Common.{◌≡◌, ◌∙◌, ap, sym, true, false, Some}
 use Rattle.std.specs.Option.{is_none}
 use Rattle.identity.specs.Path.{id_path}
-use Rattle.identity.specs.PathLaws.{paths_total}
+use Rattle.identity.specs.Inside.PathLaws.{paths_total}
 use Rattle.prefix_tree.specs.Next.{next_entry}
 use Rattle.registration.specs.Listed.{under_its_bits}
 use Rattle.image_rows.proofs.Last.{next_or_there, not_next, none_mapped, none_if}

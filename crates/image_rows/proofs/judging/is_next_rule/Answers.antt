@@ -1,6 +1,6 @@
 use Rattle.std.proofs.Common.{◌≡◌, ◌∙◌, ap, sym, true, false, Some}
 use Rattle.std.specs.Option.{is_none}
-use Rattle.identity.specs.PathLaws.{paths_total}
+use Rattle.identity.specs.Inside.PathLaws.{paths_total}
 use Rattle.prefix_tree.specs.Next.{next_entry}
 use Rattle.image_rows.proofs.Last.{then_next, not_next, none_if}
 use Rattle.image_rows.proofs.judging.is_next_rule.Goals as goal

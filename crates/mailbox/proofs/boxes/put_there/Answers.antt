@@ -1,6 +1,6 @@
 use Rattle.std.proofs.Common.{rules, inl, inr}
 use Rattle.std.specs.FinMap as finite
-use Rattle.mailbox.specs.Boxes.{put_last}
+use Rattle.mailbox.specs.Inside.Boxes.{put_last}
 use Rattle.mailbox.proofs.Boxed.{box_or_none, none_there, by_answer, written, unwritten}
 use Rattle.mailbox.proofs.boxes.put_there.Goals as goal
 

@@ -3,7 +3,7 @@ use Rattle.std.specs.FinMap as finite
 use Rattle.std.specs.List.{filter}
 use Rattle.prefix_tree.specs.Change.{with_value}
 use Rattle.mailbox.specs.Tests.{is_at}
-use Rattle.mailbox.specs.Boxes.{box_of, items_under}
+use Rattle.mailbox.specs.Inside.Boxes.{box_of, items_under}
 use Rattle.mailbox.proofs.Boxed.{with_box, box_or_none}
 use Rattle.mailbox.proofs.boxes.remove_under.Goals as goal
 

@@ -1,7 +1,7 @@
 use Rattle.std.proofs.Common.{sym, ◌∙◌, arith, rules}
 use Rattle.prefix_tree.specs.Following.{is_after}
 use Rattle.mailbox.specs.Order.{named_cmp}
-use Rattle.mailbox.specs.Boxes.{name_of}
+use Rattle.mailbox.specs.Inside.Boxes.{name_of}
 use Rattle.mailbox.proofs.Sides.{found_earlier, found_here, first_later, earlier_order, later_order, earlier_shorter, later_shorter}
 use Rattle.mailbox.proofs.node.+first_after.Goals as goal
 

@@ -1,6 +1,6 @@
 use Rattle.std.proofs.Common.{◌≡◌, true, false, arith}
 use Rattle.std.proofs.lemmas.Bool.Decides.{nat_tests}
-use Rattle.mailbox.specs.Places.{is_due}
+use Rattle.mailbox.specs.Inside.Places.{is_due}
 use Rattle.mailbox.proofs.Sides.{found_earlier, found_here, found_later}
 use Rattle.mailbox.proofs.node.+first_due.Goals as goal
 

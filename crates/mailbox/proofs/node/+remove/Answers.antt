@@ -1,6 +1,6 @@
 use Rattle.std.proofs.Common.{◌++◌, ◌∷◌, sym, subst, ◌∙◌, arith, rules}
 use Rattle.std.specs.Prelude.{IsSome}
-use Rattle.mailbox.specs.Places.{places_of}
+use Rattle.mailbox.specs.Inside.Places.{places_of}
 use Rattle.mailbox.proofs.Sides.{earlier_order, later_order, earlier_shorter, later_shorter, removed_earlier, removed_later, removed_here, is_earlier, is_later}
 use Rattle.mailbox.proofs.node.+remove.Goals as goal
 use Rattle.mailbox.proofs.node.+remove.Goals.{in-Less, in-Greater}

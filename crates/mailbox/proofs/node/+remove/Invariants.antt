@@ -1,5 +1,5 @@
 use Rattle.std.specs.Prelude.{length}
-use Rattle.mailbox.specs.Places.{places_of}
+use Rattle.mailbox.specs.Inside.Places.{places_of}
 use Rattle.mailbox.proofs.node.+remove.Given as goal
 
 abbrev pub decreases-remove : goal.decreases-remove

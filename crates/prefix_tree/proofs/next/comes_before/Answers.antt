@@ -1,8 +1,7 @@
-use Rattle.std.proofs.Common.{◌≡◌, ◌<◌, ◌++◌, ◌∷◌, [], true, length, sym, ap, ◌∙◌, arith}
+use Rattle.std.proofs.Common.{◌≡◌, ◌<◌, ◌++◌, ◌∷◌, [], true, length, sym, ap, ◌∙◌, arith, nat_eq}
 use Rattle.std.proofs.lemmas.Bool.Decides.{nat_tests}
-use Rattle.std.proofs.Common.{nat_eq}
 use Rattle.identity.specs.Path.{begins}
-use Rattle.prefix_tree.specs.Paths.{common}
+use Rattle.prefix_tree.specs.Inside.Paths.{common}
 use Rattle.prefix_tree.proofs.Begins.{common_first, common_shorter}
 use Rattle.prefix_tree.proofs.NextLaws.{begun_before, side_before}
 use Rattle.prefix_tree.proofs.next.comes_before.Goals as goal

@@ -2,7 +2,7 @@ use Rattle.std.proofs.Common.{◌≡◌, ◌≤◌, ◌<◌, inl, inr, length, s
 use Rattle.std.proofs.lemmas.Bool.Decides.{nat_tests}
 use Rattle.std.specs.Prelude.{◌⊎◌}
 use Rattle.identity.specs.Number.{num}
-use Rattle.prefix_tree.specs.Paths.{common}
+use Rattle.prefix_tree.specs.Inside.Paths.{common}
 use Rattle.prefix_tree.proofs.Numbers.{common_cut, common_step, common_self, half_fits, fits_cut, taken, none_left}
 use Rattle.prefix_tree.proofs.path.common.Goals.{then-len, else-len, then-loop-a-test+else-at-gt0, else-loop-a-test}
 use Rattle.prefix_tree.proofs.path.common.Goals as goal

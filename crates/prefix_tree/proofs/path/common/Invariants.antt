@@ -1,6 +1,6 @@
 use Rattle.std.proofs.Common.{◌≡◌, ◌^◌, ◌<◌, ◌≤◌}
 use Rattle.identity.specs.Number.{num}
-use Rattle.prefix_tree.specs.Paths.{common}
+use Rattle.prefix_tree.specs.Inside.Paths.{common}
 use Rattle.prefix_tree.proofs.path.common.Given as goal
 
 abbrev pub invariant-loop-a : goal.invariant-loop-a

@@ -1,4 +1,4 @@
-use Rattle.identity.specs.NumberLaws.{num-zero}
+use Rattle.identity.specs.Inside.NumberLaws.{num-zero}
 use Rattle.sds_tl.proofs.pieces.put_reserved.Goals as goal
 
 pub returns-clause-ok : goal.returns-clause-ok

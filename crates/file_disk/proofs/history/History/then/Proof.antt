@@ -28,7 +28,7 @@ use denote.Triple.Walked.{says, Stays, stay_dropped, walk_of, ends_at, walk_Meet
 use Rattle.file_disk.proofs.Walks.{none, none_made}
 use Rattle.file_disk.specs.contracts.history.History as Log
 use Rattle.file_disk.specs.contracts.history.Note as Note
-use Rattle.file_disk.specs.Note.{call_of}
+use Rattle.file_disk.specs.Inside.Note.{call_of}
 use Rattle.file_disk.specs.contracts.history.History.then as F
 use Rattle.file_disk.specs.contracts.history.History.then.Key.{name as #self}
 use Rattle.file_disk.proofs.history.History.then.Statement as stated

@@ -2,7 +2,7 @@ use Rattle.std.proofs.Common.{ap, ◌∙◌}
 use Rattle.std.specs.FinMap as finite
 use Rattle.group_attach.specs.Attached.{listed, of_radio}
 use Rattle.group_attach.specs.Applied.{applied}
-use Rattle.group_attach.specs.InOrder.{map_of}
+use Rattle.group_attach.specs.Inside.ListedMap.{map_of}
 use Rattle.group_attach.proofs.BothSides.{own_count}
 use Rattle.group_attach.proofs.groups.Groups.count_after.Goals as goal
 

@@ -1,6 +1,6 @@
 use Rattle.std.proofs.Common.{ap, sym, ◌∙◌}
 use Rattle.group_attach.specs.Attached.{listed, of_radio}
-use Rattle.group_attach.specs.Filed.{held}
+use Rattle.group_attach.specs.Inside.Filed.{held}
 use Rattle.group_attach.proofs.BothSides.{part_has, some_own, put_back, both_replaced}
 use Rattle.group_attach.proofs.groups.Groups.replace.Goals as goal
 

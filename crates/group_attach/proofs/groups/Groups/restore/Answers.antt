@@ -1,7 +1,7 @@
 use Rattle.std.proofs.Common.{rules, ◌≡◌, sym, subst}
 use Rattle.std.specs.Prelude.{OnOk}
 use Rattle.group_attach.specs.Applied.{restored}
-use Rattle.group_attach.specs.Filed.{AllHave}
+use Rattle.group_attach.specs.Inside.Filed.{AllHave}
 use Rattle.group_attach.proofs.Restored.{own_pairs, restored_ok}
 use Rattle.group_attach.proofs.groups.Groups.restore.Goals as goal
 

@@ -1,6 +1,6 @@
 use Rattle.std.proofs.Common.{subst, sym}
 use Rattle.std.specs.Prelude.{IsSome}
-use Rattle.group_attach.specs.InOrder.{pair_of}
+use Rattle.group_attach.specs.Attached.{pair_of}
 use Rattle.group_attach.proofs.IndexFacts.{filed_tried, is_attached, get_under, before_is}
 use Rattle.group_attach.proofs.index.Index.attach.Goals as goal
 

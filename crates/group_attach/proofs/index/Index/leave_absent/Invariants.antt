@@ -1,5 +1,5 @@
 use Rattle.std.proofs.Common.{◌≡◌, take}
-use Rattle.group_attach.specs.Filed.{all_left}
+use Rattle.group_attach.specs.Inside.Filed.{all_left}
 use Rattle.group_attach.proofs.index.Index.leave_absent.Given as goal
 
 abbrev pub invariant-loop-attachment : goal.invariant-loop-attachment

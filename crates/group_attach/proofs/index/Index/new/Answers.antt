@@ -1,5 +1,5 @@
 use Rattle.std.proofs.Common.{ap, ◌∙◌, sym, subst}
-use Rattle.group_attach.specs.Filed.{gathered, IsFiled}
+use Rattle.group_attach.specs.Inside.Filed.{gathered, IsFiled}
 use Rattle.group_attach.proofs.Gathering.{none_gathered, none_filed}
 use Rattle.group_attach.proofs.index.Index.new.Goals as goal
 

@@ -1,7 +1,7 @@
 use Rattle.std.proofs.Common.{ap, ◌∙◌}
 use Rattle.std.specs.Option.{is_some}
 use Rattle.std.specs.FinMap as finite
-use Rattle.group_attach.specs.InOrder.{pair_of}
+use Rattle.group_attach.specs.Attached.{pair_of}
 use Rattle.group_attach.proofs.FiledFacts.{none_to_overwrite, none_before}
 use Rattle.group_attach.proofs.lists.Lists.attach.Goals as goal
 

@@ -1,4 +1,4 @@
-use Rattle.identity.specs.PathLaws.{same_test}
+use Rattle.identity.specs.Inside.PathLaws.{same_test}
 use Rattle.identity.proofs.SameBytes.{by_bytes, by_lengths}
 use Rattle.identity.proofs.bits.Bits.same.Goals as goal
 

@@ -1,6 +1,6 @@
 use Rattle.std.proofs.Common.{arith}
 use Rattle.std.proofs.lemmas.Bool.Decides.{nat_tests}
-use Rattle.identity.specs.NumberLaws.{length-num}
+use Rattle.identity.specs.Inside.NumberLaws.{length-num}
 use Rattle.identity.proofs.prefix.Prefix.is_empty.Goals as goal
 
 pub returns : goal.returns

@@ -1,5 +1,5 @@
 use Rattle.std.proofs.Common.{sym}
-use Rattle.identity.specs.NumberLaws.{length-num}
+use Rattle.identity.specs.Inside.NumberLaws.{length-num}
 use Rattle.identity.proofs.prefix.Prefix.len.Goals as goal
 
 pub returns-clause-value : goal.returns-clause-value

@@ -1,4 +1,4 @@
-use Rattle.identity.specs.NumberLaws.{length-num}
+use Rattle.identity.specs.Inside.NumberLaws.{length-num}
 use Rattle.identity.proofs.prefix.Prefix.number.Goals as goal
 
 pub returns-clause-fits : goal.returns-clause-fits

@@ -1,5 +1,5 @@
 use Rattle.std.proofs.Common.{◌%◌, ◌^◌, ap, sym, take, ◌∙◌, arith}
-use Rattle.identity.specs.PathLaws.{take-id, first_bits_fit, id_path-mod}
+use Rattle.identity.specs.Inside.PathLaws.{take-id, first_bits_fit, id_path-mod}
 use Rattle.identity.proofs.prefix.Prefix.of.Goals as goal
 
 pub invariant_of-result : goal.invariant_of-result

@@ -1,7 +1,7 @@
 use Rattle.std.proofs.Common.{arith}
 use Rattle.std.proofs.lemmas.Bool.Decides.{nat_tests}
-use Rattle.identity.specs.PathLaws.{same_test}
-use Rattle.identity.specs.PrefixInside.{same_if, same_then}
+use Rattle.identity.specs.Inside.PathLaws.{same_test}
+use Rattle.identity.specs.Inside.PrefixInside.{same_if, same_then}
 use Rattle.identity.proofs.prefix.Prefix.same.Goals as goal
 
 pub returns-then-self-other-clause-equal : goal.returns-then-self-other-clause-equal

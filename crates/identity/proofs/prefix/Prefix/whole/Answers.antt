@@ -1,7 +1,7 @@
 use Rattle.std.proofs.Common.{◌∙◌, arith}
 use Rattle.std.proofs.lemmas.List.{take_all}
 use Rattle.identity.specs.Path.{id_path}
-use Rattle.identity.specs.PathLaws.{length-id_path}
+use Rattle.identity.specs.Inside.PathLaws.{length-id_path}
 use Rattle.identity.proofs.prefix.Prefix.whole.Goals as goal
 
 pub returns : goal.returns

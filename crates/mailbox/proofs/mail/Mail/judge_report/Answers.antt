@@ -5,7 +5,7 @@ use Rattle.std.specs.Option.{option_map}
 use Rattle.registration.specs.Registered.{rule_of}
 use Rattle.mailbox.specs.declared.key.Kind.TheVariants.{Message, Report}
 use Rattle.mailbox.specs.Tests.{key_of, answered, is_at, is_reported}
-use Rattle.mailbox.specs.Boxes.{place_of}
+use Rattle.mailbox.specs.Order.{place_of}
 use Rattle.mailbox.specs.Mail.{waiting}
 use Rattle.mailbox.specs.Judged.{keep_of}
 use Rattle.mailbox.specs.Refusals.{unknown_refusal}

@@ -5,8 +5,8 @@ use Rattle.prefix_tree.proofs.NodeLaws.{on_ok}
 use Rattle.mailbox.specs.declared.place.Place.{Place}
 use Rattle.mailbox.specs.Values.{Mailed}
 use Rattle.mailbox.specs.Tests.{is_at}
-use Rattle.mailbox.specs.Order.{ComesLast}
-use Rattle.mailbox.specs.Boxes.{item_at, place_of}
+use Rattle.mailbox.specs.Order.{ComesLast, place_of}
+use Rattle.mailbox.specs.Inside.Boxes.{item_at}
 use Rattle.mailbox.specs.Mail.{holds}
 use Rattle.mailbox.specs.Judged.{none_waits}
 use Rattle.mailbox.proofs.Boxed.{on_err}

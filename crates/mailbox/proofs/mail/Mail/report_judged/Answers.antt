@@ -6,8 +6,7 @@ use Rattle.mailbox.specs.declared.key.Kind.TheVariants.{Report}
 use Rattle.mailbox.specs.declared.opening.ReportOpening.{ReportOpening}
 use Rattle.mailbox.specs.Values.{Waiting, Mailed}
 use Rattle.mailbox.specs.Tests.{key_of, is_at, is_reported}
-use Rattle.mailbox.specs.Order.{ComesLast}
-use Rattle.mailbox.specs.Boxes.{place_of}
+use Rattle.mailbox.specs.Order.{ComesLast, place_of}
 use Rattle.mailbox.specs.Mail.{holds, without, reported}
 use Rattle.mailbox.specs.Judged.{none_waits}
 use Rattle.mailbox.proofs.Boxed.{on_err}

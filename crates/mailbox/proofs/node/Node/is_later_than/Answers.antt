@@ -1,7 +1,7 @@
 use Rattle.std.proofs.Common.{◌<◌, arith, ap, sym, ◌∙◌}
 use Rattle.std.specs.List.{find}
 use Rattle.std.proofs.lemmas.Bool.Decides.{nat_tests}
-use Rattle.mailbox.specs.Places.{is_due}
+use Rattle.mailbox.specs.Inside.Places.{is_due}
 use Rattle.mailbox.proofs.Sides.{none_due}
 use Rattle.mailbox.proofs.node.Node.is_later_than.Goals as goal
 

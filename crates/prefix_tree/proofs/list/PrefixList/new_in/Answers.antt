@@ -1,5 +1,5 @@
 use Rattle.std.proofs.Common.{ap, ◌∙◌}
-use Rattle.prefix_tree.specs.PrefixList.{map_of}
+use Rattle.prefix_tree.specs.Inside.PrefixList.{map_of}
 use Rattle.prefix_tree.proofs.Places.{map_of_nothing}
 use Rattle.prefix_tree.proofs.list.PrefixList.new_in.Goals as goal
 

@@ -1,6 +1,6 @@
 use Rattle.std.proofs.Common.{[], true, false, sym, ap, ◌∙◌, arith, rules}
 use Rattle.std.proofs.lemmas.Bool.Decides.{nat_tests}
-use Rattle.prefix_tree.specs.Joined.{joined, table_of, IsUnder}
+use Rattle.prefix_tree.specs.Inside.Joined.{joined, table_of, IsUnder}
 use Rattle.prefix_tree.proofs.NodeLaws.{fits, whole_key, longer_key, side_is, read_at, read_zero, read_one, write_here, into_zero, into_one, on_ok, if_ok, if_err, is_there, not_there, off_link, on_link, same_box, firm_node, firm_after, begins_box}
 use Rattle.prefix_tree.proofs.StepLaws.{turn, zero_any, one_any, still_sound, sound_with_zero, sound_with_one}
 use Rattle.prefix_tree.proofs.node.Node.+insert.Goals as goal

@@ -1,6 +1,6 @@
 use Rattle.std.proofs.Common.{ap, ◌∙◌}
 use Rattle.std.specs.FinMap as map
-use Rattle.prefix_tree.specs.Joined.{joined}
+use Rattle.prefix_tree.specs.Inside.Joined.{joined}
 use Rattle.prefix_tree.proofs.NodeLaws.{one_here}
 use Rattle.prefix_tree.proofs.JoinedLaws.{joined_empty}
 use Rattle.prefix_tree.proofs.node.Node.leaf.Goals as goal

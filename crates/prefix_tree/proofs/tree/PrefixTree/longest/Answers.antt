@@ -1,5 +1,5 @@
 use Rattle.std.proofs.Common.{◌≡◌, length, ap, ◌∙◌, arith}
-use Rattle.identity.specs.NumberLaws.{length-num}
+use Rattle.identity.specs.Inside.NumberLaws.{length-num}
 use Rattle.identity.specs.Path.{id_path}
 use Rattle.prefix_tree.specs.Table.{longest}
 use Rattle.prefix_tree.specs.Visits.{nodes_on_way}

@@ -3,7 +3,7 @@ use Rattle.sector_disk.specs.Disk.{View}
 use Rattle.sector_disk.specs.Reading.{before_reads}
 use Rattle.sector_disk.proofs.Reading.{one_sync}
 use Rattle.checkpoint.specs.Layout.{disk_size}
-use Rattle.recovery.specs.Opened.{opened_view}
+use Rattle.recovery.specs.Inside.Opened.{opened_view}
 use Rattle.recovery.specs.Opens.{Opening, opens}
 use Rattle.recovery.proofs.Stood.{kept_so}
 use Rattle.recovery.proofs.Synced.{no_image_arises, one_image}

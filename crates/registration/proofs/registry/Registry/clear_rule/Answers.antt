@@ -1,6 +1,6 @@
 use Rattle.std.proofs.Common.{◌≡◌, ◌+◌, sym, ◌∙◌, arith}
 use Rattle.std.specs.FinMap as map
-use Rattle.prefix_tree.specs.Counts.{len_gone, len_kept}
+use Rattle.prefix_tree.specs.Inside.Counts.{len_gone, len_kept}
 use Rattle.registration.proofs.registry.Registry.clear_rule.Goals as goal
 
 pub overflow_sub-self : goal.overflow_sub-self

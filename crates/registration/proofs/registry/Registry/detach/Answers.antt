@@ -1,5 +1,5 @@
 use Rattle.std.proofs.Common.{sym, ◌∙◌}
-use Rattle.prefix_tree.specs.Counts.{len_replaced}
+use Rattle.prefix_tree.specs.Inside.Counts.{len_replaced}
 use Rattle.registration.proofs.Whole.{replaced_whole}
 use Rattle.registration.proofs.registry.Registry.detach.Goals as goal
 

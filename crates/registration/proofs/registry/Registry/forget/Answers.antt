@@ -1,6 +1,6 @@
 use Rattle.std.proofs.Common.{◌≡◌, ◌+◌, sym, ◌∙◌, arith}
 use Rattle.std.specs.FinMap as map
-use Rattle.prefix_tree.specs.Counts.{len_gone, len_kept}
+use Rattle.prefix_tree.specs.Inside.Counts.{len_gone, len_kept}
 use Rattle.registration.proofs.Whole.{fewer_whole}
 use Rattle.registration.proofs.registry.Registry.forget.Goals as goal
 

@@ -1,5 +1,5 @@
 use Rattle.std.proofs.Common.{◌+◌, sym, ap, ◌∙◌}
-use Rattle.prefix_tree.specs.Counts.{len_over, len_new}
+use Rattle.prefix_tree.specs.Inside.Counts.{len_over, len_new}
 use Rattle.registration.proofs.registry.Registry.set_rule.Goals as goal
 
 pub invariant_of-self : goal.invariant_of-self

@@ -1,0 +1,3 @@
+pub mod PrefixInside
+pub mod NumberLaws
+pub mod PathLaws

@@ -1,0 +1,3 @@
+pub mod GroupViews
+pub mod PduTest
+pub mod Codes

@@ -1,0 +1,5 @@
+pub mod PrefixList
+pub mod Joined
+pub mod Paths
+pub mod Counts
+pub mod Grafting

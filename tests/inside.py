@@ -1,0 +1,71 @@
+#!/usr/bin/env python3
+"""That what must be believed stands apart from what only helps: no definition of a crate's specs/ cites one of
+its or another's specs/Inside/, but from there, and no clause of a public function or of a trait does. And that each
+definition of specs/ has a comment line above it, which says it in words. Cases for each crate with definitions. Tells
+the cases that fail, and last 'N passed, M failed'.
+Usage: inside.py"""
+import pathlib
+import re
+
+from running import Differs
+from testing import Count
+
+CRATES = pathlib.Path(__file__).resolve().parent.parent / 'crates'
+NAME = re.compile(r"[A-Za-z_][\w'-]*")
+IMPORT = re.compile(r'use Rattle\.\w+\.specs\.(?P<module>[A-Z][\w.]*?)\.\{(?P<names>[^}]*)\}')
+# The head of a public function, and a public trait, up to the line on which its body or it ends.
+PUBLIC = re.compile(r'^(?P<indent> *)(?:pub fn .*?(?:^(?P=indent)\{|\{\}$|;$)|pub trait .*?^(?P=indent)\})', re.M | re.S)
+# The head of a definition.
+DEFINED = re.compile(r'\s*(?:(?:(?:unfoldable|abbrev|mutual) )+pub |pub record )')
+# What only the program's own tests and measures need is no promise.
+NO_PROMISE = ('benchmarks', 'stops', 'read_rows')
+
+
+def helpers(text):
+    """The names that a text has from specs/Inside/."""
+    found = set()
+    for one in IMPORT.finditer(text):
+        if one['module'].split('.')[0] == 'Inside':
+            found.update(name.split(' as ')[-1].strip() for name in one['names'].split(','))
+    return found
+
+
+def clauses(text):
+    """The clauses of the public functions and traits of a source."""
+    for one in PUBLIC.finditer(text):
+        at = re.search(r'\b(?:requires|ensures)\b', one[0])
+        if at:
+            yield one[0][at.start():]
+
+
+def judge(crate):
+    for path in sorted((crate / 'specs').rglob('*.antt')):
+        if path.parent.name != 'Inside' and helpers(path.read_text()):
+            raise Differs(f'{path.relative_to(CRATES)} cites {sorted(helpers(path.read_text()))}')
+    for path in sorted((crate / 'src').rglob('*.rt')):
+        text = path.read_text()
+        for clause in clauses(text):
+            cited = helpers(text) & set(NAME.findall(clause))
+            if cited:
+                raise Differs(f'{path.relative_to(CRATES)}: a public clause cites {sorted(cited)}')
+
+
+def worded(crate):
+    for path in sorted((crate / 'specs').rglob('*.antt')):
+        lines = path.read_text().split('\n')
+        for above, line in zip([''] + lines, lines):
+            if DEFINED.match(line) and not above.lstrip().startswith('-- '):
+                raise Differs(f'{path.relative_to(CRATES)} has no words above: {line.strip()}')
+
+
+def main():
+    count = Count()
+    for crate in sorted(CRATES.iterdir()):
+        if (crate / 'specs').is_dir():
+            count.case(f'{crate.name}, in words', worded, crate)
+        if (crate / 'specs').is_dir() and not crate.name.endswith('_tests') and crate.name not in NO_PROMISE:
+            count.case(crate.name, judge, crate)
+    count.end()
+
+
+main()
