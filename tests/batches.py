@@ -3,10 +3,10 @@ expiries of a few stations, refused ones and resends among them. A line is a sta
 import random
 
 import reading
-from streams import SERVED, U, demand, group_messages, groups, messages
+from streams import RULE_BODY, U, demand, group_messages, groups, messages
 
 SEED = 21
-RADIOS = [U, messages.V, messages.W, messages.UNSERVED, '234-14-2005', '234-14-2006']
+RADIOS = [U, messages.V, messages.W, messages.RULELESS, '234-14-2005', '234-14-2006']
 GROUPS = [group_messages.G, group_messages.OTHER, group_messages.UNRULED]
 PREFIXES = ['234-14-0/24', '234-14-1000/48', '234-14-1002/47', '235-0-0/10', f'{U}/48']
 # How many lines most batches have, and the most that one can have
@@ -70,14 +70,14 @@ def long_messages(stations, count):
 def cleared(stations):
     """What makes room for long messages: nothing waits any more, and their radio is served and there."""
     latest, words = messages.ALL_OUT
-    return [*map(stations.new, [SERVED, f'unrule {U}/48', demand(3)]), stations.new(words, latest)]
+    return [*map(stations.new, [RULE_BODY, f'unrule {U}/48', demand(3)]), stations.new(words, latest)]
 
 
 def batches(count):
     """So many batches. The fourth of each 50 has as many and as long messages as a batch can have: its record fills a half of
     39 sectors."""
     stations = Stations(random.Random(SEED))
-    yield [stations.new(SERVED)]
+    yield [stations.new(RULE_BODY)]
     yield [stations.new(demand(3))]
     for k in range(2, count):
         if k % 50 == 2:

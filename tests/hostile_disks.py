@@ -35,17 +35,17 @@ def shown(place):
     return err
 
 
-def served(place):
+def run(place):
     """`run` says the same; its file has no line, so it writes nothing."""
     status, out, err = told_of(place.image())
     with untouched(place.path()):
         place.gives(['run', DISK, LINES], status, out and text([f'station 1 {LINES}']), err)
 
 
-def an_image(place, image, is_served):
+def an_image(place, image, is_run):
     place.put(image)
-    if is_served:
-        served(place)
+    if is_run:
+        run(place)
     return shown(place)
 
 
@@ -65,7 +65,7 @@ def lengths(data):
 
 def a_length(place, data):
     place.write(DISK, data)
-    served(place)
+    run(place)
     shown(place)
 
 

@@ -235,7 +235,7 @@ def hostile_disks(place):
 
 # Faults of files
 
-def files_that_can_not_be_served(place):
+def files_that_can_not_be_read(place):
     place.format()
     refuses(place, ['run', 'd.img', 'no.txt'], 4, file_fault('no.txt'))
     place.gives(['run', 'd.img', '.'], 4, b'station 1 .\n', file_fault('.'))
@@ -298,7 +298,7 @@ def memory_that_ends_between(place):
 CASES = [
     the_sample, the_example, what_is_shown, lines_without_trouble_and_with, a_long_file, wrong_words, help_and_version, bad_settings, bad_geometry, settings_that_can_not_be_read,
     a_disk_that_can_not_be_made, no_room_for_a_disk, nowhere_to_say_it, disks_that_can_not_be_opened,
-    hostile_disks, files_that_can_not_be_served, the_order_of_faults, no_memory, memory_that_ends_between,
+    hostile_disks, files_that_can_not_be_read, the_order_of_faults, no_memory, memory_that_ends_between,
 ]
 
 

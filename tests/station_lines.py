@@ -4,14 +4,14 @@ import batches
 import reading
 from disk_files import LINES, text
 from reading_disks import copied
-from streams import SERVED, demand, groups
+from streams import RULE_BODY, demand, groups
 
 OTHERS = ['count', 'where 234-14-2001', 'mail 234-14-2002', '# a remark', '', 'no such', 'where 1-2', '0 0 expire']
 
 
 def bodies(dice):
     """What the commands say: first a rule, and each radio attached and in a group."""
-    yield SERVED
+    yield RULE_BODY
     for radio in batches.RADIOS:
         yield demand(3, radio)
         yield groups.grouping([groups.attaching(1000)], radio)

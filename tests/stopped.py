@@ -27,7 +27,7 @@ class Script:
         self.whole = Serving(reading.Register(), self.lines)
         self.total = len(self.whole.registers) - 1
 
-    def served_on(self, register):
+    def run_on(self, register):
         """What a run over this register answers."""
         return Serving(register, self.lines)
 
@@ -80,7 +80,7 @@ def one_stop(place, script, moment):
     stops(place, moment)
     register = front_on(place, script)
     asked = shows_all(place, register)
-    again = script.served_on(register)
+    again = script.run_on(register)
     resent(script, again, register.count)
     runs(place, again)
     compare('the number of commands', front_on(place, script).count, script.total)

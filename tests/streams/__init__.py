@@ -3,8 +3,8 @@ one kind; this file has what they share. All dice are seeded: every run tries th
 import reading
 
 U = '234-14-2001'
-SERVED = 'rule 234-14-0/24 1 99 1 3600'
-RULE = f'1 0 {SERVED}'
+RULE_BODY = 'rule 234-14-0/24 1 99 1 3600'
+RULE = f'1 0 {RULE_BODY}'
 NO_COMMANDS = ('where', 'look', 'groups', 'members', 'mail', 'count', '#', '')
 
 

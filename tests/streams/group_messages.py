@@ -5,13 +5,13 @@ import itertools
 import random
 
 import reading
-from streams import SERVED, U, binary, bits_of, changed, damaged, demand, detach, numbered
+from streams import RULE_BODY, U, binary, bits_of, changed, damaged, demand, detach, numbered
 from streams.groups import attaching, grouping, leaving
-from streams.messages import ABSENT, ALL_OUT, STRANGER, UNSERVED, V, W, WORKED, acknowledgement, life, mails, message, report, sds
+from streams.messages import ABSENT, ALL_OUT, RULELESS, STRANGER, V, W, WORKED, acknowledgement, life, mails, message, report, sds
 
 G, OTHER, UNRULED = '234-14-1000', '234-14-1001', '235-14-1000'
 # U, V, W and one that then leaves its cell are attached to G; W alone to OTHER
-HERE = [SERVED] + [body for radio in (W, U, ABSENT, V) for body in (demand(3, radio), grouping([attaching(1000)], radio))]
+HERE = [RULE_BODY] + [body for radio in (W, U, ABSENT, V) for body in (demand(3, radio), grouping([attaching(1000)], radio))]
 HERE += [grouping([attaching(1001)], W), detach(ABSENT)]
 
 
@@ -44,10 +44,10 @@ def heads_to_groups():
 
 def who_to_which():
     """Senders that are present, absent, never seen and no members, to groups with many members, one and none."""
-    senders, groups = [U, V, W, ABSENT, STRANGER, UNSERVED], [G, OTHER, '234-14-1002', UNRULED, U, '1-1-1']
-    extra = [f'rule {UNSERVED}/48 1 99 1 60', demand(3, UNSERVED), grouping([attaching(G)], UNSERVED)]
-    for served in (False, True):
-        bodies = HERE + (extra if served else [])
+    senders, groups = [U, V, W, ABSENT, STRANGER, RULELESS], [G, OTHER, '234-14-1002', UNRULED, U, '1-1-1']
+    extra = [f'rule {RULELESS}/48 1 99 1 60', demand(3, RULELESS), grouping([attaching(G)], RULELESS)]
+    for ruled in (False, True):
+        bodies = HERE + (extra if ruled else [])
         for source, group in itertools.product(senders, groups):
             for bits in (message(1), message(1), message(2, 0), report(1), acknowledgement(1), message(1)[:23]):
                 bodies += [gsds(source, group, bits)]
@@ -55,7 +55,7 @@ def who_to_which():
         yield numbered(bodies)
     # A group whose rule goes, and members that leave the group or the cell one by one
     bodies = HERE[:]
-    for k, body in enumerate([grouping([leaving(1000)], V), detach(W), 'unrule 234-14-0/24', SERVED, grouping([leaving(1000)], U),
+    for k, body in enumerate([grouping([leaving(1000)], V), detach(W), 'unrule 234-14-0/24', RULE_BODY, grouping([leaving(1000)], U),
                               demand(0, W), demand(3, ABSENT), detach(V), grouping([attaching(1000)], U), detach(U), demand(3, U)]):
         bodies += [body, f'members {G}'] + [gsds(name, G, message(k)) for name in (U, V, W)] + mails(U, V, W, ABSENT)
     yield numbered(bodies)
@@ -137,7 +137,7 @@ def group_message_lives():
     """Random rules, attaches, detaches, group changes, messages to groups and radios, reports and expiries."""
     for seed in range(24):
         dice = random.Random(500 + seed)
-        radios = [U, V, W, UNSERVED, '234-14-2005'][:3 + seed % 3]
+        radios = [U, V, W, RULELESS, '234-14-2005'][:3 + seed % 3]
         groups = [G, G, OTHER, UNRULED][:2 + seed % 3]
         query = lambda: dice.choice([f'mail {dice.choice(radios)}'] * 3 + [f'members {dice.choice(groups)}'])
         yield life(dice, radios, lambda: random_body(dice, radios, groups), query)

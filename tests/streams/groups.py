@@ -2,7 +2,7 @@
 lifetimes, the 32 groups of a radio, the members of a group, and long random lives of a few radios."""
 import random
 
-from streams import RULE, SERVED, U, binary, bits_of, changed, damaged, demand, detach, mobility_body, numbered, text
+from streams import RULE, RULE_BODY, U, binary, bits_of, changed, damaged, demand, detach, mobility_body, numbered, text
 
 V, G = '234-14-2002', '234-14-1000'
 WORKED = ['60:7380480A00007D0', '84:7380780A20007D075001E', '7:74', '7:70', '8:78']
@@ -54,7 +54,7 @@ def changed_group_pdus():
               group_pdu(uplink([attaching(1001)]), element('101', 3), uplink([]),
                         uplink([attaching('235-14-1', 7), leaving(1002)]), first=True)]
     settled = grouping([attaching(1000, 1), attaching(1002, 2)], first=True)
-    bodies = [SERVED, demand(3)]
+    bodies = [RULE_BODY, demand(3)]
     for bits in [bits_of(pdu) for pdu in WORKED] + longer:
         for other in changed(bits):
             bodies += [settled, mobility_body(other), f'groups {U}']
@@ -63,7 +63,7 @@ def changed_group_pdus():
 
 def counts():
     """Counts that fit and that don't, over fewer and more items, in elements too short and too long."""
-    bodies = [SERVED, demand(3)]
+    bodies = [RULE_BODY, demand(3)]
     for make in (attaching, leaving, lambda group: attaching(f'234-14-{group}')):
         for count in (0, 1, 2, 31, 32, 33, 63):
             for real in {0, 1, count - 1, count, count + 1, 32}:
@@ -76,7 +76,7 @@ def counts():
 
 def short_elements():
     """Elements cut at each bit, before the end, another element and nothing, and with each identifier."""
-    bodies = [SERVED, demand(3)]
+    bodies = [RULE_BODY, demand(3)]
     starts = [binary(1, 6) + attaching(1000), binary(1, 6) + leaving(G), binary(2, 6) + attaching(1000) + leaving(1),
               binary(1, 6) + '010010', binary(1, 6) + '10011' + '1' * 60, binary(40, 6), binary(0, 6) + '1']
     for start in starts:
@@ -92,7 +92,7 @@ def short_elements():
 
 def joined_elements():
     """Two and three elements that together have up to 32 items, and more, with others between."""
-    bodies = [SERVED, demand(3)]
+    bodies = [RULE_BODY, demand(3)]
     pairs = [(a, b) for a in (0, 1, 16, 31, 32, 33) for b in (0, 1, 16, 31, 32)]
     for sizes in pairs + [(0, 0, 33), (10, 11, 11), (10, 11, 12), (32, 0, 1), (63, 0, 0)]:
         groups = iter(range(1000, 1100))
@@ -108,7 +108,7 @@ def made_group_pdus():
     """Random group PDUs: elements of any kind in any order, changed, cut and lengthened at random."""
     dice = random.Random(4)
     for _ in range(3):
-        bodies = [SERVED, demand(3)]
+        bodies = [RULE_BODY, demand(3)]
         for k in range(1500):
             elements = []
             for _ in range(dice.randrange(4)):
@@ -129,7 +129,7 @@ def random_items(dice, groups, size):
 def lifetimes():
     """Each location update after attachments of each lifetime, of a radio that is present or was detached."""
     groups = [f'234-14-{1000 + life}' for life in range(4)]
-    bodies = [SERVED] + [f'rule {name}/48 1 1 {life} 0' for life, name in enumerate(groups)]
+    bodies = [RULE_BODY] + [f'rule {name}/48 1 1 {life} 0' for life, name in enumerate(groups)]
     for update in range(8):
         for detached in (False, True):
             for area in (7, 100):
@@ -151,13 +151,13 @@ def rooms():
               [attaching(1005, 6)], [attaching('235-14-1')], [attaching('235-14-1'), attaching(2003)],
               [attaching(2003), attaching(2003), leaving(2003)], joined + left, left + joined,
               [attaching(3000 + k) for k in range(32)], [leaving(1000 + k) for k in range(32)]]
-    bodies = [SERVED, demand(3)] + [grouping([attaching(1000 + k)]) for k in range(34)] + [f'groups {U}']
+    bodies = [RULE_BODY, demand(3)] + [grouping([attaching(1000 + k)]) for k in range(34)] + [f'groups {U}']
     for items in others:
         for first in (False, True):
             bodies += [full, grouping(items, first=first), f'groups {U}']
     yield numbered(bodies)
     dice = random.Random(5)
-    bodies = [SERVED, 'rule 234-14-1010/47 1 2 3 0', 'rule 235-0-0/10 1 9 2 0', demand(3)]
+    bodies = [RULE_BODY, 'rule 234-14-1010/47 1 2 3 0', 'rule 235-0-0/10 1 9 2 0', demand(3)]
     groups = [*range(1000, 1045)] * 2 + [f'235-14-{k}' for k in range(9)] * 10 + ['236-1-1'] * 60
     for _ in range(1500):
         bodies += [grouping(random_items(dice, groups, dice.choice([1, 2, 5, 20, 32])), first=dice.randrange(40) == 0)]

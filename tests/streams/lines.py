@@ -2,10 +2,10 @@
 import itertools
 import random
 
-from streams import SERVED, U, demand, detach, numbered, text
+from streams import RULE_BODY, U, demand, detach, numbered, text
 
 V, G = '234-14-2002', '234-14-1000'
-COMMANDS = [SERVED, 'unrule 234-14-2001/48', f'mm {U} 7 60:7380480A00007D0', f'sds {U} {V} 48:820405014849', f'gsds {U} {G} 48:820405014849', f'sent {V} {U} 5 m', 'expire', f'delete {V} {U} 5 r']
+COMMANDS = [RULE_BODY, 'unrule 234-14-2001/48', f'mm {U} 7 60:7380480A00007D0', f'sds {U} {V} 48:820405014849', f'gsds {U} {G} 48:820405014849', f'sent {V} {U} 5 m', 'expire', f'delete {V} {U} 5 r']
 QUERIES = [f'where {U}', f'look {V}', f'groups {U}', f'members {G}', f'mail {V}', 'count']
 
 

@@ -2,7 +2,7 @@
 import random
 
 import reading
-from streams import RULE, SERVED, U, binary, bits_of, changed, demand, detach, mobility, numbered, text
+from streams import RULE, RULE_BODY, U, binary, bits_of, changed, demand, detach, mobility, numbered, text
 
 WORKED = ['10:260', '10:200', '10:220', '10:2A0', '10:2E0', '5:10', '31:1CEA0038', '59:267400002130068', '8:56',
           '14:7610', '60:7380480A00007D0', '7:74', '48:820405014849']
@@ -41,10 +41,10 @@ def nested():
 def rule_removed():
     """A radio, its groups and its mail once the rule that served them is gone."""
     rest = ['where ' + U, 'look ' + U, demand(0), demand(2), 'sds 234-14-2001 234-14-2001 48:820405014849', detach(), 'where ' + U]
-    yield numbered([SERVED, demand(3), 'sds 234-14-2001 234-14-2001 48:820405014849', 'unrule 234-14-0/24', *rest, 'mail ' + U, (3600, 'expire'),
-                    'mail ' + U, 'unrule 234-14-0/24', SERVED, *rest])
+    yield numbered([RULE_BODY, demand(3), 'sds 234-14-2001 234-14-2001 48:820405014849', 'unrule 234-14-0/24', *rest, 'mail ' + U, (3600, 'expire'),
+                    'mail ' + U, 'unrule 234-14-0/24', RULE_BODY, *rest])
     for length in range(49):
-        yield numbered([SERVED, demand(3), f'unrule 234-14-0/{length}', *rest])
+        yield numbered([RULE_BODY, demand(3), f'unrule 234-14-0/{length}', *rest])
 
 
 def short_pdus():

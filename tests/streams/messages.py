@@ -4,11 +4,11 @@ import itertools
 import random
 
 import reading
-from streams import RULE, SERVED, U, binary, bits_of, changed, damaged, demand, detach, numbered, text
+from streams import RULE, RULE_BODY, U, binary, bits_of, changed, damaged, demand, detach, numbered, text
 
-V, W, ABSENT, STRANGER, UNSERVED = '234-14-2002', '234-14-2003', '234-14-2004', '234-14-9', '235-1-1'
+V, W, ABSENT, STRANGER, RULELESS = '234-14-2002', '234-14-2003', '234-14-2004', '234-14-9', '235-1-1'
 WORKED = ['48:820405014849', '48:820C05014849', '32:82100005', '32:82100205', '32:82200005']
-HERE = [SERVED, demand(3), demand(3, V), demand(3, W), demand(3, ABSENT), detach(ABSENT)]
+HERE = [RULE_BODY, demand(3), demand(3, V), demand(3, W), demand(3, ABSENT), detach(ABSENT)]
 ALL_OUT = 4294967295, 'expire'
 
 
@@ -68,9 +68,9 @@ def long_pdus():
 def who_to_whom():
     """Each body between radios that are present, absent, never seen and without a rule, where its item waits
     and where it does not."""
-    radios = [U, V, ABSENT, STRANGER, UNSERVED]
-    for served, source, destination in itertools.product((True, False), radios, radios):
-        bodies = HERE + [demand(3, ABSENT)] + ([f'rule {UNSERVED}/48 1 99 1 60', demand(3, UNSERVED)] if served else [])
+    radios = [U, V, ABSENT, STRANGER, RULELESS]
+    for ruled, source, destination in itertools.product((True, False), radios, radios):
+        bodies = HERE + [demand(3, ABSENT)] + ([f'rule {RULELESS}/48 1 99 1 60', demand(3, RULELESS)] if ruled else [])
         bodies += [sds(source, destination, message()), sds(destination, source, report(5, 1)), detach(ABSENT)] + mails(*radios)
         for bits in (message(), message(6), report(), report(6), acknowledgement(), acknowledgement(6), message()[:20]):
             bodies += [sds(source, destination, bits)] + mails(source, destination)
@@ -150,7 +150,7 @@ def random_body(dice, radios):
     source, destination, kind = dice.choice(radios), dice.choice(radios), dice.randrange(20)
     reference, name = dice.choice([1, 1, 2, 255]), dice.choice(radios)
     if kind == 0:
-        prefix = dice.choice(['234-14-0/24', '234-14-2000/44', f'{UNSERVED}/48', f'{V}/48'])
+        prefix = dice.choice(['234-14-0/24', '234-14-2000/44', f'{RULELESS}/48', f'{V}/48'])
         return f'rule {prefix} 0 99 1 {dice.choice([0, 1, 10, 50, 4294967295])}'
     if kind < 4:
         return dice.choice([demand(3, name), demand(0, name), demand(3, name), detach(name)])
@@ -179,7 +179,7 @@ def message_lives():
     """Random rules, attaches, detaches, messages, reports and expiries."""
     for seed in range(24):
         dice = random.Random(300 + seed)
-        radios = [U, V, W, UNSERVED][:2 + seed % 3]
+        radios = [U, V, W, RULELESS][:2 + seed % 3]
         yield life(dice, radios, lambda: random_body(dice, radios), lambda: f'mail {dice.choice(radios)}')
 
 

@@ -14,7 +14,7 @@ use Rattle.group_attach.specs.Attached.{Pair, Usage, Attached, pair_cmp, attachm
 use Rattle.group_attach.specs.InOrder.{IsInOrder}
 use Rattle.group_attach.proofs.Filtered.{entries_retained, from_T}
 use Rattle.mailbox.specs.declared.key.Key.{Key}
-use Rattle.mailbox.specs.Values.{Waiting, Mailed}
+use Rattle.mailbox.specs.Values.{Item, Mailed}
 use Rattle.mailbox.specs.Order.{ComesLast, named, named_cmp, next_item}
 use Rattle.mailbox.specs.Mail.{with_item}
 use Rattle.mailbox.proofs.Keys.{named_total}
@@ -54,22 +54,22 @@ Place = ℕ × Key
 not_after : (a b : Place) → is_lt (named_cmp a b) ≡ false → IsTrue (is_le (named_cmp b a))
 not_after a b h = subst (λ o. IsTrue (is_le o)) (sym (named_total.antisymm b a)) (at_most (named_cmp a b) h)
 
-before : (last : Option Place) (w x : Waiting) → is_after named_cmp named last x ≡ true → is_after named_cmp named last w ≡ false → named_cmp (named w) (named x) ≡ Less
+before : (last : Option Place) (w x : Item) → is_after named_cmp named last x ≡ true → is_after named_cmp named last w ≡ false → named_cmp (named w) (named x) ≡ Less
 before None w x after h = absurd cc
 before (Some k) w x after h = le_lt_trans named_total (named w) k (named x) (not_after k (named w) h) (less_of _ after)
 
 -- a copy of the item after the last place comes after all
-pub comes_last : (full m : Mailed) (last : Option Place) (x copy : Waiting) → Some x ≡ next_item full last → copy ≡ x → EndsBy m last → ComesLast m copy.number copy.key
+pub comes_last : (full m : Mailed) (last : Option Place) (x copy : Item) → Some x ≡ next_item full last → copy ≡ x → EndsBy m last → ComesLast m copy.number copy.key
 comes_last full m last x copy is same ends =
     let after = found_passes (is_after named_cmp named last) full.items x (sym is) in
-    subst (λ (w : Waiting). ComesLast m w.number w.key) (sym same)
+    subst (λ (w : Item). ComesLast m w.number w.key) (sym same)
     (All-weaker (λ w. is_after named_cmp named last w ≡ false) (λ w. named_cmp (named w) (named x) ≡ Less) (λ w h. before last w x after h) m.items ends)
 
-not_behind : (x w : Waiting) → named_cmp (named w) (named x) ≡ Less → is_after named_cmp named (Some (named x)) w ≡ false
+not_behind : (x w : Item) → named_cmp (named w) (named x) ≡ Less → is_after named_cmp named (Some (named x)) w ≡ false
 not_behind x w less = ap is_lt (named_total.antisymm (named x) (named w) ∙ ap ordering_reverse less)
 
 -- and once it is put, it is the last
-pub ends_by : (m n : Mailed) (x : Waiting) → ComesLast m x.number x.key → n ≡ with_item m x → EndsBy n (Some (named x))
+pub ends_by : (m n : Mailed) (x : Item) → ComesLast m x.number x.key → n ≡ with_item m x → EndsBy n (Some (named x))
 ends_by m n x last is =
     subst (λ ws. All (λ w. is_after named_cmp named (Some (named x)) w ≡ false) ws) (ap (λ k. k.items) (sym is))
     (All-append (λ w. is_after named_cmp named (Some (named x)) w ≡ false) m.items (x ∷ [])

@@ -10,7 +10,7 @@ use group_attach::Groups;
 use identity::Itsi;
 use mailbox::{Key, Mail};
 use mm_pdus::LocationUpdateType;
-use registration::{Limits, LocationArea, Radio, Registry};
+use registration::{Limits, LocationArea, Radio, Registry, Station};
 use std::alloc::Global;
 
 // The tables that entries are put in one by one.
@@ -46,7 +46,7 @@ impl Tables {
     }
 
     // An ITSI attach of the radio; whether it was accepted.
-    pub(crate) fn attach(&mut self, itsi: Itsi, station: u16, area: LocationArea) -> bool {
+    pub(crate) fn attach(&mut self, itsi: Itsi, station: Station, area: LocationArea) -> bool {
         let update = LocationUpdateType::ItsiAttach;
         self.groups.on_update(itsi, update);
         self.registry.locate(itsi, station, area, update).is_ok()

@@ -1,8 +1,9 @@
 // A register filled by commands: rules, radios with their groups, and what waits.
-use centre_core::{Body, Command, Register};
+use centre_core::{Body, Command, Register, Sequence};
 use identity::{BitWriter, Bits, Itsi, Prefix};
+use mailbox::Moment;
 use mm_pdus::Lifetime;
-use registration::{LocationArea, Rule};
+use registration::{LocationArea, Rule, Station};
 use std::alloc::Global;
 
 // What a register is filled with.
@@ -26,7 +27,8 @@ pub(crate) fn itsi(k: u32) -> Option<Itsi> {
 
 fn serve(register: &mut Register<Global>, alloc: Global, body: Body<Global>) -> Option<()> {
     let sequence = u32::try_from(register.count()).ok()?.checked_add(1)?;
-    let command = Command::new(1, sequence, 0, body)?;
+    let sequence = Sequence::new(sequence)?;
+    let command = Command::new(Station::new(1), sequence, Moment::new(0), body)?;
     register.apply(alloc, &command).ok()?;
     Some(())
 }

@@ -2,10 +2,11 @@
 ghost use Rattle.std.specs.Prelude.{◌≡◌, ◌≤◌, length};
 ghost use Rattle.gated_journal.specs.Record.{most_commands};
 
-use centre_core::{Body, Command};
+use centre_core::{Body, Command, Sequence};
 use gated_journal::Journal;
 use identity::{BitWriter, Itsi};
-use registration::LocationArea;
+use mailbox::Moment;
+use registration::{LocationArea, Station};
 use sector_disk::{Disk, MemoryDisk};
 use std::alloc::Global;
 use std::time::{Duration, Instant};
@@ -28,7 +29,13 @@ fn update(alloc: Global) -> Option<Command<Global>> {
     let mut writer = BitWriter::new(alloc);
     writer.put(0x98, 10).ok()?;
     let pdu = writer.finish();
-    Command::new(1, 2, 10, Body::Mm { itsi, area, pdu })
+    let (station, sequence) = (Station::new(1), Sequence::new(2)?);
+    Command::new(
+        station,
+        sequence,
+        Moment::new(10),
+        Body::Mm { itsi, area, pdu },
+    )
 }
 
 // Adds records of these commands while there is room. How many they were.

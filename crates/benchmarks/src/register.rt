@@ -1,7 +1,7 @@
 // Station 1's lines from standard input, answered over a register at its greatest limits.
 use centre_core::Register;
 use console::run;
-use registration::Limits;
+use registration::{Limits, Station};
 use std::io;
 
 // The greatest limits of a register.
@@ -22,7 +22,16 @@ pub(crate) fn serve(rt: &HostRuntime) -> u8 {
     };
     let mut reader = rt.stdin();
     let mut writer = io::writer(rt);
-    match run(rt.alloc(), &mut reader, &mut writer, 1, TURNS, &mut desk) {
+    let station = Station::new(1);
+    let ended = run(
+        rt.alloc(),
+        &mut reader,
+        &mut writer,
+        station,
+        TURNS,
+        &mut desk,
+    );
+    match ended {
         Ok(ran) => u8::from(ran.troubled),
         Err(_) => 5,
     }

@@ -2,12 +2,13 @@
 // and a whole disk opened, timed beside its sectors read and its tables built by the calls of the tables alone.
 use crate::building::Tables;
 use crate::filling::{itsi, message, update};
-use centre_core::{Body, Command, Register, Reply};
+use centre_core::{Body, Command, Register, Reply, Sequence};
 use checkpoint::{Layout, Side};
 use identity::Prefix;
+use mailbox::Moment;
 use mm_pdus::Lifetime;
 use recovery::{Store, format};
-use registration::{Limits, LocationArea, Rule};
+use registration::{Limits, LocationArea, Rule, Station};
 use sector_disk::{Disk, MemoryDisk};
 use std::alloc::Global;
 use std::time::{Duration, Instant};
@@ -96,7 +97,8 @@ fn batch(
     let last = u32::try_from(count).ok()?;
     for k in 0..BATCH {
         let body = body(alloc, asked, first.checked_add(k)?)?;
-        let command = Command::new(1, last.checked_add(k)?.checked_add(1)?, 0, body)?;
+        let sequence = Sequence::new(last.checked_add(k)?.checked_add(1)?)?;
+        let command = Command::new(Station::new(1), sequence, Moment::new(0), body)?;
         commands.push(command).ok()?;
     }
     Some(commands)
@@ -158,7 +160,7 @@ fn committed<D: Disk>(
 
 // The time of commits, and of the same commands applied.
 #[derive(Clone, Copy, Drop)]
-struct Kept {
+struct Timed {
     committed: Duration,
     applied: Duration,
 }
@@ -170,11 +172,11 @@ fn give<D: Disk>(
     register: &mut Register<Global>,
     asked: Asked,
     first: u32,
-) -> Option<Kept> {
+) -> Option<Timed> {
     let commands = batch(rt.alloc(), asked, first, register.count())?;
     let applied = applied(rt, register, &commands)?;
     let committed = committed(rt, store, &commands)?;
-    (store.register()?.count() == register.count()).then_some(Kept { committed, applied })
+    (store.register()?.count() == register.count()).then_some(Timed { committed, applied })
 }
 
 // So many batches, from the first radio or item on, and again where all of so many came.
@@ -184,8 +186,8 @@ fn give_all<D: Disk>(
     register: &mut Register<Global>,
     asked: Asked,
     batches: u32,
-) -> Option<Kept> {
-    let mut all = Kept {
+) -> Option<Timed> {
+    let mut all = Timed {
         committed: Duration::from_nanos(0),
         applied: Duration::from_nanos(0),
     };
@@ -193,7 +195,7 @@ fn give_all<D: Disk>(
     for k in 0..batches {
         let first = k.checked_mul(BATCH)? % radios;
         let one = give(rt, store, register, asked, first)?;
-        all = Kept {
+        all = Timed {
             committed: all.committed.checked_add(one.committed)?,
             applied: all.applied.checked_add(one.applied)?,
         };
@@ -238,7 +240,7 @@ fn commits<D: Disk>(
     rt: &HostRuntime,
     store: &mut Store<Global, D>,
     register: &mut Register<Global>,
-) -> Option<Kept> {
+) -> Option<Timed> {
     let all = give_all(rt, store, register, Asked::Attach, SHORT_FULL)?;
     store.checkpoint().ok()?;
     Some(all)
@@ -318,7 +320,7 @@ fn read_all<D: Disk>(disk: &mut D, register: &Register<Global>) -> Option<u64> {
 fn attach_all(tables: &mut Tables) -> Option<()> {
     let area = LocationArea::new(7)?;
     for k in 0..LONG_FULL * BATCH {
-        if !tables.attach(itsi(k % MANY.radios)?, 1, area) {
+        if !tables.attach(itsi(k % MANY.radios)?, Station::new(1), area) {
             return None;
         }
     }

@@ -8,11 +8,11 @@ use Rattle.registration.specs.declared.rule.Rule.{Rule}
 use Rattle.registration.specs.Registered.{Registered, set_refusal, with_rule, without_rule, has_radio, room_refusal, located, detached}
 use Rattle.group_attach.specs.Attached.{Attached}
 use Rattle.group_attach.specs.Applied.{after_update, applied, apply_refusal}
-use Rattle.group_attach.proofs.KeptLaws.{after_update_fits, after_update_known, after_update_new, applied_fits, applied_known, known_after}
+use Rattle.group_attach.proofs.AllowedLaws.{after_update_fits, after_update_known, after_update_new, applied_fits, applied_known, known_after}
 use Rattle.mailbox.specs.Values.{Mailed}
-use Rattle.centre_core.specs.State.{State, Served, IsState}
+use Rattle.centre_core.specs.State.{State, LastAccepted, IsState}
 use Rattle.centre_core.specs.Step.{rule_set, rule_cleared, radio_located, radio_detached, groups_changed}
-use Rattle.centre_core.proofs.RegisteredLaws.{with_rule_within, without_rule_within, located_within, located_keeps, detached_within, detached_keeps, detached_limits}
+use Rattle.centre_core.proofs.RegisteredLaws.{with_rule_within, without_rule_within, located_within, located_still, detached_within, detached_still, detached_limits}
 
 -- what a step may change of a state before the command is counted
 pub record IsChange (s t : State) : Type 0 where
@@ -26,7 +26,14 @@ rule_set_change s prefix rule none = record {
   limits = refl;
   served = refl;
   count = refl;
-  state = λ h. (with_rule_within s.registered prefix rule none h.0, h.1, h.2, h.3, h.4, h.5);
+  state = λ h. record {
+    within = with_rule_within s.registered prefix rule none h.within;
+    attachments = h.attachments;
+    mail = record { in_order = h.mail.in_order; room = h.mail.room };
+    stations = h.stations;
+    count = h.count;
+    last = h.last;
+  };
 }
 
 pub rule_cleared_change : (s : State) (prefix : Path) → IsChange s (rule_cleared s prefix)
@@ -34,7 +41,14 @@ rule_cleared_change s prefix = record {
   limits = refl;
   served = refl;
   count = refl;
-  state = λ h. (without_rule_within s.registered prefix h.0, h.1, h.2, h.3, h.4, h.5);
+  state = λ h. record {
+    within = without_rule_within s.registered prefix h.within;
+    attachments = h.attachments;
+    mail = record { in_order = h.mail.in_order; room = h.mail.room };
+    stations = h.stations;
+    count = h.count;
+    last = h.last;
+  };
 }
 
 pub radio_located_change : (s : State) (itsi station area : ℕ) (update : LocationUpdateType) → room_refusal s.registered itsi ≡ None → IsChange s (radio_located s itsi station area update)
@@ -42,17 +56,17 @@ radio_located_change s itsi station area update none = record {
   limits = refl;
   served = refl;
   count = refl;
-  state = λ h. (
-    located_within s.registered itsi station area none h.0,
-    (
-      after_update_fits s.groups itsi update h.1.0,
-      after_update_known (located s.registered itsi station area) s.groups itsi update (known_after s.registered (located s.registered itsi station area) s.groups (located_keeps s.registered itsi station area) h.1.1),
-    ),
-    h.2,
-    h.3,
-    h.4,
-    h.5,
-  );
+  state = λ h. record {
+    within = located_within s.registered itsi station area none h.within;
+    attachments = (
+      after_update_fits s.groups itsi update h.attachments.0,
+      after_update_known (located s.registered itsi station area) s.groups itsi update (known_after s.registered (located s.registered itsi station area) s.groups (located_still s.registered itsi station area) h.attachments.1),
+    );
+    mail = record { in_order = h.mail.in_order; room = h.mail.room };
+    stations = h.stations;
+    count = h.count;
+    last = h.last;
+  };
 }
 
 pub radio_detached_change : (s : State) (itsi : ℕ) → IsChange s (radio_detached s itsi)
@@ -60,14 +74,14 @@ radio_detached_change s itsi = record {
   limits = detached_limits s.registered itsi;
   served = refl;
   count = refl;
-  state = λ h. (
-    detached_within s.registered itsi h.0,
-    (h.1.0, known_after s.registered (detached s.registered itsi) s.groups (detached_keeps s.registered itsi) h.1.1),
-    (h.2.0, h.2.1 ∙ ap (λ l. l.mail) (sym (detached_limits s.registered itsi))),
-    h.3 ∙ ap (λ l. l.stations) (sym (detached_limits s.registered itsi)),
-    h.4,
-    h.5,
-  );
+  state = λ h. record {
+    within = detached_within s.registered itsi h.within;
+    attachments = (h.attachments.0, known_after s.registered (detached s.registered itsi) s.groups (detached_still s.registered itsi) h.attachments.1);
+    mail = record { in_order = h.mail.in_order; room = h.mail.room ∙ ap (λ l. l.mail) (sym (detached_limits s.registered itsi)) };
+    stations = h.stations ∙ ap (λ l. l.stations) (sym (detached_limits s.registered itsi));
+    count = h.count;
+    last = h.last;
+  };
 }
 
 pub groups_changed_change : (s : State) (itsi : ℕ) (mode : GroupMode) (items : List GroupUp) → apply_refusal s.registered s.groups itsi mode items ≡ None → IsChange s (groups_changed s itsi mode items)
@@ -75,14 +89,14 @@ groups_changed_change s itsi mode items none = record {
   limits = refl;
   served = refl;
   count = refl;
-  state = λ h. (
-    h.0,
-    (applied_fits s.registered s.groups itsi mode items none h.1.0, applied_known s.registered s.groups itsi mode items none h.1.1),
-    h.2,
-    h.3,
-    h.4,
-    h.5,
-  );
+  state = λ h. record {
+    within = h.within;
+    attachments = (applied_fits s.registered s.groups itsi mode items none h.attachments.0, applied_known s.registered s.groups itsi mode items none h.attachments.1);
+    mail = record { in_order = h.mail.in_order; room = h.mail.room };
+    stations = h.stations;
+    count = h.count;
+    last = h.last;
+  };
 }
 
 -- so too of any value that is known to be such a change
@@ -99,7 +113,7 @@ radio_located_state s new groups itsi station area update none e f h =
 
 -- of a new radio no attachment ends
 pub new_located : (s : State) (itsi : ℕ) (update : LocationUpdateType) → IsState s → false ≡ has_radio s.registered itsi → s.groups ≡ after_update s.groups itsi update
-new_located s itsi update h new = sym (after_update_new s.registered s.groups itsi update h.1.1 (sym new))
+new_located s itsi update h new = sym (after_update_new s.registered s.groups itsi update h.attachments.1 (sym new))
 
 pub new_located_whole : (s : State) (new : Registered) (itsi station area : ℕ) (update : LocationUpdateType) → (room_refusal s.registered itsi ≡ None) × (new ≡ located s.registered itsi station area) → false ≡ has_radio s.registered itsi → IsState s
     → (room_refusal s.registered itsi ≡ None) × (record s { registered = new } ≡ radio_located s itsi station area update)
@@ -112,10 +126,10 @@ radio_detached_state s new itsi e h = subst (λ r. IsState (record s { registere
 pub groups_changed_state : (s : State) (groups : Attached) (itsi : ℕ) (mode : GroupMode) (items : List GroupUp) → apply_refusal s.registered s.groups itsi mode items ≡ None → groups ≡ applied s.registered s.groups itsi mode items → IsState s → IsState (record s { groups = groups })
 groups_changed_state s groups itsi mode items none e h = subst (λ m. IsState (record s { groups = m })) (sym e) ((groups_changed_change s itsi mode items none).state h)
 
-pub same_state : (s : State) (new : Registered) (groups : Attached) (mail : Mailed) (served : List (Option Served)) → new ≡ s.registered → groups ≡ s.groups → mail ≡ s.mail → served ≡ s.served → IsState s
+pub same_state : (s : State) (new : Registered) (groups : Attached) (mail : Mailed) (served : List (Option LastAccepted)) → new ≡ s.registered → groups ≡ s.groups → mail ≡ s.mail → served ≡ s.served → IsState s
     → IsState (record { registered = new; groups = groups; mail = mail; served = served; count = s.count })
 same_state s new groups mail served e f g k h = rw (e, f, g, k) h
 
-pub same_whole : (s : State) (new : Registered) (groups : Attached) (mail : Mailed) (served : List (Option Served)) → new ≡ s.registered → groups ≡ s.groups → mail ≡ s.mail → served ≡ s.served
+pub same_whole : (s : State) (new : Registered) (groups : Attached) (mail : Mailed) (served : List (Option LastAccepted)) → new ≡ s.registered → groups ≡ s.groups → mail ≡ s.mail → served ≡ s.served
     → (let t : State = record { registered = new; groups = groups; mail = mail; served = served; count = s.count } in t) ≡ s
 same_whole s new groups mail served e f g k = rw (e, f, g, k) refl

@@ -82,22 +82,22 @@ module _ {K X : Type 0} {R : K → K → Ordering} (total : IsTotalOrder R) (exa
   pub remove_all : (m : map.FinMap R X) (k : K) → AllEntries P m → AllEntries P (map.remove m k)
   remove_all m k all = subst (AllEntries P) (sym (removed m k)) (retain_all m (λ q. not (eq_by_cmp R q k)) all)
 
-  below_kept : (x : K) (test : K × X → Bool) (es : List (K × X)) → T (below_all R x es) → T (below_all R x (filter test es))
-  below_kept x test [] h = tt
-  below_kept x test (e ∷ es) h =
-      let rest = below_kept x test es (right _ _ h) in
+  below_filtered : (x : K) (test : K × X → Bool) (es : List (K × X)) → T (below_all R x es) → T (below_all R x (filter test es))
+  below_filtered x test [] h = tt
+  below_filtered x test (e ∷ es) h =
+      let rest = below_filtered x test es (right _ _ h) in
       elim (test e) as (λ b. T (below_all R x (cond b (e ∷ filter test es) (filter test es)))) [ true ↦ both _ _ (left _ _ h) rest | false ↦ rest ]
 
-  sorted_kept : (test : K × X → Bool) (es : List (K × X)) → T (is_sorted R es) → T (is_sorted R (filter test es))
-  sorted_kept test [] h = tt
-  sorted_kept test (e ∷ es) h =
-      let rest = sorted_kept test es (right _ _ h) in
-      elim (test e) as (λ b. T (is_sorted R (cond b (e ∷ filter test es) (filter test es)))) [ true ↦ both _ _ (below_kept e.0 test es (left _ _ h)) rest | false ↦ rest ]
+  sorted_filtered : (test : K × X → Bool) (es : List (K × X)) → T (is_sorted R es) → T (is_sorted R (filter test es))
+  sorted_filtered test [] h = tt
+  sorted_filtered test (e ∷ es) h =
+      let rest = sorted_filtered test es (right _ _ h) in
+      elim (test e) as (λ b. T (is_sorted R (cond b (e ∷ filter test es) (filter test es)))) [ true ↦ both _ _ (below_filtered e.0 test es (left _ _ h)) rest | false ↦ rest ]
 
   -- the entries that pass a test
-  pub kept_all : (m : map.FinMap R X) (test : K × X → Bool) → AllEntries P m → AllEntries P (map.from_sorted {R = R} (filter test (map.entries m)))
-  kept_all m test all =
-      subst Each (sym (map.entries-from_sorted R (filter test (map.entries m)) (sorted_kept test (map.entries m) (map.entries_sorted m)))) (All-filter test (λ e. P e.0 e.1) (map.entries m) all)
+  pub filtered_all : (m : map.FinMap R X) (test : K × X → Bool) → AllEntries P m → AllEntries P (map.from_sorted {R = R} (filter test (map.entries m)))
+  filtered_all m test all =
+      subst Each (sym (map.entries-from_sorted R (filter test (map.entries m)) (sorted_filtered test (map.entries m) (map.entries_sorted m)))) (All-filter test (λ e. P e.0 e.1) (map.entries m) all)
 
   found : (q : K) (v : X) (es : List (K × X)) → Each es → find R q es ≡ Some v → P q v
   found q v [] all is = cc

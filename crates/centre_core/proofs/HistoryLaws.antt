@@ -4,11 +4,11 @@ use Rattle.std.specs.Prelude.{◌==◌, nat_lt, if◌then◌else◌}
 use Rattle.std.specs.List.{slice_get}
 use Rattle.std.proofs.lemmas.Bool.Decides.{nat_tests}
 use Rattle.centre_core.specs.declared.command.Command.{Command}
-use Rattle.centre_core.specs.State.{State, Served}
-use Rattle.centre_core.specs.Step.{kept_at}
+use Rattle.centre_core.specs.State.{State, LastAccepted}
+use Rattle.centre_core.specs.Step.{last_at}
 use Rattle.centre_core.specs.History.{accepts, next, after}
-use Rattle.centre_core.specs.Histories.{IsHistory, served_by, last_served}
-use Rattle.centre_core.specs.Laws.{HistoriesAreNumbered, ServedAreLast}
+use Rattle.centre_core.specs.Histories.{IsHistory, accepted_by, last_accepted_of}
+use Rattle.centre_core.specs.Laws.{HistoriesAreNumbered, LastAcceptedAreLast}
 use Rattle.centre_core.proofs.StationLaws.{HasPlaces, advanced, places_after, kept_next}
 
 if_so : {X : Type 0} (b : Bool) (x y : X) → b ≡ true → (if b then x else y) ≡ x
@@ -42,11 +42,11 @@ module _ {A : Type 0} where
         ap (λ n. n + 1) (counted base bs parts.0),
       )
 
-  served_last : (base : State) → HasPlaces base → (cs : List (Command A)) → IsHistory base cs → (station : ℕ) (entry : Option Served) → kept_at base station ≡ entry → kept_at (after base cs) station ≡ last_served station entry base cs
-  served_last base places [] h station entry e = e
-  served_last base places (c ∷ cs) h station entry e =
-      served_last (next base c) (places_after base (next base c) c (advanced base c h.0).0 places) cs h.1 station (if station == c.station then Some (served_by base c) else entry)
-      (kept_next base c places h.0 station ∙ ap (λ k. if station == c.station then Some (served_by base c) else k) e)
+  accepted_last : (base : State) → HasPlaces base → (cs : List (Command A)) → IsHistory base cs → (station : ℕ) (entry : Option LastAccepted) → last_at base station ≡ entry → last_at (after base cs) station ≡ last_accepted_of station entry base cs
+  accepted_last base places [] h station entry e = e
+  accepted_last base places (c ∷ cs) h station entry e =
+      accepted_last (next base c) (places_after base (next base c) c (advanced base c h.0).0 places) cs h.1 station (if station == c.station then Some (accepted_by base c) else entry)
+      (kept_next base c places h.0 station ∙ ap (λ k. if station == c.station then Some (accepted_by base c) else k) e)
 
-  pub served_are_last : ServedAreLast A
-  served_are_last base state cs h station = served_last base state.3 cs h station (kept_at base station) refl
+  pub last_accepted_are_last : LastAcceptedAreLast A
+  last_accepted_are_last base state cs h station = accepted_last base state.stations cs h station (last_at base station) refl

@@ -3,12 +3,12 @@ use Rattle.std.proofs.Common.{◌≡◌, ℕ, zero, suc, ◌<◌, ◌≤◌, ◌
 use Rattle.std.specs.Prelude.{◌&&◌, ◌||◌, slice_get}
 use Rattle.std.proofs.lemmas.List.{take-append-le}
 use Rattle.std.specs.List.{list_any}
-use Rattle.mailbox.specs.Values.{Waiting}
+use Rattle.mailbox.specs.Values.{Item}
 use Rattle.centre_core.specs.declared.command.Command.{Command}
 use Rattle.centre_core.specs.declared.reply.Reply.{Reply}
 use Rattle.centre_core.specs.declared.reply.Reply.TheVariants.{Accepted, Kept, Refused}
-use Rattle.centre_core.specs.State.{State, Served}
-use Rattle.centre_core.specs.Step.{kept_at}
+use Rattle.centre_core.specs.State.{State, LastAccepted}
+use Rattle.centre_core.specs.Step.{last_at}
 use Rattle.centre_core.specs.History.{is_acceptance, accepts, next, after, names, ended}
 use Rattle.centre_core.specs.InTurn.{reply_to, Lands, IsLeftBy, Replied}
 use Rattle.centre_core.specs.Histories.{IsHistory}
@@ -47,23 +47,23 @@ module _ {A : Type 0} where
       let one = counted_next s c a in
       record { place = suc h.place; numbered = let m = h.numbered in omega arith; stands = h.stands; replied = h.replied }
 
-  left_by_first : (s : State) (c : Command A) (l : List (Command A)) (k : ℕ) (last : Served) → 0 < k → (r : Reply A) → reply_to s c ≡ r → Replied s c (next s c) r → is_acceptance r ≡ true
-      → kept_at (next s c) k ≡ Some last → IsLeftBy s (c ∷ l) k last ⊎ (kept_at s k ≡ Some last)
+  left_by_first : (s : State) (c : Command A) (l : List (Command A)) (k : ℕ) (last : LastAccepted) → 0 < k → (r : Reply A) → reply_to s c ≡ r → Replied s c (next s c) r → is_acceptance r ≡ true
+      → last_at (next s c) k ≡ Some last → IsLeftBy s (c ∷ l) k last ⊎ (last_at s k ≡ Some last)
   left_by_first s c l k last pos (Accepted n p) is says a h =
       elim (says.3 k last pos h) [
         | inl q ↦ inl (record {
           first = c;
           of_station = sym q.0;
-          of_sequence = sym (ap (λ (z : Served). z.sequence) q.1);
+          of_sequence = sym (ap (λ (z : LastAccepted). z.sequence) q.1);
           lands =
-              subst (λ (z : Served). Lands s (c ∷ l) c z.number z.pdu) (sym q.1) (record { place = 0; numbered = let m = says.1 in omega arith; stands = refl; replied = is });
+              subst (λ (z : LastAccepted). Lands s (c ∷ l) c z.number z.pdu) (sym q.1) (record { place = 0; numbered = let m = says.1 in omega arith; stands = refl; replied = is });
         })
         | inr q ↦ inr q
       ]
   left_by_first s c l k last pos (Kept n p) is says a h = absurd (true≢false (sym a))
   left_by_first s c l k last pos (Refused r) is says a h = absurd (true≢false (sym a))
 
-  pub kept_stands : (s : State) (cs : List (Command A)) → IsHistory s cs → (k : ℕ) (last : Served) → 0 < k → kept_at (after s cs) k ≡ Some last → IsLeftBy s cs k last ⊎ (kept_at s k ≡ Some last)
+  pub kept_stands : (s : State) (cs : List (Command A)) → IsHistory s cs → (k : ℕ) (last : LastAccepted) → 0 < k → last_at (after s cs) k ≡ Some last → IsLeftBy s cs k last ⊎ (last_at s k ≡ Some last)
   kept_stands s [] a k last pos h = inr h
   kept_stands s (c ∷ cs) a k last pos h =
       let here = a.0 in
@@ -72,12 +72,12 @@ module _ {A : Type 0} where
         | inr q ↦ left_by_first s c cs k last pos (reply_to s c) refl (replies_say A s c) here q
       ]
 
-  ended_by : (s : State) (c : Command A) (cs : List (Command A)) (m : Waiting) (b : Bool) → b ≡ true → ended (next s c) cs m ≡ list_any (λ x. names x m) cs
+  ended_by : (s : State) (c : Command A) (cs : List (Command A)) (m : Item) (b : Bool) → b ≡ true → ended (next s c) cs m ≡ list_any (λ x. names x m) cs
       → ((b && names c m) || ended (next s c) cs m) ≡ (names c m || list_any (λ x. names x m) cs)
   ended_by s c cs m true e h = ap (λ t. names c m || t) h
   ended_by s c cs m false e h = absurd (true≢false (sym e))
 
-  pub ended_are_named : (s : State) (cs : List (Command A)) (m : Waiting) → IsHistory s cs → ended s cs m ≡ list_any (λ c. names c m) cs
+  pub ended_are_named : (s : State) (cs : List (Command A)) (m : Item) → IsHistory s cs → ended s cs m ≡ list_any (λ c. names c m) cs
   ended_are_named s [] m a = refl
   ended_are_named s (c ∷ cs) m a = ended_by s c cs m (accepts s c) a.0 (ended_are_named (next s c) cs m a.1)
 
@@ -93,5 +93,5 @@ module _ {A : Type 0} where
         replied = subst (λ t. reply_to (after base t) c ≡ Accepted n p) (sym (take-append-le h.place l m front)) h.replied;
       }
 
-  pub left_more : (base : State) (l m : List (Command A)) (k : ℕ) (last : Served) → IsLeftBy base l k last → IsLeftBy base (l ++ m) k last
+  pub left_more : (base : State) (l m : List (Command A)) (k : ℕ) (last : LastAccepted) → IsLeftBy base l k last → IsLeftBy base (l ++ m) k last
   left_more base l m k last h = record { first = h.first; of_station = h.of_station; of_sequence = h.of_sequence; lands = lands_more base l m h.first last.number last.pdu h.lands }

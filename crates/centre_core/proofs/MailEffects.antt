@@ -7,15 +7,15 @@ use Rattle.mailbox.specs.declared.key.Kind.TheVariants.{Message, Report}
 use Rattle.mailbox.specs.declared.key.Envelope.{Envelope}
 use Rattle.mailbox.specs.declared.key.GroupEnvelope.{GroupEnvelope}
 use Rattle.mailbox.specs.declared.key.Stamp.{Stamp}
-use Rattle.mailbox.specs.Values.{Waiting, Mailed}
-use Rattle.mailbox.specs.Tests.{key_of, answered, is_message, is_at, is_reported, is_ended_by}
+use Rattle.mailbox.specs.Values.{Item, Mailed}
+use Rattle.mailbox.specs.Item.{key_of, answered, is_message, is_at, is_reported, is_ended_by}
 use Rattle.mailbox.specs.Mail.{without, posted, reported, acknowledged}
 use Rattle.mailbox.specs.Refusals.{post_refusal, report_refusal}
 use Rattle.mailbox.specs.GroupPost.{is_receiver, copy_for, group_posted, group_refusal}
-use Rattle.mailbox.specs.Kept.{IsNumbered, IsMail, is_head_of}
-use Rattle.mailbox.proofs.Kept.{more_is_mail, removal_is_mail, post_is_mail, report_is_mail}
-use Rattle.mailbox.proofs.CopiesKept.{group_post_is_mail}
-use Rattle.group_attach.specs.Kept.{AreKept}
+use Rattle.mailbox.specs.Sound.{IsNumbered, IsMail, is_head_of}
+use Rattle.mailbox.proofs.Sound.{more_is_mail, removal_is_mail, post_is_mail, report_is_mail}
+use Rattle.mailbox.proofs.CopiesSound.{group_post_is_mail}
+use Rattle.group_attach.specs.Allowed.{AreAllowed}
 use Rattle.centre_core.specs.State.{State, IsState, IsWithin, IsMailOf}
 use Rattle.centre_core.specs.Step.{mail_changed, message_of, report_of, members, copies_of}
 use Rattle.centre_core.proofs.Changed.{Changed, changed_none, changed_by_filter, changed_by_report, changed_by_message, changed_by_messages, no_report, or_none}
@@ -25,10 +25,10 @@ use Rattle.centre_core.proofs.SpeltLaws.{message_written, message_spelt, report_
 
 -- what a state is once its change is counted
 abbrev pub IsMade : ℕ → State → Type 0
-IsMade count t = IsWithin t.registered × AreKept t.registered t.groups × IsMailOf t.registered count t.mail
+IsMade count t = IsWithin t.registered × AreAllowed t.registered t.groups × IsMailOf t.registered count t.mail
 
 -- what an accepted command makes of a state before it is counted: it ends the messages that pass `ends` and makes those in `makes`
-pub record IsEffect (s t : State) (ends : Waiting → Bool) (makes : List Waiting) : Type 0 where
+pub record IsEffect (s t : State) (ends : Item → Bool) (makes : List Item) : Type 0 where
   pub limits : t.registered.limits ≡ s.registered.limits
   pub served : t.served ≡ s.served
   pub count : t.count ≡ s.count
@@ -41,34 +41,34 @@ mail_left s t same h = record {
   limits = h.limits;
   served = h.served;
   count = h.count;
-  made = λ state. let new = h.state state in (new.0, new.1, (more_is_mail t.count (s.count + 1) t.mail (omega (arith, h.count)) new.2.0, new.2.1));
+  made = λ state. let new = h.state state in (new.within, new.attachments, record { in_order = more_is_mail t.count (s.count + 1) t.mail (omega (arith, h.count)) new.mail.in_order; room = new.mail.room });
   messages = subst (λ m. Changed s.mail.items m.items s.count (λ _. false) []) (sym same) (changed_none s.mail.items s.count);
 }
 
-mail_effect : (s : State) (mail : Mailed) (ends : Waiting → Bool) (makes : List Waiting) → mail.room ≡ s.mail.room → (IsMail s.count s.mail → IsMail (s.count + 1) mail) → Changed s.mail.items mail.items s.count ends makes → IsEffect s (mail_changed s mail) ends makes
-mail_effect s mail ends makes room kept messages = record {
+mail_effect : (s : State) (mail : Mailed) (ends : Item → Bool) (makes : List Item) → mail.room ≡ s.mail.room → (IsMail s.count s.mail → IsMail (s.count + 1) mail) → Changed s.mail.items mail.items s.count ends makes → IsEffect s (mail_changed s mail) ends makes
+mail_effect s mail ends makes room ordered messages = record {
   limits = refl;
   served = refl;
   count = refl;
-  made = λ h. (h.0, h.1, (kept h.2.0, room ∙ h.2.1));
+  made = λ h. (h.within, h.attachments, record { in_order = ordered h.mail.in_order; room = room ∙ h.mail.room });
   messages = messages;
 }
 
-pub removal_effect : (s : State) (test ends : Waiting → Bool) → ((m : Waiting) → is_message m ≡ true → test m ≡ ends m) → IsEffect s (mail_changed s (without test s.mail)) ends []
+pub removal_effect : (s : State) (test ends : Item → Bool) → ((m : Item) → is_message m ≡ true → test m ≡ ends m) → IsEffect s (mail_changed s (without test s.mail)) ends []
 removal_effect s test ends agree =
     mail_effect s (without test s.mail) ends [] refl (λ h. more_is_mail s.count (s.count + 1) (without test s.mail) (omega arith) (removal_is_mail s.count s.mail test h)) (changed_by_filter s.mail.items s.count ends test agree)
 
 -- a message is no report, so a test of a report's key drops none
-no_report_at : (e : Envelope) (m : Waiting) → is_message m ≡ true → is_at (key_of e Report) m ≡ false
+no_report_at : (e : Envelope) (m : Item) → is_message m ≡ true → is_at (key_of e Report) m ≡ false
 no_report_at e m is = no_report _ m.key.kind is
 
-no_answer_at : (e : Envelope) (m : Waiting) → is_message m ≡ true → is_at (answered e Report) m ≡ false
+no_answer_at : (e : Envelope) (m : Item) → is_message m ≡ true → is_at (answered e Report) m ≡ false
 no_answer_at e m is = no_report _ m.key.kind is
 
 pub message_effect : (s : State) (moment : ℕ) (e : Envelope) (pdu : List Bool) → is_head_of Message e.reference (heading pdu) ≡ true → post_refusal s.registered s.mail (message_of s moment e pdu) ≡ None
     → IsEffect s (mail_changed s (posted s.mail (message_of s moment e pdu))) (λ _. false) (message_of s moment e pdu ∷ [])
 message_effect s moment e pdu is none =
-    let w : Waiting = message_of s moment e pdu in
+    let w : Item = message_of s moment e pdu in
     mail_effect s (posted s.mail w) (λ _. false) (w ∷ []) refl (λ h. post_is_mail s.registered s.count s.mail w h refl (message_spelt s moment e pdu is) none) (changed_by_message s.mail.items s.count w refl refl)
 
 -- what waits has a lower number than what a later command makes
@@ -78,9 +78,9 @@ all_are_older count m number h later = All-weaker (IsNumbered count) (λ o. o.nu
 pub copies_effect : (s : State) (moment : ℕ) (e : GroupEnvelope) (pdu : List Bool) → is_head_of Message e.reference (heading pdu) ≡ true → group_refusal s.registered s.mail e (copies_of s moment e pdu) ≡ None
     → IsEffect s (mail_changed s (group_posted s.mail (copies_of s moment e pdu))) (λ _. false) (copies_of s moment e pdu)
 copies_effect s moment e pdu is none =
-    let ws : List Waiting = copies_of s moment e pdu in
+    let ws : List Item = copies_of s moment e pdu in
     let stamp : Stamp = record { number = s.count + 1; moment = moment } in
-    let copy : ℕ → Waiting = copy_for s.registered e stamp pdu in
+    let copy : ℕ → Item = copy_for s.registered e stamp pdu in
     let receivers : List ℕ = filter (is_receiver s.registered e.source) (members s e.group) in
     mail_effect s (group_posted s.mail ws) (λ _. false) ws refl
     (λ h. group_post_is_mail s.registered s.count s.mail e (members s e.group) stamp pdu h (list_rises s e.group (members s e.group) refl) refl is (message_written pdu e.reference (heading pdu) refl is) none)
@@ -89,7 +89,7 @@ copies_effect s moment e pdu is none =
 pub report_effect : (s : State) (moment : ℕ) (e : Envelope) (status : ℕ) (pdu : List Bool) → is_head_of Report e.reference (heading pdu) ≡ true → report_refusal s.registered s.mail e status (report_of s moment e pdu) ≡ None
     → IsEffect s (mail_changed s (reported s.mail e status (report_of s moment e pdu))) (is_reported e status) []
 report_effect s moment e status pdu is none =
-    let w : Waiting = report_of s moment e pdu in
+    let w : Item = report_of s moment e pdu in
     mail_effect s (reported s.mail e status w) (is_reported e status) [] refl (λ h. report_is_mail s.registered s.count s.mail e status w h refl refl (report_spelt s moment e pdu is) none)
     (changed_by_report s.mail.items (without (is_ended_by e status) s.mail).items s.count (is_reported e status) w refl
     (changed_by_filter s.mail.items s.count (is_reported e status) (is_ended_by e status) (λ m message. or_none (is_reported e status m) _ (no_report_at e m message))))
@@ -98,5 +98,5 @@ pub acknowledge_effect : (s : State) (e : Envelope) → IsEffect s (mail_changed
 acknowledge_effect s e = removal_effect s (is_at (answered e Report)) (λ _. false) (no_answer_at e)
 
 -- the mail may lose items between two commands
-pub removal_state : (s : State) (test : Waiting → Bool) (mail : Mailed) → mail ≡ without test s.mail → IsState s → IsState (record s { mail = mail })
-removal_state s test mail is h = subst (λ m. IsState (record s { mail = m })) (sym is) (h.0, h.1, (removal_is_mail s.count s.mail test h.2.0, h.2.1), h.3, h.4, h.5)
+pub removal_state : (s : State) (test : Item → Bool) (mail : Mailed) → mail ≡ without test s.mail → IsState s → IsState (record s { mail = mail })
+removal_state s test mail is h = subst (λ m. IsState (record s { mail = m })) (sym is) (record { within = h.within; attachments = h.attachments; mail = record { in_order = removal_is_mail s.count s.mail test h.mail.in_order; room = h.mail.room }; stations = h.stations; count = h.count; last = h.last })

@@ -4,23 +4,23 @@ use Rattle.std.specs.Prelude.{◌&&◌, ◌||◌, ◌⊎◌, ◌↔◌, IfOk, Re
 use Rattle.std.specs.List.{Contains}
 use Rattle.std.proofs.lemmas.List.Elements.{All-contains}
 use mathlib.Core.Bool.{false≢true}
-use Rattle.mailbox.specs.Values.{Waiting}
-use Rattle.mailbox.specs.Tests.{is_message}
-use Rattle.mailbox.specs.Kept.{IsNumbered}
+use Rattle.mailbox.specs.Values.{Item}
+use Rattle.mailbox.specs.Item.{is_message}
+use Rattle.mailbox.specs.Sound.{IsNumbered}
 use Rattle.centre_core.specs.declared.command.Command.{Command}
 use Rattle.centre_core.specs.declared.reply.Reply.{Reply}
 use Rattle.centre_core.specs.declared.reply.Reply.TheVariants.{Accepted, Kept, Refused}
 use Rattle.centre_core.specs.State.{State, IsState}
 use Rattle.centre_core.specs.Step.{step}
 use Rattle.centre_core.specs.History.{is_acceptance, accepts, next, after, ended, names, made}
-use Rattle.centre_core.specs.Laws.{NoneLost, NoneLostMade, KeepsMessages}
+use Rattle.centre_core.specs.Laws.{NoneLost, NoneLostMade, MessagesStay}
 use Rattle.centre_core.proofs.Changed.{Changed}
 use Rattle.centre_core.proofs.StepLaws.{Advanced, Outcome, says}
-use Rattle.centre_core.proofs.StateLaws.{step_keeps_state}
+use Rattle.centre_core.proofs.StateLaws.{next_is_state}
 
 -- the number of an item is that of a command accepted so far
-numbered : (s : State) → IsState s → (m : Waiting) → Contains s.mail.items m → m.number ≤ s.count
-numbered s state m here = (All-contains (IsNumbered s.count) s.mail.items m state.2.0.numbered here).1
+numbered : (s : State) → IsState s → (m : Item) → Contains s.mail.items m → m.number ≤ s.count
+numbered s state m here = (All-contains (IsNumbered s.count) s.mail.items m state.mail.in_order.numbered here).1
 
 module _ {A B : Type 0} where
   outcome_by : (s t : State) (c : Command A) (reply : Reply B) → Outcome s c t reply → ((is_acceptance reply ≡ true) × Advanced s t c) ⊎ ((is_acceptance reply ≡ false) × (t ≡ s))
@@ -41,7 +41,7 @@ module _ {A : Type 0} where
 
   state_after : (s : State) (cs : List (Command A)) → IsState s → IsState (after s cs)
   state_after s [] state = state
-  state_after s (c ∷ cs) state = state_after (next s c) cs (step_keeps_state s c state)
+  state_after s (c ∷ cs) state = state_after (next s c) cs (next_is_state s c state)
 
   low_next : (s : State) (c : Command A) (n : ℕ) → n ≤ s.count → n ≤ (next s c).count
   low_next s c n low =
@@ -51,14 +51,14 @@ module _ {A : Type 0} where
       ]
 
   -- an item that is gone stays so, since new ones have greater numbers
-  was_there : (s : State) (c : Command A) (m : Waiting) → m.number ≤ s.count → Contains (next s c).mail.items m → Contains s.mail.items m
+  was_there : (s : State) (c : Command A) (m : Item) → m.number ≤ s.count → Contains (next s c).mail.items m → Contains s.mail.items m
   was_there s c m low here =
       elim (outcome s c) [
         | inl h ↦ (changed s (next s c) c h.1).old m low here
         | inr h ↦ subst (λ u. Contains u.mail.items m) h.1 here
       ]
 
-  was_there_before : (s : State) (cs : List (Command A)) (m : Waiting) → m.number ≤ s.count → Contains (after s cs).mail.items m → Contains s.mail.items m
+  was_there_before : (s : State) (cs : List (Command A)) (m : Item) → m.number ≤ s.count → Contains (after s cs).mail.items m → Contains s.mail.items m
   was_there_before s [] m low here = here
   was_there_before s (c ∷ cs) m low here = was_there s c m low (was_there_before (next s c) cs m (low_next s c m.number low) here)
 
@@ -88,27 +88,27 @@ true_false : (b : Bool) → b ≡ true → b ≡ false → ⊥
 true_false b t f = false≢true (sym f ∙ t)
 
 module _ {A : Type 0} where
-  stays_next : (s : State) (c : Command A) (m : Waiting) → is_message m ≡ true → Contains s.mail.items m → (accepts s c && names c m) ≡ false → Contains (next s c).mail.items m
+  stays_next : (s : State) (c : Command A) (m : Item) → is_message m ≡ true → Contains s.mail.items m → (accepts s c && names c m) ≡ false → Contains (next s c).mail.items m
   stays_next s c m is here none =
       elim (outcome s c) [
-        | inl h ↦ (changed s (next s c) c h.1).kept m is here (second_false (accepts s c) (names c m) h.0 none)
+        | inl h ↦ (changed s (next s c) c h.1).unended m is here (second_false (accepts s c) (names c m) h.0 none)
         | inr h ↦ subst (λ u. Contains u.mail.items m) (sym h.1) here
       ]
 
-  stays : (s : State) (cs : List (Command A)) (m : Waiting) → is_message m ≡ true → Contains s.mail.items m → ended s cs m ≡ false → Contains (after s cs).mail.items m
+  stays : (s : State) (cs : List (Command A)) (m : Item) → is_message m ≡ true → Contains s.mail.items m → ended s cs m ≡ false → Contains (after s cs).mail.items m
   stays s [] m is here none = here
   stays s (c ∷ cs) m is here none =
       let h = both_false (accepts s c) (names c m) (ended (next s c) cs m) none in
       stays (next s c) cs m is (stays_next s c m is here h.0) h.1
 
-  gone_next : (s : State) (c : Command A) (m : Waiting) → is_message m ≡ true → m.number ≤ s.count → accepts s c ≡ true → names c m ≡ true → Contains (next s c).mail.items m → ⊥
+  gone_next : (s : State) (c : Command A) (m : Item) → is_message m ≡ true → m.number ≤ s.count → accepts s c ≡ true → names c m ≡ true → Contains (next s c).mail.items m → ⊥
   gone_next s c m is low ok ends here =
       elim (outcome s c) [
         | inl h ↦ (changed s (next s c) c h.1).gone m is low ends here
         | inr h ↦ true_false (accepts s c) ok h.0
       ]
 
-  goes : (s : State) (cs : List (Command A)) (m : Waiting) → is_message m ≡ true → m.number ≤ s.count → ended s cs m ≡ true → Contains (after s cs).mail.items m → ⊥
+  goes : (s : State) (cs : List (Command A)) (m : Item) → is_message m ≡ true → m.number ≤ s.count → ended s cs m ≡ true → Contains (after s cs).mail.items m → ⊥
   goes s [] m is low ends here = false≢true ends
   goes s (c ∷ cs) m is low ends here =
       elim (one_true (accepts s c) (names c m) (ended (next s c) cs m) ends) [
@@ -116,18 +116,18 @@ module _ {A : Type 0} where
         | inr h ↦ goes (next s c) cs m is (low_next s c m.number low) h here
       ]
 
-  missing_then : (s : State) (cs : List (Command A)) (m : Waiting) → is_message m ≡ true → Contains s.mail.items m → (b : Bool) → ended s cs m ≡ b → (Contains (after s cs).mail.items m → ⊥) → b ≡ true
+  missing_then : (s : State) (cs : List (Command A)) (m : Item) → is_message m ≡ true → Contains s.mail.items m → (b : Bool) → ended s cs m ≡ b → (Contains (after s cs).mail.items m → ⊥) → b ≡ true
   missing_then s cs m is here true e missing = refl
   missing_then s cs m is here false e missing = absurd (missing (stays s cs m is here e))
 
-  exactly : (s : State) → IsState s → (cs : List (Command A)) (m : Waiting) → is_message m ≡ true → Contains s.mail.items m → (¬ Contains (after s cs).mail.items m) ↔ (ended s cs m ≡ true)
+  exactly : (s : State) → IsState s → (cs : List (Command A)) (m : Item) → is_message m ≡ true → Contains s.mail.items m → (¬ Contains (after s cs).mail.items m) ↔ (ended s cs m ≡ true)
   exactly s state cs m is here = (missing_then s cs m is here (ended s cs m) refl, goes s cs m is (numbered s state m here))
 
   after_append : (s : State) (bs cs : List (Command A)) → after s (bs ++ cs) ≡ after (after s bs) cs
   after_append s [] cs = refl
   after_append s (b ∷ bs) cs = after_append (next s b) bs cs
 
-  made_next : (s : State) (c : Command A) (m : Waiting) → accepts s c ≡ true → Contains (made s c) m → (is_message m ≡ true) × Contains (next s c).mail.items m
+  made_next : (s : State) (c : Command A) (m : Item) → accepts s c ≡ true → Contains (made s c) m → (is_message m ≡ true) × Contains (next s c).mail.items m
   made_next s c m ok e =
       elim (outcome s c) [
         | inl h ↦ (changed s (next s c) c h.1).made m e
@@ -141,20 +141,20 @@ pub none_lost_made : {A : Type 0} → NoneLostMade A
 none_lost_made s state bs c cs m ok e =
     let h = made_next (after s bs) c m ok e in
     let t : State = next (after s bs) c in
-    let joined : after s (bs ++ c ∷ cs) ≡ after t cs = after_append s bs (c ∷ cs) in
-    subst (λ u. (¬ Contains u.mail.items m) ↔ (ended t cs m ≡ true)) (sym joined) (exactly t (step_keeps_state (after s bs) c (state_after s bs state)) cs m h.0 h.1)
+    let goes_on : after s (bs ++ c ∷ cs) ≡ after t cs = after_append s bs (c ∷ cs) in
+    subst (λ u. (¬ Contains u.mail.items m) ↔ (ended t cs m ≡ true)) (sym goes_on) (exactly t (next_is_state (after s bs) c (state_after s bs state)) cs m h.0 h.1)
 
-kept_by : {A : Type 0} (s t : State) (c : Command A) (accepted : Bool) (m : Waiting) → ((accepted ≡ true) × Advanced s t c) ⊎ ((accepted ≡ false) × (t ≡ s)) → is_message m ≡ true → Contains s.mail.items m → (b : Bool) → names c m ≡ b
+stays_or_ends : {A : Type 0} (s t : State) (c : Command A) (accepted : Bool) (m : Item) → ((accepted ≡ true) × Advanced s t c) ⊎ ((accepted ≡ false) × (t ≡ s)) → is_message m ≡ true → Contains s.mail.items m → (b : Bool) → names c m ≡ b
     → Contains t.mail.items m ⊎ ((accepted ≡ true) × (names c m ≡ true))
-kept_by s t c accepted m (inl h) is here true e = inr (h.0, e)
-kept_by s t c accepted m (inl h) is here false e = inl ((changed s t c h.1).kept m is here e)
-kept_by s t c accepted m (inr h) is here b e = inl (subst (λ u. Contains u.mail.items m) (sym h.1) here)
+stays_or_ends s t c accepted m (inl h) is here true e = inr (h.0, e)
+stays_or_ends s t c accepted m (inl h) is here false e = inl ((changed s t c h.1).unended m is here e)
+stays_or_ends s t c accepted m (inr h) is here b e = inl (subst (λ u. Contains u.mail.items m) (sym h.1) here)
 
 -- each message is kept, unless the command was accepted and ends it
-keeps_messages : {A : Type 0} (B : Type 0) (s : State) (c : Command A) → KeepsMessages s.mail (step {B = B} s c).0.mail (is_acceptance (step {B = B} s c).1) (names c)
-keeps_messages B s c m is here = kept_by s (step {B = B} s c).0 c (is_acceptance (step {B = B} s c).1) m (outcome_by s (step {B = B} s c).0 c (step s c).1 (says B s c)) is here (names c m) refl
+messages_stay : {A : Type 0} (B : Type 0) (s : State) (c : Command A) → MessagesStay s.mail (step {B = B} s c).0.mail (is_acceptance (step {B = B} s c).1) (names c)
+messages_stay B s c m is here = stays_or_ends s (step {B = B} s c).0 c (is_acceptance (step {B = B} s c).1) m (outcome_by s (step {B = B} s c).0 c (step s c).1 (says B s c)) is here (names c m) refl
 
 -- so too of a reply that is the step's
-pub keeps_by_reply : {A B E : Type 0} (s t : State) (c : Command A) (r : Result (Reply B) E) → IfOk r (λ reply. (t, reply) ≡ step s c) → IfOk r (λ reply. KeepsMessages s.mail t.mail (is_acceptance reply) (names c))
-keeps_by_reply s t c (Ok reply) h = subst (λ p. KeepsMessages s.mail p.0.mail (is_acceptance p.1) (names c)) (sym h) (keeps_messages _ s c)
-keeps_by_reply s t c (Err e) h = tt
+pub stay_by_reply : {A B E : Type 0} (s t : State) (c : Command A) (r : Result (Reply B) E) → IfOk r (λ reply. (t, reply) ≡ step s c) → IfOk r (λ reply. MessagesStay s.mail t.mail (is_acceptance reply) (names c))
+stay_by_reply s t c (Ok reply) h = subst (λ p. MessagesStay s.mail p.0.mail (is_acceptance p.1) (names c)) (sym h) (messages_stay _ s c)
+stay_by_reply s t c (Err e) h = tt

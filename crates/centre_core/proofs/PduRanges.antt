@@ -84,9 +84,9 @@ transfer_read pdu reference is = let head = transfer_by (heading pdu) reference 
 
 -- ---- groups of a radio
 
-all_joined : {X : Type 0} (P : X → Type 0) (xs ys : List X) → AllByRecursion P xs → AllByRecursion P ys → AllByRecursion P (xs ++ ys)
-all_joined P [] ys h k = k
-all_joined P (x ∷ xs) ys h k = (h.0, all_joined P xs ys h.1 k)
+all_of_append : {X : Type 0} (P : X → Type 0) (xs ys : List X) → AllByRecursion P xs → AllByRecursion P ys → AllByRecursion P (xs ++ ys)
+all_of_append P [] ys h k = k
+all_of_append P (x ∷ xs) ys h k = (h.0, all_of_append P xs ys h.1 k)
 
 of_element : (b : Bool) (front : List GroupUp) (body : Type 0) → MatchBool b (AllByRecursion IsGroupUp front × body) (front ≡ []) → AllByRecursion IsGroupUp front
 of_element true front body h = h.0
@@ -95,7 +95,7 @@ of_element false front body none = subst (AllByRecursion IsGroupUp) (sym none) t
 groups_are : (es : List Element) (items : List GroupUp) → GroupsOf es items → AllByRecursion IsGroupUp items
 groups_are [] items none = subst (AllByRecursion IsGroupUp) (sym none) tt
 groups_are (e ∷ es) items (front, back, is, body, later) =
-    subst (AllByRecursion IsGroupUp) (sym is) (all_joined IsGroupUp front back (of_element (e.identifier == identity_uplink) front (e.body ≡ groups_body group_up front) body) (groups_are es back later))
+    subst (AllByRecursion IsGroupUp) (sym is) (all_of_append IsGroupUp front back (of_element (e.identifier == identity_uplink) front (e.body ≡ groups_body group_up front) body) (groups_are es back later))
 
 -- there are at most 32 groups in a PDU, each in its range
 pub groups_read : {A : Type 0} (pdu : List Bool) (mode : GroupMode) (items : List GroupUp) → reading_up {A = A} pdu ≡ Ok (up.Groups mode items) → (length items ≤ most_groups) × AllByRecursion IsGroupUp items

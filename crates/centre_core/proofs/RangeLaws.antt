@@ -41,8 +41,8 @@ use Rattle.mailbox.specs.declared.fault.MailFault.{MailFault}
 use Rattle.mailbox.specs.declared.key.Kind.TheVariants.{Report}
 use Rattle.mailbox.specs.declared.key.Envelope.{Envelope}
 use Rattle.mailbox.specs.declared.key.GroupEnvelope.{GroupEnvelope}
-use Rattle.mailbox.specs.Values.{Waiting, Mailed, latest_deadline}
-use Rattle.mailbox.specs.Tests.{is_at, is_confirmed, is_expired, is_ended_by, answered}
+use Rattle.mailbox.specs.Values.{Item, Mailed, latest_deadline}
+use Rattle.mailbox.specs.Item.{is_at, is_confirmed, is_expired, is_ended_by, answered}
 use Rattle.mailbox.specs.Mail.{without, with_item, deadline_by}
 use Rattle.mailbox.specs.Refusals.{post_refusal, report_refusal, ack_refusal, sent_refusal, delete_refusal}
 use Rattle.mailbox.specs.GroupPost.{is_receiver, copy_for, group_posted, group_refusal}
@@ -53,11 +53,11 @@ use Rattle.centre_core.specs.declared.reply.Reply.{Reply}
 use Rattle.centre_core.specs.declared.reply.Refusal.{Refusal}
 use Rattle.centre_core.specs.declared.reply.Refusal.TheVariants.{Registration, Mail}
 use Rattle.centre_core.specs.Ranges.{BodyInRange, InRange}
-use Rattle.centre_core.specs.State.{State, Served, last_number}
-use Rattle.centre_core.specs.StateRanges.{AllEntries, RuleEntryInRange, RadioInRange, AttachmentInRange, ItemInRange, IsReply, ServedInRange, StateInRange}
-use Rattle.centre_core.specs.Step.{step, step_new, step_after, step_body, step_made, step_mm, step_sds, step_group_sds, accepted, kept_at, is_station, rule_set, rule_cleared, radio_located, radio_detached, groups_changed, mail_changed, envelope, message_of, report_of, group_envelope, members, copies_of, IsOfStation}
-use Rattle.centre_core.specs.Laws.{EmptyIsInRange, StepKeepsRanges}
-use Rattle.centre_core.proofs.EntriesLaws.{insert_all, retain_all, remove_all, kept_all, found_in, empty_all}
+use Rattle.centre_core.specs.State.{State, LastAccepted, last_number}
+use Rattle.centre_core.specs.StateRanges.{AllEntries, RuleEntryInRange, RadioInRange, AttachmentInRange, ItemInRange, IsReply, LastAcceptedInRange, StateInRange}
+use Rattle.centre_core.specs.Step.{step, step_new, step_after, step_body, step_made, step_mm, step_sds, step_group_sds, accepted, last_at, is_station, rule_set, rule_cleared, radio_located, radio_detached, groups_changed, mail_changed, envelope, message_of, report_of, group_envelope, members, copies_of, IsOfStation}
+use Rattle.centre_core.specs.Laws.{EmptyIsInRange, NextIsInRange}
+use Rattle.centre_core.proofs.EntriesLaws.{insert_all, retain_all, remove_all, filtered_all, found_in, empty_all}
 use Rattle.centre_core.proofs.PduRanges.{IsShortData, head_read, transfer_read, groups_read, gtsi_fits, acknowledge_fits, accept_fits, no_more}
 
 -- ---- rules and radios
@@ -95,7 +95,7 @@ pairs_exact : finite.IsAntisymmetric pair_cmp
 pairs_exact p q e = exact_by p q (nat_cmp p.0 q.0) refl e
 
 updated : (m : Attached) (itsi : ℕ) (update : LocationUpdateType) → AllEntries AttachmentInRange m → AllEntries AttachmentInRange (after_update m itsi update)
-updated m itsi update h = kept_all pairs_total pairs_exact AttachmentInRange m (λ e. not ((e.0.0 == itsi) && is_dropped update e.1.1)) h
+updated m itsi update h = filtered_all pairs_total pairs_exact AttachmentInRange m (λ e. not ((e.0.0 == itsi) && is_dropped update e.1.1)) h
 
 radio_located_ranges : (s : State) (itsi station area : ℕ) (update : LocationUpdateType) → 0 < station → station ≤ s.registered.limits.stations → area < 2 ^ 14 → StateInRange s → StateInRange (radio_located s itsi station area update)
 radio_located_ranges s itsi station area update above known small h = record {
@@ -156,7 +156,7 @@ groups_changed_ranges s itsi mode items small is h = record {
 mail_ranges : (s : State) (mail : Mailed) → All ItemInRange mail.items → StateInRange s → StateInRange (mail_changed s mail)
 mail_ranges s mail all h = record { limits = h.limits; rules = h.rules; radios = h.radios; attachments = h.attachments; mail = all; served = h.served }
 
-without_ranges : (s : State) (test : Waiting → Bool) → StateInRange s → StateInRange (mail_changed s (without test s.mail))
+without_ranges : (s : State) (test : Item → Bool) → StateInRange s → StateInRange (mail_changed s (without test s.mail))
 without_ranges s test h = mail_ranges s (without test s.mail) (All-filter (λ w. not (test w)) ItemInRange s.mail.items h.mail) h
 
 -- the keep of an identity's rule
@@ -189,15 +189,15 @@ report_ranges s moment source destination reference pdu small ends read h = reco
   group = tt;
 }
 
-put_ranges : (s : State) (items : List Waiting) (w : Waiting) → All ItemInRange items → ItemInRange w → All ItemInRange (with_item (record { room = s.mail.room; items = items }) w).items
+put_ranges : (s : State) (items : List Item) (w : Item) → All ItemInRange items → ItemInRange w → All ItemInRange (with_item (record { room = s.mail.room; items = items }) w).items
 put_ranges s items w all fits = All-append ItemInRange items (w ∷ []) all (All-cons ItemInRange w [] fits (All-nil ItemInRange))
 
-posted_ranges : (s : State) (w : Waiting) → ItemInRange w → StateInRange s → StateInRange (mail_changed s (with_item s.mail w))
+posted_ranges : (s : State) (w : Item) → ItemInRange w → StateInRange s → StateInRange (mail_changed s (with_item s.mail w))
 posted_ranges s w fits h = mail_ranges s (with_item s.mail w) (put_ranges s s.mail.items w h.mail fits) h
 
-reported_ranges : (s : State) (e : Envelope) (status : ℕ) (w : Waiting) → ItemInRange w → StateInRange s → StateInRange (mail_changed s (with_item (without (is_ended_by e status) s.mail) w))
+reported_ranges : (s : State) (e : Envelope) (status : ℕ) (w : Item) → ItemInRange w → StateInRange s → StateInRange (mail_changed s (with_item (without (is_ended_by e status) s.mail) w))
 reported_ranges s e status w fits h =
-    let left : List Waiting = (without (is_ended_by e status) s.mail).items in
+    let left : List Item = (without (is_ended_by e status) s.mail).items in
     mail_ranges s (with_item (without (is_ended_by e status) s.mail) w) (put_ranges s left w (All-filter (λ o. not (is_ended_by e status o)) ItemInRange s.mail.items h.mail) fits) h
 
 members_small : (s : State) (group : ℕ) → StateInRange s → All (λ n. n < 2 ^ 48) (members s group)
@@ -221,7 +221,7 @@ copies_ranges s moment source group reference pdu small ends read h =
     }) receivers
     (All-filter (is_receiver s.registered source) (λ n. n < 2 ^ 48) (members s group) (members_small s group h)))
 
-group_posted_ranges : (s : State) (ws : List Waiting) → All ItemInRange ws → StateInRange s → StateInRange (mail_changed s (group_posted s.mail ws))
+group_posted_ranges : (s : State) (ws : List Item) → All ItemInRange ws → StateInRange s → StateInRange (mail_changed s (group_posted s.mail ws))
 group_posted_ranges s ws all h = mail_ranges s (group_posted s.mail ws) (All-append ItemInRange s.mail.items ws h.mail all) h
 
 -- ---- the step
@@ -237,23 +237,23 @@ module _ {A : Type 0} where
     radios = h.radios;
     attachments = h.attachments;
     mail = h.mail;
-    served = All-set (λ last. IfSome last ServedInRange) t.served (c.station - 1) _ (record { above = given.above; sequence = given.sequence; pdu = reply }) h.served;
+    served = All-set (λ last. IfSome last LastAcceptedInRange) t.served (c.station - 1) _ (record { above = given.above; sequence = given.sequence; pdu = reply }) h.served;
   }
 
 -- what a step makes of a state
-abbrev Keeps : (B : Type 0) → State × Reply B → Type 0
-Keeps B r = StateInRange r.0
+abbrev GivesInRange : (B : Type 0) → State × Reply B → Type 0
+GivesInRange B r = StateInRange r.0
 
-by_test : (B : Type 0) (b : Bool) (x y : State × Reply B) → (b ≡ true → Keeps B x) → Keeps B y → Keeps B (if b then x else y)
+by_test : (B : Type 0) (b : Bool) (x y : State × Reply B) → (b ≡ true → GivesInRange B x) → GivesInRange B y → GivesInRange B (if b then x else y)
 by_test B true x y h k = h refl
 by_test B false x y h k = k
 
 module _ {A : Type 0} (B : Type 0) where
-  made : {F : Type 0} (s : State) (c : Command A) (new : State) (pdu : Option (List Bool)) (name : F → Refusal B) (refusal : Option F) → InRange c → IsReply pdu → StateInRange s → StateInRange new → Keeps B (step_made s c new pdu (option_map name refusal))
+  made : {F : Type 0} (s : State) (c : Command A) (new : State) (pdu : Option (List Bool)) (name : F → Refusal B) (refusal : Option F) → InRange c → IsReply pdu → StateInRange s → StateInRange new → GivesInRange B (step_made s c new pdu (option_map name refusal))
   made s c new pdu name (Some fault) given reply h k = h
   made s c new pdu name None given reply h k = accepted_ranges new c pdu given reply k
 
-  mm_ranges : (s : State) (c : Command A) (itsi area : ℕ) (pdu : List Bool) (read : Result (MmUp B) MmFault) → reading_up pdu ≡ read → InRange c → IsOfStation s c → itsi < 2 ^ 48 → area < 2 ^ 14 → StateInRange s → Keeps B (step_mm s c itsi area read)
+  mm_ranges : (s : State) (c : Command A) (itsi area : ℕ) (pdu : List Bool) (read : Result (MmUp B) MmFault) → reading_up pdu ≡ read → InRange c → IsOfStation s c → itsi < 2 ^ 48 → area < 2 ^ 14 → StateInRange s → GivesInRange B (step_mm s c itsi area read)
   mm_ranges s c itsi area pdu (Err fault) is given of small near h = h
   mm_ranges s c itsi area pdu (Ok (up.Demand update)) is given of small near h =
       made s c _ _ _ (locate_refusal s.registered itsi area update) given (accept_fits (accept_of update)) h (radio_located_ranges s itsi c.station area update of.0 of.1 near h)
@@ -263,28 +263,28 @@ module _ {A : Type 0} (B : Type 0) where
       let few : length (answers s.registered itsi items) ≤ most_groups = omega (arith, groups.0, no_more (answer s.registered itsi) items) in
       made s c _ _ _ (apply_refusal s.registered s.groups itsi mode items) given (acknowledge_fits (answers s.registered itsi items) few) h (groups_changed_ranges s itsi mode items small groups.1 h)
 
-  sds_ranges : (s : State) (c : Command A) (source destination : ℕ) (pdu : List Bool) (head : Result Head SdsFault) → heading pdu ≡ head → InRange c → AreEnds source destination → StateInRange s → Keeps B (step_sds s c source destination pdu head)
+  sds_ranges : (s : State) (c : Command A) (source destination : ℕ) (pdu : List Bool) (head : Result Head SdsFault) → heading pdu ≡ head → InRange c → AreEnds source destination → StateInRange s → GivesInRange B (step_sds s c source destination pdu head)
   sds_ranges s c source destination pdu (Err fault) is given ends h = h
   sds_ranges s c source destination pdu (Ok (heads.Transfer request reference)) is given ends h =
-      let w : Waiting = message_of s c.moment (envelope source destination reference) pdu in
+      let w : Item = message_of s c.moment (envelope source destination reference) pdu in
       made s c _ _ _ (post_refusal s.registered s.mail w) given tt h (posted_ranges s w (message_ranges s c.moment source destination reference pdu given.moment ends (head_read pdu (heads.Transfer request reference) is) h) h)
   sds_ranges s c source destination pdu (Ok (heads.Report acknowledge status reference)) is given ends h =
       let e : Envelope = envelope source destination reference in
-      let w : Waiting = report_of s c.moment e pdu in
+      let w : Item = report_of s c.moment e pdu in
       made s c _ _ _ (report_refusal s.registered s.mail e status w) given tt h
       (reported_ranges s e status w (report_ranges s c.moment source destination reference pdu given.moment ends (head_read pdu (heads.Report acknowledge status reference) is) h) h)
   sds_ranges s c source destination pdu (Ok (heads.Ack status reference)) is given ends h =
       let e : Envelope = envelope source destination reference in
       made s c _ _ _ (ack_refusal s.registered s.mail e) given tt h (without_ranges s (is_at (answered e Report)) h)
 
-  group_sds_ranges : (s : State) (c : Command A) (source group : ℕ) (pdu : List Bool) (read : Result ℕ SdsFault) → transfer_reference (heading pdu) ≡ read → InRange c → AreEnds source group → StateInRange s → Keeps B (step_group_sds s c source group pdu read)
+  group_sds_ranges : (s : State) (c : Command A) (source group : ℕ) (pdu : List Bool) (read : Result ℕ SdsFault) → transfer_reference (heading pdu) ≡ read → InRange c → AreEnds source group → StateInRange s → GivesInRange B (step_group_sds s c source group pdu read)
   group_sds_ranges s c source group pdu (Err fault) is given ends h = h
   group_sds_ranges s c source group pdu (Ok reference) is given ends h =
       let e : GroupEnvelope = group_envelope source group reference in
-      let ws : List Waiting = copies_of s c.moment e pdu in
+      let ws : List Item = copies_of s c.moment e pdu in
       made s c _ _ _ (group_refusal s.registered s.mail e ws) given tt h (group_posted_ranges s ws (copies_ranges s c.moment source group reference pdu given.moment ends (transfer_read pdu reference is) h) h)
 
-  body_ranges : (s : State) (c : Command A) (b : Body A) → BodyInRange b → InRange c → IsOfStation s c → StateInRange s → Keeps B (step_body s c b)
+  body_ranges : (s : State) (c : Command A) (b : Body A) → BodyInRange b → InRange c → IsOfStation s c → StateInRange s → GivesInRange B (step_body s c b)
   body_ranges s c (RuleSet prefix rule) fits given of h = made s c _ _ _ (set_refusal s.registered prefix) given tt h (rule_set_ranges s prefix rule fits h)
   body_ranges s c (RuleClear prefix) fits given of h = made {F = RegFault} s c _ _ Registration None given tt h (rule_cleared_ranges s prefix h)
   body_ranges s c (Mm itsi area pdu) fits given of h = mm_ranges s c itsi area pdu (reading_up pdu) refl given of fits.0 fits.1 h
@@ -294,24 +294,24 @@ module _ {A : Type 0} (B : Type 0) where
   body_ranges s c Expire fits given of h = made {F = MailFault} s c _ _ Mail None given tt h (without_ranges s (is_expired c.moment) h)
   body_ranges s c (Delete key) fits given of h = made s c _ _ _ (delete_refusal s.mail key) given tt h (without_ranges s (is_at key) h)
 
-  new_ranges : (s : State) (c : Command A) → InRange c → IsOfStation s c → StateInRange s → Keeps B (step_new s c)
+  new_ranges : (s : State) (c : Command A) → InRange c → IsOfStation s c → StateInRange s → GivesInRange B (step_new s c)
   new_ranges s c given of h = by_test B (nat_lt s.count last_number) _ _ (λ _. body_ranges s c c.body given.body given of h) h
 
-  after_ranges : (s : State) (c : Command A) (kept : Option Served) → InRange c → IsOfStation s c → StateInRange s → Keeps B (step_after s c kept)
+  after_ranges : (s : State) (c : Command A) (kept : Option LastAccepted) → InRange c → IsOfStation s c → StateInRange s → GivesInRange B (step_after s c kept)
   after_ranges s c None given of h = new_ranges s c given of h
   after_ranges s c (Some last) given of h = by_test B (nat_lt c.sequence last.sequence) _ _ (λ _. h) (by_test B (c.sequence == last.sequence) _ _ (λ _. h) (new_ranges s c given of h))
 
-  step_ranges : (s : State) (c : Command A) → InRange c → StateInRange s → Keeps B (step s c)
+  step_ranges : (s : State) (c : Command A) → InRange c → StateInRange s → GivesInRange B (step s c)
   unfolding step
-  step_ranges s c given h = by_test B (is_station s c.station) _ _ (λ e. after_ranges s c (kept_at s c.station) given (station_above c.station s.registered.limits.stations e) h) h
+  step_ranges s c given h = by_test B (is_station s c.station) _ _ (λ e. after_ranges s c (last_at s c.station) given (station_above c.station s.registered.limits.stations e) h) h
 
   -- so too of the state that a call leaves
   pub applied_ranges : {E : Type 0} (s t : State) (c : Command A) (result : Result (Reply B) E) → InRange c → IfOk result (λ reply. (t, reply) ≡ step s c) → OnErr result (t ≡ s) → StateInRange s → StateInRange t
   applied_ranges s t c (Ok reply) given ok err h = subst StateInRange (sym (ap (λ r. r.0) ok)) (step_ranges s c given h)
   applied_ranges s t c (Err e) given ok err h = subst StateInRange (sym err) h
 
-pub step_keeps_ranges : (A : Type 0) → StepKeepsRanges A
-step_keeps_ranges A s c given h = step_ranges A s c given h
+pub next_is_in_range : (A : Type 0) → NextIsInRange A
+next_is_in_range A s c given h = step_ranges A s c given h
 
 pub empty_is_in_range : EmptyIsInRange
 empty_is_in_range limits = record {
@@ -320,5 +320,5 @@ empty_is_in_range limits = record {
   radios = empty_all path_cmp (RadioInRange limits.stations);
   attachments = empty_all pair_cmp AttachmentInRange;
   mail = All-nil ItemInRange;
-  served = All-replicate (λ (last : Option Served). IfSome last ServedInRange) limits.stations None tt;
+  served = All-replicate (λ (last : Option LastAccepted). IfSome last LastAcceptedInRange) limits.stations None tt;
 }

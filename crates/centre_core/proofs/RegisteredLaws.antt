@@ -25,7 +25,7 @@ room_for : {V : Type 0} (m : PathMap V) (k : Path) (v : V) (limit : ℕ) (full :
 room_for m k v limit full h fits = subst (λ n. n ≤ limit) (sym (map.len-insert paths_total m k v)) (room (is_some (map.get m k)) (nat_lt (map.len m) limit) (map.len m) limit full refl h fits)
 
 pub with_rule_within : (r : Registered) (prefix : Path) (rule : Rule) → set_refusal r prefix ≡ None → IsWithin r → IsWithin (with_rule r prefix rule)
-with_rule_within r prefix rule none h = (room_for r.rules prefix rule r.limits.rules RulesFull none h.0, h.1)
+with_rule_within r prefix rule none h = record { rules = room_for r.rules prefix rule r.limits.rules RulesFull none h.rules; radios = h.radios }
 
 one_less : (b : Bool) (n : ℕ) → (if b then n - 1 else n) ≤ n
 one_less true n = omega arith
@@ -34,15 +34,18 @@ one_less false n = omega arith
 pub without_rule_within : (r : Registered) (prefix : Path) → IsWithin r → IsWithin (without_rule r prefix)
 without_rule_within r prefix h =
     let fewer : map.len (map.remove r.rules prefix) ≤ map.len r.rules = subst (λ n. n ≤ map.len r.rules) (sym (map.len-remove paths_total r.rules prefix)) (one_less (is_some (map.get r.rules prefix)) (map.len r.rules)) in
-    (omega (arith, fewer, h.0), h.1)
+    record { rules = omega (arith, fewer, h.rules); radios = h.radios }
 
 pub located_within : (r : Registered) (itsi station area : ℕ) → room_refusal r itsi ≡ None → IsWithin r → IsWithin (located r itsi station area)
-located_within r itsi station area none h = (h.0, room_for r.radios (id_path itsi) _ r.limits.radios Congestion none h.1)
+located_within r itsi station area none h = record { rules = h.rules; radios = room_for r.radios (id_path itsi) _ r.limits.radios Congestion none h.radios }
 
 detached_at_within : (r : Registered) (itsi : ℕ) (radio : Option Radio) → radio_of r itsi ≡ radio → IsWithin r → IsWithin (detached_at r itsi radio)
 detached_at_within r itsi None e h = h
 detached_at_within r itsi (Some radio) e h =
-    (h.0, subst (λ n. n ≤ r.limits.radios) (sym (map.len-insert paths_total r.radios (id_path itsi) (absent radio) ∙ ap (λ o. if is_some o then map.len r.radios else (map.len r.radios + 1)) e)) h.1)
+    record {
+      rules = h.rules;
+      radios = subst (λ n. n ≤ r.limits.radios) (sym (map.len-insert paths_total r.radios (id_path itsi) (absent radio) ∙ ap (λ o. if is_some o then map.len r.radios else (map.len r.radios + 1)) e)) h.radios;
+    }
 
 pub detached_within : (r : Registered) (itsi : ℕ) → IsWithin r → IsWithin (detached r itsi)
 detached_within r itsi h = detached_at_within r itsi (radio_of r itsi) refl h
@@ -63,15 +66,15 @@ there_still : {V : Type 0} (m : PathMap V) (k : Path) (v : V) (q : Path) → IsS
 there_still m k v q h = subst IsSome (sym (map.get-insert paths_total m k v q)) (some_cond _ v (map.get m q) h)
 
 -- no radio is forgotten
-pub located_keeps : (r : Registered) (itsi station area other : ℕ) → IsSome (radio_of r other) → IsSome (radio_of (located r itsi station area) other)
-located_keeps r itsi station area other h = there_still r.radios (id_path itsi) _ (id_path other) h
+pub located_still : (r : Registered) (itsi station area other : ℕ) → IsSome (radio_of r other) → IsSome (radio_of (located r itsi station area) other)
+located_still r itsi station area other h = there_still r.radios (id_path itsi) _ (id_path other) h
 
-detached_at_keeps : (r : Registered) (itsi : ℕ) (radio : Option Radio) (other : ℕ) → IsSome (radio_of r other) → IsSome (radio_of (detached_at r itsi radio) other)
-detached_at_keeps r itsi None other h = h
-detached_at_keeps r itsi (Some radio) other h = there_still r.radios (id_path itsi) _ (id_path other) h
+detached_at_still : (r : Registered) (itsi : ℕ) (radio : Option Radio) (other : ℕ) → IsSome (radio_of r other) → IsSome (radio_of (detached_at r itsi radio) other)
+detached_at_still r itsi None other h = h
+detached_at_still r itsi (Some radio) other h = there_still r.radios (id_path itsi) _ (id_path other) h
 
-pub detached_keeps : (r : Registered) (itsi other : ℕ) → IsSome (radio_of r other) → IsSome (radio_of (detached r itsi) other)
-detached_keeps r itsi other h = detached_at_keeps r itsi (radio_of r itsi) other h
+pub detached_still : (r : Registered) (itsi other : ℕ) → IsSome (radio_of r other) → IsSome (radio_of (detached r itsi) other)
+detached_still r itsi other h = detached_at_still r itsi (radio_of r itsi) other h
 
 pub empty_within : (limits : Limits) → IsWithin (empty_registered limits)
-empty_within limits = (omega (arith, map.len-empty path_cmp Rule), omega (arith, map.len-empty path_cmp Radio))
+empty_within limits = record { rules = omega (arith, map.len-empty path_cmp Rule); radios = omega (arith, map.len-empty path_cmp Radio) }

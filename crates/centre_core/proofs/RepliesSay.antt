@@ -17,9 +17,9 @@ use Rattle.centre_core.specs.declared.command.Body.TheVariants.{RuleSet, RuleCle
 use Rattle.centre_core.specs.declared.reply.Reply.{Reply}
 use Rattle.centre_core.specs.declared.reply.Reply.TheVariants.{Accepted, Kept, Refused}
 use Rattle.centre_core.specs.declared.reply.Refusal.{Refusal}
-use Rattle.centre_core.specs.State.{State, Served, last_number}
-use Rattle.centre_core.specs.Step.{step, step_new, step_after, step_body, step_made, step_mm, step_sds, step_group_sds, kept_at, is_station}
-use Rattle.centre_core.proofs.StationLaws.{kept_of}
+use Rattle.centre_core.specs.State.{State, LastAccepted, last_number}
+use Rattle.centre_core.specs.Step.{step, step_new, step_after, step_body, step_made, step_mm, step_sds, step_group_sds, last_at, is_station}
+use Rattle.centre_core.proofs.StationLaws.{last_at_is}
 use Rattle.centre_core.proofs.StepLaws.{Advanced, Outcome, says}
 use Rattle.centre_core.specs.InTurn.{Replied, RepliesSay, last_of}
 
@@ -28,8 +28,8 @@ abbrev IsRepeat : (B : Type 0) → State × Reply B → ℕ → Option (List Boo
 IsRepeat B r n p = r.1 ≡ Kept n p
 
 -- a reply that is no refusal
-abbrev IsServed : (B : Type 0) → State × Reply B → Type 0
-IsServed B r = (refusal : Refusal B) → r.1 ≢ Refused refusal
+abbrev IsNotRefused : (B : Type 0) → State × Reply B → Type 0
+IsNotRefused B r = (refusal : Refusal B) → r.1 ≢ Refused refusal
 
 above : (n m : ℕ) → (nat_lt 0 n && nat_le n m) ≡ true → 0 < n
 above n m h = grind (arith, nat_tests)
@@ -72,13 +72,13 @@ module _ {A B : Type 0} where
   new_not : (s : State) (c : Command A) (n : ℕ) (p : Option (List Bool)) → IsRepeat B (step_new s c) n p → ⊥
   new_not s c n p e = elim (either {B = B} (nat_lt s.count last_number) _ _ n p e) [ inl h ↦ body_not s c c.body n p h.1 | inr h ↦ let never : ⊥ = cc in never ]
 
-  same_entry : (c : Command A) (last : Served) (n : ℕ) (p : Option (List Bool)) → c.sequence ≡ last.sequence → ◌≡◌ {A = Reply B} (Kept last.number last.pdu) (Kept n p) → last ≡ last_of c n p
+  same_entry : (c : Command A) (last : LastAccepted) (n : ℕ) (p : Option (List Bool)) → c.sequence ≡ last.sequence → ◌≡◌ {A = Reply B} (Kept last.number last.pdu) (Kept n p) → last ≡ last_of c n p
   same_entry c last n p same e =
       let number : last.number ≡ n = cc in
       let pdu : last.pdu ≡ p = cc in
       rw (same, sym number, sym pdu) refl
 
-  after_kept : (s : State) (c : Command A) (o : Option Served) (n : ℕ) (p : Option (List Bool)) → IsRepeat B (step_after s c o) n p → o ≡ Some (last_of c n p)
+  after_kept : (s : State) (c : Command A) (o : Option LastAccepted) (n : ℕ) (p : Option (List Bool)) → IsRepeat B (step_after s c o) n p → o ≡ Some (last_of c n p)
   after_kept s c None n p e = absurd (new_not s c n p e)
   after_kept s c (Some last) n p e =
       elim (either {B = B} (nat_lt c.sequence last.sequence) _ _ n p e) [
@@ -89,19 +89,19 @@ module _ {A B : Type 0} where
         ]
       ]
 
-  of_station : (s : State) (c : Command A) → IsServed B (step s c) → 0 < c.station
+  of_station : (s : State) (c : Command A) → IsNotRefused B (step s c) → 0 < c.station
   unfolding step
-  of_station s c served = of_if (is_station s c.station) _ _ _ (λ h. above _ _ h) refl served
+  of_station s c unrefused = of_if (is_station s c.station) _ _ _ (λ h. above _ _ h) refl unrefused
     where
-      of_if : (b : Bool) (x y : State × Reply B) (refusal : Refusal B) → (b ≡ true → 0 < c.station) → y.1 ≡ Refused refusal → IsServed B (if b then x else y) → 0 < c.station
-      of_if true x y refusal h e served = h refl
-      of_if false x y refusal h e served = absurd (served refusal e)
+      of_if : (b : Bool) (x y : State × Reply B) (refusal : Refusal B) → (b ≡ true → 0 < c.station) → y.1 ≡ Refused refusal → IsNotRefused B (if b then x else y) → 0 < c.station
+      of_if true x y refusal h e unrefused = h refl
+      of_if false x y refusal h e unrefused = absurd (unrefused refusal e)
 
-  kept_entry : (s : State) (c : Command A) (n : ℕ) (p : Option (List Bool)) → IsRepeat B (step s c) n p → kept_at s c.station ≡ Some (last_of c n p)
+  kept_entry : (s : State) (c : Command A) (n : ℕ) (p : Option (List Bool)) → IsRepeat B (step s c) n p → last_at s c.station ≡ Some (last_of c n p)
   unfolding step
-  kept_entry s c n p e = elim (either {B = B} (is_station s c.station) _ _ n p e) [ inl h ↦ after_kept s c (kept_at s c.station) n p h.1 | inr h ↦ let never : ⊥ = cc in absurd never ]
+  kept_entry s c n p e = elim (either {B = B} (is_station s c.station) _ _ n p e) [ inl h ↦ after_kept s c (last_at s c.station) n p h.1 | inr h ↦ let never : ⊥ = cc in absurd never ]
 
-kept_put : (xs : List (Option Served)) (i j : ℕ) (new e : Served) → get_or (set xs i (Some new)) j None ≡ Some e → ((j ≡ i) × (e ≡ new)) ⊎ (get_or xs j None ≡ Some e)
+kept_put : (xs : List (Option LastAccepted)) (i j : ℕ) (new e : LastAccepted) → get_or (set xs i (Some new)) j None ≡ Some e → ((j ≡ i) × (e ≡ new)) ⊎ (get_or xs j None ≡ Some e)
 kept_put [] i j new e h = inr h
 kept_put (x ∷ xs) zero zero new e h = inl (refl, cc)
 kept_put (x ∷ xs) zero (suc j) new e h = inr h
@@ -111,20 +111,20 @@ kept_put (x ∷ xs) (suc i) (suc j) new e h = elim (kept_put xs i j new e h) [ i
 module _ {A : Type 0} (B : Type 0) where
   advanced : (s t : State) (c : Command A) (n : ℕ) (p : Option (List Bool)) (a : Advanced s t c) → n ≡ s.count + 1 → p ≡ a.pdu → 0 < c.station → Replied {B = B} s c t (Accepted n p)
   advanced s t c n p a number pdu station =
-      let last : Served = record { sequence = c.sequence; number = a.made.count + 1; pdu = a.pdu } in
+      let last : LastAccepted = record { sequence = c.sequence; number = a.made.count + 1; pdu = a.pdu } in
       let is : last ≡ last_of c n p = rw (a.change.count, sym number, sym pdu) refl in (
         station,
         number,
         ap (λ u. u.count) a.is ∙ ap (λ m. m + 1) a.change.count,
         λ k e pos h.
-            let put : get_or (set s.served (c.station - 1) (Some last)) (k - 1) None ≡ Some e = sym (ap (λ u. get_or u.served (k - 1) None) a.is ∙ ap (λ l. get_or (slice_set l (c.station - 1) (Some last)) (k - 1) None) a.change.served) ∙ (sym (kept_of t k pos) ∙ h) in
+            let put : get_or (set s.served (c.station - 1) (Some last)) (k - 1) None ≡ Some e = sym (ap (λ u. get_or u.served (k - 1) None) a.is ∙ ap (λ l. get_or (slice_set l (c.station - 1) (Some last)) (k - 1) None) a.change.served) ∙ (sym (last_at_is t k pos) ∙ h) in
             elim (kept_put s.served (c.station - 1) (k - 1) last e put) [
               | inl q ↦ inl (let i : k - 1 ≡ c.station - 1 = q.0 in omega arith, q.1 ∙ is)
-              | inr q ↦ inr (kept_of s k pos ∙ q)
+              | inr q ↦ inr (last_at_is s k pos ∙ q)
             ],
       )
 
-  replied_by : (s t : State) (c : Command A) (reply : Reply B) → Outcome s c t reply → (((refusal : Refusal B) → reply ≢ Refused refusal) → 0 < c.station) → ((n : ℕ) (p : Option (List Bool)) → reply ≡ Kept n p → kept_at s c.station ≡ Some (last_of c n p)) → Replied s c t reply
+  replied_by : (s t : State) (c : Command A) (reply : Reply B) → Outcome s c t reply → (((refusal : Refusal B) → reply ≢ Refused refusal) → 0 < c.station) → ((n : ℕ) (p : Option (List Bool)) → reply ≡ Kept n p → last_at s c.station ≡ Some (last_of c n p)) → Replied s c t reply
   replied_by s t c (Accepted n p) h station kept = advanced s t c n p h.0 h.1 h.2 (station (λ r e. cc))
   replied_by s t c (Kept n p) h station kept = (h, station (λ r e. cc), kept n p refl)
   replied_by s t c (Refused refusal) h station kept = h

@@ -8,8 +8,8 @@ use mathlib.Core.Bool.{false≢true}
 use Rattle.centre_core.specs.declared.command.Command.{Command}
 use Rattle.centre_core.specs.declared.reply.Reply.{Reply}
 use Rattle.centre_core.specs.declared.reply.Reply.TheVariants.{Accepted, Kept, Refused}
-use Rattle.centre_core.specs.State.{State, Served}
-use Rattle.centre_core.specs.Step.{step, step_after, is_station, kept_at}
+use Rattle.centre_core.specs.State.{State, LastAccepted}
+use Rattle.centre_core.specs.Step.{step, step_after, is_station, last_at}
 use Rattle.centre_core.specs.History.{is_acceptance, accepts, next, after, has_reached, is_at_least, is_no_later, is_resend, fresh_from}
 use Rattle.centre_core.specs.Laws.{ResendsAreIdle}
 use Rattle.centre_core.proofs.StepLaws.{Advanced, Outcome, says}
@@ -42,7 +42,7 @@ module _ {A : Type 0} where
   idle_if s true x y h k = h refl
   idle_if s false x y h k = k refl
 
-  idle_after : (s : State) (c : Command A) (kept : Option Served) → is_at_least c.sequence kept ≡ true → Idle s (step_after s c kept)
+  idle_after : (s : State) (c : Command A) (kept : Option LastAccepted) → is_at_least c.sequence kept ≡ true → Idle s (step_after s c kept)
   idle_after s c None h = absurd (false≢true h)
   idle_after s c (Some last) h =
       idle_if s (nat_lt c.sequence last.sequence) _ _ (λ _. (refl, refl))
@@ -50,7 +50,7 @@ module _ {A : Type 0} where
 
   idle : (s : State) (c : Command A) → has_reached s c.station c.sequence ≡ true → Idle s (step s c)
   unfolding step
-  idle s c h = idle_if s (is_station s c.station) _ _ (λ _. idle_after s c (kept_at s c.station) (and_both _ _ h).1) (λ _. (refl, refl))
+  idle s c h = idle_if s (is_station s c.station) _ _ (λ _. idle_after s c (last_at s c.station) (and_both _ _ h).1) (λ _. (refl, refl))
 
   is_new : (s : State) (c : Command A) (b : Bool) → has_reached s c.station c.sequence ≡ b → accepts s c ≡ true → b ≡ false
   is_new s c false e ok = refl
@@ -65,7 +65,7 @@ module _ {A : Type 0} where
   outcome : (s : State) (c : Command A) → ((accepts s c ≡ true) × Advanced s (next s c) c) ⊎ ((next s c ≡ s) × (accepts s c ≡ false))
   outcome s c = outcome_by s (next s c) c (step s c).1 (says A s c)
 
-by_kept : (kept : Option Served) (q sequence : ℕ) → is_at_least q kept ≡ true → is_at_least sequence kept ≡ false → nat_le q sequence ≡ true
+by_kept : (kept : Option LastAccepted) (q sequence : ℕ) → is_at_least q kept ≡ true → is_at_least sequence kept ≡ false → nat_le q sequence ≡ true
 by_kept None q sequence h k = absurd (false≢true h)
 by_kept (Some last) q sequence h k = grind (arith, nat_tests)
 
@@ -87,7 +87,7 @@ module _ {A : Type 0} where
   here_after : (s t : State) (c : Command A) → Advanced s t c → HasPlaces s → accepts s c ≡ true → (q : ℕ) → nat_le q c.sequence ≡ true → has_reached t c.station q ≡ true
   here_after s t c h places ok q low =
       let here : is_station s c.station ≡ true = of_station A s c ok in
-      let known : kept_at t c.station ≡ Some (record { sequence = c.sequence; number = h.made.count + 1; pdu = h.pdu }) = kept_here s t c h places here in
+      let known : last_at t c.station ≡ Some (record { sequence = c.sequence; number = h.made.count + 1; pdu = h.pdu }) = kept_here s t c h places here in
       both_and (is_station t c.station) _ (same_stations s t c h c.station ∙ here) (subst (λ k. is_at_least q k ≡ true) (sym known) low)
 
   other_after : (s t : State) (c : Command A) → Advanced s t c → accepts s c ≡ true → (i q : ℕ) → i ≢ c.station → has_reached t i q ≡ has_reached s i q
@@ -102,7 +102,7 @@ module _ {A : Type 0} where
       elim (outcome s c) [
         | inl o ↦ elim (cases_eq i c.station) [
           | inl e ↦ let there : has_reached s c.station q ≡ true = subst (λ n. has_reached s n q ≡ true) e h in
-              let low : nat_le q c.sequence ≡ true = by_kept (kept_at s c.station) q c.sequence (and_both _ _ there).1 (second_false (is_station s c.station) _ (and_both _ _ there).0 (is_new s c _ refl o.0)) in
+              let low : nat_le q c.sequence ≡ true = by_kept (last_at s c.station) q c.sequence (and_both _ _ there).1 (second_false (is_station s c.station) _ (and_both _ _ there).0 (is_new s c _ refl o.0)) in
               subst (λ n. has_reached (next s c) n q ≡ true) (sym e) (here_after s (next s c) c o.1 places o.0 q low)
           | inr apart ↦ other_after s (next s c) c o.1 o.0 i q apart ∙ h
         ]
@@ -142,4 +142,4 @@ module _ {A : Type 0} where
   knows_first s c h = by_none (has_reached s c.station c.sequence) h
 
 pub resends_are_idle : {A : Type 0} → ResendsAreIdle A
-resends_are_idle s state cs = without_resends s [] s cs state.3 (knows_first s)
+resends_are_idle s state cs = without_resends s [] s cs state.stations (knows_first s)

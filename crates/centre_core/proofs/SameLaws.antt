@@ -1,7 +1,7 @@
 -- What is made of a command does not depend on the allocator that its bits are kept under.
 use Rattle.std.proofs.Common.{◌≡◌, ℕ, Bool, true, false, cond, List, [], ◌∷◌, map, refl, ap, sym, ◌∙◌, subst, Option, Some, None}
 use Rattle.std.specs.Prelude.{◌||◌, ◌==◌, nat_lt, if◌then◌else◌}
-use Rattle.mailbox.specs.Values.{Waiting}
+use Rattle.mailbox.specs.Values.{Item}
 use Rattle.mailbox.proofs.Lists.{any_mapped}
 use Rattle.centre_core.specs.declared.command.Command.{Command}
 use Rattle.centre_core.specs.declared.command.Body.{Body}
@@ -9,8 +9,8 @@ use Rattle.centre_core.specs.declared.command.Body.TheVariants.{RuleSet, RuleCle
 use Rattle.centre_core.specs.declared.reply.Reply.{Reply}
 use Rattle.centre_core.specs.declared.reply.Reply.TheVariants.{Kept, Refused}
 use Rattle.centre_core.specs.declared.reply.Refusal.TheVariants.{UnknownStation, OldSequence, NumbersUsedUp}
-use Rattle.centre_core.specs.State.{State, Served, last_number}
-use Rattle.centre_core.specs.Step.{step, step_new, step_after, step_body, is_station, kept_at}
+use Rattle.centre_core.specs.State.{State, LastAccepted, last_number}
+use Rattle.centre_core.specs.Step.{step, step_new, step_after, step_body, is_station, last_at}
 use Rattle.centre_core.specs.History.{accepts, next, after, names_in, has_reached, is_no_later, is_resend, fresh_from}
 use Rattle.centre_core.specs.Histories.{IsHistory}
 use Rattle.centre_core.specs.Same.{body_under, under}
@@ -46,7 +46,7 @@ module _ {A : Type 0} (B : Type 0) where
   pub same_again : SameAgain A B
   same_again c = λ i. record { station = c.station; sequence = c.sequence; moment = c.moment; body = body_again c.body i }
 
-  names_by : (moment : ℕ) (b : Body A) (m : Waiting) → names_in moment (body_under B b) m ≡ names_in moment b m
+  names_by : (moment : ℕ) (b : Body A) (m : Item) → names_in moment (body_under B b) m ≡ names_in moment b m
   names_by moment (RuleSet prefix rule) m = refl
   names_by moment (RuleClear prefix) m = refl
   names_by moment (Mm itsi area pdu) m = refl
@@ -73,14 +73,14 @@ module _ {A : Type 0} (B C : Type 0) where
   new_same : (s : State) (c : Command A) → step_new {B = C} s (under B c) ≡ step_new {B = C} s c
   new_same s c = ap (λ (r : State × Reply C). if nat_lt s.count last_number then r else (s, Refused NumbersUsedUp)) (step_by s c c.body)
 
-  after_by : (s : State) (c : Command A) (kept : Option Served) → step_after {B = C} s (under B c) kept ≡ step_after {B = C} s c kept
+  after_by : (s : State) (c : Command A) (kept : Option LastAccepted) → step_after {B = C} s (under B c) kept ≡ step_after {B = C} s c kept
   after_by s c None = new_same s c
   after_by s c (Some last) =
       ap (λ (r : State × Reply C). if nat_lt c.sequence last.sequence then (s, Refused (OldSequence last.sequence)) else (if c.sequence == last.sequence then (s, Kept last.number last.pdu) else r)) (new_same s c)
 
   pub step_is_same : StepIsSame A B C
   unfolding step
-  step_is_same s c = ap (λ (r : State × Reply C). if is_station s c.station then r else (s, Refused UnknownStation)) (after_by s c (kept_at s c.station))
+  step_is_same s c = ap (λ (r : State × Reply C). if is_station s c.station then r else (s, Refused UnknownStation)) (after_by s c (last_at s c.station))
 
 module _ {A : Type 0} (B : Type 0) where
   pub accepts_are_same : AcceptsAreSame A B

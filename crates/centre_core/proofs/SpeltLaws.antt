@@ -1,4 +1,4 @@
--- What is kept of a short data PDU is the written form of one of its kind and reference.
+-- What waits of a short data PDU is the written form of one of its kind and reference.
 use Rattle.std.proofs.Common.{◌≡◌, ℕ, Bool, true, List, refl, ap, sym, ◌∙◌, arith, Option, Some, None, Result, Ok, Err}
 use Rattle.std.specs.Prelude.{◌==◌}
 use Rattle.std.proofs.lemmas.Bool.Decides.{nat_tests}
@@ -13,7 +13,7 @@ use Rattle.sds_tl.proofs.Spelling.{value_takes}
 use Rattle.sds_tl.proofs.Cleared.{cleared_is_canon, cleared_spells, heading-cleared, cleared-message}
 use Rattle.mailbox.specs.declared.key.Kind.TheVariants.{Message, Report}
 use Rattle.mailbox.specs.declared.key.Envelope.{Envelope}
-use Rattle.mailbox.specs.Kept.{is_head_of, IsSpelt}
+use Rattle.mailbox.specs.Sound.{is_head_of, IsSpelt}
 use Rattle.centre_core.specs.State.{State}
 use Rattle.centre_core.specs.Step.{message_of, report_of}
 
@@ -27,7 +27,7 @@ message_written pdu reference (Ok (heads.Transfer request r)) is e = cleared-mes
 message_written pdu reference (Ok (heads.Report acknowledge status r)) is e = absurd (false≢true e)
 message_written pdu reference (Ok (heads.Ack status r)) is e = absurd (false≢true e)
 
--- a message's PDU is kept as it came
+-- a message's PDU waits as it came
 pub message_spelt : (s : State) (moment : ℕ) (e : Envelope) (pdu : List Bool) → is_head_of Message e.reference (heading pdu) ≡ true → IsSpelt (message_of s moment e pdu)
 message_spelt s moment e pdu is = record { head = is; written = message_written pdu e.reference (heading pdu) refl is }
 
@@ -40,7 +40,7 @@ cleared_twice pdu none =
     let spells = value_takes (Unit {0}) pdu none in
     cleared_is_canon (Unit {0}) (value pdu) (cleared pdu) (cleared_spells (Unit {0}) (value pdu) pdu spells) ∙ sym (cleared_is_canon (Unit {0}) (value pdu) pdu spells)
 
--- a report's PDU is kept in its written form
+-- a report's PDU waits in its written form
 pub report_spelt : (s : State) (moment : ℕ) (e : Envelope) (pdu : List Bool) → is_head_of Report e.reference (heading pdu) ≡ true → IsSpelt (report_of s moment e pdu)
 report_spelt s moment e pdu is =
     let none : fault pdu ≡ None = report_read pdu e.reference (heading pdu) refl is in
@@ -54,8 +54,8 @@ unless_ok None x y e = cc
 unless_ok (Some f) x y e = cc
 
 -- what is written of a PDU is its written form
-pub is_cleared : (pdu kept : List Bool) → clearing pdu ≡ Ok kept → kept ≡ cleared pdu
-is_cleared pdu kept e = unless_ok (fault pdu) (cleared pdu) kept e
+pub is_cleared : (pdu bits : List Bool) → clearing pdu ≡ Ok bits → bits ≡ cleared pdu
+is_cleared pdu bits e = unless_ok (fault pdu) (cleared pdu) bits e
 
 same : (n : ℕ) → (n == n) ≡ true
 same n = grind (arith, nat_tests)

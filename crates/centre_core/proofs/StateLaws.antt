@@ -14,54 +14,54 @@ use Rattle.registration.specs.declared.limits.Limits.{Limits}
 use Rattle.registration.specs.Registered.{Registered, empty_registered, set_refusal, locate_refusal, detach_refusal}
 use Rattle.group_attach.specs.Attached.{Attached, no_groups}
 use Rattle.group_attach.specs.Applied.{apply_refusal}
-use Rattle.group_attach.proofs.KeptLaws.{no_groups_fit, no_groups_known}
+use Rattle.group_attach.proofs.AllowedLaws.{no_groups_fit, no_groups_known}
 use Rattle.sds_tl.specs.declared.fault.SdsFault.{SdsFault}
 use Rattle.sds_tl.specs.declared.pdu.Head.{Head}
 use Rattle.sds_tl.specs.declared.pdu.Head.TheVariants as heads
 use Rattle.sds_tl.specs.Reading.{heading}
 use Rattle.sds_tl.specs.Transfers.{transfer_reference}
-use Rattle.mailbox.specs.Values.{Waiting, Mailed, empty_mailed}
+use Rattle.mailbox.specs.Values.{Item, Mailed, empty_mailed}
 use Rattle.mailbox.specs.Refusals.{post_refusal, report_refusal, ack_refusal, sent_refusal, delete_refusal}
 use Rattle.mailbox.specs.declared.key.Kind.TheVariants.{Message, Report}
 use Rattle.mailbox.specs.declared.key.Envelope.{Envelope}
 use Rattle.mailbox.specs.declared.key.GroupEnvelope.{GroupEnvelope}
-use Rattle.mailbox.specs.Tests.{is_reported}
+use Rattle.mailbox.specs.Item.{is_reported}
 use Rattle.mailbox.specs.Mail.{posted, reported}
 use Rattle.mailbox.specs.GroupPost.{group_posted, group_refusal}
-use Rattle.mailbox.specs.Kept.{IsMail, is_head_of}
-use Rattle.mailbox.proofs.Kept.{empty_is_mail}
+use Rattle.mailbox.specs.Sound.{IsMail, is_head_of}
+use Rattle.mailbox.proofs.Sound.{empty_is_mail}
 use Rattle.centre_core.specs.declared.command.Command.{Command}
 use Rattle.centre_core.specs.declared.command.Body.{Body}
 use Rattle.centre_core.specs.declared.command.Body.TheVariants.{RuleSet, RuleClear, Mm, Sds, GroupSds, Sent, Expire, Delete}
 use Rattle.centre_core.specs.declared.reply.Reply.{Reply}
 use Rattle.centre_core.specs.declared.reply.Reply.TheVariants.{Accepted, Kept, Refused}
 use Rattle.centre_core.specs.declared.reply.Refusal.{Refusal}
-use Rattle.centre_core.specs.State.{State, Served, last_number, IsState, IsNumbered}
-use Rattle.centre_core.specs.Step.{step, step_new, step_after, step_body, step_made, step_mm, step_sds, step_group_sds, accepted, kept_at, is_station, envelope, mail_changed, message_of, report_of, group_envelope, copies_of}
+use Rattle.centre_core.specs.State.{State, LastAccepted, last_number, IsState, IsOfAccepted}
+use Rattle.centre_core.specs.Step.{step, step_new, step_after, step_body, step_made, step_mm, step_sds, step_group_sds, accepted, last_at, is_station, envelope, mail_changed, message_of, report_of, group_envelope, copies_of}
 use Rattle.centre_core.specs.History.{is_acceptance, accepts, next, names, made}
-use Rattle.centre_core.specs.Laws.{EmptyIsState, StepKeepsState, StepIsNext}
+use Rattle.centre_core.specs.Laws.{EmptyIsState, NextIsState, StepIsNext}
 use Rattle.centre_core.proofs.ReadingLaws.{moved, reading_moved}
 use Rattle.centre_core.proofs.MailEffects.{IsEffect, message_effect, copies_effect, report_effect}
 use Rattle.centre_core.proofs.RegisteredLaws.{empty_within}
 use Rattle.centre_core.proofs.StepLaws.{Advanced, Outcome, says}
 
-one_more : (n : ℕ) (kept : Option Served) → IsNumbered n kept → IsNumbered (n + 1) kept
+one_more : (n : ℕ) (kept : Option LastAccepted) → IsOfAccepted n kept → IsOfAccepted (n + 1) kept
 one_more n None h = h
 one_more n (Some last) h = (h.0, omega (arith, h.1))
 
 module _ {A : Type 0} where
-  pub accepted_state : (s new : State) (c : Command A) (pdu : Option (List Bool)) (ends : Waiting → Bool) (makes : List Waiting) → s.count < last_number → IsEffect s new ends makes → IsState s → IsState (accepted new c pdu)
+  pub accepted_state : (s new : State) (c : Command A) (pdu : Option (List Bool)) (ends : Item → Bool) (makes : List Item) → s.count < last_number → IsEffect s new ends makes → IsState s → IsState (accepted new c pdu)
   accepted_state s new c pdu ends makes left change h =
-      let kept = change.made h in
-      let entries : All (IsNumbered (new.count + 1)) new.served =
-      subst (λ served. All (IsNumbered (new.count + 1)) served) (sym change.served) (subst (λ n. All (IsNumbered (n + 1)) s.served) (sym change.count) (All-weaker (IsNumbered s.count) (IsNumbered (s.count + 1)) (one_more s.count) s.served h.5)) in (
-        kept.0,
-        kept.1,
-        (subst (λ n. IsMail (n + 1) new.mail) (sym change.count) kept.2.0, kept.2.1),
-        length-set new.served (c.station - 1) _ ∙ ap length change.served ∙ h.3 ∙ ap (λ l. l.stations) (sym change.limits),
-        omega (arith, left, change.count),
-        All-set (IsNumbered (new.count + 1)) new.served (c.station - 1) _ (omega arith, omega arith) entries,
-      )
+      let still = change.made h in
+      let entries : All (IsOfAccepted (new.count + 1)) new.served =
+      subst (λ served. All (IsOfAccepted (new.count + 1)) served) (sym change.served) (subst (λ n. All (IsOfAccepted (n + 1)) s.served) (sym change.count) (All-weaker (IsOfAccepted s.count) (IsOfAccepted (s.count + 1)) (one_more s.count) s.served h.last)) in record {
+        within = still.0;
+        attachments = still.1;
+        mail = record { in_order = subst (λ n. IsMail (n + 1) new.mail) (sym change.count) still.2.in_order; room = still.2.room };
+        stations = length-set new.served (c.station - 1) _ ∙ ap length change.served ∙ h.stations ∙ ap (λ l. l.stations) (sym change.limits);
+        count = omega (arith, left, change.count);
+        last = All-set (IsOfAccepted (new.count + 1)) new.served (c.station - 1) _ (omega arith, omega arith) entries;
+      }
 
   advanced_state : (s t : State) (c : Command A) → Advanced s t c → IsState s → IsState t
   advanced_state s t c a h = subst IsState (sym a.is) (accepted_state s a.made c a.pdu (names c) (made s c) a.numbers_left a.change h)
@@ -71,54 +71,54 @@ module _ {A : Type 0} where
   state_by s t c (Kept number pdu) e h = subst IsState (sym e) h
   state_by s t c (Refused refusal) e h = subst IsState (sym e) h
 
-pub step_keeps_state : {A : Type 0} → StepKeepsState A
-step_keeps_state {A} s c h = state_by s (next s c) c (step {B = A} s c).1 (says A s c) h
+pub next_is_state : {A : Type 0} → NextIsState A
+next_is_state {A} s c h = state_by s (next s c) c (step {B = A} s c).1 (says A s c) h
 
 pub empty_is_state : EmptyIsState
-empty_is_state limits = (
-  empty_within limits,
-  (no_groups_fit, no_groups_known (empty_registered limits)),
-  (empty_is_mail limits 0, refl),
-  length-replicate limits.stations None,
-  omega arith,
-  All-replicate (IsNumbered 0) limits.stations None tt,
-)
+empty_is_state limits = record {
+  within = empty_within limits;
+  attachments = (no_groups_fit, no_groups_known (empty_registered limits));
+  mail = record { in_order = empty_is_mail limits 0; room = refl };
+  stations = length-replicate limits.stations None;
+  count = omega arith;
+  last = All-replicate (IsOfAccepted 0) limits.stations None tt;
+}
 
 -- a register that was just made
-pub new_state : (limits : Limits) (r : Registered) (groups : Attached) (mail : Mailed) (served : List (Option Served)) → r ≡ empty_registered limits → groups ≡ no_groups → mail ≡ empty_mailed limits → served ≡ replicate limits.stations None
+pub new_state : (limits : Limits) (r : Registered) (groups : Attached) (mail : Mailed) (served : List (Option LastAccepted)) → r ≡ empty_registered limits → groups ≡ no_groups → mail ≡ empty_mailed limits → served ≡ replicate limits.stations None
     → IsState (record { registered = r; groups = groups; mail = mail; served = served; count = 0 })
 new_state limits r groups mail served e f g k = rw (e, f, g, k) (empty_is_state limits)
 
 -- the same of a register whose fields are the accepted state's
 module _ {A : Type 0} where
-  counted_state : (s new : State) (c : Command A) (ends : Waiting → Bool) (makes : List Waiting) (mail : Mailed) (served : List (Option Served)) (count : ℕ) → IsEffect s new ends makes → new ≡ mail_changed s mail → s.count < last_number
+  counted_state : (s new : State) (c : Command A) (ends : Item → Bool) (makes : List Item) (mail : Mailed) (served : List (Option LastAccepted)) (count : ℕ) → IsEffect s new ends makes → new ≡ mail_changed s mail → s.count < last_number
       → served ≡ slice_set s.served (c.station - 1) (Some (record { sequence = c.sequence; number = s.count + 1; pdu = None })) → count ≡ s.count + 1 → IsState s → IsState (record { registered = s.registered; groups = s.groups; mail = mail; served = served; count = count })
-  counted_state s new c ends makes mail served count change is left served_is count_is h =
-      rw (served_is, count_is) (accepted_state s (mail_changed s mail) c None ends makes left (subst (λ t. IsEffect s t ends makes) is change) h)
+  counted_state s new c ends makes mail served count change is left last_accepted_is count_is h =
+      rw (last_accepted_is, count_is) (accepted_state s (mail_changed s mail) c None ends makes left (subst (λ t. IsEffect s t ends makes) is change) h)
 
-  pub posted_state : (s : State) (c : Command A) (e : Envelope) (pdu : List Bool) (w : Waiting) (mail : Mailed) (served : List (Option Served)) (count : ℕ) → is_head_of Message e.reference (heading pdu) ≡ true → s.count < last_number
+  pub posted_state : (s : State) (c : Command A) (e : Envelope) (pdu : List Bool) (w : Item) (mail : Mailed) (served : List (Option LastAccepted)) (count : ℕ) → is_head_of Message e.reference (heading pdu) ≡ true → s.count < last_number
       → w ≡ message_of s c.moment e pdu → (post_refusal s.registered s.mail w ≡ None) × (mail ≡ posted s.mail w)
       → served ≡ slice_set s.served (c.station - 1) (Some (record { sequence = c.sequence; number = s.count + 1; pdu = None })) → count ≡ s.count + 1 → IsState s → IsState (record { registered = s.registered; groups = s.groups; mail = mail; served = served; count = count })
-  posted_state s c e pdu w mail served count is left w_is done served_is count_is h =
-      let m : Waiting = message_of s c.moment e pdu in
+  posted_state s c e pdu w mail served count is left w_is done last_accepted_is count_is h =
+      let m : Item = message_of s c.moment e pdu in
       counted_state s (mail_changed s (posted s.mail m)) c (λ _. false) (m ∷ []) mail served count (message_effect s c.moment e pdu is (ap (post_refusal s.registered s.mail) (sym w_is) ∙ done.0))
-      (ap (mail_changed s) (sym (done.1 ∙ ap (posted s.mail) w_is))) left served_is count_is h
+      (ap (mail_changed s) (sym (done.1 ∙ ap (posted s.mail) w_is))) left last_accepted_is count_is h
 
-  pub copies_state : (s : State) (c : Command A) (e : GroupEnvelope) (pdu : List Bool) (ws : List Waiting) (mail : Mailed) (served : List (Option Served)) (count : ℕ) → is_head_of Message e.reference (heading pdu) ≡ true → s.count < last_number
+  pub copies_state : (s : State) (c : Command A) (e : GroupEnvelope) (pdu : List Bool) (ws : List Item) (mail : Mailed) (served : List (Option LastAccepted)) (count : ℕ) → is_head_of Message e.reference (heading pdu) ≡ true → s.count < last_number
       → ws ≡ copies_of s c.moment e pdu → (group_refusal s.registered s.mail e ws ≡ None) × (mail ≡ group_posted s.mail ws)
       → served ≡ slice_set s.served (c.station - 1) (Some (record { sequence = c.sequence; number = s.count + 1; pdu = None })) → count ≡ s.count + 1 → IsState s → IsState (record { registered = s.registered; groups = s.groups; mail = mail; served = served; count = count })
-  copies_state s c e pdu ws mail served count is left ws_are done served_is count_is h =
-      let copies : List Waiting = copies_of s c.moment e pdu in
+  copies_state s c e pdu ws mail served count is left ws_are done last_accepted_is count_is h =
+      let copies : List Item = copies_of s c.moment e pdu in
       counted_state s (mail_changed s (group_posted s.mail copies)) c (λ _. false) copies mail served count (copies_effect s c.moment e pdu is (ap (group_refusal s.registered s.mail e) (sym ws_are) ∙ done.0))
-      (ap (mail_changed s) (sym (done.1 ∙ ap (group_posted s.mail) ws_are))) left served_is count_is h
+      (ap (mail_changed s) (sym (done.1 ∙ ap (group_posted s.mail) ws_are))) left last_accepted_is count_is h
 
-  pub reported_state : (s : State) (c : Command A) (e : Envelope) (status : ℕ) (pdu : List Bool) (w : Waiting) (mail : Mailed) (served : List (Option Served)) (count : ℕ) → is_head_of Report e.reference (heading pdu) ≡ true → s.count < last_number
+  pub reported_state : (s : State) (c : Command A) (e : Envelope) (status : ℕ) (pdu : List Bool) (w : Item) (mail : Mailed) (served : List (Option LastAccepted)) (count : ℕ) → is_head_of Report e.reference (heading pdu) ≡ true → s.count < last_number
       → w ≡ report_of s c.moment e pdu → (report_refusal s.registered s.mail e status w ≡ None) × (mail ≡ reported s.mail e status w)
       → served ≡ slice_set s.served (c.station - 1) (Some (record { sequence = c.sequence; number = s.count + 1; pdu = None })) → count ≡ s.count + 1 → IsState s → IsState (record { registered = s.registered; groups = s.groups; mail = mail; served = served; count = count })
-  reported_state s c e status pdu w mail served count is left w_is done served_is count_is h =
-      let m : Waiting = report_of s c.moment e pdu in
+  reported_state s c e status pdu w mail served count is left w_is done last_accepted_is count_is h =
+      let m : Item = report_of s c.moment e pdu in
       counted_state s (mail_changed s (reported s.mail e status m)) c (is_reported e status) [] mail served count (report_effect s c.moment e status pdu is (ap (report_refusal s.registered s.mail e status) (sym w_is) ∙ done.0))
-      (ap (mail_changed s) (sym (done.1 ∙ ap (reported s.mail e status) w_is))) left served_is count_is h
+      (ap (mail_changed s) (sym (done.1 ∙ ap (reported s.mail e status) w_is))) left last_accepted_is count_is h
 
 -- what a step says wherever its reply is kept: the state, and whether it accepts
 abbrev seen : {B : Type 0} → State × Reply B → State × Bool
@@ -169,13 +169,13 @@ module _ {A : Type 0} (B C : Type 0) where
   same_new : (s : State) (c : Command A) → Same {B = B} {C = C} (step_new s c) (step_new s c)
   same_new s c = same_if (nat_lt s.count last_number) _ _ _ _ (same_body s c c.body) refl
 
-  same_after : (s : State) (c : Command A) (kept : Option Served) → Same {B = B} {C = C} (step_after s c kept) (step_after s c kept)
+  same_after : (s : State) (c : Command A) (kept : Option LastAccepted) → Same {B = B} {C = C} (step_after s c kept) (step_after s c kept)
   same_after s c None = same_new s c
   same_after s c (Some last) = same_if (nat_lt c.sequence last.sequence) _ _ _ _ refl (same_if (c.sequence == last.sequence) _ _ _ _ refl (same_new s c))
 
   same_step : (s : State) (c : Command A) → Same {B = B} {C = C} (step s c) (step s c)
   unfolding step
-  same_step s c = same_if (is_station s c.station) _ _ _ _ (same_after s c (kept_at s c.station)) refl
+  same_step s c = same_if (is_station s c.station) _ _ _ _ (same_after s c (last_at s c.station)) refl
 
 pub step_is_next : {A : Type 0} (B : Type 0) → StepIsNext A B
 step_is_next {A} B s c = ap (λ r. r.0) (same_step B A s c)

@@ -8,10 +8,10 @@ use Rattle.centre_core.specs.declared.command.Command.{Command}
 use Rattle.centre_core.specs.declared.reply.Reply.{Reply}
 use Rattle.centre_core.specs.declared.reply.Reply.TheVariants.{Accepted, Kept, Refused}
 use Rattle.centre_core.specs.State.{State}
-use Rattle.centre_core.specs.Step.{step, is_station, kept_at}
+use Rattle.centre_core.specs.Step.{step, is_station, last_at}
 use Rattle.centre_core.specs.History.{is_acceptance, accepts, next}
-use Rattle.centre_core.specs.Histories.{reply_pdu, served_by}
-use Rattle.centre_core.specs.Laws.{AcceptedAreKept}
+use Rattle.centre_core.specs.Histories.{reply_pdu, accepted_by}
+use Rattle.centre_core.specs.Laws.{AcceptedAreLast}
 use Rattle.centre_core.proofs.StepLaws.{Advanced, Outcome, says}
 
 -- there is a place for each station
@@ -22,9 +22,9 @@ pub above_none : (n m : ℕ) → (nat_lt 0 n && nat_le n m) ≡ true → (0 < n)
 above_none n m h = grind (arith, nat_tests)
 
 -- the entry of station 1 comes first
-pub kept_of : (s : State) (station : ℕ) → 0 < station → kept_at s station ≡ get_or s.served (station - 1) None
-kept_of s zero some = absurd (omega (arith, some))
-kept_of s (suc before) some = let same : before ≡ suc before - 1 = omega arith in ap (λ n. get_or s.served n None) same
+pub last_at_is : (s : State) (station : ℕ) → 0 < station → last_at s station ≡ get_or s.served (station - 1) None
+last_at_is s zero some = absurd (omega (arith, some))
+last_at_is s (suc before) some = let same : before ≡ suc before - 1 = omega arith in ap (λ n. get_or s.served n None) same
 
 station_if : {B : Type 0} (b : Bool) (x : State × Reply B) (y : State × Reply B) → is_acceptance y.1 ≡ false → is_acceptance (if b then x else y).1 ≡ true → b ≡ true
 station_if true x y h e = refl
@@ -46,14 +46,14 @@ module _ {A : Type 0} where
   pub same_stations : (s t : State) (c : Command A) → Advanced s t c → (i : ℕ) → is_station t i ≡ is_station s i
   same_stations s t c h i = ap (λ u. is_station u i) h.is ∙ ap (λ l. nat_lt 0 i && nat_le i l.stations) h.change.limits
 
-  pub kept_here : (s t : State) (c : Command A) (h : Advanced s t c) → HasPlaces s → is_station s c.station ≡ true → kept_at t c.station ≡ Some (record { sequence = c.sequence; number = h.made.count + 1; pdu = h.pdu })
+  pub kept_here : (s t : State) (c : Command A) (h : Advanced s t c) → HasPlaces s → is_station s c.station ≡ true → last_at t c.station ≡ Some (record { sequence = c.sequence; number = h.made.count + 1; pdu = h.pdu })
   kept_here s t c h places here =
       let place : (0 < c.station) × (c.station ≤ s.registered.limits.stations) = above_none _ _ here in
       let same : length h.made.served ≡ length s.served = ap length h.change.served in
       let within : c.station - 1 < length h.made.served = omega arith in
-      kept_of t c.station place.0 ∙ ap (λ u. get_or u.served (c.station - 1) None) h.is ∙ get_or-set_same h.made.served (c.station - 1) _ None within
+      last_at_is t c.station place.0 ∙ ap (λ u. get_or u.served (c.station - 1) None) h.is ∙ get_or-set_same h.made.served (c.station - 1) _ None within
 
-  pub kept_elsewhere : (s t : State) (c : Command A) → Advanced s t c → is_station s c.station ≡ true → (i : ℕ) → i ≢ c.station → kept_at t i ≡ kept_at s i
+  pub kept_elsewhere : (s t : State) (c : Command A) → Advanced s t c → is_station s c.station ≡ true → (i : ℕ) → i ≢ c.station → last_at t i ≡ last_at s i
   kept_elsewhere s t c h here zero apart = refl
   kept_elsewhere s t c h here (suc j) apart =
       let place : (0 < c.station) × (c.station ≤ s.registered.limits.stations) = above_none _ _ here in
@@ -73,15 +73,15 @@ module _ {A : Type 0} where
   pub advanced : (s : State) (c : Command A) → accepts s c ≡ true → (a : Advanced s (next s c) c) × (a.pdu ≡ reply_pdu (step {B = A} s c).1)
   advanced s c ok = advanced_by s (next s c) c (step s c).1 (says A s c) ok
 
-  kept_by : (s : State) (c : Command A) → HasPlaces s → accepts s c ≡ true → (station : ℕ) (b : Bool) → (station == c.station) ≡ b → kept_at (next s c) station ≡ (if b then Some (served_by s c) else kept_at s station)
+  kept_by : (s : State) (c : Command A) → HasPlaces s → accepts s c ≡ true → (station : ℕ) (b : Bool) → (station == c.station) ≡ b → last_at (next s c) station ≡ (if b then Some (accepted_by s c) else last_at s station)
   kept_by s c places ok station true e =
       let a = advanced s c ok in
-      ap (kept_at (next s c)) (same_number station c.station e) ∙ kept_here s (next s c) c a.0 places (of_station A s c ok)
+      ap (last_at (next s c)) (same_number station c.station e) ∙ kept_here s (next s c) c a.0 places (of_station A s c ok)
       ∙ (λ i. Some (record { sequence = c.sequence; number = a.0.change.count i + 1; pdu = a.1 i }))
   kept_by s c places ok station false e = kept_elsewhere s (next s c) c (advanced s c ok).0 (of_station A s c ok) station (other_number station c.station e)
 
-  pub kept_next : (s : State) (c : Command A) → HasPlaces s → accepts s c ≡ true → (station : ℕ) → kept_at (next s c) station ≡ (if station == c.station then Some (served_by s c) else kept_at s station)
+  pub kept_next : (s : State) (c : Command A) → HasPlaces s → accepts s c ≡ true → (station : ℕ) → last_at (next s c) station ≡ (if station == c.station then Some (accepted_by s c) else last_at s station)
   kept_next s c places ok station = kept_by s c places ok station (station == c.station) refl
 
-pub accepted_are_kept : {A : Type 0} → AcceptedAreKept A
-accepted_are_kept s state c ok station = kept_next s c state.3 ok station
+pub accepted_are_last : {A : Type 0} → AcceptedAreLast A
+accepted_are_last s state c ok station = kept_next s c state.stations ok station

@@ -17,8 +17,8 @@ use Rattle.sds_tl.specs.declared.pdu.Head.TheVariants as heads
 use Rattle.sds_tl.specs.Reading.{heading}
 use Rattle.sds_tl.specs.Transfers.{transfer_reference}
 use Rattle.mailbox.specs.declared.fault.MailFault.{MailFault}
-use Rattle.mailbox.specs.Values.{Waiting}
-use Rattle.mailbox.specs.Tests.{is_at, is_confirmed, is_expired}
+use Rattle.mailbox.specs.Values.{Item}
+use Rattle.mailbox.specs.Item.{is_at, is_confirmed, is_expired}
 use Rattle.mailbox.specs.Refusals.{post_refusal, report_refusal, ack_refusal, sent_refusal, delete_refusal}
 use Rattle.mailbox.specs.GroupPost.{group_refusal}
 use Rattle.centre_core.specs.declared.command.Command.{Command}
@@ -28,8 +28,8 @@ use Rattle.centre_core.specs.declared.reply.Reply.{Reply}
 use Rattle.centre_core.specs.declared.reply.Reply.TheVariants.{Accepted, Kept, Refused}
 use Rattle.centre_core.specs.declared.reply.Refusal.{Refusal}
 use Rattle.centre_core.specs.declared.reply.Refusal.TheVariants.{Registration, Mail}
-use Rattle.centre_core.specs.State.{State, Served, last_number}
-use Rattle.centre_core.specs.Step.{step, step_new, step_after, step_body, step_made, step_mm, step_sds, step_group_sds, accepted, kept_at, is_station, envelope, message_of, report_of, group_envelope, copies_of}
+use Rattle.centre_core.specs.State.{State, LastAccepted, last_number}
+use Rattle.centre_core.specs.Step.{step, step_new, step_after, step_body, step_made, step_mm, step_sds, step_group_sds, accepted, last_at, is_station, envelope, message_of, report_of, group_envelope, copies_of}
 use Rattle.centre_core.specs.History.{is_acceptance, names_by_head, names_in, names, made_by_head, made_by_reference, made_in, made}
 use Rattle.centre_core.proofs.EffectLaws.{rule_set_change, rule_cleared_change, radio_located_change, radio_detached_change, groups_changed_change}
 use Rattle.centre_core.proofs.SpeltLaws.{message_headed, report_headed, transfer_headed}
@@ -45,7 +45,7 @@ unnamed f (Some x) e = cc
 
 module _ {A : Type 0} where
   -- t is the state after the command was accepted in s, where it ends the messages that pass `ends` and makes those in `makes`
-  pub record AdvancedBy (s t : State) (c : Command A) (ends : Waiting → Bool) (makes : List Waiting) : Type 0 where
+  pub record AdvancedBy (s t : State) (c : Command A) (ends : Item → Bool) (makes : List Item) : Type 0 where
     pub made : State
     pub pdu : Option (List Bool)
     pub is : t ≡ accepted made c pdu
@@ -57,7 +57,7 @@ module _ {A : Type 0} where
 
 module _ {A B : Type 0} where
   -- it is accepted, and the reply has the number and the PDU that are kept, or nothing changes
-  abbrev pub OutcomeBy : State → Command A → (Waiting → Bool) → List Waiting → State → Reply B → Type 0
+  abbrev pub OutcomeBy : State → Command A → (Item → Bool) → List Item → State → Reply B → Type 0
   OutcomeBy s c ends makes t (Accepted number pdu) = (a : AdvancedBy s t c ends makes) × (number ≡ s.count + 1) × (pdu ≡ a.pdu)
   OutcomeBy s c ends makes t (Kept number pdu) = t ≡ s
   OutcomeBy s c ends makes t (Refused refusal) = t ≡ s
@@ -66,10 +66,10 @@ module _ {A B : Type 0} where
   Outcome s c t reply = OutcomeBy s c (names c) (made s c) t reply
 
 module _ {A : Type 0} (B : Type 0) where
-  abbrev pub Says : State → Command A → (Waiting → Bool) → List Waiting → State × Reply B → Type 0
+  abbrev pub Says : State → Command A → (Item → Bool) → List Item → State × Reply B → Type 0
   Says s c ends makes r = OutcomeBy s c ends makes r.0 r.1
 
-  says_made : {F : Type 0} (s : State) (c : Command A) (ends : Waiting → Bool) (makes : List Waiting) (new : State) (pdu : Option (List Bool)) (name : F → Refusal B) (f : Option F) → s.count < last_number → (f ≡ None → IsEffect s new ends makes) → Says s c ends makes (step_made s c new pdu (option_map name f))
+  says_made : {F : Type 0} (s : State) (c : Command A) (ends : Item → Bool) (makes : List Item) (new : State) (pdu : Option (List Bool)) (name : F → Refusal B) (f : Option F) → s.count < last_number → (f ≡ None → IsEffect s new ends makes) → Says s c ends makes (step_made s c new pdu (option_map name f))
   says_made s c ends makes new pdu name (Some fault) left change = refl
   says_made s c ends makes new pdu name None left change = (record { made = new; pdu = pdu; is = refl; change = change refl; numbers_left = left }, refl, refl)
 
@@ -116,14 +116,14 @@ module _ {A : Type 0} (B : Type 0) where
   says_new : (s : State) (c : Command A) → Says s c (names c) (made s c) (step_new s c)
   says_new s c = says_if s c (nat_lt s.count last_number) _ _ (λ e. says_body s c c.body (below s.count e)) (λ _. refl)
 
-  says_after : (s : State) (c : Command A) (kept : Option Served) → Says s c (names c) (made s c) (step_after s c kept)
+  says_after : (s : State) (c : Command A) (kept : Option LastAccepted) → Says s c (names c) (made s c) (step_after s c kept)
   says_after s c None = says_new s c
   says_after s c (Some last) = says_if s c (nat_lt c.sequence last.sequence) _ _ (λ _. refl) (λ _. says_if s c (c.sequence == last.sequence) _ _ (λ _. refl) (λ _. says_new s c))
 
   -- a command is accepted, and then this is the state, or it changes nothing
   pub says : (s : State) (c : Command A) → Says s c (names c) (made s c) (step s c)
   unfolding step
-  says s c = says_if s c (is_station s c.station) _ _ (λ _. says_after s c (kept_at s c.station)) (λ _. refl)
+  says s c = says_if s c (is_station s c.station) _ _ (λ _. says_after s c (last_at s c.station)) (λ _. refl)
 
   idle_by : (s : State) (c : Command A) (t : State) (reply : Reply B) → Outcome s c t reply → is_acceptance reply ≡ false → t ≡ s
   idle_by s c t (Accepted number pdu) h e = cc

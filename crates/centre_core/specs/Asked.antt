@@ -1,10 +1,12 @@
 -- A command as a value. A is the allocator that the bits in it lie under: nothing depends on it.
-use Rattle.std.specs.Prelude.{ℕ}
+use Rattle.registration.specs.Numbers.{Station}
+use Rattle.mailbox.specs.Numbers.{Moment}
+use Rattle.centre_core.specs.Numbers.{Sequence}
 use Rattle.centre_core.specs.declared.command.Body.{Body}
 
 -- its station, its sequence among the commands of that station, its moment, and what is asked
 pub record Asked (A : Type 0) : Type 0 where
-  pub station : ℕ
-  pub sequence : ℕ
-  pub moment : ℕ
+  pub station : Station
+  pub sequence : Sequence
+  pub moment : Moment
   pub body : Body A

@@ -1,11 +1,13 @@
 -- Histories: commands that are accepted one after the other.
-use Rattle.std.specs.Prelude.{ℕ, ◌+◌, ◌-◌, ◌==◌, nat_lt, IsTrue, Bool, List, [], ◌∷◌, Option, Some, None, if◌then◌else◌}
+use Rattle.std.specs.Prelude.{◌-◌, ◌==◌, nat_lt, IsTrue, Bool, List, [], ◌∷◌, Option, Some, None, if◌then◌else◌}
 use Rattle.std.specs.List.{slice_get}
+use Rattle.registration.specs.Numbers.{Station}
+use Rattle.mailbox.specs.Numbers.{Number}
 use Rattle.centre_core.specs.declared.command.Command.{Command}
 use Rattle.centre_core.specs.declared.reply.Reply.{Reply}
 use Rattle.centre_core.specs.declared.reply.Reply.TheVariants.{Accepted, Kept, Refused}
-use Rattle.centre_core.specs.State.{State, Served}
-use Rattle.centre_core.specs.Step.{step}
+use Rattle.centre_core.specs.State.{State, LastAccepted}
+use Rattle.centre_core.specs.Step.{step, kept_of}
 use Rattle.centre_core.specs.History.{accepts, next}
 
 -- the PDU of a reply
@@ -21,14 +23,18 @@ module _ {A : Type 0} where
   IsHistory base (c ∷ cs) = IsTrue (accepts base c) × IsHistory (next base c) cs
 
   -- the command numbered n, which stands at place n less the base's count; places are counted from 1
-  abbrev pub numbered : State → List (Command A) → ℕ → Option (Command A)
+  abbrev pub numbered : State → List (Command A) → Number → Option (Command A)
   numbered base cs n = if nat_lt base.count n then slice_get cs (n - base.count - 1) else None
 
   -- what is kept of a command that this state accepts: its sequence, its number and the PDU of its reply
-  abbrev pub served_by : State → Command A → Served
-  served_by s c = record { sequence = c.sequence; number = s.count + 1; pdu = reply_pdu (step {B = A} s c).1 }
+  abbrev pub accepted_by : State → Command A → LastAccepted
+  accepted_by s c = kept_of s c (reply_pdu (step {B = A} s c).1)
+
+  -- of a station whose entry was this: that of the command, where it is the station's, or else this one
+  abbrev pub entry_after : State → Command A → Station → Option LastAccepted → Option LastAccepted
+  entry_after s c station entry = if station == c.station then Some (accepted_by s c) else entry
 
   -- of a station whose entry was this: that of its last command among these, or else this one
-  abbrev pub last_served : ℕ → Option Served → State → List (Command A) → Option Served
-  last_served station entry base [] = entry
-  last_served station entry base (c ∷ cs) = last_served station (if station == c.station then Some (served_by base c) else entry) (next base c) cs
+  abbrev pub last_accepted_of : Station → Option LastAccepted → State → List (Command A) → Option LastAccepted
+  last_accepted_of station entry base [] = entry
+  last_accepted_of station entry base (c ∷ cs) = last_accepted_of station (entry_after base c station entry) (next base c) cs

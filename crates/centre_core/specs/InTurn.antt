@@ -1,12 +1,14 @@
 -- What histories show of their commands, and what a reply says of the state after it.
 use Rattle.std.specs.Prelude.{◌≡◌, ◌⊎◌, ℕ, ◌+◌, ◌<◌, Bool, List, length, take, slice_get, Option, Some}
 use Rattle.std.specs.List.{list_any}
-use Rattle.mailbox.specs.Values.{Waiting}
+use Rattle.registration.specs.Numbers.{Station}
+use Rattle.mailbox.specs.Numbers.{Number}
+use Rattle.mailbox.specs.Values.{Item}
 use Rattle.centre_core.specs.declared.command.Command.{Command}
 use Rattle.centre_core.specs.declared.reply.Reply.{Reply}
 use Rattle.centre_core.specs.declared.reply.Reply.TheVariants.{Accepted, Kept, Refused}
-use Rattle.centre_core.specs.State.{State, Served}
-use Rattle.centre_core.specs.Step.{step, kept_at}
+use Rattle.centre_core.specs.State.{State, LastAccepted}
+use Rattle.centre_core.specs.Step.{step, last_at}
 use Rattle.centre_core.specs.History.{after, names, ended}
 use Rattle.centre_core.specs.Histories.{IsHistory}
 
@@ -16,31 +18,34 @@ module _ {A : Type 0} where
   reply_to s c = (step s c).1
 
   -- what is kept of a command that has this number and PDU
-  abbrev pub last_of : Command A → ℕ → Option (List Bool) → Served
+  abbrev pub last_of : Command A → Number → Option (List Bool) → LastAccepted
   last_of c number pdu = record { sequence = c.sequence; number = number; pdu = pdu }
 
   -- the command stands in the list at its number less the count of the base, and this is its reply there
-  pub record Lands (base : State) (l : List (Command A)) (c : Command A) (number : ℕ) (pdu : Option (List Bool)) : Type 0 where
+  pub record Lands (base : State) (l : List (Command A)) (c : Command A) (number : Number) (pdu : Option (List Bool)) : Type 0 where
     pub place : ℕ
     pub numbered : number ≡ base.count + place + 1
     pub stands : slice_get l place ≡ Some c
     pub replied : reply_to (after base (take place l)) c ≡ Accepted number pdu
 
   -- what is kept is of a command of this station in the list, with its number and reply there
-  pub record IsLeftBy (base : State) (l : List (Command A)) (station : ℕ) (last : Served) : Type 0 where
+  pub record IsLeftBy (base : State) (l : List (Command A)) (station : Station) (last : LastAccepted) : Type 0 where
     pub first : Command A
     pub of_station : first.station ≡ station
     pub of_sequence : first.sequence ≡ last.sequence
     pub lands : Lands base l first last.number last.pdu
+
+-- between two states: what is kept of any station is what was kept, or this of this station
+abbrev pub LastAreOldOr : State → State → ℕ → LastAccepted → Type 0
+LastAreOldOr s t station new = (k : ℕ) (last : LastAccepted) → 0 < k → last_at t k ≡ Some last → ((k ≡ station) × (last ≡ new)) ⊎ (last_at s k ≡ Some last)
 
 module _ {A B : Type 0} where
   -- what a reply says of the state t after the command in s: accepted, it has the next number, and what is kept of any station
   -- is what was kept, or of this command; kept, it is what the state keeps of its station; else nothing changed
   abbrev pub Replied : State → Command A → State → Reply B → Type 0
   Replied s c t (Accepted n p) =
-      (0 < c.station) × (n ≡ s.count + 1) × (t.count ≡ s.count + 1)
-      × ((k : ℕ) (last : Served) → 0 < k → kept_at t k ≡ Some last → ((k ≡ c.station) × (last ≡ last_of c n p)) ⊎ (kept_at s k ≡ Some last))
-  Replied s c t (Kept n p) = (t ≡ s) × (0 < c.station) × (kept_at s c.station ≡ Some (last_of c n p))
+      (0 < c.station) × (n ≡ s.count + 1) × (t.count ≡ s.count + 1) × LastAreOldOr s t c.station (last_of c n p)
+  Replied s c t (Kept n p) = (t ≡ s) × (0 < c.station) × (last_at s c.station ≡ Some (last_of c n p))
   Replied s c t (Refused r) = t ≡ s
 
 module _ (A B : Type 0) where
@@ -54,11 +59,11 @@ module _ (A : Type 0) where
   AcceptedAreCounted = (s : State) (cs : List (Command A)) → IsHistory s cs → (after s cs).count ≡ s.count + length cs
 
   -- what is kept of a station after them was kept before, or is of one of them
-  abbrev pub KeptAreOfTheList : Type 0
-  KeptAreOfTheList =
-      (s : State) (cs : List (Command A)) → IsHistory s cs → (station : ℕ) (last : Served) → 0 < station → kept_at (after s cs) station ≡ Some last
-      → IsLeftBy s cs station last ⊎ (kept_at s station ≡ Some last)
+  abbrev pub LastAreOfTheList : Type 0
+  LastAreOfTheList =
+      (s : State) (cs : List (Command A)) → IsHistory s cs → (station : Station) (last : LastAccepted) → 0 < station → last_at (after s cs) station ≡ Some last
+      → IsLeftBy s cs station last ⊎ (last_at s station ≡ Some last)
 
   -- a message is ended by them exactly where one of them names it
   abbrev pub EndedAreNamed : Type 0
-  EndedAreNamed = (s : State) (cs : List (Command A)) (m : Waiting) → IsHistory s cs → ended s cs m ≡ list_any (λ c. names c m) cs
+  EndedAreNamed = (s : State) (cs : List (Command A)) (m : Item) → IsHistory s cs → ended s cs m ≡ list_any (λ c. names c m) cs

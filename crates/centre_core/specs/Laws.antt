@@ -1,22 +1,24 @@
 -- What holds of the register over all commands and lists of commands.
-use Rattle.std.specs.Prelude.{◌≡◌, ◌==◌, ℕ, ◌+◌, ◌↔◌, ◌⊎◌, IsTrue, Bool, false, List, ◌∷◌, ◌++◌, length, map, Option, Some, None, if◌then◌else◌}
+use Rattle.std.specs.Prelude.{◌≡◌, ◌+◌, ◌↔◌, ◌⊎◌, IsTrue, Bool, false, List, ◌∷◌, ◌++◌, length, map, Option, Some, None}
 use Rattle.std.specs.List.{Contains}
 use Rattle.mm_pdus.specs.declared.update.LocationUpdateType.{LocationUpdateType}
 use Rattle.mm_pdus.specs.declared.update.AcceptType.{AcceptType}
 use Rattle.mm_pdus.specs.Values.{update_accepted}
 use Rattle.mm_pdus.specs.Downlink.{accept_text}
+use Rattle.registration.specs.Numbers.{Station}
 use Rattle.registration.specs.Registered.{type_refusal}
 use Rattle.registration.specs.declared.limits.Limits.{Limits}
-use Rattle.mailbox.specs.Values.{Waiting, Mailed}
-use Rattle.mailbox.specs.Tests.{is_message}
+use Rattle.mailbox.specs.Numbers.{Number}
+use Rattle.mailbox.specs.Values.{Item, Mailed}
+use Rattle.mailbox.specs.Item.{is_message}
 use Rattle.centre_core.specs.declared.command.Command.{Command}
 use Rattle.centre_core.specs.declared.reply.Reply.TheVariants.{Accepted, Kept}
 use Rattle.centre_core.specs.State.{State, IsState, empty}
 use Rattle.centre_core.specs.Ranges.{InRange}
 use Rattle.centre_core.specs.StateRanges.{StateInRange}
-use Rattle.centre_core.specs.Step.{step, accept_pdu, kept_at}
+use Rattle.centre_core.specs.Step.{step, accept_pdu, last_at}
 use Rattle.centre_core.specs.History.{is_acceptance, accepts, next, after, names, ended, made, fresh}
-use Rattle.centre_core.specs.Histories.{IsHistory, numbered, served_by, last_served}
+use Rattle.centre_core.specs.Histories.{IsHistory, numbered, accepted_by, entry_after, last_accepted_of}
 use Rattle.centre_core.specs.Same.{under}
 
 -- the D-LOCATION UPDATE ACCEPT that answers an update names its type
@@ -38,43 +40,71 @@ abbrev pub EmptyIsInRange : Type 0
 EmptyIsInRange = (limits : Limits) → StateInRange (empty limits)
 
 -- a message of the old mail is in the new one, unless the command was accepted and ends it
-abbrev pub KeepsMessages : Mailed → Mailed → Bool → (Waiting → Bool) → Type 0
-KeepsMessages old new accepted ends = (m : Waiting) → IsTrue (is_message m) → Contains old.items m → Contains new.items m ⊎ (IsTrue accepted × IsTrue (ends m))
+abbrev pub MessagesStay : Mailed → Mailed → Bool → (Item → Bool) → Type 0
+MessagesStay old new accepted ends =
+    (m : Item)
+    → IsTrue (is_message m)
+    → Contains old.items m
+    → Contains new.items m ⊎ (IsTrue accepted × IsTrue (ends m))
+
+-- the message waits in the state
+abbrev pub Waits : State → Item → Type 0
+Waits s m = Contains s.mail.items m
 
 module _ (A : Type 0) where
   -- what holds of every state still holds after a command
-  abbrev pub StepKeepsState : Type 0
-  StepKeepsState = (s : State) (c : Command A) → IsState s → IsState (next s c)
+  abbrev pub NextIsState : Type 0
+  NextIsState = (s : State) (c : Command A) → IsState s → IsState (next s c)
 
   -- a state in its range is still in it after a command in its range
-  abbrev pub StepKeepsRanges : Type 0
-  StepKeepsRanges = (s : State) (c : Command A) → InRange c → StateInRange s → StateInRange (next s c)
+  abbrev pub NextIsInRange : Type 0
+  NextIsInRange = (s : State) (c : Command A) → InRange c → StateInRange s → StateInRange (next s c)
 
   -- a message that waits is missing after a list of commands exactly where one of them is accepted and ends it
   abbrev pub NoneLost : Type 0
   NoneLost =
-      (s : State) → IsState s → (cs : List (Command A)) (m : Waiting) → IsTrue (is_message m) → Contains s.mail.items m → (¬ Contains (after s cs).mail.items m) ↔ IsTrue (ended s cs m)
+      (s : State)
+      → IsState s
+      → (cs : List (Command A)) (m : Item)
+      → IsTrue (is_message m)
+      → Waits s m
+      → (¬ Waits (after s cs) m) ↔ IsTrue (ended s cs m)
 
   -- so too a message that an accepted command makes: it is missing exactly where a later command is accepted and ends it
   abbrev pub NoneLostMade : Type 0
   NoneLostMade =
-      (s : State) → IsState s → (bs : List (Command A)) (c : Command A) (cs : List (Command A)) (m : Waiting) → IsTrue (accepts (after s bs) c) → Contains (made (after s bs) c) m
-      → (¬ Contains (after s (bs ++ c ∷ cs)).mail.items m) ↔ IsTrue (ended (next (after s bs) c) cs m)
+      (s : State)
+      → IsState s
+      → (bs : List (Command A)) (c : Command A) (cs : List (Command A)) (m : Item)
+      → IsTrue (accepts (after s bs) c)
+      → Contains (made (after s bs) c) m
+      → (¬ Waits (after s (bs ++ c ∷ cs)) m) ↔ IsTrue (ended (next (after s bs) c) cs m)
 
   -- what an accepted command is answered is kept of its station, and of the others what was kept of them
-  abbrev pub AcceptedAreKept : Type 0
-  AcceptedAreKept =
-      (s : State) → IsState s → (c : Command A) → IsTrue (accepts s c) → (station : ℕ) → kept_at (next s c) station ≡ (if station == c.station then Some (served_by s c) else kept_at s station)
+  abbrev pub AcceptedAreLast : Type 0
+  AcceptedAreLast =
+      (s : State)
+      → IsState s
+      → (c : Command A)
+      → IsTrue (accepts s c)
+      → (station : Station)
+      → last_at (next s c) station ≡ entry_after s c station (last_at s station)
 
   -- a history counts its commands: the one at place k gets the base's count and k as its number
   abbrev pub HistoriesAreNumbered : Type 0
   HistoriesAreNumbered =
       (base : State) (bs : List (Command A)) (c : Command A) (cs : List (Command A)) → IsHistory base (bs ++ c ∷ cs)
-      → (numbered base (bs ++ c ∷ cs) (base.count + length bs + 1) ≡ Some c) × IsTrue (accepts (after base bs) c) × ((served_by (after base bs) c).number ≡ base.count + length bs + 1)
+      → (numbered base (bs ++ c ∷ cs) (base.count + length bs + 1) ≡ Some c) × IsTrue (accepts (after base bs) c) × ((accepted_by (after base bs) c).number ≡ base.count + length bs + 1)
 
   -- each station's entry after a history is the base's, or that of its last command in it
-  abbrev pub ServedAreLast : Type 0
-  ServedAreLast = (base : State) → IsState base → (cs : List (Command A)) → IsHistory base cs → (station : ℕ) → kept_at (after base cs) station ≡ last_served station (kept_at base station) base cs
+  abbrev pub LastAcceptedAreLast : Type 0
+  LastAcceptedAreLast =
+      (base : State)
+      → IsState base
+      → (cs : List (Command A))
+      → IsHistory base cs
+      → (station : Station)
+      → last_at (after base cs) station ≡ last_accepted_of station (last_at base station) base cs
 
   -- resends may be left out
   abbrev pub ResendsAreIdle : Type 0
@@ -91,12 +121,15 @@ module _ (A B : Type 0) where
 
   -- an accepted command gets the next number, from 1
   abbrev pub AcceptedAreNumbered : Type 0
-  AcceptedAreNumbered = (s : State) (c : Command A) (number : ℕ) (pdu : Option (List Bool)) → (step {B = B} s c).1 ≡ Accepted number pdu → (number ≡ s.count + 1) × ((next s c).count ≡ number)
+  AcceptedAreNumbered =
+      (s : State) (c : Command A) (number : Number) (pdu : Option (List Bool))
+      → (step {B = B} s c).1 ≡ Accepted number pdu
+      → (number ≡ s.count + 1) × ((next s c).count ≡ number)
 
   -- once more, and whatever its body is then, it gets the same number and PDU, and changes nothing
   abbrev pub ResendsAreAnswered : Type 0
   ResendsAreAnswered =
-      (s : State) → IsState s → (c again : Command A) (number : ℕ) (pdu : Option (List Bool)) → (step {B = B} s c).1 ≡ Accepted number pdu
+      (s : State) → IsState s → (c again : Command A) (number : Number) (pdu : Option (List Bool)) → (step {B = B} s c).1 ≡ Accepted number pdu
       → again.station ≡ c.station → again.sequence ≡ c.sequence → step {B = B} (next s c) again ≡ (next s c, Kept number pdu)
 
   -- under another allocator a command is the same, and so is all that is made of it
@@ -105,7 +138,7 @@ module _ (A B : Type 0) where
 
   -- it ends the same messages
   abbrev pub NamesAreSame : Type 0
-  NamesAreSame = (c : Command A) (m : Waiting) → names (under B c) m ≡ names c m
+  NamesAreSame = (c : Command A) (m : Item) → names (under B c) m ≡ names c m
 
   -- it is accepted in the same states
   abbrev pub AcceptsAreSame : Type 0

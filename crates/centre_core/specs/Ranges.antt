@@ -1,5 +1,5 @@
 -- What a command can hold.
-use Rattle.std.specs.Prelude.{◌<◌, ◌≤◌, ◌^◌, ℕ, length, Bool, List, Option, Some, None}
+use Rattle.std.specs.Prelude.{◌<◌, ◌≤◌, ◌^◌, length, Bool, List, Option, Some, None}
 use Rattle.identity.specs.BitsText.{most_bits}
 use Rattle.registration.specs.declared.rule.Rule.{Rule}
 use Rattle.mailbox.specs.Values.{KeyInRange}

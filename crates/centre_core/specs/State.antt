@@ -6,19 +6,21 @@ use Rattle.std.specs.List.{All}
 use Rattle.registration.specs.declared.limits.Limits.{Limits}
 use Rattle.registration.specs.Registered.{Registered, coded_registered, empty_registered}
 use Rattle.group_attach.specs.Attached.{Attached, coded_attached, no_groups}
-use Rattle.group_attach.specs.Kept.{AreKept}
+use Rattle.group_attach.specs.Allowed.{AreAllowed}
+use Rattle.mailbox.specs.Numbers.{Number, Count}
 use Rattle.mailbox.specs.Values.{Mailed, coded_mailed, empty_mailed}
-use Rattle.mailbox.specs.Kept.{IsMail}
+use Rattle.mailbox.specs.Sound.{IsMail}
+use Rattle.centre_core.specs.Numbers.{Sequence}
 
 -- what is kept of a station's last accepted command: its sequence, its number and the PDU of its reply
-pub record Served : Type 0 where
-  pub sequence : ℕ
-  pub number : ℕ
+pub record LastAccepted : Type 0 where
+  pub sequence : Sequence
+  pub number : Number
   pub pdu : Option (List Bool)
 
 -- how it is stored: its three fields, one after another
-abbrev pub coded_served : Coded Served
-coded_served =
+abbrev pub coded_last_accepted : Coded LastAccepted
+coded_last_accepted =
     code_by (ℕ × (ℕ × Option (List Bool))) (coded× coded_ℕ (coded× coded_ℕ (coded_option (coded_list coded_bool))))
     (λ k. (k.sequence, (k.number, k.pdu))) (λ p. record { sequence = p.0; number = p.1.0; pdu = p.1.1 }) (λ _. refl)
 
@@ -27,40 +29,51 @@ pub record State : Type 0 where
   pub registered : Registered
   pub groups : Attached
   pub mail : Mailed
-  pub served : List (Option Served)
-  pub count : ℕ
+  pub served : List (Option LastAccepted)
+  pub count : Count
 
 -- how a state is stored: its parts, one after another
 abbrev pub coded_state : Coded State
 coded_state =
-    code_by (Registered × (Attached × (Mailed × (List (Option Served) × ℕ))))
-    (coded× coded_registered (coded× coded_attached (coded× coded_mailed (coded× (coded_list (coded_option coded_served)) coded_ℕ))))
+    code_by (Registered × (Attached × (Mailed × (List (Option LastAccepted) × ℕ))))
+    (coded× coded_registered (coded× coded_attached (coded× coded_mailed (coded× (coded_list (coded_option coded_last_accepted)) coded_ℕ))))
     (λ s. (s.registered, (s.groups, (s.mail, (s.served, s.count)))))
     (λ p. record { registered = p.0; groups = p.1.0; mail = p.1.1.0; served = p.1.1.1.0; count = p.1.1.1.1 }) (λ _. refl)
 
 -- what is kept of a station is of one of the commands that were accepted
-abbrev pub IsNumbered : ℕ → Option Served → Type 0
-IsNumbered count None = Unit {0}
-IsNumbered count (Some last) = (0 < last.number) × (last.number ≤ count)
+abbrev pub IsOfAccepted : Count → Option LastAccepted → Type 0
+IsOfAccepted count None = Unit {0}
+IsOfAccepted count (Some last) = (0 < last.number) × (last.number ≤ count)
 
 -- there are no more rules and radios than the limits allow
-abbrev pub IsWithin : Registered → Type 0
-IsWithin r = (map.len r.rules ≤ r.limits.rules) × (map.len r.radios ≤ r.limits.radios)
+pub record IsWithin (r : Registered) : Type 0 where
+  pub rules : map.len r.rules ≤ r.limits.rules
+  pub radios : map.len r.radios ≤ r.limits.radios
 
 -- the mail is in order, and has the room that the limits give it
-abbrev pub IsMailOf : Registered → ℕ → Mailed → Type 0
-IsMailOf r count m = IsMail count m × (m.room ≡ r.limits.mail)
+pub record IsMailOf (r : Registered) (count : Count) (m : Mailed) : Type 0 where
+  pub in_order : IsMail count m
+  pub room : m.room ≡ r.limits.mail
 
 -- the greatest number of an accepted command, 2 to the 62nd
-abbrev pub last_number : ℕ
+abbrev pub last_number : Number
 last_number = 4611686018427387904
 
 -- what holds of every state: the limits are kept, the attachments are of its radios, the mail is in order, each station has its place, and what is kept of it is of a command that was accepted
-abbrev pub IsState : State → Type 0
-IsState s =
-    IsWithin s.registered × AreKept s.registered s.groups × IsMailOf s.registered s.count s.mail × (length s.served ≡ s.registered.limits.stations) × (s.count ≤ last_number)
-    × All (IsNumbered s.count) s.served
+pub record IsState (s : State) : Type 0 where
+  pub within : IsWithin s.registered
+  pub attachments : AreAllowed s.registered s.groups
+  pub mail : IsMailOf s.registered s.count s.mail
+  pub stations : length s.served ≡ s.registered.limits.stations
+  pub count : s.count ≤ last_number
+  pub last : All (IsOfAccepted s.count) s.served
 
 -- no rule, no radio, no attachment, nothing that waits, and no command accepted from any station
 abbrev pub empty : Limits → State
-empty limits = record { registered = empty_registered limits; groups = no_groups; mail = empty_mailed limits; served = replicate limits.stations None; count = 0 }
+empty limits = record {
+  registered = empty_registered limits;
+  groups = no_groups;
+  mail = empty_mailed limits;
+  served = replicate limits.stations None;
+  count = 0;
+}

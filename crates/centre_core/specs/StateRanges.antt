@@ -9,10 +9,10 @@ use Rattle.registration.specs.declared.rule.Rule.{Rule}
 use Rattle.registration.specs.declared.radio.Radio.{Radio}
 use Rattle.group_attach.specs.Attached.{Pair, Usage}
 use Rattle.sds_tl.specs.Syntax.{most_bits}
-use Rattle.mailbox.specs.Values.{Waiting, KeyInRange, latest_deadline}
+use Rattle.mailbox.specs.Values.{Item, KeyInRange, latest_deadline}
 use Rattle.identity.specs.BitsText.{most_bits as most_of_pdu}
 use Rattle.centre_core.specs.Ranges.{RuleInRange}
-use Rattle.centre_core.specs.State.{State, Served}
+use Rattle.centre_core.specs.State.{State, LastAccepted}
 
 -- of each entry of a map this holds
 abbrev pub AllEntries : {K X : Type 0} {R : K → K → Ordering} → (K → X → Type 0) → map.FinMap R X → Type 0
@@ -31,7 +31,7 @@ abbrev pub AttachmentInRange : Pair → Usage → Type 0
 AttachmentInRange pair usage = (pair.0 < 2 ^ 48) × (pair.1 < 2 ^ 48) × (usage.0 < 2 ^ 3)
 
 -- what waits: its key, a deadline within the greatest moment and the greatest keep, at most 2,047 bits, and a group of 48
-pub record ItemInRange (w : Waiting) : Type 0 where
+pub record ItemInRange (w : Item) : Type 0 where
   pub key : KeyInRange w.key
   pub deadline : w.deadline ≤ latest_deadline
   pub pdu : length w.pdu ≤ most_bits
@@ -43,7 +43,7 @@ IsReply None = Unit {0}
 IsReply (Some bits) = (0 < length bits) × (length bits ≤ most_of_pdu)
 
 -- what is kept of a station: a sequence from 1, of 32 bits, and its reply
-pub record ServedInRange (last : Served) : Type 0 where
+pub record LastAcceptedInRange (last : LastAccepted) : Type 0 where
   pub above : 0 < last.sequence
   pub sequence : last.sequence < 2 ^ 32
   pub pdu : IsReply last.pdu
@@ -55,4 +55,4 @@ pub record StateInRange (s : State) : Type 0 where
   pub radios : AllEntries (RadioInRange s.registered.limits.stations) s.registered.radios
   pub attachments : AllEntries AttachmentInRange s.groups
   pub mail : All ItemInRange s.mail.items
-  pub served : All (λ last. IfSome last ServedInRange) s.served
+  pub served : All (λ last. IfSome last LastAcceptedInRange) s.served

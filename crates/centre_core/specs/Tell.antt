@@ -1,6 +1,7 @@
 -- The answer to a query.
-use Rattle.std.specs.Prelude.{ℕ, List}
+use Rattle.std.specs.Prelude.{List}
 use Rattle.std.specs.List.{filter}
+use Rattle.identity.specs.Numbers.{Gtsi}
 use Rattle.registration.specs.Registered.{longest_rule, radio_of, is_present}
 use Rattle.group_attach.specs.declared.attachment.Attachment.{Attachment}
 use Rattle.group_attach.specs.Attached.{groups_of, members_of}
@@ -12,7 +13,7 @@ use Rattle.centre_core.specs.declared.query.Told.TheVariants as told
 use Rattle.centre_core.specs.State.{State}
 
 -- the attachments to a group whose radios are present
-abbrev pub present_members : State → ℕ → List Attachment
+abbrev pub present_members : State → Gtsi → List Attachment
 present_members s gtsi = filter (λ a. is_present (radio_of s.registered a.itsi)) (members_of s.groups gtsi)
 
 -- the answer is a list

@@ -1,25 +1,26 @@
-ghost use Rattle.std.specs.Prelude.{◌≡◌, ◌<◌, ◌↔◌, IsSome, IfSome, IsTrue, IfOk, OnErr};
+ghost use Rattle.std.specs.Prelude.{◌≡◌, ◌↔◌, IsSome, IfSome, IsTrue, IfOk, OnErr};
 ghost use Rattle.mailbox.specs.Values.{KeyInRange};
 ghost use Rattle.centre_core.specs.Ranges.{IsShort, pdu_of, BodyInRange, RuleInRange, InRange};
 ghost use Rattle.centre_core.specs.Same.{body_under, under};
 
+use crate::Sequence;
 use crate::last_accepted::bits_copy;
 use identity::{Bits, Gtsi, Itsi, MOST_BITS, Prefix};
-use mailbox::Key;
-use registration::{LocationArea, Rule};
+use mailbox::{Key, Moment};
+use registration::{LocationArea, Rule, Station};
 use std::alloc::{AllocError, Allocator};
 use std::marker::Model;
 
 /// What a station asks of the register.
 #[derive(Drop)]
 pub struct Command<A: Allocator> {
-    /// The station that it comes from, counted from 1.
-    pub station: u16,
-    /// Its place among the commands of that station, from 1. A sequence that was accepted before marks a
+    /// The station that it comes from.
+    pub station: Station,
+    /// Its place among the commands of that station. A sequence that was accepted before marks a
     /// resend.
-    pub sequence: u32,
-    /// When it was given, in seconds. Moments need not rise.
-    pub moment: u32,
+    pub sequence: Sequence,
+    /// When it was given. Moments need not rise.
+    pub moment: Moment,
     /// What is asked.
     pub body: Body<A>,
 }
@@ -37,14 +38,21 @@ impl<A: Allocator> Model for Command<A> {
 }
 
 impl<A: Allocator> Command<A> {
-    /// The command of a station; `None` where the sequence is 0 or a PDU has more than 2,048 bits.
-    pub fn new(station: u16, sequence: u32, moment: u32, body: Body<A>) -> Option<Command<A>>
-        ensures fits { IsSome result ↔ ((0 < sequence) × IsShort (pdu_of body)) }
+    /// The command of a station; `None` where a PDU has more than 2,048 bits.
+    pub fn new(
+        station: Station,
+        sequence: Sequence,
+        moment: Moment,
+        body: Body<A>,
+    ) -> Option<Command<A>>
+        ensures fits { IsSome result ↔ IsShort (pdu_of body) }
         ensures value { IfSome result (λ command. command ≡ record { station = station; sequence = sequence; moment = moment; body = body }) }
     {
-        if sequence == 0 || !body.is_short() {
+        let _from_one = sequence.number();
+        if !body.is_short() {
             return None;
         }
+        let _seconds = moment.number();
         Some(Command {
             station,
             sequence,
@@ -68,7 +76,7 @@ impl<A: Allocator> Command<A> {
     }
 
     // What its fields keep, as a clause.
-    pub(crate) fn keep_ranges(&self)
+    pub(crate) fn hold_ranges(&self)
         ensures { InRange self.now }
     {
         let _station = self.station;
@@ -124,7 +132,7 @@ impl<A: Allocator> Body<A> {
         match self {
             Body::RuleSet { prefix, rule } => {
                 let _bits = prefix.len();
-                keep_rule(rule);
+                hold_rule(rule);
                 true
             }
             Body::RuleClear { prefix } => {
@@ -148,7 +156,7 @@ impl<A: Allocator> Body<A> {
                 pdu.len() <= MOST_BITS
             }
             Body::Sent(key) | Body::Delete(key) => {
-                keep_key(key);
+                hold_key(key);
                 true
             }
             Body::Expire => true,
@@ -193,15 +201,15 @@ impl<A: Allocator> Body<A> {
 }
 
 // What the types of their parts keep, as clauses.
-fn keep_rule(rule: &Rule)
+fn hold_rule(rule: &Rule)
     ensures { RuleInRange rule.now }
 {
     let _parts = (rule.low(), rule.high().number(), rule.keep());
 }
 
-fn keep_key(key: &Key)
+fn hold_key(key: &Key)
     ensures { KeyInRange key.now }
 {
     let _identities = (key.destination.number(), key.source.number());
-    let _reference = key.reference;
+    let _reference = key.reference.number();
 }

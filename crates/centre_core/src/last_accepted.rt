@@ -1,9 +1,10 @@
 //! What is kept of each station.
-ghost use Rattle.std.specs.Prelude.{◌≡◌, ◌<◌, ◌≤◌, ◌+◌, ◌-◌, ◌^◌, IfOk, OnErr, IsTrue, replicate, slice_set, vec_len, None, Some};
+ghost use Rattle.std.specs.Prelude.{◌≡◌, ◌<◌, ◌≤◌, ◌+◌, ◌-◌, IfOk, OnErr, IsTrue, replicate, slice_set, vec_len, None, Some};
 ghost use Rattle.std.specs.Option.{is_some};
+ghost use Rattle.centre_core.specs.State.{last_number};
 ghost use Rattle.centre_core.specs.declared.reply.Reply.TheVariants.{Kept};
 
-use crate::{Command, Reply};
+use crate::{Command, Reply, Sequence};
 use identity::Bits;
 use std::alloc::{AllocError, Allocator};
 use std::marker::Model;
@@ -12,7 +13,7 @@ use std::marker::Model;
 #[derive(Drop)]
 pub struct LastAccepted<A: Allocator> {
     /// Its sequence.
-    pub sequence: u32,
+    pub sequence: Sequence,
     /// Under which number it was accepted.
     pub number: u64,
     /// The PDU of its reply.
@@ -20,11 +21,11 @@ pub struct LastAccepted<A: Allocator> {
 }
 
 impl<A: Allocator> Model for LastAccepted<A> {
-    ghost use Rattle.centre_core.specs.State.{Served, coded_served};
+    ghost use Rattle.centre_core.specs.State.{LastAccepted, coded_last_accepted};
 
-    ghost Value = { Served };
+    ghost Value = { LastAccepted };
 
-    ghost coded = { coded_served };
+    ghost coded = { coded_last_accepted };
 
     ghost view = { λ s. record { sequence = s.sequence; number = s.number; pdu = s.pdu } };
 }
@@ -68,20 +69,20 @@ pub fn none_accepted<A: Allocator + Clone>(
 
 /// Counts an accepted command, and keeps what it is answered in the place of its station. It takes no
 /// memory.
-pub(crate) fn keep<A: Allocator, B: Allocator>(
+pub(crate) fn count_accepted<A: Allocator, B: Allocator>(
     served: &mut Vec<Option<LastAccepted<A>>, A>,
     count: &mut u64,
     command: &Command<B>,
     pdu: Option<Bits<A>>,
 )
-    requires left { count.old < 2 ^ 62 }
+    requires left { count.old < last_number }
     requires station { 0 < command.now.station }
     requires place { command.now.station ≤ vec_len served.old }
     ensures count { count.new ≡ count.old + 1 }
     ensures kept { served.new.items ≡ slice_set served.old.items (command.now.station - 1) (Some (record { sequence = command.now.sequence; number = count.old + 1; pdu = pdu })) }
 {
     *count += 1;
-    served[command.station as usize - 1] = Some(LastAccepted {
+    served[usize::from(command.station.number()) - 1] = Some(LastAccepted {
         sequence: command.sequence,
         number: *count,
         pdu,

@@ -6,7 +6,7 @@ mod in_turn;
 ghost use Rattle.centre_core.specs.Ranges.{InRange};
 ghost use Rattle.centre_core.specs.State.{IsState};
 ghost use Rattle.centre_core.specs.StateRanges.{StateInRange};
-ghost use Rattle.centre_core.specs.Laws.{AcceptedAreAnswered, AcceptedAreNumbered, AcceptedAreKept, HistoriesAreNumbered, ServedAreLast, SameAgain, NamesAreSame, AcceptsAreSame, AfterIsSame, FreshIsSame, HistoriesAreSame, StepIsSame, EmptyIsState, StepKeepsState, EmptyIsInRange, StepKeepsRanges, NoneLost, NoneLostMade, OnlyAcceptedChange, StepIsNext, ResendsAreAnswered, ResendsAreIdle};
+ghost use Rattle.centre_core.specs.Laws.{AcceptedAreAnswered, AcceptedAreNumbered, AcceptedAreLast, HistoriesAreNumbered, LastAcceptedAreLast, SameAgain, NamesAreSame, AcceptsAreSame, AfterIsSame, FreshIsSame, HistoriesAreSame, StepIsSame, EmptyIsState, NextIsState, EmptyIsInRange, NextIsInRange, NoneLost, NoneLostMade, OnlyAcceptedChange, StepIsNext, ResendsAreAnswered, ResendsAreIdle};
 
 use crate::{Command, Register};
 pub use in_turn::{accepted_in_turn, replies_say};
@@ -15,13 +15,13 @@ use std::alloc::Allocator;
 /// What holds of every state holds of the empty one, and a command keeps it.
 pub fn states<A: Allocator>()
     ensures empty { EmptyIsState }
-    ensures step { StepKeepsState A }
+    ensures step { NextIsState A }
 {}
 
 /// A new register's state is in range, and a command keeps it so.
 pub fn ranges<A: Allocator>()
     ensures empty { EmptyIsInRange }
-    ensures step { StepKeepsRanges A }
+    ensures step { NextIsInRange A }
 {}
 
 /// What holds of every state holds of each register, and its state is in range.
@@ -29,14 +29,14 @@ pub fn registers<A: Allocator>(register: &Register<A>)
     ensures state { IsState register.now }
     ensures ranges { StateInRange register.now }
 {
-    register.keep_state()
+    register.hold_state()
 }
 
 /// What a command holds is in its range.
 pub fn in_range<A: Allocator>(command: &Command<A>)
     ensures { InRange command.now }
 {
-    command.keep_ranges()
+    command.hold_ranges()
 }
 
 /// A command that is refused, and one that comes again, change nothing.
@@ -60,9 +60,9 @@ pub fn replies<A: Allocator, B: Allocator>()
 /// Over a history, a list of commands each accepted in its turn: the numbers follow the base's count one
 /// by one, and each station's entry is that of its last command, or the base's.
 pub fn histories<A: Allocator>()
-    ensures kept { AcceptedAreKept A }
+    ensures kept { AcceptedAreLast A }
     ensures numbered { HistoriesAreNumbered A }
-    ensures last { ServedAreLast A }
+    ensures last { LastAcceptedAreLast A }
 {}
 
 /// Under another allocator a command is the same: what it ends, whether it is accepted, and what a list
@@ -99,5 +99,5 @@ pub fn resends<A: Allocator>()
 pub fn accepted_are_answered()
     ensures { AcceptedAreAnswered }
 {
-    registration::laws::served_types()
+    registration::laws::accepted_types()
 }

@@ -13,6 +13,7 @@ mod parts;
 mod query;
 mod register;
 mod reply;
+mod sequence;
 mod tables;
 
 pub use command::{Body, Command};
@@ -21,3 +22,5 @@ pub use parts::Parts;
 pub use query::{Attachments, Items, Query, Told};
 pub use register::Register;
 pub use reply::{Refusal, Reply};
+pub use sequence::Sequence;
+pub use tables::LAST_NUMBER;

@@ -92,9 +92,9 @@ pub struct Items<A: Allocator> {
 
 impl<A: Allocator> Model for Items<A> {
     ghost use Rattle.std.specs.Prelude.{List};
-    ghost use Rattle.mailbox.specs.Values.{Waiting};
+    ghost use Rattle.mailbox.specs.Values.{Item};
 
-    ghost Value = { List Waiting };
+    ghost Value = { List Item };
 
     ghost view = { λ i. i.items.items };
 }

@@ -6,7 +6,7 @@ ghost use Rattle.centre_core.specs.Step.{step};
 ghost use Rattle.centre_core.specs.Memory.{needs_memory};
 ghost use Rattle.centre_core.specs.Tell.{AsksForList, tell};
 ghost use Rattle.centre_core.specs.History.{is_acceptance, names};
-ghost use Rattle.centre_core.specs.Laws.{KeepsMessages};
+ghost use Rattle.centre_core.specs.Laws.{MessagesStay};
 
 use crate::tables::Tables;
 use crate::{Command, LastAccepted, Parts, Query, Reply, Told};
@@ -79,11 +79,11 @@ impl<A: Allocator> Register<A> {
     }
 
     // What its tables keep, as clauses.
-    pub(crate) fn keep_state(&self)
+    pub(crate) fn hold_state(&self)
         ensures state { IsState self.now }
         ensures ranges { StateInRange self.now }
     {
-        self.tables.keep_state()
+        self.tables.hold_state()
     }
 }
 
@@ -127,11 +127,11 @@ impl<A: Allocator + Clone> Register<A> {
     ) -> Result<Reply<C>, AllocError>
         ensures ok { IfOk result (λ reply. (self.new, reply) ≡ step self.old command.now) }
         // No message is lost, but for what the command ends.
-        ensures messages { IfOk result (λ reply. KeepsMessages self.old.mail self.new.mail (is_acceptance reply) (names command.now)) }
+        ensures messages { IfOk result (λ reply. MessagesStay self.old.mail self.new.mail (is_acceptance reply) (names command.now)) }
         ensures err { OnErr result (self.new ≡ self.old) }
         ensures memory { OnErr result (IsTrue (needs_memory self.old command.now)) }
     {
-        command.keep_ranges();
+        command.hold_ranges();
         self.tables.apply(alloc, command)
     }
 }

@@ -1,3 +1,4 @@
+use crate::Sequence;
 use group_attach::GroupFault;
 use identity::Bits;
 use mailbox::MailFault;
@@ -24,7 +25,7 @@ pub enum Refusal<A: Allocator> {
     /// There is no station of that number.
     UnknownStation,
     /// The sequence is below that of the station's last accepted command.
-    OldSequence { last: u32 },
+    OldSequence { last: Sequence },
     /// All 2 to the 62nd numbers of accepted commands are given out.
     NumbersUsedUp,
     /// The bits are no mobility management PDU that is supported.

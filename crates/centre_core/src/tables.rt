@@ -17,22 +17,22 @@ ghost use Rattle.centre_core.specs.declared.command.Body.TheVariants.{Mm};
 ghost use Rattle.centre_core.specs.Memory.{needs_rule, needs_update, needs_body, needs_new, needs_memory};
 ghost use Rattle.centre_core.specs.Tell.{AsksForList, present_members, tell};
 ghost use Rattle.centre_core.specs.History.{is_acceptance, names};
-ghost use Rattle.centre_core.specs.Laws.{KeepsMessages};
+ghost use Rattle.centre_core.specs.Laws.{MessagesStay};
 
 use crate::answers::{accept_pdu, acknowledge_pdu, location_refusal, registration_refusal};
-use crate::last_accepted::{LastAccepted, bits_copy, copied, keep, none_accepted};
+use crate::last_accepted::{LastAccepted, bits_copy, copied, count_accepted, none_accepted};
 use crate::{Attachments, Body, Command, Parts, Query, Refusal, Reply, Told};
 use group_attach::{Attachment, Groups};
 use identity::{Bits, Gtsi, Itsi, Prefix};
 use mailbox::Mail;
 use mm_pdus::{GroupItems, GroupMode, GroupUp, LocationUpdateType, MmFault, MmUp, read_up};
 use prefix_tree::TryCopy;
-use registration::{Limits, LocationArea, RegFault, Registry, Rule};
+use registration::{Limits, LocationArea, RegFault, Registry, Rule, Station};
 use std::alloc::{AllocError, Allocator};
 use std::marker::Model;
 
 /// The greatest number of an accepted command, 2 to the 62nd.
-const LAST_NUMBER: u64 = 4_611_686_018_427_387_904;
+pub const LAST_NUMBER: u64 = 1 << 62;
 
 /// What a register holds: rules, radios and their groups, what waits in the mail, and of each station
 /// what was answered to its last accepted command.
@@ -101,7 +101,7 @@ impl<A: Allocator> Tables<A> {
     }
 
     // What its fields keep, as a clause.
-    pub(crate) fn keep_state(&self)
+    pub(crate) fn hold_state(&self)
         ensures { IsState self.now }
     {
         let _count = self.count;
@@ -203,7 +203,7 @@ impl<A: Allocator + Clone> Tables<A> {
     ) -> Result<Reply<C>, AllocError>
         ensures ok { IfOk result (λ reply. (self.new, reply) ≡ step self.old command.now) }
         // No message is lost, but for what the command ends.
-        ensures messages { IfOk result (λ reply. KeepsMessages self.old.mail self.new.mail (is_acceptance reply) (names command.now)) }
+        ensures messages { IfOk result (λ reply. MessagesStay self.old.mail self.new.mail (is_acceptance reply) (names command.now)) }
         ensures err { OnErr result (self.new ≡ self.old) }
         ensures memory { OnErr result (IsTrue (needs_memory self.old command.now)) }
     {
@@ -220,11 +220,12 @@ impl<A: Allocator + Clone> Tables<A> {
         ensures err { OnErr result (self.new ≡ self.old) }
         ensures memory { OnErr result (IsTrue (needs_memory self.old command.now)) }
     {
-        if command.station == 0 || u32::from(command.station) > self.registry.limits().stations {
+        let station = command.station.number();
+        if station == 0 || u32::from(station) > self.registry.limits().stations {
             return Ok(Reply::Refused(Refusal::UnknownStation));
         }
-        if let Some(last) = &self.served[command.station as usize - 1] {
-            if command.sequence < last.sequence {
+        if let Some(last) = &self.served[usize::from(station) - 1] {
+            if command.sequence.number() < last.sequence.number() {
                 return Ok(Reply::Refused(Refusal::OldSequence {
                     last: last.sequence,
                 }));
@@ -353,7 +354,7 @@ impl<A: Allocator + Clone> Tables<A> {
     fn place(
         &mut self,
         itsi: Itsi,
-        station: u16,
+        station: Station,
         area: LocationArea,
         update: LocationUpdateType,
     ) -> Result<(), RegFault>
@@ -444,7 +445,7 @@ impl<A: Allocator + Clone> Tables<A> {
         ensures number { result ≡ self.old.count + 1 }
         ensures kept { self.new ≡ accepted self.old command.now pdu }
     {
-        keep(&mut self.served, &mut self.count, command, pdu);
+        count_accepted(&mut self.served, &mut self.count, command, pdu);
         self.count
     }
 }

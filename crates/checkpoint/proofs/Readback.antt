@@ -22,9 +22,8 @@ use Rattle.checkpoint.specs.declared.read_fault.ReadFault.{ReadFault}
 use Rattle.checkpoint.specs.declared.read_fault.ReadFault.TheVariants.{Damaged}
 use Rattle.checkpoint.specs.declared.side.Side.{Side}
 use Rattle.checkpoint.specs.Layout.{disk_size, slot_at, slot_size}
-use Rattle.checkpoint.specs.Standing.{Base, sectors_from}
+use Rattle.checkpoint.specs.Standing.{Base, sectors_from, slot_in}
 use Rattle.image_rows.specs.Held.{taken_from}
-use Rattle.checkpoint.specs.Reading.{slot_in}
 use Rattle.checkpoint.proofs.Apart.{lies}
 
 -- whether all rows came

@@ -87,9 +87,9 @@ with_read disk at image sound within is =
         | inl same ↦ rw (same, get_or-set_same image at (sector disk.reads at) [] here) (sound.reads_left.whole at (omega (arith, sound.count, within)))
         | inr other ↦ rw (get_or-set_other image at k (sector disk.reads at) [] other) (is.whole k (omega (arith, lt, long)))
       ];
-      kept = λ k clear. elim (cases_eq k at) [
+      others = λ k clear. elim (cases_eq k at) [
         | inl same ↦ rw (same, get_or-set_same image at (sector disk.reads at) [] here) refl
-        | inr other ↦ get_or-set_other image at k (sector disk.reads at) [] other ∙ is.kept k clear
+        | inr other ↦ get_or-set_other image at k (sector disk.reads at) [] other ∙ is.others k clear
       ];
     }
 

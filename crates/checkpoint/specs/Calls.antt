@@ -1,10 +1,13 @@
 -- The calls of the disk that make an image of a register count.
-use Rattle.std.specs.Prelude.{ℕ, ◌==◌, List, [], ◌∷◌, ◌++◌, length, slice_index, if◌then◌else◌}
+use Rattle.std.specs.Prelude.{ℕ, List, [], ◌∷◌, ◌++◌, length, if◌then◌else◌}
+use Rattle.identity.specs.Numbers.{Byte}
+use Rattle.sector_disk.specs.Numbers.{Sector}
 use Rattle.sector_disk.specs.Disk.{sector}
 use Rattle.sector_disk.specs.Run.{writes}
 use Rattle.sector_disk.specs.declared.record.Call.{Call}
 use Rattle.sector_disk.specs.declared.record.Call.TheVariants.{Read, Sync, Write}
 use Rattle.gated_journal.specs.Calls.{closed_gate, open_gate}
+use Rattle.gated_journal.specs.Half.{is_open}
 use Rattle.image_rows.specs.Rows.{rows_of}
 use Rattle.image_rows.specs.Image.{sectors_of}
 use Rattle.checkpoint.specs.declared.layout.Layout.{Layout}
@@ -12,24 +15,28 @@ use Rattle.checkpoint.specs.declared.side.Side.{Side}
 use Rattle.checkpoint.specs.Layout.{half_at, root_at, slot_at}
 use Rattle.checkpoint.specs.Standing.{Base}
 
+-- the root is closed where it is open
+abbrev pub shut_calls : Side → List (List ℕ) → List Call
+shut_calls side reads = if is_open (sector reads (root_at side)) then Write (root_at side) closed_gate ∷ [] else []
+
 -- the root is read, and closed where it is open
-abbrev pub root_calls : Side → List (List ℕ) → List Call
-root_calls side reads = Read (root_at side) ∷ (if slice_index (sector reads (root_at side)) 0 == 1 then Write (root_at side) closed_gate ∷ [] else [])
+abbrev pub root_calls : Side → List (List Byte) → List Call
+root_calls side reads = Read (root_at side) ∷ shut_calls side reads
 
 -- then the first gate of the half is closed
-abbrev pub close_calls : Layout → Side → List (List ℕ) → List Call
+abbrev pub close_calls : Layout → Side → List (List Byte) → List Call
 close_calls layout side reads = root_calls side reads ++ Write (half_at layout side) closed_gate ∷ Sync ∷ []
 
 -- the row at a place of an image, as it is written
-abbrev pub row_sector : Base → ℕ → List ℕ
+abbrev pub row_sector : Base → ℕ → List Byte
 row_sector base k = sector (sectors_of base.0 base.1) k
 
 -- each row is written once, in order
-abbrev pub row_calls : ℕ → Base → List Call
+abbrev pub row_calls : Sector → Base → List Call
 row_calls at base = writes at (length (rows_of base.0 base.1)) (row_sector base)
 
 -- the side is closed, then the image is written
-abbrev pub image_calls : Layout → Side → List (List ℕ) → Base → List Call
+abbrev pub image_calls : Layout → Side → List (List Byte) → Base → List Call
 image_calls layout side reads base = close_calls layout side reads ++ row_calls (slot_at layout side) base ++ Sync ∷ []
 
 -- the side's root is opened

@@ -1,15 +1,16 @@
 -- How large a half of a journal may be.
-use Rattle.std.specs.Prelude.{ℕ, ◌≤◌}
+use Rattle.std.specs.Prelude.{◌≤◌}
+use Rattle.sector_disk.specs.Numbers.{Sectors}
 
 -- the fewest and the most sectors of a half
-abbrev pub fewest_sectors : ℕ
+abbrev pub fewest_sectors : Sectors
 fewest_sectors = 38
 
 -- the most sectors of a half
-abbrev pub most_sectors : ℕ
+abbrev pub most_sectors : Sectors
 most_sectors = 65536
 
 -- a half has so many
-pub record IsHalfSize (journal : ℕ) : Type 0 where
+pub record IsHalfSize (journal : Sectors) : Type 0 where
   pub fewest : fewest_sectors ≤ journal
   pub most : journal ≤ most_sectors

@@ -1,7 +1,10 @@
 -- What the image of a disk stands for: the side that counts, the register in its slot, and the records in its half.
-use Rattle.std.specs.Prelude.{◌≡◌, ◌⊎◌, ℕ, zero, suc, ◌+◌, ◌<◌, ◌≤◌, List, [], ◌∷◌, length, Option, Some, None, Ok}
+use Rattle.std.specs.Prelude.{◌≡◌, ◌⊎◌, zero, suc, ◌+◌, ◌<◌, ◌≤◌, List, [], ◌∷◌, length, Option, Some, None, Ok, Result}
+use Rattle.identity.specs.Numbers.{Byte}
+use Rattle.sector_disk.specs.Numbers.{Sector, Sectors}
 use Rattle.sector_disk.specs.Disk.{View, IsImageOf, sector}
 use Rattle.centre_core.specs.State.{State}
+use Rattle.image_rows.specs.Numbers.{Epoch}
 use Rattle.image_rows.specs.Rows.{Row, HeaderRow, RuleRow, RadioRow, MailRow, ServedRow}
 use Rattle.image_rows.specs.RowReading.{row_in}
 use Rattle.image_rows.specs.Image.{slot_of}
@@ -12,20 +15,24 @@ use Rattle.checkpoint.specs.Layout.{disk_size, half_at, half_end, label_at, othe
 use Rattle.checkpoint.specs.Label.{IsLabel}
 
 -- so many sectors from a place on
-unfoldable pub sectors_from : List (List ℕ) → ℕ → ℕ → List (List ℕ)
+unfoldable pub sectors_from : List (List Byte) → Sector → Sectors → List (List Byte)
 sectors_from image at zero = []
 sectors_from image at (suc n) = sector image at ∷ sectors_from image (at + 1) n
 
 -- the image of a register: its epoch, and the register's state
 abbrev pub Base : Type 0
-Base = ℕ × State
+Base = Epoch × State
+
+-- what the sectors of a side's slot are read as: the image with which they begin, or the place of the first bad one
+abbrev pub slot_in : Layout → Side → List (List Byte) → Result Base Sector
+slot_in layout side image = slot_of layout.limits (sectors_from image (slot_at layout side) (slot_size layout))
 
 -- the image with which a side's slot begins
-abbrev pub IsInSlot : Layout → Side → Base → List (List ℕ) → Type 0
-IsInSlot layout side base image = slot_of layout.limits (sectors_from image (slot_at layout side) (slot_size layout)) ≡ Ok base
+abbrev pub IsInSlot : Layout → Side → Base → List (List Byte) → Type 0
+IsInSlot layout side base image = slot_in layout side image ≡ Ok base
 
 -- the epoch of a header; no other row has one
-abbrev pub epoch_of : Option Row → Option ℕ
+abbrev pub epoch_of : Option Row → Option Epoch
 epoch_of (Some (HeaderRow h)) = Some h.epoch
 epoch_of (Some (RuleRow prefix rule)) = None
 epoch_of (Some (RadioRow itsi radio groups)) = None
@@ -34,24 +41,28 @@ epoch_of (Some (ServedRow station last)) = None
 epoch_of None = None
 
 -- the epoch that the first sector of a side's slot tells, where it is a header
-abbrev pub slot_epoch : Layout → Side → List (List ℕ) → Option ℕ
+abbrev pub slot_epoch : Layout → Side → List (List Byte) → Option Epoch
 slot_epoch layout side image = epoch_of (row_in (sector image (slot_at layout side)))
 
+-- the side's slot tells of a smaller epoch
+abbrev pub TellsLess : Layout → Side → Epoch → List (List Byte) → Type 0
+TellsLess layout side epoch image = (e : Epoch) × (slot_epoch layout side image ≡ Some e) × (e < epoch)
+
 -- the side counts for nothing beside one of this epoch: its root is closed, or its slot tells of a smaller one
-abbrev pub IsBelow : Layout → Side → ℕ → List (List ℕ) → Type 0
-IsBelow layout side epoch image = IsClosed (sector image (root_at side)) ⊎ ((e : ℕ) × (slot_epoch layout side image ≡ Some e) × (e < epoch))
+abbrev pub IsBelow : Layout → Side → Epoch → List (List Byte) → Type 0
+IsBelow layout side epoch image = IsClosed (sector image (root_at side)) ⊎ TellsLess layout side epoch image
 
 -- in every image that a stop may leave
-abbrev pub InEach : View → (List (List ℕ) → Type 0) → Type 0
-InEach disk P = (image : List (List ℕ)) → IsImageOf disk image → P image
+abbrev pub InEach : View → (List (List Byte) → Type 0) → Type 0
+InEach disk P = (image : List (List Byte)) → IsImageOf disk image → P image
 
 -- the records of a half, and its first closed gate
 abbrev pub Held : Type 0 → Type 0
-Held A = List (Entry A) × ℕ
+Held A = List (Entry A) × Sector
 
 module _ {A : Type 0} where
   -- the records that a side's half holds, and its first closed gate
-  abbrev pub IsInHalf : Layout → Side → Held A → List (List ℕ) → Type 0
+  abbrev pub IsInHalf : Layout → Side → Held A → List (List Byte) → Type 0
   IsInHalf layout side held image = half_of image (half_at layout side) (half_end layout side) ≡ Ok held
 
   -- no record
@@ -60,7 +71,7 @@ module _ {A : Type 0} where
 
   -- The image stands by this side: the disk is labelled, the side's root is open, the other side counts for nothing beside it,
   -- its slot begins with this image of a register, and its half holds these records.
-  pub record Stands (layout : Layout) (side : Side) (base : Base) (held : Held A) (image : List (List ℕ)) : Type 0 where
+  pub record Stands (layout : Layout) (side : Side) (base : Base) (held : Held A) (image : List (List Byte)) : Type 0 where
     pub room : disk_size layout ≤ length image
     pub label : IsLabel layout (sector image label_at)
     pub root : IsOpen (sector image (root_at side))
@@ -70,11 +81,15 @@ module _ {A : Type 0} where
     pub gate : held.1 < half_end layout side
 
 -- Nothing but the side's root is missing: its slot begins with this image of a register, and its half holds no record.
-pub record IsReady (layout : Layout) (side : Side) (base : Base) (image : List (List ℕ)) : Type 0 where
+pub record IsReady (layout : Layout) (side : Side) (base : Base) (image : List (List Byte)) : Type 0 where
   pub root : IsClosed (sector image (root_at side))
   pub slot : IsInSlot layout side base image
   pub gate : IsClosed (sector image (half_at layout side))
 
+-- the image stands by this side, with this image of a register and no record
+abbrev pub StandsFresh : Type 0 → Layout → Side → Base → List (List Byte) → Type 0
+StandsFresh A layout side base image = Stands {A = A} layout side base (fresh layout side) image
+
 -- the image stands by the current side as before, or by the other one, with its own image and no record
-abbrev pub IsEither : {A : Type 0} → Layout → Side → Base → Base → Held A → List (List ℕ) → Type 0
-IsEither {A} layout current base next held image = Stands layout current base held image ⊎ Stands {A = A} layout (other_of current) next (fresh layout (other_of current)) image
+abbrev pub IsEither : {A : Type 0} → Layout → Side → Base → Base → Held A → List (List Byte) → Type 0
+IsEither {A} layout current base next held image = Stands layout current base held image ⊎ StandsFresh A layout (other_of current) next image

@@ -13,12 +13,9 @@ ghost use Rattle.checkpoint.specs.Calls.{image_calls, row_calls, row_sector};
 use crate::closing::close;
 use crate::{CheckpointError, Layout, Side};
 use centre_core::Register;
-use image_rows::row_after;
+use image_rows::{LAST_EPOCH, row_after};
 use sector_disk::{Disk, DiskError};
 use std::alloc::Allocator;
-
-/// The last epoch, 2 to the 62nd.
-const LAST_EPOCH: u64 = 4_611_686_018_427_387_904;
 
 // Writes the rows of a register's image from a sector on, one a sector.
 fn write_rows<A: Allocator + Clone, D: Disk>(

@@ -1,9 +1,10 @@
 //! The disk and the register of the tests.
-use centre_core::{Body, Command, Register};
+use centre_core::{Body, Command, Register, Sequence};
 use checkpoint::{CheckpointError, Layout, Side, switch, write_image};
 use identity::{BitWriter, Itsi, Prefix};
+use mailbox::Moment;
 use mm_pdus::Lifetime;
-use registration::{Limits, LocationArea, Rule};
+use registration::{Limits, LocationArea, Rule, Station};
 use sector_disk::{Disk, DiskError, MemoryDisk};
 use std::alloc::Global;
 
@@ -37,13 +38,18 @@ pub fn layout() -> Option<Layout> {
     Layout::new(Limits::new(16, 16, 256, 4)?, 39)
 }
 
+/// A command of station 1.
+pub fn made(sequence: u32, moment: Moment, body: Body<Global>) -> Option<Command<Global>> {
+    Command::new(Station::new(1), Sequence::new(sequence)?, moment, body)
+}
+
 /// A rule for the radios of a network.
 fn rule() -> Option<Command<Global>> {
     let prefix = Prefix::new(0x3a80_0e00_0000, 24)?;
     let low = LocationArea::new(1)?;
     let high = LocationArea::new(99)?;
     let rule = Rule::new(low, high, Lifetime::NextItsiAttach, 3_600)?;
-    Command::new(1, 1, 0, Body::RuleSet { prefix, rule })
+    made(1, Moment::new(0), Body::RuleSet { prefix, rule })
 }
 
 /// The location update of a radio.
@@ -53,7 +59,7 @@ fn update(alloc: Global) -> Option<Command<Global>> {
     let mut writer = BitWriter::new(alloc);
     writer.put(0x98, 10).ok()?;
     let pdu = writer.finish();
-    Command::new(1, 2, 10, Body::Mm { itsi, area, pdu })
+    made(2, Moment::new(10), Body::Mm { itsi, area, pdu })
 }
 
 /// Gives the register the command.

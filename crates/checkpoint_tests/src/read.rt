@@ -1,9 +1,10 @@
 //! Images that are read back, from rows put together by hand.
-use crate::made::{layout, sector};
+use crate::made::{layout, made, sector};
 use centre_core::{Body, Command, Register, Reply};
 use checkpoint::{Layout, ReadFault, Side, read_image};
 use identity::{BitWriter, Itsi};
 use linked_list_allocator::LocalHeap;
+use mailbox::Moment;
 use sector_disk::{Disk, DiskError, Failing, FailingDisk, MemoryDisk};
 use std::alloc::{Allocator, Global};
 
@@ -68,10 +69,9 @@ fn again(alloc: Global) -> Option<Command<Global>> {
     let mut writer = BitWriter::new(alloc);
     writer.put(0x8210_0205, 32).ok()?;
     let pdu = writer.finish();
-    Command::new(
-        1,
+    made(
         6,
-        120,
+        Moment::new(120),
         Body::Sds {
             source,
             destination,

@@ -25,7 +25,7 @@ fn goes_round<D: Disk>(
     Ok(first && second && third && back && last)
 }
 
-fn is_disk_kept(alloc: Global, layout: &Layout, register: &Register<Global>) -> Option<bool> {
+fn is_round_on_disk(alloc: Global, layout: &Layout, register: &Register<Global>) -> Option<bool> {
     let mut disk = formatted(alloc)?;
     let round = goes_round(&mut disk, layout, register) == Ok(true);
     let pending = disk.pending(alloc);
@@ -33,17 +33,17 @@ fn is_disk_kept(alloc: Global, layout: &Layout, register: &Register<Global>) -> 
     Some(round && pending.ok()?.is_empty())
 }
 
-fn is_kept(alloc: Global) -> Option<bool> {
+fn is_round(alloc: Global) -> Option<bool> {
     let layout = layout()?;
     let register = register(alloc, layout.limits())?;
-    let is_kept = is_disk_kept(alloc, &layout, &register);
+    let is_round = is_round_on_disk(alloc, &layout, &register);
     drop(register);
-    is_kept
+    is_round
 }
 
 #[test]
 fn from_side_to_side(rt: HostRuntime) {
-    assert!(rt; is_kept(rt.alloc()) == Some(true));
+    assert!(rt; is_round(rt.alloc()) == Some(true));
 }
 
 /// Whether an image with this epoch is refused, and no sector touched.

@@ -1,7 +1,9 @@
 -- Reading commands from bytes: the fields of the table one after the other, each judged by its range.
 use Rattle.std.specs.Prelude.{ℕ, ◌^◌, ◌==◌, Bool, List, [], ◌∷◌, Option, Some, None, nat_le, nat_lt, if◌then◌else◌}
+use Rattle.identity.specs.Numbers.{Byte}
 use Rattle.mm_pdus.specs.declared.lifetime.Lifetime.{Lifetime}
 use Rattle.mm_pdus.specs.Values.{lifetime_of}
+use Rattle.registration.specs.Numbers.{Area}
 use Rattle.registration.specs.declared.rule.Rule.{Rule}
 use Rattle.mailbox.specs.declared.key.Key.{Key}
 use Rattle.mailbox.specs.declared.key.Kind.{Kind}
@@ -15,37 +17,37 @@ use Rattle.command_bytes.specs.Fields.{◌>>=◌, number_at, left_at, bytes_for}
 
 -- what was read of the first bytes, and the bytes after it
 abbrev pub Read : Type 0 → Type 0
-Read X = Option (X × List ℕ)
+Read X = Option (X × List Byte)
 
 -- ---- the parts
 
 -- a prefix: at most 48 bits from the left of 48
-unfoldable pub prefix_at : List ℕ → Read (List Bool)
+unfoldable pub prefix_at : List Byte → Read (List Bool)
 prefix_at bytes = do
   len ← number_at 1 bytes
   if nat_le len.0 48 then left_at 6 len.0 len.1 else None
 
 -- a string of bits, as long as a PDU may be
-unfoldable pub bits_at : List ℕ → Read (List Bool)
+unfoldable pub bits_at : List Byte → Read (List Bool)
 bits_at bytes = do
   len ← number_at 2 bytes
   if nat_le len.0 most_bits then left_at (bytes_for len.0) len.0 len.1 else None
 
 -- a location area, below 2^14
-unfoldable pub area_at : List ℕ → Read ℕ
+unfoldable pub area_at : List Byte → Read Area
 area_at bytes = do
   area ← number_at 2 bytes
   if nat_lt area.0 (2 ^ 14) then Some area else None
 
 -- a lifetime, one of the four
-unfoldable pub lifetime_at : List ℕ → Read Lifetime
+unfoldable pub lifetime_at : List Byte → Read Lifetime
 lifetime_at bytes = do
   number ← number_at 1 bytes
   lifetime ← lifetime_of number.0
   Some (lifetime, number.1)
 
 -- a rule, low not above high
-unfoldable pub rule_at : List ℕ → Read Rule
+unfoldable pub rule_at : List Byte → Read Rule
 rule_at bytes = do
   low ← area_at bytes
   high ← area_at low.1
@@ -58,7 +60,7 @@ abbrev pub kind_of : ℕ → Option Kind
 kind_of number = if number == 0 then Some Message else if number == 1 then Some Report else None
 
 -- the key of a message or a report
-unfoldable pub key_at : List ℕ → Read Key
+unfoldable pub key_at : List Byte → Read Key
 key_at bytes = do
   destination ← number_at 6 bytes
   source ← number_at 6 destination.1
@@ -71,20 +73,20 @@ key_at bytes = do
 
 module _ {A : Type 0} where
   -- set a rule: its prefix, and what it says
-  unfoldable pub rule_set_at : List ℕ → Read (Body A)
+  unfoldable pub rule_set_at : List Byte → Read (Body A)
   rule_set_at bytes = do
     prefix ← prefix_at bytes
     rule ← rule_at prefix.1
     Some (RuleSet prefix.0 rule.0, rule.1)
 
   -- clear a rule: its prefix
-  unfoldable pub rule_clear_at : List ℕ → Read (Body A)
+  unfoldable pub rule_clear_at : List Byte → Read (Body A)
   rule_clear_at bytes = do
     prefix ← prefix_at bytes
     Some (RuleClear prefix.0, prefix.1)
 
   -- a mobility management PDU: the radio, the location area, and the bits
-  unfoldable pub mm_at : List ℕ → Read (Body A)
+  unfoldable pub mm_at : List Byte → Read (Body A)
   mm_at bytes = do
     itsi ← number_at 6 bytes
     area ← area_at itsi.1
@@ -92,7 +94,7 @@ module _ {A : Type 0} where
     Some (Mm itsi.0 area.0 pdu.0, pdu.1)
 
   -- a short data PDU: the source, the destination, and the bits
-  unfoldable pub sds_at : List ℕ → Read (Body A)
+  unfoldable pub sds_at : List Byte → Read (Body A)
   sds_at bytes = do
     source ← number_at 6 bytes
     destination ← number_at 6 source.1
@@ -100,19 +102,19 @@ module _ {A : Type 0} where
     Some (Sds source.0 destination.0 pdu.0, pdu.1)
 
   -- an item was sent: its key
-  unfoldable pub sent_at : List ℕ → Read (Body A)
+  unfoldable pub sent_at : List Byte → Read (Body A)
   sent_at bytes = do
     key ← key_at bytes
     Some (Sent key.0, key.1)
 
   -- delete an item: its key
-  unfoldable pub delete_at : List ℕ → Read (Body A)
+  unfoldable pub delete_at : List Byte → Read (Body A)
   delete_at bytes = do
     key ← key_at bytes
     Some (Delete key.0, key.1)
 
   -- a message to a group: the source, the group, and the bits
-  unfoldable pub group_sds_at : List ℕ → Read (Body A)
+  unfoldable pub group_sds_at : List Byte → Read (Body A)
   group_sds_at bytes = do
     source ← number_at 6 bytes
     group ← number_at 6 source.1
@@ -120,7 +122,7 @@ module _ {A : Type 0} where
     Some (GroupSds source.0 group.0 pdu.0, pdu.1)
 
   -- the body behind a tag
-  unfoldable pub body_at : ℕ → List ℕ → Read (Body A)
+  unfoldable pub body_at : Byte → List Byte → Read (Body A)
   body_at tag bytes =
       if tag == 1 then rule_set_at bytes
       else if tag == 2 then rule_clear_at bytes
@@ -135,7 +137,7 @@ module _ {A : Type 0} where
   -- ---- the whole
 
   -- the command with which bytes begin, and the bytes after it; sequences count from 1
-  unfoldable pub first_command : List ℕ → Read (Asked A)
+  unfoldable pub first_command : List Byte → Read (Asked A)
   first_command bytes = do
     station ← number_at 2 bytes
     sequence ← number_at 4 station.1
@@ -151,7 +153,7 @@ module _ {A : Type 0} where
   whole (Some (c, b ∷ rest)) = None
 
   -- the command that bytes spell, all of them
-  abbrev pub command_of : List ℕ → Option (Asked A)
+  abbrev pub command_of : List Byte → Option (Asked A)
   command_of bytes = whole (first_command bytes)
 
   -- the PDU of a command, if there is a command and it has one

@@ -1,5 +1,6 @@
 -- How commands are spelt in bytes: the fields of each one, with their widths in bytes.
 use Rattle.std.specs.Prelude.{◌≡◌, ℕ, ◌<◌, ◌^◌, Bool, List, [], ◌++◌, length}
+use Rattle.identity.specs.Numbers.{Byte}
 use Rattle.mm_pdus.specs.Values.{lifetime_number}
 use Rattle.registration.specs.declared.rule.Rule.{Rule}
 use Rattle.mailbox.specs.declared.key.Key.{Key}
@@ -14,15 +15,15 @@ use Rattle.command_bytes.specs.Fields.{big, left, bytes_for}
 -- ---- the parts
 
 -- a prefix: its length, and its bits from the left of 48
-abbrev pub prefix_text : List Bool → List ℕ
+abbrev pub prefix_text : List Bool → List Byte
 prefix_text prefix = big 1 (length prefix) ++ left 6 prefix
 
 -- a rule: lowest and highest location area, lifetime, keep
-abbrev pub rule_text : Rule → List ℕ
+abbrev pub rule_text : Rule → List Byte
 rule_text rule = big 2 rule.low ++ big 2 rule.high ++ big 1 (lifetime_number rule.lifetime) ++ big 4 rule.keep
 
 -- a string of bits: how many they are, and they
-abbrev pub bits_text : List Bool → List ℕ
+abbrev pub bits_text : List Bool → List Byte
 bits_text bits = big 2 (length bits) ++ left (bytes_for (length bits)) bits
 
 -- a message is 0, a report 1
@@ -31,14 +32,14 @@ kind_number Message = 0
 kind_number Report = 1
 
 -- by what a message or a report is named
-abbrev pub key_text : Key → List ℕ
+abbrev pub key_text : Key → List Byte
 key_text key = big 6 key.destination ++ big 6 key.source ++ big 1 key.reference ++ big 1 (kind_number key.kind)
 
 -- ---- the whole
 
 module _ {A : Type 0} where
   -- the tag of a body
-  abbrev pub tag_of : Body A → ℕ
+  abbrev pub tag_of : Body A → Byte
   tag_of (RuleSet prefix rule) = 1
   tag_of (RuleClear prefix) = 2
   tag_of (Mm itsi area pdu) = 3
@@ -49,7 +50,7 @@ module _ {A : Type 0} where
   tag_of (GroupSds source group pdu) = 8
 
   -- what stands behind the tag
-  abbrev pub body_text : Body A → List ℕ
+  abbrev pub body_text : Body A → List Byte
   body_text (RuleSet prefix rule) = prefix_text prefix ++ rule_text rule
   body_text (RuleClear prefix) = prefix_text prefix
   body_text (Mm itsi area pdu) = big 6 itsi ++ big 2 area ++ bits_text pdu
@@ -60,7 +61,7 @@ module _ {A : Type 0} where
   body_text (GroupSds source group pdu) = big 6 source ++ big 6 group ++ bits_text pdu
 
   -- a command's text: station, sequence, moment, tag, and the body
-  unfoldable pub command_text : Asked A → List ℕ
+  unfoldable pub command_text : Asked A → List Byte
   command_text c = big 2 c.station ++ big 4 c.sequence ++ big 4 c.moment ++ big 1 (tag_of c.body) ++ body_text c.body
 
   -- what has a text: its fields are in their ranges
@@ -69,7 +70,7 @@ module _ {A : Type 0} where
     pub range : InRange c
 
   -- these bytes spell this command
-  abbrev pub Spells : Asked A → List ℕ → Type 0
+  abbrev pub Spells : Asked A → List Byte → Type 0
   Spells c bytes = IsCommand c × (bytes ≡ command_text c)
 
 -- how many bytes the longest command has

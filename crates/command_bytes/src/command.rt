@@ -6,22 +6,23 @@ ghost use Rattle.command_bytes.specs.Views.{command_view};
 
 use crate::body::{ReadBody, body};
 use crate::fields::number;
-use centre_core::Command;
+use centre_core::{Command, Sequence};
+use mailbox::Moment;
+use registration::Station;
 use std::alloc::{AllocError, Allocator};
 
 /// A command, its PDU still in the bytes.
 #[derive(Drop)]
 pub struct ReadCommand<'a> {
-    station: u16,
-    sequence: u32,
-    moment: u32,
+    station: Station,
+    sequence: Sequence,
+    moment: Moment,
     body: ReadBody<'a>,
 }
 
 impl<'a> ReadCommand<'a> {
     /// The same command, its PDU with memory of its own.
     pub fn copy<A: Allocator>(&self, alloc: A) -> Result<Command<A>, AllocError>
-        requires { 0 < self.now.sequence }
         ensures command { IfOk result (λ command. command ≡ command_view self.now) }
         ensures memory { OnErr result (IsSome (pdu_of (command_view {A = A} self.now).body)) }
     {
@@ -41,13 +42,11 @@ pub fn first<A: Allocator>(bytes: &[u8]) -> Option<(ReadCommand<'_>, &[u8])>
     let (moment, rest) = number(rest, 4)?;
     let (tag, rest) = number(rest, 1)?;
     let (body, rest) = body::<A>(tag, rest)?;
-    if sequence == 0 {
-        return None;
-    }
+    let sequence = Sequence::new(sequence as u32)?;
     let command = ReadCommand {
-        station: station as u16,
-        sequence: sequence as u32,
-        moment: moment as u32,
+        station: Station::new(station as u16),
+        sequence,
+        moment: Moment::new(moment as u32),
         body,
     };
     Some((command, rest))

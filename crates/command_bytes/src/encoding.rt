@@ -92,15 +92,15 @@ pub fn text_len<A: Allocator>(command: &Command<A>) -> usize
     ensures value { result ≡ length (command_text command.now) }
     ensures most { result ≤ longest }
 {
-    keep_ranges(command);
+    hold_ranges(command);
     11 + body_len(&command.body)
 }
 
 // What its fields keep, as a clause.
-fn keep_ranges<A: Allocator>(command: &Command<A>)
+fn hold_ranges<A: Allocator>(command: &Command<A>)
     ensures { IsCommand command.now }
 {
-    let _station = command.station;
+    let _station = command.station.number();
 }
 
 // Puts the command's text at the end of what has room for it.
@@ -111,10 +111,10 @@ fn put_command<R: Room, B: Allocator>(out: &mut R, command: &Command<B>)
     ensures room { R.room out.old ≤ R.room out.new + length (command_text command.now) }
     ensures is_command { IsCommand command.now }
 {
-    keep_ranges(command);
-    put_number(out, 2, u64::from(command.station));
-    put_number(out, 4, u64::from(command.sequence));
-    put_number(out, 4, u64::from(command.moment));
+    hold_ranges(command);
+    put_number(out, 2, u64::from(command.station.number()));
+    put_number(out, 4, u64::from(command.sequence.number()));
+    put_number(out, 4, u64::from(command.moment.number()));
     put_number(out, 1, tag(&command.body));
     put_body(out, &command.body);
 }

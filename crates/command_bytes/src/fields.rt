@@ -9,6 +9,7 @@ use identity::{Gtsi, Itsi, Prefix};
 use mailbox::{Key, Kind};
 use mm_pdus::Lifetime;
 use registration::{LocationArea, Rule};
+use sds_tl::MessageReference;
 
 /// The number in the first `width` bytes (1 to 8), the highest first, and the bytes after them; `None` where there are
 /// fewer.
@@ -128,7 +129,7 @@ pub fn key(bytes: &[u8]) -> Option<(Key, &[u8])>
     let key = Key {
         destination: itsi_of(destination),
         source: itsi_of(source),
-        reference: reference as u8,
+        reference: MessageReference::new(reference as u8),
         kind: kind(number)?,
     };
     Some((key, rest))

@@ -62,7 +62,7 @@ pub fn put_key<R: Room>(out: &mut R, key: &Key)
 {
     put_number(out, 6, key.destination.number());
     put_number(out, 6, key.source.number());
-    put_number(out, 1, u64::from(key.reference));
+    put_number(out, 1, u64::from(key.reference.number()));
     put_number(out, 1, number_of(key.kind));
 }
 

@@ -1,6 +1,7 @@
 //! Lines and bytes as text.
 use centre_core::Command;
 use console::{Line, parse_line};
+use registration::Station;
 use std::alloc::{Allocator, Global};
 use std::test::Fail;
 
@@ -64,8 +65,8 @@ pub fn bytes_of(alloc: Global, text: &str) -> Result<Vec<u8>, Fail> {
 
 /// The command of a line of station 1.
 pub fn command<A: Allocator>(alloc: A, line: &str) -> Option<Command<A>> {
-    match parse_line(alloc, 1, line.as_bytes()) {
-        Ok(Line::Order(command)) => Some(command),
+    match parse_line(alloc, Station::new(1), line.as_bytes()) {
+        Ok(Line::Apply(command)) => Some(command),
         _ => None,
     }
 }

@@ -1,14 +1,13 @@
 -- What words say.
-use Rattle.std.proofs.Common.{◌≡◌, ℕ, zero, suc, ◌<◌, Bool, true, false, List, [], ◌∷◌, length, take, Option, Some, None, Result, Ok, Err, refl, arith}
-use Rattle.std.specs.Prelude.{IfOk, IfSome, codes, nat_le, if◌then◌else◌}
-use Rattle.std.specs.Option.{option_and_then}
+use Rattle.std.proofs.Common.{◌≡◌, ℕ, ◌<◌, Bool, true, false, List, [], ◌∷◌, length, take, Option, Some, None, Result, Ok, Err, refl, arith}
+use Rattle.std.specs.Prelude.{IfOk, codes, nat_le, if◌then◌else◌}
 use Rattle.std.specs.Result.{result_ok}
 use Rattle.std.specs.Str.{bytes_eq}
 use Rattle.identity.specs.Path.{Path}
 use Rattle.identity.specs.IdentityText.{reading_identity, reading_prefix}
 use Rattle.identity.specs.declared.fault.Fault.{Fault}
 use Rattle.identity.proofs.BitsTexts.{reading_bits_only}
-use Rattle.registration.specs.Terms.{Terms}
+use Rattle.registration.specs.Rule.{Rule}
 use Rattle.mailbox.specs.declared.key.Key.{Key}
 use Rattle.centre_core.specs.Ranges.{IsShort, pdu_of}
 use Rattle.identity.specs.NumberText.{judged}
@@ -16,8 +15,8 @@ use Rattle.identity.specs.BitsText.{digit_bits, bits_form, reading_bits}
 use Rattle.identity.specs.declared.fault.Fault.TheVariants.{OutOfRange, NoMemory}
 use Rattle.centre_core.specs.declared.command.Body.{Body}
 use Rattle.centre_core.specs.declared.command.Body.TheVariants.{RuleSet, RuleClear, Mm, Sds, GroupSds, Sent, Expire, Delete}
-use Rattle.console.specs.Reading.{of_words, order, sequence_of, GivesPdu, not_zero, seconds_in, area_in, head_of, head_in, key_in, rule_in, saying, mm_body, sds_body, group_sds_body, rule_body, body_in}
-use Rattle.console.specs.declared.order.Head.{Head}
+use Rattle.console.specs.Reading.{of_words, command_line, sequence_of, GivesPdu, area_in, key_in, rule_in, saying, mm_body, sds_body, group_sds_body, rule_body, body_in}
+use Rattle.console.specs.declared.body.Head.{Head}
 use Rattle.console.specs.declared.line.LineFault.{LineFault}
 use Rattle.console.specs.declared.line.LineFault.TheVariants.{Syntax, Value}
 use Rattle.console.specs.declared.line.Line.TheVariants.{Bad}
@@ -34,16 +33,6 @@ many_words station (a ∷ b ∷ c ∷ d ∷ e ∷ f ∷ []) many = absurd (omega
 many_words station (a ∷ b ∷ c ∷ d ∷ e ∷ f ∷ g ∷ []) many = absurd (omega (arith, many))
 many_words station (a ∷ b ∷ c ∷ d ∷ e ∷ f ∷ g ∷ h ∷ []) many = absurd (omega (arith, many))
 many_words station (a ∷ b ∷ c ∷ d ∷ e ∷ f ∷ g ∷ h ∷ i ∷ ws) many = refl
-
--- a sequence that is read is not 0
-above_of : (sequence moment : Option ℕ) → IfSome (head_of (option_and_then not_zero sequence) moment) (λ head. 0 < head.sequence)
-above_of None moment = tt
-above_of (Some zero) moment = tt
-above_of (Some (suc n)) None = tt
-above_of (Some (suc n)) (Some moment) = omega arith
-
-pub head_above : (sequence moment : List ℕ) → IfSome (head_in sequence moment) (λ head. 0 < head.sequence)
-head_above sequence moment = above_of (seconds_in sequence) (seconds_in moment)
 
 -- a PDU that is read has at most 2,048 bits
 bits_short : (text : List ℕ) (read : Result (List Bool) Fault) → reading_bits text ≡ read → IsShort (result_ok read)
@@ -72,7 +61,7 @@ module _ (A : Type 0) where
   group_sds_short (Some source) (Some group) None short = tt
   group_sds_short (Some source) (Some group) (Some pdu) short = short
 
-  rule_short : (prefix : Option Path) (rule : Option Terms) → HasShortPdu (rule_body {A = A} prefix rule)
+  rule_short : (prefix : Option Path) (rule : Option Rule) → HasShortPdu (rule_body {A = A} prefix rule)
   rule_short None rule = tt
   rule_short (Some prefix) None = tt
   rule_short (Some prefix) (Some rule) = tt
@@ -109,7 +98,7 @@ module _ (A : Type 0) where
   body_short name (a ∷ b ∷ c ∷ d ∷ e ∷ f ∷ ws) = tt
 
 -- a body with a PDU, behind a head and without one
-pub unread : {A : Type 0} (station : ℕ) (head : Head) (body : Result (Body A) LineFault) → GivesPdu body → sequence_of (order station (Some head) body) ≡ Some head.sequence
+pub unread : {A : Type 0} (station : ℕ) (head : Head) (body : Result (Body A) LineFault) → GivesPdu body → sequence_of (command_line station (Some head) body) ≡ Some head.sequence
 unread station head (Ok (RuleSet prefix rule)) pdu = absurd pdu
 unread station head (Ok (RuleClear prefix)) pdu = absurd pdu
 unread station head (Ok (Mm itsi area bits)) pdu = refl
@@ -120,7 +109,7 @@ unread station head (Ok Expire) pdu = absurd pdu
 unread station head (Ok (Delete key)) pdu = absurd pdu
 unread station head (Err fault) pdu = absurd pdu
 
-pub headless : {A : Type 0} (station : ℕ) (body : Result (Body A) LineFault) → GivesPdu body → order station None body ≡ Bad Value
+pub headless : {A : Type 0} (station : ℕ) (body : Result (Body A) LineFault) → GivesPdu body → command_line station None body ≡ Bad Value
 headless station (Ok body) pdu = refl
 headless station (Err fault) pdu = absurd pdu
 

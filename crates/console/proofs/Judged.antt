@@ -7,18 +7,18 @@ use Rattle.std.proofs.lemmas.Bool.{true≢false, false≢true}
 use Rattle.identity.specs.IdentityText.{reading_identity, reading_prefix}
 use Rattle.identity.specs.BitsText.{reading_bits}
 use Rattle.identity.specs.Path.{Path}
-use Rattle.registration.specs.Terms.{Terms}
+use Rattle.registration.specs.Rule.{Rule}
 use Rattle.centre_core.specs.declared.command.Command.{Command}
 use Rattle.centre_core.specs.declared.command.Body.{Body}
 use Rattle.centre_core.specs.declared.command.Body.TheVariants.{RuleClear, Sent, Expire, Delete}
 use Rattle.centre_core.specs.declared.query.Query.{Query}
 use Rattle.centre_core.specs.declared.query.Query.TheVariants.{Whereabouts, Look, GroupsOf, MembersOf, Waiting, Total}
-use Rattle.console.specs.declared.order.Head.{Head}
+use Rattle.console.specs.declared.body.Head.{Head}
 use Rattle.console.specs.declared.line.LineFault.{LineFault}
 use Rattle.console.specs.declared.line.LineFault.TheVariants.{Syntax, Value, TooLong}
 use Rattle.console.specs.declared.line.Line.{Line}
-use Rattle.console.specs.declared.line.Line.TheVariants.{Silent, Bad, Order, Ask}
-use Rattle.console.specs.Reading.{words, of_words, is_silent, longest_line, reading, head_in, area_in, rule_in, key_in, rule_body, mm_body, sds_body, group_sds_body, body_in, order, saying, query_in, ask}
+use Rattle.console.specs.declared.line.Line.TheVariants.{Silent, Bad, Apply, Ask}
+use Rattle.console.specs.Reading.{words, of_words, is_silent, longest_line, reading, head_in, area_in, rule_in, key_in, rule_body, mm_body, sds_body, group_sds_body, body_in, command_line, saying, query_in, ask}
 use Rattle.console.specs.Spelling.{has_form, SpellsSome, BadLines}
 use Rattle.console.proofs.Spelled.{only_commands, only_queries}
 use Rattle.console.proofs.Taken.{all_commands, all_queries}
@@ -67,7 +67,7 @@ query_formless name identity e =
     (last_formless (bytes_eq name (codes "mail")) (saying Waiting o))))) e
 
 module _ (A : Type 0) where
-  formed_rule : (p : Option Path) (r : Option Terms) → IsFormed (rule_body {A = A} p r)
+  formed_rule : (p : Option Path) (r : Option Rule) → IsFormed (rule_body {A = A} p r)
   formed_rule None r = tt
   formed_rule (Some p) None = tt
   formed_rule (Some p) (Some r) = tt
@@ -127,7 +127,7 @@ module _ (A : Type 0) where
   kind_of (Bad TooLong) = 1
   kind_of (Bad Syntax) = 2
   kind_of (Bad Value) = 3
-  kind_of (Order c) = 4
+  kind_of (Apply c) = 4
   kind_of (Ask q) = 5
 
   -- words of a form are a command, a query, or a bad value
@@ -140,12 +140,12 @@ module _ (A : Type 0) where
   valued_ask (Err Syntax) good = absurd good
   valued_ask (Err TooLong) good = absurd good
 
-  valued_order : (station : ℕ) (head : Option Head) (r : Result (Body A) LineFault) → IsFormed r → IsValued (order station head r)
-  valued_order station None (Ok b) good = omega arith
-  valued_order station (Some head) (Ok b) good = omega arith
-  valued_order station head (Err Value) good = omega arith
-  valued_order station head (Err Syntax) good = absurd good
-  valued_order station head (Err TooLong) good = absurd good
+  valued_command : (station : ℕ) (head : Option Head) (r : Result (Body A) LineFault) → IsFormed r → IsValued (command_line station head r)
+  valued_command station None (Ok b) good = omega arith
+  valued_command station (Some head) (Ok b) good = omega arith
+  valued_command station head (Err Value) good = omega arith
+  valued_command station head (Err Syntax) good = absurd good
+  valued_command station head (Err TooLong) good = absurd good
 
   count_valued : (b : Bool) → (b || false) ≡ true → IsValued (if b then (let l : Line A = Ask Total in l) else Bad Syntax)
   count_valued true e = omega arith
@@ -159,13 +159,13 @@ module _ (A : Type 0) where
   valued station [] e = absurd (false≢true e)
   valued station (name ∷ []) e = count_valued (bytes_eq name (codes "count")) e
   valued station (name ∷ identity ∷ []) e = valued_ask (query_in name identity) (query_formed name identity e)
-  valued station (s ∷ m ∷ name ∷ more) e = valued_order station (head_in s m) (body_in name more) (body_formed s m name more e)
+  valued station (s ∷ m ∷ name ∷ more) e = valued_command station (head_in s m) (body_in name more) (body_formed s m name more e)
 
   formless : (station : ℕ) (ws : List (List ℕ)) → has_form ws ≡ false → of_words {A = A} station ws ≡ Bad Syntax
   formless station [] e = refl
   formless station (name ∷ []) e = count_formless (bytes_eq name (codes "count")) e
   formless station (name ∷ identity ∷ []) e = ap (λ r. ask {A = A} r) (query_formless name identity e)
-  formless station (s ∷ m ∷ name ∷ more) e = ap (λ r. order station (head_in s m) r) (body_formless s m name more e)
+  formless station (s ∷ m ∷ name ∷ more) e = ap (λ r. command_line station (head_in s m) r) (body_formless s m name more e)
 
   -- ---- lines
 
@@ -209,19 +209,19 @@ module _ (A : Type 0) where
   judged_of : (long silent : Bool) (l : Line A) → long ≡ false → silent ≡ false → judging long silent l ≡ l
   judged_of long silent l short speaks = rw (short, speaks) refl
 
-  value_left : (l : Line A) → IsValued l → ((c : Command A) → l ≡ Order c → ⊥) → ((q : Query) → l ≡ Ask q → ⊥) → l ≡ Bad Value
-  value_left Silent good no_order no_ask = absurd (omega (arith, good))
-  value_left (Bad TooLong) good no_order no_ask = absurd (omega (arith, good))
-  value_left (Bad Syntax) good no_order no_ask = absurd (omega (arith, good))
-  value_left (Bad Value) good no_order no_ask = refl
-  value_left (Order c) good no_order no_ask = absurd (no_order c refl)
-  value_left (Ask q) good no_order no_ask = absurd (no_ask q refl)
+  value_left : (l : Line A) → IsValued l → ((c : Command A) → l ≡ Apply c → ⊥) → ((q : Query) → l ≡ Ask q → ⊥) → l ≡ Bad Value
+  value_left Silent good no_command no_ask = absurd (omega (arith, good))
+  value_left (Bad TooLong) good no_command no_ask = absurd (omega (arith, good))
+  value_left (Bad Syntax) good no_command no_ask = absurd (omega (arith, good))
+  value_left (Bad Value) good no_command no_ask = refl
+  value_left (Apply c) good no_command no_ask = absurd (no_command c refl)
+  value_left (Ask q) good no_command no_ask = absurd (no_ask q refl)
 
   -- what spells a command or a query is no bad line
   spelt_is_taken : (station : ℕ) (line : List ℕ) → length line ≤ longest_line → SpellsSome A station line → reading {A = A} station line ≡ Bad Value → ⊥
   spelt_is_taken station line short spelt e = elim spelt [
-    | inl command ↦ (let c = command.0 in let taken = subst (λ (n : ℕ). reading {A = A} n line ≡ Order c) command.1 (all_commands line c command.2 command.3 short) in
-        omega (arith, same_kind (Order c) (Bad Value) (sym taken ∙ e)))
+    | inl command ↦ (let c = command.0 in let taken = subst (λ (n : ℕ). reading {A = A} n line ≡ Apply c) command.1 (all_commands line c command.2 command.3 short) in
+        omega (arith, same_kind (Apply c) (Bad Value) (sym taken ∙ e)))
     | inr query ↦ (let q = query.0 in let same = query.2 in
         let taken = subst (λ (text : List ℕ). reading {A = A} station text ≡ Ask q) (sym same) (all_queries {A = A} station q query.1 (subst (λ (text : List ℕ). length text ≤ longest_line) same short)) in
         omega (arith, same_kind (Ask q) (Bad Value) (sym taken ∙ e)))
@@ -230,16 +230,16 @@ module _ (A : Type 0) where
   pub bad_lines : BadLines A
   bad_lines station line =
       let long = nat_lt longest_line (length line) in let silent = is_silent line in let form = has_form (words line) in let l = of_words {A = A} station (words line) in
-      let some = valued station (words line) in let none = formless station (words line) in (
-        (λ e. long_flag (length line) (long_only long silent form l some none e), λ many. rw (is_long (length line) many) refl),
-        (
+      let some = valued station (words line) in let none = formless station (words line) in record {
+        too_long = (λ e. long_flag (length line) (long_only long silent form l some none e), λ many. rw (is_long (length line) many) refl);
+        no_form = (
           λ e. (let f = syntax_only long silent form l some e in ((short_flag (length line) f.0, f.1), f.2)),
           λ f. judged_of long silent l (is_short (length line) f.0.0) f.0.1 ∙ none f.1,
-        ),
-        (
+        );
+        no_value = (
           λ e. (let f = value_only long silent form l none e in let short = short_flag (length line) f.0 in ((short, f.1), f.2, λ spelt. spelt_is_taken station line short spelt e)),
           λ f. (let all = judged_of long silent l (is_short (length line) f.0.0) f.0.1 in all ∙ value_left l (some f.1)
-              (λ c e. (let only = only_commands station line c (all ∙ e) in f.2 (inl (c, only.0, only.1, only.2))))
-              (λ q e. (let only = only_queries station line q (all ∙ e) in f.2 (inr (q, only.0, only.1))))),
-        ),
-      )
+              (λ c e. (let only = only_commands station line c (all ∙ e) in f.2 (inl (c, only.of_station, only.in_range, only.spelt))))
+              (λ q e. (let only = only_queries station line q (all ∙ e) in f.2 (inr (q, only.in_range, only.spelt))))),
+        );
+      }

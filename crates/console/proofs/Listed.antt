@@ -5,7 +5,7 @@ use Rattle.std.proofs.lemmas.List.Concat.{flat_map-append}
 use Rattle.std.proofs.lemmas.List.Sums.{sum_by_more_le}
 use Rattle.std.proofs.Math.Seq.{take-append_seam}
 use Rattle.std.specs.List.{flat_map}
-use Rattle.identity.specs.NumberText.{Keeps}
+use Rattle.identity.specs.NumberText.{IsFrontOf}
 
 split_at : {T : Type 0} (xs : List T) (i : ℕ) (x : T) → i < length xs → x ≡ get_or xs i x → xs ≡ take i xs ++ x ∷ drop (i + 1) xs
 split_at xs i x inside here =
@@ -40,7 +40,7 @@ room_before room xs i x inside here =
     omega (arith, most, same)
 
 -- what was there before more was put is there still
-pub keeps_front : (old more now new : List ℕ) → now ≡ old ++ more → Keeps now new → Keeps old new
-keeps_front old more now new put kept =
-    let whole : new ≡ old ++ (more ++ drop (length now) new) = sym (take-append-drop (length now) new) ∙ ap (λ xs. xs ++ drop (length now) new) (kept ∙ put) ∙ append_assoc old more (drop (length now) new) in
+pub front_with_more : (old more now new : List ℕ) → now ≡ old ++ more → IsFrontOf now new → IsFrontOf old new
+front_with_more old more now new put front =
+    let whole : new ≡ old ++ (more ++ drop (length now) new) = sym (take-append-drop (length now) new) ∙ ap (λ xs. xs ++ drop (length now) new) (front ∙ put) ∙ append_assoc old more (drop (length now) new) in
     ap (λ xs. take (length old) xs) whole ∙ take-append_seam old (more ++ drop (length now) new)

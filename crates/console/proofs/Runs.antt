@@ -1,21 +1,23 @@
 -- A run over a reader and a writer that are told otherwise.
-use Rattle.std.proofs.Common.{◌≡◌, ℕ, List, Option, Result, IfOk, OnErr, subst}
+use Rattle.std.proofs.Common.{◌≡◌, ℕ, List, Option, Result, subst}
 use Rattle.console.specs.declared.running.Ran.{Ran}
 use Rattle.console.specs.declared.running.RunFault.{RunFault}
 use Rattle.desk.specs.Rules.{Rules}
-use Rattle.console.specs.Runs.{AnswersAll, AnswersSome}
+use Rattle.console.specs.Runs.{IsRun}
 
-module _ (A : Type 0) {W : Type 0} (rules : Rules W) (station : ℕ) (s t : W) {given given' held held' now now' : Option (List ℕ)} (r : Result Ran RunFault) where
-  pub all_same : given ≡ given' → held ≡ held' → now ≡ now' →
-      IfOk r (λ ran. AnswersAll A rules station s given held ran now t) → IfOk r (λ ran. AnswersAll A rules station s given' held' ran now' t)
-  all_same gives holds leaves all =
-      subst (λ (n : Option (List ℕ)). IfOk r (λ ran. AnswersAll A rules station s given' held' ran n t)) leaves
-      (subst (λ (h : Option (List ℕ)). IfOk r (λ ran. AnswersAll A rules station s given' h ran now t)) holds
-      (subst (λ (i : Option (List ℕ)). IfOk r (λ ran. AnswersAll A rules station s i held ran now t)) gives all))
+module _ (A : Type 0) {W : Type 0} (rules : Rules W) (station : ℕ) (s t : W) (r : Result Ran RunFault) where
+  -- of these bytes unread and written, and those written behind the run
+  abbrev pub Runs : Option (List ℕ) → Option (List ℕ) → Option (List ℕ) → Type 0
+  Runs given held now = IsRun A rules (record { station = station; world = s; unread = given; written = held }) (record { result = r; world = t; written = now })
 
-  pub some_same : given ≡ given' → held ≡ held' → now ≡ now' →
-      OnErr r (AnswersSome A rules station s given held now t) → OnErr r (AnswersSome A rules station s given' held' now' t)
-  some_same gives holds leaves some =
-      subst (λ (n : Option (List ℕ)). OnErr r (AnswersSome A rules station s given' held' n t)) leaves
-      (subst (λ (h : Option (List ℕ)). OnErr r (AnswersSome A rules station s given' h now t)) holds
-      (subst (λ (i : Option (List ℕ)). OnErr r (AnswersSome A rules station s i held now t)) gives some))
+  pub run_told : {given given' held held' now now' : Option (List ℕ)} → given ≡ given' → held ≡ held' → now ≡ now' → Runs given held now → Runs given' held' now'
+  run_told {given' = given'} {held = held} {held' = held'} {now = now} gives holds leaves run =
+      subst (λ (n : Option (List ℕ)). Runs given' held' n) leaves
+      (subst (λ (h : Option (List ℕ)). Runs given' h now) holds
+      (subst (λ (i : Option (List ℕ)). Runs i held now) gives run))
+
+-- of what the desk stands for and the writer holds behind the run
+pub run_left : (A : Type 0) {W : Type 0} (rules : Rules W) (station : ℕ) (s : W) (r : Result Ran RunFault) {given held : Option (List ℕ)} (t : W) (now : Option (List ℕ)) {t' : W} {now' : Option (List ℕ)} →
+    t ≡ t' → now ≡ now' → Runs A rules station s t r given held now → Runs A rules station s t' r given held now'
+run_left A rules station s r {given = given} {held = held} t now {now' = now'} stands leaves run =
+    subst (λ u. Runs A rules station s u r given held now') stands (subst (λ (n : Option (List ℕ)). Runs A rules station s t r given held n) leaves run)

@@ -16,7 +16,7 @@ use Rattle.identity.proofs.BitsTexts.{reading_bits_only}
 use Rattle.mm_pdus.specs.declared.lifetime.Lifetime.{Lifetime}
 use Rattle.mm_pdus.specs.declared.lifetime.Lifetime.TheVariants.{NotNeeded, NextItsiAttach, NotAllowedAtNextItsiAttach, NextLocationUpdate}
 use Rattle.mm_pdus.specs.Values.{lifetime_of, lifetime_number}
-use Rattle.registration.specs.Terms.{Terms}
+use Rattle.registration.specs.Rule.{Rule}
 use Rattle.mailbox.specs.declared.key.Key.{Key}
 use Rattle.mailbox.specs.declared.key.Kind.{Kind}
 use Rattle.mailbox.specs.declared.key.Kind.TheVariants.{Message, Report}
@@ -25,12 +25,12 @@ use Rattle.centre_core.specs.declared.command.Body.{Body}
 use Rattle.centre_core.specs.declared.command.Body.TheVariants.{RuleSet, RuleClear, Mm, Sds, GroupSds, Sent, Expire, Delete}
 use Rattle.centre_core.specs.declared.query.Query.{Query}
 use Rattle.centre_core.specs.declared.query.Query.TheVariants.{Whereabouts, Look, GroupsOf, MembersOf, Waiting, Total}
-use Rattle.console.specs.declared.order.Head.{Head}
+use Rattle.console.specs.declared.body.Head.{Head}
 use Rattle.console.specs.declared.line.LineFault.{LineFault}
 use Rattle.console.specs.declared.line.LineFault.TheVariants.{Syntax, Value, TooLong}
 use Rattle.console.specs.declared.line.Line.{Line}
-use Rattle.console.specs.declared.line.Line.TheVariants.{Silent, Bad, Order, Ask}
-use Rattle.console.specs.Reading.{words, of_words, is_silent, longest_line, seconds_in, not_zero, sequence_in, head_of, head_in, area_in, lifetime_in, rule_of, rule_in, reference_in, kind_in, key_of, key_in, rule_body, mm_body, sds_body, group_sds_body, body_in, order, saying, query_in, ask}
+use Rattle.console.specs.declared.line.Line.TheVariants.{Silent, Bad, Apply, Ask}
+use Rattle.console.specs.Reading.{words, of_words, is_silent, longest_line, seconds_in, not_zero, sequence_in, head_of, head_in, area_in, lifetime_in, rule_of, rule_in, reference_in, kind_in, key_of, key_in, rule_body, mm_body, sds_body, group_sds_body, body_in, command_line, saying, query_in, ask}
 use Rattle.mailbox.specs.Values.{KeyInRange}
 use Rattle.centre_core.specs.Ranges.{BodyInRange, InRange}
 use Rattle.console.specs.Words.{kind_word}
@@ -72,12 +72,12 @@ le_of a b e = grind (arith, e)
 short_of_flag : (n : ℕ) → nat_lt longest_line n ≡ false → n ≤ longest_line
 short_of_flag n e = grind (arith, e)
 
-rule_of_only : (low high : Option ℕ) (life : Option Lifetime) (keep : Option ℕ) (rule : Terms) → rule_of low high life keep ≡ Some rule →
+rule_of_only : (low high : Option ℕ) (life : Option Lifetime) (keep : Option ℕ) (rule : Rule) → rule_of low high life keep ≡ Some rule →
     (low ≡ Some rule.low) × (high ≡ Some rule.high) × (life ≡ Some rule.lifetime) × (keep ≡ Some rule.keep) × (rule.low ≤ rule.high)
 rule_of_only (Some low) (Some high) (Some life) (Some keep) rule e =
-    let chosen = chosen_some (nat_le low high) (Some (let r : Terms = record { low = low; high = high; lifetime = life; keep = keep } in r)) rule e in
+    let chosen = chosen_some (nat_le low high) (Some (let r : Rule = record { low = low; high = high; lifetime = life; keep = keep } in r)) rule e in
     let same = some_same _ rule chosen.1 in
-    (ap (λ (r : Terms). Some r.low) same, ap (λ (r : Terms). Some r.high) same, ap (λ (r : Terms). Some r.lifetime) same, ap (λ (r : Terms). Some r.keep) same, subst (λ (r : Terms). r.low ≤ r.high) same (le_of low high chosen.0))
+    (ap (λ (r : Rule). Some r.low) same, ap (λ (r : Rule). Some r.high) same, ap (λ (r : Rule). Some r.lifetime) same, ap (λ (r : Rule). Some r.keep) same, subst (λ (r : Rule). r.low ≤ r.high) same (le_of low high chosen.0))
 rule_of_only None high life keep rule e = absurd (none_some rule e)
 rule_of_only (Some low) None life keep rule e = absurd (none_some rule e)
 rule_of_only (Some low) (Some high) None keep rule e = absurd (none_some rule e)
@@ -200,8 +200,8 @@ module _ {A : Type 0} where
   group_sds_only (Some s) None p b e = absurd (err_ok Value b e)
   group_sds_only (Some s) (Some g) None b e = absurd (err_ok Value b e)
 
-  rule_only : (p : Option Path) (r : Option Terms) (b : Body A) → rule_body p r ≡ Ok b →
-      (prefix : Path) × (rule : Terms) × (p ≡ Some prefix) × (r ≡ Some rule) × (RuleSet prefix rule ≡ b)
+  rule_only : (p : Option Path) (r : Option Rule) (b : Body A) → rule_body p r ≡ Ok b →
+      (prefix : Path) × (rule : Rule) × (p ≡ Some prefix) × (r ≡ Some rule) × (RuleSet prefix rule ≡ b)
   rule_only (Some p) (Some r) b e = (p, r, refl, refl, ok_same (RuleSet p r) b e)
   rule_only None r b e = absurd (err_ok Value b e)
   rule_only (Some p) None b e = absurd (err_ok Value b e)
@@ -299,67 +299,67 @@ module _ {A : Type 0} where
   -- ---- lines
 
   -- what is no command, and what is no query
-  bad_order : (f : LineFault) (c : Command A) (e : (let l : Line A = Bad f in l) ≡ Order c) → ⊥
-  bad_order f c e = cc
+  bad_command : (f : LineFault) (c : Command A) (e : (let l : Line A = Bad f in l) ≡ Apply c) → ⊥
+  bad_command f c e = cc
 
-  ask_order : (q : Query) (c : Command A) (e : (let l : Line A = Ask q in l) ≡ Order c) → ⊥
-  ask_order q c e = cc
+  ask_command : (q : Query) (c : Command A) (e : (let l : Line A = Ask q in l) ≡ Apply c) → ⊥
+  ask_command q c e = cc
 
-  silent_order : (c : Command A) (e : (let l : Line A = Silent in l) ≡ Order c) → ⊥
-  silent_order c e = cc
+  silent_command : (c : Command A) (e : (let l : Line A = Silent in l) ≡ Apply c) → ⊥
+  silent_command c e = cc
 
   bad_ask : (f : LineFault) (q : Query) (e : (let l : Line A = Bad f in l) ≡ Ask q) → ⊥
   bad_ask f q e = cc
 
-  order_ask : (c : Command A) (q : Query) (e : (let l : Line A = Order c in l) ≡ Ask q) → ⊥
-  order_ask c q e = cc
+  command_ask : (c : Command A) (q : Query) (e : (let l : Line A = Apply c in l) ≡ Ask q) → ⊥
+  command_ask c q e = cc
 
   silent_ask : (q : Query) (e : (let l : Line A = Silent in l) ≡ Ask q) → ⊥
   silent_ask q e = cc
 
-  order_same : (c d : Command A) (e : (let l : Line A = Order c in l) ≡ Order d) → c ≡ d
-  order_same c d e = cc
+  command_same : (c d : Command A) (e : (let l : Line A = Apply c in l) ≡ Apply d) → c ≡ d
+  command_same c d e = cc
 
   ask_same : (p q : Query) (e : (let l : Line A = Ask p in l) ≡ Ask q) → p ≡ q
   ask_same p q e = cc
 
-  count_no_order : (b : Bool) (c : Command A) (e : (if b then (let l : Line A = Ask Total in l) else Bad Syntax) ≡ Order c) → ⊥
-  count_no_order true c e = ask_order Total c e
-  count_no_order false c e = bad_order Syntax c e
+  count_no_command : (b : Bool) (c : Command A) (e : (if b then (let l : Line A = Ask Total in l) else Bad Syntax) ≡ Apply c) → ⊥
+  count_no_command true c e = ask_command Total c e
+  count_no_command false c e = bad_command Syntax c e
 
   count_only : (b : Bool) (q : Query) (e : (if b then (let l : Line A = Ask Total in l) else Bad Syntax) ≡ Ask q) → (b ≡ true) × (Total ≡ q)
   count_only true q e = (refl, ask_same Total q e)
   count_only false q e = absurd (bad_ask Syntax q e)
 
-  ask_no_order : (r : Result Query LineFault) (c : Command A) (e : ask {A = A} r ≡ Order c) → ⊥
-  ask_no_order (Ok q) c e = ask_order q c e
-  ask_no_order (Err f) c e = bad_order f c e
+  ask_no_command : (r : Result Query LineFault) (c : Command A) (e : ask {A = A} r ≡ Apply c) → ⊥
+  ask_no_command (Ok q) c e = ask_command q c e
+  ask_no_command (Err f) c e = bad_command f c e
 
   ask_only : (r : Result Query LineFault) (q : Query) (e : ask {A = A} r ≡ Ask q) → r ≡ Ok q
   ask_only (Ok p) q e = ap (λ (o : Query). let r : Result Query LineFault = Ok o in r) (ask_same p q e)
   ask_only (Err f) q e = absurd (bad_ask f q e)
 
-  order_no_ask : (station : ℕ) (head : Option Head) (body : Result (Body A) LineFault) (q : Query) (e : order station head body ≡ Ask q) → ⊥
-  order_no_ask station head (Err f) q e = bad_ask f q e
-  order_no_ask station None (Ok body) q e = bad_ask Value q e
-  order_no_ask station (Some head) (Ok body) q e = order_ask _ q e
+  command_no_ask : (station : ℕ) (head : Option Head) (body : Result (Body A) LineFault) (q : Query) (e : command_line station head body ≡ Ask q) → ⊥
+  command_no_ask station head (Err f) q e = bad_ask f q e
+  command_no_ask station None (Ok body) q e = bad_ask Value q e
+  command_no_ask station (Some head) (Ok body) q e = command_ask _ q e
 
-  order_only : (station : ℕ) (head : Option Head) (body : Result (Body A) LineFault) (c : Command A) → order station head body ≡ Order c →
+  command_only : (station : ℕ) (head : Option Head) (body : Result (Body A) LineFault) (c : Command A) → command_line station head body ≡ Apply c →
       (h : Head) × (b : Body A) × (head ≡ Some h) × (body ≡ Ok b) × ((let d : Command A = record { station = station; sequence = h.sequence; moment = h.moment; body = b } in d) ≡ c)
-  order_only station head (Err f) c e = absurd (bad_order f c e)
-  order_only station None (Ok body) c e = absurd (bad_order Value c e)
-  order_only station (Some head) (Ok body) c e = (head, body, refl, refl, order_same _ c e)
+  command_only station head (Err f) c e = absurd (bad_command f c e)
+  command_only station None (Ok body) c e = absurd (bad_command Value c e)
+  command_only station (Some head) (Ok body) c e = (head, body, refl, refl, command_same _ c e)
 
   -- what the words of a command are
   abbrev pub IsSpelled : ℕ → Command A → List (List ℕ) → Type 0
   IsSpelled station c words = (c.station ≡ station) × InRange c × ((body : List (List ℕ)) × SpellsBody c.body body × (words ≡ decimal c.sequence ∷ decimal c.moment ∷ body))
 
-  words_spelled : (station : ℕ) (ws : List (List ℕ)) (c : Command A) → of_words station ws ≡ Order c → IsSpelled station c ws
-  words_spelled station [] c e = absurd (bad_order Syntax c e)
-  words_spelled station (name ∷ []) c e = absurd (count_no_order (bytes_eq name (codes "count")) c e)
-  words_spelled station (name ∷ identity ∷ []) c e = absurd (ask_no_order (query_in name identity) c e)
+  words_spelled : (station : ℕ) (ws : List (List ℕ)) (c : Command A) → of_words station ws ≡ Apply c → IsSpelled station c ws
+  words_spelled station [] c e = absurd (bad_command Syntax c e)
+  words_spelled station (name ∷ []) c e = absurd (count_no_command (bytes_eq name (codes "count")) c e)
+  words_spelled station (name ∷ identity ∷ []) c e = absurd (ask_no_command (query_in name identity) c e)
   words_spelled station (s ∷ m ∷ name ∷ more) c e =
-      let f = order_only station (head_in s m) (body_in name more) c e in
+      let f = command_only station (head_in s m) (body_in name more) c e in
       let head = head_spelled s m f.0 f.2 in
       let says = body_spelled name more f.1 f.3 in
       subst (λ (d : Command A). IsSpelled station d (s ∷ m ∷ name ∷ more)) f.4 (
@@ -376,12 +376,12 @@ module _ {A : Type 0} where
   words_asked station [] q e = absurd (bad_ask Syntax q e)
   words_asked station (name ∷ []) q e = let f = count_only (bytes_eq name (codes "count")) q e in subst (λ (p : Query). Asks p (name ∷ [])) f.1 (tt, named name (codes "count") f.0)
   words_asked station (name ∷ identity ∷ []) q e = query_spelled name identity q (ask_only (query_in name identity) q e)
-  words_asked station (s ∷ m ∷ name ∷ more) q e = absurd (order_no_ask station (head_in s m) (body_in name more) q e)
+  words_asked station (s ∷ m ∷ name ∷ more) q e = absurd (command_no_ask station (head_in s m) (body_in name more) q e)
 
-  through_order : (long silent : Bool) (l : Line A) (c : Command A) → (if long then Bad TooLong else (if silent then Silent else l)) ≡ Order c → (long ≡ false) × (l ≡ Order c)
-  through_order true silent l c e = absurd (bad_order TooLong c e)
-  through_order false true l c e = absurd (silent_order c e)
-  through_order false false l c e = (refl, e)
+  through_command : (long silent : Bool) (l : Line A) (c : Command A) → (if long then Bad TooLong else (if silent then Silent else l)) ≡ Apply c → (long ≡ false) × (l ≡ Apply c)
+  through_command true silent l c e = absurd (bad_command TooLong c e)
+  through_command false true l c e = absurd (silent_command c e)
+  through_command false false l c e = (refl, e)
 
   through_ask : (long silent : Bool) (l : Line A) (q : Query) → (if long then Bad TooLong else (if silent then Silent else l)) ≡ Ask q → (long ≡ false) × (l ≡ Ask q)
   through_ask true silent l q e = absurd (bad_ask TooLong q e)
@@ -390,12 +390,17 @@ module _ {A : Type 0} where
 
   pub only_commands : OnlyCommands A
   only_commands station line c e =
-      let through = through_order (nat_lt longest_line (length line)) (is_silent line) (of_words station (words line)) c e in
+      let through = through_command (nat_lt longest_line (length line)) (is_silent line) (of_words station (words line)) c e in
       let f = words_spelled station (words line) c through.1 in
-      (f.0, f.1, (f.2.0, f.2.1, sym (join_with_byte-slice_split 32 line) ∙ ap spaced f.2.2), short_of_flag (length line) through.0)
+      record {
+        of_station = f.0;
+        in_range = f.1;
+        spelt = (f.2.0, f.2.1, sym (join_with_byte-slice_split 32 line) ∙ ap spaced f.2.2);
+        short = short_of_flag (length line) through.0;
+      }
 
   pub only_queries : OnlyQueries A
   only_queries station line q e =
       let through = through_ask (nat_lt longest_line (length line)) (is_silent line) (of_words station (words line)) q e in
       let asks = words_asked station (words line) q through.1 in
-      (asks.0, sym (join_with_byte-slice_split 32 line) ∙ asks.1, short_of_flag (length line) through.0)
+      record { in_range = asks.0; spelt = sym (join_with_byte-slice_split 32 line) ∙ asks.1; short = short_of_flag (length line) through.0 }

@@ -11,12 +11,12 @@ use Rattle.desk.specs.declared.service.Service.TheVariants.{Memory, Device, Brok
 use Rattle.desk.specs.OfRegister.{of_register}
 use Rattle.desk.specs.OfStore.{Stored, Refuses, StoreApplies, StoreTells, of_store}
 use Rattle.console.specs.declared.line.Line.{Line}
-use Rattle.console.specs.declared.line.Line.TheVariants.{Silent, Bad, Order, Ask}
+use Rattle.console.specs.declared.line.Line.TheVariants.{Silent, Bad, Apply, Ask}
 use Rattle.console.specs.declared.answer.Answer.{Answer}
 use Rattle.console.specs.declared.answer.Answer.TheVariants as answer
 use Rattle.console.specs.Answer.{is_service}
 use Rattle.console.specs.Reading.{reading}
-use Rattle.console.specs.Dialogue.{AnswersReading, AnswersOrder, AnswersQuery, Dialogue, LacksPdu}
+use Rattle.console.specs.Dialogue.{AnswersReading, AnswersCommand, AnswersQuery, Dialogue, LacksPdu}
 use Rattle.console.specs.Stored.{SaysBroken, BrokenBehindDevice, StoredAsRegister}
 use Rattle.console.proofs.Wholes.{or_left, or_right}
 
@@ -51,19 +51,19 @@ module _ {A : Type 0} where
   abbrev pub Stays : Answer A → Stored → Stored → Type 0
   Stays a s t = SaysBroken a × (t ≡ s)
 
-  unserved : (s t : Stored) (c : Command A) (sequence : ℕ) (word : Service) → s.broken ≡ true → StoreApplies {A = A} {B = A} s c (Err word) t ⊎ LacksPdu s c word t → Stays (answer.Unserved sequence word) s t
-  unserved s t c sequence word broken why = elim why [
+  unreplied : (s t : Stored) (c : Command A) (sequence : ℕ) (word : Service) → s.broken ≡ true → StoreApplies {A = A} {B = A} s c (Err word) t ⊎ LacksPdu s c word t → Stays (answer.Unreplied sequence word) s t
+  unreplied s t c sequence word broken why = elim why [
     | inl says ↦ let b = refused s t word broken says in (inl b.0, b.1)
     | inr lacks ↦ (inr lacks.1, lacks.2)
   ]
 
-  on_order : (s t : Stored) (c : Command A) (a : Answer A) → s.broken ≡ true → AnswersOrder of_store s c a t → Stays a s t
-  on_order s t c (answer.Replied sequence reply) broken given = not_both s broken given.1.0
-  on_order s t c (answer.Unserved sequence word) broken given = unserved s t c sequence word broken given.1
-  on_order s t c answer.Quiet broken given = absurd given
-  on_order s t c (answer.Bad line fault) broken given = absurd given
-  on_order s t c (answer.Told told) broken given = absurd given
-  on_order s t c (answer.Untold line word) broken given = absurd given
+  on_command : (s t : Stored) (c : Command A) (a : Answer A) → s.broken ≡ true → AnswersCommand of_store s c a t → Stays a s t
+  on_command s t c (answer.Replied sequence reply) broken given = not_both s broken given.1.0
+  on_command s t c (answer.Unreplied sequence word) broken given = unreplied s t c sequence word broken given.1
+  on_command s t c answer.Quiet broken given = absurd given
+  on_command s t c (answer.Bad line fault) broken given = absurd given
+  on_command s t c (answer.Told told) broken given = absurd given
+  on_command s t c (answer.Untold line word) broken given = absurd given
 
   on_query : (n : ℕ) (s t : Stored) (q : Query) (a : Answer A) → s.broken ≡ true → AnswersQuery of_store n s q a t → Stays a s t
   on_query n s t q (answer.Told told) broken given = not_both s broken given.0
@@ -74,12 +74,12 @@ module _ {A : Type 0} where
   on_query n s t q answer.Quiet broken given = absurd given
   on_query n s t q (answer.Bad line fault) broken given = absurd given
   on_query n s t q (answer.Replied sequence reply) broken given = absurd given
-  on_query n s t q (answer.Unserved sequence word) broken given = absurd given
+  on_query n s t q (answer.Unreplied sequence word) broken given = absurd given
 
   on_reading : (n : ℕ) (s t : Stored) (line : Line A) (a : Answer A) → s.broken ≡ true → AnswersReading of_store n s line a t → Stays a s t
   on_reading n s t Silent a broken given = (subst (λ (b : Answer A). SaysBroken b) (sym given.0) tt, given.1)
   on_reading n s t (Bad fault) a broken given = (subst (λ (b : Answer A). SaysBroken b) (sym given.0) tt, given.1)
-  on_reading n s t (Order c) a broken given = on_order s t c a broken given
+  on_reading n s t (Apply c) a broken given = on_command s t c a broken given
   on_reading n s t (Ask q) a broken given = on_query n s t q a broken given
 
   -- from a broken desk on
@@ -92,10 +92,10 @@ module _ {A : Type 0} where
       All-cons SaysBroken a answers first.0 (stays_broken station (n + 1) each.0 t given answers (ap (λ (w : Stored). w.broken) first.1 ∙ broken) each.2)
 
   -- the word device leaves it broken
-  device_breaks : (n sequence : ℕ) (s t : Stored) (line : Line A) → AnswersReading of_store n s line (answer.Unserved sequence Device) t → t.broken ≡ true
+  device_breaks : (n sequence : ℕ) (s t : Stored) (line : Line A) → AnswersReading of_store n s line (answer.Unreplied sequence Device) t → t.broken ≡ true
   device_breaks n sequence s t Silent given = absurd (true≢false (ap is_service given.0))
   device_breaks n sequence s t (Bad fault) given = absurd (true≢false (ap is_service given.0))
-  device_breaks n sequence s t (Order c) given = elim given.1 [
+  device_breaks n sequence s t (Apply c) given = elim given.1 [
     | inl says ↦ says.1
     | inr lacks ↦ absurd (device_no_memory lacks.1)
   ]
@@ -109,13 +109,13 @@ module _ {A : Type 0} where
   broken_behind station n sequence s t (line ∷ given) (a ∷ before) behind each = broken_behind station (n + 1) sequence each.0 t given before behind each.2
 
   -- a line that gets no word of the service
-  as_order : (s t : Stored) (c : Command A) (a : Answer A) → AnswersOrder of_store s c a t → is_service a ≡ false → AnswersOrder of_register s.register c a t.register
-  as_order s t c (answer.Replied sequence reply) given calm = (given.0, given.1.2)
-  as_order s t c (answer.Unserved sequence word) given calm = absurd (true≢false calm)
-  as_order s t c answer.Quiet given calm = absurd given
-  as_order s t c (answer.Bad line fault) given calm = absurd given
-  as_order s t c (answer.Told told) given calm = absurd given
-  as_order s t c (answer.Untold line word) given calm = absurd given
+  as_command : (s t : Stored) (c : Command A) (a : Answer A) → AnswersCommand of_store s c a t → is_service a ≡ false → AnswersCommand of_register s.register c a t.register
+  as_command s t c (answer.Replied sequence reply) given calm = (given.0, given.1.2)
+  as_command s t c (answer.Unreplied sequence word) given calm = absurd (true≢false calm)
+  as_command s t c answer.Quiet given calm = absurd given
+  as_command s t c (answer.Bad line fault) given calm = absurd given
+  as_command s t c (answer.Told told) given calm = absurd given
+  as_command s t c (answer.Untold line word) given calm = absurd given
 
   as_query : (n : ℕ) (s t : Stored) (q : Query) (a : Answer A) → AnswersQuery of_store n s q a t → is_service a ≡ false → AnswersQuery of_register n s.register q a t.register
   as_query n s t q (answer.Told told) given calm = (ap (λ (w : Stored). w.register) given.1, given.2)
@@ -123,12 +123,12 @@ module _ {A : Type 0} where
   as_query n s t q answer.Quiet given calm = absurd given
   as_query n s t q (answer.Bad line fault) given calm = absurd given
   as_query n s t q (answer.Replied sequence reply) given calm = absurd given
-  as_query n s t q (answer.Unserved sequence word) given calm = absurd given
+  as_query n s t q (answer.Unreplied sequence word) given calm = absurd given
 
   as_reading : (n : ℕ) (s t : Stored) (line : Line A) (a : Answer A) → AnswersReading of_store n s line a t → is_service a ≡ false → AnswersReading of_register n s.register line a t.register
   as_reading n s t Silent a given calm = (given.0, ap (λ (w : Stored). w.register) given.1)
   as_reading n s t (Bad fault) a given calm = (given.0, ap (λ (w : Stored). w.register) given.1)
-  as_reading n s t (Order c) a given calm = as_order s t c a given calm
+  as_reading n s t (Apply c) a given calm = as_command s t c a given calm
   as_reading n s t (Ask q) a given calm = as_query n s t q a given calm
 
   pub as_register : StoredAsRegister A

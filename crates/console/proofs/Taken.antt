@@ -22,7 +22,7 @@ use Rattle.identity.proofs.BitsTexts.{reading_bits_again}
 use Rattle.mm_pdus.specs.declared.lifetime.Lifetime.{Lifetime}
 use Rattle.mm_pdus.specs.declared.lifetime.Lifetime.TheVariants.{NotNeeded, NextItsiAttach, NotAllowedAtNextItsiAttach, NextLocationUpdate}
 use Rattle.mm_pdus.specs.Values.{lifetime_of, lifetime_number}
-use Rattle.registration.specs.Terms.{Terms}
+use Rattle.registration.specs.Rule.{Rule}
 use Rattle.mailbox.specs.declared.key.Key.{Key}
 use Rattle.mailbox.specs.declared.key.Kind.{Kind}
 use Rattle.mailbox.specs.declared.key.Kind.TheVariants.{Message, Report}
@@ -30,11 +30,11 @@ use Rattle.centre_core.specs.declared.command.Body.{Body}
 use Rattle.centre_core.specs.declared.command.Body.TheVariants.{RuleSet, RuleClear, Mm, Sds, GroupSds, Sent, Expire, Delete}
 use Rattle.centre_core.specs.declared.query.Query.{Query}
 use Rattle.centre_core.specs.declared.query.Query.TheVariants.{Whereabouts, Look, GroupsOf, MembersOf, Waiting, Total}
-use Rattle.console.specs.declared.order.Head.{Head}
+use Rattle.console.specs.declared.body.Head.{Head}
 use Rattle.console.specs.declared.line.LineFault.{LineFault}
 use Rattle.console.specs.declared.line.Line.{Line}
-use Rattle.console.specs.declared.line.Line.TheVariants.{Order, Ask}
-use Rattle.console.specs.Reading.{Lacks, words, of_words, reading, is_silent, longest_line, seconds_in, not_zero, sequence_in, head_of, head_in, area_in, lifetime_in, rule_of, rule_in, reference_in, kind_in, key_of, key_in, rule_body, mm_body, sds_body, group_sds_body, body_in, order, saying, query_in, ask}
+use Rattle.console.specs.declared.line.Line.TheVariants.{Apply, Ask}
+use Rattle.console.specs.Reading.{Lacks, words, of_words, reading, is_silent, longest_line, seconds_in, not_zero, sequence_in, head_of, head_in, area_in, lifetime_in, rule_of, rule_in, reference_in, kind_in, key_of, key_in, rule_body, mm_body, sds_body, group_sds_body, body_in, command_line, saying, query_in, ask}
 use Rattle.console.specs.Words.{kind_word}
 use Rattle.mailbox.specs.Values.{KeyInRange}
 use Rattle.centre_core.specs.Ranges.{BodyInRange}
@@ -133,10 +133,10 @@ lifetime_back NextLocationUpdate = refl
 lifetime_again : (life : Lifetime) → lifetime_in (decimal (lifetime_number life)) ≡ Some life
 lifetime_again life = ap (λ r. option_and_then lifetime_of (result_ok r)) (reading_number_again 3 (lifetime_number life) (lifetime_small life) (omega arith)) ∙ lifetime_back life
 
-rule_again : (rule : Terms) → rule.low ≤ rule.high → rule_of (Some rule.low) (Some rule.high) (Some rule.lifetime) (Some rule.keep) ≡ Some rule
-rule_again rule order = let le : nat_le rule.low rule.high ≡ true = grind (arith, order) in rw le refl
+rule_again : (rule : Rule) → rule.low ≤ rule.high → rule_of (Some rule.low) (Some rule.high) (Some rule.lifetime) (Some rule.keep) ≡ Some rule
+rule_again rule order = let le : nat_le rule.low rule.high ≡ true = grind (arith, command_line) in rw le refl
 
-rules_same : (rule : Terms) (low high : Option ℕ) (life : Option Lifetime) (keep : Option ℕ) → rule.low ≤ rule.high →
+rules_same : (rule : Rule) (low high : Option ℕ) (life : Option Lifetime) (keep : Option ℕ) → rule.low ≤ rule.high →
     low ≡ Some rule.low → high ≡ Some rule.high → life ≡ Some rule.lifetime → keep ≡ Some rule.keep → rule_of low high life keep ≡ Some rule
 rules_same rule low high life keep order e f g h = rw (e, f, g, h) (rule_again rule order)
 
@@ -191,7 +191,7 @@ module _ {A : Type 0} where
   group_sds_same : (s g : ℕ) (p : List Bool) (s' g' : Option ℕ) (p' : Option (List Bool)) → s' ≡ Some s → g' ≡ Some g → p' ≡ Some p → group_sds_body {A = A} s' g' p' ≡ Ok (GroupSds s g p)
   group_sds_same s g p s' g' p' es eg ep = rw (es, eg, ep) refl
 
-  rule_same : (p : Path) (r : Terms) (p' : Option Path) (r' : Option Terms) → p' ≡ Some p → r' ≡ Some r → rule_body {A = A} p' r' ≡ Ok (RuleSet p r)
+  rule_same : (p : Path) (r : Rule) (p' : Option Path) (r' : Option Rule) → p' ≡ Some p → r' ≡ Some r → rule_body {A = A} p' r' ≡ Ok (RuleSet p r)
   rule_same p r p' r' ep er = rw (ep, er) refl
 
   -- the words give the body, and none has a space
@@ -263,9 +263,9 @@ module _ {A : Type 0} where
       subst (λ (ws : List (List ℕ)). IsTaken (Delete key) ws) (sym spelt)
       (codes "delete", key_words key, refl, saying_again Delete (key_words_in key) key (key_again key range), (letters_lack (codes "delete") refl, key_lacks key range))
 
-  order_again : (station s m : ℕ) (b : Body A) (head : Option Head) (body : Result (Body A) LineFault) → head ≡ Some (record { sequence = s; moment = m }) → body ≡ Ok b →
-      order station head body ≡ Order (record { station = station; sequence = s; moment = m; body = b })
-  order_again station s m b head body is_head is_body = rw (is_head, is_body) refl
+  command_again : (station s m : ℕ) (b : Body A) (head : Option Head) (body : Result (Body A) LineFault) → head ≡ Some (record { sequence = s; moment = m }) → body ≡ Ok b →
+      command_line station head body ≡ Apply (record { station = station; sequence = s; moment = m; body = b })
+  command_again station s m b head body is_head is_body = rw (is_head, is_body) refl
 
   pub all_commands : AllCommands A
   all_commands line c range spelt short =
@@ -275,9 +275,9 @@ module _ {A : Type 0} where
       let taken = body_taken c.body body range.body spelt.1 in
       let split : words line ≡ decimal s ∷ decimal m ∷ body = ap words spelt.2 ∙ words_back (decimal s) (decimal m ∷ body) (decimal_lacks s small_s, (decimal_lacks m small_m, taken.4)) in
       let speaks : is_silent line ≡ false = ap is_silent spelt.2 ∙ first_speaks (decimal s) (32 ∷ spaced (decimal m ∷ body)) (decimal_digits s small_s) (decimal_nonempty s small_s) in
-      passes c.station line (Order c) short speaks (
+      passes c.station line (Apply c) short speaks (
       ap (λ ws. of_words c.station ws) (split ∙ ap (λ ws. decimal s ∷ decimal m ∷ ws) taken.2)
-      ∙ order_again c.station s m c.body (head_in (decimal s) (decimal m)) (body_in taken.0 taken.1)
+      ∙ command_again c.station s m c.body (head_in (decimal s) (decimal m)) (body_in taken.0 taken.1)
       (head_again s m (sequence_in (decimal s)) (seconds_in (decimal m)) (sequence_again s range.above range.sequence) (seconds_again m range.moment)) taken.3
       )
 

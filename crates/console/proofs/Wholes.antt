@@ -11,13 +11,13 @@ use Rattle.centre_core.specs.declared.query.Query.{Query}
 use Rattle.centre_core.specs.declared.query.Told.{Told}
 use Rattle.centre_core.specs.declared.reply.Reply.{Reply}
 use Rattle.console.specs.declared.line.Line.{Line}
-use Rattle.console.specs.declared.line.Line.TheVariants.{Silent, Bad, Order, Ask}
+use Rattle.console.specs.declared.line.Line.TheVariants.{Silent, Bad, Apply, Ask}
 use Rattle.console.specs.declared.answer.Answer.{Answer}
 use Rattle.console.specs.declared.answer.Answer.TheVariants as answer
 use Rattle.console.specs.Answer.{text, texts, is_trouble, is_service}
 use Rattle.console.specs.Reading.{reading}
 use Rattle.desk.specs.OfRegister.{of_register}
-use Rattle.console.specs.Dialogue.{AnswersReading, AnswersOrder, AnswersQuery, Answers, Dialogue, CutOffIsFront, OneText}
+use Rattle.console.specs.Dialogue.{AnswersReading, AnswersCommand, AnswersQuery, Answers, Dialogue, CutOffIsFront, OneText}
 
 pub or_left : (a b : Bool) → (a || b) ≡ false → a ≡ false
 or_left true b h = h
@@ -34,7 +34,7 @@ module _ {A : Type 0} where
   pub has_answer : (n : ℕ) (s : State) (line : Line A) → HasAnswer n s line
   has_answer n s Silent = (answer.Quiet, s, (refl, refl))
   has_answer n s (Bad fault) = (answer.Bad n fault, s, (refl, refl))
-  has_answer n s (Order c) = (answer.Replied c.sequence (step s c).1, (step s c).0, (refl, refl))
+  has_answer n s (Apply c) = (answer.Replied c.sequence (step s c).1, (step s c).0, (refl, refl))
   has_answer n s (Ask q) = (answer.Told (tell s q), s, (refl, refl))
 
   pub has_dialogue : (station n : ℕ) (s : State) (given : List (List ℕ)) → (answers : List (Answer A)) × (t : State) × Dialogue of_register station n s given answers t
@@ -81,20 +81,20 @@ module _ {A : Type 0} where
   replied_same : (p q : ℕ) (x y : Reply A) → p ≡ q → x ≡ y → answer.Replied p x ≡ answer.Replied q y
   replied_same p q x y e f = ap (λ (n : ℕ). answer.Replied n x) e ∙ ap (λ (r : Reply A). answer.Replied q r) f
 
-  one_order : (s : State) (c : Command A) (a b : Answer A) (t u : State) → AnswersOrder of_register s c a t → AnswersOrder of_register s c b u → is_service a ≡ false → is_service b ≡ false → Same a b t u
-  one_order s c (answer.Replied p x) (answer.Replied q y) t u f h calm still =
+  one_command : (s : State) (c : Command A) (a b : Answer A) (t u : State) → AnswersCommand of_register s c a t → AnswersCommand of_register s c b u → is_service a ≡ false → is_service b ≡ false → Same a b t u
+  one_command s c (answer.Replied p x) (answer.Replied q y) t u f h calm still =
       let both : (t, x) ≡ (u, y) = f.1 ∙ sym h.1 in
       (replied_same p q x y (f.0 ∙ sym h.0) (ap (λ (r : State × Reply A). r.1) both), ap (λ (r : State × Reply A). r.0) both)
-  one_order s c (answer.Replied p x) (answer.Unserved q w) t u f h calm still = absurd (true≢false still)
-  one_order s c (answer.Replied p x) answer.Quiet t u f h calm still = absurd h
-  one_order s c (answer.Replied p x) (answer.Bad n e) t u f h calm still = absurd h
-  one_order s c (answer.Replied p x) (answer.Told told) t u f h calm still = absurd h
-  one_order s c (answer.Replied p x) (answer.Untold n w) t u f h calm still = absurd h
-  one_order s c (answer.Unserved q w) b t u f h calm still = absurd (true≢false calm)
-  one_order s c answer.Quiet b t u f h calm still = absurd f
-  one_order s c (answer.Bad n e) b t u f h calm still = absurd f
-  one_order s c (answer.Told told) b t u f h calm still = absurd f
-  one_order s c (answer.Untold n w) b t u f h calm still = absurd f
+  one_command s c (answer.Replied p x) (answer.Unreplied q w) t u f h calm still = absurd (true≢false still)
+  one_command s c (answer.Replied p x) answer.Quiet t u f h calm still = absurd h
+  one_command s c (answer.Replied p x) (answer.Bad n e) t u f h calm still = absurd h
+  one_command s c (answer.Replied p x) (answer.Told told) t u f h calm still = absurd h
+  one_command s c (answer.Replied p x) (answer.Untold n w) t u f h calm still = absurd h
+  one_command s c (answer.Unreplied q w) b t u f h calm still = absurd (true≢false calm)
+  one_command s c answer.Quiet b t u f h calm still = absurd f
+  one_command s c (answer.Bad n e) b t u f h calm still = absurd f
+  one_command s c (answer.Told told) b t u f h calm still = absurd f
+  one_command s c (answer.Untold n w) b t u f h calm still = absurd f
 
   one_query : (n : ℕ) (s : State) (q : Query) (a b : Answer A) (t u : State) → AnswersQuery of_register n s q a t → AnswersQuery of_register n s q b u → is_service a ≡ false → is_service b ≡ false → Same a b t u
   one_query n s q (answer.Told x) (answer.Told y) t u f h calm still = (ap (λ (told : Told A). answer.Told told) (f.1 ∙ sym h.1), f.0 ∙ sym h.0)
@@ -102,17 +102,17 @@ module _ {A : Type 0} where
   one_query n s q (answer.Told x) answer.Quiet t u f h calm still = absurd h
   one_query n s q (answer.Told x) (answer.Bad m e) t u f h calm still = absurd h
   one_query n s q (answer.Told x) (answer.Replied p y) t u f h calm still = absurd h
-  one_query n s q (answer.Told x) (answer.Unserved p w) t u f h calm still = absurd h
+  one_query n s q (answer.Told x) (answer.Unreplied p w) t u f h calm still = absurd h
   one_query n s q (answer.Untold m w) b t u f h calm still = absurd (true≢false calm)
   one_query n s q answer.Quiet b t u f h calm still = absurd f
   one_query n s q (answer.Bad m e) b t u f h calm still = absurd f
   one_query n s q (answer.Replied p y) b t u f h calm still = absurd f
-  one_query n s q (answer.Unserved p w) b t u f h calm still = absurd f
+  one_query n s q (answer.Unreplied p w) b t u f h calm still = absurd f
 
   one_reading : (n : ℕ) (s : State) (line : Line A) (a b : Answer A) (t u : State) → AnswersReading of_register n s line a t → AnswersReading of_register n s line b u → is_service a ≡ false → is_service b ≡ false → Same a b t u
   one_reading n s Silent a b t u f h calm still = (f.0 ∙ sym h.0, f.1 ∙ sym h.1)
   one_reading n s (Bad e) a b t u f h calm still = (f.0 ∙ sym h.0, f.1 ∙ sym h.1)
-  one_reading n s (Order c) a b t u f h calm still = one_order s c a b t u f h calm still
+  one_reading n s (Apply c) a b t u f h calm still = one_command s c a b t u f h calm still
   one_reading n s (Ask q) a b t u f h calm still = one_query n s q a b t u f h calm still
 
   pub one_answer : (station n : ℕ) (s : State) (line : List ℕ) (a b : Answer A) (t u : State) → Answers of_register station n s line a t → Answers of_register station n s line b u → is_service a ≡ false → is_service b ≡ false → Same a b t u

@@ -1,13 +1,14 @@
 -- How an answer is written. B is the allocator that the bits in it lie under: nothing depends on it.
 use Rattle.std.specs.Prelude.{ℕ, ◌≤◌, Bool, true, false, List, [], ◌++◌, length, Option, Some, None, codes, decimal}
 use Rattle.std.specs.List.{flat_map}
+use Rattle.identity.specs.Numbers.{Gtsi, Byte}
 use Rattle.identity.specs.IdentityText.{identity_text, prefix_text}
 use Rattle.identity.specs.BitsText.{bits_text, most_bits}
 use Rattle.identity.specs.Path.{Path}
 use Rattle.mm_pdus.specs.Values.{lifetime_number}
 use Rattle.group_attach.specs.declared.attachment.Attachment.{Attachment}
 use Rattle.mailbox.specs.declared.key.Key.{Key}
-use Rattle.mailbox.specs.Values.{Waiting}
+use Rattle.mailbox.specs.Values.{Item}
 use Rattle.registration.specs.declared.radio.Radio.{Radio}
 use Rattle.registration.specs.declared.rule.Rule.{Rule}
 use Rattle.centre_core.specs.declared.reply.Reply.{Reply}
@@ -23,49 +24,49 @@ use Rattle.desk.specs.Words.{service_word}
 use Rattle.console.specs.Words.{line_word, mm_word, registration_word, group_word, sds_word, mail_word, kind_word}
 
 -- the PDU for the radio, if there is one
-abbrev pub pdu_text : Option (List Bool) → List ℕ
+abbrev pub pdu_text : Option (List Bool) → List Byte
 pdu_text None = codes "-"
 pdu_text (Some bits) = bits_text bits
 
 -- whether a radio is present
-abbrev pub presence_text : Bool → List ℕ
+abbrev pub presence_text : Bool → List Byte
 presence_text true = codes " present"
 presence_text false = codes " absent"
 
 -- where a radio is, or was, and whether it is present
-abbrev pub whereabouts_text : Option Radio → List ℕ
+abbrev pub whereabouts_text : Option Radio → List Byte
 whereabouts_text None = codes "unknown"
 whereabouts_text (Some radio) = codes "station " ++ decimal radio.station ++ codes " la " ++ decimal radio.area
     ++ presence_text radio.present
 
 -- the rule that serves an identity, behind its prefix
-abbrev pub rule_text : Option (Path × Rule) → List ℕ
+abbrev pub rule_text : Option (Path × Rule) → List Byte
 rule_text None = codes "none"
 rule_text (Some e) = prefix_text e.0 ++ codes " " ++ decimal e.1.low ++ codes " " ++ decimal e.1.high ++ codes " " ++ decimal (lifetime_number e.1.lifetime) ++ codes " " ++ decimal e.1.keep
 
 -- a group that a radio is attached to, and a radio that is attached to a group
-abbrev pub group_text : Attachment → List ℕ
+abbrev pub group_text : Attachment → List Byte
 group_text a = codes "group " ++ identity_text a.gtsi ++ codes " " ++ decimal a.class ++ codes " " ++ decimal (lifetime_number a.lifetime) ++ codes "\n"
 
 -- a radio that is attached to a group, with its class of usage
-abbrev pub member_text : Attachment → List ℕ
+abbrev pub member_text : Attachment → List Byte
 member_text a = codes "member " ++ identity_text a.itsi ++ codes " " ++ decimal a.class ++ codes "\n"
 
 -- what waits for a radio: a message or a report, from whom, and about which message
-abbrev pub key_text : Key → List ℕ
+abbrev pub key_text : Key → List Byte
 key_text key = kind_word key.kind ++ codes " " ++ identity_text key.source ++ codes " " ++ decimal key.reference
 
 -- the end of its line: a copy of a message to a group names the group
-abbrev pub item_end : Option ℕ → List ℕ
+abbrev pub item_end : Option Gtsi → List Byte
 item_end None = codes "\n"
 item_end (Some group) = codes " " ++ identity_text group ++ codes "\n"
 
 -- the line of an item: its number, its key, its deadline, its PDU, and the group of a copy
-abbrev pub item_text : Waiting → List ℕ
+abbrev pub item_text : Item → List Byte
 item_text i = codes "item " ++ decimal i.number ++ codes " " ++ key_text i.key ++ codes " " ++ decimal i.deadline ++ codes " " ++ bits_text i.pdu ++ item_end i.group
 
 -- a list is announced by how many lines follow
-abbrev pub list_text : {T : Type 0} → (T → List ℕ) → List T → List ℕ
+abbrev pub list_text : {T : Type 0} → (T → List Byte) → List T → List Byte
 list_text line list = decimal (length list) ++ codes "\n" ++ flat_map line list
 
 -- how many bytes an answer of one line has at most
@@ -74,7 +75,7 @@ answer_room = 1024
 
 module _ {B : Type 0} where
   -- why a command is refused, and the PDU that rejects a location update
-  abbrev pub refusal_text : Refusal B → List ℕ
+  abbrev pub refusal_text : Refusal B → List Byte
   refusal_text refusal.UnknownStation = codes "unknown-station"
   refusal_text (refusal.OldSequence last) = codes "old-sequence " ++ decimal last
   refusal_text refusal.NumbersUsedUp = codes "numbers-used-up"
@@ -86,13 +87,13 @@ module _ {B : Type 0} where
   refusal_text (refusal.Location fault reject) = registration_word fault ++ codes " " ++ bits_text reject
 
   -- what stands behind a sequence: that the command is accepted, or was before, with its number and PDU, or that it is refused
-  abbrev pub reply_text : Reply B → List ℕ
+  abbrev pub reply_text : Reply B → List Byte
   reply_text (reply.Accepted number pdu) = codes " ok " ++ decimal number ++ codes " " ++ pdu_text pdu
   reply_text (reply.Kept number pdu) = codes " kept " ++ decimal number ++ codes " " ++ pdu_text pdu
   reply_text (reply.Refused refusal) = codes " no " ++ refusal_text refusal
 
   -- the answer to a query: one line, or a list
-  abbrev pub told_text : Told B → List ℕ
+  abbrev pub told_text : Told B → List Byte
   told_text (told.Whereabouts itsi radio) = codes "where " ++ identity_text itsi ++ codes " " ++ whereabouts_text radio ++ codes "\n"
   told_text (told.Look itsi rule) = codes "look " ++ identity_text itsi ++ codes " " ++ rule_text rule ++ codes "\n"
   told_text (told.Groups itsi groups) = codes "groups " ++ identity_text itsi ++ codes " " ++ list_text group_text groups
@@ -101,16 +102,16 @@ module _ {B : Type 0} where
   told_text (told.Total count) = codes "count " ++ decimal count ++ codes "\n"
 
   -- the lines that answer, each with its end
-  abbrev pub text : Answer B → List ℕ
+  abbrev pub text : Answer B → List Byte
   text answer.Quiet = []
   text (answer.Bad line fault) = codes "line " ++ decimal line ++ codes " bad " ++ line_word fault ++ codes "\n"
   text (answer.Replied sequence reply) = decimal sequence ++ reply_text reply ++ codes "\n"
-  text (answer.Unserved sequence word) = decimal sequence ++ codes " no " ++ service_word word ++ codes "\n"
+  text (answer.Unreplied sequence word) = decimal sequence ++ codes " no " ++ service_word word ++ codes "\n"
   text (answer.Told told) = told_text told
   text (answer.Untold line word) = codes "line " ++ decimal line ++ codes " no " ++ service_word word ++ codes "\n"
 
   -- the lines of all answers, one after another
-  abbrev pub texts : List (Answer B) → List ℕ
+  abbrev pub texts : List (Answer B) → List Byte
   texts answers = flat_map text answers
 
   -- what is told in one line
@@ -156,13 +157,13 @@ module _ {B : Type 0} where
 
   -- a word of the service
   abbrev pub is_service : Answer B → Bool
-  is_service (answer.Unserved sequence word) = true
+  is_service (answer.Unreplied sequence word) = true
   is_service (answer.Untold line word) = true
   is_service other = false
 
   -- a bad line, or a word of the service
   abbrev pub is_trouble : Answer B → Bool
   is_trouble (answer.Bad line fault) = true
-  is_trouble (answer.Unserved sequence word) = true
+  is_trouble (answer.Unreplied sequence word) = true
   is_trouble (answer.Untold line word) = true
   is_trouble other = false

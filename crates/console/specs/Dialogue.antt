@@ -1,8 +1,9 @@
 -- Which answers may be given to which lines. A is the allocator that the bits of commands and replies
 -- lie under: nothing depends on it.
-use Rattle.std.specs.Prelude.{◌≡◌, ◌⊎◌, ℕ, ◌+◌, ◌≤◌, Bool, true, false, List, [], ◌∷◌, ◌++◌, length, Option, Some, Ok, Err}
+use Rattle.std.specs.Prelude.{◌≡◌, ◌⊎◌, ℕ, ◌+◌, ◌≤◌, Bool, true, false, List, [], ◌∷◌, ◌++◌, length, Ok, Err}
 use Rattle.std.specs.List.{list_any}
-use Rattle.std.specs.Str.Lines.{lines}
+use Rattle.identity.specs.Numbers.{Byte}
+use Rattle.registration.specs.Numbers.{Station}
 use Rattle.centre_core.specs.State.{State}
 use Rattle.centre_core.specs.declared.command.Command.{Command}
 use Rattle.centre_core.specs.declared.reply.Reply.{Reply}
@@ -41,10 +42,10 @@ module _ {A W : Type 0} where
   LacksPdu s c word t = HasPdu c.body × (word ≡ Memory) × (t ≡ s)
 
   -- the answer to a command: under its sequence the desk's reply, or why there is none
-  abbrev pub AnswersOrder : Rules W → W → Command A → Answer A → W → Type 0
-  AnswersOrder rules s c (answer.Replied sequence reply) t = (sequence ≡ c.sequence) × rules.applies s c (Ok reply) t
-  AnswersOrder rules s c (answer.Unserved sequence word) t = (sequence ≡ c.sequence) × (rules.applies {A = A} {B = A} s c (Err word) t ⊎ LacksPdu s c word t)
-  AnswersOrder rules s c other t = ⊥
+  abbrev pub AnswersCommand : Rules W → W → Command A → Answer A → W → Type 0
+  AnswersCommand rules s c (answer.Replied sequence reply) t = (sequence ≡ c.sequence) × rules.applies s c (Ok reply) t
+  AnswersCommand rules s c (answer.Unreplied sequence word) t = (sequence ≡ c.sequence) × (rules.applies {A = A} {B = A} s c (Err word) t ⊎ LacksPdu s c word t)
+  AnswersCommand rules s c other t = ⊥
 
   -- the answer to a query: what the desk tells, or under the number of the line why it tells nothing
   abbrev pub AnswersQuery : Rules W → ℕ → W → Query → Answer A → W → Type 0
@@ -56,15 +57,15 @@ module _ {A W : Type 0} where
   abbrev pub AnswersReading : Rules W → ℕ → W → Line A → Answer A → W → Type 0
   AnswersReading rules n s line.Silent given t = (given ≡ answer.Quiet) × (t ≡ s)
   AnswersReading rules n s (line.Bad fault) given t = (given ≡ answer.Bad n fault) × (t ≡ s)
-  AnswersReading rules n s (line.Order c) given t = AnswersOrder rules s c given t
+  AnswersReading rules n s (line.Apply c) given t = AnswersCommand rules s c given t
   AnswersReading rules n s (line.Ask q) given t = AnswersQuery rules n s q given t
 
   -- the answer to the line numbered n, whose text this station gave
-  abbrev pub Answers : Rules W → ℕ → ℕ → W → List ℕ → Answer A → W → Type 0
+  abbrev pub Answers : Rules W → Station → ℕ → W → List Byte → Answer A → W → Type 0
   Answers rules station n s text given t = AnswersReading rules n s (reading station text) given t
 
   -- one answer for each line, in order; n lines came before
-  abbrev pub Dialogue : Rules W → ℕ → ℕ → W → List (List ℕ) → List (Answer A) → W → Type 0
+  abbrev pub Dialogue : Rules W → Station → ℕ → W → List (List Byte) → List (Answer A) → W → Type 0
   Dialogue rules station n s [] [] t = t ≡ s
   Dialogue rules station n s [] (given ∷ answers) t = ⊥
   Dialogue rules station n s (text ∷ texts) [] t = ⊥
@@ -72,7 +73,7 @@ module _ {A W : Type 0} where
       (mid : W) × Answers rules station (n + 1) s text given mid × Dialogue rules station (n + 1) mid texts answers t
 
 -- the text out is the answers to the lines, and whether there was trouble in them
-pub record IsDialogue (A : Type 0) {W : Type 0} (rules : Rules W) (station : ℕ) (s : W) (given : List (List ℕ)) (out : List ℕ) (troubled : Bool) (t : W) : Type 0 where
+pub record IsDialogue (A : Type 0) {W : Type 0} (rules : Rules W) (station : Station) (s : W) (given : List (List Byte)) (out : List Byte) (troubled : Bool) (t : W) : Type 0 where
   pub answers : List (Answer A)
   pub each : Dialogue rules station 0 s given answers t
   pub written : out ≡ texts answers
@@ -80,43 +81,33 @@ pub record IsDialogue (A : Type 0) {W : Type 0} (rules : Rules W) (station : ℕ
 
 -- cut off: some lines were done, their answers were written but perhaps that of the last of them, of
 -- which a front was written
-pub record IsCutOff (A : Type 0) {W : Type 0} (rules : Rules W) (station : ℕ) (s : W) (given : List (List ℕ)) (out : List ℕ) (t : W) : Type 0 where
-  pub done : List (List ℕ)
-  pub left : List (List ℕ)
+pub record IsCutOff (A : Type 0) {W : Type 0} (rules : Rules W) (station : Station) (s : W) (given : List (List Byte)) (out : List Byte) (t : W) : Type 0 where
+  pub done : List (List Byte)
+  pub left : List (List Byte)
   pub answered : List (Answer A)
   pub last : List (Answer A)
-  pub part : List ℕ
-  pub missing : List ℕ
+  pub part : List Byte
+  pub missing : List Byte
   pub all : given ≡ done ++ left
   pub each : Dialogue rules station 0 s done (answered ++ last) t
   pub one : length last ≤ 1
   pub front : texts last ≡ part ++ missing
   pub written : out ≡ texts answered ++ part
 
--- of everything that the reader gives
-abbrev pub RunsWell : (A : Type 0) {W : Type 0} → Rules W → ℕ → W → List ℕ → List ℕ → ℕ → Bool → Option (List ℕ) → W → Type 0
-RunsWell A rules station s input before count troubled held t =
-    (out : List ℕ) × (held ≡ Some (before ++ out)) × IsDialogue A rules station s (lines input) out troubled t × (count ≡ length (lines input))
-
--- of what the reader gives some lines are done, and their answers may be cut off
-abbrev pub RunsShort : (A : Type 0) {W : Type 0} → Rules W → ℕ → W → List ℕ → List ℕ → Option (List ℕ) → W → Type 0
-RunsShort A rules station s input before held t =
-    (out : List ℕ) × (held ≡ Some (before ++ out)) × IsCutOff A rules station s (lines input) out t
-
 -- the text goes on to one that may be written for the lines
-pub record IsFront (A : Type 0) {W : Type 0} (rules : Rules W) (station : ℕ) (s : W) (given : List (List ℕ)) (out : List ℕ) : Type 0 where
-  pub missing : List ℕ
+pub record IsFront (A : Type 0) {W : Type 0} (rules : Rules W) (station : Station) (s : W) (given : List (List Byte)) (out : List Byte) : Type 0 where
+  pub missing : List Byte
   pub troubled : Bool
   pub after : W
   pub dialogue : IsDialogue A rules station s given (out ++ missing) troubled after
 
 -- what was cut off is the front of a text that may be written
 abbrev pub CutOffIsFront : Type 0 → Type 0
-CutOffIsFront A = (station : ℕ) (s t : State) (given : List (List ℕ)) (out : List ℕ) →
+CutOffIsFront A = (station : Station) (s t : State) (given : List (List Byte)) (out : List Byte) →
     IsCutOff A of_register station s given out t → IsFront A of_register station s given out
 
 -- without words of the service the lines settle the answers, and what the register holds
 abbrev pub OneText : Type 0 → Type 0
-OneText A = (station n : ℕ) (s t u : State) (given : List (List ℕ)) (xs ys : List (Answer A)) →
+OneText A = (station : Station) (n : ℕ) (s t u : State) (given : List (List Byte)) (xs ys : List (Answer A)) →
     Dialogue of_register station n s given xs t → Dialogue of_register station n s given ys u →
     list_any is_service xs ≡ false → list_any is_service ys ≡ false → (xs ≡ ys) × (t ≡ u)

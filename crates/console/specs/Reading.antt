@@ -4,41 +4,50 @@ use Rattle.std.specs.List.{slice_split}
 use Rattle.std.specs.Option.{option_and_then}
 use Rattle.std.specs.Result.{result_ok}
 use Rattle.std.specs.Str.{bytes_eq}
+use Rattle.identity.specs.Numbers.{Itsi, Gtsi, Byte}
 use Rattle.identity.specs.Path.{Path}
 use Rattle.identity.specs.NumberText.{reading_number}
 use Rattle.identity.specs.IdentityText.{reading_identity, reading_prefix}
 use Rattle.identity.specs.BitsText.{reading_bits}
 use Rattle.mm_pdus.specs.declared.lifetime.Lifetime.{Lifetime}
 use Rattle.mm_pdus.specs.Values.{lifetime_of}
-use Rattle.registration.specs.Terms.{Terms}
+use Rattle.registration.specs.Numbers.{Area, Station, Seconds}
+use Rattle.registration.specs.Rule.{Rule}
+use Rattle.sds_tl.specs.Numbers.{Reference}
+use Rattle.mailbox.specs.Numbers.{Moment}
 use Rattle.mailbox.specs.declared.key.Key.{Key}
 use Rattle.mailbox.specs.declared.key.Kind.{Kind}
 use Rattle.mailbox.specs.declared.key.Kind.TheVariants.{Message, Report}
+use Rattle.centre_core.specs.Numbers.{Sequence}
 use Rattle.centre_core.specs.declared.command.Body.{Body}
 use Rattle.centre_core.specs.declared.command.Body.TheVariants.{RuleSet, RuleClear, Mm, Sds, GroupSds, Sent, Expire, Delete}
 use Rattle.centre_core.specs.declared.query.Query.{Query}
 use Rattle.centre_core.specs.declared.query.Query.TheVariants.{Whereabouts, Look, GroupsOf, MembersOf, Waiting, Total}
-use Rattle.console.specs.declared.order.Head.{Head}
+use Rattle.console.specs.declared.body.Head.{Head}
 use Rattle.console.specs.declared.line.LineFault.{LineFault}
 use Rattle.console.specs.declared.line.LineFault.TheVariants.{Syntax, Value, TooLong}
 use Rattle.console.specs.declared.line.Line.{Line}
-use Rattle.console.specs.declared.line.Line.TheVariants.{Silent, Bad, Order, Ask}
+use Rattle.console.specs.declared.line.Line.TheVariants.{Silent, Bad, Apply, Ask}
 
 -- no byte of it is this one
-abbrev pub Lacks : ℕ → List ℕ → Type 0
+abbrev pub Lacks : Byte → List Byte → Type 0
 Lacks mark text = All (λ b. (b == mark) ≡ false) text
 
 -- the words of a line: what stands between its spaces
-abbrev pub words : List ℕ → List (List ℕ)
+abbrev pub words : List Byte → List (List Byte)
 words line = slice_split (λ b. b == 32) line
 
 -- the words behind the first one, where there is a space
-abbrev pub words_behind : Option (List ℕ) → List (List ℕ)
+abbrev pub words_behind : Option (List Byte) → List (List Byte)
 words_behind None = []
 words_behind (Some rest) = words rest
 
+-- an identity, of 48 bits
+abbrev pub identity_in : List ℕ → Option ℕ
+identity_in word = result_ok (reading_identity word)
+
 -- a moment, or a keep time in seconds: 0 to 4,294,967,295
-abbrev pub seconds_in : List ℕ → Option ℕ
+abbrev pub seconds_in : List Byte → Option Seconds
 seconds_in word = result_ok (reading_number 4294967295 word)
 
 -- a number that is not 0
@@ -47,52 +56,60 @@ not_zero zero = None
 not_zero (suc n) = Some (suc n)
 
 -- a sequence: 1 to 4,294,967,295
-abbrev pub sequence_in : List ℕ → Option ℕ
+abbrev pub sequence_in : List Byte → Option Sequence
 sequence_in word = option_and_then not_zero (seconds_in word)
 
 -- a sequence and a moment, where both are in range
-abbrev pub head_of : Option ℕ → Option ℕ → Option Head
+abbrev pub head_of : Option Sequence → Option Moment → Option Head
 head_of (Some sequence) (Some moment) = Some (record { sequence = sequence; moment = moment })
 head_of sequence moment = None
 
 -- SEQ MOMENT, which stand before the body of a command
-abbrev pub head_in : List ℕ → List ℕ → Option Head
+abbrev pub head_in : List Byte → List Byte → Option Head
 head_in sequence moment = head_of (sequence_in sequence) (seconds_in moment)
 
 -- a location area: 0 to 16,383
-abbrev pub area_in : List ℕ → Option ℕ
+abbrev pub area_in : List Byte → Option Area
 area_in word = result_ok (reading_number 16383 word)
 
 -- a lifetime: 0 to 3
-abbrev pub lifetime_in : List ℕ → Option Lifetime
+abbrev pub lifetime_in : List Byte → Option Lifetime
 lifetime_in word = option_and_then lifetime_of (result_ok (reading_number 3 word))
 
 -- a rule, where each of its values is in range and the low area is not above the high one
-abbrev pub rule_of : Option ℕ → Option ℕ → Option Lifetime → Option ℕ → Option Terms
+abbrev pub rule_of : Option Area → Option Area → Option Lifetime → Option Seconds → Option Rule
 rule_of (Some low) (Some high) (Some lifetime) (Some keep) = if nat_le low high
     then Some (record { low = low; high = high; lifetime = lifetime; keep = keep }) else None
 rule_of low high lifetime keep = None
 
 -- LOW HIGH LIFE KEEP
-abbrev pub rule_in : List ℕ → List ℕ → List ℕ → List ℕ → Option Terms
+abbrev pub rule_in : List Byte → List Byte → List Byte → List Byte → Option Rule
 rule_in low high lifetime keep = rule_of (area_in low) (area_in high) (lifetime_in lifetime) (seconds_in keep)
 
+-- a prefix, of at most 48 bits
+abbrev pub prefix_in : List ℕ → Option Path
+prefix_in word = result_ok (reading_prefix word)
+
+-- a PDU, of at most 2,048 bits
+abbrev pub pdu_in : List ℕ → Option (List Bool)
+pdu_in word = result_ok (reading_bits word)
+
 -- a message reference: 0 to 255
-abbrev pub reference_in : List ℕ → Option ℕ
+abbrev pub reference_in : List Byte → Option Reference
 reference_in word = result_ok (reading_number 255 word)
 
 -- a message or a report
-abbrev pub kind_in : List ℕ → Option Kind
-kind_in word = if bytes_eq word (codes "m") then Some Message else (if bytes_eq word (codes "r") then Some Report else None)
+abbrev pub kind_in : List Byte → Option Kind
+kind_in word = if bytes_eq word (codes "m") then Some Message else if bytes_eq word (codes "r") then Some Report else None
 
 -- a key, where each of its parts is in range
-abbrev pub key_of : Option ℕ → Option ℕ → Option ℕ → Option Kind → Option Key
+abbrev pub key_of : Option Itsi → Option Itsi → Option Reference → Option Kind → Option Key
 key_of (Some destination) (Some source) (Some reference) (Some kind) = Some (record { destination = destination; source = source; reference = reference; kind = kind })
 key_of destination source reference kind = None
 
 -- DEST SOURCE REF KIND
-abbrev pub key_in : List ℕ → List ℕ → List ℕ → List ℕ → Option Key
-key_in destination source reference kind = key_of (result_ok (reading_identity destination)) (result_ok (reading_identity source)) (reference_in reference) (kind_in kind)
+abbrev pub key_in : List Byte → List Byte → List Byte → List Byte → Option Key
+key_in destination source reference kind = key_of (identity_in destination) (identity_in source) (reference_in reference) (kind_in kind)
 
 -- what is said of a value that is in range
 abbrev pub saying : {V S : Type 0} → (V → S) → Option V → Result S LineFault
@@ -100,55 +117,58 @@ saying says (Some value) = Ok (says value)
 saying says None = Err Value
 
 -- name ID: a query about an identity
-abbrev pub query_in : List ℕ → List ℕ → Result Query LineFault
-query_in name identity = if bytes_eq name (codes "where") then saying Whereabouts (result_ok (reading_identity identity))
-    else (if bytes_eq name (codes "look") then saying Look (result_ok (reading_identity identity))
-    else (if bytes_eq name (codes "groups") then saying GroupsOf (result_ok (reading_identity identity))
-    else (if bytes_eq name (codes "members") then saying MembersOf (result_ok (reading_identity identity))
-    else (if bytes_eq name (codes "mail") then saying Waiting (result_ok (reading_identity identity)) else Err Syntax))))
+abbrev pub query_in : List Byte → List Byte → Result Query LineFault
+query_in name identity =
+    if bytes_eq name (codes "where") then saying Whereabouts (identity_in identity)
+    else if bytes_eq name (codes "look") then saying Look (identity_in identity)
+    else if bytes_eq name (codes "groups") then saying GroupsOf (identity_in identity)
+    else if bytes_eq name (codes "members") then saying MembersOf (identity_in identity)
+    else if bytes_eq name (codes "mail") then saying Waiting (identity_in identity)
+    else Err Syntax
 
 module _ {A : Type 0} where
   -- rule PREFIX LOW HIGH LIFE KEEP
-  abbrev pub rule_body : Option Path → Option Terms → Result (Body A) LineFault
+  abbrev pub rule_body : Option Path → Option Rule → Result (Body A) LineFault
   rule_body (Some prefix) (Some rule) = Ok (RuleSet prefix rule)
   rule_body prefix rule = Err Value
 
   -- mm ITSI LA PDU
-  abbrev pub mm_body : Option ℕ → Option ℕ → Option (List Bool) → Result (Body A) LineFault
+  abbrev pub mm_body : Option Itsi → Option Area → Option (List Bool) → Result (Body A) LineFault
   mm_body (Some itsi) (Some area) (Some pdu) = Ok (Mm itsi area pdu)
   mm_body itsi area pdu = Err Value
 
   -- sds SOURCE DEST PDU
-  abbrev pub sds_body : Option ℕ → Option ℕ → Option (List Bool) → Result (Body A) LineFault
+  abbrev pub sds_body : Option Itsi → Option Itsi → Option (List Bool) → Result (Body A) LineFault
   sds_body (Some source) (Some destination) (Some pdu) = Ok (Sds source destination pdu)
   sds_body source destination pdu = Err Value
 
   -- gsds SOURCE GTSI PDU
-  abbrev pub group_sds_body : Option ℕ → Option ℕ → Option (List Bool) → Result (Body A) LineFault
+  abbrev pub group_sds_body : Option Itsi → Option Gtsi → Option (List Bool) → Result (Body A) LineFault
   group_sds_body (Some source) (Some group) (Some pdu) = Ok (GroupSds source group pdu)
   group_sds_body source group pdu = Err Value
 
   -- by the word that names the form and the number of words behind it; each of these is judged after that
-  abbrev pub body_in : List ℕ → List (List ℕ) → Result (Body A) LineFault
+  abbrev pub body_in : List Byte → List (List Byte) → Result (Body A) LineFault
   body_in name [] = if bytes_eq name (codes "expire") then Ok Expire else Err Syntax
-  body_in name (prefix ∷ []) = if bytes_eq name (codes "unrule") then saying RuleClear (result_ok (reading_prefix prefix)) else Err Syntax
-  body_in name (first ∷ second ∷ pdu ∷ []) = if bytes_eq name (codes "mm")
-      then mm_body (result_ok (reading_identity first)) (area_in second) (result_ok (reading_bits pdu))
-      else (if bytes_eq name (codes "sds")
-      then sds_body (result_ok (reading_identity first)) (result_ok (reading_identity second)) (result_ok (reading_bits pdu))
-      else (if bytes_eq name (codes "gsds")
-      then group_sds_body (result_ok (reading_identity first)) (result_ok (reading_identity second)) (result_ok (reading_bits pdu)) else Err Syntax))
-  body_in name (destination ∷ source ∷ reference ∷ kind ∷ []) = if bytes_eq name (codes "sent") then saying Sent (key_in destination source reference kind)
-      else (if bytes_eq name (codes "delete") then saying Delete (key_in destination source reference kind) else Err Syntax)
-  body_in name (prefix ∷ low ∷ high ∷ lifetime ∷ keep ∷ []) = if bytes_eq name (codes "rule")
-      then rule_body (result_ok (reading_prefix prefix)) (rule_in low high lifetime keep) else Err Syntax
+  body_in name (prefix ∷ []) = if bytes_eq name (codes "unrule") then saying RuleClear (prefix_in prefix) else Err Syntax
+  body_in name (first ∷ second ∷ pdu ∷ []) =
+      if bytes_eq name (codes "mm") then mm_body (identity_in first) (area_in second) (pdu_in pdu)
+      else if bytes_eq name (codes "sds") then sds_body (identity_in first) (identity_in second) (pdu_in pdu)
+      else if bytes_eq name (codes "gsds") then group_sds_body (identity_in first) (identity_in second) (pdu_in pdu)
+      else Err Syntax
+  body_in name (destination ∷ source ∷ reference ∷ kind ∷ []) =
+      if bytes_eq name (codes "sent") then saying Sent (key_in destination source reference kind)
+      else if bytes_eq name (codes "delete") then saying Delete (key_in destination source reference kind)
+      else Err Syntax
+  body_in name (prefix ∷ low ∷ high ∷ lifetime ∷ keep ∷ []) =
+      if bytes_eq name (codes "rule") then rule_body (prefix_in prefix) (rule_in low high lifetime keep) else Err Syntax
   body_in name other = Err Syntax
 
   -- a command of this station; a fault of its body comes before one of its head
-  abbrev pub order : ℕ → Option Head → Result (Body A) LineFault → Line A
-  order station head (Err fault) = Bad fault
-  order station None (Ok body) = Bad Value
-  order station (Some head) (Ok body) = Order (record { station = station; sequence = head.sequence; moment = head.moment; body = body })
+  abbrev pub command_line : Station → Option Head → Result (Body A) LineFault → Line A
+  command_line station head (Err fault) = Bad fault
+  command_line station None (Ok body) = Bad Value
+  command_line station (Some head) (Ok body) = Apply (record { station = station; sequence = head.sequence; moment = head.moment; body = body })
 
   -- a query, or how the line is bad
   abbrev pub ask : Result Query LineFault → Line A
@@ -156,26 +176,28 @@ module _ {A : Type 0} where
   ask (Err fault) = Bad fault
 
   -- one or two words are a query, more are a command
-  abbrev pub of_words : ℕ → List (List ℕ) → Line A
+  abbrev pub of_words : Station → List (List Byte) → Line A
   of_words station [] = Bad Syntax
   of_words station (name ∷ []) = if bytes_eq name (codes "count") then Ask Total else Bad Syntax
   of_words station (name ∷ identity ∷ []) = ask (query_in name identity)
-  of_words station (sequence ∷ moment ∷ name ∷ more) = order station (head_in sequence moment) (body_in name more)
+  of_words station (sequence ∷ moment ∷ name ∷ more) = command_line station (head_in sequence moment) (body_in name more)
 
 -- how many bytes a line has at most, without its end
 abbrev pub longest_line : ℕ
 longest_line = 1024
 
 -- empty, or a comment
-abbrev pub is_silent : List ℕ → Bool
+abbrev pub is_silent : List Byte → Bool
 is_silent [] = true
 is_silent (b ∷ bs) = b == 35
 
 module _ {A : Type 0} where
   -- a line that is too long is bad, also a comment
-  abbrev pub reading : ℕ → List ℕ → Line A
-  reading station line = if nat_lt longest_line (length line) then Bad TooLong
-      else (if is_silent line then Silent else of_words station (words line))
+  abbrev pub reading : Station → List Byte → Line A
+  reading station line =
+      if nat_lt longest_line (length line) then Bad TooLong
+      else if is_silent line then Silent
+      else of_words station (words line)
 
   -- the body comes with a PDU
   abbrev pub HasPdu : Body A → Type 0
@@ -190,7 +212,7 @@ module _ {A : Type 0} where
   GivesPdu (Err fault) = ⊥
 
   -- the sequence of a command, where a PDU comes with it
-  abbrev pub with_pdu : ℕ → Body A → Option ℕ
+  abbrev pub with_pdu : Sequence → Body A → Option Sequence
   with_pdu sequence (RuleSet prefix rule) = None
   with_pdu sequence (RuleClear prefix) = None
   with_pdu sequence (Mm itsi area pdu) = Some sequence
@@ -201,6 +223,6 @@ module _ {A : Type 0} where
   with_pdu sequence (Delete key) = None
 
   -- the sequence of a line that is a command with a PDU
-  abbrev pub sequence_of : Line A → Option ℕ
-  sequence_of (Order c) = with_pdu c.sequence c.body
+  abbrev pub sequence_of : Line A → Option Sequence
+  sequence_of (Apply c) = with_pdu c.sequence c.body
   sequence_of other = None

@@ -1,14 +1,39 @@
--- What a run over a reader and a writer does.
-use Rattle.std.specs.Prelude.{◌≡◌, ℕ, List, Option, Some}
+-- What a run over a reader and a writer does. A is the allocator that the bits of commands and replies lie under: nothing depends on it.
+use Rattle.std.specs.Prelude.{◌≡◌, ◌++◌, List, length, Option, Some, Result, IfOk, OnErr}
+use Rattle.std.specs.Str.Lines.{lines}
+use Rattle.identity.specs.Numbers.{Byte}
+use Rattle.registration.specs.Numbers.{Station}
 use Rattle.desk.specs.Rules.{Rules}
 use Rattle.console.specs.declared.running.Ran.{Ran}
-use Rattle.console.specs.Dialogue.{RunsWell, RunsShort}
+use Rattle.console.specs.declared.running.RunFault.{RunFault}
+use Rattle.console.specs.Dialogue.{IsDialogue, IsCutOff}
 
-module _ (A : Type 0) {W : Type 0} (rules : Rules W) (station : ℕ) (s : W) (given held : Option (List ℕ)) where
-  -- where the reader and the writer tell their bytes, every line is answered
-  abbrev pub AnswersAll : Ran → Option (List ℕ) → W → Type 0
-  AnswersAll ran now t = (input before : List ℕ) → given ≡ Some input → held ≡ Some before → RunsWell A rules station s input before ran.lines ran.troubled now t
+-- what a run begins with: whose lines are read, what the desk stands for, what the reader has left, and what the writer holds
+pub record Start (W : Type 0) : Type 0 where
+  pub station : Station
+  pub world : W
+  pub unread : Option (List Byte)
+  pub written : Option (List Byte)
 
-  -- some lines are, and the answers may be cut off
-  abbrev pub AnswersSome : Option (List ℕ) → W → Type 0
-  AnswersSome now t = (input before : List ℕ) → given ≡ Some input → held ≡ Some before → RunsShort A rules station s input before now t
+-- what it ends with: its result, what the desk stands for now, and what the writer holds now
+pub record Outcome (W : Type 0) : Type 0 where
+  pub result : Result Ran RunFault
+  pub world : W
+  pub written : Option (List Byte)
+
+module _ (A : Type 0) {W : Type 0} (rules : Rules W) (start : Start W) (end : Outcome W) where
+  -- of this input every line is answered by the text out
+  abbrev pub RunsWell : List Byte → List Byte → Ran → Type 0
+  RunsWell input out ran = IsDialogue A rules start.station start.world (lines input) out ran.troubled end.world × (ran.lines ≡ length (lines input))
+
+  -- of this input some lines are done, and their answers may be cut off
+  abbrev pub RunsShort : List Byte → List Byte → Type 0
+  RunsShort input out = IsCutOff A rules start.station start.world (lines input) out end.world
+
+  -- behind what was written before stands now a text: at Ok it answers all of this input, at Err some of it
+  abbrev pub HasRun : List Byte → List Byte → Type 0
+  HasRun input before = (out : List Byte) × (end.written ≡ Some (before ++ out)) × IfOk end.result (RunsWell input out) × OnErr end.result (RunsShort input out)
+
+  -- where the reader tells its bytes and the writer tells its own, they have run so
+  abbrev pub IsRun : Type 0
+  IsRun = (input before : List Byte) → start.unread ≡ Some input → start.written ≡ Some before → HasRun input before

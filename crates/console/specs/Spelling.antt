@@ -1,10 +1,12 @@
 -- The lines that give a command or a query, as they are written.
-use Rattle.std.specs.Prelude.{◌≡◌, ◌↔◌, ◌⊎◌, ◌<◌, ◌≤◌, ◌^◌, Bool, true, false, length, ℕ, List, [], ◌∷◌, codes, decimal}
+use Rattle.std.specs.Prelude.{◌≡◌, ◌↔◌, ◌⊎◌, ◌<◌, ◌≤◌, ◌^◌, Bool, true, false, length, List, [], ◌∷◌, codes, decimal}
 use Rattle.std.specs.List.{join_with_byte, list_any}
 use Rattle.std.specs.Str.{bytes_eq}
+use Rattle.identity.specs.Numbers.{Byte}
 use Rattle.identity.specs.IdentityText.{identity_text, prefix_text}
 use Rattle.identity.specs.BitsText.{SpellsBits}
 use Rattle.mm_pdus.specs.Values.{lifetime_number}
+use Rattle.registration.specs.Numbers.{Station}
 use Rattle.mailbox.specs.declared.key.Key.{Key}
 use Rattle.centre_core.specs.declared.command.Command.{Command}
 use Rattle.centre_core.specs.declared.command.Body.{Body}
@@ -12,41 +14,41 @@ use Rattle.centre_core.specs.declared.command.Body.TheVariants.{RuleSet, RuleCle
 use Rattle.centre_core.specs.Ranges.{InRange}
 use Rattle.centre_core.specs.declared.query.Query.{Query}
 use Rattle.centre_core.specs.declared.query.Query.TheVariants.{Whereabouts, Look, GroupsOf, MembersOf, Waiting, Total}
-use Rattle.console.specs.declared.line.Line.TheVariants.{Bad, Order, Ask}
+use Rattle.console.specs.declared.line.Line.TheVariants.{Bad, Apply, Ask}
 use Rattle.console.specs.declared.line.LineFault.TheVariants.{Syntax, Value, TooLong}
 use Rattle.console.specs.Words.{kind_word}
 use Rattle.console.specs.Reading.{reading, words, is_silent, longest_line}
 
 -- words with single spaces between them
-abbrev pub spaced : List (List ℕ) → List ℕ
+abbrev pub spaced : List (List Byte) → List Byte
 spaced words = join_with_byte 32 words
 
 -- by what a message or a report is named
-abbrev pub key_words : Key → List (List ℕ)
+abbrev pub key_words : Key → List (List Byte)
 key_words key = identity_text key.destination ∷ identity_text key.source ∷ decimal key.reference ∷ kind_word key.kind ∷ []
 
 module _ {A : Type 0} where
   -- the words behind sequence and moment; a PDU may be written with digits of either case
-  abbrev pub SpellsBody : Body A → List (List ℕ) → Type 0
+  abbrev pub SpellsBody : Body A → List (List Byte) → Type 0
   SpellsBody (RuleSet prefix rule) words =
       words ≡ codes "rule" ∷ prefix_text prefix ∷ decimal rule.low ∷ decimal rule.high ∷ decimal (lifetime_number rule.lifetime) ∷ decimal rule.keep ∷ []
   SpellsBody (RuleClear prefix) words = words ≡ codes "unrule" ∷ prefix_text prefix ∷ []
   SpellsBody (Mm itsi area pdu) words =
-      (digits : List ℕ) × SpellsBits digits pdu × (words ≡ codes "mm" ∷ identity_text itsi ∷ decimal area ∷ digits ∷ [])
+      (digits : List Byte) × SpellsBits digits pdu × (words ≡ codes "mm" ∷ identity_text itsi ∷ decimal area ∷ digits ∷ [])
   SpellsBody (Sds source destination pdu) words =
-      (digits : List ℕ) × SpellsBits digits pdu × (words ≡ codes "sds" ∷ identity_text source ∷ identity_text destination ∷ digits ∷ [])
+      (digits : List Byte) × SpellsBits digits pdu × (words ≡ codes "sds" ∷ identity_text source ∷ identity_text destination ∷ digits ∷ [])
   SpellsBody (GroupSds source group pdu) words =
-      (digits : List ℕ) × SpellsBits digits pdu × (words ≡ codes "gsds" ∷ identity_text source ∷ identity_text group ∷ digits ∷ [])
+      (digits : List Byte) × SpellsBits digits pdu × (words ≡ codes "gsds" ∷ identity_text source ∷ identity_text group ∷ digits ∷ [])
   SpellsBody (Sent key) words = words ≡ codes "sent" ∷ key_words key
   SpellsBody Expire words = words ≡ codes "expire" ∷ []
   SpellsBody (Delete key) words = words ≡ codes "delete" ∷ key_words key
 
   -- a command's line: its sequence, its moment and the words of its body
-  abbrev pub SpellsCommand : Command A → List ℕ → Type 0
-  SpellsCommand c line = (body : List (List ℕ)) × SpellsBody c.body body × (line ≡ spaced (decimal c.sequence ∷ decimal c.moment ∷ body))
+  abbrev pub SpellsCommand : Command A → List Byte → Type 0
+  SpellsCommand c line = (body : List (List Byte)) × SpellsBody c.body body × (line ≡ spaced (decimal c.sequence ∷ decimal c.moment ∷ body))
 
 -- a query's line
-abbrev pub query_text : Query → List ℕ
+abbrev pub query_text : Query → List Byte
 query_text (Whereabouts itsi) = spaced (codes "where" ∷ identity_text itsi ∷ [])
 query_text (Look itsi) = spaced (codes "look" ∷ identity_text itsi ∷ [])
 query_text (GroupsOf itsi) = spaced (codes "groups" ∷ identity_text itsi ∷ [])
@@ -63,28 +65,41 @@ Askable (MembersOf gtsi) = gtsi < 2 ^ 48
 Askable (Waiting itsi) = itsi < 2 ^ 48
 Askable Total = Unit {0}
 
--- a line is taken for a command only where it spells that command, in range, of the station that it comes from
-abbrev pub OnlyCommands : Type 0 → Type 0
-OnlyCommands A = (station : ℕ) (line : List ℕ) (c : Command A) → reading station line ≡ Order c → (c.station ≡ station) × InRange c × SpellsCommand c line × (length line ≤ longest_line)
+-- a line from this station gives a command: it spells that command, in range and of the station
+pub record GivesCommand {A : Type 0} (station : Station) (line : List Byte) (c : Command A) : Type 0 where
+  pub of_station : c.station ≡ station
+  pub in_range : InRange c
+  pub spelt : SpellsCommand c line
+  pub short : length line ≤ longest_line
 
--- a line is taken for a query only where it is that query's line, in range
+-- a line gives a query: it is that query's line, in range
+pub record GivesQuery (line : List Byte) (q : Query) : Type 0 where
+  pub in_range : Askable q
+  pub spelt : line ≡ query_text q
+  pub short : length line ≤ longest_line
+
+-- a line is taken for a command only where it gives it
+abbrev pub OnlyCommands : Type 0 → Type 0
+OnlyCommands A = (station : Station) (line : List Byte) (c : Command A) → reading station line ≡ Apply c → GivesCommand station line c
+
+-- a line is taken for a query only where it gives it
 abbrev pub OnlyQueries : Type 0 → Type 0
-OnlyQueries A = (station : ℕ) (line : List ℕ) (q : Query) → reading {A = A} station line ≡ Ask q → Askable q × (line ≡ query_text q) × (length line ≤ longest_line)
+OnlyQueries A = (station : Station) (line : List Byte) (q : Query) → reading {A = A} station line ≡ Ask q → GivesQuery line q
 
 -- each line that spells a command is taken for that command
 abbrev pub AllCommands : Type 0 → Type 0
-AllCommands A = (line : List ℕ) (c : Command A) → InRange c → SpellsCommand c line → length line ≤ longest_line → reading c.station line ≡ Order c
+AllCommands A = (line : List Byte) (c : Command A) → InRange c → SpellsCommand c line → length line ≤ longest_line → reading c.station line ≡ Apply c
 
 -- each line of a query, in range, is taken for that query
 abbrev pub AllQueries : Type 0 → Type 0
-AllQueries A = (station : ℕ) (q : Query) → Askable q → length (query_text q) ≤ longest_line → reading {A = A} station (query_text q) ≡ Ask q
+AllQueries A = (station : Station) (q : Query) → Askable q → length (query_text q) ≤ longest_line → reading {A = A} station (query_text q) ≡ Ask q
 
 -- a word is one of these
-abbrev pub is_one_of : List (List ℕ) → List ℕ → Bool
+abbrev pub is_one_of : List (List Byte) → List Byte → Bool
 is_one_of names word = list_any (bytes_eq word) names
 
 -- the forms of lines, by how many words they have: a query is named by its first word, a command by its third
-abbrev pub has_form : List (List ℕ) → Bool
+abbrev pub has_form : List (List Byte) → Bool
 has_form (name ∷ []) = is_one_of (codes "count" ∷ []) name
 has_form (name ∷ identity ∷ []) = is_one_of (codes "where" ∷ codes "look" ∷ codes "groups" ∷ codes "members" ∷ codes "mail" ∷ []) name
 has_form (sequence ∷ moment ∷ name ∷ []) = is_one_of (codes "expire" ∷ []) name
@@ -94,17 +109,28 @@ has_form (sequence ∷ moment ∷ name ∷ a ∷ b ∷ c ∷ d ∷ []) = is_one_
 has_form (sequence ∷ moment ∷ name ∷ a ∷ b ∷ c ∷ d ∷ e ∷ []) = is_one_of (codes "rule" ∷ []) name
 has_form other = false
 
+-- a line spells a command of its station, in range
+abbrev pub IsCommandLine : Type 0 → Station → List Byte → Type 0
+IsCommandLine A station line = (c : Command A) × (c.station ≡ station) × InRange c × SpellsCommand c line
+
+-- a line spells a query, in range
+abbrev pub IsQueryLine : List Byte → Type 0
+IsQueryLine line = (q : Query) × Askable q × (line ≡ query_text q)
+
 -- a line spells a command of its station, or a query, in range
-abbrev pub SpellsSome : Type 0 → ℕ → List ℕ → Type 0
-SpellsSome A station line = ((c : Command A) × (c.station ≡ station) × InRange c × SpellsCommand c line) ⊎ ((q : Query) × Askable q × (line ≡ query_text q))
+abbrev pub SpellsSome : Type 0 → Station → List Byte → Type 0
+SpellsSome A station line = IsCommandLine A station line ⊎ IsQueryLine line
 
 -- it is short enough, and neither empty nor a comment
-abbrev pub IsJudged : List ℕ → Type 0
+abbrev pub IsJudged : List Byte → Type 0
 IsJudged line = (length line ≤ longest_line) × (is_silent line ≡ false)
 
 -- how a line is bad: it is too long; or its words have no form; or they have one, and spell nothing
+pub record IsBadAs (A : Type 0) (station : Station) (line : List Byte) : Type 0 where
+  pub too_long : (reading {A = A} station line ≡ Bad TooLong) ↔ (longest_line < length line)
+  pub no_form : (reading {A = A} station line ≡ Bad Syntax) ↔ (IsJudged line × (has_form (words line) ≡ false))
+  pub no_value : (reading {A = A} station line ≡ Bad Value) ↔ (IsJudged line × (has_form (words line) ≡ true) × (SpellsSome A station line → ⊥))
+
+-- each line is bad for these reasons and for no others
 abbrev pub BadLines : Type 0 → Type 0
-BadLines A = (station : ℕ) (line : List ℕ) →
-    ((reading {A = A} station line ≡ Bad TooLong) ↔ (longest_line < length line))
-    × ((reading {A = A} station line ≡ Bad Syntax) ↔ (IsJudged line × (has_form (words line) ≡ false)))
-    × ((reading {A = A} station line ≡ Bad Value) ↔ (IsJudged line × (has_form (words line) ≡ true) × (SpellsSome A station line → ⊥)))
+BadLines A = (station : Station) (line : List Byte) → IsBadAs A station line

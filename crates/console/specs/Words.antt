@@ -1,5 +1,6 @@
 -- The words of the answers.
-use Rattle.std.specs.Prelude.{ℕ, List, codes}
+use Rattle.std.specs.Prelude.{List, codes}
+use Rattle.identity.specs.Numbers.{Byte}
 use Rattle.mm_pdus.specs.declared.fault.MmFault.{MmFault}
 use Rattle.mm_pdus.specs.declared.fault.MmFault.TheVariants as mm
 use Rattle.registration.specs.declared.fault.RegFault.{RegFault}
@@ -16,13 +17,13 @@ use Rattle.console.specs.declared.line.LineFault.{LineFault}
 use Rattle.console.specs.declared.line.LineFault.TheVariants as line
 
 -- behind "bad"
-abbrev pub line_word : LineFault → List ℕ
+abbrev pub line_word : LineFault → List Byte
 line_word line.Syntax = codes "syntax"
 line_word line.Value = codes "value"
 line_word line.TooLong = codes "too-long"
 
 -- a mobility management PDU that is none
-abbrev pub mm_word : MmFault → List ℕ
+abbrev pub mm_word : MmFault → List Byte
 mm_word mm.Short = codes "mm-short"
 mm_word mm.Trailing = codes "mm-trailing"
 mm_word mm.UnknownType = codes "mm-unknown-type"
@@ -32,7 +33,7 @@ mm_word mm.TooMany = codes "mm-too-many"
 mm_word mm.NoMemory = codes "memory"
 
 -- rules and radios
-abbrev pub registration_word : RegFault → List ℕ
+abbrev pub registration_word : RegFault → List Byte
 registration_word reg.UnknownIdentity = codes "unknown-identity"
 registration_word reg.LaNotAllowed = codes "la-not-allowed"
 registration_word reg.Congestion = codes "congestion"
@@ -43,13 +44,13 @@ registration_word reg.RulesFull = codes "rules-full"
 registration_word reg.NoMemory = codes "memory"
 
 -- the groups of a radio
-abbrev pub group_word : GroupFault → List ℕ
+abbrev pub group_word : GroupFault → List Byte
 group_word group.NotAttached = codes "not-attached"
 group_word group.TooManyGroups = codes "too-many-groups"
 group_word group.NoMemory = codes "memory"
 
 -- a short data PDU that is none
-abbrev pub sds_word : SdsFault → List ℕ
+abbrev pub sds_word : SdsFault → List Byte
 sds_word sds.Short = codes "sds-short"
 sds_word sds.Trailing = codes "sds-trailing"
 sds_word sds.NotSdsTl = codes "not-sds-tl"
@@ -60,7 +61,7 @@ sds_word sds.NoMemory = codes "memory"
 sds_word sds.NotATransfer = codes "not-a-transfer"
 
 -- messages and reports
-abbrev pub mail_word : MailFault → List ℕ
+abbrev pub mail_word : MailFault → List Byte
 mail_word mail.UnknownDestination = codes "unknown-destination"
 mail_word mail.NotAttached = codes "not-attached"
 mail_word mail.ReferenceBusy = codes "reference-busy"
@@ -71,6 +72,6 @@ mail_word mail.NoMemory = codes "memory"
 mail_word mail.NoMembers = codes "no-members"
 
 -- what waits
-abbrev pub kind_word : Kind → List ℕ
+abbrev pub kind_word : Kind → List Byte
 kind_word kind.Message = codes "m"
 kind_word kind.Report = codes "r"

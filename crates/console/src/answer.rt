@@ -3,7 +3,7 @@ ghost use Rattle.console.specs.Answer.{text, is_trouble, is_list, tells_list, Is
 
 use crate::answer_text::put_answer;
 use crate::line::LineFault;
-use centre_core::{Reply, Told};
+use centre_core::{Reply, Sequence, Told};
 use desk::Service;
 use identity::put_whole;
 use std::alloc::{AllocError, Allocator};
@@ -16,9 +16,9 @@ pub enum Answer<B: Allocator> {
     /// The line of this number, counted from 1, says nothing that can be done.
     Bad(u64, LineFault),
     /// The reply to the command of this sequence.
-    Replied(u32, Reply<B>),
+    Replied(Sequence, Reply<B>),
     /// The command of this sequence was not carried out.
-    Unserved(u32, Service),
+    Unreplied(Sequence, Service),
     /// The answer to a query.
     Told(Told<B>),
     /// The query in the line of this number was not answered.
@@ -32,7 +32,7 @@ impl<B: Allocator> Answer<B> {
     {
         matches!(
             self,
-            Answer::Bad(..) | Answer::Unserved(..) | Answer::Untold(..)
+            Answer::Bad(..) | Answer::Unreplied(..) | Answer::Untold(..)
         )
     }
 

@@ -1,7 +1,7 @@
 //! The texts of answers. Each `put_` adds its text, or a front of it.
 ghost use Rattle.std.specs.Prelude.{◌≡◌, ◌≤◌, ◌<◌, ◌+◌, ◌++◌, OnOk, OnErr, length, vec_len, vec_capacity, codes, decimal};
 ghost use Rattle.std.specs.List.{flat_map};
-ghost use Rattle.identity.specs.NumberText.{Keeps};
+ghost use Rattle.identity.specs.NumberText.{IsFrontOf};
 ghost use Rattle.identity.specs.IdentityText.{identity_text};
 ghost use Rattle.centre_core.specs.Ranges.{IsShort};
 ghost use Rattle.console.specs.Inside.Parts.{part_text, part_room, pdu_room};
@@ -12,7 +12,7 @@ use crate::text_part::{Part, pdu_part, put_parts};
 use crate::words::{
     group_word, kind_word, line_word, mail_word, mm_word, registration_word, sds_word,
 };
-use centre_core::{Refusal, Reply, Told};
+use centre_core::{Refusal, Reply, Sequence, Told};
 use group_attach::Attachment;
 use identity::{Bits, Gtsi, Itsi, Prefix};
 use mailbox::{Item, Key};
@@ -25,7 +25,7 @@ pub(crate) fn put_answer<A: Allocator, B: Allocator>(
     answer: &Answer<B>,
 ) -> Result<(), AllocError>
     ensures ok { OnOk result (out.new.items ≡ out.old.items ++ text answer.now) }
-    ensures err { OnErr result (Keeps out.old.items out.new.items) }
+    ensures err { OnErr result (IsFrontOf out.old.items out.new.items) }
     ensures full { OnErr result (vec_capacity out.old < vec_len out.old + length (text answer.now)) }
     ensures capacity { vec_capacity out.old ≤ vec_capacity out.new }
     ensures line { IsLine answer.now → OnErr result (vec_capacity out.old < vec_len out.old + answer_room) }
@@ -34,7 +34,7 @@ pub(crate) fn put_answer<A: Allocator, B: Allocator>(
         Answer::Quiet => Ok(()),
         Answer::Bad(line, fault) => put_of_line(out, *line, " bad ", line_word(*fault)),
         Answer::Replied(sequence, reply) => put_reply(out, *sequence, reply),
-        Answer::Unserved(sequence, word) => put_refused(out, *sequence, word.word()),
+        Answer::Unreplied(sequence, word) => put_refused(out, *sequence, word.word()),
         Answer::Told(told) => put_told(out, told),
         Answer::Untold(line, word) => put_of_line(out, *line, " no ", word.word()),
     }
@@ -51,7 +51,7 @@ fn put_of_line<'a, A: Allocator>(
     requires verdict { length verdict.now ≤ 5 }
     requires word { length word.now ≤ 32 }
     ensures ok { OnOk result (out.new.items ≡ out.old.items ++ codes "line " ++ decimal line ++ verdict.now ++ word.now ++ codes "\n") }
-    ensures err { OnErr result (Keeps out.old.items out.new.items) }
+    ensures err { OnErr result (IsFrontOf out.old.items out.new.items) }
     ensures full { OnErr result (vec_capacity out.old < vec_len out.old + length (codes "line " ++ decimal line ++ verdict.now ++ word.now ++ codes "\n")) }
     ensures capacity { vec_capacity out.old ≤ vec_capacity out.new }
     ensures line { OnErr result (vec_capacity out.old < vec_len out.old + answer_room) }
@@ -70,11 +70,11 @@ fn put_of_line<'a, A: Allocator>(
 #[tactic(auto, using(std::proofs::Common::append_assoc))]
 fn put_reply<A: Allocator, B: Allocator>(
     out: &mut Vec<u8, A>,
-    sequence: u32,
+    sequence: Sequence,
     reply: &Reply<B>,
 ) -> Result<(), AllocError>
     ensures ok { OnOk result (out.new.items ≡ out.old.items ++ decimal sequence ++ reply_text reply.now ++ codes "\n") }
-    ensures err { OnErr result (Keeps out.old.items out.new.items) }
+    ensures err { OnErr result (IsFrontOf out.old.items out.new.items) }
     ensures full { OnErr result (vec_capacity out.old < vec_len out.old + length (decimal sequence ++ reply_text reply.now ++ codes "\n")) }
     ensures capacity { vec_capacity out.old ≤ vec_capacity out.new }
     ensures line { HasShortPdu reply.now → OnErr result (vec_capacity out.old < vec_len out.old + answer_room) }
@@ -90,14 +90,14 @@ fn put_reply<A: Allocator, B: Allocator>(
 #[tactic(auto, using(std::proofs::Common::append_assoc))]
 fn put_done<'a, A: Allocator, B: Allocator>(
     out: &mut Vec<u8, A>,
-    sequence: u32,
+    sequence: Sequence,
     word: &'a str,
     number: u64,
     pdu: &'a Option<Bits<B>>,
 ) -> Result<(), AllocError>
     requires { length word.now ≤ 6 }
     ensures ok { OnOk result (out.new.items ≡ out.old.items ++ decimal sequence ++ (word.now ++ decimal number ++ codes " " ++ pdu_text pdu.now) ++ codes "\n") }
-    ensures err { OnErr result (Keeps out.old.items out.new.items) }
+    ensures err { OnErr result (IsFrontOf out.old.items out.new.items) }
     ensures full { OnErr result (vec_capacity out.old < vec_len out.old + length (decimal sequence ++ (word.now ++ decimal number ++ codes " " ++ pdu_text pdu.now) ++ codes "\n")) }
     ensures capacity { vec_capacity out.old ≤ vec_capacity out.new }
     ensures line { IsShort pdu.now → OnErr result (vec_capacity out.old < vec_len out.old + answer_room) }
@@ -105,7 +105,7 @@ fn put_done<'a, A: Allocator, B: Allocator>(
     put_parts(
         out,
         &[
-            Part::Number(u64::from(sequence)),
+            Part::Number(u64::from(sequence.number())),
             Part::Text(word),
             Part::Number(number),
             Part::Text(" "),
@@ -119,18 +119,18 @@ fn put_done<'a, A: Allocator, B: Allocator>(
 #[tactic(auto, using(std::proofs::Common::append_assoc))]
 fn put_refused<A: Allocator>(
     out: &mut Vec<u8, A>,
-    sequence: u32,
+    sequence: Sequence,
     word: &str,
 ) -> Result<(), AllocError>
     requires { length word.now ≤ 32 }
     ensures ok { OnOk result (out.new.items ≡ out.old.items ++ decimal sequence ++ (codes " no " ++ word.now) ++ codes "\n") }
-    ensures err { OnErr result (Keeps out.old.items out.new.items) }
+    ensures err { OnErr result (IsFrontOf out.old.items out.new.items) }
     ensures full { OnErr result (vec_capacity out.old < vec_len out.old + length (decimal sequence ++ (codes " no " ++ word.now) ++ codes "\n")) }
     ensures capacity { vec_capacity out.old ≤ vec_capacity out.new }
     ensures line { OnErr result (vec_capacity out.old < vec_len out.old + answer_room) }
 {
     let line: [Part; 4] = [
-        Part::Number(u64::from(sequence)),
+        Part::Number(u64::from(sequence.number())),
         Part::Text(" no "),
         Part::Text(word),
         Part::Text("\n"),
@@ -141,11 +141,11 @@ fn put_refused<A: Allocator>(
 #[tactic(auto, using(std::proofs::Common::append_assoc))]
 fn put_refusal<A: Allocator, B: Allocator>(
     out: &mut Vec<u8, A>,
-    sequence: u32,
+    sequence: Sequence,
     refusal: &Refusal<B>,
 ) -> Result<(), AllocError>
     ensures ok { OnOk result (out.new.items ≡ out.old.items ++ decimal sequence ++ (codes " no " ++ refusal_text refusal.now) ++ codes "\n") }
-    ensures err { OnErr result (Keeps out.old.items out.new.items) }
+    ensures err { OnErr result (IsFrontOf out.old.items out.new.items) }
     ensures full { OnErr result (vec_capacity out.old < vec_len out.old + length (decimal sequence ++ (codes " no " ++ refusal_text refusal.now) ++ codes "\n")) }
     ensures capacity { vec_capacity out.old ≤ vec_capacity out.new }
     ensures line { HasShortReject refusal.now → OnErr result (vec_capacity out.old < vec_len out.old + answer_room) }
@@ -162,7 +162,7 @@ fn put_refusal<A: Allocator, B: Allocator>(
         Refusal::Location { fault, reject } => put_parts(
             out,
             &[
-                Part::Number(u64::from(sequence)),
+                Part::Number(u64::from(sequence.number())),
                 Part::Text(" no "),
                 Part::Text(registration_word(*fault)),
                 Part::Text(" "),
@@ -177,22 +177,22 @@ fn put_refusal<A: Allocator, B: Allocator>(
 #[tactic(auto, using(std::proofs::Common::append_assoc))]
 fn put_refused_at<A: Allocator>(
     out: &mut Vec<u8, A>,
-    sequence: u32,
+    sequence: Sequence,
     word: &str,
-    last: u32,
+    last: Sequence,
 ) -> Result<(), AllocError>
     requires { length word.now ≤ 32 }
     ensures ok { OnOk result (out.new.items ≡ out.old.items ++ decimal sequence ++ (codes " no " ++ (word.now ++ decimal last)) ++ codes "\n") }
-    ensures err { OnErr result (Keeps out.old.items out.new.items) }
+    ensures err { OnErr result (IsFrontOf out.old.items out.new.items) }
     ensures full { OnErr result (vec_capacity out.old < vec_len out.old + length (decimal sequence ++ (codes " no " ++ (word.now ++ decimal last)) ++ codes "\n")) }
     ensures capacity { vec_capacity out.old ≤ vec_capacity out.new }
     ensures line { OnErr result (vec_capacity out.old < vec_len out.old + answer_room) }
 {
     let line: [Part; 5] = [
-        Part::Number(u64::from(sequence)),
+        Part::Number(u64::from(sequence.number())),
         Part::Text(" no "),
         Part::Text(word),
-        Part::Number(u64::from(last)),
+        Part::Number(u64::from(last.number())),
         Part::Text("\n"),
     ];
     put_parts(out, &line)
@@ -204,7 +204,7 @@ fn put_told<A: Allocator, B: Allocator>(
     told: &Told<B>,
 ) -> Result<(), AllocError>
     ensures ok { OnOk result (out.new.items ≡ out.old.items ++ told_text told.now) }
-    ensures err { OnErr result (Keeps out.old.items out.new.items) }
+    ensures err { OnErr result (IsFrontOf out.old.items out.new.items) }
     ensures full { OnErr result (vec_capacity out.old < vec_len out.old + length (told_text told.now)) }
     ensures capacity { vec_capacity out.old ≤ vec_capacity out.new }
     ensures line { IsOneLine told.now → OnErr result (vec_capacity out.old < vec_len out.old + answer_room) }
@@ -244,7 +244,7 @@ fn put_whereabouts<A: Allocator>(
     radio: &Option<Radio>,
 ) -> Result<(), AllocError>
     ensures ok { OnOk result (out.new.items ≡ out.old.items ++ codes "where " ++ identity_text itsi ++ codes " " ++ whereabouts_text radio.now ++ codes "\n") }
-    ensures err { OnErr result (Keeps out.old.items out.new.items) }
+    ensures err { OnErr result (IsFrontOf out.old.items out.new.items) }
     ensures full { OnErr result (vec_capacity out.old < vec_len out.old + length (codes "where " ++ identity_text itsi ++ codes " " ++ whereabouts_text radio.now ++ codes "\n")) }
     ensures capacity { vec_capacity out.old ≤ vec_capacity out.new }
     ensures line { OnErr result (vec_capacity out.old < vec_len out.old + answer_room) }
@@ -261,7 +261,7 @@ fn put_whereabouts<A: Allocator>(
         Part::Text("where "),
         Part::Radio(itsi),
         Part::Text(" station "),
-        Part::Number(u64::from(radio.station)),
+        Part::Number(u64::from(radio.station.number())),
         Part::Text(" la "),
         Part::Number(u64::from(radio.area.number())),
         Part::Text(presence_word(radio.present)),
@@ -277,7 +277,7 @@ fn put_look<A: Allocator>(
     rule: &Option<(Prefix, Rule)>,
 ) -> Result<(), AllocError>
     ensures ok { OnOk result (out.new.items ≡ out.old.items ++ codes "look " ++ identity_text itsi ++ codes " " ++ rule_text rule.now ++ codes "\n") }
-    ensures err { OnErr result (Keeps out.old.items out.new.items) }
+    ensures err { OnErr result (IsFrontOf out.old.items out.new.items) }
     ensures full { OnErr result (vec_capacity out.old < vec_len out.old + length (codes "look " ++ identity_text itsi ++ codes " " ++ rule_text rule.now ++ codes "\n")) }
     ensures capacity { vec_capacity out.old ≤ vec_capacity out.new }
     ensures line { OnErr result (vec_capacity out.old < vec_len out.old + answer_room) }
@@ -311,7 +311,7 @@ fn put_look<A: Allocator>(
 #[tactic(auto, using(std::proofs::Common::append_assoc))]
 fn put_total<A: Allocator>(out: &mut Vec<u8, A>, count: u64) -> Result<(), AllocError>
     ensures ok { OnOk result (out.new.items ≡ out.old.items ++ codes "count " ++ decimal count ++ codes "\n") }
-    ensures err { OnErr result (Keeps out.old.items out.new.items) }
+    ensures err { OnErr result (IsFrontOf out.old.items out.new.items) }
     ensures full { OnErr result (vec_capacity out.old < vec_len out.old + length (codes "count " ++ decimal count ++ codes "\n")) }
     ensures capacity { vec_capacity out.old ≤ vec_capacity out.new }
     ensures line { OnErr result (vec_capacity out.old < vec_len out.old + answer_room) }
@@ -324,7 +324,7 @@ fn put_total<A: Allocator>(out: &mut Vec<u8, A>, count: u64) -> Result<(), Alloc
 #[tactic(auto, using(std::proofs::Common::append_assoc))]
 fn put_count<A: Allocator>(out: &mut Vec<u8, A>, count: usize) -> Result<(), AllocError>
     ensures ok { OnOk result (out.new.items ≡ out.old.items ++ (codes " " ++ decimal count ++ codes "\n")) }
-    ensures err { OnErr result (Keeps out.old.items out.new.items) }
+    ensures err { OnErr result (IsFrontOf out.old.items out.new.items) }
     ensures full { OnErr result (vec_capacity out.old < vec_len out.old + length (codes " " ++ decimal count ++ codes "\n")) }
     ensures capacity { vec_capacity out.old ≤ vec_capacity out.new }
 {
@@ -338,7 +338,7 @@ fn put_count<A: Allocator>(out: &mut Vec<u8, A>, count: usize) -> Result<(), All
 
 fn put_groups<A: Allocator>(out: &mut Vec<u8, A>, groups: &[Attachment]) -> Result<(), AllocError>
     ensures ok { OnOk result (out.new.items ≡ out.old.items ++ flat_map group_text groups.now) }
-    ensures err { OnErr result (Keeps out.old.items out.new.items) }
+    ensures err { OnErr result (IsFrontOf out.old.items out.new.items) }
     ensures full { OnErr result (vec_capacity out.old < vec_len out.old + length (flat_map group_text groups.now)) }
     ensures capacity { vec_capacity out.old ≤ vec_capacity out.new }
 {
@@ -351,7 +351,7 @@ fn put_groups<A: Allocator>(out: &mut Vec<u8, A>, groups: &[Attachment]) -> Resu
 #[tactic(auto, using(std::proofs::Common::append_assoc))]
 fn put_group<A: Allocator>(out: &mut Vec<u8, A>, group: &Attachment) -> Result<(), AllocError>
     ensures ok { OnOk result (out.new.items ≡ out.old.items ++ group_text group.now) }
-    ensures err { OnErr result (Keeps out.old.items out.new.items) }
+    ensures err { OnErr result (IsFrontOf out.old.items out.new.items) }
     ensures full { OnErr result (vec_capacity out.old < vec_len out.old + length (group_text group.now)) }
     ensures capacity { vec_capacity out.old ≤ vec_capacity out.new }
 {
@@ -369,7 +369,7 @@ fn put_group<A: Allocator>(out: &mut Vec<u8, A>, group: &Attachment) -> Result<(
 
 fn put_members<A: Allocator>(out: &mut Vec<u8, A>, members: &[Attachment]) -> Result<(), AllocError>
     ensures ok { OnOk result (out.new.items ≡ out.old.items ++ flat_map member_text members.now) }
-    ensures err { OnErr result (Keeps out.old.items out.new.items) }
+    ensures err { OnErr result (IsFrontOf out.old.items out.new.items) }
     ensures full { OnErr result (vec_capacity out.old < vec_len out.old + length (flat_map member_text members.now)) }
     ensures capacity { vec_capacity out.old ≤ vec_capacity out.new }
 {
@@ -382,7 +382,7 @@ fn put_members<A: Allocator>(out: &mut Vec<u8, A>, members: &[Attachment]) -> Re
 #[tactic(auto, using(std::proofs::Common::append_assoc))]
 fn put_member<A: Allocator>(out: &mut Vec<u8, A>, member: &Attachment) -> Result<(), AllocError>
     ensures ok { OnOk result (out.new.items ≡ out.old.items ++ member_text member.now) }
-    ensures err { OnErr result (Keeps out.old.items out.new.items) }
+    ensures err { OnErr result (IsFrontOf out.old.items out.new.items) }
     ensures full { OnErr result (vec_capacity out.old < vec_len out.old + length (member_text member.now)) }
     ensures capacity { vec_capacity out.old ≤ vec_capacity out.new }
 {
@@ -401,7 +401,7 @@ fn put_items<A: Allocator, B: Allocator>(
     items: &[Item<B>],
 ) -> Result<(), AllocError>
     ensures ok { OnOk result (out.new.items ≡ out.old.items ++ flat_map item_text items.now) }
-    ensures err { OnErr result (Keeps out.old.items out.new.items) }
+    ensures err { OnErr result (IsFrontOf out.old.items out.new.items) }
     ensures full { OnErr result (vec_capacity out.old < vec_len out.old + length (flat_map item_text items.now)) }
     ensures capacity { vec_capacity out.old ≤ vec_capacity out.new }
 {
@@ -417,7 +417,7 @@ fn put_item<A: Allocator, B: Allocator>(
     item: &Item<B>,
 ) -> Result<(), AllocError>
     ensures ok { OnOk result (out.new.items ≡ out.old.items ++ item_text item.now) }
-    ensures err { OnErr result (Keeps out.old.items out.new.items) }
+    ensures err { OnErr result (IsFrontOf out.old.items out.new.items) }
     ensures full { OnErr result (vec_capacity out.old < vec_len out.old + length (item_text item.now)) }
     ensures capacity { vec_capacity out.old ≤ vec_capacity out.new }
 {
@@ -444,7 +444,7 @@ fn put_item<A: Allocator, B: Allocator>(
 #[tactic(auto, using(std::proofs::Common::append_assoc))]
 fn put_item_end<A: Allocator>(out: &mut Vec<u8, A>, group: Option<Gtsi>) -> Result<(), AllocError>
     ensures ok { OnOk result (out.new.items ≡ out.old.items ++ item_end group) }
-    ensures err { OnErr result (Keeps out.old.items out.new.items) }
+    ensures err { OnErr result (IsFrontOf out.old.items out.new.items) }
     ensures full { OnErr result (vec_capacity out.old < vec_len out.old + length (item_end group)) }
     ensures capacity { vec_capacity out.old ≤ vec_capacity out.new }
 {
@@ -459,7 +459,7 @@ fn put_item_end<A: Allocator>(out: &mut Vec<u8, A>, group: Option<Gtsi>) -> Resu
 #[tactic(auto, using(std::proofs::Common::append_assoc))]
 fn put_key<A: Allocator>(out: &mut Vec<u8, A>, key: Key) -> Result<(), AllocError>
     ensures ok { OnOk result (out.new.items ≡ out.old.items ++ key_text key) }
-    ensures err { OnErr result (Keeps out.old.items out.new.items) }
+    ensures err { OnErr result (IsFrontOf out.old.items out.new.items) }
     ensures full { OnErr result (vec_capacity out.old < vec_len out.old + length (key_text key)) }
     ensures capacity { vec_capacity out.old ≤ vec_capacity out.new }
 {
@@ -468,7 +468,7 @@ fn put_key<A: Allocator>(out: &mut Vec<u8, A>, key: Key) -> Result<(), AllocErro
         Part::Text(" "),
         Part::Radio(key.source),
         Part::Text(" "),
-        Part::Number(u64::from(key.reference)),
+        Part::Number(u64::from(key.reference.number())),
     ];
     put_parts(out, &words)
 }

@@ -7,10 +7,10 @@
 
 mod answer;
 mod answer_text;
+mod body;
 mod input;
 pub mod laws;
 mod line;
-mod order;
 mod output;
 mod progress;
 mod running;

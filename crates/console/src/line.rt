@@ -1,10 +1,11 @@
-ghost use Rattle.std.specs.Prelude.{◌≡◌, ◌∷◌, [], Some, IfOk, IfErr, IfSome, OnErr, IsSome, option_map, MatchOption, ◌<◌, ◌≤◌, length, map, take, slice_get};
+ghost use Rattle.std.specs.Prelude.{◌≡◌, ◌∷◌, [], Some, IfOk, IfErr, OnErr, IsSome, option_map, MatchOption, ◌<◌, ◌≤◌, length, map, take, slice_get};
 ghost use Rattle.centre_core.specs.Ranges.{IsShort, pdu_of};
-ghost use Rattle.console.specs.Reading.{reading, sequence_of, Lacks, words, words_behind, of_words, body_in, order, ask};
+ghost use Rattle.console.specs.Reading.{reading, sequence_of, Lacks, words, words_behind, of_words, body_in, command_line, ask};
 
-use crate::order::{Head, body_in, head_in, query_in};
-use centre_core::{Body, Command, Query};
+use crate::body::{Head, body_in, head_in, query_in};
+use centre_core::{Body, Command, Query, Sequence};
 use memchr::memchr;
+use registration::Station;
 use std::alloc::{AllocError, Allocator};
 
 /// The most bytes of a line, without its end.
@@ -29,7 +30,7 @@ pub enum Line<A: Allocator> {
     /// Nothing that can be done.
     Bad(LineFault),
     /// A command.
-    Order(Command<A>),
+    Apply(Command<A>),
     /// A query.
     Ask(Query),
 }
@@ -37,11 +38,15 @@ pub enum Line<A: Allocator> {
 /// There is no memory for the PDU of the command of this sequence.
 #[derive(Drop)]
 pub(crate) struct Unread {
-    pub(crate) sequence: u32,
+    pub(crate) sequence: Sequence,
 }
 
 /// What a station's line says, without its end. It takes memory for a PDU alone.
-pub fn parse_line<A: Allocator>(alloc: A, station: u16, line: &[u8]) -> Result<Line<A>, AllocError>
+pub fn parse_line<A: Allocator>(
+    alloc: A,
+    station: Station,
+    line: &[u8],
+) -> Result<Line<A>, AllocError>
     ensures ok { IfOk result (λ said. said ≡ reading station line.now) }
     ensures err { OnErr result (IsSome (sequence_of (reading {A = A} station line.now))) }
 {
@@ -55,7 +60,7 @@ pub fn parse_line<A: Allocator>(alloc: A, station: u16, line: &[u8]) -> Result<L
 #[inline(always)]
 pub(crate) fn read_line<A: Allocator>(
     alloc: A,
-    station: u16,
+    station: Station,
     line: &[u8],
 ) -> Result<Line<A>, Unread>
     ensures ok { IfOk result (λ said. said ≡ reading station line.now) }
@@ -121,7 +126,7 @@ fn split(line: &[u8]) -> Option<Words<'_>>
 }
 
 #[tactic(auto, using(crate::proofs::Forms::many_words))]
-fn read_text<A: Allocator>(alloc: A, station: u16, line: &[u8]) -> Result<Line<A>, Unread>
+fn read_text<A: Allocator>(alloc: A, station: Station, line: &[u8]) -> Result<Line<A>, Unread>
     ensures ok { IfOk result (λ said. said ≡ of_words station (words line.now)) }
     ensures err { IfErr result (λ unread. sequence_of (of_words {A = A} station (words line.now)) ≡ Some unread.sequence) }
 {
@@ -132,7 +137,7 @@ fn read_text<A: Allocator>(alloc: A, station: u16, line: &[u8]) -> Result<Line<A
 }
 
 #[inline(always)]
-fn read_words<A: Allocator>(alloc: A, station: u16, words: &[&[u8]]) -> Result<Line<A>, Unread>
+fn read_words<A: Allocator>(alloc: A, station: Station, words: &[&[u8]]) -> Result<Line<A>, Unread>
     ensures ok { IfOk result (λ said. said ≡ of_words station (map (λ w. w.now) words.now)) }
     ensures err { IfErr result (λ unread. sequence_of (of_words {A = A} station (map (λ w. w.now) words.now)) ≡ Some unread.sequence) }
 {
@@ -141,7 +146,7 @@ fn read_words<A: Allocator>(alloc: A, station: u16, words: &[&[u8]]) -> Result<L
         [name] => Ok(read_one(name)),
         [name, identity] => Ok(ask(query_in(name, identity))),
         [sequence, moment, name, more @ ..] => {
-            read_order(alloc, station, head_in(sequence, moment), name, more)
+            read_command(alloc, station, head_in(sequence, moment), name, more)
         }
     }
 }
@@ -165,21 +170,20 @@ fn ask<A: Allocator>(query: Result<Query, LineFault>) -> Line<A>
     }
 }
 
-fn order<A: Allocator>(
-    station: u16,
+fn command_line<A: Allocator>(
+    station: Station,
     head: Option<Head>,
     body: Result<Body<A>, LineFault>,
 ) -> Line<A>
-    requires above { IfSome head (λ head. 0 < head.sequence) }
     requires short { IfOk body (λ body. IsShort (pdu_of body)) }
-    ensures { result ≡ order station head body }
+    ensures { result ≡ command_line station head body }
 {
     match (head, body) {
         (_, Err(fault)) => Line::Bad(fault),
         (None, Ok(_)) => Line::Bad(LineFault::Value),
         (Some(Head { sequence, moment }), Ok(body)) => {
             match Command::new(station, sequence, moment, body) {
-                Some(command) => Line::Order(command),
+                Some(command) => Line::Apply(command),
                 None => Line::Bad(LineFault::Value),
             }
         }
@@ -188,19 +192,18 @@ fn order<A: Allocator>(
 
 #[inline(always)]
 #[tactic(auto, using(crate::proofs::Forms::unread, crate::proofs::Forms::headless, crate::proofs::Forms::body_short))]
-fn read_order<A: Allocator>(
+fn read_command<A: Allocator>(
     alloc: A,
-    station: u16,
+    station: Station,
     head: Option<Head>,
     name: &[u8],
     words: &[&[u8]],
 ) -> Result<Line<A>, Unread>
-    requires { IfSome head (λ head. 0 < head.sequence) }
-    ensures ok { IfOk result (λ said. said ≡ order station head (body_in name.now (map (λ w. w.now) words.now))) }
-    ensures err { IfErr result (λ unread. sequence_of (order {A = A} station head (body_in name.now (map (λ w. w.now) words.now))) ≡ Some unread.sequence) }
+    ensures ok { IfOk result (λ said. said ≡ command_line station head (body_in name.now (map (λ w. w.now) words.now))) }
+    ensures err { IfErr result (λ unread. sequence_of (command_line {A = A} station head (body_in name.now (map (λ w. w.now) words.now))) ≡ Some unread.sequence) }
 {
     match (head, body_in(alloc, name, words)) {
-        (head, Ok(body)) => Ok(order(station, head, body)),
+        (head, Ok(body)) => Ok(command_line(station, head, body)),
         (None, Err(AllocError)) => Ok(Line::Bad(LineFault::Value)),
         (Some(Head { sequence, .. }), Err(AllocError)) => Err(Unread { sequence }),
     }

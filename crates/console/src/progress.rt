@@ -1,82 +1,80 @@
 //! How far a run has come.
 ghost use Rattle.std.specs.Prelude.{◌≡◌, ◌++◌, ◌≤◌, [], List, ℕ, MatchBool, option_map, length, ◌<◌, IfOk, IfErr, false, vec_capacity};
-ghost use Rattle.console.specs.declared.progress.TheConstants.{ANSWER, KEPT};
+ghost use Rattle.console.specs.declared.progress.TheConstants.{ANSWER, ROOM};
 ghost use Rattle.console.specs.Answer.{text, answer_room, HasNoLongPdu};
 ghost use Rattle.std.specs.Str.Lines.{strip_carriage_return};
 ghost use Rattle.console.specs.Inside.Hand.{Holds, HoldsWith, line_at_end, StandsFor, StandsIn};
 
 use crate::answer::{Answer, print_answer};
 use crate::line::LONGEST;
-use crate::running::RunFault;
+use crate::running::{Ran, RunFault};
 use desk::Service;
 use std::alloc::{AllocError, Allocator};
 
 /// The most bytes of a line that are kept: a longest line and a carriage return.
-pub(crate) const KEPT: usize = LONGEST + 1;
+pub(crate) const ROOM: usize = LONGEST + 1;
 
 /// The line at hand, of which some bytes have come: those that the end of a read cut off from its end.
 #[derive(Drop)]
 pub(crate) struct LineAtHand<A: Allocator> {
     // Its bytes, while there are no more than that.
-    kept: Vec<u8, A>,
+    bytes: Vec<u8, A>,
     // There are more.
     long: bool,
-    ghost room: { KEPT ≤ vec_capacity kept },
+    ghost room: { ROOM ≤ vec_capacity bytes },
 }
 
 impl<A: Allocator> LineAtHand<A> {
-    /// No byte has come. Memory for all of a line is taken here.
-    fn new(alloc: A) -> Result<Self, AllocError>
-        ensures { IfOk result (λ hand. Holds hand.kept.items hand.long []) }
-    {
+    /// Takes memory for all of a line.
+    fn new(alloc: A) -> Result<Self, AllocError> {
         Ok(LineAtHand {
-            kept: Vec::with_capacity(alloc, KEPT)?,
+            bytes: Vec::with_capacity(alloc, ROOM)?,
             long: false,
         })
     }
 
     /// Adds bytes to the line.
     #[inline(always)]
-    pub(crate) fn keep(&mut self, run: &[u8])
-        ensures { (line : List ℕ) → Holds self.old.kept.items self.old.long line → Holds self.new.kept.items self.new.long (line ++ run.now) }
+    pub(crate) fn add(&mut self, run: &[u8])
+        ensures { (line : List ℕ) → Holds self.old.bytes.items self.old.long line → Holds self.new.bytes.items self.new.long (line ++ run.now) }
     {
         if self.long {
             return;
         }
-        if run.len() > KEPT || self.kept.len() > KEPT - run.len() {
+        if run.len() > ROOM || self.bytes.len() > ROOM - run.len() {
             self.long = true;
             return;
         }
-        self.kept.extend_from_slice(run).unwrap();
+        self.bytes.extend_from_slice(run).unwrap();
     }
 
     /// Adds the bytes that end the line, where some of it came before: else they are served where they lie.
     #[inline(always)]
     pub(crate) fn join(&mut self, run: &[u8])
-        ensures { (line : List ℕ) → Holds self.old.kept.items self.old.long line → HoldsWith self.new.kept.items self.new.long line run.now }
+        ensures { (line : List ℕ) → Holds self.old.bytes.items self.old.long line → HoldsWith self.new.bytes.items self.new.long line run.now }
     {
         if !self.is_empty() {
-            self.keep(run);
+            self.add(run);
         }
     }
 
     /// Whether no byte of it has come.
     #[inline(always)]
     pub(crate) fn is_empty(&self) -> bool
-        ensures { (line : List ℕ) → Holds self.now.kept.items self.now.long line → MatchBool result (line ≡ []) (0 < length line) }
+        ensures { (line : List ℕ) → Holds self.now.bytes.items self.now.long line → MatchBool result (line ≡ []) (0 < length line) }
     {
-        !self.long && self.kept.is_empty()
+        !self.long && self.bytes.is_empty()
     }
 
     /// The line, which has come to a line feed or to the end of the text; `None` where it is too long.
     #[inline(always)]
     pub(crate) fn line(&self, ended: bool) -> Option<&[u8]>
-        ensures { (line : List ℕ) → Holds self.now.kept.items self.now.long line → StandsFor (option_map (λ l. l.now) result) (line_at_end ended line) }
+        ensures { (line : List ℕ) → Holds self.now.bytes.items self.now.long line → StandsFor (option_map (λ l. l.now) result) (line_at_end ended line) }
     {
         if self.long {
             return None;
         }
-        let line = self.kept.as_slice();
+        let line = self.bytes.as_slice();
         if ended {
             return Some(without_return(line));
         }
@@ -87,7 +85,7 @@ impl<A: Allocator> LineAtHand<A> {
     /// long.
     #[inline(always)]
     pub(crate) fn ended<'a>(&'a self, run: &'a [u8]) -> Option<&'a [u8]>
-        ensures { (line : List ℕ) → HoldsWith self.now.kept.items self.now.long line run.now → StandsFor (option_map (λ l. l.now) result) (strip_carriage_return (line ++ run.now)) }
+        ensures { (line : List ℕ) → HoldsWith self.now.bytes.items self.now.long line run.now → StandsFor (option_map (λ l. l.now) result) (strip_carriage_return (line ++ run.now)) }
     {
         if self.is_empty() {
             return Some(without_return(run));
@@ -97,9 +95,9 @@ impl<A: Allocator> LineAtHand<A> {
 
     /// The next line begins.
     pub(crate) fn clear(&mut self)
-        ensures { Holds self.new.kept.items self.new.long [] }
+        ensures { Holds self.new.bytes.items self.new.long [] }
     {
-        self.kept.clear();
+        self.bytes.clear();
         self.long = false;
     }
 }
@@ -176,18 +174,35 @@ pub(crate) struct Progress<A: Allocator> {
 }
 
 impl<A: Allocator + Copy> Progress<A> {
-    /// Nothing has come. Memory is taken here alone: for the line at hand, and for the text of any answer
-    /// but a list.
-    pub(crate) fn new(alloc: A) -> Result<Self, AllocError>
-        ensures hand { IfOk result (λ p. Holds p.hand.kept.items p.hand.long []) }
-        ensures lines { IfOk result (λ p. p.lines ≡ 0) }
-        ensures troubled { IfOk result (λ p. p.troubled ≡ false) }
-    {
+    /// Memory is taken here alone: for the line at hand, and for the text of any answer but a list.
+    pub(crate) fn new(alloc: A) -> Result<Self, AllocError> {
         Ok(Progress {
             hand: LineAtHand::new(alloc)?,
             out: AnswerText::new(alloc)?,
             lines: 0,
             troubled: false,
         })
+    }
+
+    /// A run begins: nothing has come.
+    pub(crate) fn begin(&mut self)
+        ensures hand { Holds self.new.hand.bytes.items self.new.hand.long [] }
+        ensures lines { self.new.lines ≡ 0 }
+        ensures troubled { self.new.troubled ≡ false }
+    {
+        self.hand.clear();
+        self.lines = 0;
+        self.troubled = false;
+    }
+
+    /// What a run that came to the end of its text there has seen.
+    pub(crate) fn ran(&self) -> Ran
+        ensures lines { result.lines ≡ self.now.lines }
+        ensures troubled { result.troubled ≡ self.now.troubled }
+    {
+        Ran {
+            lines: self.lines,
+            troubled: self.troubled,
+        }
     }
 }

@@ -1,15 +1,16 @@
 //! Reading a text in pieces, to its end.
-ghost use Rattle.std.specs.Prelude.{◌≡◌, ◌⊎◌, IsErrOf, ◌≤◌, ◌<◌, ◌+◌, IfOk, OnErr};
+ghost use Rattle.std.specs.Prelude.{◌≡◌, ◌⊎◌, IsErrOf, ◌≤◌, ◌<◌, ◌+◌};
 ghost use Rattle.console.specs.Dialogue.{GivesLongPdu};
 ghost use Rattle.console.specs.Failures.{failures_told};
-ghost use Rattle.console.specs.Runs.{AnswersAll, AnswersSome};
+ghost use Rattle.console.specs.Runs.{IsRun};
 
 use crate::input::Input;
 use crate::output::Output;
 use crate::progress::Progress;
-use crate::serving::{finish, take_piece};
+use crate::serving::Run;
 use desk::Desk;
 use prefix_tree::Steps;
+use registration::Station;
 use std::alloc::Allocator;
 use std::io::{Read, Write};
 use std::marker::Brand;
@@ -50,16 +51,13 @@ pub enum Piece {
     Bytes(usize),
 }
 
-/// The most bytes that one call of the reader gives.
-const PIECE: usize = 65536;
-
 /// What a run is given beside its reader, its writer and its desk.
 #[derive(Clone, Copy)]
 pub struct Terms<A: Allocator + Copy> {
     /// Where the line at hand, commands, replies and answers lie.
     pub alloc: A,
-    /// Whose lines are read, from 1.
-    pub station: u16,
+    /// Whose lines are read.
+    pub station: Station,
     /// The most calls of the reader.
     pub turns: u32,
 }
@@ -80,10 +78,8 @@ pub fn run_counted<
     output: &mut Output<W, G>,
     desk: &mut D,
 ) -> Result<Ran, RunFault>
-    ensures ok { IfOk result (λ ran. AnswersAll A D.rules terms.station (D.world desk.old) (R.remaining input.old.reader.now) (W.contents output.old.writer.now)
-        ran (W.contents output.new.writer.now) (D.world desk.new)) }
-    ensures err { OnErr result (AnswersSome A D.rules terms.station (D.world desk.old) (R.remaining input.old.reader.now) (W.contents output.old.writer.now)
-        (W.contents output.new.writer.now) (D.world desk.new)) }
+    ensures answers { IsRun A D.rules (record { station = terms.station; world = D.world desk.old; unread = R.remaining input.old.reader.now; written = W.contents output.old.writer.now })
+        (record { result = result; world = D.world desk.new; written = W.contents output.new.writer.now }) }
     ensures calls { input.new.steps.now ≤ input.old.steps.now + terms.turns }
     ensures read { IsErrOf result RunFault.Read → (input.new.steps.now ≡ input.old.steps.now + terms.turns) ⊎ (input.old.faults.now < input.new.faults.now) }
     ensures write { output.new.failures.now ≡ output.old.failures.now + failures_told result }
@@ -97,17 +93,13 @@ pub fn run_counted<
     let Ok(mut progress) = Progress::new(terms.alloc) else {
         return Err(RunFault::NoMemory);
     };
-    let mut buffer = [0u8; PIECE];
-    for _ in 0..terms.turns {
-        match input.read(&mut buffer)? {
-            Piece::End => return finish(terms, &mut progress, output, desk),
-            Piece::Bytes(n) => {
-                let piece = &buffer[..n];
-                take_piece(terms, &mut progress, output, piece, desk)?;
-            }
-        }
-    }
-    Err(RunFault::Read)
+    let mut run = Run {
+        terms: &terms,
+        progress: &mut progress,
+        output,
+        desk,
+    };
+    run.take_all(input)
 }
 
 /// What the ledgers of a run are made of.
@@ -133,10 +125,8 @@ fn run_in<L: Ledger, F: Ledger, G: Ledger, A: Allocator + Copy + Drop, R: Read, 
     requires failures_name { blanks.failures.name ≡ G.name }
     requires failures_parts { blanks.failures.parts ≡ G.parts }
     requires failures_some { 0 < blanks.failures.parts }
-    ensures ok { IfOk result (λ ran. AnswersAll A D.rules terms.station (D.world desk.old) (R.remaining reader.old) (W.contents writer.old)
-        ran (W.contents writer.new) (D.world desk.new)) }
-    ensures err { OnErr result (AnswersSome A D.rules terms.station (D.world desk.old) (R.remaining reader.old) (W.contents writer.old)
-        (W.contents writer.new) (D.world desk.new)) }
+    ensures answers { IsRun A D.rules (record { station = terms.station; world = D.world desk.old; unread = R.remaining reader.old; written = W.contents writer.old })
+        (record { result = result; world = D.world desk.new; written = W.contents writer.new }) }
 {
     let Blanks {
         steps,
@@ -157,14 +147,12 @@ pub fn run<A: Allocator + Copy + Drop, R: Read, W: Write, D: Desk>(
     alloc: A,
     reader: &mut R,
     writer: &mut W,
-    station: u16,
+    station: Station,
     turns: u32,
     desk: &mut D,
 ) -> Result<Ran, RunFault>
-    ensures ok { IfOk result (λ ran. AnswersAll A D.rules station (D.world desk.old) (R.remaining reader.old) (W.contents writer.old)
-        ran (W.contents writer.new) (D.world desk.new)) }
-    ensures err { OnErr result (AnswersSome A D.rules station (D.world desk.old) (R.remaining reader.old) (W.contents writer.old)
-        (W.contents writer.new) (D.world desk.new)) }
+    ensures answers { IsRun A D.rules (record { station = station; world = D.world desk.old; unread = R.remaining reader.old; written = W.contents writer.old })
+        (record { result = result; world = D.world desk.new; written = W.contents writer.new }) }
 {
     let blanks = Blanks {
         steps: Blank::new(1),

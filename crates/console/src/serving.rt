@@ -1,22 +1,27 @@
 //! Answering lines as their bytes come.
-ghost use Rattle.std.specs.Prelude.{◌≡◌, ◌≤◌, ◌<◌, ◌+◌, ◌-◌, ◌^◌, ◌++◌, ◌∷◌, [], List, ℕ, length, take, drop, slice_get, MatchOption, option_map, IfOk, IfErr, OnOk, OnErr, Some};
-ghost use Rattle.console.specs.Answer.{text, is_trouble, HasNoLongPdu};
-ghost use Rattle.console.specs.Inside.Feed.{GoesOn, StopsWithin, EndsWell, EndsShort};
+ghost use Rattle.std.specs.Prelude.{◌≡◌, ◌⊎◌, IsErrOf, ◌≤◌, ◌<◌, ◌+◌, ◌-◌, ◌^◌, ◌++◌, ◌∷◌, [], List, ℕ, length, take, drop, slice_get, MatchOption, option_map, IfErr, OnOk, OnErr, Some};
+ghost use Rattle.console.specs.Answer.{HasNoLongPdu};
+ghost use Rattle.console.specs.Inside.Feed.{Sends, SendsFront, LeavesUnsent, GoesOn, StopsWithin, EndsSo, IsSameRun, stand_of, start_at, outcome_at};
 ghost use Rattle.console.specs.Failures.{failures_told};
 ghost use Rattle.console.specs.Inside.Hand.{HasNoEnd, StandsFor};
+ghost use Rattle.console.specs.Runs.{IsRun};
 ghost use Rattle.console.specs.Dialogue.{Answers, GivesLongPdu, Stops};
 ghost use Rattle.console.specs.declared.answer.Answer.{Answer};
 
 use crate::answer::Answer;
+use crate::input::Input;
 use crate::line::{Line, LineFault, read_line};
 use crate::output::Output;
-use crate::progress::{AnswerText, Progress};
-use crate::running::{Ran, RunFault, Terms};
+use crate::progress::Progress;
+use crate::running::{Piece, Ran, RunFault, Terms};
 use desk::{Desk, Service};
 use memchr::memchr;
 use std::alloc::Allocator;
-use std::io::Write;
+use std::io::{Read, Write};
 use std::sync::ledger::Ledger;
+
+/// The most bytes that one call of the reader gives.
+const PIECE: usize = 65536;
 
 /// The line of this number; `None` where it is too long.
 #[derive(Clone, Copy)]
@@ -28,11 +33,11 @@ struct Asked<'a> {
 /// Does what a station's line says.
 #[inline(always)]
 fn answer_line<A: Allocator + Copy, D: Desk>(
-    terms: Terms<A>,
+    terms: &Terms<A>,
     asked: Asked,
     desk: &mut D,
 ) -> Answer<A>
-    ensures answers { (whole : List ℕ) → StandsFor (option_map (λ l. l.now) asked.entry.line) whole → Answers D.rules terms.station asked.entry.number (D.world desk.old) whole result (D.world desk.new) }
+    ensures answers { (whole : List ℕ) → StandsFor (option_map (λ l. l.now) asked.entry.line) whole → Answers D.rules terms.now.station asked.entry.number (D.world desk.old) whole result (D.world desk.new) }
     ensures long { (HasNoLongPdu result → ⊥) → GivesLongPdu A D.rules }
 {
     let Some(line) = asked.line else {
@@ -41,72 +46,39 @@ fn answer_line<A: Allocator + Copy, D: Desk>(
     match read_line(terms.alloc, terms.station, line) {
         Ok(Line::Silent) => Answer::Quiet,
         Ok(Line::Bad(fault)) => Answer::Bad(asked.number, fault),
-        Ok(Line::Order(command)) => match desk.apply(terms.alloc, &command) {
+        Ok(Line::Apply(command)) => match desk.apply(terms.alloc, &command) {
             Ok(reply) => Answer::Replied(command.sequence, reply),
-            Err(word) => Answer::Unserved(command.sequence, word),
+            Err(word) => Answer::Unreplied(command.sequence, word),
         },
         Ok(Line::Ask(query)) => match desk.query(terms.alloc, &query) {
             Ok(told) => Answer::Told(told),
             Err(word) => Answer::Untold(asked.number, word),
         },
-        Err(unread) => Answer::Unserved(unread.sequence, Service::Memory),
+        Err(unread) => Answer::Unreplied(unread.sequence, Service::Memory),
     }
 }
 
-/// Does what a line says, and writes its answer, whose text is made in `out`.
+/// Writes the answer to the line at hand, and counts the line.
 #[inline(always)]
-fn serve<A: Allocator + Copy + Drop, W: Write, G: Ledger, D: Desk>(
-    terms: Terms<A>,
-    out: &mut AnswerText<A>,
-    output: &mut Output<W, G>,
-    asked: Asked,
-    desk: &mut D,
-) -> Result<bool, RunFault>
-    ensures ok { IfOk result (λ troubled. (whole before : List ℕ) → StandsFor (option_map (λ l. l.now) asked.entry.line) whole → W.contents output.old.writer.now ≡ Some before →
-        (a : Answer A) × Answers D.rules terms.station asked.entry.number (D.world desk.old) whole a (D.world desk.new)
-        × (W.contents output.new.writer.now ≡ Some (before ++ text a)) × (troubled ≡ is_trouble a)) }
-    ensures err { OnErr result ((whole before : List ℕ) → StandsFor (option_map (λ l. l.now) asked.entry.line) whole → W.contents output.old.writer.now ≡ Some before →
-        (a : Answer A) × (part : List ℕ) × (missing : List ℕ) × Answers D.rules terms.station asked.entry.number (D.world desk.old) whole a (D.world desk.new)
-        × (text a ≡ part ++ missing) × (W.contents output.new.writer.now ≡ Some (before ++ part))) }
-    ensures stops { IfErr result (λ e. Stops A D.rules e) }
-    ensures writer { output.new.writer.ghost_name ≡ output.old.writer.ghost_name }
-    ensures failures { output.new.failures.ghost_name ≡ output.old.failures.ghost_name }
-    ensures ledger { output.new.failures.now ≡ output.old.failures.now + failures_told result }
-{
-    let answer = answer_line(terms, asked, desk);
-    let held = out.hold(asked.number, answer)?;
-    output.send(out.as_slice())?;
-    Ok(held.is_trouble())
-}
-
-/// Takes bytes and the line feed behind them, and answers the line that it ends.
-#[inline(always)]
-fn take_line<A: Allocator + Copy + Drop, W: Write, G: Ledger, D: Desk>(
-    terms: Terms<A>,
+fn send_answer<A: Allocator + Copy + Drop, W: Write, G: Ledger>(
     progress: &mut Progress<A>,
+    answer: Answer<A>,
     output: &mut Output<W, G>,
-    run: &[u8],
-    desk: &mut D,
 ) -> Result<(), RunFault>
-    requires room { progress.old.lines + 1 < 2 ^ 64 }
-    requires plain { HasNoEnd run.now }
-    ensures ok { OnOk result (GoesOn D.rules terms.station progress.old (W.contents output.old.writer.now) (D.world desk.old) (run.now ++ 10 ∷ []) progress.new (W.contents output.new.writer.now) (D.world desk.new)) }
-    ensures err { OnErr result (StopsWithin D.rules terms.station progress.old (W.contents output.old.writer.now) (D.world desk.old) (run.now ++ 10 ∷ []) (W.contents output.new.writer.now) (D.world desk.new)) }
+    requires { progress.old.lines + 1 < 2 ^ 64 }
+    ensures ok { OnOk result (Sends progress.old (W.contents output.old.writer.now) answer progress.new (W.contents output.new.writer.now)) }
+    ensures err { OnErr result (SendsFront progress.old.lines (W.contents output.old.writer.now) answer (W.contents output.new.writer.now)) }
     ensures lines { progress.new.lines ≤ progress.old.lines + 1 }
-    ensures stops { IfErr result (λ e. Stops A D.rules e) }
+    ensures stops { IfErr result (λ e. LeavesUnsent answer e) }
     ensures writer { output.new.writer.ghost_name ≡ output.old.writer.ghost_name }
     ensures failures { output.new.failures.ghost_name ≡ output.old.failures.ghost_name }
     ensures ledger { output.new.failures.now ≡ output.old.failures.now + failures_told result }
 {
-    progress.hand.join(run);
     let number = progress.lines + 1;
-    let asked = Asked {
-        number,
-        line: progress.hand.ended(run),
-    };
-    let troubled = serve(terms, &mut progress.out, output, asked, desk)?;
+    let held = progress.out.hold(number, answer)?;
+    output.send(progress.out.as_slice())?;
     progress.lines = number;
-    progress.troubled = progress.troubled | troubled;
+    progress.troubled = progress.troubled | held.is_trouble();
     progress.hand.clear();
     Ok(())
 }
@@ -121,61 +93,113 @@ fn next_end(piece: &[u8], at: usize) -> Option<usize>
     Some(at + length)
 }
 
-/// Takes a piece of the text, and answers each line that it ends.
-pub(crate) fn take_piece<A: Allocator + Copy + Drop, W: Write, G: Ledger, D: Desk>(
-    terms: Terms<A>,
-    progress: &mut Progress<A>,
-    output: &mut Output<W, G>,
-    piece: &[u8],
-    desk: &mut D,
-) -> Result<(), RunFault>
-    requires { progress.old.lines + length piece.now < 2 ^ 64 }
-    ensures ok { OnOk result (GoesOn D.rules terms.station progress.old (W.contents output.old.writer.now) (D.world desk.old) piece.now progress.new (W.contents output.new.writer.now) (D.world desk.new)) }
-    ensures err { OnErr result (StopsWithin D.rules terms.station progress.old (W.contents output.old.writer.now) (D.world desk.old) piece.now (W.contents output.new.writer.now) (D.world desk.new)) }
-    ensures lines { progress.new.lines ≤ progress.old.lines + length piece.now }
-    ensures stops { IfErr result (λ e. Stops A D.rules e) }
-    ensures writer { output.new.writer.ghost_name ≡ output.old.writer.ghost_name }
-    ensures failures { output.new.failures.ghost_name ≡ output.old.failures.ghost_name }
-    ensures ledger { output.new.failures.now ≡ output.old.failures.now + failures_told result }
-{
-    let mut at = 0;
-    while let Some(end) = next_end(piece, at) {
-        take_line(terms, progress, output, &piece[at..end], desk)?;
-        at = end + 1;
-    }
-    progress.hand.keep(&piece[at..]);
-    Ok(())
+/// A run: what it is given, how far it has come, where its answers go, and the desk that it asks.
+#[derive(Drop)]
+pub(crate) struct Run<'t, 'p, 'o, 'd, 'w, 'f, A: Allocator + Copy, W: Write, G: Ledger, D: Desk> {
+    pub(crate) terms: &'t Terms<A>,
+    pub(crate) progress: &'p mut Progress<A>,
+    pub(crate) output: &'o mut Output<'w, 'f, W, G>,
+    pub(crate) desk: &'d mut D,
 }
 
-/// Answers the last line, where the text doesn't end in a line feed.
-pub(crate) fn finish<A: Allocator + Copy + Drop, W: Write, G: Ledger, D: Desk>(
-    terms: Terms<A>,
-    progress: &mut Progress<A>,
-    output: &mut Output<W, G>,
-    desk: &mut D,
-) -> Result<Ran, RunFault>
-    requires { progress.old.lines + 1 < 2 ^ 64 }
-    ensures ok { IfOk result (λ ran. EndsWell D.rules terms.station progress.old (W.contents output.old.writer.now) (D.world desk.old) ran (W.contents output.new.writer.now) (D.world desk.new)) }
-    ensures err { OnErr result (EndsShort D.rules terms.station progress.old (W.contents output.old.writer.now) (D.world desk.old) (W.contents output.new.writer.now) (D.world desk.new)) }
-    ensures stops { IfErr result (λ e. Stops A D.rules e) }
-    ensures writer { output.new.writer.ghost_name ≡ output.old.writer.ghost_name }
-    ensures failures { output.new.failures.ghost_name ≡ output.old.failures.ghost_name }
-    ensures ledger { output.new.failures.now ≡ output.old.failures.now + failures_told result }
-{
-    if progress.hand.is_empty() {
-        return Ok(Ran {
-            lines: progress.lines,
-            troubled: progress.troubled,
-        });
+impl<'t, 'p, 'o, 'd, 'w, 'f, A: Allocator + Copy + Drop, W: Write, G: Ledger, D: Desk> Run<
+    't,
+    'p,
+    'o,
+    'd,
+    'w,
+    'f,
+    A,
+    W,
+    G,
+    D,
+> {
+    /// Takes bytes and the line feed behind them, and answers the line that it ends.
+    #[inline(always)]
+    fn take_line(&mut self, run: &[u8]) -> Result<(), RunFault>
+        requires room { self.old.progress.now.lines + 1 < 2 ^ 64 }
+        requires plain { HasNoEnd run.now }
+        ensures ok { OnOk result (GoesOn D.rules (stand_of D.world W.contents self.old) (run.now ++ 10 ∷ []) (stand_of D.world W.contents self.new)) }
+        ensures err { IfErr result (λ e. StopsWithin D.rules (stand_of D.world W.contents self.old) (run.now ++ 10 ∷ []) e (stand_of D.world W.contents self.new)) }
+        ensures lines { self.new.progress.now.lines ≤ self.old.progress.now.lines + 1 }
+        ensures stops { IfErr result (λ e. Stops A D.rules e) }
+        ensures same { IsSameRun self.old self.new }
+        ensures ledger { self.new.output.now.failures.now ≡ self.old.output.now.failures.now + failures_told result }
+    {
+        let progress = &mut *self.progress;
+        progress.hand.join(run);
+        let asked = Asked {
+            number: progress.lines + 1,
+            line: progress.hand.ended(run),
+        };
+        let answer = answer_line(self.terms, asked, self.desk);
+        send_answer(progress, answer, self.output)
     }
-    let number = progress.lines + 1;
-    let asked = Asked {
-        number,
-        line: progress.hand.line(false),
-    };
-    let troubled = serve(terms, &mut progress.out, output, asked, desk)?;
-    Ok(Ran {
-        lines: number,
-        troubled: progress.troubled | troubled,
-    })
+
+    /// Takes a piece of the text, and answers each line that it ends.
+    fn take_piece(&mut self, piece: &[u8]) -> Result<(), RunFault>
+        requires { self.old.progress.now.lines + length piece.now < 2 ^ 64 }
+        ensures ok { OnOk result (GoesOn D.rules (stand_of D.world W.contents self.old) piece.now (stand_of D.world W.contents self.new)) }
+        ensures err { IfErr result (λ e. StopsWithin D.rules (stand_of D.world W.contents self.old) piece.now e (stand_of D.world W.contents self.new)) }
+        ensures lines { self.new.progress.now.lines ≤ self.old.progress.now.lines + length piece.now }
+        ensures stops { IfErr result (λ e. Stops A D.rules e) }
+        ensures same { IsSameRun self.old self.new }
+        ensures ledger { self.new.output.now.failures.now ≡ self.old.output.now.failures.now + failures_told result }
+    {
+        let mut at = 0;
+        while let Some(end) = next_end(piece, at) {
+            self.take_line(&piece[at..end])?;
+            at = end + 1;
+        }
+        self.progress.hand.add(&piece[at..]);
+        Ok(())
+    }
+
+    /// Answers the last line, where the text doesn't end in a line feed.
+    fn finish(&mut self) -> Result<Ran, RunFault>
+        requires { self.old.progress.now.lines + 1 < 2 ^ 64 }
+        ensures ends { EndsSo D.rules (stand_of D.world W.contents self.old) (outcome_at (stand_of D.world W.contents self.new) result) }
+        ensures stops { IfErr result (λ e. Stops A D.rules e) }
+        ensures same { IsSameRun self.old self.new }
+        ensures ledger { self.new.output.now.failures.now ≡ self.old.output.now.failures.now + failures_told result }
+    {
+        let progress = &mut *self.progress;
+        if progress.hand.is_empty() {
+            return Ok(progress.ran());
+        }
+        let asked = Asked {
+            number: progress.lines + 1,
+            line: progress.hand.line(false),
+        };
+        let answer = answer_line(self.terms, asked, self.desk);
+        send_answer(progress, answer, self.output)?;
+        Ok(progress.ran())
+    }
+
+    /// Begins the run, takes all that the reader gives, in as many calls as the run has, and answers each
+    /// line of it.
+    pub(crate) fn take_all<R: Read, L: Ledger, F: Ledger>(
+        &mut self,
+        input: &mut Input<R, L, F>,
+    ) -> Result<Ran, RunFault>
+        ensures answers { IsRun A D.rules (start_at (stand_of D.world W.contents self.old) (R.remaining input.old.reader.now)) (outcome_at (stand_of D.world W.contents self.new) result) }
+        ensures calls { input.new.steps.now ≤ input.old.steps.now + self.old.terms.now.turns }
+        ensures read { IsErrOf result RunFault.Read → (input.new.steps.now ≡ input.old.steps.now + self.old.terms.now.turns) ⊎ (input.old.faults.now < input.new.faults.now) }
+        ensures ledger { self.new.output.now.failures.now ≡ self.old.output.now.failures.now + failures_told result }
+        ensures memory { IsErrOf result RunFault.NoMemory → GivesLongPdu A D.rules }
+        ensures reader { input.new.reader.ghost_name ≡ input.old.reader.ghost_name }
+        ensures steps { input.new.steps.ghost_name ≡ input.old.steps.ghost_name }
+        ensures faults { input.new.faults.ghost_name ≡ input.old.faults.ghost_name }
+        ensures same { IsSameRun self.old self.new }
+    {
+        self.progress.begin();
+        let mut buffer = [0u8; PIECE];
+        for _ in 0..self.terms.turns {
+            match input.read(&mut buffer)? {
+                Piece::End => return self.finish(),
+                Piece::Bytes(n) => self.take_piece(&buffer[..n])?,
+            }
+        }
+        Err(RunFault::Read)
+    }
 }

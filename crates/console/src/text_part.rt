@@ -1,6 +1,6 @@
 //! The parts of an answer's text.
 ghost use Rattle.std.specs.Prelude.{◌≡◌, ◌≤◌, ◌<◌, ◌+◌, ◌++◌, OnOk, OnErr, length, vec_len, vec_capacity};
-ghost use Rattle.identity.specs.NumberText.{Keeps};
+ghost use Rattle.identity.specs.NumberText.{IsFrontOf};
 ghost use Rattle.console.specs.Answer.{pdu_text};
 ghost use Rattle.centre_core.specs.Ranges.{IsShort};
 ghost use Rattle.console.specs.Inside.Parts.{part_text, parts_text, part_room, parts_room, pdu_room};
@@ -74,7 +74,7 @@ pub(crate) fn put_parts<A: Allocator, B: Allocator>(
     parts: &[Part<'_, B>],
 ) -> Result<(), AllocError>
     ensures ok { OnOk result (out.new.items ≡ out.old.items ++ parts_text parts.now) }
-    ensures err { OnErr result (Keeps out.old.items out.new.items) }
+    ensures err { OnErr result (IsFrontOf out.old.items out.new.items) }
     ensures full { OnErr result (vec_capacity out.old < vec_len out.old + length (parts_text parts.now)) }
     ensures capacity { vec_capacity out.old ≤ vec_capacity out.new }
     ensures line { OnErr result (vec_capacity out.old < vec_len out.old + parts_room parts.now) }

@@ -1,8 +1,9 @@
 //! Single calls: a line is read, an answer is printed.
 
-use crate::served::order;
+use crate::answered::command;
 use centre_core::{Body, Command, Query, Told};
 use console::{Answer, Line, LineFault, Service, laws, parse_line, print_answer};
+use registration::Station;
 use std::alloc::Global;
 use std::test::Fail;
 
@@ -10,16 +11,17 @@ fn is_attach(command: &Command<Global>) -> bool {
     let Body::Mm { itsi, area, pdu } = &command.body else {
         return false;
     };
-    (command.station, command.sequence, command.moment) == (3, 2, 10)
+    let (station, sequence) = (command.station.number(), command.sequence.number());
+    (station, sequence, command.moment.number()) == (3, 2, 10)
         && (itsi.ssi(), area.number(), pdu.len()) == (2001, 7, 10)
 }
 
 #[test]
 fn lines_are_read(rt: HostRuntime) -> Result<(), Fail> {
-    assert!(rt; is_attach(&order(rt.alloc(), 3, "2 10 mm 234-14-2001 7 10:260")?));
-    let query = parse_line(rt.alloc(), 3, b"where 234-14-2001");
+    assert!(rt; is_attach(&command(rt.alloc(), 3, "2 10 mm 234-14-2001 7 10:260")?));
+    let query = parse_line(rt.alloc(), Station::new(3), b"where 234-14-2001");
     assert!(rt; matches!(query, Ok(Line::Ask(Query::Whereabouts(_)))));
-    let bad = parse_line(rt.alloc(), 3, b"x");
+    let bad = parse_line(rt.alloc(), Station::new(3), b"x");
     assert!(rt; matches!(bad, Ok(Line::Bad(LineFault::Syntax))));
     Ok(())
 }

@@ -1,9 +1,11 @@
 //! Commands by themselves: what can be one, and copies of one.
 
-use crate::served::order;
-use centre_core::{Body, Command};
+use crate::answered::command;
+use centre_core::{Body, Command, Sequence};
 use identity::{BitWriter, Bits, Itsi};
 use linked_list_allocator::LocalHeap;
+use mailbox::Moment;
+use registration::Station;
 use std::alloc::Global;
 use std::test::Fail;
 
@@ -25,8 +27,18 @@ fn message(alloc: Global, bits: u32) -> Result<Body<Global>, Fail> {
     })
 }
 
+/// A command of station 1.
+fn made(sequence: u32, body: Body<Global>) -> Option<Command<Global>> {
+    Command::new(
+        Station::new(1),
+        Sequence::new(sequence)?,
+        Moment::new(0),
+        body,
+    )
+}
+
 fn is_made(alloc: Global, sequence: u32, bits: u32) -> Result<bool, Fail> {
-    Ok(Command::new(1, sequence, 0, message(alloc, bits)?).is_some())
+    Ok(made(sequence, message(alloc, bits)?).is_some())
 }
 
 #[test]
@@ -37,15 +49,26 @@ fn a_command_has_a_sequence_and_a_pdu_in_range(rt: HostRuntime) -> Result<(), Fa
     Ok(())
 }
 
-/// Whether the copy of this order in a heap has its head.
+#[test]
+fn a_sequence_counts_from_1(rt: HostRuntime) -> Result<(), Fail> {
+    assert!(rt; Sequence::new(0).is_none());
+    for number in [1, 2, u32::MAX] {
+        assert!(rt; Sequence::new(number).ok_or("a sequence")?.number() == number);
+    }
+    assert!(rt; Sequence::new(1) != Sequence::new(2));
+    Ok(())
+}
+
+/// Whether the copy of this command in a heap has its head.
 fn is_copied_with_its_head(alloc: Global, heap: &LocalHeap, line: &str) -> Result<bool, Fail> {
-    let copy = order(alloc, 4, line)?.try_copy(heap)?;
-    Ok((copy.station, copy.sequence, copy.moment) == (4, 7, 100))
+    let copy = command(alloc, 4, line)?.try_copy(heap)?;
+    let (station, sequence) = (copy.station.number(), copy.sequence.number());
+    Ok((station, sequence, copy.moment.number()) == (4, 7, 100))
 }
 
 /// Whether a message of so many bits can be copied into this heap.
 fn is_copied(alloc: Global, heap: &LocalHeap, bits: u32) -> Result<bool, Fail> {
-    let command = Command::new(1, 1, 0, message(alloc, bits)?).ok_or("a command")?;
+    let command = made(1, message(alloc, bits)?).ok_or("a command")?;
     Ok(command.try_copy(heap).is_ok())
 }
 

@@ -1,7 +1,7 @@
 //! A copy of a register answers as the register did, whatever comes to the register then.
 
+use crate::answered::are_answered;
 use crate::limits::usual;
-use crate::served::are_answered;
 use centre_core::Register;
 use prefix_tree::TryCopy;
 use std::alloc::Global;

@@ -4,6 +4,7 @@
 use crate::limits::usual;
 use centre_core::Register;
 use console::{Ran, RunFault, run};
+use registration::Station;
 use std::alloc::Global;
 use std::cell::Cell;
 use std::io;
@@ -19,7 +20,7 @@ fn over<R: Read, W: Write>(
 ) -> Result<(Result<Ran, RunFault>, u64), Fail> {
     let limits = usual()?;
     let mut desk = Register::new(alloc, limits)?;
-    let ran = run(alloc, reader, writer, 1, turns, &mut desk);
+    let ran = run(alloc, reader, writer, Station::new(1), turns, &mut desk);
     Ok((ran, desk.count()))
 }
 

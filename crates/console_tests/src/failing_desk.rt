@@ -3,9 +3,9 @@
 ghost use Rattle.std.specs.Prelude.{true};
 ghost use Rattle.desk.specs.OfStore.{Stored, of_store};
 
+use crate::answered::are_answered;
 use crate::limits::usual;
-use crate::served::are_answered;
-use centre_core::{Command, Query, Register, Reply, Told};
+use centre_core::{Command, Query, Register, Reply, Sequence, Told};
 use console::{Answer, Desk, Service, print_answer};
 use std::alloc::{Allocator, Global};
 use std::test::Fail;
@@ -64,7 +64,13 @@ impl<A: Allocator + Clone> Desk for FailingDesk<A> {
 }
 
 /// Whether these are the answers at a new desk with so much room and so many sound commands.
-fn is_served(alloc: Global, room: u32, sound: u32, lines: &str, want: &str) -> Result<bool, Fail> {
+fn is_answered(
+    alloc: Global,
+    room: u32,
+    sound: u32,
+    lines: &str,
+    want: &str,
+) -> Result<bool, Fail> {
     let limits = usual()?;
     let register = Register::new(alloc, limits)?;
     let mut desk = FailingDesk {
@@ -78,7 +84,7 @@ fn is_served(alloc: Global, room: u32, sound: u32, lines: &str, want: &str) -> R
 }
 
 /// Room, sound commands, lines and answers.
-const SERVED: [(u32, u32, &str, &str); 2] = [
+const ROWS: [(u32, u32, &str, &str); 2] = [
     (
         9,
         1,
@@ -93,9 +99,9 @@ const SERVED: [(u32, u32, &str, &str); 2] = [
     ),
 ];
 
-fn all_are_served(alloc: Global) -> Result<bool, Fail> {
-    for (room, sound, lines, want) in SERVED {
-        if !is_served(alloc, room, sound, lines, want)? {
+fn all_are_answered(alloc: Global) -> Result<bool, Fail> {
+    for (room, sound, lines, want) in ROWS {
+        if !is_answered(alloc, room, sound, lines, want)? {
             return Ok(false);
         }
     }
@@ -104,7 +110,7 @@ fn all_are_served(alloc: Global) -> Result<bool, Fail> {
 
 #[test]
 fn behind_a_failure_the_desk_is_broken(rt: HostRuntime) -> Result<(), Fail> {
-    assert!(rt; all_are_served(rt.alloc())?);
+    assert!(rt; all_are_answered(rt.alloc())?);
     Ok(())
 }
 
@@ -116,8 +122,9 @@ const WORDS: [(Service, &str); 4] = [
 ];
 
 fn are_printed(alloc: Global) -> Result<bool, Fail> {
+    let sequence = Sequence::new(7).ok_or("a sequence")?;
     for (word, want) in WORDS {
-        let answer: Answer<Global> = Answer::Unserved(7, word);
+        let answer: Answer<Global> = Answer::Unreplied(sequence, word);
         let mut out = Vec::new(alloc);
         print_answer(&mut out, &answer)?;
         if out.as_slice() != want.as_bytes() || !answer.is_trouble() {

@@ -1,8 +1,8 @@
 //! A register and its console in a heap of fixed size: rounds of 12 commands, more than 10,000 in all, end where they began and
 //! take no more of it than the first round does; and once the register is gone every byte is free again.
 
+use crate::answered::are_answered;
 use crate::limits::usual;
-use crate::served::are_answered;
 use centre_core::Register;
 use identity::print_number;
 use linked_list_allocator::LocalHeap;

@@ -1,7 +1,7 @@
 //! Runs over registers with room for one item and for two: a message to a group of two waits for both or for nobody.
 
+use crate::answered::answers;
 use crate::limits::limits;
-use crate::served::answers;
 use centre_core::Register;
 use std::alloc::Global;
 use std::test::Fail;

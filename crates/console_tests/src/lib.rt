@@ -2,6 +2,8 @@
 #![tactic(auto)]
 
 #[cfg(test)]
+mod answered;
+#[cfg(test)]
 mod calls;
 #[cfg(test)]
 mod commands;
@@ -19,7 +21,5 @@ mod group_copies;
 mod limits;
 #[cfg(test)]
 mod parts;
-#[cfg(test)]
-mod served;
 #[cfg(test)]
 mod small_heaps;

@@ -1,7 +1,7 @@
 //! The parts that a register lends.
 
+use crate::answered::are_answered;
 use crate::limits::usual;
-use crate::served::are_answered;
 use centre_core::Register;
 use identity::Itsi;
 use std::alloc::Global;
@@ -24,7 +24,7 @@ fn are_lent(register: &Register<Global>, here: Itsi) -> bool {
         && attachment.is_some_and(|attachment| attachment.gtsi.ssi() == 1000)
         && item.is_some_and(|item| item.number() == 4)
         && register.served().len() == 4
-        && (last.sequence, last.number) == (4, 4)
+        && (last.sequence.number(), last.number) == (4, 4)
         && last.pdu.is_none()
 }
 

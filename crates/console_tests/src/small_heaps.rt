@@ -1,7 +1,7 @@
 //! A run in heaps of rising size, its own or its register's: each growth is refused in turn, and the answer says so.
 
+use crate::answered::answers;
 use crate::limits::usual;
-use crate::served::answers;
 use centre_core::Register;
 use linked_list_allocator::LocalHeap;
 use std::alloc::Global;
@@ -38,10 +38,10 @@ fn front_of(text: &[u8]) -> usize {
 }
 
 /// How the answers begin where the run's memory and the register's have so many bytes; 0 where one of them can't be made.
-fn reached(alloc: Global, own: usize, kept: usize) -> Result<usize, Fail> {
+fn reached(alloc: Global, own: usize, other: usize) -> Result<usize, Fail> {
     let limits = usual()?;
-    let (own, kept) = (LocalHeap::new(alloc, own)?, LocalHeap::new(alloc, kept)?);
-    let Ok(mut desk) = Register::new(&kept, limits) else {
+    let (own, other) = (LocalHeap::new(alloc, own)?, LocalHeap::new(alloc, other)?);
+    let Ok(mut desk) = Register::new(&other, limits) else {
         return Ok(0);
     };
     Ok(answers(alloc, &own, &mut desk, LINES.as_bytes()).map_or(0, |out| front_of(&out)))

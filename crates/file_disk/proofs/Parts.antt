@@ -74,8 +74,8 @@ abbrev pub IsFront : List ℕ → List ℕ → ℕ → Type 0
 IsFront bytes whole done = take done bytes ≡ take done whole
 
 pub front_on : (bytes was whole : List ℕ) (done n : ℕ) → IsFront was whole done → take done bytes ≡ take done was → take n (drop done bytes) ≡ take n (drop done whole) → IsFront bytes whole (done + n)
-front_on bytes was whole done n front kept more =
-    take-add done n bytes ∙ ap (λ (l : List ℕ). l ++ take n (drop done bytes)) (kept ∙ front) ∙ ap (λ (l : List ℕ). take done whole ++ l) more ∙ sym (take-add done n whole)
+front_on bytes was whole done n front same more =
+    take-add done n bytes ∙ ap (λ (l : List ℕ). l ++ take n (drop done bytes)) (same ∙ front) ∙ ap (λ (l : List ℕ). take done whole ++ l) more ∙ sym (take-add done n whole)
 
 pub whole_front : (bytes whole : List ℕ) (done : ℕ) → IsFront bytes whole done → done ≡ 512 → length bytes ≡ 512 → length whole ≡ 512 → bytes ≡ whole
 whole_front bytes whole done front all size_bytes size_whole =
@@ -84,9 +84,9 @@ whole_front bytes whole done front all size_bytes size_whole =
 -- one call more
 pub read_on : (old mid new : View) (at done n : ℕ) (was bytes : List ℕ) → HasLooked old mid → IsFront was (sector old.reads at) done → take done bytes ≡ take done was → HasReadPart mid new at done (drop done bytes) (Ok n)
     → HasLooked old new × IsFront bytes (sector old.reads at) (done + n)
-read_on old mid new at done n was bytes looked front kept read =
+read_on old mid new at done n was bytes looked front same read =
     let given : take n (drop done bytes) ≡ take n (drop done (sector old.reads at)) = rw (← looked.reads) read.given in
-    (looked_on old mid new looked read.looked, front_on bytes was (sector old.reads at) done n front kept given)
+    (looked_on old mid new looked read.looked, front_on bytes was (sector old.reads at) done n front same given)
 
 -- the last one failed
 pub read_failed : (old mid new : View) (at done : ℕ) (some bytes : List ℕ) (r : Result ℕ DiskError) (result : Result Unit DiskError) → HasLooked old mid → HasReadPart mid new at done some r → IsErr result → HasRead old new at bytes result
@@ -117,7 +117,7 @@ module _ (at : ℕ) (bytes : List ℕ) where
   nothing_put file honest = record {
     rest = record {
       honest = honest;
-      time = record { later = omega arith; keeps = λ t image le was. was; nothing_else = λ t image le was. inl was };
+      time = record { later = omega arith; each_stays = λ t image le was. was; nothing_else = λ t image le was. inl was };
       count = refl;
       others = λ k other. refl;
       others_pending = λ k other. refl;
@@ -137,7 +137,7 @@ module _ (at : ℕ) (bytes : List ℕ) where
   image_on mid new wrote marked image is = record {
     count = is.count ∙ sym wrote.count;
     whole = is.whole;
-    kept = λ k clear. elim (cases_eq k at) [ inl same ↦ here k same clear | inr other ↦ is.kept k (sym (wrote.others_pending k other) ∙ clear) ∙ sym (wrote.others k other) ];
+    others = λ k clear. elim (cases_eq k at) [ inl same ↦ here k same clear | inr other ↦ is.others k (sym (wrote.others_pending k other) ∙ clear) ∙ sym (wrote.others k other) ];
   }
     where
       was_clear : (b : Bool) → (b ≡ true → new.pending at ≡ true) → new.pending at ≡ false → b ≡ false
@@ -150,7 +150,7 @@ module _ (at : ℕ) (bytes : List ℕ) where
           rw same (elim marked [
             | inl was ↦ absurd (not_both (wrote.still_pending was) off)
             | inr (inl on) ↦ absurd (not_both on off)
-            | inr (inr equal) ↦ is.kept at (was_clear (mid.pending at) wrote.still_pending off) ∙ sym equal
+            | inr (inr equal) ↦ is.others at (was_clear (mid.pending at) wrote.still_pending off) ∙ sym equal
           ])
 
   -- one write after another, where each image between them is one of before or one of after
@@ -160,7 +160,7 @@ module _ (at : ℕ) (bytes : List ℕ) where
     honest = wrote.honest;
     time = record {
       later = omega (arith, was.time.later, wrote.time.later);
-      keeps = λ t image le left. wrote.time.keeps t image (omega (arith, le, was.time.later)) (was.time.keeps t image le left);
+      each_stays = λ t image le left. wrote.time.each_stays t image (omega (arith, le, was.time.later)) (was.time.each_stays t image le left);
       nothing_else = λ t image le left. ⊎_elim (λ earlier. ⊎_elim inl (between t image le) (was.time.nothing_else t image le earlier)) inr
           (wrote.time.nothing_else t image (omega (arith, le, was.time.later)) left);
     };
@@ -232,9 +232,9 @@ module _ (at : ℕ) (bytes : List ℕ) where
       unmoved off same image is = record {
         count = is.count ∙ put.rest.count;
         whole = is.whole;
-        kept = λ k clear. elim (cases_eq k at) [
-          | inl here ↦ rw here (is.kept at off ∙ same)
-          | inr other ↦ is.kept k (put.rest.others_pending k other ∙ clear) ∙ put.rest.others k other
+        others = λ k clear. elim (cases_eq k at) [
+          | inl here ↦ rw here (is.others at off ∙ same)
+          | inr other ↦ is.others k (put.rest.others_pending k other ∙ clear) ∙ put.rest.others k other
         ];
       }
 

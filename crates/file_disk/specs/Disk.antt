@@ -1,5 +1,6 @@
 -- A disk over a file.
 use Rattle.std.specs.Prelude.{◌≡◌, ℕ, ◌<◌, Bool, false, [], replicate, Result, Ok, Err}
+use Rattle.sector_disk.specs.Numbers.{Sector, Sectors}
 use Rattle.sector_disk.specs.Disk.{View, IsSound, one_failure_more, sector}
 use Rattle.sector_disk.specs.declared.disk.DiskError.{DiskError}
 use Rattle.sector_disk.specs.declared.disk.DiskError.TheVariants.{DiskFault, OutOfRange}
@@ -47,8 +48,8 @@ pub record IsNew {F : Type 0} (disk : FileDisk F) : Type 0 where
   pub lost : disk.lost ≡ false
 
 -- an honest disk of so many sectors of zeros, which no stop takes back
-pub record IsBlank {F : Type 0} (view : F → View) (sectors : ℕ) (disk : FileDisk F) : Type 0 where
+pub record IsBlank {F : Type 0} (view : F → View) (sectors : Sectors) (disk : FileDisk F) : Type 0 where
   pub honest : (file_view view disk).honest
   pub count : disk.sectors ≡ sectors
-  pub zeros : (k : ℕ) → k < sectors → sector (view disk.file).reads k ≡ replicate 512 0
-  pub durable : (k : ℕ) → (view disk.file).pending k ≡ false
+  pub zeros : (k : Sector) → k < sectors → sector (view disk.file).reads k ≡ replicate 512 0
+  pub durable : (k : Sector) → (view disk.file).pending k ≡ false

@@ -4,6 +4,7 @@ use Rattle.std.specs.IoError.{error_kind}
 use Rattle.std.specs.declared.io.Error.{Error}
 use Rattle.std.specs.declared.io.ErrorKind.{ErrorKind}
 use Rattle.std.specs.declared.io.ErrorKind.TheVariants.{Interrupted}
+use Rattle.sector_disk.specs.Numbers.{Byte, Sector, Bytes}
 use Rattle.sector_disk.specs.Disk.{View, HasFailed, HasWritten, sector}
 use Rattle.sector_disk.specs.Run.{HasLooked}
 use Rattle.sector_disk.specs.declared.disk.DiskError.{DiskError}
@@ -15,7 +16,7 @@ is_interrupted Interrupted = true
 is_interrupted _ = false
 
 -- how many bytes a call has moved: none where it was interrupted; any other error, and no byte at all, is a fault
-abbrev pub moved : Result ℕ Error → Result ℕ DiskError
+abbrev pub moved : Result Bytes Error → Result Bytes DiskError
 moved (Ok n) = if n == 0 then Err DiskFault else Ok n
 moved (Err e) = if is_interrupted (error_kind e) then Ok 0 else Err DiskFault
 
@@ -41,12 +42,12 @@ abbrev pub HasGivenUp : View → View → ℕ → ℕ → Type 0
 HasGivenUp old new turns_before turns_after = HasFailed old new ⊎ HaveTurned most_calls turns_before turns_after
 
 -- A read gives bytes of the sector from one of its bytes on, and changes no image.
-pub record HasReadPart (old new : View) (at from : ℕ) (bytes : List ℕ) (result : Result ℕ DiskError) : Type 0 where
+pub record HasReadPart (old new : View) (at : Sector) (from : Bytes) (bytes : List Byte) (result : Result Bytes DiskError) : Type 0 where
   pub looked : HasLooked old new
   pub given : IfOk result (λ n. take n bytes ≡ take n (drop from (sector old.reads at)))
 
 -- A write puts bytes into the sector from one of its bytes on. What stands before these stays. What it has changed is pending, where it has not failed.
-pub record HasWrittenPart (old new : View) (at from : ℕ) (bytes : List ℕ) (result : Result ℕ DiskError) : Type 0 where
+pub record HasWrittenPart (old new : View) (at : Sector) (from : Bytes) (bytes : List Byte) (result : Result Bytes DiskError) : Type 0 where
   -- the rest of the file is as after a write of the sector that failed
   pub rest : HasWritten old new at bytes (Err DiskFault)
   pub before : IfOk result (λ n. take from (sector new.reads at) ≡ take from (sector old.reads at))

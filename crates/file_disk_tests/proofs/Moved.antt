@@ -28,7 +28,7 @@ pub nothing_written : (file : View) (at from : ℕ) (bytes : List ℕ) (r : Resu
 nothing_written file at from bytes r honest none = record {
   rest = record {
     honest = honest;
-    time = record { later = omega arith; keeps = λ t image le was. was; nothing_else = λ t image le was. inl was };
+    time = record { later = omega arith; each_stays = λ t image le was. was; nothing_else = λ t image le was. inl was };
     count = refl;
     others = λ k other. refl;
     others_pending = λ k other. refl;
@@ -43,7 +43,7 @@ nothing_written file at from bytes r honest none = record {
 -- a call of the disk is one of the file
 module _ {D : Type 0} (view : D → View) (old new : PartFile D) (at from : ℕ) (bytes : List ℕ) (r : Result ℕ DiskError) where
   elapsed : Elapses (view old.disk) (view new.disk) → Elapses (part_view view old) (part_view view new)
-  elapsed time = record { later = time.later; keeps = time.keeps; nothing_else = time.nothing_else }
+  elapsed time = record { later = time.later; each_stays = time.each_stays; nothing_else = time.nothing_else }
 
   pub read_as_file : HasReadPart (view old.disk) (view new.disk) at from bytes r → HasReadPart (part_view view old) (part_view view new) at from bytes r
   read_as_file is = record { looked = record { honest = is.looked.honest; reads = is.looked.reads; pending = is.looked.pending; time = elapsed is.looked.time }; given = is.given }

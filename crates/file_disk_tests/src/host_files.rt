@@ -49,8 +49,8 @@ fn a_file_is_made_locked_and_adopted(rt: HostRuntime) -> Result<(), Fail> {
     fs::create_dir(&rt, "made")?;
     let bytes = pattern();
     for path in ["made.disk", "made/in.disk"] {
-        let kept = is_made(&rt, path, &bytes) && is_adopted(&rt, path, &bytes);
-        assert_eq!(rt; (kept, length(&rt, path)?), (true, 1536));
+        let stands = is_made(&rt, path, &bytes) && is_adopted(&rt, path, &bytes);
+        assert_eq!(rt; (stands, length(&rt, path)?), (true, 1536));
     }
     let _ = fs::remove_dir_all(&rt, "made");
     let _ = fs::remove_file(&rt, "made.disk");
@@ -68,8 +68,8 @@ fn is_cut(rt: &HostRuntime, path: &str) -> io::Result<bool> {
     let rest = disk.read(2, &mut bytes) == Err(DiskError::OutOfRange);
     fs::write(rt, path, [5; 700].as_slice())?;
     let cut = disk.read(1, &mut bytes) == Err(DiskError::DiskFault) && disk.failures() == 1;
-    let kept = disk.read(0, &mut bytes).is_ok() && disk.failures() == 1;
-    Ok(whole && rest && cut && kept)
+    let stands = disk.read(0, &mut bytes).is_ok() && disk.failures() == 1;
+    Ok(whole && rest && cut && stands)
 }
 
 #[test]

@@ -181,7 +181,7 @@ fn a_failed_sync_loses_the_disk(rt: HostRuntime) -> Result<(), Fail> {
 }
 
 /// A stop after a sync leaves what was written, and a stop before it may leave other bytes in that sector alone.
-fn is_kept(alloc: Global) -> Result<bool, AllocError> {
+fn is_left(alloc: Global) -> Result<bool, AllocError> {
     let Ok(mut disk) = FileDisk::blank(file(alloc, 512, Plan::Calm)?) else {
         return Ok(false);
     };
@@ -203,6 +203,6 @@ fn is_kept(alloc: Global) -> Result<bool, AllocError> {
 
 #[test]
 fn a_stop_leaves_what_was_synced(rt: HostRuntime) -> Result<(), Fail> {
-    assert!(rt; is_kept(rt.alloc())?);
+    assert!(rt; is_left(rt.alloc())?);
     Ok(())
 }

@@ -103,9 +103,9 @@ module _ {A : Type 0} where
 
   -- ---- in a loop
 
-  joined : (front more : List (Entry A)) (half : Half A) → with_front front (with_front more half) ≡ with_front (front ++ more) half
-  joined front more (Ok half) = ap (λ (entries : List (Entry A)). Ok (entries, half.1)) (sym (append_assoc front more half.0))
-  joined front more (Err s) = refl
+  fronts_append : (front more : List (Entry A)) (half : Half A) → with_front front (with_front more half) ≡ with_front (front ++ more) half
+  fronts_append front more (Ok half) = ap (λ (entries : List (Entry A)). Ok (entries, half.1)) (sym (append_assoc front more half.0))
+  fronts_append front more (Err s) = refl
 
   pub front_none : (half : Half A) → with_front [] half ≡ half
   front_none (Ok half) = refl
@@ -115,7 +115,7 @@ module _ {A : Type 0} where
       → with_front front (half_of image at end) ≡ total → with_front (front ++ (at + 1, commands) ∷ []) (half_of image next end) ≡ total
   front_more image at end front commands next total lt e so_far =
       let first : half_of image at end ≡ with_front ((at + 1, commands) ∷ []) (half_of image next end) = unrolled image at end lt ∙ ap (λ (r : Found A). half_on at r (λ next. half_of image next end)) e in
-      sym (joined front ((at + 1, commands) ∷ []) (half_of image next end)) ∙ ap (with_front front) (sym first) ∙ so_far
+      sym (fronts_append front ((at + 1, commands) ∷ []) (half_of image next end)) ∙ ap (with_front front) (sym first) ∙ so_far
 
   pub front_closed : (image : List (List ℕ)) (at end : ℕ) (front : List (Entry A)) (total : Half A) → at < end → record_at {A = A} image at end ≡ Ok None → with_front front (half_of image at end) ≡ total → total ≡ Ok (front, at)
   front_closed image at end front total lt e so_far =

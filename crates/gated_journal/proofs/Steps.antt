@@ -70,9 +70,9 @@ option_front : {X : Type 0} (o : Option (List X)) → option_map (λ others. [] 
 option_front (Some others) = refl
 option_front None = refl
 
-option_joined : {X : Type 0} (front : List X) (x : X) (o : Option (List X)) → option_map (λ others. (front ++ x ∷ []) ++ others) o ≡ option_map (λ others. front ++ others) (o >>= λ others. Some (x ∷ others))
-option_joined front x (Some others) = ap Some (append_assoc front (x ∷ []) others)
-option_joined front x None = refl
+option_with_more : {X : Type 0} (front : List X) (x : X) (o : Option (List X)) → option_map (λ others. (front ++ x ∷ []) ++ others) o ≡ option_map (λ others. front ++ others) (o >>= λ others. Some (x ∷ others))
+option_with_more front x (Some others) = ap Some (append_assoc front (x ∷ []) others)
+option_with_more front x None = refl
 
 module _ {A : Type 0} where
   -- before the first of them
@@ -84,7 +84,7 @@ module _ {A : Type 0} where
       → option_map (λ others. front ++ others) (commands_in (suc n) bytes) ≡ all → option_map (λ others. (front ++ c ∷ []) ++ others) (commands_in n rest) ≡ all
   unfolding commands_in
   commands_more front n bytes rest c all e so_far =
-      option_joined front c (commands_in n rest) ∙ rw e at so_far
+      option_with_more front c (commands_in n rest) ∙ rw e at so_far
 
   -- one of them is none
   pub commands_fault : (front : List (Asked A)) (n : ℕ) (bytes : List ℕ) (all : Option (List (Asked A))) → first_command {A = A} bytes ≡ None
@@ -113,9 +113,9 @@ no_rest : {X Y : Type 0} (read : Option (X × Y)) → option_map (λ x. x.1) rea
 no_rest (Some x) e = absurd cc
 no_rest None e = refl
 
-is_some_joined : {X : Type 0} (x : X) (o : Option (List X)) → is_some (o >>= λ others. Some (x ∷ others)) ≡ is_some o
-is_some_joined x (Some others) = refl
-is_some_joined x None = refl
+is_some_with_first : {X : Type 0} (x : X) (o : Option (List X)) → is_some (o >>= λ others. Some (x ∷ others)) ≡ is_some o
+is_some_with_first x (Some others) = refl
+is_some_with_first x None = refl
 
 module _ (A : Type 0) where
   -- one of them more
@@ -123,7 +123,7 @@ module _ (A : Type 0) where
   unfolding commands_in
   are_more n bytes rest e =
       let read = only_rest (first_command {A = A} bytes) rest e in
-      rw read.1 (is_some_joined read.0 (commands_in {A = A} n rest))
+      rw read.1 (is_some_with_first read.0 (commands_in {A = A} n rest))
 
   -- one of them is none
   pub are_not : (n : ℕ) (bytes : List ℕ) → option_map (λ x. x.1) (first_command {A = A} bytes) ≡ None → is_some (commands_in {A = A} (suc n) bytes) ≡ false

@@ -1,23 +1,25 @@
 -- The calls of the disk that an append makes.
-use Rattle.std.specs.Prelude.{ℕ, ◌+◌, List, [], ◌∷◌, ◌++◌, replicate}
+use Rattle.std.specs.Prelude.{◌+◌, List, [], ◌∷◌, ◌++◌, replicate}
+use Rattle.identity.specs.Numbers.{Byte}
+use Rattle.sector_disk.specs.Numbers.{Sector, Sectors}
 use Rattle.sector_disk.specs.Run.{writes}
 use Rattle.sector_disk.specs.declared.record.Call.{Call}
 use Rattle.sector_disk.specs.declared.record.Call.TheVariants.{Sync, Write}
 use Rattle.gated_journal.specs.Record.{data_sector, data_size}
 
 -- the sector of a gate that is closed
-abbrev pub closed_gate : List ℕ
+abbrev pub closed_gate : List Byte
 closed_gate = replicate 512 0
 
 -- and of one that is open
-abbrev pub open_gate : List ℕ
+abbrev pub open_gate : List Byte
 open_gate = 1 ∷ replicate 511 0
 
 -- So many sectors of a text are written from a place on, and synced.
-abbrev pub settled_calls : ℕ → ℕ → List ℕ → List Call
+abbrev pub settled_calls : Sector → Sectors → List Byte → List Call
 settled_calls at n text = writes at n (data_sector text) ++ Sync ∷ []
 
 -- Each data sector is written, the next gate closed, and both synced; then the record's gate opened, and synced. Nothing is read.
-abbrev pub append_calls : ℕ → List ℕ → List Call
+abbrev pub append_calls : Sector → List Byte → List Call
 append_calls gate text =
     writes (gate + 1) (data_size text) (data_sector text) ++ Write (gate + 1 + data_size text) closed_gate ∷ Sync ∷ Write gate open_gate ∷ Sync ∷ []

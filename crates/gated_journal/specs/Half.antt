@@ -1,68 +1,75 @@
 -- What a half of a disk reads as: its records up to the first closed gate, or the first sector at fault.
-use Rattle.std.specs.Prelude.{◌≡◌, ◌≢◌, ℕ, zero, suc, ◌+◌, ◌-◌, ◌/◌, ◌==◌, ◌&&◌, List, [], ◌∷◌, ◌++◌, slice_index, Option, Some, None, Result, Ok, Err, nat_le, nat_lt, if◌then◌else◌}
+use Rattle.std.specs.Prelude.{◌≡◌, ◌≢◌, ℕ, zero, suc, ◌+◌, ◌-◌, ◌/◌, ◌==◌, ◌&&◌, Bool, List, [], ◌∷◌, ◌++◌, slice_index, Option, Some, None, Result, Ok, Err, nat_le, nat_lt, if◌then◌else◌}
 use Rattle.byteorder.specs.Endian.{big_from}
+use Rattle.identity.specs.Numbers.{Byte}
+use Rattle.sector_disk.specs.Numbers.{Sector, Sectors}
 use Rattle.sector_disk.specs.Disk.{sector}
 use Rattle.centre_core.specs.Asked.{Asked}
 use Rattle.gated_journal.specs.Record.{most_sectors, record_of}
 
 -- a gate is open where its first byte is 1
-abbrev pub IsOpen : List ℕ → Type 0
+abbrev pub IsOpen : List Byte → Type 0
 IsOpen bytes = slice_index bytes 0 ≡ 1
 
 -- a gate is closed where its first byte is anything but 1
-abbrev pub IsClosed : List ℕ → Type 0
+abbrev pub IsClosed : List Byte → Type 0
 IsClosed bytes = slice_index bytes 0 ≢ 1
 
+-- whether a gate is open, as a test
+abbrev pub is_open : List ℕ → Bool
+is_open bytes = slice_index bytes 0 == 1
+
 -- how many data sectors a record takes, as its first data sector tells
-abbrev pub told_size : List ℕ → ℕ
+abbrev pub told_size : List Byte → Sectors
 told_size bytes = (big_from 2 4 bytes + 517) / 512
 
 -- the bytes of so many sectors from a place on
-unfoldable pub data_from : List (List ℕ) → ℕ → ℕ → List ℕ
+unfoldable pub data_from : List (List Byte) → Sector → Sectors → List Byte
 data_from image at zero = []
 data_from image at (suc n) = data_from image at n ++ sector image (at + n)
 
 -- a record of a half: its first data sector and its commands, with the bits in them under the allocator A
 abbrev pub Entry : Type 0 → Type 0
-Entry A = ℕ × List (Asked A)
+Entry A = Sector × List (Asked A)
 
 -- what stands at a gate: nothing, or a record and the place of the next gate; or the sector at fault
 abbrev pub Found : Type 0 → Type 0
-Found A = Result (Option (List (Asked A) × ℕ)) ℕ
+Found A = Result (Option (List (Asked A) × Sector)) Sector
 
 -- the records of a half, and the first closed gate; or the sector at fault
 abbrev pub Half : Type 0 → Type 0
-Half A = Result (List (Entry A) × ℕ) ℕ
+Half A = Result (List (Entry A) × Sector) Sector
 
--- What stands at a gate, before its bytes are judged: nothing, or those of a record's data sectors and the next gate; or the sector at fault.
-unfoldable pub bytes_at : List (List ℕ) → ℕ → ℕ → Result (Option (List ℕ × ℕ)) ℕ
-bytes_at image at end =
-    if slice_index (sector image at) 0 == 1
-    then (if at + 1 == end
-    then Err at
-    else (let size = told_size (sector image (at + 1)) in
-    if nat_le size most_sectors && nat_lt (at + 1 + size) end then Ok (Some (data_from image (at + 1) size, at + 1 + size)) else Err (at + 1)))
-    else Ok None
+-- A record behind the gate at this place takes no more data sectors than it may, and the next gate lies before the end.
+abbrev pub fits_behind : Sector → Sector → Sectors → Bool
+fits_behind at end size = nat_le size most_sectors && nat_lt (at + 1 + size) end
+
+-- What stands behind an open gate, by what is made of a record's data sectors, so many. A gate in the half's last sector
+-- is itself at fault; a record that does not fit is a fault of its first data sector.
+abbrev pub behind_gate : {X : Type 0} → Sector → Sector → Sectors → (Sectors → Result (Option X) Sector) → Result (Option X) Sector
+behind_gate at end size make = if at + 1 == end then Err at else if fits_behind at end size then make size else Err (at + 1)
+
+-- What stands at a gate: nothing where it is closed, else what stands behind it.
+abbrev pub at_gate : {X : Type 0} → List (List Byte) → Sector → Sector → (Sectors → Result (Option X) Sector) → Result (Option X) Sector
+at_gate image at end make = if is_open (sector image at) then behind_gate at end (told_size (sector image (at + 1))) make else Ok None
+
+-- Before its bytes are judged: those of a record's data sectors, and the next gate.
+unfoldable pub bytes_at : List (List Byte) → Sector → Sector → Result (Option (List Byte × Sector)) Sector
+bytes_at image at end = at_gate image at end (λ size. Ok (Some (data_from image (at + 1) size, at + 1 + size)))
 
 module _ {A : Type 0} where
   -- the commands of a record and the place of the next gate, or the sector at fault where they are none
-  abbrev pub found : ℕ → ℕ → Option (List (Asked A)) → Found A
+  abbrev pub found : Sector → Sector → Option (List (Asked A)) → Found A
   found at next None = Err at
   found at next (Some commands) = Ok (Some (commands, next))
 
-  -- At a gate: nothing where it is closed, else its record and the next gate. An open gate in the half's last sector
-  -- is itself at fault; all that is wrong with a record is a fault of its first data sector.
-  unfoldable pub record_at : List (List ℕ) → ℕ → ℕ → Found A
-  record_at image at end =
-      if slice_index (sector image at) 0 == 1
-      then (if at + 1 == end
-      then Err at
-      else (let size = told_size (sector image (at + 1)) in
-      if nat_le size most_sectors && nat_lt (at + 1 + size) end then found (at + 1) (at + 1 + size) (record_of (data_from image (at + 1) size)) else Err (at + 1)))
-      else Ok None
+  -- At a gate: nothing where it is closed, else its record and the next gate; all that is wrong with a record is a fault
+  -- of its first data sector.
+  unfoldable pub record_at : List (List Byte) → Sector → Sector → Found A
+  record_at image at end = at_gate image at end (λ size. found (at + 1) (at + 1 + size) (record_of (data_from image (at + 1) size)))
 
   -- the record that these bytes are; other bytes are a fault of the first data sector
-  abbrev pub judged : ℕ → Result (Option (List ℕ × ℕ)) ℕ → Found A
+  abbrev pub judged : Sector → Result (Option (List Byte × Sector)) Sector → Found A
   judged at (Err s) = Err s
   judged at (Ok None) = Ok None
   judged at (Ok (Some bytes_and_next)) = found (at + 1) bytes_and_next.1 (record_of bytes_and_next.0)
@@ -73,16 +80,16 @@ module _ {A : Type 0} where
   with_front front (Err at) = Err at
 
   -- the records from a gate on: none where it is closed, else the one that stands there and those behind it; or the sector at fault
-  abbrev pub half_on : ℕ → Found A → (ℕ → Half A) → Half A
+  abbrev pub half_on : Sector → Found A → (Sector → Half A) → Half A
   half_on at (Err fault) go = Err fault
   half_on at (Ok None) go = Ok ([], at)
   half_on at (Ok (Some record_and_next)) go = with_front ((at + 1, record_and_next.0) ∷ []) (go record_and_next.1)
 
   -- the records from a gate on, so many at most, and the gate behind them; or the sector at fault
-  unfoldable pub half_from : ℕ → List (List ℕ) → ℕ → ℕ → Half A
+  unfoldable pub half_from : ℕ → List (List Byte) → Sector → Sector → Half A
   half_from zero image at end = Ok ([], at)
   half_from (suc fuel) image at end = half_on at (record_at image at end) (λ next. half_from fuel image next end)
 
   -- the sectors from first to end: each record takes two at least, so there is always fuel
-  abbrev pub half_of : List (List ℕ) → ℕ → ℕ → Half A
+  abbrev pub half_of : List (List Byte) → Sector → Sector → Half A
   half_of image first end = half_from (end - first) image first end

@@ -1,59 +1,61 @@
 -- What the calls that read a half answer.
-use Rattle.std.specs.Prelude.{◌≡◌, ℕ, List, map, option_map, Option, Some, None, Result, Ok, Err, Vec}
+use Rattle.std.specs.Prelude.{◌≡◌, List, map, option_map, Option, Some, None, Result, Ok, Err, Vec}
+use Rattle.identity.specs.Numbers.{Byte}
 use Rattle.centre_core.specs.Asked.{Asked}
+use Rattle.sector_disk.specs.Numbers.{Sector}
 use Rattle.gated_journal.specs.Half.{Entry, Found, Half, half_of, record_at}
 use Rattle.gated_journal.specs.declared.fault.JournalError.{JournalError}
 use Rattle.gated_journal.specs.declared.fault.JournalError.TheVariants.{JournalFull, DiskFault, Damaged, NoMemory}
 
 -- A fault that is told is the one that stands there; a failing device and want of memory say nothing of it.
-abbrev pub Fails : {Y : Type 0} → JournalError → Result Y ℕ → Type 0
+abbrev pub Fails : {Y : Type 0} → JournalError → Result Y Sector → Type 0
 Fails (Damaged at) is = is ≡ Err at
 Fails DiskFault is = Unit {0}
 Fails NoMemory is = Unit {0}
 Fails JournalFull is = ⊥
 
 -- What was read, seen by view, is what stands there, if the device and the memory allow.
-abbrev pub Answers : {X Y : Type 0} → (X → Y) → Result X JournalError → Result Y ℕ → Type 0
+abbrev pub Answers : {X Y : Type 0} → (X → Y) → Result X JournalError → Result Y Sector → Type 0
 Answers view (Ok x) is = is ≡ Ok (view x)
 Answers view (Err e) is = Fails e is
 
 module _ {A : Type 0} where
   -- what was read at a gate: nothing, or a record's commands and the place of the next gate
-  abbrev pub found_view : Option (Vec (Asked A) A × ℕ) → Option (List (Asked A) × ℕ)
+  abbrev pub found_view : Option (Vec (Asked A) A × Sector) → Option (List (Asked A) × Sector)
   found_view None = None
   found_view (Some x) = Some (x.0.items, x.1)
 
   -- a record that was read, with its first data sector
-  abbrev pub entry_view : ℕ × Vec (Asked A) A → Entry A
+  abbrev pub entry_view : Sector × Vec (Asked A) A → Entry A
   entry_view x = (x.0, x.1.items)
 
   -- such records, in order
-  abbrev pub entries_view : List (ℕ × Vec (Asked A) A) → List (Entry A)
+  abbrev pub entries_view : List (Sector × Vec (Asked A) A) → List (Entry A)
   entries_view xs = map entry_view xs
 
   -- a record with its first data sector, and the gate behind it
-  abbrev pub next_view : ℕ → Option (ℕ × Vec (Asked A) A) → Option (List (Asked A) × ℕ)
+  abbrev pub next_view : Sector → Option (Sector × Vec (Asked A) A) → Option (List (Asked A) × Sector)
   next_view gate found = option_map (λ x. (x.1.items, gate)) found
 
   -- ---- what is judged, and not kept
 
   -- the record stands there, and so does what is told to be behind it
-  abbrev pub IsJudged : Result (Option ℕ) JournalError → Found A → Type 0
+  abbrev pub IsJudged : Result (Option Sector) JournalError → Found A → Type 0
   IsJudged (Ok None) is = is ≡ Ok None
   IsJudged (Ok (Some next)) is = (commands : List (Asked A)) × (is ≡ Ok (Some (commands, next)))
   IsJudged (Err e) is = Fails e is
 
   -- there are records, up to a closed gate
   abbrev pub AreJudged : Result Unit JournalError → Half A → Type 0
-  AreJudged (Ok u) is = (held : List (Entry A) × ℕ) × (is ≡ Ok held)
+  AreJudged (Ok u) is = (held : List (Entry A) × Sector) × (is ≡ Ok held)
   AreJudged (Err e) is = Fails e is
 
 -- ---- where memory may be wanted
 
 -- a record stands at the gate
-abbrev pub HasRecord : Type 0 → List (List ℕ) → ℕ → ℕ → Type 0
-HasRecord A image at end = (x : List (Asked A) × ℕ) × (record_at image at end ≡ Ok (Some x))
+abbrev pub HasRecord : Type 0 → List (List Byte) → Sector → Sector → Type 0
+HasRecord A image at end = (x : List (Asked A) × Sector) × (record_at image at end ≡ Ok (Some x))
 
 -- from the gate on there are records alone, up to a closed one
-abbrev pub HasRecords : Type 0 → List (List ℕ) → ℕ → ℕ → Type 0
-HasRecords A image at end = (held : List (Entry A) × ℕ) × (half_of image at end ≡ Ok held)
+abbrev pub HasRecords : Type 0 → List (List Byte) → Sector → Sector → Type 0
+HasRecords A image at end = (held : List (Entry A) × Sector) × (half_of image at end ≡ Ok held)

@@ -1,25 +1,27 @@
 -- What a half of a disk holds in each image that a stop may leave, before, during and after an append.
-use Rattle.std.specs.Prelude.{◌≡◌, ◌⊎◌, ℕ, ◌-◌, ◌<◌, List, [], ◌∷◌, ◌++◌, Ok}
+use Rattle.std.specs.Prelude.{◌≡◌, ◌⊎◌, ◌-◌, ◌<◌, List, [], ◌∷◌, ◌++◌, Ok}
+use Rattle.identity.specs.Numbers.{Byte}
+use Rattle.sector_disk.specs.Numbers.{Sector, Sectors}
 use Rattle.sector_disk.specs.Disk.{View, IsImageOf}
 use Rattle.sector_disk.specs.Run.{IsTornImage}
 use Rattle.gated_journal.specs.Half.{Entry, half_of}
 use Rattle.gated_journal.specs.declared.place.Place.{Place}
 
 -- how many data sectors the next record may have
-abbrev pub room_of : Place → ℕ
+abbrev pub room_of : Place → Sectors
 room_of place = place.end - place.next - 2
 
 module _ {A : Type 0} where
   -- the half reads as these records
-  abbrev pub IsHalf : List (List ℕ) → ℕ → ℕ → List (Entry A) → Type 0
-  IsHalf image first end entries = (gate : ℕ) × (half_of image first end ≡ Ok (entries, gate))
+  abbrev pub IsHalf : List (List Byte) → Sector → Sector → List (Entry A) → Type 0
+  IsHalf image first end entries = (gate : Sector) × (half_of image first end ≡ Ok (entries, gate))
 
   -- it reads as these, with one more or without it
-  abbrev pub IsWithOrWithout : ℕ → ℕ → List (Entry A) → Entry A → List (List ℕ) → Type 0
+  abbrev pub IsWithOrWithout : Sector → Sector → List (Entry A) → Entry A → List (List Byte) → Type 0
   IsWithOrWithout first end entries last image = IsHalf image first end entries ⊎ IsHalf image first end (entries ++ last ∷ [])
 
   -- an image of the disk before, but for the half; there it reads as these records, with one more or without it
-  pub record Leaves (old : View) (place : Place) (entries : List (Entry A)) (last : Entry A) (image : List (List ℕ)) : Type 0 where
+  pub record Leaves (old : View) (place : Place) (entries : List (Entry A)) (last : Entry A) (image : List (List Byte)) : Type 0 where
     pub elsewhere : IsTornImage old place.first (place.end - place.first) image
     pub half : IsWithOrWithout place.first place.end entries last image
 
@@ -27,4 +29,4 @@ module _ {A : Type 0} where
   pub record IsSettled (disk : View) (place : Place) (entries : List (Entry A)) : Type 0 where
     pub begins : place.first < place.end
     pub within : place.next < place.end
-    pub half : (image : List (List ℕ)) → IsImageOf disk image → half_of image place.first place.end ≡ Ok (entries, place.next)
+    pub half : (image : List (List Byte)) → IsImageOf disk image → half_of image place.first place.end ≡ Ok (entries, place.next)

@@ -1,10 +1,16 @@
 //! The commands of the tests.
 
-use centre_core::{Body, Command};
+use centre_core::{Body, Command, Sequence};
 use identity::{BitWriter, Itsi, Prefix};
+use mailbox::Moment;
 use mm_pdus::Lifetime;
-use registration::{LocationArea, Rule};
+use registration::{LocationArea, Rule, Station};
 use std::alloc::Global;
+
+/// A command of station 1.
+fn made(sequence: u32, moment: Moment, body: Body<Global>) -> Option<Command<Global>> {
+    Command::new(Station::new(1), Sequence::new(sequence)?, moment, body)
+}
 
 /// A rule for the radios of a network: 27 bytes.
 pub fn rule() -> Option<Command<Global>> {
@@ -12,7 +18,7 @@ pub fn rule() -> Option<Command<Global>> {
     let low = LocationArea::new(1)?;
     let high = LocationArea::new(99)?;
     let rule = Rule::new(low, high, Lifetime::NextItsiAttach, 3_600)?;
-    Command::new(1, 1, 0, Body::RuleSet { prefix, rule })
+    made(1, Moment::new(0), Body::RuleSet { prefix, rule })
 }
 
 /// A location update: 23 bytes.
@@ -22,12 +28,12 @@ pub fn update(alloc: Global) -> Option<Command<Global>> {
     let mut writer = BitWriter::new(alloc);
     writer.put(0x98, 10).ok()?;
     let pdu = writer.finish();
-    Command::new(1, 2, 10, Body::Mm { itsi, area, pdu })
+    made(2, Moment::new(10), Body::Mm { itsi, area, pdu })
 }
 
 /// 11 bytes.
 pub fn expiry() -> Option<Command<Global>> {
-    Command::new(1, 3, 11, Body::Expire)
+    made(3, Moment::new(11), Body::Expire)
 }
 
 /// A short data PDU of 2,047 bits: 281 bytes.
@@ -39,10 +45,9 @@ pub fn longest(alloc: Global) -> Option<Command<Global>> {
         writer.put(1, 23).ok()?;
     }
     let pdu = writer.finish();
-    Command::new(
-        1,
+    made(
         4,
-        12,
+        Moment::new(12),
         Body::Sds {
             source,
             destination,

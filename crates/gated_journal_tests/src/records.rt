@@ -50,7 +50,7 @@ fn are(records: &[Entry], want: &[(u64, usize, u32)]) -> bool {
 }
 
 fn is(record: &Entry, want: &(u64, usize, u32)) -> bool {
-    let last = record.1.last().map(|command| command.sequence);
+    let last = record.1.last().map(|command| command.sequence.number());
     record.0 == want.0 && record.1.len() == want.1 && last == Some(want.2)
 }
 
@@ -83,7 +83,8 @@ fn reads_the_rule<D: Disk>(alloc: Global, disk: &mut D) -> bool {
 }
 
 fn is_the_rule(command: &Command<Global>) -> bool {
-    let is_its_head = command.station == 1 && command.sequence == 1 && command.moment == 0;
+    let (station, sequence) = (command.station.number(), command.sequence.number());
+    let is_its_head = (station, sequence, command.moment.number()) == (1, 1, 0);
     match &command.body {
         Body::RuleSet { prefix, rule } => {
             let areas = (rule.low().number(), rule.high().number());
@@ -97,7 +98,7 @@ fn is_the_rule(command: &Command<Global>) -> bool {
     }
 }
 
-fn one_is_kept<D: Disk>(
+fn one_is_recorded<D: Disk>(
     alloc: Global,
     disk: &mut D,
     rule: &Command<Global>,
@@ -116,7 +117,7 @@ fn stands<D: Disk>(disk: &mut D) -> Result<bool, DiskError> {
 fn one_command_in_one_record(rt: HostRuntime) -> Result<(), Fail> {
     let rule = made::rule().ok_or("a rule")?;
     let mut disk = MemoryDisk::new(rt.alloc(), 39, 99)?;
-    assert!(rt; one_is_kept(rt.alloc(), &mut disk, &rule)? && stands(&mut disk) == Ok(true));
+    assert!(rt; one_is_recorded(rt.alloc(), &mut disk, &rule)? && stands(&mut disk) == Ok(true));
     Ok(())
 }
 
@@ -137,7 +138,7 @@ fn goes_through<D: Disk>(alloc: Global, disk: &mut D) -> Option<bool> {
 fn records_are_read_one_by_one(rt: HostRuntime) -> Result<(), Fail> {
     let rule = made::rule().ok_or("a rule")?;
     let mut disk = MemoryDisk::new(rt.alloc(), 39, 99)?;
-    assert!(rt; one_is_kept(rt.alloc(), &mut disk, &rule)?);
+    assert!(rt; one_is_recorded(rt.alloc(), &mut disk, &rule)?);
     assert_eq!(rt; goes_through(rt.alloc(), &mut disk), Some(true));
     Ok(())
 }
@@ -208,7 +209,7 @@ fn a_record_counts_once_its_gate_is_open(rt: HostRuntime) -> Result<(), Fail> {
     Ok(())
 }
 
-fn are_kept<D: Disk>(
+fn are_recorded<D: Disk>(
     alloc: Global,
     disk: &mut D,
     commands: &[&Command<Global>],
@@ -220,33 +221,33 @@ fn are_kept<D: Disk>(
     Ok(disk.sectors() >= 39 && journal.append(disk, commands).is_ok())
 }
 
-fn three_are_kept(alloc: Global) -> Result<bool, Fail> {
+fn three_are_recorded(alloc: Global) -> Result<bool, Fail> {
     let rule = made::rule().ok_or("a rule")?;
     let update = made::update(alloc).ok_or("an update")?;
     let expiry = made::expiry().ok_or("an expiry")?;
     let mut disk = MemoryDisk::new(alloc, 39, 99)?;
-    let added = are_kept(alloc, &mut disk, &[&rule, &update, &expiry])?;
+    let added = are_recorded(alloc, &mut disk, &[&rule, &update, &expiry])?;
     let begun = begins(&mut disk, 1, &THREE_HEAD) == Ok(true);
     Ok(added && begun && reads_as(alloc, &mut disk, &[(1, 3, 3)]))
 }
 
 #[test]
 fn three_commands_in_one_record(rt: HostRuntime) -> Result<(), Fail> {
-    assert!(rt; three_are_kept(rt.alloc())?);
+    assert!(rt; three_are_recorded(rt.alloc())?);
     Ok(())
 }
 
 /// Whether 64 of the longest commands are added, and read back.
-fn longest_are_kept(alloc: Global) -> Result<bool, Fail> {
+fn longest_are_recorded(alloc: Global) -> Result<bool, Fail> {
     let longest = made::longest(alloc).ok_or("a short data PDU")?;
     let mut disk = MemoryDisk::new(alloc, 39, 199)?;
-    let added = are_kept(alloc, &mut disk, &[&longest; 64])?;
+    let added = are_recorded(alloc, &mut disk, &[&longest; 64])?;
     Ok(added && reads_as(alloc, &mut disk, &[(1, 64, 4)]))
 }
 
 #[test]
 fn the_longest_commands_take_36_sectors(rt: HostRuntime) -> Result<(), Fail> {
-    assert!(rt; longest_are_kept(rt.alloc())?);
+    assert!(rt; longest_are_recorded(rt.alloc())?);
     Ok(())
 }
 

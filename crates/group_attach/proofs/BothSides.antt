@@ -22,16 +22,16 @@ use Rattle.group_attach.specs.Inside.Filed.{AllHave, IsReplaced, all_left, all_e
 use Rattle.group_attach.proofs.Pairs.{pairs_total, pairs_exact, alike}
 use Rattle.group_attach.proofs.Counting.{part_inserted, part_removed}
 use Rattle.group_attach.proofs.Filtered.{length_listed}
-use Rattle.group_attach.proofs.KeptLaws.{other_applied}
-use Rattle.group_attach.proofs.Endings.{kept_usage, get_kept}
+use Rattle.group_attach.proofs.AllowedLaws.{other_applied}
+use Rattle.group_attach.proofs.Endings.{passing_usage, get_passing}
 use Rattle.group_attach.proofs.Moves.{map_listed, get_added, get_gone, dropped_usage, get_dropped}
 
 get_part : (m : Attached) (itsi : ℕ) (q : Pair) → finite.get (of_radio m itsi) q ≡ cond (q.0 == itsi) (finite.get m q) None
 get_part m itsi q = finite.get-retain_keys m (λ pair. pair.0 == itsi) q (alike (λ pair. pair.0 == itsi) q)
 
 -- a location update
-update_same : (b : Bool) (update : LocationUpdateType) (itsi : ℕ) (q : Pair) (o : Option Usage) → (q.0 == itsi) ≡ b → dropped_usage update (cond b o None) o ≡ kept_usage (λ e. not ((e.0.0 == itsi) && is_dropped update e.1.1)) q o
-unfolding dropped_usage kept_usage
+update_same : (b : Bool) (update : LocationUpdateType) (itsi : ℕ) (q : Pair) (o : Option Usage) → (q.0 == itsi) ≡ b → dropped_usage update (cond b o None) o ≡ passing_usage (λ e. not ((e.0.0 == itsi) && is_dropped update e.1.1)) q o
+unfolding dropped_usage passing_usage
 update_same true update itsi q None is = refl
 update_same false update itsi q None is = refl
 update_same true update itsi q (Some u) is = turned (is_dropped update u.1) (Some u) ∙ ap (λ b. cond (not (b && is_dropped update u.1)) (Some u) None) (sym is) where
@@ -47,15 +47,15 @@ both_after_update m g x y itsi update own same part left_is right_is =
     get_dropped update m (of_radio m itsi) q
     ∙ ap (λ o. dropped_usage update o (finite.get m q)) (get_part m itsi q)
     ∙ update_same (q.0 == itsi) update itsi q (finite.get m q) refl
-    ∙ sym (get_kept (λ e. not ((e.0.0 == itsi) && is_dropped update e.1.1)) m q))
+    ∙ sym (get_passing (λ e. not ((e.0.0 == itsi) && is_dropped update e.1.1)) m q))
     ∙ sym right_is
 
 none_gone : (update : LocationUpdateType) (m : Attached) (list : List Attachment) → list_any (λ a. is_dropped update a.lifetime) list ≡ false → all_ended update m list ≡ m
 none_gone update m [] none = refl
 none_gone update m (a ∷ list) none =
     elim (is_dropped update a.lifetime) as (λ b. is_dropped update a.lifetime ≡ b → (b || list_any (λ o. is_dropped update o.lifetime) list) ≡ false → all_ended update (cond b (finite.remove m (a.itsi, a.gtsi)) m) list ≡ m) [
-      | true ↦ λ ends kept. absurd (false≢true (sym kept))
-      | false ↦ λ stays kept. none_gone update m list kept
+      | true ↦ λ ends same. absurd (false≢true (sym same))
+      | false ↦ λ stays same. none_gone update m list same
     ] refl none
 
 -- an update that ends none of the radio's attachments

@@ -12,7 +12,7 @@ use Rattle.registration.specs.declared.rule.Rule.{Rule}
 use Rattle.registration.specs.Registered.{Registered, rule_of}
 use Rattle.group_attach.specs.Attached.{Pair, Usage, Attached, pair_cmp, of_radio}
 use Rattle.group_attach.specs.Applied.{changed_by, attached_by, without_radio}
-use Rattle.group_attach.specs.Inside.Counted.{group_of, joined, joined_to, counted}
+use Rattle.group_attach.specs.Inside.Counted.{group_of, attached_after, attached_to_after, counted}
 use Rattle.group_attach.proofs.Pairs.{pairs_total, pairs_exact, pairs_tied, alike}
 
 pub same_number : (n : ℕ) → (n == n) ≡ true
@@ -61,9 +61,9 @@ leave_from itsi gtsi g m =
     sym (ap is_some (finite.get-remove pairs_total m (itsi, g) (itsi, gtsi)) ∙ is_some_if (eq_by_cmp pair_cmp (itsi, gtsi) (itsi, g)) _ _
     ∙ ap (λ b. cond b false (is_some (finite.get m (itsi, gtsi)))) (tied_groups itsi gtsi g))
 
-pub joined_is : (s : Registered) (itsi gtsi : ℕ) (m : Attached) (item : GroupUp) → joined_to s itsi gtsi (is_some (finite.get m (itsi, gtsi))) item ≡ is_some (finite.get (changed_by s itsi m item) (itsi, gtsi))
-joined_is s itsi gtsi m (up.Attach class address) = attach_to itsi gtsi (gtsi_of address itsi) class m (rule_of s (gtsi_of address itsi))
-joined_is s itsi gtsi m (up.Leave reason address) = leave_from itsi gtsi (gtsi_of address itsi) m
+pub attached_is : (s : Registered) (itsi gtsi : ℕ) (m : Attached) (item : GroupUp) → attached_to_after s itsi gtsi (is_some (finite.get m (itsi, gtsi))) item ≡ is_some (finite.get (changed_by s itsi m item) (itsi, gtsi))
+attached_is s itsi gtsi m (up.Attach class address) = attach_to itsi gtsi (gtsi_of address itsi) class m (rule_of s (gtsi_of address itsi))
+attached_is s itsi gtsi m (up.Leave reason address) = leave_from itsi gtsi (gtsi_of address itsi) m
 
 -- a radio's part of the attachments after a change of one of its own groups
 pub part_inserted : (m : Attached) (itsi g : ℕ) (v : Usage) → of_radio (finite.insert m (itsi, g) v) itsi ≡ finite.insert (of_radio m itsi) (itsi, g) v
@@ -88,9 +88,9 @@ part_removed m itsi g =
 in_part : (m : Attached) (itsi g : ℕ) → is_some (finite.get (of_radio m itsi) (itsi, g)) ≡ is_some (finite.get m (itsi, g))
 in_part m itsi g = ap is_some (finite.get-retain_keys m (λ pair. pair.0 == itsi) (itsi, g) (alike (λ pair. pair.0 == itsi) (itsi, g)) ∙ ap (λ b. cond b (finite.get m (itsi, g)) None) (same_number itsi))
 
-count_kept : (n : ℕ) (b : Bool) → n ≡ counted n b (b || false)
-count_kept n true = refl
-count_kept n false = refl
+count_same : (n : ℕ) (b : Bool) → n ≡ counted n b (b || false)
+count_same n true = refl
+count_same n false = refl
 
 count_more : (n : ℕ) (b : Bool) → cond b n (n + 1) ≡ counted n b (b || true)
 count_more n true = refl
@@ -102,7 +102,7 @@ count_less n false = refl
 
 count_attach : (itsi g class : ℕ) (m : Attached) (r : Option Rule)
     → finite.len (of_radio (attached_by m (itsi, g) class r) itsi) ≡ counted (finite.len (of_radio m itsi)) (is_some (finite.get m (itsi, g))) (is_some (finite.get m (itsi, g)) || is_some r)
-count_attach itsi g class m None = count_kept _ (is_some (finite.get m (itsi, g)))
+count_attach itsi g class m None = count_same _ (is_some (finite.get m (itsi, g)))
 count_attach itsi g class m (Some rule) =
     ap finite.len (part_inserted m itsi g (class, rule.lifetime))
     ∙ finite.len-insert pairs_total (of_radio m itsi) (itsi, g) (class, rule.lifetime)
@@ -118,7 +118,7 @@ count_leave itsi g m =
 
 -- the count after one item
 pub count_is : (s : Registered) (itsi : ℕ) (m : Attached) (item : GroupUp)
-    → finite.len (of_radio (changed_by s itsi m item) itsi) ≡ counted (finite.len (of_radio m itsi)) (is_some (finite.get m (itsi, group_of itsi item))) (joined s itsi (is_some (finite.get m (itsi, group_of itsi item))) item)
+    → finite.len (of_radio (changed_by s itsi m item) itsi) ≡ counted (finite.len (of_radio m itsi)) (is_some (finite.get m (itsi, group_of itsi item))) (attached_after s itsi (is_some (finite.get m (itsi, group_of itsi item))) item)
 count_is s itsi m (up.Attach class address) = count_attach itsi (gtsi_of address itsi) class m (rule_of s (gtsi_of address itsi))
 count_is s itsi m (up.Leave reason address) = count_leave itsi (gtsi_of address itsi) m
 

@@ -13,11 +13,11 @@ use Rattle.mm_pdus.specs.declared.update.LocationUpdateType.{LocationUpdateType}
 use Rattle.group_attach.specs.declared.ending.Ending.{Ending}
 use Rattle.group_attach.specs.declared.ending.Ending.TheVariants as ending
 use Rattle.group_attach.specs.Attached.{Pair, Usage, Attached, pair_cmp, no_groups}
-use Rattle.group_attach.specs.Applied.{kept_where, is_dropped}
+use Rattle.group_attach.specs.Applied.{passing, is_dropped}
 use Rattle.group_attach.specs.Inside.Filed.{ended}
 use Rattle.group_attach.proofs.Pairs.{pairs_total, pairs_exact}
 use Rattle.group_attach.proofs.Counting.{same_number}
-use Rattle.group_attach.proofs.Filtered.{left, right, entries_kept}
+use Rattle.group_attach.proofs.Filtered.{left, right, entries_passing}
 
 less_apart : (o : Ordering) → T (is_lt o) → is_eq o ≡ false
 less_apart Less h = refl
@@ -37,9 +37,9 @@ pub apart : (x : Pair) (es : List (Pair × Usage)) → T (below_all pair_cmp x e
 apart x [] below = refl
 apart x (e ∷ es) below = rw (less_apart (pair_cmp x e.0) (left _ _ below)) (apart x es (right _ _ below))
 
-unfoldable pub kept_usage : (Pair × Usage → Bool) → Pair → Option Usage → Option Usage
-kept_usage t q None = None
-kept_usage t q (Some u) = cond (t (q, u)) (Some u) None
+unfoldable pub passing_usage : (Pair × Usage → Bool) → Pair → Option Usage → Option Usage
+passing_usage t q None = None
+passing_usage t q (Some u) = cond (t (q, u)) (Some u) None
 
 first_of_two : (q : Pair) (b : Bool) (e : Pair × Usage) (es : List (Pair × Usage)) → find pair_cmp q (cond b (e ∷ es) es) ≡ cond b (cond (eq_by_cmp pair_cmp q e.0) (Some e.1) (find pair_cmp q es)) (find pair_cmp q es)
 first_of_two q true e es = refl
@@ -49,39 +49,39 @@ both_alike : {A : Type 0} (b : Bool) (x : A) → cond b x x ≡ x
 both_alike true x = refl
 both_alike false x = refl
 
-find_kept : (t : Pair × Usage → Bool) (q : Pair) (es : List (Pair × Usage)) → T (is_sorted pair_cmp es) → find pair_cmp q (filter t es) ≡ kept_usage t q (find pair_cmp q es)
-unfolding kept_usage
-find_kept t q [] order = refl
-find_kept t q (e ∷ es) order =
-    let rest = find_kept t q es (right _ _ order) in
+find_passing : (t : Pair × Usage → Bool) (q : Pair) (es : List (Pair × Usage)) → T (is_sorted pair_cmp es) → find pair_cmp q (filter t es) ≡ passing_usage t q (find pair_cmp q es)
+unfolding passing_usage
+find_passing t q [] order = refl
+find_passing t q (e ∷ es) order =
+    let rest = find_passing t q es (right _ _ order) in
     first_of_two q (t e) e (filter t es)
-    ∙ (elim (eq_by_cmp pair_cmp q e.0) as (λ b. eq_by_cmp pair_cmp q e.0 ≡ b → cond (t e) (cond b (Some e.1) (find pair_cmp q (filter t es))) (find pair_cmp q (filter t es)) ≡ kept_usage t q (cond b (Some e.1) (find pair_cmp q es))) [
+    ∙ (elim (eq_by_cmp pair_cmp q e.0) as (λ b. eq_by_cmp pair_cmp q e.0 ≡ b → cond (t e) (cond b (Some e.1) (find pair_cmp q (filter t es))) (find pair_cmp q (filter t es)) ≡ passing_usage t q (cond b (Some e.1) (find pair_cmp q es))) [
       | true ↦ λ same.
           let here : q ≡ e.0 = tie q e.0 same in
-          let none : find pair_cmp q (filter t es) ≡ None = rest ∙ ap (kept_usage t q) (subst (λ k. find pair_cmp k es ≡ None) (sym here) (apart e.0 es (left _ _ order))) in
+          let none : find pair_cmp q (filter t es) ≡ None = rest ∙ ap (passing_usage t q) (subst (λ k. find pair_cmp k es ≡ None) (sym here) (apart e.0 es (left _ _ order))) in
           ap (cond (t e) (Some e.1)) none ∙ ap (λ k. cond (t (k, e.1)) (Some e.1) None) (sym here)
       | false ↦ λ other. both_alike (t e) (find pair_cmp q (filter t es)) ∙ rest
     ]) refl
 
-pub get_kept : (t : Pair × Usage → Bool) (m : Attached) (q : Pair) → finite.get (kept_where t m) q ≡ kept_usage t q (finite.get m q)
-get_kept t m q =
-    finite.get-entries (kept_where t m) q
-    ∙ ap (find pair_cmp q) (entries_kept t m)
-    ∙ find_kept t q (finite.entries m) (finite.entries_sorted m)
-    ∙ ap (kept_usage t q) (sym (finite.get-entries m q))
+pub get_passing : (t : Pair × Usage → Bool) (m : Attached) (q : Pair) → finite.get (passing t m) q ≡ passing_usage t q (finite.get m q)
+get_passing t m q =
+    finite.get-entries (passing t m) q
+    ∙ ap (find pair_cmp q) (entries_passing t m)
+    ∙ find_passing t q (finite.entries m) (finite.entries_sorted m)
+    ∙ ap (passing_usage t q) (sym (finite.get-entries m q))
 
 unfoldable pub ended_usage : ℕ → Ending → Pair → Option Usage → Option Usage
 ended_usage itsi (ending.Leave gtsi) q o = cond (eq_by_cmp pair_cmp q (itsi, gtsi)) None o
-ended_usage itsi (ending.Update update) q o = kept_usage (λ e. not ((e.0.0 == itsi) && is_dropped update e.1.1)) q o
+ended_usage itsi (ending.Update update) q o = passing_usage (λ e. not ((e.0.0 == itsi) && is_dropped update e.1.1)) q o
 
 pub get_ended : (m : Attached) (itsi : ℕ) (e : Ending) (q : Pair) → finite.get (ended m itsi e) q ≡ ended_usage itsi e q (finite.get m q)
 unfolding ended_usage
 get_ended m itsi (ending.Leave gtsi) q = finite.get-remove pairs_total m (itsi, gtsi) q
-get_ended m itsi (ending.Update update) q = get_kept (λ e. not ((e.0.0 == itsi) && is_dropped update e.1.1)) m q
+get_ended m itsi (ending.Update update) q = get_passing (λ e. not ((e.0.0 == itsi) && is_dropped update e.1.1)) m q
 
 -- nothing comes of nothing
 pub ended_none : (itsi : ℕ) (e : Ending) (q : Pair) → ended_usage itsi e q None ≡ None
-unfolding ended_usage kept_usage
+unfolding ended_usage passing_usage
 ended_none itsi (ending.Leave gtsi) q = both_alike (eq_by_cmp pair_cmp q (itsi, gtsi)) None
 ended_none itsi (ending.Update update) q = refl
 
@@ -101,6 +101,6 @@ leave_spares key itsi gtsi q o other =
     passed (eq_by_cmp pair_cmp q (itsi, gtsi)) None o (λ same. false≢true (sym other ∙ ap (λ r. key r == key (itsi, gtsi)) (tie q (itsi, gtsi) same) ∙ same_number (key (itsi, gtsi))))
 
 pub update_spares : (itsi : ℕ) (update : LocationUpdateType) (q : Pair) (o : Option Usage) → (q.0 == itsi) ≡ false → ended_usage itsi (ending.Update update) q o ≡ o
-unfolding ended_usage kept_usage
+unfolding ended_usage passing_usage
 update_spares itsi update q None other = refl
 update_spares itsi update q (Some u) other = ap (λ b. cond (not (b && is_dropped update u.1)) (Some u) None) other

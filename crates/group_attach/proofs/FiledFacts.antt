@@ -9,7 +9,7 @@ use Rattle.identity.specs.Path.{Path, path_cmp}
 use Rattle.identity.specs.Inside.PathLaws.{paths_total, paths_exact, tie_exact}
 use Rattle.group_attach.specs.declared.ending.Ending.{Ending}
 use Rattle.group_attach.specs.Attached.{Attached, Pair, Usage, pair_cmp, no_groups, attachment_of, attachment_at}
-use Rattle.group_attach.specs.Inside.Filed.{Filed, under, placed, kept, ended}
+use Rattle.group_attach.specs.Inside.Filed.{Filed, under, placed, unless_empty, ended}
 use Rattle.prefix_tree.specs.Change.{with_value}
 use Rattle.group_attach.proofs.Endings.{nothing_ends}
 
@@ -57,12 +57,12 @@ by_test true f p list = refl
 by_test false f p list = refl
 
 -- a list that is left empty goes
-pub with_kept : (f : Filed) (p : Path) (list : Attached) → with_value f p (kept list) ≡ placed f p list
-with_kept f p list = by_test (finite.len list == 0) f p list
+pub with_unless_empty : (f : Filed) (p : Path) (list : Attached) → with_value f p (unless_empty list) ≡ placed f p list
+with_unless_empty f p list = by_test (finite.len list == 0) f p list
 
 -- nothing is left of no list
-pub none_kept : (itsi : ℕ) (e : Ending) → kept (ended no_groups itsi e) ≡ None
-none_kept itsi e =
+pub none_ended : (itsi : ℕ) (e : Ending) → unless_empty (ended no_groups itsi e) ≡ None
+none_ended itsi e =
     let empty : finite.len (ended no_groups itsi e) ≡ 0 = ap finite.len (nothing_ends itsi e) ∙ finite.len-empty pair_cmp Usage in
     ap (λ n. cond (n == 0) None (Some (ended no_groups itsi e))) empty
 

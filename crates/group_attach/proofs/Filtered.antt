@@ -6,7 +6,7 @@ use Rattle.std.specs.FinMap as finite
 use Rattle.std.specs.FinMap.Entries.{below_all, is_sorted, is_sorted-where_key, find-where_key}
 use Rattle.group_attach.specs.declared.attachment.Attachment.{Attachment}
 use Rattle.group_attach.specs.Attached.{Pair, Usage, Attached, pair_cmp, entry_of, attachment_of, listed, pair_of}
-use Rattle.group_attach.specs.Applied.{kept_where}
+use Rattle.group_attach.specs.Applied.{passing}
 use Rattle.group_attach.specs.InOrder.{IsInOrder}
 use Rattle.group_attach.specs.Inside.ListedMap.{map_of}
 use Rattle.group_attach.proofs.Pairs.{pairs_total, pairs_exact, pairs_tied, alike}
@@ -30,24 +30,24 @@ pub from_T : (b : Bool) → T b → b ≡ true
 from_T true t = refl
 from_T false t = absurd t
 
-below_kept : (x : Pair) (p : Pair × Usage → Bool) (es : List (Pair × Usage)) → T (below_all pair_cmp x es) → T (below_all pair_cmp x (filter p es))
-below_kept x p [] h = tt
-below_kept x p (e ∷ es) h =
-    let rest = below_kept x p es (right _ _ h) in
+below_passing : (x : Pair) (p : Pair × Usage → Bool) (es : List (Pair × Usage)) → T (below_all pair_cmp x es) → T (below_all pair_cmp x (filter p es))
+below_passing x p [] h = tt
+below_passing x p (e ∷ es) h =
+    let rest = below_passing x p es (right _ _ h) in
     elim (p e) as (λ b. T (below_all pair_cmp x (cond b (e ∷ filter p es) (filter p es)))) [ true ↦ both _ _ (left _ _ h) rest | false ↦ rest ]
 
-sorted_kept : (p : Pair × Usage → Bool) (es : List (Pair × Usage)) → T (is_sorted pair_cmp es) → T (is_sorted pair_cmp (filter p es))
-sorted_kept p [] h = tt
-sorted_kept p (e ∷ es) h =
-    let rest = sorted_kept p es (right _ _ h) in
-    elim (p e) as (λ b. T (is_sorted pair_cmp (cond b (e ∷ filter p es) (filter p es)))) [ true ↦ both _ _ (below_kept e.0 p es (left _ _ h)) rest | false ↦ rest ]
+sorted_passing : (p : Pair × Usage → Bool) (es : List (Pair × Usage)) → T (is_sorted pair_cmp es) → T (is_sorted pair_cmp (filter p es))
+sorted_passing p [] h = tt
+sorted_passing p (e ∷ es) h =
+    let rest = sorted_passing p es (right _ _ h) in
+    elim (p e) as (λ b. T (is_sorted pair_cmp (cond b (e ∷ filter p es) (filter p es)))) [ true ↦ both _ _ (below_passing e.0 p es (left _ _ h)) rest | false ↦ rest ]
 
 -- what is left of the map has the entries that are left
-pub entries_kept : (p : Pair × Usage → Bool) (m : Attached) → finite.entries (kept_where p m) ≡ filter p (finite.entries m)
-entries_kept p m = finite.entries-from_sorted pair_cmp (filter p (finite.entries m)) (sorted_kept p (finite.entries m) (finite.entries_sorted m))
+pub entries_passing : (p : Pair × Usage → Bool) (m : Attached) → finite.entries (passing p m) ≡ filter p (finite.entries m)
+entries_passing p m = finite.entries-from_sorted pair_cmp (filter p (finite.entries m)) (sorted_passing p (finite.entries m) (finite.entries_sorted m))
 
-pub retained_is_kept : (p : Pair → Bool) (m : Attached) → finite.retain_keys m p ≡ kept_where (λ e. p e.0) m
-retained_is_kept p m =
+pub retained_is_passing : (p : Pair → Bool) (m : Attached) → finite.retain_keys m p ≡ passing (λ e. p e.0) m
+retained_is_passing p m =
     finite.same_map pairs_total pairs_exact _ _ (λ q.
     finite.get-retain_keys m p q (alike p q)
     ∙ ap (λ o. cond (p q) o None) (finite.get-entries m q)
@@ -55,7 +55,7 @@ retained_is_kept p m =
     ∙ sym (finite.get-from_sorted pair_cmp (filter (λ e. p e.0) (finite.entries m)) q (is_sorted-where_key pair_cmp p (finite.entries m) (finite.entries_sorted m))))
 
 pub entries_retained : (p : Pair → Bool) (m : Attached) → finite.entries (finite.retain_keys m p) ≡ filter (λ e. p e.0) (finite.entries m)
-entries_retained p m = ap finite.entries (retained_is_kept p m) ∙ entries_kept (λ e. p e.0) m
+entries_retained p m = ap finite.entries (retained_is_passing p m) ∙ entries_passing (λ e. p e.0) m
 
 -- the list in order, and the map that is seen in it
 pub entries_of : (es : List Attachment) → IsInOrder es → finite.entries (map_of es) ≡ map entry_of es
@@ -69,14 +69,14 @@ filtered p (x ∷ xs) =
       | false ↦ filtered p xs
     ]
 
-pub kept_in_order : (p : Pair × Usage → Bool) (es : List Attachment) → IsInOrder es → IsInOrder (filter (λ a. p (entry_of a)) es)
-kept_in_order p es order = from_T _ (subst (λ r. T (is_sorted pair_cmp r)) (filtered p es) (sorted_kept p (map entry_of es) (to_T _ order)))
+pub passing_in_order : (p : Pair × Usage → Bool) (es : List Attachment) → IsInOrder es → IsInOrder (filter (λ a. p (entry_of a)) es)
+passing_in_order p es order = from_T _ (subst (λ r. T (is_sorted pair_cmp r)) (filtered p es) (sorted_passing p (map entry_of es) (to_T _ order)))
 
-pub kept_map : (p : Pair × Usage → Bool) (es : List Attachment) → IsInOrder es → map_of (filter (λ a. p (entry_of a)) es) ≡ kept_where p (map_of es)
-kept_map p es order = ap finite.from_sorted (sym (ap (filter p) (entries_of es order) ∙ filtered p es))
+pub passing_map : (p : Pair × Usage → Bool) (es : List Attachment) → IsInOrder es → map_of (filter (λ a. p (entry_of a)) es) ≡ passing p (map_of es)
+passing_map p es order = ap finite.from_sorted (sym (ap (filter p) (entries_of es order) ∙ filtered p es))
 
 pub retained_map : (p : Pair → Bool) (es : List Attachment) → IsInOrder es → map_of (filter (λ a. p (pair_of a)) es) ≡ finite.retain_keys (map_of es) p
-retained_map p es order = kept_map (λ e. p e.0) es order ∙ sym (retained_is_kept p (map_of es))
+retained_map p es order = passing_map (λ e. p e.0) es order ∙ sym (retained_is_passing p (map_of es))
 
 as_listed : (es : List Attachment) → map attachment_of (map entry_of es) ≡ es
 as_listed [] = refl

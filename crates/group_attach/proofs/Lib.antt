@@ -11,5 +11,5 @@ mod BothSides
 mod Answering
 mod Steps
 mod Rising
-pub mod KeptLaws
+pub mod AllowedLaws
 mod Restored

@@ -20,15 +20,15 @@ use Rattle.group_attach.proofs.BothSides.{part_has}
 abbrev Entry : Type 0
 Entry = Pair × Usage
 
-kept : (b : Bool) (x : Usage) (o : Option Usage) → IsSome o → IsSome (cond b (Some x) o)
-kept true x o some = refl
-kept false x o some = some
+some_still : (b : Bool) (x : Usage) (o : Option Usage) → IsSome o → IsSome (cond b (Some x) o)
+some_still true x o some = refl
+some_still false x o some = some
 
 each_has : (itsi : ℕ) (es : List Entry) → ((p : Pair) → IsSome (find pair_cmp p es) → p.0 ≡ itsi) → All (λ e. e.0.0 ≡ itsi) es
 each_has itsi [] own = All-nil (λ (e : Entry). e.0.0 ≡ itsi)
 each_has itsi (e ∷ es) own =
     All-cons (λ (e : Entry). e.0.0 ≡ itsi) e es (own e.0 (rw ((eq_by_cmp_equiv pairs_total).refl e.0) refl))
-    (each_has itsi es (λ p some. own p (kept (eq_by_cmp pair_cmp p e.0) e.1 (find pair_cmp p es) some)))
+    (each_has itsi es (λ p some. own p (some_still (eq_by_cmp pair_cmp p e.0) e.1 (find pair_cmp p es) some)))
 
 -- of two pairs of one radio the lower one has the lower group
 lower : (itsi : ℕ) (p q : Pair) → p.0 ≡ itsi → q.0 ≡ itsi → pair_cmp p q ≡ Less → nat_cmp p.1 q.1 ≡ Less

@@ -1,18 +1,20 @@
 -- The attachments of radios to groups as one finite map, and what can be asked of it.
-use Rattle.std.specs.Prelude.{ℕ, ◌==◌, List, Option, map}
+use Rattle.std.specs.Prelude.{◌==◌, List, Option, map}
 use Rattle.std.specs.List.{fold}
 use Rattle.std.specs.Option.{option_map}
 use Rattle.std.specs.Ordering.{nat_cmp, ordering_then}
 use Rattle.std.specs.declared.cmp.Ordering.{Ordering}
 use Rattle.std.specs.Coded.{Coded, coded×, coded_ℕ}
 use Rattle.std.specs.FinMap as finite
+use Rattle.identity.specs.Numbers.{Itsi, Gtsi}
+use Rattle.mm_pdus.specs.Numbers.{Class}
 use Rattle.mm_pdus.specs.declared.lifetime.Lifetime.{Lifetime}
 use Rattle.mm_pdus.specs.contracts.lifetime.Lifetime as lifetime
 use Rattle.group_attach.specs.declared.attachment.Attachment.{Attachment}
 
 -- a radio and a group
 abbrev pub Pair : Type 0
-Pair = ℕ × ℕ
+Pair = Itsi × Gtsi
 
 -- by radio, then by group
 abbrev pub pair_cmp : Pair → Pair → Ordering
@@ -20,7 +22,7 @@ pair_cmp p q = ordering_then (nat_cmp p.0 q.0) (nat_cmp p.1 q.1)
 
 -- how a radio is attached to a group: the class of usage, and the lifetime
 abbrev pub Usage : Type 0
-Usage = ℕ × Lifetime
+Usage = Class × Lifetime
 
 -- how each radio is attached to each of its groups
 abbrev pub Attached : Type 0
@@ -51,19 +53,19 @@ abbrev pub listed : Attached → List Attachment
 listed m = map attachment_of (finite.entries m)
 
 -- those of one radio, and those to one group
-abbrev pub of_radio : Attached → ℕ → Attached
+abbrev pub of_radio : Attached → Itsi → Attached
 of_radio m itsi = finite.retain_keys m (λ pair. pair.0 == itsi)
 
 -- the attachments to one group
-abbrev pub of_group : Attached → ℕ → Attached
+abbrev pub of_group : Attached → Gtsi → Attached
 of_group m gtsi = finite.retain_keys m (λ pair. pair.1 == gtsi)
 
 -- a radio's attachments by group, and a group's by radio
-abbrev pub groups_of : Attached → ℕ → List Attachment
+abbrev pub groups_of : Attached → Itsi → List Attachment
 groups_of m itsi = listed (of_radio m itsi)
 
 -- a group's attachments, by radio
-abbrev pub members_of : Attached → ℕ → List Attachment
+abbrev pub members_of : Attached → Gtsi → List Attachment
 members_of m gtsi = listed (of_group m gtsi)
 
 -- the radio and the group of an attachment

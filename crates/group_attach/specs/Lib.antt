@@ -1,5 +1,5 @@
 pub mod Attached
 pub mod Applied
-pub mod Kept
+pub mod Allowed
 pub mod InOrder
 pub mod Inside

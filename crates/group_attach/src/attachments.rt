@@ -7,7 +7,7 @@ ghost use Rattle.group_attach.specs.Attached.{no_groups, listed, attachment_at, 
 ghost use Rattle.group_attach.specs.Applied.{applied};
 ghost use Rattle.group_attach.specs.InOrder.{IsInOrder};
 ghost use Rattle.group_attach.specs.Inside.ListedMap.{map_of};
-ghost use Rattle.group_attach.specs.Inside.Filed.{ended, kept, held};
+ghost use Rattle.group_attach.specs.Inside.Filed.{ended, unless_empty, held};
 
 use crate::Attachment;
 use crate::edit::{attach, change_all, drop_ended, leave};
@@ -113,7 +113,7 @@ impl<A: Allocator> AttachmentList<A> {
 
     /// What is left of it where this ends, if that is anything. It takes no memory.
     pub(crate) fn ended(mut self, itsi: Itsi, ending: Ending) -> Option<Self>
-        ensures { result ≡ kept (ended self itsi ending) }
+        ensures { result ≡ unless_empty (ended self itsi ending) }
     {
         match ending {
             Ending::Leave(gtsi) => leave(&mut self.entries, itsi, gtsi),

@@ -8,7 +8,7 @@ ghost use Rattle.group_attach.specs.Attached.{of_radio};
 ghost use Rattle.group_attach.specs.Applied.{changed_by, at_start, applied};
 ghost use Rattle.group_attach.specs.InOrder.{IsInOrder};
 ghost use Rattle.group_attach.specs.Inside.ListedMap.{map_of};
-ghost use Rattle.group_attach.specs.Inside.Counted.{group_of, joined, joined_to, counted};
+ghost use Rattle.group_attach.specs.Inside.Counted.{group_of, attached_after, attached_to_after, counted};
 
 use crate::Attachment;
 use crate::list::{count_of, has};
@@ -33,7 +33,7 @@ pub(crate) fn count_after<R: Allocator + Clone>(
         let item = &items[i];
         let gtsi = group_of(itsi, item);
         let before = is_attached_after(entries, registry, itsi, mode, &items[..i], gtsi);
-        count = counted(count, before, joined(registry, itsi, before, item));
+        count = counted(count, before, attached_after(registry, itsi, before, item));
     }
     count
 }
@@ -52,7 +52,7 @@ fn is_attached_after<R: Allocator + Clone>(
 {
     let mut attached = is_attached_first(entries, itsi, mode, gtsi);
     for item in items {
-        attached = joined_to(registry, itsi, gtsi, attached, item);
+        attached = attached_to_after(registry, itsi, gtsi, attached, item);
     }
     attached
 }
@@ -82,29 +82,29 @@ fn count_first(entries: &[Attachment], itsi: Itsi, mode: GroupMode) -> usize
     }
 }
 
-fn joined_to<R: Allocator + Clone>(
+fn attached_to_after<R: Allocator + Clone>(
     registry: &Registry<R>,
     itsi: Itsi,
     gtsi: Gtsi,
     before: bool,
     item: &GroupUp,
 ) -> bool
-    ensures { result ≡ joined_to registry.now itsi gtsi before item.now }
+    ensures { result ≡ attached_to_after registry.now itsi gtsi before item.now }
 {
     if gtsi == group_of(itsi, item) {
-        joined(registry, itsi, before, item)
+        attached_after(registry, itsi, before, item)
     } else {
         before
     }
 }
 
-fn joined<R: Allocator + Clone>(
+fn attached_after<R: Allocator + Clone>(
     registry: &Registry<R>,
     itsi: Itsi,
     before: bool,
     item: &GroupUp,
 ) -> bool
-    ensures { result ≡ joined registry.now itsi before item.now }
+    ensures { result ≡ attached_after registry.now itsi before item.now }
 {
     match item {
         GroupUp::Attach { address, .. } => {

@@ -27,7 +27,7 @@ use std::alloc::{AllocError, Allocator};
 use std::marker::Model;
 
 /// To how many groups a radio may be attached.
-const MOST_OF_RADIO: usize = 32;
+pub const MOST_OF_RADIO: usize = 32;
 
 /// Which groups each radio is attached to, at most once to each.
 #[derive(Drop)]

@@ -4,14 +4,14 @@ ghost use Rattle.std.specs.Prelude.{◌≡◌, ◌≤◌, ℕ, None, length};
 ghost use Rattle.std.specs.Ordering.{nat_cmp};
 ghost use Rattle.prefix_tree.specs.Following.{next_of, one_by_one};
 ghost use Rattle.group_attach.specs.Attached.{Attached, groups_of};
-ghost use Rattle.group_attach.specs.Kept.{EmptyIsKept, UpdatesKeep, PdusKeep};
+ghost use Rattle.group_attach.specs.Allowed.{EmptyIsAllowed, AllowedAfterUpdates, AllowedAfterPdus};
 
 /// No radio has too many groups, and the radios of all attachments are known to the register: this
 /// holds of no attachments, and each effect keeps it.
-pub fn effects_keep()
-    ensures empty { EmptyIsKept }
-    ensures updates { UpdatesKeep }
-    ensures pdus { PdusKeep }
+pub fn effects_are_allowed()
+    ensures empty { EmptyIsAllowed }
+    ensures updates { AllowedAfterUpdates }
+    ensures pdus { AllowedAfterPdus }
 {}
 
 /// From none to a radio's first attachment, and from each by its group to the next, one comes to all its

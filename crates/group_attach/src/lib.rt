@@ -19,4 +19,4 @@ mod side;
 pub use answer::answers;
 pub use attachment::Attachment;
 pub use fault::GroupFault;
-pub use groups::Groups;
+pub use groups::{Groups, MOST_OF_RADIO};

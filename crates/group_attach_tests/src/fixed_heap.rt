@@ -87,7 +87,7 @@ fn is_even(
     Ok(true)
 }
 
-fn is_kept_even(alloc: Global, heap: &LocalHeap) -> Result<bool, Fail> {
+fn leaves_no_trace(alloc: Global, heap: &LocalHeap) -> Result<bool, Fail> {
     let registry = register(alloc)?;
     let mut groups = Groups::new(heap);
     is_even(alloc, heap, &registry, &mut groups, 1000)
@@ -97,6 +97,6 @@ fn is_kept_even(alloc: Global, heap: &LocalHeap) -> Result<bool, Fail> {
 fn ten_thousand_changes_leave_no_trace(rt: HostRuntime) -> Result<(), Fail> {
     let heap = LocalHeap::new(rt.alloc(), 1 << 15)?;
     let empty = heap.used();
-    assert!(rt; is_kept_even(rt.alloc(), &heap)? && heap.used() == empty);
+    assert!(rt; leaves_no_trace(rt.alloc(), &heap)? && heap.used() == empty);
     Ok(())
 }

@@ -5,7 +5,7 @@ use mm_pdus::{
     ClassOfUsage, GroupAddress, GroupItems, GroupUp, Gssi, LeaveReason, Lifetime,
     LocationUpdateType,
 };
-use registration::{Limits, LocationArea, Registry, Rule};
+use registration::{Limits, LocationArea, Registry, Rule, Station};
 use std::alloc::Allocator;
 use std::test::Fail;
 
@@ -65,7 +65,8 @@ fn rule(lifetime: Lifetime) -> Result<Rule, Fail> {
 
 fn come<A: Allocator + Clone>(registry: &mut Registry<A>, ssi: u16) -> Result<(), Fail> {
     let area = LocationArea::new(7).ok_or("a location area")?;
-    let _ = registry.locate(radio(ssi)?, 1, area, LocationUpdateType::ItsiAttach);
+    let attach = LocationUpdateType::ItsiAttach;
+    let _ = registry.locate(radio(ssi)?, Station::new(1), area, attach);
     Ok(())
 }
 

@@ -69,8 +69,8 @@ fn taken(
     groups: &mut Groups<&LocalHeap>,
 ) -> Result<Option<usize>, Fail> {
     for turn in 0..5usize {
-        if let Some(kept) = tried(alloc, heap, registry, groups, turn)? {
-            return Ok(kept.then_some(turn));
+        if let Some(unchanged) = tried(alloc, heap, registry, groups, turn)? {
+            return Ok(unchanged.then_some(turn));
         }
     }
     Ok(Some(5))

@@ -4,6 +4,7 @@ use Rattle.std.specs.Char.{digit_value, is_ascii_hexdigit}
 use Rattle.std.specs.Fmt.{digit_glyph}
 use Rattle.std.specs.List.{flat_map, list_all}
 use Rattle.std.specs.Option.{option_and_then}
+use Rattle.identity.specs.Numbers.{Byte}
 use Rattle.identity.specs.Number.{num, number}
 use Rattle.identity.specs.NumberText.{is_number, value, cut, judged}
 use Rattle.identity.specs.declared.fault.Fault.{Fault}
@@ -12,11 +13,11 @@ use Rattle.identity.specs.declared.fault.Fault.TheVariants.{OutOfRange}
 -- ---- texts
 
 -- the capital digit of four bits
-abbrev pub hex_glyph : List Bool → ℕ
+abbrev pub hex_glyph : List Bool → Byte
 hex_glyph bits = digit_glyph true (number bits)
 
 -- the digits of bits
-unfoldable pub hex_of : List Bool → List ℕ
+unfoldable pub hex_of : List Bool → List Byte
 hex_of [] = []
 hex_of (a ∷ []) = hex_glyph (a ∷ false ∷ false ∷ false ∷ []) ∷ []
 hex_of (a ∷ b ∷ []) = hex_glyph (a ∷ b ∷ false ∷ false ∷ []) ∷ []
@@ -24,16 +25,16 @@ hex_of (a ∷ b ∷ c ∷ []) = hex_glyph (a ∷ b ∷ c ∷ false ∷ []) ∷ [
 hex_of (a ∷ b ∷ c ∷ d ∷ rest) = hex_glyph (a ∷ b ∷ c ∷ d ∷ []) ∷ hex_of rest
 
 -- the text of bits
-unfoldable pub bits_text : List Bool → List ℕ
+unfoldable pub bits_text : List Bool → List Byte
 bits_text bits = decimal (length bits) ++ 58 ∷ hex_of bits
 
 -- the bits that digits of either case stand for, four each
-unfoldable pub digit_bits : List ℕ → List Bool
+unfoldable pub digit_bits : List Byte → List Bool
 digit_bits digits = flat_map (λ c. num 4 (digit_value c)) digits
 
 -- a text spells bits: their number, and digits that stand for them and for fewer than four zeros behind them
-pub record SpellsBits (text : List ℕ) (bits : List Bool) : Type 0 where
-  pub digits : List ℕ
+pub record SpellsBits (text : List Byte) (bits : List Bool) : Type 0 where
+  pub digits : List Byte
   pub fill : ℕ
   pub hexadecimal : list_all is_ascii_hexdigit digits ≡ true
   pub few : fill < 4
@@ -43,24 +44,24 @@ pub record SpellsBits (text : List ℕ) (bits : List Bool) : Type 0 where
 -- ---- what texts say: the form is judged before any range
 
 -- the digits are as many as n bits need, and what fills the last one is 0
-unfoldable pub is_filled : ℕ → List ℕ → Bool
+unfoldable pub is_filled : ℕ → List Byte → Bool
 is_filled n digits = nat_le n (4 * length digits) && nat_lt (4 * length digits) (n + 4) && (number (drop n (digit_bits digits)) == 0)
 
 -- a text has the form of bits, however many: a number, `:`, and the digits that so many bits need
-pub record IsBitsForm (text : List ℕ) : Type 0 where
-  pub count : List ℕ
-  pub digits : List ℕ
+pub record IsBitsForm (text : List Byte) : Type 0 where
+  pub count : List Byte
+  pub digits : List Byte
   pub spelt : text ≡ count ++ 58 ∷ digits
   pub number : is_number count ≡ true
   pub hexadecimal : list_all is_ascii_hexdigit digits ≡ true
   pub filled : is_filled (value count) digits ≡ true
 
 -- how many bits a text has whose form is good
-unfoldable pub bits_len : List ℕ → List ℕ → Option ℕ
+unfoldable pub bits_len : List Byte → List Byte → Option ℕ
 bits_len count digits = if is_number count && list_all is_ascii_hexdigit digits && is_filled (value count) digits then Some (value count) else None
 
 -- how many bits a text has, and their digits
-unfoldable pub bits_form : List ℕ → Option (ℕ × List ℕ)
+unfoldable pub bits_form : List Byte → Option (ℕ × List Byte)
 bits_form text = option_and_then (λ p. option_map (λ n. (n, p.1)) (bits_len p.0 p.1)) (cut 58 text)
 
 -- the most bits of a string
@@ -68,5 +69,5 @@ abbrev pub most_bits : ℕ
 most_bits = 2048
 
 -- what a text says that is to be at most so many bits
-unfoldable pub reading_bits : List ℕ → Result (List Bool) Fault
+unfoldable pub reading_bits : List Byte → Result (List Bool) Fault
 reading_bits text = judged (λ form. if nat_le form.0 most_bits then Ok (take form.0 (digit_bits form.1)) else Err OutOfRange) (bits_form text)

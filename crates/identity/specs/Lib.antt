@@ -1,3 +1,4 @@
+pub mod Numbers
 pub mod Number
 pub mod NumberText
 pub mod Path

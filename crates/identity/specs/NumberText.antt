@@ -3,25 +3,26 @@ use Rattle.std.specs.Prelude.{◌≡◌, ℕ, length, take, Bool, false, not, �
 use Rattle.std.specs.Char.{is_ascii_digit}
 use Rattle.std.specs.List.{list_all}
 use Rattle.std.specs.Str.Parse.{digits_value}
+use Rattle.identity.specs.Numbers.{Byte}
 use Rattle.identity.specs.declared.fault.Fault.{Fault}
 use Rattle.identity.specs.declared.fault.Fault.TheVariants.{BadText, OutOfRange}
 
 -- the form of a number: digits alone, at least one, and no zero before another
-unfoldable pub is_number : List ℕ → Bool
+unfoldable pub is_number : List Byte → Bool
 is_number [] = false
 is_number (c ∷ []) = is_ascii_digit c
 is_number (c ∷ d ∷ text) = not (c == 48) && list_all is_ascii_digit (c ∷ d ∷ text)
 
 -- the number that digits are
-abbrev pub value : List ℕ → ℕ
+abbrev pub value : List Byte → ℕ
 value digits = digits_value 10 digits
 
 -- what a text says that is to be a number of at most `most`: the form is judged before the range
-unfoldable pub reading_number : ℕ → List ℕ → Result ℕ Fault
+unfoldable pub reading_number : ℕ → List Byte → Result ℕ Fault
 reading_number most text = if is_number text then (if nat_le (value text) most then Ok (value text) else Err OutOfRange) else Err BadText
 
 -- what stands before the first byte `mark`, and what stands behind it
-unfoldable pub cut : ℕ → List ℕ → Option (List ℕ × List ℕ)
+unfoldable pub cut : Byte → List Byte → Option (List Byte × List Byte)
 cut mark [] = None
 cut mark (b ∷ text) = if b == mark then Some ([], text) else option_map (λ parts. (b ∷ parts.0, parts.1)) (cut mark text)
 
@@ -31,5 +32,5 @@ judged range None = Err BadText
 judged range (Some form) = range form
 
 -- what was in a buffer is there still, at its front
-abbrev pub Keeps : List ℕ → List ℕ → Type 0
-Keeps old new = take (length old) new ≡ old
+abbrev pub IsFrontOf : List Byte → List Byte → Type 0
+IsFrontOf old new = take (length old) new ≡ old

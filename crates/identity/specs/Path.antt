@@ -1,8 +1,9 @@
 -- Identities and prefixes as lists of bits, and the order of such lists.
-use Rattle.std.specs.Prelude.{ℕ, ◌-◌, Bool, true, false, List, [], ◌∷◌, ◌++◌, length, replicate}
+use Rattle.std.specs.Prelude.{◌-◌, Bool, true, false, List, [], ◌∷◌, ◌++◌, length, replicate}
 use Rattle.std.specs.Ordering.{bool_cmp}
 use Rattle.std.specs.declared.cmp.Ordering.{Ordering}
 use Rattle.std.specs.Cmp.Lexicographic.{slice_cmp}
+use Rattle.identity.specs.Numbers.{Identity}
 use Rattle.identity.specs.Number.{num, number}
 
 -- the bits of an identity, or the first of them
@@ -14,11 +15,11 @@ abbrev pub path_cmp : Path → Path → Ordering
 path_cmp = slice_cmp bool_cmp
 
 -- the 48 bits of an identity
-unfoldable pub id_path : ℕ → Path
+unfoldable pub id_path : Identity → Path
 id_path v = num 48 v
 
 -- the identity that begins with a prefix and has only zeros behind it
-unfoldable pub left_aligned : Path → ℕ
+unfoldable pub left_aligned : Path → Identity
 left_aligned p = number (p ++ replicate (48 - length p) false)
 
 -- the first list begins the second

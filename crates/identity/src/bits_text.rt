@@ -6,7 +6,7 @@ ghost use Rattle.std.specs.Fmt.{digit_glyph};
 ghost use Rattle.std.specs.List.{list_all};
 ghost use Rattle.identity.specs.Number.{num, number};
 ghost use Rattle.identity.specs.Packed.{bits_of as packed_bits};
-ghost use Rattle.identity.specs.NumberText.{is_number, value, Keeps};
+ghost use Rattle.identity.specs.NumberText.{is_number, value, IsFrontOf};
 ghost use Rattle.identity.specs.BitsText.{hex_of, bits_text, digit_bits, bits_len, is_filled, reading_bits};
 ghost use Rattle.identity.specs.declared.fault.Fault.TheVariants.{NoMemory};
 
@@ -193,7 +193,7 @@ fn put_whole_digits<A: Allocator, B: Allocator>(
     bits: &Bits<B>,
 ) -> Result<(), AllocError>
     ensures ok { OnOk result (out.new.items ++ hex_of (drop (8 * (length bits.now / 8)) bits.now) ≡ out.old.items ++ hex_of bits.now) }
-    ensures kept { Keeps out.old.items out.new.items }
+    ensures front { IsFrontOf out.old.items out.new.items }
     ensures full { OnErr result (vec_capacity out.old < vec_len out.old + length (hex_of bits.now)) }
     ensures capacity { vec_capacity out.old ≤ vec_capacity out.new }
 {
@@ -208,7 +208,7 @@ fn put_digits<A: Allocator>(
     reader: &mut BitReader<'_>,
 ) -> Result<(), AllocError>
     ensures ok { OnOk result (out.new.items ≡ out.old.items ++ hex_of reader.old) }
-    ensures err { OnErr result (Keeps out.old.items out.new.items) }
+    ensures err { OnErr result (IsFrontOf out.old.items out.new.items) }
     ensures full { OnErr result (vec_capacity out.old < vec_len out.old + length (hex_of reader.old)) }
     ensures capacity { vec_capacity out.old ≤ vec_capacity out.new }
 {
@@ -218,13 +218,13 @@ fn put_digits<A: Allocator>(
     Ok(())
 }
 
-#[tactic(auto, using(crate::proofs::HexSteps::keeps_on))]
+#[tactic(auto, using(crate::proofs::HexSteps::front_of_front))]
 fn put_hex<A: Allocator, B: Allocator>(
     out: &mut Vec<u8, A>,
     bits: &Bits<B>,
 ) -> Result<(), AllocError>
     ensures ok { OnOk result (out.new.items ≡ out.old.items ++ hex_of bits.now) }
-    ensures err { OnErr result (Keeps out.old.items out.new.items) }
+    ensures err { OnErr result (IsFrontOf out.old.items out.new.items) }
     ensures full { OnErr result (vec_capacity out.old < vec_len out.old + length (hex_of bits.now)) }
     ensures capacity { vec_capacity out.old ≤ vec_capacity out.new }
 {
@@ -239,7 +239,7 @@ fn put_bits<A: Allocator, B: Allocator>(
     bits: &Bits<B>,
 ) -> Result<(), AllocError>
     ensures ok { OnOk result (out.new.items ≡ out.old.items ++ bits_text bits.now) }
-    ensures err { OnErr result (Keeps out.old.items out.new.items) }
+    ensures err { OnErr result (IsFrontOf out.old.items out.new.items) }
     ensures full { OnErr result (vec_capacity out.old < vec_len out.old + length (bits_text bits.now)) }
     ensures capacity { vec_capacity out.old ≤ vec_capacity out.new }
 {

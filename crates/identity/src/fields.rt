@@ -3,6 +3,8 @@
 ghost use Rattle.std.specs.Prelude.{◌≡◌, ◌<◌, ◌^◌, ◌↔◌, IsSome, IfSome};
 ghost use Rattle.identity.specs.Identity.{identity_number, AreFields, mcc_of, mnc_of, ssi_of};
 
+/// How many numbers 48 bits have.
+pub const IDENTITIES: u64 = 1 << 48;
 /// The greatest country code, of 10 bits.
 pub const MOST_MCC: u32 = 1023;
 /// The greatest network code, of 14 bits.
@@ -20,7 +22,7 @@ pub fn number_of(mcc: u32, mnc: u32, ssi: u32) -> u64
 }
 
 /// The identity's number, where each of the three is in its range.
-pub fn joined(mcc: u32, mnc: u32, ssi: u32) -> Option<u64>
+pub fn checked_number(mcc: u32, mnc: u32, ssi: u32) -> Option<u64>
     ensures fits { IsSome result ↔ AreFields mcc mnc ssi }
     ensures value { IfSome result (λ n. n ≡ identity_number mcc mnc ssi) }
     ensures below { IfSome result (λ n. n < 2 ^ 48) }

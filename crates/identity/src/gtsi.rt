@@ -36,7 +36,7 @@ impl Gtsi {
         ensures fits { IsSome result ↔ AreFields mcc mnc ssi }
         ensures value { IfSome result (λ gtsi. gtsi ≡ identity_number mcc mnc ssi) }
     {
-        let number = fields::joined(mcc, mnc, ssi)?;
+        let number = fields::checked_number(mcc, mnc, ssi)?;
         Some(Gtsi { number })
     }
 
@@ -45,7 +45,7 @@ impl Gtsi {
         ensures fits { IsSome result ↔ (number < 2 ^ 48) }
         ensures value { IfSome result (λ gtsi. gtsi ≡ number) }
     {
-        if number < 1 << 48 {
+        if number < fields::IDENTITIES {
             Some(Gtsi { number })
         } else {
             None

@@ -1,7 +1,7 @@
 //! Identities and prefixes as text.
 
 ghost use Rattle.std.specs.Prelude.{◌≡◌, ◌<◌, ◌≤◌, ◌^◌, ◌+◌, ◌++◌, OnOk, OnErr, IfOk, IfSome, IsTrue, length, vec_len, vec_capacity};
-ghost use Rattle.identity.specs.NumberText.{Keeps};
+ghost use Rattle.identity.specs.NumberText.{IsFrontOf};
 ghost use Rattle.identity.specs.IdentityText.{identity_text, prefix_text, reading_identity, prefix_of, reading_prefix};
 
 use crate::number_text::{cut, parse_number, print_number, put_whole};
@@ -87,7 +87,7 @@ pub fn parse_prefix(text: &[u8]) -> Result<Prefix, Fault>
 fn put_identity<A: Allocator>(out: &mut Vec<u8, A>, number: u64) -> Result<(), AllocError>
     requires { number < 2 ^ 48 }
     ensures ok { OnOk result (out.new.items ≡ out.old.items ++ identity_text number) }
-    ensures err { OnErr result (Keeps out.old.items out.new.items) }
+    ensures err { OnErr result (IsFrontOf out.old.items out.new.items) }
     ensures full { OnErr result (vec_capacity out.old < vec_len out.old + length (identity_text number)) }
     ensures capacity { vec_capacity out.old ≤ vec_capacity out.new }
 {
@@ -134,7 +134,7 @@ pub fn print_gtsi<A: Allocator>(out: &mut Vec<u8, A>, gtsi: Gtsi) -> Result<(), 
 #[tactic(auto, unfolding(crate::specs::IdentityText::prefix_text), using(crate::proofs::Printed::printed))]
 fn put_prefix<A: Allocator>(out: &mut Vec<u8, A>, prefix: Prefix) -> Result<(), AllocError>
     ensures ok { OnOk result (out.new.items ≡ out.old.items ++ prefix_text prefix) }
-    ensures err { OnErr result (Keeps out.old.items out.new.items) }
+    ensures err { OnErr result (IsFrontOf out.old.items out.new.items) }
     ensures full { OnErr result (vec_capacity out.old < vec_len out.old + length (prefix_text prefix)) }
     ensures capacity { vec_capacity out.old ≤ vec_capacity out.new }
 {

@@ -36,7 +36,7 @@ impl Itsi {
         ensures fits { IsSome result ↔ AreFields mcc mnc ssi }
         ensures value { IfSome result (λ itsi. itsi ≡ identity_number mcc mnc ssi) }
     {
-        let number = fields::joined(mcc, mnc, ssi)?;
+        let number = fields::checked_number(mcc, mnc, ssi)?;
         Some(Itsi { number })
     }
 
@@ -45,7 +45,7 @@ impl Itsi {
         ensures fits { IsSome result ↔ (number < 2 ^ 48) }
         ensures value { IfSome result (λ itsi. itsi ≡ number) }
     {
-        if number < 1 << 48 {
+        if number < fields::IDENTITIES {
             Some(Itsi { number })
         } else {
             None

@@ -7,13 +7,11 @@ ghost use Rattle.identity.specs.Path.{id_path, path_cmp, left_aligned, begins};
 ghost use Rattle.identity.specs.IdentityText.{prefix_text, reading_prefix};
 
 use crate::display::pad;
+use crate::fields::IDENTITIES;
 use crate::{Fault, fields, parse_prefix};
 use std::fmt;
 use std::marker::Model;
 use std::str::FromStr;
-
-/// How many numbers 48 bits have.
-const IDENTITIES: u64 = 1 << 48;
 
 /// The first bits of an identity, 0 to 48 of them.
 #[derive(Clone, Copy, Debug)]

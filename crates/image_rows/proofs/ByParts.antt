@@ -18,7 +18,7 @@ use Rattle.prefix_tree.specs.Following.{is_after, next_of}
 use Rattle.prefix_tree.proofs.Order.{by_number}
 use Rattle.registration.specs.declared.rule.Rule.{Rule}
 use Rattle.registration.specs.declared.radio.Radio.{Radio}
-use Rattle.mailbox.specs.Values.{Waiting}
+use Rattle.mailbox.specs.Values.{Item}
 use Rattle.mailbox.specs.declared.key.Key.{Key}
 use Rattle.mailbox.specs.Order.{named, named_cmp}
 use Rattle.centre_core.specs.State.{State}
@@ -121,7 +121,7 @@ module _ (s : State) where
   first_item : first (mail_rows s ++ served_rows 1 s.served) ≡ after_item s None
   first_item = first_of s.mail.items
     where
-      first_of : (ws : List Waiting) → first (each MailRow ws ++ served_rows 1 s.served) ≡ option_or (option_map MailRow (next_of named_cmp named ws None)) (after_station s 0)
+      first_of : (ws : List Item) → first (each MailRow ws ++ served_rows 1 s.served) ≡ option_or (option_map MailRow (next_of named_cmp named ws None)) (after_station s 0)
       first_of [] = refl
       first_of (w ∷ ws) = refl
 

@@ -40,7 +40,7 @@ pub rows_fit : (epoch : ℕ) (s : State) → IsState s → length (rows_of epoch
 rows_fit epoch s is =
     let told = rows_counted epoch s in
     let served = count_by-le-length is_some s.served in
-    omega (arith, told, is.0.0, is.0.1, is.2.0.fits, is.2.1, served, is.3)
+    omega (arith, told, is.within.rules, is.within.radios, is.mail.in_order.fits, is.mail.room, served, is.stations)
 
 same_first : (h k : Header) (xs ys : List Row) → HeaderRow h ∷ xs ≡ HeaderRow k ∷ ys → h ≡ k
 same_first h k xs ys e = cc

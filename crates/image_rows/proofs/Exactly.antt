@@ -12,9 +12,9 @@ use Rattle.registration.specs.declared.rule.Rule.{Rule}
 use Rattle.registration.specs.declared.radio.Radio.{Radio}
 use Rattle.registration.specs.Registered.{empty_registered}
 use Rattle.group_attach.specs.Attached.{no_groups}
-use Rattle.group_attach.proofs.KeptLaws.{no_groups_fit, no_groups_known}
-use Rattle.mailbox.proofs.Kept.{empty_is_mail}
-use Rattle.centre_core.specs.State.{State, IsState, IsNumbered, empty, last_number}
+use Rattle.group_attach.proofs.AllowedLaws.{no_groups_fit, no_groups_known}
+use Rattle.mailbox.proofs.Sound.{empty_is_mail}
+use Rattle.centre_core.specs.State.{State, IsState, IsOfAccepted, empty, last_number}
 use Rattle.centre_core.specs.StateRanges.{StateInRange}
 use Rattle.centre_core.proofs.RangeLaws.{empty_is_in_range}
 use Rattle.image_rows.specs.Rows.{Row, RowInRange, HeaderRow, RuleRow, RadioRow, MailRow, ServedRow, Header, rule_row, radio_row, served_rows, rows_of, header_of, how_many}
@@ -66,9 +66,9 @@ header_sound h limits room =
       no_mail = λ _. refl;
       no_served = λ _. free_blanks limits.stations;
       room = room;
-      kept = (no_groups_fit, no_groups_known (empty_registered limits));
+      allowed = (no_groups_fit, no_groups_known (empty_registered limits));
       mail = empty_is_mail limits h.count;
-      numbered = All-replicate (IsNumbered h.count) limits.stations None tt;
+      numbered = All-replicate (IsOfAccepted h.count) limits.stations None tt;
       ranges = record { limits = ranges.limits; rules = ranges.rules; radios = ranges.radios; attachments = ranges.attachments; mail = ranges.mail; served = ranges.served };
     }
 
@@ -116,12 +116,15 @@ stood_only limits (HeaderRow h ∷ rest) epoch s ranges e =
     let all_rules : map.len n.registered.rules ≡ h.rules = eqb-true _ _ (left _ _ (left _ _ (left _ _ whole))) in
     let all_radios : map.len n.registered.radios ≡ h.radios = eqb-true _ _ (right (rules_done h n) _ (left _ _ (left _ _ whole))) in
     let sound = d.2.sound in
-    let state : IsState n = (
-      (subst (λ (l : Limits). map.len n.registered.rules ≤ l.rules) (sym lim) (omega (arith, all_rules, rules)), subst (λ (l : Limits). map.len n.registered.radios ≤ l.radios) (sym lim) (omega (arith, all_radios, radios))),
-      sound.kept,
-      (sound.mail, d.2.room ∙ ap (λ (l : Limits). l.mail) (sym lim)),
-      d.2.stations ∙ length-replicate limits.stations None ∙ ap (λ (l : Limits). l.stations) (sym lim),
-      subst (λ k. k ≤ last_number) (sym d.2.count) count,
-      sound.numbered,
-    ) in
+    let state : IsState n = record {
+      within = record {
+        rules = subst (λ (l : Limits). map.len n.registered.rules ≤ l.rules) (sym lim) (omega (arith, all_rules, rules));
+        radios = subst (λ (l : Limits). map.len n.registered.radios ≤ l.radios) (sym lim) (omega (arith, all_radios, radios));
+      };
+      attachments = sound.allowed;
+      mail = record { in_order = sound.mail; room = d.2.room ∙ ap (λ (l : Limits). l.mail) (sym lim) };
+      stations = d.2.stations ∙ length-replicate limits.stations None ∙ ap (λ (l : Limits). l.stations) (sym lim);
+      count = subst (λ k. k ≤ last_number) (sym d.2.count) count;
+      last = sound.numbered;
+    } in
     subst (λ (p : ℕ × State). (HeaderRow h ∷ rest ≡ rows_of p.0 p.1) × IsState p.1 × StateInRange p.1 × (p.1.registered.limits ≡ limits)) g.1 (told ∙ same, state, sound.ranges, lim)

@@ -16,7 +16,7 @@ use Rattle.group_attach.proofs.Pairs.{alike}
 use Rattle.group_attach.proofs.Filtered.{entries_retained, from_T}
 use Rattle.group_attach.proofs.Moves.{get_added}
 use Rattle.image_rows.specs.Rows.{group_of, groups_of}
-use Rattle.image_rows.specs.Loading.{joined, attachment_in}
+use Rattle.image_rows.specs.Loading.{with_attachments, attachment_in}
 use Rattle.identity.proofs.NumberText.{and_left as left, and_right as right}
 use Rattle.image_rows.proofs.Order.{both, same_number}
 
@@ -70,8 +70,8 @@ pub length_groups : (full : Attached) (itsi : ℕ) → length (groups_of full it
 length_groups full itsi = length_each group_of (map.entries (of_radio full itsi)) ∙ sym (map.len-entries (of_radio full itsi))
 
 -- what a radio's row adds
-pub get_joined : (m full : Attached) (itsi : ℕ) (q : Pair) → map.get (joined m itsi (groups_of full itsi)) q ≡ option_or (cond (q.0 == itsi) (map.get full q) None) (map.get m q)
-get_joined m full itsi q =
+pub get_with_attachments : (m full : Attached) (itsi : ℕ) (q : Pair) → map.get (with_attachments m itsi (groups_of full itsi)) q ≡ option_or (cond (q.0 == itsi) (map.get full q) None) (map.get m q)
+get_with_attachments m full itsi q =
     ap (λ l. map.get (all_attached m l) q) (back itsi (map.entries (of_radio full itsi)) (all_own full itsi))
     ∙ get_added m (of_radio full itsi) q
     ∙ ap (λ o. option_or o (map.get m q)) (map.get-retain_keys full (λ pair. pair.0 == itsi) q (alike (λ pair. pair.0 == itsi) q))

@@ -35,7 +35,7 @@ are_rows epoch s some most is ranges =
     let in_range = rows_in_range epoch s some most is ranges in
     let rules = All-map Known rule_row (map.entries s.registered.rules) (λ k d below. refl) in
     let radios = All-map Known (radio_row s.groups) (map.entries s.registered.radios) (λ k d below. refl) in
-    let mail = All-map Known MailRow s.mail.items (λ k d below. (is.2.0.spelt k d below).head) in
+    let mail = All-map Known MailRow s.mail.items (λ k d below. (is.mail.in_order.spelt k d below).head) in
     let known = All-cons Known (HeaderRow (header_of epoch s)) _ refl (All-append Known _ _ rules (All-append Known _ _ radios (All-append Known _ _ mail (served_known 1 s.served)))) in
     λ k d below. record { range = in_range k d below; known = known k d below }
 

@@ -16,7 +16,7 @@ use Rattle.registration.specs.declared.radio.Radio.{Radio}
 use Rattle.group_attach.specs.declared.attachment.Attachment.{Attachment}
 use Rattle.group_attach.specs.Applied.{most_of_radio}
 use Rattle.group_attach.specs.Attached.{Attached, of_radio, attachment_of, groups_of as attachments_of}
-use Rattle.mailbox.specs.Values.{Waiting, Mailed}
+use Rattle.mailbox.specs.Values.{Item, Mailed}
 use Rattle.mailbox.specs.declared.key.Key.{Key}
 use Rattle.mailbox.specs.Order.{named, named_cmp, next_item}
 use Rattle.identity.specs.BitsText.{most_bits}
@@ -49,7 +49,7 @@ found_is P p (y ∷ ys) x is all =
 pub told_at : (epoch : ℕ) (s : State) (after : Option RowPlace) (p : RowPlace) (told : Option (RowPlace × List ℕ)) → StateInRange s → after ≡ Some p → PlaceInRange (Some p) → told ≡ option_map told_row (told_after epoch s (Some p)) → told ≡ option_map told_row (row_after epoch s after)
 told_at epoch s after p told ranges is fits here = here ∙ ap (option_map told_row) (sym (told_is_after epoch s (Some p) ranges fits) ∙ ap (row_after epoch s) (sym is))
 
-pub pdu_fits : (s : State) (m : Mailed) (after : Option (ℕ × Key)) (w : Waiting) → StateInRange s → m ≡ s.mail → Some w ≡ next_item m after → length w.pdu ≤ most_bits
+pub pdu_fits : (s : State) (m : Mailed) (after : Option (ℕ × Key)) (w : Item) → StateInRange s → m ≡ s.mail → Some w ≡ next_item m after → length w.pdu ≤ most_bits
 pdu_fits s m after w ranges is found =
     let all : All ItemInRange m.items = subst (λ (n : Mailed). All ItemInRange n.items) (sym is) ranges.mail in
     let fits = (found_is ItemInRange (is_after named_cmp named after) m.items w (sym found) all).pdu in
@@ -59,7 +59,7 @@ pub few_groups : (s : State) (m : Attached) (itsi : ℕ) (l : List Attachment) �
 few_groups s m itsi l state is list =
     let a : length l ≡ length (map.entries (of_radio s.groups itsi)) = ap length list ∙ length_each attachment_of (map.entries (of_radio m itsi)) ∙ ap (λ (n : Attached). length (map.entries (of_radio n itsi))) is in
     let b = map.len-entries (of_radio s.groups itsi) in
-    let c = state.1.0 itsi in
+    let c = state.attachments.0 itsi in
     omega (arith, a, b, c)
 
 pub radio_found : (s : State) (r : Registered) (m : Attached) (after : Option ℕ) (itsi : ℕ) (radio : Radio) (l : List Attachment) (told : RowPlace × List ℕ) → itsi < 2 ^ 48 → r ≡ s.registered → m ≡ s.groups → Some (id_path itsi, radio) ≡ next_entry r.radios (option_map id_path after) → l ≡ attachments_of m itsi

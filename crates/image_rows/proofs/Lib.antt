@@ -12,7 +12,7 @@ pub mod Radios
 pub mod Letters
 pub mod Stations
 pub mod Standing
-pub mod Joined
+pub mod WithAttachments
 pub mod Only
 pub mod Exactly
 pub mod Ranges

@@ -64,7 +64,7 @@ held_after limits (HeaderRow k ∷ rest) h s ranges e =
       rules = subst (λ (l : Limits). k.rules ≤ l.rules) (sym lim) rules;
       radios = subst (λ (l : Limits). k.radios ≤ l.radios) (sym lim) radios;
       mail = d.2.sound.room;
-      known = d.2.sound.kept.1;
+      known = d.2.sound.allowed.1;
     } in
     subst (λ (g : Header). IsHeld g s) same.0 (subst (λ (m : State). IsHeld k m) same.1 held)
 

@@ -15,24 +15,24 @@ use Rattle.registration.specs.declared.rule.Rule.{Rule}
 use Rattle.registration.specs.declared.radio.Radio.{Radio}
 use Rattle.group_attach.specs.Attached.{Pair}
 use Rattle.group_attach.specs.Applied.{most_of_radio}
-use Rattle.group_attach.specs.Kept.{AreKept}
+use Rattle.group_attach.specs.Allowed.{AreAllowed}
 use Rattle.sds_tl.specs.Reading.{heading}
-use Rattle.mailbox.specs.Values.{Waiting}
-use Rattle.mailbox.specs.Kept.{IsMail, IsSpelt, is_head_of, IsNumbered as IsNumberedItem}
+use Rattle.mailbox.specs.Values.{Item}
+use Rattle.mailbox.specs.Sound.{IsMail, IsSpelt, is_head_of, IsNumbered as IsNumberedItem}
 use Rattle.mailbox.specs.Mail.{holds}
 use Rattle.mailbox.specs.Order.{IsBefore, named, named_cmp}
 use Rattle.mailbox.specs.Refusals.{most_for_one}
-use Rattle.mailbox.specs.Tests.{same_key, is_to, is_at}
+use Rattle.mailbox.specs.Item.{same_key, is_to, is_at}
 use Rattle.mailbox.proofs.Lists.{none_passes}
-use Rattle.centre_core.specs.State.{State, Served, IsNumbered}
-use Rattle.centre_core.specs.StateRanges.{StateInRange, RuleEntryInRange, RadioInRange, ItemInRange, ServedInRange}
+use Rattle.centre_core.specs.State.{State, LastAccepted, IsOfAccepted}
+use Rattle.centre_core.specs.StateRanges.{StateInRange, RuleEntryInRange, RadioInRange, ItemInRange, LastAcceptedInRange}
 use Rattle.centre_core.proofs.EntriesLaws.{insert_all}
 use Rattle.image_rows.specs.Rows.{Row, HeaderRow, RuleRow, RadioRow, MailRow, ServedRow, Header, Group, RadioRowInRange, MailRowInRange, ServedRowInRange, RowInRange, rule_row, radio_row, served_rows, groups_of, how_many}
-use Rattle.image_rows.specs.Loading.{is_next, is_numbered, rules_done, radios_done, mail_done, rule_may, taken_rule, radio_may, taken_radio, joined, mail_may, taken_mail, are_free, served_may, taken_served, put}
+use Rattle.image_rows.specs.Loading.{is_next, is_numbered, rules_done, radios_done, mail_done, rule_may, taken_rule, radio_may, taken_radio, with_attachments, mail_may, taken_mail, are_free, served_may, taken_served, put}
 use Rattle.identity.proofs.NumberText.{and_left as left, and_right as right}
 use Rattle.prefix_tree.proofs.Places.{less_of}
 use Rattle.image_rows.proofs.Order.{entries_next, get_next}
-use Rattle.image_rows.proofs.Joined.{own_kept, few_on, known_on, rows_before, ranges_on}
+use Rattle.image_rows.proofs.WithAttachments.{own_on, few_on, known_on, rows_before, ranges_on}
 use Rattle.image_rows.proofs.Stations.{Entries}
 
 -- what holds of a state between two rows: no row of a part came before the last one of the part before it
@@ -41,9 +41,9 @@ pub record IsSound (h : Header) (s : State) : Type 0 where
   pub no_mail : radios_done h s ≡ false → s.mail.items ≡ []
   pub no_served : mail_done h s ≡ false → are_free s.served ≡ true
   pub room : h.mail ≤ s.mail.room
-  pub kept : AreKept s.registered s.groups
+  pub allowed : AreAllowed s.registered s.groups
   pub mail : IsMail s.count s.mail
-  pub numbered : All (IsNumbered s.count) s.served
+  pub numbered : All (IsOfAccepted s.count) s.served
   pub ranges : StateInRange s
 
 -- the rows so far
@@ -104,7 +104,7 @@ rule_only h s prefix rule sound range may =
         no_mail = λ _. items;
         no_served = λ _. free;
         room = sound.room;
-        kept = sound.kept;
+        allowed = sound.allowed;
         mail = sound.mail;
         numbered = sound.numbered;
         ranges = record { limits = ranges.limits; rules = insert_all paths_total paths_exact RuleEntryInRange old prefix rule range ranges.rules; radios = ranges.radios; attachments = ranges.attachments; mail = ranges.mail; served = ranges.served };
@@ -145,15 +145,15 @@ radio_only h s itsi radio gs sound range may =
     let items = sound.no_mail undone in
     let free = sound.no_served without_mail in
     let none : (q : Pair) → q.0 ≡ itsi → map.get s.groups q ≡ None = λ q is.
-    no_attachment (map.get s.groups q) (map.get old (id_path q.0)) (sound.kept.1 q.0 q.1) (ap (λ k. map.get old (id_path k)) is ∙ get_next paths_total old (id_path itsi) next) in
+    no_attachment (map.get s.groups q) (map.get old (id_path q.0)) (sound.allowed.1 q.0 q.1) (ap (λ k. map.get old (id_path k)) is ∙ get_next paths_total old (id_path itsi) next) in
     let ranges = sound.ranges in
     let whole : All (λ e. length e.0 ≡ 48) (map.entries old) = All-weaker (λ e. RadioInRange limits.stations e.0 e.1) (λ e. length e.0 ≡ 48) (λ e in_range. in_range.0) (map.entries old) ranges.radios in
     let a = each rule_row (map.entries s.registered.rules) in
     let b = each (radio_row s.groups) (map.entries old) in
     let rest = each MailRow s.mail.items ++ served_rows 1 s.served in
-    let groups = joined s.groups itsi gs in
+    let groups = with_attachments s.groups itsi gs in
     let row = RadioRow itsi radio gs in
-    let last : radio_row groups (id_path itsi, radio) ≡ row = (λ i. RadioRow (number-id_path itsi range.number i) radio (groups_of groups (number-id_path itsi range.number i))) ∙ ap (RadioRow itsi radio) (own_kept s.groups itsi gs order none) in
+    let last : radio_row groups (id_path itsi, radio) ≡ row = (λ i. RadioRow (number-id_path itsi range.number i) radio (groups_of groups (number-id_path itsi range.number i))) ∙ ap (RadioRow itsi radio) (own_on s.groups itsi gs order none) in
     let grown : each (radio_row groups) (map.entries (map.insert old (id_path itsi) radio)) ≡ b ++ row ∷ [] =
     ap (each (radio_row groups)) (entries_next paths_total old (id_path itsi) radio next) ∙ each_push (radio_row groups) (map.entries old) (id_path itsi, radio)
     ∙ (λ i. rows_before s.groups itsi gs order (map.entries old) whole next i ++ last i ∷ []) in
@@ -164,7 +164,7 @@ radio_only h s itsi radio gs sound range may =
         no_mail = λ _. items;
         no_served = λ _. free;
         room = sound.room;
-        kept = (few_on s.groups itsi gs order none short sound.kept.0, known_on s.groups itsi gs order old radio sound.kept.1);
+        allowed = (few_on s.groups itsi gs order none short sound.allowed.0, known_on s.groups itsi gs order old radio sound.allowed.1);
         mail = sound.mail;
         numbered = sound.numbered;
         ranges = record {
@@ -190,10 +190,10 @@ false_if : (b : Bool) → not b ≡ true → b ≡ false
 false_if true e = absurd cc
 false_if false e = refl
 
-abbrev weight : ℕ → Waiting → ℕ
+abbrev weight : ℕ → Item → ℕ
 weight destination w = cond (is_to destination w) 1 0
 
-each_fits : (w : Waiting) (ws : List Waiting) (destination : ℕ) → count_by (is_to w.key.destination) ws < most_for_one → count_by (is_to destination) ws ≤ most_for_one → count_by (is_to destination) (ws ++ w ∷ []) ≤ most_for_one
+each_fits : (w : Item) (ws : List Item) (destination : ℕ) → count_by (is_to w.key.destination) ws < most_for_one → count_by (is_to destination) ws ≤ most_for_one → count_by (is_to destination) (ws ++ w ∷ []) ≤ most_for_one
 each_fits w ws destination here all =
     let sum : count_by (is_to destination) (ws ++ w ∷ []) ≡ count_by (is_to destination) ws + weight destination w = sum_by_push (weight destination) ws w in
     elim (is_to destination w) as (λ b. is_to destination w ≡ b → count_by (is_to destination) (ws ++ w ∷ []) ≤ most_for_one) [
@@ -204,7 +204,7 @@ each_fits w ws destination here all =
       | false ↦ λ other. let nothing : weight destination w ≡ 0 = ap (λ b. cond b 1 0) other in omega (arith, sum, nothing, all)
     ] refl
 
-pub mail_only : (h : Header) (s : State) (w : Waiting) → IsSound h s → MailRowInRange w → mail_may h s w ≡ true → Comes h s (taken_mail s w) (MailRow w ∷ [])
+pub mail_only : (h : Header) (s : State) (w : Item) → IsSound h s → MailRowInRange w → mail_may h s w ≡ true → Comes h s (taken_mail s w) (MailRow w ∷ [])
 mail_only h s w sound range may =
     let old = s.mail.items in
     let comes_last = list_all (λ o. is_lt (named_cmp (named o) (named w))) old in
@@ -239,7 +239,7 @@ mail_only h s w sound range may =
         no_mail = opposite (radios_done h s) placed;
         no_served = λ _. stations_free;
         room = room;
-        kept = sound.kept;
+        allowed = sound.allowed;
         mail = record {
           numbered = All-push (IsNumberedItem s.count) old w mail.numbered number;
           ordered = all_pairs_push IsBefore old w mail.ordered (λ k x below. less_of _ (All-get_or (λ o. is_lt (named_cmp (named o) (named w)) ≡ true) old k x below (AllPass-from_list_all (λ o. is_lt (named_cmp (named o) (named w))) old last)));
@@ -261,21 +261,21 @@ mail_only h s w sound range may =
 
 -- ---- a station's row
 
-set_rows : (k : ℕ) (xs : Entries) (place : ℕ) (x : Served) → place < length xs → are_free (drop place xs) ≡ true → served_rows k (slice_set xs place (Some x)) ≡ served_rows k xs ++ ServedRow (k + place) x ∷ []
+set_rows : (k : ℕ) (xs : Entries) (place : ℕ) (x : LastAccepted) → place < length xs → are_free (drop place xs) ≡ true → served_rows k (slice_set xs place (Some x)) ≡ served_rows k xs ++ ServedRow (k + place) x ∷ []
 set_rows k [] place x lt free = absurd (omega (arith, lt))
 set_rows k (None ∷ xs) zero x lt free = let e : k ≡ k + 0 = omega arith in ap (λ (l : List Row). ServedRow k x ∷ l) (no_rows (k + 1) xs free) ∙ ap (λ n. ServedRow n x ∷ []) e ∙ ap (λ (l : List Row). l ++ ServedRow (k + 0) x ∷ []) (sym (no_rows (k + 1) xs free))
 set_rows k (Some y ∷ xs) zero x lt free = absurd cc
 set_rows k (None ∷ xs) (suc place) x lt free = let e : (k + 1) + place ≡ k + suc place = omega arith in set_rows (k + 1) xs place x (omega (arith, lt)) free ∙ ap (λ n. served_rows (k + 1) xs ++ ServedRow n x ∷ []) e
 set_rows k (Some y ∷ xs) (suc place) x lt free = let e : (k + 1) + place ≡ k + suc place = omega arith in ap (λ (l : List Row). ServedRow k y ∷ l) (set_rows (k + 1) xs place x (omega (arith, lt)) free ∙ ap (λ n. served_rows (k + 1) xs ++ ServedRow n x ∷ []) e)
 
-pub served_only : (h : Header) (s : State) (station : ℕ) (x : Served) → IsSound h s → ServedRowInRange station x → served_may h s station x ≡ true → Comes h s (taken_served s station x) (ServedRow station x ∷ [])
+pub served_only : (h : Header) (s : State) (station : ℕ) (x : LastAccepted) → IsSound h s → ServedRowInRange station x → served_may h s station x ≡ true → Comes h s (taken_served s station x) (ServedRow station x ∷ [])
 served_only h s station x sound range may =
     let five = left _ _ may in
     let four = left _ _ five in
     let three = left _ _ four in
     let two = left _ _ three in
     let numbered : is_numbered s.count x.number ≡ true = right (mail_done h s && nat_lt (how_many s.served) h.served && nat_lt 0 station && nat_le station (length s.served) && are_free (drop (station - 1) s.served)) _ may in
-    let number : IsNumbered s.count (Some x) = (ltb-true _ _ (left _ _ numbered), leb-true _ _ (right (nat_lt 0 x.number) _ numbered)) in
+    let number : IsOfAccepted s.count (Some x) = (ltb-true _ _ (left _ _ numbered), leb-true _ _ (right (nat_lt 0 x.number) _ numbered)) in
     let free : are_free (drop (station - 1) s.served) ≡ true = right (mail_done h s && nat_lt (how_many s.served) h.served && nat_lt 0 station && nat_le station (length s.served)) _ five in
     let within : station ≤ length s.served = leb-true _ _ (right (mail_done h s && nat_lt (how_many s.served) h.served && nat_lt 0 station) _ four) in
     let some : 0 < station = ltb-true _ _ (right (mail_done h s && nat_lt (how_many s.served) h.served) _ three) in
@@ -293,10 +293,10 @@ served_only h s station x sound range may =
         no_mail = sound.no_mail;
         no_served = opposite (mail_done h s) posted;
         room = sound.room;
-        kept = sound.kept;
+        allowed = sound.allowed;
         mail = sound.mail;
-        numbered = All-set (IsNumbered s.count) s.served (station - 1) (Some x) number sound.numbered;
-        ranges = record { limits = ranges.limits; rules = ranges.rules; radios = ranges.radios; attachments = ranges.attachments; mail = ranges.mail; served = All-set (λ (last : Option Served). IfSome last ServedInRange) s.served (station - 1) (Some x) range.kept ranges.served };
+        numbered = All-set (IsOfAccepted s.count) s.served (station - 1) (Some x) number sound.numbered;
+        ranges = record { limits = ranges.limits; rules = ranges.rules; radios = ranges.radios; attachments = ranges.attachments; mail = ranges.mail; served = All-set (λ (last : Option LastAccepted). IfSome last LastAcceptedInRange) s.served (station - 1) (Some x) range.kept ranges.served };
       };
       stations = length-set s.served (station - 1) (Some x);
       count = refl;

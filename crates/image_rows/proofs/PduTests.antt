@@ -13,7 +13,7 @@ use Rattle.sds_tl.specs.Reading.{field, flag, type_of, fault, head_value, headin
 use Rattle.sds_tl.proofs.Cleared.{cleared-message}
 use Rattle.sds_tl.proofs.Fitting.{passes, passed_on, transfer_fits, report_fits, data_passes}
 use Rattle.mailbox.specs.declared.key.Kind.TheVariants.{Message, Report}
-use Rattle.mailbox.specs.Kept.{is_head_of}
+use Rattle.mailbox.specs.Sound.{is_head_of}
 use Rattle.image_rows.specs.Inside.PduTest.{is_of_type}
 use Rattle.image_rows.proofs.RowParts.{both_true, all_true}
 use Rattle.image_rows.proofs.Settled.{faultless}

@@ -13,13 +13,13 @@ use Rattle.registration.specs.Registered.{Registered, radio_of, with_radio, with
 use Rattle.group_attach.specs.declared.attachment.Attachment.{Attachment}
 use Rattle.group_attach.specs.Attached.{Attached, all_attached}
 use Rattle.group_attach.specs.Applied.{most_of_radio, restored, without_radio as without_groups}
-use Rattle.group_attach.specs.Kept.{AreKnown}
+use Rattle.group_attach.specs.Allowed.{AreKnown}
 use Rattle.group_attach.proofs.Pairs.{pairs_total, pairs_exact, alike}
-use Rattle.centre_core.specs.State.{State, Served}
+use Rattle.centre_core.specs.State.{State, LastAccepted}
 use Rattle.identity.proofs.NumberText.{and_left as left, and_right as right}
 use Rattle.image_rows.specs.Rows.{Row, RowInRange, Header, Group, RadioRow, ServedRow, how_many}
-use Rattle.image_rows.specs.Loading.{◌>>=◌, Loading, begin, row_taken, take_by, is_next, rules_done, mail_done, joined, attachment_in, put, taken_radio, served_may, all_done, finished, finished_by}
-use Rattle.image_rows.specs.Held.{Came, IsHeld, IsLoaded, IsPlace, loading, place_may, with_groups}
+use Rattle.image_rows.specs.Loading.{◌>>=◌, Loading, begin, row_taken, take_by, is_next, rules_done, mail_done, with_attachments, attachment_in, put, taken_radio, served_may, all_done, finished, finished_by, place_may}
+use Rattle.image_rows.specs.Held.{Came, IsHeld, IsLoaded, IsPlace, loading, with_groups}
 use Rattle.image_rows.proofs.Order.{get_next}
 use Rattle.image_rows.proofs.Rules.{at}
 use Rattle.image_rows.proofs.Only.{no_attachment}
@@ -55,8 +55,8 @@ no_groups_yet r m itsi known none =
 pub with_own : (s : State) (itsi : ℕ) (radio : Radio) (gs : List Group) (list : List Attachment) (reg : Registered) (m : Attached) → IsPlace s itsi → (nat_le (length gs) most_of_radio && map.is_sorted nat_cmp gs) ≡ true
     → list ≡ each (attachment_in itsi) gs → reg ≡ with_radio s.registered itsi radio → m ≡ restored s.groups itsi list → Came (with_groups s itsi radio gs) s true (record s { registered = reg; groups = m })
 with_own s itsi radio gs list reg m place may own is groups =
-    let joined_so : m ≡ joined s.groups itsi gs = groups ∙ ap (restored s.groups itsi) own ∙ ap (λ (n : Attached). all_attached n (each (attachment_in itsi) gs)) (no_groups_yet s.registered s.groups itsi place.known place.new) in
-    rw may (refl, λ i. record s { registered = is i; groups = joined_so i })
+    let with_attachments_so : m ≡ with_attachments s.groups itsi gs = groups ∙ ap (restored s.groups itsi) own ∙ ap (λ (n : Attached). all_attached n (each (attachment_in itsi) gs)) (no_groups_yet s.registered s.groups itsi place.known place.new) in
+    rw may (refl, λ i. record s { registered = is i; groups = with_attachments_so i })
 
 pub without_own : (s : State) (itsi : ℕ) (radio : Radio) (gs : List Group) → (nat_le (length gs) most_of_radio && map.is_sorted nat_cmp gs) ≡ false → Came (with_groups s itsi radio gs) s false s
 without_own s itsi radio gs may = rw may (refl, refl)
@@ -127,19 +127,19 @@ loaded_after (Err e) h k s n row loaded range came same = subst (λ (o : Option 
 
 -- ---- what is kept of a station
 
-pub served_place : (h : Header) (s : State) (station : ℕ) (x : Served) → served_may h s station x ≡ true → (0 < station) × (station ≤ length s.served)
+pub served_place : (h : Header) (s : State) (station : ℕ) (x : LastAccepted) → served_may h s station x ≡ true → (0 < station) × (station ≤ length s.served)
 served_place h s station x may =
     let four = left _ _ (left _ _ may) in
     let three = left _ _ four in
     (ltb-true _ _ (right (mail_done h s && nat_lt (how_many s.served) h.served) _ three), leb-true _ _ (right (mail_done h s && nat_lt (how_many s.served) h.served && nat_lt 0 station) _ four))
 
-pub with_last : (h : Header) (s : State) (station : ℕ) (x : Served) (served : List (Option Served)) → served_may h s station x ≡ true → served ≡ slice_set s.served (station - 1) (Some x) → Came (put h s (ServedRow station x)) s true (record s { served = served })
+pub with_last : (h : Header) (s : State) (station : ℕ) (x : LastAccepted) (served : List (Option LastAccepted)) → served_may h s station x ≡ true → served ≡ slice_set s.served (station - 1) (Some x) → Came (put h s (ServedRow station x)) s true (record s { served = served })
 with_last h s station x served may is = rw may (refl, λ i. record s { served = is i })
 
-pub without_last : (h : Header) (s : State) (station : ℕ) (x : Served) → served_may h s station x ≡ false → Came (put h s (ServedRow station x)) s false s
+pub without_last : (h : Header) (s : State) (station : ℕ) (x : LastAccepted) → served_may h s station x ≡ false → Came (put h s (ServedRow station x)) s false s
 without_last h s station x may = rw may (refl, refl)
 
-pub some_last : (h : Header) (s : State) (station : ℕ) (x : Served) → served_may h s station x ≡ true → IsSome (put h s (ServedRow station x))
+pub some_last : (h : Header) (s : State) (station : ℕ) (x : LastAccepted) → served_may h s station x ≡ true → IsSome (put h s (ServedRow station x))
 some_last h s station x may = rw may refl
 
 -- ---- the first row, and those behind it

@@ -15,15 +15,15 @@ use Rattle.identity.specs.Inside.PathLaws.{paths_total, id_path-number, id_path-
 use Rattle.prefix_tree.specs.Table.{PathMap}
 use Rattle.registration.specs.declared.radio.Radio.{Radio}
 use Rattle.group_attach.specs.Attached.{Attached, Pair, Usage, pair_cmp}
-use Rattle.group_attach.specs.Kept.{AllGroupsFit}
+use Rattle.group_attach.specs.Allowed.{AllGroupsFit}
 use Rattle.group_attach.proofs.Pairs.{pairs_total, pairs_exact, alike}
 use Rattle.centre_core.specs.State.{State}
 use Rattle.centre_core.specs.StateRanges.{AllEntries, RadioInRange, AttachmentInRange}
 use Rattle.centre_core.proofs.EntriesLaws.{found_in}
 use Rattle.image_rows.specs.Rows.{Header, radio_row, groups_of}
-use Rattle.image_rows.specs.Loading.{◌>>=◌, Loading, row_taken, all_taken, is_next, rules_done, radio_may, taken_radio, joined}
+use Rattle.image_rows.specs.Loading.{◌>>=◌, Loading, row_taken, all_taken, is_next, rules_done, radio_may, taken_radio, with_attachments}
 use Rattle.image_rows.proofs.Order.{both, entries_next, next_of, fewer}
-use Rattle.image_rows.proofs.Groups.{groups_sorted, length_groups, get_joined}
+use Rattle.image_rows.proofs.Groups.{groups_sorted, length_groups, get_with_attachments}
 use Rattle.image_rows.proofs.Rules.{at}
 
 -- the attachments of the radios that are there
@@ -60,10 +60,10 @@ by_radio radio true o r = or_less (is_some r) o
 by_radio radio false o r = refl
 
 -- a radio's row adds its attachments to those of the radios before
-one_more : (full : Attached) (radios : PathMap Radio) (itsi : ℕ) (radio : Radio) → AllEntries AttachmentInRange full → itsi < 2 ^ 48 → joined (known_of full radios) itsi (groups_of full itsi) ≡ known_of full (map.insert radios (id_path itsi) radio)
+one_more : (full : Attached) (radios : PathMap Radio) (itsi : ℕ) (radio : Radio) → AllEntries AttachmentInRange full → itsi < 2 ^ 48 → with_attachments (known_of full radios) itsi (groups_of full itsi) ≡ known_of full (map.insert radios (id_path itsi) radio)
 one_more full radios itsi radio ranges fits =
     map.same_map pairs_total pairs_exact _ _ (λ q.
-    get_joined (known_of full radios) full itsi q
+    get_with_attachments (known_of full radios) full itsi q
     ∙ ap (option_or (cond (q.0 == itsi) (map.get full q) None)) (get_known full radios q)
     ∙ at_pair q (map.get full q) refl
     ∙ sym (get_known full (map.insert radios (id_path itsi) radio) q))
@@ -120,4 +120,4 @@ radios_taken h s full groups (e ∷ es) ruled told few ranges all is so =
     ap (λ (l : List (Path × Radio)). l ++ es) (entries_next paths_total old (id_path itsi) e.1 ordered) ∙ append_assoc (map.entries old) ((id_path itsi, e.1) ∷ []) es
     ∙ ap (λ (p : Path). map.entries old ++ (p, e.1) ∷ es) bits ∙ is in
     ap (λ (r : Option Loading). r >>= λ n. all_taken n (each (radio_row groups) es)) here
-    ∙ radios_taken h n full groups es ruled told few ranges (All-tail (of_stations s.registered.limits.stations) e es all) more (ap (λ (g : Attached). joined g itsi gs) so ∙ one_more groups old itsi e.1 ranges fits)
+    ∙ radios_taken h n full groups es ruled told few ranges (All-tail (of_stations s.registered.limits.stations) e es all) more (ap (λ (g : Attached). with_attachments g itsi gs) so ∙ one_more groups old itsi e.1 ranges fits)

@@ -6,10 +6,10 @@ use Rattle.std.proofs.lemmas.Bool.{eqb-true, leb-true, le-leb, ne_eqb}
 use Rattle.registration.specs.declared.rule.Rule.{Rule}
 use Rattle.registration.specs.declared.radio.Radio.{Radio}
 use Rattle.mailbox.specs.declared.key.Key.{Key}
-use Rattle.mailbox.specs.Values.{Waiting, latest_deadline}
+use Rattle.mailbox.specs.Values.{Item, latest_deadline}
 use Rattle.identity.specs.BitsText.{most_bits}
 use Rattle.centre_core.specs.StateRanges.{IsReply}
-use Rattle.centre_core.specs.State.{Served}
+use Rattle.centre_core.specs.State.{LastAccepted}
 use Rattle.identity.specs.Packed.{AreBytes}
 use Rattle.command_bytes.specs.Fields.{◌>>=◌, big, number_at}
 use Rattle.command_bytes.specs.Text.{prefix_text, rule_text, key_text, bits_text}
@@ -171,22 +171,22 @@ unfolding copied_of is_copy
 copied_again None rest fits = refl
 copied_again (Some gtsi) rest fits = last_again copied_of (number_again 6 gtsi rest fits) refl
 
-pdu_step : ℕ → ℕ → Key → Option ℕ → List Bool × List ℕ → Read Waiting
+pdu_step : ℕ → ℕ → Key → Option ℕ → List Bool × List ℕ → Read Item
 pdu_step number deadline key group pdu = cond (leb deadline latest_deadline) (Some (record { key = key; number = number; deadline = deadline; pdu = pdu.0; group = group }, pdu.1)) None
 
-group_step : ℕ → ℕ → Key → Option ℕ × List ℕ → Read Waiting
+group_step : ℕ → ℕ → Key → Option ℕ × List ℕ → Read Item
 group_step number deadline key group = bits_at group.1 >>= pdu_step number deadline key group.0
 
-key_step : Bool → ℕ → ℕ → Key × List ℕ → Read Waiting
+key_step : Bool → ℕ → ℕ → Key × List ℕ → Read Item
 key_step copied number deadline key = copied_at copied key.1 >>= group_step number deadline key.0
 
-deadline_step : Bool → ℕ → ℕ × List ℕ → Read Waiting
+deadline_step : Bool → ℕ → ℕ × List ℕ → Read Item
 deadline_step copied number deadline = key_at deadline.1 >>= key_step copied number deadline.0
 
-first_step : Bool → ℕ × List ℕ → Read Waiting
+first_step : Bool → ℕ × List ℕ → Read Item
 first_step copied number = number_at 8 number.1 >>= deadline_step copied number.0
 
-item_takes : (copied : Bool) (bytes : List ℕ) (x : Waiting × List ℕ) → AreBytes bytes → item_at copied bytes ≡ Some x → Takes bytes (item_text x.0) x.1 × ItemAsRead x.0 × (mail_tag x.0.group ≡ cond copied 21 19)
+item_takes : (copied : Bool) (bytes : List ℕ) (x : Item × List ℕ) → AreBytes bytes → item_at copied bytes ≡ Some x → Takes bytes (item_text x.0) x.1 × ItemAsRead x.0 × (mail_tag x.0.group ≡ cond copied 21 19)
 unfolding item_at first_step deadline_step key_step group_step pdu_step big
 item_takes copied bytes x are e =
     let a = bind_some (number_at 8 bytes) (first_step copied) x e in
@@ -204,9 +204,9 @@ item_takes copied bytes x are e =
     let f = bind_some (bits_at group.1) (pdu_step number.0 deadline.0 key.0 group.0) x d.2 in
     let pdu : List Bool × List ℕ = f.0 in
     let fifth = bits_takes group.1 pdu fourth.0.are f.1 in
-    let made : Waiting × List ℕ = (record { key = key.0; number = number.0; deadline = deadline.0; pdu = pdu.0; group = group.0 }, pdu.1) in
+    let made : Item × List ℕ = (record { key = key.0; number = number.0; deadline = deadline.0; pdu = pdu.0; group = group.0 }, pdu.1) in
     let h = some_where (leb deadline.0 latest_deadline) (Some made) x f.2 in
-    subst (λ (y : Waiting × List ℕ). Takes bytes (item_text y.0) y.1 × ItemAsRead y.0 × (mail_tag y.0.group ≡ cond copied 21 19)) (some_is made x h.1) (
+    subst (λ (y : Item × List ℕ). Takes bytes (item_text y.0) y.1 × ItemAsRead y.0 × (mail_tag y.0.group ≡ cond copied 21 19)) (some_is made x h.1) (
       behind (big 8 number.0) (big 8 deadline.0 ++ key_text key.0 ++ copied_text group.0 ++ bits_text pdu.0) first
           (behind (big 8 deadline.0) (key_text key.0 ++ copied_text group.0 ++ bits_text pdu.0) second
           (behind (key_text key.0) (copied_text group.0 ++ bits_text pdu.0) third.0
@@ -215,10 +215,10 @@ item_takes copied bytes x are e =
       fourth.2,
     )
 
-item_again : (w : Waiting) (rest : List ℕ) → ItemAsRead w → item_at (is_copy w.group) (item_text w ++ rest) ≡ Some (w, rest)
+item_again : (w : Item) (rest : List ℕ) → ItemAsRead w → item_at (is_copy w.group) (item_text w ++ rest) ≡ Some (w, rest)
 unfolding item_at first_step deadline_step key_step group_step pdu_step big
 item_again w rest fits =
-    let y : Waiting × List ℕ = (w, rest) in
+    let y : Item × List ℕ = (w, rest) in
     let copied = is_copy w.group in
     let t4 = bits_text w.pdu in
     let t3 = copied_text w.group ++ t4 in
@@ -232,14 +232,14 @@ item_again w rest fits =
     (last_again (pdu_step w.number w.deadline w.key w.group) (bits_again w.pdu rest fits.pdu)
     (ap (λ (b : Bool). cond b (Some y) None) (le-leb _ _ fits.deadline))))))
 
-mail_row : Waiting × List ℕ → Read Row
+mail_row : Item × List ℕ → Read Row
 mail_row item = Some (MailRow item.0, item.1)
 
 mail_row_takes : (copied : Bool) (bytes : List ℕ) (x : Row × List ℕ) → AreBytes bytes → (item_at copied bytes >>= mail_row) ≡ Some x → Reads (cond copied 21 19) bytes x
 unfolding mail_row
 mail_row_takes copied bytes x are e =
     let a = bind_some (item_at copied bytes) mail_row x e in
-    let item : Waiting × List ℕ = a.0 in
+    let item : Item × List ℕ = a.0 in
     let first = item_takes copied bytes item are a.1 in
     subst (λ (y : Row × List ℕ). Reads (cond copied 21 19) bytes y) (some_is (MailRow item.0, item.1) x a.2) (record { named = first.2; takes = first.0; fits = first.1 })
 
@@ -287,7 +287,7 @@ served_row_takes bytes x are e =
     let fourth = bits_takes number.1 pdu third.are d.1 in
     let reply = reply_is pdu.0 fourth.1 in
     let said : Takes number.1 (bits_text (reply_bits (reply_of pdu.0))) pdu.1 = subst (λ (l : List Bool). Takes number.1 (bits_text l) pdu.1) (sym reply.0) fourth.0 in
-    let last : Served = record { sequence = sequence.0; number = number.0; pdu = reply_of pdu.0 } in
+    let last : LastAccepted = record { sequence = sequence.0; number = number.0; pdu = reply_of pdu.0 } in
     let h = some_unless (eqb sequence.0 0) (Some (ServedRow station.0 last, pdu.1)) x d.2 in
     subst (λ (y : Row × List ℕ). Reads 20 bytes y) (some_is (ServedRow station.0 last, pdu.1) x h.1)
     (record {
@@ -303,7 +303,7 @@ served_row_takes bytes x are e =
       };
     })
 
-served_row_again : (station : ℕ) (last : Served) (rest : List ℕ) → ServedRowInRange station last → served_row_at (served_text station last ++ rest) ≡ Some (ServedRow station last, rest)
+served_row_again : (station : ℕ) (last : LastAccepted) (rest : List ℕ) → ServedRowInRange station last → served_row_at (served_text station last ++ rest) ≡ Some (ServedRow station last, rest)
 unfolding served_row_at served_station_step sequence_step served_number_step reply_step big
 served_row_again station last rest fits =
     let y : Row × List ℕ = (ServedRow station last, rest) in
@@ -340,7 +340,7 @@ fields_take tag bytes x are e =
     (on_tag 20 tag bytes x (served_row_at bytes) _ (served_row_takes bytes x are)
     (on_tag 21 tag bytes x (item_at true bytes >>= mail_row) None (mail_row_takes true bytes x are) (λ e. absurd cc)))))) e
 
-mail_again : (copied : Bool) (w : Waiting) (rest : List ℕ) → ItemAsRead w → is_copy w.group ≡ copied → fields_at (cond copied 21 19) (item_text w ++ rest) ≡ Some (MailRow w, rest)
+mail_again : (copied : Bool) (w : Item) (rest : List ℕ) → ItemAsRead w → is_copy w.group ≡ copied → fields_at (cond copied 21 19) (item_text w ++ rest) ≡ Some (MailRow w, rest)
 unfolding fields_at mail_row
 mail_again false w rest fits is = last_again mail_row (subst (λ (c : Bool). item_at c (item_text w ++ rest) ≡ Some (w, rest)) is (item_again w rest fits)) refl
 mail_again true w rest fits is = last_again mail_row (subst (λ (c : Bool). item_at c (item_text w ++ rest) ≡ Some (w, rest)) is (item_again w rest fits)) refl

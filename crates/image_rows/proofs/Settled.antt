@@ -8,7 +8,7 @@ use Rattle.sds_tl.proofs.Spelling.{value_takes}
 use Rattle.sds_tl.proofs.Cleared.{cleared_is_canon, cleared_spells, heading-cleared}
 use Rattle.mailbox.specs.declared.key.Kind.{Kind}
 use Rattle.mailbox.specs.declared.key.Kind.TheVariants.{Message, Report}
-use Rattle.mailbox.specs.Kept.{is_head_of}
+use Rattle.mailbox.specs.Sound.{is_head_of}
 use Rattle.identity.specs.Packed.{AreBytes}
 use Rattle.command_bytes.specs.Fields.{◌>>=◌, number_at}
 use Rattle.command_bytes.proofs.Steps.{bind_some, some_is, some_where, last_again}

@@ -32,18 +32,18 @@ rows_stand epoch s is ranges =
     let radios = each (radio_row s.groups) (map.entries s.registered.radios) in
     let mail = each MailRow s.mail.items in
     let served = served_rows 1 s.served in
-    let some_served : how_many s.served ≤ limits.stations = let k = count_by-le-length is_some s.served in let e = is.3 in omega (arith, k, e) in
-    let fits : length s.mail.items ≤ limits.mail = let k = is.2.0.fits in let e = is.2.1 in omega (arith, k, e) in
-    let may : header_may limits h ≡ true = both _ _ (both _ _ (both _ _ (both _ _ (le-leb _ _ is.4) (le-leb _ _ is.0.0)) (le-leb _ _ is.0.1)) (le-leb _ _ fits)) (le-leb _ _ some_served) in
+    let some_served : how_many s.served ≤ limits.stations = let k = count_by-le-length is_some s.served in let e = is.stations in omega (arith, k, e) in
+    let fits : length s.mail.items ≤ limits.mail = let k = is.mail.in_order.fits in let e = is.mail.room in omega (arith, k, e) in
+    let may : header_may limits h ≡ true = both _ _ (both _ _ (both _ _ (both _ _ (le-leb _ _ is.count) (le-leb _ _ is.within.rules)) (le-leb _ _ is.within.radios)) (le-leb _ _ fits)) (le-leb _ _ some_served) in
     let step0 : row_taken (begun limits) (HeaderRow h) ≡ Some (at h s0) = rw may refl in
     let step1 : all_taken (at h s0) rules ≡ Some (at h s1) = rules_taken h s0 s.registered.rules (map.entries s.registered.rules) refl (ap (λ (l : List (Path × Rule)). l ++ map.entries s.registered.rules) (entries-empty path_cmp)) in
     let done1 = same_number (map.len s.registered.rules) in
     let step2 : all_taken (at h s1) radios ≡ Some (at h s2) =
-    radios_taken h s1 s.registered.radios s.groups (map.entries s.registered.radios) done1 refl is.1.0 ranges.attachments ranges.radios (ap (λ (l : List (Path × Radio)). l ++ map.entries s.registered.radios) (entries-empty path_cmp)) (sym (none_known s.groups)) in
+    radios_taken h s1 s.registered.radios s.groups (map.entries s.registered.radios) done1 refl is.attachments.0 ranges.attachments ranges.radios (ap (λ (l : List (Path × Radio)). l ++ map.entries s.registered.radios) (entries-empty path_cmp)) (sym (none_known s.groups)) in
     let done2 = both _ _ done1 (same_number (map.len s.registered.radios)) in
-    let step3 : all_taken (at h s2) mail ≡ Some (at h s3) = mail_taken h s2 s.mail s.mail.items done2 refl is.2.0 refl in
+    let step3 : all_taken (at h s2) mail ≡ Some (at h s3) = mail_taken h s2 s.mail s.mail.items done2 refl is.mail.in_order refl in
     let done3 = both _ _ done2 (same_number (length s.mail.items)) in
-    let step4 : all_taken (at h s3) served ≡ Some (at h s4) = served_taken h s3 [] s.served done3 refl is.5 (ap blanks (sym is.3)) in
+    let step4 : all_taken (at h s3) served ≡ Some (at h s4) = served_taken h s3 [] s.served done3 refl is.last (ap blanks (sym is.stations)) in
     let whole : all_done h s4 ≡ true = both _ _ done3 (same_number (how_many s.served)) in
     let all : all_taken (begun limits) (rows_of epoch s) ≡ Some (at h s4) =
     ap (λ (r : Option Loading). r >>= λ n. all_taken n (rules ++ (radios ++ (mail ++ served)))) step0
@@ -51,5 +51,5 @@ rows_stand epoch s is ranges =
     ∙ all_taken-append (at h s1) radios (mail ++ served) ∙ ap (λ (r : Option Loading). r >>= λ n. all_taken n (mail ++ served)) step2
     ∙ all_taken-append (at h s2) mail served ∙ ap (λ (r : Option Loading). r >>= λ n. all_taken n served) step3
     ∙ step4 in
-    let room = is.2.1 in
-    ap (λ (r : Option Loading). r >>= finished) all ∙ rw whole (λ i. Some (epoch, record { registered = s.registered; groups = all_known s.groups s.registered.radios is.1.1 i; mail = record { room = sym room i; items = s.mail.items }; served = s.served; count = s.count }))
+    let room = is.mail.room in
+    ap (λ (r : Option Loading). r >>= finished) all ∙ rw whole (λ i. Some (epoch, record { registered = s.registered; groups = all_known s.groups s.registered.radios is.attachments.1 i; mail = record { room = sym room i; items = s.mail.items }; served = s.served; count = s.count }))

@@ -7,14 +7,14 @@ use Rattle.std.proofs.lemmas.Bool.{lt-ltb, le-leb}
 use Rattle.std.proofs.lemmas.List.{length-append, length_push, drop_at}
 use Rattle.std.proofs.lemmas.List.Elements.{All-head, All-tail}
 use Rattle.std.proofs.lemmas.List.Sums.{sum_by-append, sum_by-cons}
-use Rattle.centre_core.specs.State.{State, Served, IsNumbered}
+use Rattle.centre_core.specs.State.{State, LastAccepted, IsOfAccepted}
 use Rattle.image_rows.specs.Rows.{Header, ServedRow, served_rows, how_many}
 use Rattle.image_rows.specs.Loading.{◌>>=◌, Loading, row_taken, all_taken, mail_done, taken_served, served_may, are_free}
 use Rattle.image_rows.proofs.Order.{both}
 use Rattle.image_rows.proofs.Rules.{at}
 
 abbrev pub Entries : Type 0
-Entries = List (Option Served)
+Entries = List (Option LastAccepted)
 
 -- so many stations of which nothing is kept
 abbrev pub blanks : ℕ → Entries
@@ -24,20 +24,20 @@ pub free_blanks : (n : ℕ) → are_free (blanks n) ≡ true
 free_blanks zero = refl
 free_blanks (suc n) = free_blanks n
 
-abbrev one_if : Option Served → ℕ
+abbrev one_if : Option LastAccepted → ℕ
 one_if o = cond (is_some o) 1 0
 
 pub how_many-append : (xs ys : Entries) → how_many (xs ++ ys) ≡ how_many xs + how_many ys
 how_many-append xs ys = sum_by-append one_if xs ys
 
-pub how_many-cons : (o : Option Served) (os : Entries) → how_many (o ∷ os) ≡ one_if o + how_many os
+pub how_many-cons : (o : Option LastAccepted) (os : Entries) → how_many (o ∷ os) ≡ one_if o + how_many os
 how_many-cons o os = sum_by-cons one_if o os
 
 pub none_in_blanks : (n : ℕ) → how_many (blanks n) ≡ 0
 none_in_blanks zero = refl
 none_in_blanks (suc n) = let a = how_many-cons None (blanks n) in let b = none_in_blanks n in omega (arith, a, b)
 
-pub set_there : (xs ys : Entries) (o p : Option Served) → slice_set (xs ++ o ∷ ys) (length xs) p ≡ xs ++ p ∷ ys
+pub set_there : (xs ys : Entries) (o p : Option LastAccepted) → slice_set (xs ++ o ∷ ys) (length xs) p ≡ xs ++ p ∷ ys
 set_there [] ys o p = refl
 set_there (x ∷ xs) ys o p = ap (λ (l : Entries). x ∷ l) (set_there xs ys o p)
 
@@ -45,7 +45,7 @@ abbrev pub with_served : State → Entries → State
 with_served s served = record s { served = served }
 
 -- the stations that are left
-pub served_taken : (h : Header) (s : State) (front os : Entries) → mail_done h s ≡ true → h.served ≡ how_many (front ++ os) → All (IsNumbered s.count) os → s.served ≡ front ++ blanks (length os)
+pub served_taken : (h : Header) (s : State) (front os : Entries) → mail_done h s ≡ true → h.served ≡ how_many (front ++ os) → All (IsOfAccepted s.count) os → s.served ≡ front ++ blanks (length os)
     → all_taken (at h s) (served_rows (length front + 1) os) ≡ Some (at h (with_served s (front ++ os)))
 unfolding row_taken
 served_taken h s front [] placed told numbered is = ap (λ (l : Entries). Some (at h (with_served s l))) is
@@ -53,7 +53,7 @@ served_taken h s front (None ∷ os) placed told numbered is =
     let longer : Entries = front ++ None ∷ [] in
     let regrouped : longer ++ os ≡ front ++ None ∷ os = append_assoc front (None ∷ []) os in
     ap (λ k. all_taken (at h s) (served_rows (k + 1) os)) (sym (length_push front None))
-    ∙ served_taken h s longer os placed (told ∙ ap how_many (sym regrouped)) (All-tail (IsNumbered s.count) None os numbered) (is ∙ sym (append_assoc front (None ∷ []) (blanks (length os))))
+    ∙ served_taken h s longer os placed (told ∙ ap how_many (sym regrouped)) (All-tail (IsOfAccepted s.count) None os numbered) (is ∙ sym (append_assoc front (None ∷ []) (blanks (length os))))
     ∙ ap (λ (l : Entries). Some (at h (with_served s l))) regrouped
 served_taken h s front (Some last ∷ os) placed told numbered is =
     let station = length front + 1 in
@@ -64,7 +64,7 @@ served_taken h s front (Some last ∷ os) placed told numbered is =
     let fewer : how_many s.served < h.served =
     let a = ap how_many now in let b = how_many-append front (None ∷ rest) in let c = none_in_blanks (suc (length os)) in let d = how_many-append front (Some last ∷ os) in let e = how_many-cons (Some last) os in omega (arith, a, b, c, d, e, told) in
     let within : station ≤ length s.served = let a = ap length now in let b = length-append front (None ∷ rest) in omega (arith, a, b) in
-    let number = All-head (IsNumbered s.count) (Some last) os numbered in
+    let number = All-head (IsOfAccepted s.count) (Some last) os numbered in
     let may : served_may h s station last ≡ true =
     both _ _ (both _ _ (both _ _ (both _ _ (both _ _ placed (lt-ltb _ _ fewer)) (lt-ltb 0 station (omega arith))) (le-leb _ _ within)) free) (both _ _ (lt-ltb _ _ number.0) (le-leb _ _ number.1)) in
     let n : State = taken_served s station last in
@@ -74,5 +74,5 @@ served_taken h s front (Some last ∷ os) placed told numbered is =
     let set : n.served ≡ longer ++ rest = ap (λ k. slice_set s.served k (Some last)) place ∙ ap (λ (l : Entries). slice_set l (length front) (Some last)) now ∙ set_there front rest None (Some last) ∙ sym (append_assoc front (Some last ∷ []) rest) in
     ap (λ (r : Option Loading). r >>= λ n. all_taken n (served_rows (station + 1) os)) here
     ∙ ap (λ k. all_taken (at h n) (served_rows (k + 1) os)) (sym (length_push front (Some last)))
-    ∙ served_taken h n longer os placed (told ∙ ap how_many (sym regrouped)) (All-tail (IsNumbered s.count) (Some last) os numbered) set
+    ∙ served_taken h n longer os placed (told ∙ ap how_many (sym regrouped)) (All-tail (IsOfAccepted s.count) (Some last) os numbered) set
     ∙ ap (λ (l : Entries). Some (at h (with_served s l))) regrouped

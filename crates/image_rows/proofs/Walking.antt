@@ -135,7 +135,7 @@ rows_rise epoch s is ranges =
     let radios_rise : AllPairs IsBefore (radio_rows s) =
     pairs_each IsBefore (radio_row s.groups) fs (λ i j d less below. ap (λ o. ordering_then o Equal)
     (sym (by_number (get_or fs i d).0 (get_or fs j d).0 (whole i d (omega (arith, less, below)) ∙ sym (whole j d below))) ∙ sorted_rise path_cmp fs (map.entries_sorted s.registered.radios) i j d less below)) in
-    let mail_rises : AllPairs IsBefore (mail_rows s) = pairs_each IsBefore MailRow s.mail.items is.2.0.ordered in
+    let mail_rises : AllPairs IsBefore (mail_rows s) = pairs_each IsBefore MailRow s.mail.items is.mail.in_order.ordered in
     AllPairs-cons IsBefore (HeaderRow (header_of epoch s)) _ (All-weaker (λ row. 0 < part_of (place_of row)) (IsBefore (HeaderRow (header_of epoch s))) (λ row lt. parts_rise place.Header (place_of row) lt) _ (past_header s))
     (part_then_part 1 (rule_rows s) _ (to_rules s) (past_rules s) rules_rise (part_then_part 2 (radio_rows s) _ (to_radios s) (past_radios s) radios_rise (part_then_part 3 (mail_rows s) _ (to_mail s) (past_mail s) mail_rises (stations_rise 1 s.served))))
 

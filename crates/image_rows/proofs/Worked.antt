@@ -12,13 +12,13 @@ use Rattle.registration.specs.declared.limits.Limits.{Limits}
 use Rattle.registration.specs.declared.rule.Rule.{Rule}
 use Rattle.registration.specs.declared.radio.Radio.{Radio}
 use Rattle.group_attach.specs.Attached.{Attached, Usage, no_groups, pair_cmp}
-use Rattle.mailbox.specs.Values.{Waiting}
-use Rattle.centre_core.specs.State.{Served, empty}
+use Rattle.mailbox.specs.Values.{Item}
+use Rattle.centre_core.specs.State.{LastAccepted, empty}
 use Rattle.image_rows.specs.Rows.{HeaderRow, RadioRow, MailRow, Group, rows_of, rule_row, radio_row, served_rows, groups_of}
 use Rattle.image_rows.specs.Loading.{is_next}
 use Rattle.image_rows.specs.Worked.{bare, one_of_each, its_rows}
 use Rattle.image_rows.proofs.Order.{entries-empty, entries_next}
-use Rattle.image_rows.proofs.Joined.{own_kept}
+use Rattle.image_rows.proofs.WithAttachments.{own_on}
 use Rattle.image_rows.proofs.Only.{no_rows}
 use Rattle.image_rows.proofs.Stations.{blanks, free_blanks, none_in_blanks}
 
@@ -38,12 +38,12 @@ module _ {K X : Type 0} {R : K → K → Ordering} (o : IsTotalOrder R) where
   one_counted : (k : K) (v : X) → map.len (map.insert (map.empty {X = X} {R = R}) k v) ≡ 1
   one_counted k v = map.len-entries _ ∙ ap length (one_entry k v)
 
-pub worked_image : (epoch : ℕ) (limits : Limits) (prefix : Path) (rule : Rule) (itsi : ℕ) (radio : Radio) (gtsi : ℕ) (usage : Usage) (item : Waiting) (last : Served) → itsi < 2 ^ 48
+pub worked_image : (epoch : ℕ) (limits : Limits) (prefix : Path) (rule : Rule) (itsi : ℕ) (radio : Radio) (gtsi : ℕ) (usage : Usage) (item : Item) (last : LastAccepted) → itsi < 2 ^ 48
     → rows_of epoch (one_of_each limits prefix rule itsi radio gtsi usage item last) ≡ its_rows limits prefix rule itsi radio gtsi usage item last epoch
 worked_image epoch limits prefix rule itsi radio gtsi usage item last fits =
     let gs : List Group = (gtsi, usage) ∷ [] in
     let groups : Attached = map.insert map.empty (itsi, gtsi) usage in
-    let own : groups_of groups itsi ≡ gs = own_kept no_groups itsi gs refl (λ q is. map.get-empty pair_cmp q) in
+    let own : groups_of groups itsi ≡ gs = own_on no_groups itsi gs refl (λ q is. map.get-empty pair_cmp q) in
     let first : radio_row groups (id_path itsi, radio) ≡ RadioRow itsi radio gs = (λ i. RadioRow (number-id_path itsi fits i) radio (groups_of groups (number-id_path itsi fits i))) ∙ ap (RadioRow itsi radio) own in
     (λ i. HeaderRow (record { epoch = epoch; count = 2; rules = one_counted paths_total prefix rule i; radios = one_counted paths_total (id_path itsi) radio i; mail = 1; served = 1 })
     ∷ (each rule_row (one_entry paths_total prefix rule i) ++ (each (radio_row groups) (one_entry paths_total (id_path itsi) radio i) ++ (MailRow item ∷ served_rows 1 (None ∷ Some last ∷ [])))))

@@ -1,28 +1,26 @@
 -- What a loader holds: the loading that the rows so far make.
-use Rattle.std.specs.Prelude.{◌≡◌, ℕ, ◌<◌, ◌≤◌, Bool, true, false, ◌&&◌, List, length, Option, Some, None, if◌then◌else◌, nat_le, nat_lt, unwrap_or}
-use Rattle.std.specs.List.{All, list_all}
-use Rattle.mailbox.specs.Values.{Waiting}
-use Rattle.mailbox.specs.Order.{named, named_cmp}
+use Rattle.std.specs.Prelude.{◌≡◌, ◌<◌, ◌≤◌, Bool, true, false, ◌&&◌, List, length, Option, Some, None, if◌then◌else◌, nat_le, unwrap_or}
+use Rattle.std.specs.List.{All}
+use Rattle.identity.specs.Numbers.{Itsi, Byte}
 use Rattle.std.specs.Option.{is_some}
-use Rattle.std.specs.Ordering.{nat_cmp, is_lt}
+use Rattle.std.specs.Ordering.{nat_cmp}
 use Rattle.std.specs.FinMap as map
-use Rattle.identity.specs.Path.{id_path}
 use Rattle.registration.specs.declared.limits.Limits.{Limits}
 use Rattle.registration.specs.declared.radio.Radio.{Radio}
 use Rattle.registration.specs.Registered.{radio_of}
 use Rattle.group_attach.specs.Applied.{most_of_radio}
-use Rattle.group_attach.specs.Kept.{AreKnown}
+use Rattle.group_attach.specs.Allowed.{AreKnown}
 use Rattle.centre_core.specs.State.{State}
 use Rattle.image_rows.specs.Rows.{Row, HeaderRow, RuleRow, RadioRow, MailRow, ServedRow, Header, Group, RowInRange}
 use Rattle.image_rows.specs.RowReading.{row_in}
-use Rattle.image_rows.specs.Loading.{◌>>=◌, Loading, begun, row_taken, all_taken, is_next, is_numbered, rules_done, radios_done, taken_radio}
+use Rattle.image_rows.specs.Loading.{◌>>=◌, Loading, begun, row_taken, all_taken, taken_radio}
 
 -- what was told first, and the state so far
 abbrev pub loading : Option Header → State → Loading
 loading header s = record { header = header; state = s }
 
 -- the loading with the row that the bytes spell, where that can come next
-abbrev pub taken_from : Loading → List ℕ → Option Loading
+abbrev pub taken_from : Loading → List Byte → Option Loading
 taken_from l bytes = row_in bytes >>= row_taken l
 
 -- it is what rows in their ranges make, taken one after another
@@ -39,24 +37,14 @@ pub record IsHeld (h : Header) (s : State) : Type 0 where
   pub mail : h.mail ≤ s.mail.room
   pub known : AreKnown s.registered s.groups
 
--- the radio comes after the others, and is of one of the stations
-abbrev pub place_may : Header → State → ℕ → Radio → Bool
-place_may h s itsi radio =
-    rules_done h s && nat_lt (map.len s.registered.radios) h.radios && is_next s.registered.radios (id_path itsi)
-    && nat_lt 0 radio.station && nat_le radio.station s.registered.limits.stations
-
--- the item may come, but for its key and for room for its destination
-abbrev pub before_place : Header → State → Waiting → Bool
-before_place h s w = radios_done h s && nat_lt (length s.mail.items) h.mail && is_numbered s.count w.number && list_all (λ o. is_lt (named_cmp (named o) (named w))) s.mail.items
-
 -- the radio is not there yet, and there is room for it
-pub record IsPlace (s : State) (itsi : ℕ) : Type 0 where
+pub record IsPlace (s : State) (itsi : Itsi) : Type 0 where
   pub new : radio_of s.registered itsi ≡ None
   pub room : map.len s.registered.radios < s.registered.limits.radios
   pub known : AreKnown s.registered s.groups
 
 -- a radio with its groups, where these are in order and not too many
-abbrev pub with_groups : State → ℕ → Radio → List Group → Option State
+abbrev pub with_groups : State → Itsi → Radio → List Group → Option State
 with_groups s itsi radio groups = if nat_le (length groups) most_of_radio && map.is_sorted nat_cmp groups then Some (taken_radio s itsi radio groups) else None
 
 -- what came of a row: whether it was taken, and what holds with it, or else what held before

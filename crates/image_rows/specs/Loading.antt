@@ -1,11 +1,13 @@
 -- What rows stand for, taken one after another.
-use Rattle.std.specs.Prelude.{ℕ, ◌-◌, ◌==◌, Bool, ◌&&◌, not, List, [], ◌∷◌, length, map as each, count_by, drop, slice_set, Option, Some, None, nat_le, nat_lt, if◌then◌else◌}
+use Rattle.std.specs.Prelude.{◌-◌, ◌==◌, Bool, ◌&&◌, not, List, [], ◌∷◌, length, map as each, count_by, drop, slice_set, Option, Some, None, nat_le, nat_lt, if◌then◌else◌}
 use Rattle.std.specs.List.{list_all}
 use Rattle.std.specs.Option.{is_some}
 use Rattle.std.specs.Ordering.{nat_cmp, is_lt}
 use Rattle.std.specs.declared.cmp.Ordering.{Ordering}
 use Rattle.std.specs.FinMap as map
+use Rattle.identity.specs.Numbers.{Itsi}
 use Rattle.identity.specs.Path.{Path, id_path}
+use Rattle.registration.specs.Numbers.{Station}
 use Rattle.registration.specs.declared.limits.Limits.{Limits}
 use Rattle.registration.specs.declared.rule.Rule.{Rule}
 use Rattle.registration.specs.declared.radio.Radio.{Radio}
@@ -14,13 +16,15 @@ use Rattle.sds_tl.specs.Reading.{heading}
 use Rattle.group_attach.specs.declared.attachment.Attachment.{Attachment}
 use Rattle.group_attach.specs.Applied.{most_of_radio}
 use Rattle.group_attach.specs.Attached.{Attached, all_attached}
-use Rattle.mailbox.specs.Values.{Waiting}
-use Rattle.mailbox.specs.Kept.{is_head_of}
+use Rattle.mailbox.specs.Numbers.{Number, Count}
+use Rattle.mailbox.specs.Values.{Item}
+use Rattle.mailbox.specs.Sound.{is_head_of}
 use Rattle.mailbox.specs.Mail.{holds, with_item}
 use Rattle.mailbox.specs.Order.{named, named_cmp}
 use Rattle.mailbox.specs.Refusals.{most_for_one}
-use Rattle.mailbox.specs.Tests.{is_to}
-use Rattle.centre_core.specs.State.{State, Served, empty, last_number}
+use Rattle.mailbox.specs.Item.{is_to}
+use Rattle.centre_core.specs.State.{State, LastAccepted, empty, last_number}
+use Rattle.image_rows.specs.Numbers.{Epoch}
 use Rattle.image_rows.specs.Rows.{Row, HeaderRow, RuleRow, RadioRow, MailRow, ServedRow, Header, Group, how_many}
 
 infixl 10 ◌>>=◌
@@ -65,7 +69,7 @@ abbrev pub all_done : Header → State → Bool
 all_done h s = mail_done h s && (how_many s.served == h.served)
 
 -- a number of a command that was accepted
-abbrev pub is_numbered : ℕ → ℕ → Bool
+abbrev pub is_numbered : Count → Number → Bool
 is_numbered count number = nat_lt 0 number && nat_le number count
 
 -- one more rule is to come, and its prefix comes after those of the others
@@ -76,52 +80,71 @@ rule_may h s prefix = nat_lt (map.len s.registered.rules) h.rules && is_next s.r
 abbrev pub taken_rule : State → Path → Rule → State
 taken_rule s prefix rule = record s { registered = with_rule s.registered prefix rule }
 
--- the radio comes after the others, is of one of the stations, and has its groups in order, not too many
-abbrev pub radio_may : Header → State → ℕ → Radio → List Group → Bool
-radio_may h s itsi radio groups =
-    rules_done h s && nat_lt (map.len s.registered.radios) h.radios && is_next s.registered.radios (id_path itsi)
-    && nat_lt 0 radio.station && nat_le radio.station s.registered.limits.stations
-    && nat_le (length groups) most_of_radio && map.is_sorted nat_cmp groups
+-- one more radio is to come, and its number comes after those of the others
+abbrev pub radio_due : Header → State → Itsi → Bool
+radio_due h s itsi = rules_done h s && nat_lt (map.len s.registered.radios) h.radios && is_next s.registered.radios (id_path itsi)
+
+-- the radio is due, and is of one of the stations
+abbrev pub place_may : Header → State → Itsi → Radio → Bool
+place_may h s itsi radio = radio_due h s itsi && nat_lt 0 radio.station && nat_le radio.station s.registered.limits.stations
+
+-- the radio is due, is of one of the stations, and has its groups in order, not too many
+abbrev pub radio_may : Header → State → Itsi → Radio → List Group → Bool
+radio_may h s itsi radio groups = place_may h s itsi radio && nat_le (length groups) most_of_radio && map.is_sorted nat_cmp groups
 
 -- a row's group as an attachment of its radio
-abbrev pub attachment_in : ℕ → Group → Attachment
+abbrev pub attachment_in : Itsi → Group → Attachment
 attachment_in itsi g = record { itsi = itsi; gtsi = g.0; class = g.1.0; lifetime = g.1.1 }
 
 -- the attachments with those of a row's radio
-abbrev pub joined : Attached → ℕ → List Group → Attached
-joined m itsi groups = all_attached m (each (attachment_in itsi) groups)
+abbrev pub with_attachments : Attached → Itsi → List Group → Attached
+with_attachments m itsi groups = all_attached m (each (attachment_in itsi) groups)
 
 -- the state with the radio and its groups
-abbrev pub taken_radio : State → ℕ → Radio → List Group → State
+abbrev pub taken_radio : State → Itsi → Radio → List Group → State
 taken_radio s itsi radio groups = record s {
   registered = record s.registered { radios = map.insert s.registered.radios (id_path itsi) radio };
-  groups = joined s.groups itsi groups;
+  groups = with_attachments s.groups itsi groups;
 }
 
+-- the item comes after all of these
+abbrev pub comes_last : List Item → Item → Bool
+comes_last items w = list_all (λ o. is_lt (named_cmp (named o) (named w))) items
+
+-- one more item is to come, under a number that was given, and comes after all that wait
+abbrev pub before_place : Header → State → Item → Bool
+before_place h s w = radios_done h s && nat_lt (length s.mail.items) h.mail && is_numbered s.count w.number && comes_last s.mail.items w
+
+-- fewer of these items than may are for this destination
+abbrev pub has_room_for : List Item → Itsi → Bool
+has_room_for items destination = nat_lt (count_by (is_to destination) items) most_for_one
+
 -- it comes after all that wait, under a key of its own, there is room for it, and its PDU is what its key says
-abbrev pub mail_may : Header → State → Waiting → Bool
+abbrev pub mail_may : Header → State → Item → Bool
 mail_may h s w =
-    radios_done h s && nat_lt (length s.mail.items) h.mail && is_numbered s.count w.number
-    && list_all (λ o. is_lt (named_cmp (named o) (named w))) s.mail.items && not (holds s.mail w.key)
-    && nat_lt (count_by (is_to w.key.destination) s.mail.items) most_for_one
+    before_place h s w && not (holds s.mail w.key) && has_room_for s.mail.items w.key.destination
     && is_head_of w.key.kind w.key.reference (heading w.pdu)
 
 -- the state with the item, as the last
-abbrev pub taken_mail : State → Waiting → State
+abbrev pub taken_mail : State → Item → State
 taken_mail s w = record s { mail = with_item s.mail w }
 
 -- nothing is kept of these stations
-abbrev pub are_free : List (Option Served) → Bool
+abbrev pub are_free : List (Option LastAccepted) → Bool
 are_free served = list_all (λ last. not (is_some last)) served
 
--- it is of one of the stations, behind those of which something is kept
-abbrev pub served_may : Header → State → ℕ → Served → Bool
-served_may h s station last =
+-- one more station is to come, and it is one of these, behind those of which something is kept
+abbrev pub station_due : Header → State → Station → Bool
+station_due h s station =
     mail_done h s && nat_lt (how_many s.served) h.served && nat_lt 0 station && nat_le station (length s.served)
-    && are_free (drop (station - 1) s.served) && is_numbered s.count last.number
+    && are_free (drop (station - 1) s.served)
+
+-- the station is due, and what is kept of it has a number that was given
+abbrev pub served_may : Header → State → Station → LastAccepted → Bool
+served_may h s station last = station_due h s station && is_numbered s.count last.number
 
 -- the state with what is kept of the station
-abbrev pub taken_served : State → ℕ → Served → State
+abbrev pub taken_served : State → Station → LastAccepted → State
 taken_served s station last = record s { served = slice_set s.served (station - 1) (Some last) }
 
 -- ---- one row, and all of them
@@ -157,14 +180,14 @@ all_taken l [] = Some l
 all_taken l (row ∷ rows) = row_taken l row >>= λ n. all_taken n rows
 
 -- once all rows of which the header told came: the epoch and the state
-abbrev pub finished_by : Option Header → State → Option (ℕ × State)
+abbrev pub finished_by : Option Header → State → Option (Epoch × State)
 finished_by None s = None
 finished_by (Some h) s = if all_done h s then Some (h.epoch, s) else None
 
 -- the epoch and the state of a loading, once all its rows came
-unfoldable pub finished : Loading → Option (ℕ × State)
+unfoldable pub finished : Loading → Option (Epoch × State)
 finished l = finished_by l.header l.state
 
 -- the epoch and the state that rows stand for
-abbrev pub stood_for : Limits → List Row → Option (ℕ × State)
+abbrev pub stood_for : Limits → List Row → Option (Epoch × State)
 stood_for limits rows = all_taken (begun limits) rows >>= finished

@@ -1,11 +1,15 @@
 -- The row after a place, as the tables tell it: the next entry of the place's part, or else the first one of a later part.
-use Rattle.std.specs.Prelude.{ℕ, ◌+◌, ◌<◌, ◌^◌, List, [], ◌∷◌, drop, Option, Some, None}
+use Rattle.std.specs.Prelude.{◌+◌, ◌<◌, ◌^◌, List, [], ◌∷◌, drop, Option, Some, None}
 use Rattle.std.specs.Option.{option_map, option_or}
+use Rattle.identity.specs.Numbers.{Itsi}
 use Rattle.identity.specs.Path.{Path, id_path}
 use Rattle.prefix_tree.specs.Next.{next_entry}
+use Rattle.registration.specs.Numbers.{Station}
+use Rattle.mailbox.specs.Numbers.{Number}
 use Rattle.mailbox.specs.declared.key.Key.{Key}
 use Rattle.mailbox.specs.Order.{next_item}
 use Rattle.centre_core.specs.State.{State}
+use Rattle.image_rows.specs.Numbers.{Epoch}
 use Rattle.image_rows.specs.declared.place.RowPlace.{RowPlace}
 use Rattle.image_rows.specs.declared.place.RowPlace.TheVariants as place
 use Rattle.image_rows.specs.Rows.{Row, HeaderRow, MailRow, rule_row, radio_row, served_rows, header_of}
@@ -16,15 +20,15 @@ first [] = None
 first (row ∷ rows) = Some row
 
 -- of the stations behind this one the first of which something is kept
-abbrev pub after_station : State → ℕ → Option Row
+abbrev pub after_station : State → Station → Option Row
 after_station s station = first (served_rows (station + 1) (drop station s.served))
 
 -- the row of the first item after this one, or of all, or else the first one behind the items
-abbrev pub after_item : State → Option (ℕ × Key) → Option Row
+abbrev pub after_item : State → Option (Number × Key) → Option Row
 after_item s after = option_or (option_map MailRow (next_item s.mail after)) (after_station s 0)
 
 -- the row of the first radio after this one, or of all, or else the first one behind the radios
-abbrev pub after_radio : State → Option ℕ → Option Row
+abbrev pub after_radio : State → Option Itsi → Option Row
 after_radio s after = option_or (option_map (radio_row s.groups) (next_entry s.registered.radios (option_map id_path after))) (after_item s None)
 
 -- the row of the first rule after this one, or of all, or else the first one behind the rules
@@ -32,7 +36,7 @@ abbrev pub after_rule : State → Option Path → Option Row
 after_rule s after = option_or (option_map rule_row (next_entry s.registered.rules after)) (after_radio s None)
 
 -- the row after a place of the image; the first of all is the header
-abbrev pub told_after : ℕ → State → Option RowPlace → Option Row
+abbrev pub told_after : Epoch → State → Option RowPlace → Option Row
 told_after epoch s None = Some (HeaderRow (header_of epoch s))
 told_after epoch s (Some place.Header) = after_rule s None
 told_after epoch s (Some (place.Rule prefix)) = after_rule s (Some prefix)

@@ -1,10 +1,12 @@
 -- Reading rows from bytes: the fields of the table one after the other, each judged by its range.
 use Rattle.std.specs.Prelude.{◌≡◌, ℕ, zero, suc, ◌^◌, ◌<◌, ◌≤◌, ◌==◌, ◌/◌, ◌%◌, Bool, true, false, ◌&&◌, List, [], ◌∷◌, ◌++◌, length, Option, Some, None, IfSome, nat_le, nat_lt, if◌then◌else◌}
+use Rattle.identity.specs.Numbers.{Gtsi, Byte}
 use Rattle.mm_pdus.specs.Values.{lifetime_of}
 use Rattle.sds_tl.specs.Reading.{heading, cleared}
 use Rattle.group_attach.specs.Attached.{Usage}
-use Rattle.mailbox.specs.Kept.{is_head_of}
-use Rattle.mailbox.specs.Values.{Waiting, KeyInRange, latest_deadline}
+use Rattle.mailbox.specs.Numbers.{Number}
+use Rattle.mailbox.specs.Sound.{is_head_of}
+use Rattle.mailbox.specs.Values.{Item, KeyInRange, latest_deadline}
 use Rattle.identity.specs.BitsText.{most_bits}
 use Rattle.centre_core.specs.StateRanges.{RuleEntryInRange}
 use Rattle.command_bytes.specs.Fields.{◌>>=◌, number_at}
@@ -14,8 +16,12 @@ use Rattle.image_rows.specs.RowText.{row_bytes}
 
 -- ---- each kind of row
 
--- epochs count from 1
-unfoldable pub header_at : List ℕ → Read Header
+-- epochs count from 1, up to the last one
+abbrev pub is_epoch : ℕ → Bool
+is_epoch number = nat_lt 0 number && nat_le number last_epoch
+
+-- the epoch, and the numbers behind it
+unfoldable pub header_at : List Byte → Read Header
 header_at bytes = do
   epoch ← number_at 8 bytes
   count ← number_at 8 epoch.1
@@ -23,25 +29,25 @@ header_at bytes = do
   radios ← number_at 4 rules.1
   mail ← number_at 4 radios.1
   served ← number_at 4 mail.1
-  if nat_lt 0 epoch.0 && nat_le epoch.0 last_epoch then Some (record { epoch = epoch.0; count = count.0; rules = rules.0; radios = radios.0; mail = mail.0; served = served.0 }, served.1) else None
+  if is_epoch epoch.0 then Some (record { epoch = epoch.0; count = count.0; rules = rules.0; radios = radios.0; mail = mail.0; served = served.0 }, served.1) else None
 
 -- a rule behind its prefix
-unfoldable pub rule_row_at : List ℕ → Read Row
+unfoldable pub rule_row_at : List Byte → Read Row
 rule_row_at bytes = do
   prefix ← prefix_at bytes
   rule ← rule_at prefix.1
   Some (RuleRow prefix.0 rule.0, rule.1)
 
 -- whether a radio is present: 0 or 1
-abbrev pub present_of : ℕ → Option Bool
+abbrev pub present_of : Number → Option Bool
 present_of number = if number == 0 then Some false else if number == 1 then Some true else None
 
 -- a class of 3 bits, and one of the four lifetimes
-abbrev pub usage_of : ℕ → Option Usage
+abbrev pub usage_of : Number → Option Usage
 usage_of number = if nat_lt number 32 then (lifetime_of (number % 4) >>= λ lifetime. Some (number / 4, lifetime)) else None
 
 -- a group, and how the radio is attached to it
-unfoldable pub group_at : List ℕ → Read Group
+unfoldable pub group_at : List Byte → Read Group
 group_at bytes = do
   gtsi ← number_at 6 bytes
   number ← number_at 1 gtsi.1
@@ -49,12 +55,12 @@ group_at bytes = do
   Some ((gtsi.0, usage), number.1)
 
 -- so many groups
-abbrev pub groups_at : ℕ → List ℕ → Read (List Group)
+abbrev pub groups_at : ℕ → List Byte → Read (List Group)
 groups_at zero bytes = Some ([], bytes)
 groups_at (suc n) bytes = group_at bytes >>= λ g. groups_at n g.1 >>= λ gs. Some (g.0 ∷ gs.0, gs.1)
 
 -- a radio, where it is, and its groups
-unfoldable pub radio_row_at : List ℕ → Read Row
+unfoldable pub radio_row_at : List Byte → Read Row
 radio_row_at bytes = do
   itsi ← number_at 6 bytes
   station ← number_at 2 itsi.1
@@ -66,12 +72,12 @@ radio_row_at bytes = do
   Some (RadioRow itsi.0 (record { station = station.0; area = area.0; present = present }) groups.0, groups.1)
 
 -- the group that a copy was sent to
-abbrev pub copied_at : Bool → List ℕ → Read (Option ℕ)
+abbrev pub copied_at : Bool → List Byte → Read (Option Gtsi)
 copied_at false bytes = Some (None, bytes)
 copied_at true bytes = number_at 6 bytes >>= λ gtsi. Some (Some gtsi.0, gtsi.1)
 
 -- an item, or a copy of a message to a group; its PDU as it stands there
-unfoldable pub item_at : Bool → List ℕ → Read Waiting
+unfoldable pub item_at : Bool → List Byte → Read Item
 item_at copied bytes = do
   number ← number_at 8 bytes
   deadline ← number_at 8 number.1
@@ -86,7 +92,7 @@ reply_of [] = None
 reply_of (b ∷ bits) = Some (b ∷ bits)
 
 -- sequences count from 1
-unfoldable pub served_row_at : List ℕ → Read Row
+unfoldable pub served_row_at : List Byte → Read Row
 served_row_at bytes = do
   station ← number_at 2 bytes
   sequence ← number_at 4 station.1
@@ -97,7 +103,7 @@ served_row_at bytes = do
 -- ---- the whole
 
 -- the fields behind a tag
-unfoldable pub fields_at : ℕ → List ℕ → Read Row
+unfoldable pub fields_at : Byte → List Byte → Read Row
 fields_at tag bytes =
     if tag == 16 then (header_at bytes >>= λ header. Some (HeaderRow header.0, header.1))
     else if tag == 17 then rule_row_at bytes
@@ -108,7 +114,7 @@ fields_at tag bytes =
     else None
 
 -- the row with which bytes begin, its PDU as it stands there, and the bytes after it
-unfoldable pub row_at : List ℕ → Read Row
+unfoldable pub row_at : List Byte → Read Row
 row_at bytes = number_at 1 bytes >>= λ tag. fields_at tag.0 tag.1
 
 -- what waits is what its key says: a message an SDS-TRANSFER of its reference, a report an SDS-REPORT
@@ -132,11 +138,11 @@ abbrev pub settled : Row → Option Row
 settled row = if is_known row then Some (written row) else None
 
 -- the row of the fields behind a tag; what stands behind them is ignored
-unfoldable pub fields_in : ℕ → List ℕ → Option Row
+unfoldable pub fields_in : Byte → List Byte → Option Row
 fields_in tag bytes = fields_at tag bytes >>= λ row. settled row.0
 
 -- the row of bytes
-unfoldable pub row_in : List ℕ → Option Row
+unfoldable pub row_in : List Byte → Option Row
 row_in bytes = number_at 1 bytes >>= λ tag. fields_in tag.0 tag.1
 
 -- ---- what has bytes
@@ -147,7 +153,7 @@ pub record IsRow (row : Row) : Type 0 where
   pub known : is_known row ≡ true
 
 -- an item as it is read: its PDU are any bits for which there is room
-pub record ItemAsRead (w : Waiting) : Type 0 where
+pub record ItemAsRead (w : Item) : Type 0 where
   pub key : KeyInRange w.key
   pub number : w.number < 2 ^ 64
   pub deadline : w.deadline ≤ latest_deadline
@@ -163,9 +169,9 @@ RowAsRead (MailRow w) = ItemAsRead w
 RowAsRead (ServedRow station last) = ServedRowInRange station last
 
 -- bytes spell a row: they begin with those of a row that differs from it in the reserved bits of its PDU at most
-pub record Spells (row : Row) (bytes : List ℕ) : Type 0 where
+pub record Spells (row : Row) (bytes : List Byte) : Type 0 where
   pub seen : Row
-  pub rest : List ℕ
+  pub rest : List Byte
   pub is : bytes ≡ row_bytes seen ++ rest
   pub fits : RowAsRead seen
   pub known : is_known seen ≡ true

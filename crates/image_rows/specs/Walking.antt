@@ -7,6 +7,7 @@ use Rattle.std.specs.Cmp.Lexicographic.{slice_cmp}
 use Rattle.prefix_tree.specs.Following.{next_of}
 use Rattle.mailbox.specs.Order.{place_at}
 use Rattle.centre_core.specs.State.{State}
+use Rattle.image_rows.specs.Numbers.{Epoch}
 use Rattle.image_rows.specs.declared.place.RowPlace.{RowPlace}
 use Rattle.image_rows.specs.declared.place.RowPlace.TheVariants as place
 use Rattle.image_rows.specs.Rows.{Row, HeaderRow, RuleRow, RadioRow, MailRow, ServedRow, rows_of}
@@ -40,5 +41,5 @@ abbrev pub place_cmp : RowPlace → RowPlace → Ordering
 place_cmp p q = slice_cmp nat_cmp (part_of p ∷ within_part p) (part_of q ∷ within_part q)
 
 -- the first row after a place, also where no row stands there, or the first of all
-abbrev pub row_after : ℕ → State → Option RowPlace → Option Row
+abbrev pub row_after : Epoch → State → Option RowPlace → Option Row
 row_after epoch s after = next_of place_cmp place_of (rows_of epoch s) after

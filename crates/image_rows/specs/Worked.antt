@@ -1,21 +1,23 @@
 -- A register with one of each, and its image.
-use Rattle.std.specs.Prelude.{ℕ, List, [], ◌∷◌, Some, None}
+use Rattle.std.specs.Prelude.{List, [], ◌∷◌, Some, None}
 use Rattle.std.specs.FinMap as map
+use Rattle.identity.specs.Numbers.{Itsi, Gtsi}
 use Rattle.identity.specs.Path.{Path, id_path}
 use Rattle.registration.specs.declared.limits.Limits.{Limits}
 use Rattle.registration.specs.declared.rule.Rule.{Rule}
 use Rattle.registration.specs.declared.radio.Radio.{Radio}
 use Rattle.group_attach.specs.Attached.{Usage}
-use Rattle.mailbox.specs.Values.{Waiting}
-use Rattle.centre_core.specs.State.{State, Served}
+use Rattle.mailbox.specs.Values.{Item}
+use Rattle.centre_core.specs.State.{State, LastAccepted}
+use Rattle.image_rows.specs.Numbers.{Epoch}
 use Rattle.image_rows.specs.Rows.{Row, HeaderRow, RuleRow, RadioRow, MailRow, ServedRow, Header}
 
 -- nothing but an epoch
-abbrev pub bare : ℕ → Header
+abbrev pub bare : Epoch → Header
 bare epoch = record { epoch = epoch; count = 0; rules = 0; radios = 0; mail = 0; served = 0 }
 
 -- one rule, one radio in one group, one item, and the last of two stations served; two commands were accepted
-module _ (limits : Limits) (prefix : Path) (rule : Rule) (itsi : ℕ) (radio : Radio) (gtsi : ℕ) (usage : Usage) (item : Waiting) (last : Served) where
+module _ (limits : Limits) (prefix : Path) (rule : Rule) (itsi : Itsi) (radio : Radio) (gtsi : Gtsi) (usage : Usage) (item : Item) (last : LastAccepted) where
   -- the register that has them
   abbrev pub one_of_each : State
   one_of_each = record {
@@ -27,7 +29,7 @@ module _ (limits : Limits) (prefix : Path) (rule : Rule) (itsi : ℕ) (radio : R
   }
 
   -- the rows of its image with this epoch
-  abbrev pub its_rows : ℕ → List Row
+  abbrev pub its_rows : Epoch → List Row
   its_rows epoch =
       HeaderRow (record { epoch = epoch; count = 2; rules = 1; radios = 1; mail = 1; served = 1 })
       ∷ RuleRow prefix rule

@@ -16,7 +16,7 @@ use centre_core::{LastAccepted, Register};
 use group_attach::Attachment;
 use identity::{Itsi, Prefix};
 use mailbox::Key;
-use registration::Radio;
+use registration::{Radio, Station};
 use std::alloc::{AllocError, Allocator};
 
 fn served_count<A: Allocator>(served: &[Option<LastAccepted<A>>]) -> usize
@@ -42,7 +42,7 @@ fn header<A: Allocator + Clone>(register: &Register<A>, epoch: u64) -> Header
 
 // The row of a station of which something is kept.
 fn station_row<A: Allocator>(
-    station: u16,
+    station: Station,
     last: &Option<LastAccepted<A>>,
 ) -> Option<(RowPlace, [u8; 512])>
     requires { IfSome last.now (λ k. IsShort k.pdu) }
@@ -66,7 +66,8 @@ fn station_after<A: Allocator + Clone>(
     registers(register);
     let served = register.served();
     for station in after..served.len() as u16 {
-        if let Some(told) = station_row(station + 1, &served[usize::from(station)]) {
+        let next = Station::new(station + 1);
+        if let Some(told) = station_row(next, &served[usize::from(station)]) {
             return Some(told);
         }
     }
@@ -148,7 +149,7 @@ pub fn row_after<A: Allocator + Clone>(
             radio_after(register, Some(*itsi))
         }
         Some(RowPlace::Mail(number, key)) => item_after(register, Some((*number, *key))),
-        Some(RowPlace::Served(station)) => station_after(register, *station),
+        Some(RowPlace::Served(station)) => station_after(register, station.number()),
     }
 }
 

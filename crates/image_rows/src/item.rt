@@ -1,7 +1,7 @@
 // What waits, as it is read.
 ghost use Rattle.std.specs.Prelude.{◌≡◌, ◌≤◌, IfOk, option_map, true};
 ghost use Rattle.sds_tl.specs.Reading.{heading};
-ghost use Rattle.mailbox.specs.Kept.{is_head_of};
+ghost use Rattle.mailbox.specs.Sound.{is_head_of};
 ghost use Rattle.mailbox.specs.Values.{latest_deadline};
 ghost use Rattle.image_rows.specs.Rows.{MailRow};
 ghost use Rattle.image_rows.specs.RowReading.{settled};
@@ -24,13 +24,13 @@ pub struct ReadItem<'a> {
 impl<'a> Model for ReadItem<'a> {
     ghost use Rattle.std.specs.Prelude.{◌≡◌, ◌≤◌, true};
     ghost use Rattle.sds_tl.specs.Reading.{heading, cleared};
-    ghost use Rattle.mailbox.specs.Values.{Waiting, coded_waiting, latest_deadline};
-    ghost use Rattle.mailbox.specs.Kept.{is_head_of};
+    ghost use Rattle.mailbox.specs.Values.{Item, coded_item, latest_deadline};
+    ghost use Rattle.mailbox.specs.Sound.{is_head_of};
     ghost use Rattle.image_rows.specs.ItemViews.{seen_item};
 
-    ghost Value = { Waiting };
+    ghost Value = { Item };
 
-    ghost coded = { coded_waiting };
+    ghost coded = { coded_item };
 
     ghost view = { λ i. record (seen_item i.seen) { pdu = cleared i.seen.pdu } };
 
@@ -79,7 +79,7 @@ impl<'a> ReadItem<'a> {
     }
 
     // What its fields keep, as a clause.
-    pub(crate) fn keep_known(&self)
+    pub(crate) fn hold_known(&self)
         ensures { is_head_of self.now.key.kind self.now.key.reference (heading self.now.pdu) ≡ true }
     {
         let _seen = self.seen.number;

@@ -9,21 +9,18 @@ ghost use Rattle.prefix_tree.specs.Next.{next_entry};
 ghost use Rattle.mailbox.specs.Mail.{holds};
 ghost use Rattle.mailbox.specs.Order.{named, named_cmp};
 ghost use Rattle.mailbox.specs.Refusals.{most_for_one};
-ghost use Rattle.mailbox.specs.Tests.{is_to};
+ghost use Rattle.mailbox.specs.Item.{is_to};
 ghost use Rattle.image_rows.specs.Rows.{how_many};
-ghost use Rattle.image_rows.specs.Loading.{all_done, are_free, header_may, is_next, is_numbered, mail_done, mail_may, radios_done, rule_may, rules_done, served_may};
-ghost use Rattle.image_rows.specs.Held.{IsHeld, before_place, place_may};
+ghost use Rattle.image_rows.specs.Loading.{all_done, are_free, header_may, is_next, is_numbered, mail_done, mail_may, radios_done, rule_may, rules_done, served_may, before_place, place_may};
+ghost use Rattle.image_rows.specs.Held.{IsHeld};
 
 use crate::Header;
 use crate::item::ReadItem;
-use centre_core::{LastAccepted, Parts};
+use centre_core::{LAST_NUMBER, LastAccepted, Parts};
 use identity::{Itsi, Prefix};
 use mailbox::{Key, Mail};
-use registration::{Limits, Radio, Registry};
+use registration::{Limits, Radio, Registry, Station};
 use std::alloc::Allocator;
-
-/// The greatest number of an accepted command, 2 to the 62nd.
-const LAST_NUMBER: u64 = 1 << 62;
 
 /// Whether no more rows come than the limits allow, nor were more commands accepted than have numbers.
 pub fn header_may(limits: &Limits, header: &Header) -> bool
@@ -115,8 +112,8 @@ pub fn place_may<A: Allocator + Clone>(
     rules_done(header, parts)
         && parts.registry.radio_count() < header.radios
         && is_next_radio(&parts.registry, itsi)
-        && 0 < radio.station
-        && u32::from(radio.station) <= parts.registry.limits().stations
+        && 0 < radio.station.number()
+        && u32::from(radio.station.number()) <= parts.registry.limits().stations
 }
 
 // Whether this number and key come after those of all that wait.
@@ -163,7 +160,7 @@ pub fn mail_may<A: Allocator + Clone>(
     requires { IsHeld header.now parts.now }
     ensures { result ≡ mail_may header.now parts.now item.now }
 {
-    item.keep_known();
+    item.hold_known();
     if !before_place(header, parts, item) {
         return false;
     }
@@ -181,15 +178,15 @@ fn are_free<A: Allocator>(served: &[Option<LastAccepted<A>>]) -> bool
 pub fn served_may<A: Allocator + Clone>(
     header: &Header,
     parts: &Parts<A>,
-    station: u16,
+    station: Station,
     number: u64,
 ) -> bool
     ensures { (sequence : ℕ) (pdu : Option (List Bool)) → result ≡ served_may header.now parts.now station (record { sequence = sequence; number = number; pdu = pdu }) }
 {
     mail_done(header, parts)
         && how_many(&parts.served) < header.served as usize
-        && 0 < station
-        && usize::from(station) <= parts.served.len()
-        && are_free(&parts.served[usize::from(station) - 1..])
+        && 0 < station.number()
+        && usize::from(station.number()) <= parts.served.len()
+        && are_free(&parts.served[usize::from(station.number()) - 1..])
         && is_numbered(parts.count, number)
 }

@@ -4,7 +4,7 @@
 ghost use Rattle.std.specs.Prelude.{Ok, Err, map as each, ◌+◌, ◌++◌, Option, ◌^◌, [], ◌∷◌, ◌≡◌, ℕ, List, Some, None, length, ◌≤◌, ◌<◌};
 ghost use Rattle.std.specs.List.{All};
 ghost use Rattle.registration.specs.declared.limits.Limits.{Limits};
-ghost use Rattle.centre_core.specs.State.{State, Served, IsState, empty};
+ghost use Rattle.centre_core.specs.State.{State, LastAccepted, IsState, empty};
 ghost use Rattle.centre_core.specs.StateRanges.{StateInRange};
 ghost use Rattle.identity.specs.Packed.{AreBytes};
 ghost use Rattle.image_rows.specs.Image.{IsSpelt, sectors_of, slot_of};
@@ -19,7 +19,7 @@ ghost use Rattle.identity.specs.Path.{Path};
 ghost use Rattle.registration.specs.declared.rule.Rule.{Rule};
 ghost use Rattle.registration.specs.declared.radio.Radio.{Radio};
 ghost use Rattle.group_attach.specs.Attached.{Usage};
-ghost use Rattle.mailbox.specs.Values.{Waiting};
+ghost use Rattle.mailbox.specs.Values.{Item};
 ghost use Rattle.prefix_tree.specs.Following.{one_by_one};
 
 /// The rows of a state stand for it.
@@ -46,7 +46,7 @@ pub fn rows_walk()
 /// The image of an empty register is its header, and that of a register with one of each has one row of each.
 pub fn worked_images()
     ensures empty { (epoch : ℕ) (limits : Limits) → rows_of epoch (empty limits) ≡ HeaderRow (bare epoch) ∷ [] }
-    ensures one { (epoch : ℕ) (limits : Limits) (prefix : Path) (rule : Rule) (itsi : ℕ) (radio : Radio) (gtsi : ℕ) (usage : Usage) (item : Waiting) (last : Served) → itsi < 2 ^ 48 → rows_of epoch (one_of_each limits prefix rule itsi radio gtsi usage item last) ≡ its_rows limits prefix rule itsi radio gtsi usage item last epoch }
+    ensures one { (epoch : ℕ) (limits : Limits) (prefix : Path) (rule : Rule) (itsi : ℕ) (radio : Radio) (gtsi : ℕ) (usage : Usage) (item : Item) (last : LastAccepted) → itsi < 2 ^ 48 → rows_of epoch (one_of_each limits prefix rule itsi radio gtsi usage item last) ≡ its_rows limits prefix rule itsi radio gtsi usage item last epoch }
 {}
 
 /// The row after a place is the next entry in its part of the image, as its table tells it, or else the first

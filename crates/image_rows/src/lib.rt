@@ -23,7 +23,7 @@ pub use in_turn::{row_after, rows};
 pub use item::ReadItem;
 pub use loader::Loader;
 pub use place::RowPlace;
-pub use reading::{ReadRow, read_row};
+pub use reading::{LAST_EPOCH, ReadRow, read_row};
 pub use row_groups::PackedGroups;
 pub use sector::SectorText;
 pub use writing::{header_row, mail_row, radio_row, rule_row, served_row};

@@ -2,7 +2,7 @@
 ghost use Rattle.std.specs.Prelude.{◌≡◌, ◌≤◌, ◌/◌, ◌%◌, ◌==◌, ◌&&◌, nat_le};
 ghost use Rattle.sds_tl.specs.Identifier.{first_identifier};
 ghost use Rattle.sds_tl.specs.Reading.{heading};
-ghost use Rattle.mailbox.specs.Kept.{is_head_of};
+ghost use Rattle.mailbox.specs.Sound.{is_head_of};
 ghost use Rattle.image_rows.specs.Inside.PduTest.{is_of_type};
 
 use command_bytes::bits::PackedBits;
@@ -38,7 +38,7 @@ pub fn is_of_key(pdu: &PackedBits<'_>, key: &Key) -> bool
     ensures { result ≡ is_head_of key.now.kind key.now.reference (heading pdu.now) }
 {
     match key.kind {
-        Kind::Message => is_of_type(pdu, 0, 3, key.reference),
-        Kind::Report => is_of_type(pdu, 1, 4, key.reference),
+        Kind::Message => is_of_type(pdu, 0, 3, key.reference.number()),
+        Kind::Report => is_of_type(pdu, 1, 4, key.reference.number()),
     }
 }

@@ -2,6 +2,7 @@
 
 use identity::{Itsi, Prefix};
 use mailbox::Key;
+use registration::Station;
 
 /// The place of a row: places rise from the header to the last station.
 #[derive(Clone, Copy, Debug)]
@@ -15,5 +16,5 @@ pub enum RowPlace {
     /// The item of this number and key.
     Mail(u64, Key),
     /// What is kept of this station.
-    Served(u16),
+    Served(Station),
 }

@@ -15,19 +15,19 @@ use crate::attached::own_groups;
 use crate::item::ReadItem;
 use crate::judging::{header_may, mail_may, place_may, rule_may, served_may};
 use crate::{Header, PackedGroups, ReadRow};
-use centre_core::{LastAccepted, Parts};
+use centre_core::{LastAccepted, Parts, Sequence};
 use command_bytes::bits::PackedBits;
 use command_bytes::fields::gtsi_of;
-use group_attach::{Attachment, Groups};
+use group_attach::{Attachment, Groups, MOST_OF_RADIO};
 use identity::{Bits, Itsi, Prefix};
 use mm_pdus::{ClassOfUsage, Lifetime};
-use registration::{Radio, Registry, Rule};
+use registration::{Radio, Registry, Rule, Station};
 use std::alloc::{AllocError, Allocator};
 
 /// What is kept of a station, the PDU of its reply still in the bytes that it is read from.
 #[derive(Drop)]
 struct ReadLast<'a> {
-    sequence: u32,
+    sequence: Sequence,
     number: u64,
     pdu: Option<PackedBits<'a>>,
 }
@@ -120,7 +120,7 @@ fn put_groups<A: Allocator + Clone>(
     ensures err { OnErr result (parts.new ≡ parts.old) }
     ensures memory { OnErr result (IsSome (with_groups parts.old itsi radio groups.entry)) }
 {
-    let mut list = [some_attachment(itsi); 32];
+    let mut list = [some_attachment(itsi); MOST_OF_RADIO];
     let Some(count) = own_groups(&mut list, itsi, groups) else {
         return Ok(false);
     };
@@ -184,22 +184,22 @@ fn copied<A: Allocator + Clone>(
     }
 }
 
-fn keep<A: Allocator>(
+fn put_last<A: Allocator>(
     served: &mut Vec<Option<LastAccepted<A>>, A>,
-    station: u16,
+    station: Station,
     last: LastAccepted<A>,
 )
     requires some { 0 < station }
     requires place { station ≤ vec_len served.old }
     ensures { served.new.items ≡ slice_set served.old.items (station - 1) (Some last) }
 {
-    served[usize::from(station) - 1] = Some(last);
+    served[usize::from(station.number()) - 1] = Some(last);
 }
 
 fn put_served<A: Allocator + Clone>(
     parts: &mut Parts<A>,
     header: &Header,
-    station: u16,
+    station: Station,
     last: &ReadLast<'_>,
 ) -> Result<bool, AllocError>
     requires { IsHeld header.now parts.old }
@@ -217,7 +217,7 @@ fn put_served<A: Allocator + Clone>(
         number: last.number,
         pdu,
     };
-    keep(&mut parts.served, station, last);
+    put_last(&mut parts.served, station, last);
     Ok(true)
 }
 

@@ -7,13 +7,14 @@ use crate::Header;
 use crate::item::{ReadItem, known};
 use crate::row_groups::{PackedGroups, groups};
 use crate::seen::item;
+use centre_core::Sequence;
 use command_bytes::bits::{PackedBits, bits};
 use command_bytes::fields::{area, area_of, itsi_of, number, prefix, rule};
 use identity::{Itsi, Prefix};
-use registration::{Radio, Rule};
+use registration::{Radio, Rule, Station};
 
 /// The last epoch, 2 to the 62nd.
-const LAST_EPOCH: u64 = 1 << 62;
+pub const LAST_EPOCH: u64 = 1 << 62;
 
 /// A row, its bits and its groups still in the bytes that it is read from.
 #[derive(Drop)]
@@ -35,8 +36,8 @@ pub enum ReadRow<'a> {
     Mail(ReadItem<'a>),
     /// What is kept of a station's last accepted command: its sequence, its number and the PDU of its reply.
     Served {
-        station: u16,
-        sequence: u32,
+        station: Station,
+        sequence: Sequence,
         number: u64,
         pdu: Option<PackedBits<'a>>,
     },
@@ -101,7 +102,7 @@ fn radio_row(bytes: &[u8]) -> Option<ReadRow<'_>>
     let itsi = itsi_of(itsi);
     let groups = groups(itsi, count, rest)?;
     let radio = Radio {
-        station: station as u16,
+        station: Station::new(station as u16),
         area: area_of(area),
         present,
     };
@@ -142,12 +143,10 @@ fn served_row(bytes: &[u8]) -> Option<ReadRow<'_>>
     let (sequence, rest) = number(rest, 4)?;
     let (number, rest) = number(rest, 8)?;
     let (pdu, _) = bits(rest)?;
-    if sequence == 0 {
-        return None;
-    }
+    let sequence = Sequence::new(sequence as u32)?;
     Some(ReadRow::Served {
-        station: station as u16,
-        sequence: sequence as u32,
+        station: Station::new(station as u16),
+        sequence,
         number,
         pdu: reply(pdu),
     })

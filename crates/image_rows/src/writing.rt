@@ -12,12 +12,13 @@ ghost use Rattle.image_rows.specs.RowText.{header_text, present_number, usage_nu
 
 use crate::Header;
 use crate::sector::SectorText;
+use centre_core::Sequence;
 use command_bytes::Room;
 use command_bytes::put::{put_bits, put_key, put_number, put_prefix, put_rule};
 use group_attach::Attachment;
 use identity::{Bits, Gtsi, Itsi, Prefix};
 use mailbox::Item;
-use registration::{Radio, Rule};
+use registration::{Radio, Rule, Station};
 use std::alloc::Allocator;
 
 #[tactic(auto, using(std::proofs::Common::append_assoc))]
@@ -84,7 +85,7 @@ fn put_radio<R: Room>(out: &mut R, itsi: Itsi, radio: &Radio, groups: &[Attachme
     ensures held { R.held out.new ≡ R.held out.old ++ radio_text itsi radio.now (map group_in groups.now) }
 {
     put_number(out, 6, itsi.number());
-    put_number(out, 2, u64::from(radio.station));
+    put_number(out, 2, u64::from(radio.station.number()));
     put_number(out, 2, u64::from(radio.area.number()));
     put_number(out, 1, u64::from(radio.present));
     put_number(out, 1, groups.len() as u64);
@@ -163,8 +164,8 @@ fn put_reply<R: Room, A: Allocator>(out: &mut R, pdu: &Option<Bits<A>>)
 /// most 2,048 bits.
 #[tactic(auto, unfolding(crate::specs::RowText::sector_of, crate::specs::RowText::row_bytes), using(std::proofs::Common::append_assoc))]
 pub fn served_row<A: Allocator>(
-    station: u16,
-    sequence: u32,
+    station: Station,
+    sequence: Sequence,
     number: u64,
     pdu: &Option<Bits<A>>,
 ) -> [u8; 512]
@@ -173,8 +174,8 @@ pub fn served_row<A: Allocator>(
 {
     let mut text = SectorText::new();
     put_number(&mut text, 1, 20);
-    put_number(&mut text, 2, u64::from(station));
-    put_number(&mut text, 4, u64::from(sequence));
+    put_number(&mut text, 2, u64::from(station.number()));
+    put_number(&mut text, 4, u64::from(sequence.number()));
     put_number(&mut text, 8, number);
     put_reply(&mut text, pdu);
     text.finish()

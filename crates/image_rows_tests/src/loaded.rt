@@ -268,11 +268,11 @@ fn has_copy(register: &Register<Global>) -> bool {
 }
 
 /// Whether a copy of a group message keeps its group.
-fn keeps_group(alloc: Global) -> Option<bool> {
+fn has_group(alloc: Global) -> Option<bool> {
     let register = loaded(alloc, SENT)?;
-    let keeps_group = register.mail().len() == 1 && has_copy(&register);
+    let has_group = register.mail().len() == 1 && has_copy(&register);
     drop(register);
-    Some(keeps_group)
+    Some(has_group)
 }
 
 /// Whether the register refuses the next command since its numbers are used up.
@@ -307,8 +307,8 @@ fn copies_are_loaded(rt: HostRuntime) {
 }
 
 #[test]
-fn copies_keep_their_group(rt: HostRuntime) {
-    assert!(rt; keeps_group(rt.alloc()) == Some(true));
+fn copies_have_their_group(rt: HostRuntime) {
+    assert!(rt; has_group(rt.alloc()) == Some(true));
 }
 
 #[test]

@@ -1,11 +1,12 @@
 //! Rows as texts of bytes, and rows written again as they were read.
+use centre_core::Sequence;
 use command_bytes::bits::PackedBits;
 use identity::Itsi;
 use image_rows::{
     PackedGroups, ReadRow, header_row, mail_row, radio_row, read_row, rule_row, served_row,
 };
 use mailbox::Item;
-use registration::Radio;
+use registration::{Radio, Station};
 use std::alloc::{AllocError, Allocator, Global};
 
 /// The value of a hexadecimal digit.
@@ -61,8 +62,8 @@ fn radio_again(
 
 fn served_again(
     alloc: Global,
-    station: u16,
-    sequence: u32,
+    station: Station,
+    sequence: Sequence,
     number: u64,
     pdu: Option<PackedBits<'_>>,
 ) -> Result<Option<[u8; 512]>, AllocError> {

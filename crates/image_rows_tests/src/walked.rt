@@ -6,7 +6,8 @@ use identity::{Itsi, Prefix};
 use image_rows::{RowPlace, row_after, rows};
 use linked_list_allocator::LocalHeap;
 use mailbox::{Key, Kind};
-use registration::Limits;
+use registration::{Limits, Station};
+use sds_tl::MessageReference;
 use std::alloc::Global;
 
 /// Commands of stations 1 and 3.
@@ -131,10 +132,15 @@ fn mail_place(number: u64, reference: u8) -> Option<RowPlace> {
     let key = Key {
         destination: Itsi::new(234, 14, 2002)?,
         source: Itsi::new(234, 14, 2001)?,
-        reference,
+        reference: MessageReference::new(reference),
         kind: Kind::Message,
     };
     Some(RowPlace::Mail(number, key))
+}
+
+/// The place of what is kept of a station.
+fn served_place(number: u16) -> Option<RowPlace> {
+    Some(RowPlace::Served(Station::new(number)))
 }
 
 /// Whether one goes on from places where no row stands.
@@ -175,8 +181,8 @@ fn goes_on(alloc: Global, register: &Register<Global>) -> bool {
             "the report for radio 2001",
         )
         && is_told(alloc, register, mail_place(11, 0), "station 1")
-        && is_told(alloc, register, Some(RowPlace::Served(2)), "station 3")
-        && is_told(alloc, register, Some(RowPlace::Served(u16::MAX)), "none")
+        && is_told(alloc, register, served_place(2), "station 3")
+        && is_told(alloc, register, served_place(u16::MAX), "none")
 }
 
 /// Whether the rows are listed under this heap, or nothing where memory is wanted.
@@ -212,7 +218,7 @@ fn is_header(alloc: Global, register: &Register<Global>) -> bool {
     list.as_slice() == [header].as_slice()
 }
 
-fn is_kept(alloc: Global, register: &mut Register<Global>) -> bool {
+fn is_told_so(alloc: Global, register: &mut Register<Global>) -> bool {
     is_header(alloc, register)
         && are_accepted(alloc, register)
         && are_walked(alloc, register)
@@ -224,9 +230,9 @@ fn is_kept(alloc: Global, register: &mut Register<Global>) -> bool {
 /// Whether a register is told by its rows, before and after the commands.
 fn is_told_by_rows(alloc: Global) -> Option<bool> {
     let mut register = Register::new(alloc, Limits::new(16, 16, 256, 4)?).ok()?;
-    let is_kept = is_kept(alloc, &mut register);
+    let is_told_so = is_told_so(alloc, &mut register);
     drop(register);
-    Some(is_kept)
+    Some(is_told_so)
 }
 
 #[test]

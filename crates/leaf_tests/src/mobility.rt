@@ -284,7 +284,7 @@ fn is_accepted_as_itself(number: u8) -> bool {
 }
 
 #[test]
-fn acceptance_keeps_the_type(rt: HostRuntime) {
+fn acceptance_has_the_same_type(rt: HostRuntime) {
     assert!(rt; (0..8u8).all(is_accepted_as_itself));
     assert!(rt; AcceptType::Demand.update() == LocationUpdateType::Demand);
 }

@@ -2,7 +2,7 @@
 
 use identity::{Itsi, Prefix};
 use mm_pdus::{Lifetime, LocationUpdateType};
-use registration::{Limits, LocationArea, Registry, Rule};
+use registration::{Limits, LocationArea, Registry, Rule, Station};
 use std::alloc::Global;
 use std::test::Fail;
 
@@ -48,7 +48,7 @@ fn fill(registry: &mut Registry<Global>) -> Result<(), Fail> {
     for ssi in RADIOS {
         registry.locate(
             radio(ssi)?,
-            ssi as u16,
+            Station::new(ssi as u16),
             area()?,
             LocationUpdateType::ItsiAttach,
         )?;
@@ -83,7 +83,7 @@ fn rules_follow(registry: &Registry<Global>) -> Result<bool, Fail> {
 // The number of the radio after this one, as its identity and its station tell it; 0 where there is none.
 fn next_ssi(registry: &Registry<Global>, after: Option<Itsi>) -> (u32, u32) {
     match registry.next_radio(after) {
-        Some((itsi, radio)) => (itsi.ssi(), u32::from(radio.station)),
+        Some((itsi, radio)) => (itsi.ssi(), u32::from(radio.station.number())),
         None => (0, 0),
     }
 }

@@ -4,7 +4,7 @@ use identity::{Itsi, Prefix};
 use linked_list_allocator::LocalHeap;
 use mm_pdus::{Lifetime, LocationUpdateType};
 use prefix_tree::TryCopy;
-use registration::{Limits, LocationArea, Radio, RegFault, Registry, Rule};
+use registration::{Limits, LocationArea, Radio, RegFault, Registry, Rule, Station};
 use std::alloc::{AllocError, Global};
 use std::test::Fail;
 
@@ -83,6 +83,14 @@ fn a_rule_has_its_areas_in_order(rt: HostRuntime) -> Result<(), Fail> {
     Ok(())
 }
 
+#[test]
+fn a_station_has_any_number(rt: HostRuntime) {
+    for number in [0, 1, 64, u16::MAX] {
+        assert!(rt; Station::new(number).number() == number);
+    }
+    assert!(rt; Station::new(1) == Station::new(1) && Station::new(1) != Station::new(2));
+}
+
 /// All rules and radios: the bits of each prefix, or identity, with two numbers of what stands there.
 fn listed(alloc: Global, registry: &Registry<&LocalHeap>) -> Result<Vec<(u64, u32, u32)>, Fail> {
     let mut list = Vec::new(alloc);
@@ -90,7 +98,11 @@ fn listed(alloc: Global, registry: &Registry<&LocalHeap>) -> Result<Vec<(u64, u3
         list.push((prefix.bits(), prefix.len(), rule.keep()))?;
     }
     for (itsi, radio) in registry.radios(alloc)? {
-        list.push((itsi.number(), u32::from(radio.station), radio.area.number()))?;
+        list.push((
+            itsi.number(),
+            u32::from(radio.station.number()),
+            radio.area.number(),
+        ))?;
     }
     Ok(list)
 }
@@ -98,36 +110,38 @@ fn listed(alloc: Global, registry: &Registry<&LocalHeap>) -> Result<Vec<(u64, u3
 /// A radio that left at station 2.
 fn left(area: LocationArea) -> Radio {
     Radio {
-        station: 2,
+        station: Station::new(2),
         area,
         present: false,
     }
 }
 
-/// The call of this turn: rules under 0, 3 and 9 bits, and radios that part at the first bit and at the last.
+/// How many calls there are: three rules, and more radios than one node of their map holds.
+const CALLS: u32 = 19;
+
+/// The call of this turn: rules under 0, 3 and 9 bits, then radios, of which the first attaches.
 fn called(
     registry: &mut Registry<&LocalHeap>,
     turn: u32,
     here: Itsi,
-    other: Itsi,
     rule: Rule,
 ) -> Result<(), RegFault> {
     let (area, attach) = (rule.low(), LocationUpdateType::ItsiAttach);
     match turn {
         0 => registry.set_rule(Prefix::of(here.number(), 0), rule),
         1 => registry.set_rule(Prefix::of(here.number(), 3), rule),
-        2 => registry.locate(here, 1, area, attach),
-        3 => registry.restore(other, left(area)),
-        _ => registry.set_rule(Prefix::of(here.number(), 9), rule),
+        2 => registry.set_rule(Prefix::of(here.number(), 9), rule),
+        3 => registry.locate(here, Station::new(1), area, attach),
+        _ => registry.restore(here, left(area)),
     }
 }
 
-/// How many calls a heap takes, and then a copy and the lists. `kept`: the first that it refused left it and the registry
-/// as they were.
+/// How many calls a heap takes, and then a copy and the lists. `unchanged`: the first that it refused left it and the
+/// registry as they were.
 #[derive(Clone, Copy)]
 struct Taken {
     calls: u32,
-    kept: bool,
+    unchanged: bool,
 }
 
 /// Whether the turn finds memory; where it does not, whether it left all as it was.
@@ -137,9 +151,9 @@ fn turn(
     registry: &mut Registry<&LocalHeap>,
     turn: u32,
 ) -> Result<Option<bool>, Fail> {
-    let (here, other, rule) = (radio(2001)?, radio(2000)?, rule(turn)?);
+    let (here, rule) = (radio(2001_u32.saturating_sub(turn))?, rule(turn)?);
     let (before, used) = (listed(alloc, registry)?, heap.used());
-    match called(registry, turn, here, other, rule) {
+    match called(registry, turn, here, rule) {
         Ok(()) => Ok(None),
         Err(fault) => {
             let same = listed(alloc, registry)? == before && heap.used() == used;
@@ -157,13 +171,16 @@ fn calls_until_refused(
     heap: &LocalHeap,
     registry: &mut Registry<&LocalHeap>,
 ) -> Result<Taken, Fail> {
-    for calls in 0..5u32 {
-        if let Some(kept) = turn(alloc, heap, registry, calls)? {
-            return Ok(Taken { calls, kept });
+    for calls in 0..CALLS {
+        if let Some(unchanged) = turn(alloc, heap, registry, calls)? {
+            return Ok(Taken { calls, unchanged });
         }
     }
-    let calls = 5 + u32::from(is_copied(registry, heap));
-    Ok(Taken { calls, kept: true })
+    let calls = CALLS + u32::from(is_copied(registry, heap));
+    Ok(Taken {
+        calls,
+        unchanged: true,
+    })
 }
 
 fn calls_taken(alloc: Global, size: usize) -> Result<Taken, Fail> {
@@ -172,22 +189,26 @@ fn calls_taken(alloc: Global, size: usize) -> Result<Taken, Fail> {
     calls_until_refused(alloc, &heap, &mut registry)
 }
 
-/// How many calls the largest of these heaps takes, where each takes as many as the one before or one more.
-fn most_calls(alloc: Global) -> Result<Option<u32>, Fail> {
-    let mut last = 0u32;
+/// How many calls the largest of these heaps takes, and at how many numbers of calls heaps are full: none of these takes
+/// fewer than the one before.
+fn most_calls(alloc: Global) -> Result<Option<(u32, u32)>, Fail> {
+    let (mut last, mut ends) = (0u32, 0u32);
     for size in 2..256usize {
         let next = calls_taken(alloc, 32 * size)?;
-        if !next.kept || next.calls < last || next.calls - last > 1 {
+        if !next.unchanged || next.calls < last {
             return Ok(None);
         }
+        ends = ends.saturating_add(u32::from(next.calls > last));
         last = next.calls;
     }
-    Ok(Some(last))
+    Ok(Some((last, ends)))
 }
 
+// Each rule wants a node, and so does the first radio; fourteen more lie beside it, the next wants two nodes at once, and
+// then the copy and the lists want theirs.
 #[test]
 fn each_growth_is_refused_in_turn(rt: HostRuntime) -> Result<(), Fail> {
-    assert!(rt; most_calls(rt.alloc())? == Some(6));
+    assert!(rt; most_calls(rt.alloc())? == Some((20, 6)));
     Ok(())
 }
 
@@ -195,7 +216,8 @@ fn each_growth_is_refused_in_turn(rt: HostRuntime) -> Result<(), Fail> {
 fn with_radio(alloc: Global, here: Itsi, rule: Rule) -> Result<Registry<Global>, AllocError> {
     let mut registry = Registry::new(alloc, limits())?;
     let _ = registry.set_rule(here.path(), rule);
-    let _ = registry.locate(here, 1, rule.low(), LocationUpdateType::ItsiAttach);
+    let attach = LocationUpdateType::ItsiAttach;
+    let _ = registry.locate(here, Station::new(1), rule.low(), attach);
     Ok(registry)
 }
 

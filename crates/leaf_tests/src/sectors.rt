@@ -369,7 +369,7 @@ const ORDER: [(u64, [u8; 3]); 5] = [
 ];
 
 #[test]
-fn a_stop_keeps_the_order(rt: HostRuntime) -> Result<(), Fail> {
+fn a_stop_leaves_the_order(rt: HostRuntime) -> Result<(), Fail> {
     for (call, want) in ORDER {
         assert!(rt; is_in_order(rt.alloc(), call, want)?, "call {call}");
     }

@@ -1,7 +1,7 @@
 use identity::{BitWriter, Bits, Fault, parse_bits, print_bits};
 use sds_tl::{
-    DeliveryReportRequest, DeliveryStatus, Head, MOST_BITS, ProtocolIdentifier, Sds, SdsFault,
-    canonical, head, read, read_transfer, transfer_reference, write,
+    DeliveryReportRequest, DeliveryStatus, Head, MOST_BITS, MessageReference, ProtocolIdentifier,
+    Sds, SdsFault, canonical, head, read, read_transfer, transfer_reference, write,
 };
 use std::alloc::Global;
 use std::test::Fail;
@@ -47,7 +47,7 @@ fn is_report(sds: &Sds<Global>) -> bool {
     else {
         return false;
     };
-    (identifier.number(), *acknowledge, *reference) == (130, false, 5)
+    (identifier.number(), *acknowledge, reference.number()) == (130, false, 5)
         && status.is_consumed()
         && user_data.is_empty()
 }
@@ -61,7 +61,7 @@ fn is_acknowledgement(sds: &Sds<Global>) -> bool {
     else {
         return false;
     };
-    (identifier.number(), status.code(), *reference) == (130, 0, 5) && status.is_received()
+    (identifier.number(), status.code(), reference.number()) == (130, 0, 5) && status.is_received()
 }
 
 fn read_text(alloc: Global, text: &str) -> Result<Sds<Global>, Fail> {
@@ -98,7 +98,7 @@ fn has_head(alloc: Global, text: &str, expected: &Head) -> Result<bool, Fail> {
 fn message(request: DeliveryReportRequest) -> Head {
     Head::Transfer {
         request,
-        reference: 5,
+        reference: MessageReference::new(5),
     }
 }
 
@@ -109,7 +109,7 @@ fn have_heads(alloc: Global) -> Result<bool, Fail> {
     let report = Head::Report {
         acknowledge: false,
         status: DeliveryStatus::new(0),
-        reference: 5,
+        reference: MessageReference::new(5),
     };
     Ok(
         has_head(alloc, "48:820405014849", &received)?
@@ -215,7 +215,7 @@ fn fault_of_writing(alloc: Global, user_data: Bits) -> Result<Option<SdsFault>, 
         identifier: ProtocolIdentifier::new(130).ok_or("an identifier")?,
         request: DeliveryReportRequest::None,
         selection: false,
-        reference: 5,
+        reference: MessageReference::new(5),
         user_data,
     };
     Ok(write(alloc, &message).err())
@@ -245,7 +245,7 @@ fn has_transfer_fault(alloc: Global, text: &str, fault: SdsFault) -> Result<bool
 fn is_transfer(alloc: Global, text: &str, reference: u8) -> Result<bool, Fail> {
     let bits = parse_bits(alloc, text.as_bytes())?;
     let sds = read_transfer(alloc, &bits)?;
-    Ok(transfer_reference(&bits)? == reference && sds.head() == head(&bits)?)
+    Ok(transfer_reference(&bits)?.number() == reference && sds.head() == head(&bits)?)
 }
 
 const NO_TRANSFERS: [(&str, SdsFault); 3] = [
@@ -267,5 +267,13 @@ fn are_no_transfers(alloc: Global) -> Result<bool, Fail> {
 fn only_a_message_is_a_transfer(rt: HostRuntime) -> Result<(), Fail> {
     let alloc = rt.alloc();
     assert!(rt; is_transfer(alloc, "48:820405014849", 5)? && are_no_transfers(alloc)?);
+    Ok(())
+}
+
+#[test]
+fn a_reference_is_any_number_of_eight_bits(rt: HostRuntime) -> Result<(), Fail> {
+    for number in [0, 5, 255] {
+        assert_eq!(rt; MessageReference::new(number).number(), number);
+    }
     Ok(())
 }

@@ -12,19 +12,19 @@ use Rattle.std.proofs.lemmas.List.{map-append, take_more}
 use Rattle.std.proofs.lemmas.List.Elements.{All-cons, All-append, All-map, All-filter, All-weaker, All-get_or, filter-append}
 use Rattle.std.proofs.Math.Seq.{take-append_seam}
 use Rattle.mailbox.specs.declared.key.Key.{Key}
-use Rattle.mailbox.specs.Values.{Waiting, Mailed}
-use Rattle.mailbox.specs.Tests.{same_kind, same_key, is_at}
+use Rattle.mailbox.specs.Values.{Item, Mailed}
+use Rattle.mailbox.specs.Item.{same_kind, same_key, is_at}
 use Rattle.mailbox.specs.Order.{kind_number, IsBefore, ComesLast}
 use Rattle.mailbox.specs.Mail.{holds}
 use Rattle.mailbox.specs.GroupPost.{group_posted, addressed, shortened}
 use Rattle.mailbox.proofs.Lists.{none_passes, any_of_none, pairs_head, pairs_tail}
-use Rattle.mailbox.proofs.Kept.{is_before}
+use Rattle.mailbox.proofs.Sound.{is_before}
 
 not_same : (a b : ℕ) → a < b → (b == a) ≡ false
 not_same a b below = grind (arith, nat_tests)
 
 -- copies for two members have two keys
-pub other_key : (w : Waiting) (a b : ℕ) → a < b → same_key (addressed w b).key (addressed w a).key ≡ false
+pub other_key : (w : Item) (a b : ℕ) → a < b → same_key (addressed w b).key (addressed w a).key ≡ false
 other_key w a b below = ap (λ c. c && (w.key.source == w.key.source) && (w.key.reference == w.key.reference) && same_kind w.key.kind w.key.kind) (not_same a b below)
 
 first_less : (x y : ℕ) (order : Ordering) → MatchOrdering order (x < y) (x ≡ y) (y < x) → x < y → order ≡ Less
@@ -37,11 +37,11 @@ itself_equal x Less h = absurd (omega (arith, h))
 itself_equal x Equal h = refl
 itself_equal x Greater h = absurd (omega (arith, h))
 
-abbrev behind : Waiting → List ℕ
+abbrev behind : Item → List ℕ
 behind w = w.key.source ∷ w.key.reference ∷ kind_number w.key.kind ∷ []
 
 -- and the one for the smaller member comes before
-pub before_other : (w : Waiting) (a b : ℕ) → a < b → IsBefore (addressed w a) (addressed w b)
+pub before_other : (w : Item) (a b : ℕ) → a < b → IsBefore (addressed w a) (addressed w b)
 before_other w a b below =
     ap (λ order. ordering_then order (slice_cmp nat_cmp (a ∷ behind w) (b ∷ behind w))) (itself_equal w.number (nat_cmp w.number w.number) (ranks w.number w.number))
     ∙ ap (λ order. ordering_then order (slice_cmp nat_cmp (behind w) (behind w))) (first_less a b (nat_cmp a b) (ranks a b) below)
@@ -54,9 +54,9 @@ below_next (x ∷ xs) (suc i) d rising below =
     All-cons (λ a. a < get_or xs i d) x (take i xs) (All-get_or (λ b. x < b) xs i d (omega (arith, below)) (pairs_head (λ a b. a < b) x xs rising))
     (below_next xs i d (pairs_tail (λ a b. a < b) x xs rising) (omega (arith, below)))
 
-module _ (w : Waiting) (receives : ℕ → Bool) where
+module _ (w : Item) (receives : ℕ → Bool) where
   -- the copies for the first so many members
-  abbrev pub made : List ℕ → List Waiting
+  abbrev pub made : List ℕ → List Item
   made members = map (addressed w) (filter receives members)
 
   -- the copy for the next one comes last, under a key of its own
@@ -84,5 +84,5 @@ module _ (w : Waiting) (receives : ℕ → Bool) where
       ap (λ ws. record { room = m.room; items = ws }) (append_assoc m.items (made (take i members)) (made (member ∷ [])) ∙ ap (λ ws. m.items ++ ws) (sym all))
 
 -- what was put at the end is taken away again
-pub taken_back : (m : Mailed) (ws : List Waiting) → shortened (group_posted m ws) (length m.items) ≡ m
+pub taken_back : (m : Mailed) (ws : List Item) → shortened (group_posted m ws) (length m.items) ≡ m
 taken_back m ws = ap (λ os. record { room = m.room; items = os }) (take-append_seam m.items ws)

@@ -10,8 +10,8 @@ use Rattle.std.proofs.lemmas.List.Sums.{length-filter, sum_by-append, sum_by-con
 use Rattle.registration.specs.Registered.{Registered}
 use Rattle.mailbox.specs.declared.key.GroupEnvelope.{GroupEnvelope}
 use Rattle.mailbox.specs.declared.key.Stamp.{Stamp}
-use Rattle.mailbox.specs.Values.{Waiting, Mailed}
-use Rattle.mailbox.specs.Tests.{is_to}
+use Rattle.mailbox.specs.Values.{Item, Mailed}
+use Rattle.mailbox.specs.Item.{is_to}
 use Rattle.mailbox.specs.Mail.{holds}
 use Rattle.mailbox.specs.Refusals.{most_for_one}
 use Rattle.mailbox.specs.GroupPost.{copy_key, copy_for, copies, is_receiver, first_of_copies, copies_refusal}
@@ -46,7 +46,7 @@ smaller a b below = grind (arith, nat_tests)
 
 -- of copies for rising members, one is for each
 module _ (s : Registered) (e : GroupEnvelope) (stamp : Stamp) (pdu : List Bool) where
-  abbrev copy : ℕ → Waiting
+  abbrev copy : ℕ → Item
   copy = copy_for s e stamp pdu
 
   none_for : (x : ℕ) (xs : List ℕ) → All (λ y. x < y) xs → count_by (is_to x) (map copy xs) ≡ 0
@@ -74,7 +74,7 @@ module _ (s : Registered) (e : GroupEnvelope) (stamp : Stamp) (pdu : List Bool) 
       let one : count_by (is_to y) (map copy xs) ≡ 1 = rest k d below in
       omega (arith, all, first, one))
 
-  full_with : (m : Mailed) (x : ℕ) (ws : List Waiting) → count_by (is_to x) ws ≡ 1 → nat_le most_for_one (count_by (is_to x) m.items) ≡ nat_lt most_for_one (count_by (is_to x) (m.items ++ ws))
+  full_with : (m : Mailed) (x : ℕ) (ws : List Item) → count_by (is_to x) ws ≡ 1 → nat_le most_for_one (count_by (is_to x) m.items) ≡ nat_lt most_for_one (count_by (is_to x) (m.items ++ ws))
   full_with m x ws one =
       let all : count_by (is_to x) (m.items ++ ws) ≡ count_by (is_to x) m.items + count_by (is_to x) ws = sum_by-append (λ w. weight (is_to x w)) m.items ws in
       above_one (count_by (is_to x) m.items) (count_by (is_to x) (m.items ++ ws)) (all ∙ ap (λ n. count_by (is_to x) m.items + n) one)
@@ -90,7 +90,7 @@ module _ (s : Registered) (e : GroupEnvelope) (stamp : Stamp) (pdu : List Bool) 
   told_by_members m members rising =
       let r : ℕ → Bool = is_receiver s e.source in
       let xs : List ℕ = filter r members in
-      let ws : List Waiting = map copy xs in
+      let ws : List Item = map copy xs in
       let counted : length ws ≡ count_by r members = length-map xs copy ∙ length-filter r members in
       let busy : list_any (λ d. r d && holds m (copy_key e d)) members ≡ list_any (λ w. holds m w.key) ws =
       sym (any_mapped copy (λ w. holds m w.key) xs ∙ any_filtered (λ d. holds m (copy_key e d)) r members) in

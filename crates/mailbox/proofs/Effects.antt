@@ -10,14 +10,14 @@ use Rattle.std.proofs.lemmas.List.Sums.{length-filter, sum_by_push}
 use Rattle.mailbox.specs.declared.key.Kind.TheVariants.{Message, Report}
 use Rattle.mailbox.specs.declared.key.Key.{Key}
 use Rattle.mailbox.specs.declared.key.Envelope.{Envelope}
-use Rattle.mailbox.specs.Values.{Waiting, Mailed}
-use Rattle.mailbox.specs.Tests.{same_kind, same_key, key_of, answered, is_at, is_to, is_reported, ends_request, request_of, is_ended_by}
+use Rattle.mailbox.specs.Values.{Item, Mailed}
+use Rattle.mailbox.specs.Item.{same_kind, same_key, key_of, answered, is_at, is_to, is_reported, ends_request, request_of, is_ended_by}
 use Rattle.mailbox.specs.Mail.{holds, without, with_item, posted, reported, waiting}
 use Rattle.mailbox.proofs.Lists.{filter_within, filter_turned, filter_twice, filter_alike, any_within, find_within, none_passes, any_of_none, filter_all, pairs_head, pairs_tail}
 use Rattle.mailbox.specs.Refusals.{crowd_refusal, full_refusal}
 use Rattle.mailbox.proofs.Keys.{number_itself, key_turned, key_itself, key_exact, at_is_to}
 
-abbrev AreApart : List Waiting → Type 0
+abbrev AreApart : List Item → Type 0
 AreApart ws = AllPairs (λ a b. same_key b.key a.key ≡ false) ws
 
 pub holds_waiting : (m : Mailed) (k : Key) → list_any (is_at k) (waiting m k.destination) ≡ holds m k
@@ -27,7 +27,7 @@ pub count_waiting : (m : Mailed) (destination : ℕ) → length (waiting m desti
 count_waiting m destination = length-filter (is_to destination) m.items
 
 -- what is at a key and passes a test is for the key's destination
-at_and : (k : Key) (test : Waiting → Bool) (w : Waiting) → (is_at k w && test w) ≡ true → is_to k.destination w ≡ true
+at_and : (k : Key) (test : Item → Bool) (w : Item) → (is_at k w && test w) ≡ true → is_to k.destination w ≡ true
 at_and k test w h = at_is_to k w (and_parts (is_at k w) (test w) h).0
 
 pub reported_waiting : (m : Mailed) (e : Envelope) (status : ℕ) → length (filter (is_reported e status) (waiting m e.source)) ≡ length (filter (is_reported e status) m.items)
@@ -42,29 +42,29 @@ left_waiting m e status =
     ∙ length-filter (is_to e.destination) (filter (λ w. not (is_ended_by e status w)) m.items)
 
 -- a message that is reported on is no report
-no_report : (e : Envelope) (status : ℕ) (w : Waiting) → is_reported e status w ≡ true → is_at (key_of e Report) w ≡ false
+no_report : (e : Envelope) (status : ℕ) (w : Item) → is_reported e status w ≡ true → is_at (key_of e Report) w ≡ false
 no_report e status w h =
     let at : is_at (answered e Message) w ≡ true = (and_parts (is_at (answered e Message) w) (ends_request status (request_of w.pdu)) h).0 in
     ap (same_key (key_of e Report)) (sym (key_exact (answered e Message) w.key at)) ∙ and_right _ (same_kind Report Message) refl
 
-one_counted : (r a : Bool) (w : Waiting) (ls rs bs ws : List Waiting) → (r ≡ true → a ≡ false) → length ls + length rs + length bs ≡ length ws → length (cond (not (r || a)) (w ∷ ls) ls) + length (cond r (w ∷ rs) rs) + length (cond a (w ∷ bs) bs) ≡ length (w ∷ ws)
+one_counted : (r a : Bool) (w : Item) (ls rs bs ws : List Item) → (r ≡ true → a ≡ false) → length ls + length rs + length bs ≡ length ws → length (cond (not (r || a)) (w ∷ ls) ls) + length (cond r (w ∷ rs) rs) + length (cond a (w ∷ bs) bs) ≡ length (w ∷ ws)
 one_counted true true w ls rs bs ws h e = absurd (false≢true (sym (h refl)))
 one_counted true false w ls rs bs ws h e = omega (arith, e)
 one_counted false true w ls rs bs ws h e = omega (arith, e)
 one_counted false false w ls rs bs ws h e = omega (arith, e)
 
 -- each item is left, is a message that ends, or is the report before
-pub all_counted : (e : Envelope) (status : ℕ) (ws : List Waiting) → length (filter (λ w. not (is_ended_by e status w)) ws) + length (filter (is_reported e status) ws) + length (filter (is_at (key_of e Report)) ws) ≡ length ws
+pub all_counted : (e : Envelope) (status : ℕ) (ws : List Item) → length (filter (λ w. not (is_ended_by e status w)) ws) + length (filter (is_reported e status) ws) + length (filter (is_at (key_of e Report)) ws) ≡ length ws
 all_counted e status [] = refl
 all_counted e status (w ∷ ws) = one_counted (is_reported e status w) (is_at (key_of e Report) w) w _ _ _ ws (no_report e status w) (all_counted e status ws)
 
-module _ (k : Key) (test : Waiting → Bool) where
-  no_more : (w : Waiting) (ws : List Waiting) → is_at k w ≡ true → AreApart (w ∷ ws) → All (λ o. is_at k o ≡ false) ws
+module _ (k : Key) (test : Item → Bool) where
+  no_more : (w : Item) (ws : List Item) → is_at k w ≡ true → AreApart (w ∷ ws) → All (λ o. is_at k o ≡ false) ws
   no_more w ws at apart =
       All-weaker (λ o. same_key o.key w.key ≡ false) (λ o. is_at k o ≡ false) (λ o other. ap (λ j. same_key j o.key) (key_exact k w.key at) ∙ key_turned w.key o.key ∙ other) ws
       (pairs_head (λ a b. same_key b.key a.key ≡ false) w ws apart)
 
-  one_goes : (w : Waiting) (ws : List Waiting) (a b : Bool) → is_at k w ≡ a → AreApart (w ∷ ws) → ((a && b) || list_any (λ o. is_at k o && test o) ws) ≡ true
+  one_goes : (w : Item) (ws : List Item) (a b : Bool) → is_at k w ≡ a → AreApart (w ∷ ws) → ((a && b) || list_any (λ o. is_at k o && test o) ws) ≡ true
       → (list_any (λ o. is_at k o && test o) ws ≡ true → filter (λ o. not (is_at k o)) ws ≡ filter (λ o. not (is_at k o && test o)) ws)
       → cond (not a) (w ∷ filter (λ o. not (is_at k o)) ws) (filter (λ o. not (is_at k o)) ws) ≡ cond (not (a && b)) (w ∷ filter (λ o. not (is_at k o && test o)) ws) (filter (λ o. not (is_at k o && test o)) ws)
   one_goes w ws false b at apart some rest = ap (λ os. w ∷ os) (rest some)
@@ -76,7 +76,7 @@ module _ (k : Key) (test : Waiting → Bool) where
       any_of_none (λ o. is_at k o && test o) ws (All-weaker (λ o. is_at k o ≡ false) (λ o. (is_at k o && test o) ≡ false) (λ o f. ap (λ c. c && test o) f) ws (no_more w ws at apart)) in
       absurd (false≢true (sym none ∙ some))
 
-  one_gone : (ws : List Waiting) → AreApart ws → list_any (λ o. is_at k o && test o) ws ≡ true → filter (λ o. not (is_at k o)) ws ≡ filter (λ o. not (is_at k o && test o)) ws
+  one_gone : (ws : List Item) → AreApart ws → list_any (λ o. is_at k o && test o) ws ≡ true → filter (λ o. not (is_at k o)) ws ≡ filter (λ o. not (is_at k o && test o)) ws
   one_gone [] apart some = refl
   one_gone (w ∷ ws) apart some = one_goes w ws (is_at k w) (test w) refl apart some (one_gone ws (pairs_tail (λ a b. same_key b.key a.key ≡ false) w ws apart))
 
@@ -85,8 +85,8 @@ module _ (k : Key) (test : Waiting → Bool) where
   removed_if m apart found = λ i. record { room = m.room; items = one_gone m.items apart found i }
 
   -- where it does not, nothing goes
-  pub kept_if : (m : Mailed) → list_any (λ o. is_at k o && test o) m.items ≡ false → m ≡ without (λ o. is_at k o && test o) m
-  kept_if m all = λ i. record { room = m.room; items = sym (filter_all (λ o. is_at k o && test o) m.items (none_passes (λ o. is_at k o && test o) m.items all)) i }
+  pub unchanged_if : (m : Mailed) → list_any (λ o. is_at k o && test o) m.items ≡ false → m ≡ without (λ o. is_at k o && test o) m
+  unchanged_if m all = λ i. record { room = m.room; items = sym (filter_all (λ o. is_at k o && test o) m.items (none_passes (λ o. is_at k o && test o) m.items all)) i }
 
   -- so too of those for the key's destination
   pub removed_some : (m : Mailed) → AreApart m.items → list_any (λ o. is_at k o && test o) (waiting m k.destination) ≡ true → without (is_at k) m ≡ without (λ o. is_at k o && test o) m
@@ -97,10 +97,10 @@ module _ (k : Key) (test : Waiting → Bool) where
   pub removed_none : (m : Mailed) → list_any (λ o. is_at k o && test o) (waiting m k.destination) ≡ false → m ≡ without (λ o. is_at k o && test o) m
   removed_none m none =
       let all : list_any (λ o. is_at k o && test o) m.items ≡ false = sym (any_within (λ o. is_at k o && test o) (is_to k.destination) (at_and k test) m.items) ∙ none in
-      kept_if m all
+      unchanged_if m all
 
 -- a message under a key of its own takes no item's place
-pub posted_alone : (m : Mailed) (w : Waiting) → holds m w.key ≡ false → with_item (without (is_at w.key) m) w ≡ posted m w
+pub posted_alone : (m : Mailed) (w : Item) → holds m w.key ≡ false → with_item (without (is_at w.key) m) w ≡ posted m w
 posted_alone m w alone = λ i. record { room = m.room; items = filter_all (is_at w.key) m.items (none_passes (is_at w.key) m.items alone) i ++ w ∷ [] }
 
 neither_one : (a b : Bool) → (not a && not b) ≡ not (b || a)
@@ -110,7 +110,7 @@ neither_one false true = refl
 neither_one false false = refl
 
 -- to put the report and then to end the message is what a report does
-pub reported_then : (m : Mailed) (e : Envelope) (status : ℕ) (w : Waiting) → w.key ≡ key_of e Report → without (is_reported e status) (with_item (without (is_at w.key) m) w) ≡ reported m e status w
+pub reported_then : (m : Mailed) (e : Envelope) (status : ℕ) (w : Item) → w.key ≡ key_of e Report → without (is_reported e status) (with_item (without (is_at w.key) m) w) ≡ reported m e status w
 reported_then m e status w is =
     let at : is_at (key_of e Report) w ≡ true = ap (same_key (key_of e Report)) is ∙ key_itself (key_of e Report) in
     let stays : is_reported e status w ≡ false = false_from_ne_true (is_reported e status w) (λ h. false≢true (sym (no_report e status w h) ∙ at)) in
@@ -128,7 +128,7 @@ or_none true = refl
 or_none false = refl
 
 -- to put the report ends no message, and none that the report ends goes
-pub still_ends : (m : Mailed) (e : Envelope) (status : ℕ) (w : Waiting) → w.key ≡ key_of e Report → list_any (is_reported e status) (with_item (without (is_at w.key) m) w).items ≡ list_any (is_reported e status) m.items
+pub still_ends : (m : Mailed) (e : Envelope) (status : ℕ) (w : Item) → w.key ≡ key_of e Report → list_any (is_reported e status) (with_item (without (is_at w.key) m) w).items ≡ list_any (is_reported e status) m.items
 still_ends m e status w is =
     let at : is_at (key_of e Report) w ≡ true = ap (same_key (key_of e Report)) is ∙ key_itself (key_of e Report) in
     let stays : is_reported e status w ≡ false = false_from_ne_true (is_reported e status w) (λ h. false≢true (sym (no_report e status w h) ∙ at)) in
@@ -144,7 +144,7 @@ pub found_waiting : (m : Mailed) (k : Key) → find (is_at k) (waiting m k.desti
 found_waiting m k = find_within (is_at k) (is_to k.destination) (at_is_to k) m.items
 
 -- how many wait for its destination, and in all, with one more item
-pub one_more_waits : (m : Mailed) (w : Waiting) → crowd_refusal m.room (count_by (is_to w.key.destination) m.items + 1) (length m.items + 1) ≡ full_refusal (posted m w) w.key.destination
+pub one_more_waits : (m : Mailed) (w : Item) → crowd_refusal m.room (count_by (is_to w.key.destination) m.items + 1) (length m.items + 1) ≡ full_refusal (posted m w) w.key.destination
 one_more_waits m w =
     let d : ℕ = w.key.destination in
     let itself : is_to d w ≡ true = number_itself d in

@@ -14,8 +14,8 @@ use Rattle.identity.specs.Inside.PathLaws.{paths_total, tie_exact, tied, id_path
 use Rattle.mailbox.specs.declared.key.Kind.{Kind}
 use Rattle.mailbox.specs.declared.key.Kind.TheVariants.{Message, Report}
 use Rattle.mailbox.specs.declared.key.Key.{Key}
-use Rattle.mailbox.specs.Values.{Waiting}
-use Rattle.mailbox.specs.Tests.{same_kind, same_key, is_at, is_to}
+use Rattle.mailbox.specs.Values.{Item}
+use Rattle.mailbox.specs.Item.{same_kind, same_key, is_at, is_to}
 use Rattle.mailbox.specs.Inside.Boxes.{is_under}
 use Rattle.mailbox.proofs.Lists.{both_ways}
 
@@ -63,10 +63,10 @@ key_exact k j e =
     }
 
 -- what is at a key is for its destination, and under the path of that
-pub at_is_to : (k : Key) (w : Waiting) → is_at k w ≡ true → is_to k.destination w ≡ true
+pub at_is_to : (k : Key) (w : Item) → is_at k w ≡ true → is_to k.destination w ≡ true
 at_is_to k w e = ap (λ j. j.destination == k.destination) (sym (key_exact k w.key e)) ∙ number_itself k.destination
 
-pub at_is_under : (k : Key) (w : Waiting) → is_at k w ≡ true → is_under (id_path k.destination) w ≡ true
+pub at_is_under : (k : Key) (w : Item) → is_at k w ≡ true → is_under (id_path k.destination) w ≡ true
 at_is_under k w e = ap (λ j. eq_by_cmp path_cmp (id_path k.destination) (id_path j.destination)) (sym (key_exact k w.key e)) ∙ tied (id_path k.destination)
 
 -- what is under one path is under no other
@@ -74,7 +74,7 @@ pub under_other : (p q r : Path) → eq_by_cmp path_cmp q p ≡ false → eq_by_
 under_other p q r other here = ap (eq_by_cmp path_cmp p) (sym (tie_exact q r here)) ∙ (eq_by_cmp_equiv paths_total).symm p q ∙ other
 
 -- of identities: under the path is for the destination
-pub under_is_to : (destination : ℕ) → destination < 2 ^ 48 → (w : Waiting) → w.key.destination < 2 ^ 48 → is_under (id_path destination) w ≡ is_to destination w
+pub under_is_to : (destination : ℕ) → destination < 2 ^ 48 → (w : Item) → w.key.destination < 2 ^ 48 → is_under (id_path destination) w ≡ is_to destination w
 under_is_to destination below w whole =
     both_ways (is_under (id_path destination) w) (is_to destination w)
     (λ e. ap (λ d. d == destination) (id_path-injective w.key.destination destination whole below (sym (tie_exact (id_path destination) (id_path w.key.destination) e))) ∙ number_itself destination)

@@ -1,13 +1,13 @@
 pub mod Lists
 pub mod Keys
 pub mod Boxed
-pub mod Keeping
+pub mod Filing
 pub mod Effects
 pub mod Judged
-pub mod Kept
+pub mod Sound
 pub mod Copies
 pub mod CopiesRefused
-pub mod CopiesKept
+pub mod CopiesSound
 pub mod Newest
 pub mod Texts
 pub mod Next

@@ -9,10 +9,10 @@ use Rattle.std.proofs.lemmas.List.Elements.{All-head, All-tail}
 use Rattle.prefix_tree.specs.Following.{is_after, next_of, AreRising}
 use Rattle.mailbox.specs.declared.key.Key.{Key}
 use Rattle.mailbox.specs.declared.place.Place.{Place}
-use Rattle.mailbox.specs.Values.{Waiting}
+use Rattle.mailbox.specs.Values.{Item}
 use Rattle.mailbox.specs.Order.{named_cmp, named, place_of}
-use Rattle.mailbox.specs.Inside.Boxes.{Boxes, item_at, name_of, AreKept}
-use Rattle.mailbox.proofs.Keeping.{found_each}
+use Rattle.mailbox.specs.Inside.Boxes.{Boxes, item_at, name_of, AreFiled}
+use Rattle.mailbox.proofs.Filing.{found_each}
 
 module _ {X : Type 0} where
   found_all : (P : X → Type 0) (test : X → Bool) (xs : List X) → All P xs → IfSome (find test xs) P
@@ -24,10 +24,10 @@ module _ {X : Type 0} where
       by false rest = rest
 
 -- an item with this place
-abbrev item_with : Place → Waiting
+abbrev item_with : Place → Item
 item_with p = record { key = p.key; number = p.number; deadline = p.deadline; pdu = []; group = None }
 
-pub places_rise : (ws : List Waiting) (order : List Place) → order ≡ map place_of ws → AreRising named_cmp named ws → AreRising named_cmp name_of order
+pub places_rise : (ws : List Item) (order : List Place) → order ≡ map place_of ws → AreRising named_cmp named ws → AreRising named_cmp name_of order
 places_rise ws order is rise = subst (AreRising named_cmp name_of) (sym is) mapped
   where
     mapped : AreRising named_cmp name_of (map place_of ws)
@@ -35,11 +35,11 @@ places_rise ws order is rise = subst (AreRising named_cmp name_of) (sym is) mapp
         let short : j < length ws = subst (λ n. j < n) (length-map ws place_of) within in
         (λ k. named_cmp (name_of (get_or-map place_of ws i (item_with d) k)) (name_of (get_or-map place_of ws j (item_with d) k))) ∙ rise i j (item_with d) lt short
 
-same_test : (after : Option (ℕ × Key)) (w : Waiting) → is_after named_cmp name_of after (place_of w) ≡ is_after named_cmp named after w
+same_test : (after : Option (ℕ × Key)) (w : Item) → is_after named_cmp name_of after (place_of w) ≡ is_after named_cmp named after w
 same_test None w = refl
 same_test (Some k) w = refl
 
-next_mapped : (after : Option (ℕ × Key)) (ws : List Waiting) → next_of named_cmp name_of (map place_of ws) after ≡ option_map place_of (next_of named_cmp named ws after)
+next_mapped : (after : Option (ℕ × Key)) (ws : List Item) → next_of named_cmp name_of (map place_of ws) after ≡ option_map place_of (next_of named_cmp named ws after)
 next_mapped after [] = refl
 next_mapped after (w ∷ ws) =
     (λ i. cond (same_test after w i) (Some (place_of w)) (next_mapped after ws i)) ∙ by (is_after named_cmp named after w)
@@ -49,15 +49,15 @@ next_mapped after (w ∷ ws) =
     by false = refl
 
 -- the item at a place, if there is a place
-abbrev pub at_place : Boxes → Option Place → Option Waiting
+abbrev pub at_place : Boxes → Option Place → Option Item
 at_place boxes None = None
 at_place boxes (Some p) = item_at boxes p.key
 
-looked_up : (boxes : Boxes) (o : Option Waiting) → IfSome o (λ w. item_at boxes w.key ≡ Some w) → at_place boxes (option_map place_of o) ≡ o
+looked_up : (boxes : Boxes) (o : Option Item) → IfSome o (λ w. item_at boxes w.key ≡ Some w) → at_place boxes (option_map place_of o) ≡ o
 looked_up boxes None there = refl
 looked_up boxes (Some w) there = there
 
-pub next_kept : (ws : List Waiting) (boxes : Boxes) (order : List Place) (after : Option (ℕ × Key)) (o : Option Place) → AreKept ws boxes order → o ≡ next_of named_cmp name_of order after → at_place boxes o ≡ next_of named_cmp named ws after
-next_kept ws boxes order after o kept is =
-    ap (at_place boxes) (is ∙ ap (λ places. next_of named_cmp name_of places after) kept.indexed ∙ next_mapped after ws)
-    ∙ looked_up boxes (next_of named_cmp named ws after) (found_all (λ w. item_at boxes w.key ≡ Some w) (is_after named_cmp named after) ws (found_each ws boxes order kept))
+pub next_filed : (ws : List Item) (boxes : Boxes) (order : List Place) (after : Option (ℕ × Key)) (o : Option Place) → AreFiled ws boxes order → o ≡ next_of named_cmp name_of order after → at_place boxes o ≡ next_of named_cmp named ws after
+next_filed ws boxes order after o filed is =
+    ap (at_place boxes) (is ∙ ap (λ places. next_of named_cmp name_of places after) filed.indexed ∙ next_mapped after ws)
+    ∙ looked_up boxes (next_of named_cmp named ws after) (found_all (λ w. item_at boxes w.key ≡ Some w) (is_after named_cmp named after) ws (found_each ws boxes order filed))

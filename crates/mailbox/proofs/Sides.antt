@@ -19,7 +19,7 @@ use Rattle.mailbox.specs.declared.key.Key.{Key}
 use Rattle.mailbox.specs.declared.place.Place.{Place}
 use Rattle.mailbox.specs.Order.{place_at, named_cmp}
 use Rattle.mailbox.specs.Inside.Boxes.{name_of}
-use Rattle.mailbox.specs.Inside.Places.{place_cmp, same_place, InOrder, NoneBefore, is_due, places_of, joined, EndsWith}
+use Rattle.mailbox.specs.Inside.Places.{place_cmp, same_place, InOrder, NoneBefore, is_due, places_of, all_of, EndsWith}
 use Rattle.mailbox.proofs.Lists.{pairs_head, pairs_tail, filter_all, any_of_none}
 
 module _ {X : Type 0} where
@@ -67,9 +67,9 @@ module _ {X : Type 0} where
   pairs_front R (x ∷ xs) ys h = pairs_cons R x xs (all_front (R x) xs ys (pairs_head R x (xs ++ ys) h)) (pairs_front R xs ys (pairs_tail R x (xs ++ ys) h))
 
 -- a node whose sides are taken out
-pub left_alone : {A : Type 0} (moment : ℕ) (p : Place) (e l f m : Option (Box (List Place) A)) → NoneBefore moment (joined p e l) → f ≡ None → m ≡ None → NoneBefore moment (joined p f m)
+pub left_alone : {A : Type 0} (moment : ℕ) (p : Place) (e l f m : Option (Box (List Place) A)) → NoneBefore moment (all_of p e l) → f ≡ None → m ≡ None → NoneBefore moment (all_of p f m)
 left_alone moment p e l f m none empty nothing =
-    subst (λ o. NoneBefore moment (joined p o m)) (sym empty) (subst (λ o. NoneBefore moment (p ∷ places_of o)) (sym nothing)
+    subst (λ o. NoneBefore moment (all_of p o m)) (sym empty) (subst (λ o. NoneBefore moment (p ∷ places_of o)) (sym nothing)
     (All-cons (λ q. moment ≤ q.deadline) p [] (middle (λ q. moment ≤ q.deadline) (places_of e) p (places_of l) none) (All-nil (λ q. moment ≤ q.deadline))))
 
 not_yet : (moment deadline least : ℕ) → moment < least → least ≤ deadline → nat_le deadline moment ≡ false
@@ -132,25 +132,25 @@ module _ (es : List Place) (own : Place) (ls : List Place) (order : InOrder (es 
     abbrev others : List Place → List Place
     others places = filter (λ q. not (test q)) places
 
-    kept_later : (b : Bool) → test own ≡ b → others (own ∷ ls) ≡ cond (not b) (own ∷ others ls) (others ls)
-    kept_later b e = ap (λ c. cond (not c) (own ∷ others ls) (others ls)) e
+    others_with_own : (b : Bool) → test own ≡ b → others (own ∷ ls) ≡ cond (not b) (own ∷ others ls) (others ls)
+    others_with_own b e = ap (λ c. cond (not c) (own ∷ others ls) (others ls)) e
 
     -- the place goes on the earlier side, where it comes before the node's
     pub gone_earlier : place_cmp p own ≡ Less → (left : List Place) → left ≡ others es → left ++ own ∷ ls ≡ others (es ++ own ∷ ls)
     gone_earlier e left is =
         (λ i. is i ++ own ∷ sym (filter_all test ls (All-weaker (λ q. place_cmp own q ≡ Less) (λ q. test q ≡ false) (after_less p own e) ls afters)) i)
-        ∙ ap (λ places. others es ++ places) (sym (kept_later false (off p own Less e refl))) ∙ sym (filter-append (λ q. not (test q)) es (own ∷ ls))
+        ∙ ap (λ places. others es ++ places) (sym (others_with_own false (off p own Less e refl))) ∙ sym (filter-append (λ q. not (test q)) es (own ∷ ls))
 
     pub gone_later : place_cmp p own ≡ Greater → (left : List Place) → left ≡ others ls → es ++ own ∷ left ≡ others (es ++ own ∷ ls)
     gone_later e left is =
         (λ i. sym (filter_all test es (All-weaker (λ q. place_cmp q own ≡ Less) (λ q. test q ≡ false) (before_greater p own e) es befores)) i ++ own ∷ is i)
-        ∙ ap (λ places. others es ++ places) (sym (kept_later false (off p own Greater e refl))) ∙ sym (filter-append (λ q. not (test q)) es (own ∷ ls))
+        ∙ ap (λ places. others es ++ places) (sym (others_with_own false (off p own Greater e refl))) ∙ sym (filter-append (λ q. not (test q)) es (own ∷ ls))
 
     pub gone_here : place_cmp p own ≡ Equal → es ++ ls ≡ others (es ++ own ∷ ls)
     gone_here e =
         (λ i. sym (filter_all test es (All-weaker (λ q. place_cmp q own ≡ Less) (λ q. test q ≡ false) (before_equal p own e) es befores)) i
         ++ sym (filter_all test ls (All-weaker (λ q. place_cmp own q ≡ Less) (λ q. test q ≡ false) (after_equal p own e) ls afters)) i)
-        ∙ ap (λ places. others es ++ places) (sym (kept_later true (ap is_eq e))) ∙ sym (filter-append (λ q. not (test q)) es (own ∷ ls))
+        ∙ ap (λ places. others es ++ places) (sym (others_with_own true (ap is_eq e))) ∙ sym (filter-append (λ q. not (test q)) es (own ∷ ls))
 
     any_parted : list_any test (es ++ own ∷ ls) ≡ (list_any test es || (test own || list_any test ls))
     any_parted = list_any-append test es (own ∷ ls)
@@ -183,8 +183,8 @@ module _ (es : List Place) (own : Place) (ls : List Place) (order : InOrder (es 
   pub none_earlier : (after : Option (ℕ × Key)) → is_after named_cmp name_of after own ≡ false → find (is_after named_cmp name_of after) es ≡ None
   none_earlier after not_after = none_found (is_after named_cmp name_of after) es (All-weaker (λ q. place_cmp q own ≡ Less) (λ q. is_after named_cmp name_of after q ≡ false) (λ q less. still_not after q less not_after) es befores)
 
-module _ {A : Type 0} (o : Option (Box (List Place) A)) (b : Box (List Place) A) (v : List Place) (is : o ≡ Some b) (at : v ≡ b.value) (p : Place) (e l : Option (Box (List Place) A)) (parts : joined p e l ≡ v) where
-  pub there : places_of o ≡ joined p e l
+module _ {A : Type 0} (o : Option (Box (List Place) A)) (b : Box (List Place) A) (v : List Place) (is : o ≡ Some b) (at : v ≡ b.value) (p : Place) (e l : Option (Box (List Place) A)) (parts : all_of p e l ≡ v) where
+  pub there : places_of o ≡ all_of p e l
   there = ap places_of is ∙ sym at ∙ sym parts
 
   -- what is found at the node
@@ -210,7 +210,7 @@ module _ {A : Type 0} (o : Option (Box (List Place) A)) (b : Box (List Place) A)
   later_shorter = let all = ap length there in omega (arith, all, length-append (places_of e) (p ∷ places_of l))
 
   module _ (order : InOrder (places_of o)) where
-    parted : InOrder (joined p e l)
+    parted : InOrder (all_of p e l)
     parted = subst InOrder there order
 
     pub earlier_order : InOrder (places_of e)

@@ -9,7 +9,7 @@ use Rattle.sds_tl.proofs.Spelling.{value_takes}
 use Rattle.sds_tl.proofs.Cleared.{cleared_is_canon}
 use Rattle.mailbox.specs.declared.key.Kind.{Kind}
 use Rattle.mailbox.specs.declared.key.Kind.TheVariants.{Message, Report}
-use Rattle.mailbox.specs.Kept.{is_head_of}
+use Rattle.mailbox.specs.Sound.{is_head_of}
 use Rattle.mailbox.specs.Laws.{ItemsAreTexts}
 
 headed : (kind : Kind) (reference : ℕ) (none : Option SdsFault) (head : Head) → is_head_of kind reference (unless none head) ≡ true → none ≡ None

@@ -1,10 +1,11 @@
+pub mod Numbers
 pub mod Values
-pub mod Tests
+pub mod Item
 pub mod Order
 pub mod Mail
 pub mod Refusals
 pub mod GroupPost
-pub mod Kept
+pub mod Sound
 pub mod Laws
 pub mod Judged
 pub mod Inside

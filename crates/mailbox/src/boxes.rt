@@ -5,9 +5,9 @@ ghost use Rattle.std.specs.List.{cons_option, find, list_any};
 ghost use Rattle.std.specs.Option.{is_none, option_copied, option_map};
 ghost use Rattle.std.specs.FinMap as finite;
 ghost use Rattle.identity.specs.Path.{id_path};
-ghost use Rattle.mailbox.specs.Tests.{is_at};
+ghost use Rattle.mailbox.specs.Item.{is_at};
 ghost use Rattle.mailbox.specs.Inside.Places.{places_of};
-ghost use Rattle.mailbox.specs.Inside.Boxes.{items_under, with_items, swept, put, put_last, item_at, is_kept, in_order};
+ghost use Rattle.mailbox.specs.Inside.Boxes.{items_under, with_items, swept, put, put_last, item_at, is_filed, in_order};
 ghost use Rattle.mailbox.specs.Order.{place_of};
 
 use crate::inbox::Inbox;
@@ -29,14 +29,14 @@ pub(crate) struct Boxes<A: Allocator> {
 impl<A: Allocator> Model for Boxes<A> {
     ghost use Rattle.std.specs.Coded.{coded_list};
     ghost use Rattle.prefix_tree.specs.Table.{coded_table};
-    ghost use Rattle.mailbox.specs.Values.{coded_waiting};
+    ghost use Rattle.mailbox.specs.Values.{coded_item};
     ghost use Rattle.prefix_tree.specs.Table.{PathMap};
     ghost use Rattle.std.specs.Prelude.{List};
-    ghost use Rattle.mailbox.specs.Values.{Waiting};
+    ghost use Rattle.mailbox.specs.Values.{Item};
 
-    ghost Value = { PathMap (List Waiting) };
+    ghost Value = { PathMap (List Item) };
 
-    ghost coded = { coded_table (coded_list coded_waiting) };
+    ghost coded = { coded_table (coded_list coded_item) };
 
     ghost view = { λ b. b.tree };
 }
@@ -89,7 +89,7 @@ impl<A: Allocator> Boxes<A> {
         ensures left { self.new ≡ swept self.old (id_path key.now.destination) (is_at key.now) }
         ensures place { result ≡ option_map place_of (item_at self.old key.now) }
     {
-        remove_under(&mut self.tree, &key.destination.path(), key)
+        remove_at(&mut self.tree, key)
     }
 }
 
@@ -100,7 +100,7 @@ impl<A: Allocator + Clone> Boxes<A> {
         requires { is_first ≡ is_none (finite.get self.old (id_path item.key.destination)) }
         ensures ok { OnOk result (self.new ≡ put self.old item) }
         ensures err { OnErr result (self.new ≡ self.old) }
-        ensures memory { OnErr result (is_kept self.old item.key ≡ false) }
+        ensures memory { OnErr result (is_filed self.old item.key ≡ false) }
         ensures whole { item.key.destination < 2 ^ 48 }
     {
         let path = Prefix::whole(item.key().destination.number());
@@ -183,13 +183,10 @@ fn put_there<A: Allocator>(
         .unwrap_or(Ok(()))
 }
 
-fn remove_under<A: Allocator>(
-    tree: &mut LazyTree<Inbox<A>, A>,
-    path: &Prefix,
-    key: &Key,
-) -> Option<Place>
-    ensures left { tree.new ≡ swept tree.old path.now (is_at key.now) }
-    ensures place { result ≡ option_map place_of (find (is_at key.now) (items_under tree.old path.now)) }
+// Takes the item at the key out of its destination's inbox, and the inbox where nothing is left.
+fn remove_at<A: Allocator>(tree: &mut LazyTree<Inbox<A>, A>, key: &Key) -> Option<Place>
+    ensures left { tree.new ≡ swept tree.old (id_path key.now.destination) (is_at key.now) }
+    ensures place { result ≡ option_map place_of (find (is_at key.now) (items_under tree.old (id_path key.now.destination))) }
 {
-    tree.change(path, |inbox| inbox.without(key))?
+    tree.change(&key.destination.path(), |inbox| inbox.without(key))?
 }

@@ -3,7 +3,7 @@
 ghost use Rattle.std.specs.Prelude.{◌≡◌, ◌+◌, ◌<◌, ◌==◌, ◌&&◌, nat_le, nat_lt, not, length, count_by, Bool, List};
 ghost use Rattle.std.specs.List.{AllPairs, list_any};
 ghost use Rattle.mailbox.specs.declared.key.Stamp.{Stamp};
-ghost use Rattle.mailbox.specs.Tests.{is_to};
+ghost use Rattle.mailbox.specs.Item.{is_to};
 ghost use Rattle.mailbox.specs.Mail.{holds};
 ghost use Rattle.mailbox.specs.Refusals.{most_for_one};
 ghost use Rattle.mailbox.specs.GroupPost.{copy_key, is_receiver, copies, first_of_copies, group_refusal};

@@ -3,7 +3,7 @@
 ghost use Rattle.std.specs.Prelude.{◌≡◌, ◌<◌, [], false, not, Some, OnOk, OnErr, IfOk, vec_len, vec_capacity};
 ghost use Rattle.std.specs.List.{filter, find, list_any};
 ghost use Rattle.std.specs.Option.{option_map};
-ghost use Rattle.mailbox.specs.Tests.{is_at};
+ghost use Rattle.mailbox.specs.Item.{is_at};
 ghost use Rattle.mailbox.specs.Inside.Boxes.{box_of, put_last};
 ghost use Rattle.mailbox.specs.Order.{place_of};
 
@@ -23,11 +23,11 @@ pub(crate) struct Inbox<A: Allocator> {
 impl<A: Allocator> Model for Inbox<A> {
     ghost use Rattle.std.specs.Prelude.{List};
     ghost use Rattle.std.specs.Coded.{coded_list};
-    ghost use Rattle.mailbox.specs.Values.{Waiting, coded_waiting};
+    ghost use Rattle.mailbox.specs.Values.{Item, coded_item};
 
-    ghost Value = { List Waiting };
+    ghost Value = { List Item };
 
-    ghost coded = { coded_list coded_waiting };
+    ghost coded = { coded_list coded_item };
 
     ghost view = { λ i. i.items.items };
 }
@@ -115,7 +115,7 @@ fn put_at_end<A: Allocator>(items: &mut Vec<Item<A>, A>, item: Item<A>)
 }
 
 fn remove_at<A: Allocator>(items: &mut Vec<Item<A>, A>, key: &Key)
-    ensures kept { items.new.items ≡ filter (λ w. not (is_at key.now w)) items.old.items }
+    ensures left { items.new.items ≡ filter (λ w. not (is_at key.now w)) items.old.items }
     ensures room { (list_any (is_at key.now) items.old.items ≡ false → vec_len items.old < vec_capacity items.old) → vec_len items.new < vec_capacity items.new }
 {
     items.retain(|item| !item.is_at(key));

@@ -5,10 +5,10 @@ ghost use Rattle.sds_tl.specs.Reading.{heading};
 ghost use Rattle.mailbox.specs.Values.{latest_deadline};
 ghost use Rattle.mailbox.specs.Order.{place_of};
 ghost use Rattle.mailbox.specs.GroupPost.{addressed};
-ghost use Rattle.mailbox.specs.Tests.{request_of, asks_nothing, asks_consumed, wants_acknowledgement, ends_request, is_at, is_to, is_reported, is_ended_by, is_answerless, is_confirmed, is_expired};
+ghost use Rattle.mailbox.specs.Item.{request_of, asks_nothing, asks_consumed, wants_acknowledgement, ends_request, is_at, is_to, is_reported, is_ended_by, is_answerless, is_confirmed, is_expired};
 
 use crate::place::Place;
-use crate::{Envelope, Key, Kind};
+use crate::{Envelope, Key, Kind, Moment};
 use identity::{Bits, Gtsi, Itsi};
 use sds_tl::{DeliveryReportRequest, DeliveryStatus, Head};
 use std::alloc::{AllocError, Allocator};
@@ -26,11 +26,11 @@ pub struct Item<A: Allocator> {
 
 impl<A: Allocator> Model for Item<A> {
     ghost use Rattle.std.specs.Prelude.{◌≤◌};
-    ghost use Rattle.mailbox.specs.Values.{Waiting, coded_waiting, latest_deadline};
+    ghost use Rattle.mailbox.specs.Values.{Item, coded_item, latest_deadline};
 
-    ghost Value = { Waiting };
+    ghost Value = { Item };
 
-    ghost coded = { coded_waiting };
+    ghost coded = { coded_item };
 
     ghost view = { λ i. record { key = i.key; number = i.number; deadline = i.deadline; pdu = i.pdu; group = i.group } };
 
@@ -170,10 +170,10 @@ impl<A: Allocator> Item<A> {
         self.is_at(key) && self.is_answerless()
     }
 
-    pub(crate) fn is_expired(&self, moment: u32) -> bool
+    pub(crate) fn is_expired(&self, moment: Moment) -> bool
         ensures { result ≡ is_expired moment self.now }
     {
-        self.deadline <= u64::from(moment)
+        self.deadline <= u64::from(moment.number())
     }
 }
 

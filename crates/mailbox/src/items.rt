@@ -4,7 +4,7 @@ ghost use Rattle.std.specs.Prelude.{◌≡◌, not, length};
 ghost use Rattle.std.specs.List.{filter, find, list_any};
 ghost use Rattle.std.specs.Option.{option_copied, option_map};
 ghost use Rattle.mailbox.specs.Order.{place_of};
-ghost use Rattle.mailbox.specs.Tests.{is_at, is_reported, is_ended_by, is_confirmed};
+ghost use Rattle.mailbox.specs.Item.{is_at, is_reported, is_ended_by, is_confirmed};
 
 use crate::place::Place;
 use crate::{Envelope, Item, Key};

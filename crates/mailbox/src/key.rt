@@ -1,10 +1,12 @@
 //! Who sent what to whom.
 
 ghost use Rattle.std.specs.Prelude.{◌≡◌};
-ghost use Rattle.mailbox.specs.Tests.{key_of, answered};
+ghost use Rattle.mailbox.specs.Item.{key_of, answered};
 ghost use Rattle.mailbox.specs.GroupPost.{copy_key};
 
+use crate::Moment;
 use identity::{Gtsi, Itsi};
+use sds_tl::MessageReference;
 
 /// What waits: a message for its destination, or a report for the sender of a message.
 #[derive(Clone, Copy, Debug, PartialEq, Eq)]
@@ -22,8 +24,8 @@ pub struct Key {
     pub destination: Itsi,
     /// Who sent it.
     pub source: Itsi,
-    /// The message reference, 0 to 255 (clause 29.4.3.7).
-    pub reference: u8,
+    /// The message reference.
+    pub reference: MessageReference,
     /// Whether it is a message or a report.
     pub kind: Kind,
 }
@@ -48,8 +50,8 @@ pub struct Envelope {
     pub source: Itsi,
     /// The radio that it is for.
     pub destination: Itsi,
-    /// The message reference in it, 0 to 255.
-    pub reference: u8,
+    /// The message reference in it.
+    pub reference: MessageReference,
 }
 
 impl Envelope {
@@ -85,8 +87,8 @@ pub struct GroupEnvelope {
     pub source: Itsi,
     /// The group that it is for.
     pub group: Gtsi,
-    /// The message reference in it, 0 to 255.
-    pub reference: u8,
+    /// The message reference in it.
+    pub reference: MessageReference,
 }
 
 impl GroupEnvelope {
@@ -108,6 +110,6 @@ impl GroupEnvelope {
 pub struct Stamp {
     /// The number of the command.
     pub number: u64,
-    /// When it was given, in seconds.
-    pub moment: u32,
+    /// When it was given.
+    pub moment: Moment,
 }

@@ -5,7 +5,7 @@ ghost use Rattle.std.specs.List.{AllPairs};
 ghost use Rattle.prefix_tree.specs.Following.{one_by_one};
 ghost use Rattle.mailbox.specs.Values.{Mailed};
 ghost use Rattle.mailbox.specs.Order.{IsBefore, named, next_item};
-ghost use Rattle.mailbox.specs.Kept.{IsMail};
+ghost use Rattle.mailbox.specs.Sound.{IsMail};
 ghost use Rattle.mailbox.specs.Laws.{EmptyIsMail, MoreIsMail, RemovalIsMail, PostIsMail, ReportIsMail, GroupPostIsMail, NewComesLast, ItemsAreTexts};
 
 use crate::Mail;
@@ -26,7 +26,7 @@ pub fn mails()
 pub fn in_order<A: Allocator>(mail: &Mail<A>)
     ensures { AllPairs IsBefore mail.now.items }
 {
-    mail.keep_order()
+    mail.hold_order()
 }
 
 /// Of the items of such a mail: the PDU is the written text of an SDS-TRANSFER or SDS-REPORT.

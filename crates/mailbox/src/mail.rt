@@ -6,9 +6,9 @@ ghost use Rattle.std.specs.Option.{option_copied, option_map};
 ghost use Rattle.mailbox.specs.declared.fault.MailFault.TheVariants.{NoMemory};
 ghost use Rattle.mailbox.specs.declared.key.Kind.TheVariants as kind;
 ghost use Rattle.mailbox.specs.Values.{empty_mailed, latest_deadline};
-ghost use Rattle.mailbox.specs.Tests.{same_key, key_of, is_to, is_at, is_reported, is_expired};
+ghost use Rattle.mailbox.specs.Item.{same_key, key_of, is_to, is_at, is_reported, is_expired};
 ghost use Rattle.mailbox.specs.Order.{IsBefore, ComesLast, next_item, place_of};
-ghost use Rattle.mailbox.specs.Mail.{holds, without, with_item, deadline_by, waiting_for, posted, reported, acknowledged, confirmed, expired, deleted, waiting};
+ghost use Rattle.mailbox.specs.Mail.{holds, without, with_item, deadline_by, item_for, posted, reported, acknowledged, confirmed, expired, deleted, waiting};
 ghost use Rattle.mailbox.specs.GroupPost.{shortened};
 ghost use Rattle.mailbox.specs.Judged.{none_waits, item_in, report_opening, MayPost, MayReport};
 ghost use Rattle.mailbox.specs.Refusals.{restore_refusal, post_refusal, report_refusal, ack_refusal, sent_refusal, delete_refusal};
@@ -17,7 +17,7 @@ use crate::boxes::Boxes;
 use crate::items::{any_at, any_confirmed};
 use crate::order::Order;
 use crate::place::Place;
-use crate::{Envelope, Item, Key, Kind, MailFault, Opening, ReportOpening, Stamp};
+use crate::{Envelope, Item, Key, Kind, MailFault, Moment, Opening, ReportOpening, Stamp};
 use identity::{Bits, Itsi};
 use prefix_tree::TryCopy;
 use registration::{Limits, Registry, Rule};
@@ -40,11 +40,11 @@ impl<A: Allocator> Model for Mail<A> {
 
     ghost coded = { coded_mailed };
 
-    ghost use Rattle.mailbox.specs.Inside.Boxes.{AreKept, in_order};
+    ghost use Rattle.mailbox.specs.Inside.Boxes.{AreFiled, in_order};
 
     ghost view = { λ m. record { room = m.room; items = in_order m.boxes m.order } };
 
-    ghost invariant = { λ m. AreKept (in_order m.boxes m.order) m.boxes m.order };
+    ghost invariant = { λ m. AreFiled (in_order m.boxes m.order) m.boxes m.order };
 }
 
 impl<A: Allocator> Mail<A> {
@@ -60,7 +60,7 @@ impl<A: Allocator> Mail<A> {
     }
 
     // What its fields keep, as clauses.
-    pub(crate) fn keep_order(&self)
+    pub(crate) fn hold_order(&self)
         ensures order { AllPairs IsBefore self.now.items }
         ensures apart { AllPairs (λ a b. same_key b.key a.key ≡ false) self.now.items }
     {
@@ -130,7 +130,7 @@ impl<A: Allocator> Mail<A> {
     }
 
     /// Removes every item whose deadline is at most the moment. It takes no memory.
-    pub fn expire(&mut self, moment: u32)
+    pub fn expire(&mut self, moment: Moment)
         ensures { self.new ≡ expired self.old moment }
     {
         while let Some(place) = self.first_due(moment) {
@@ -139,7 +139,7 @@ impl<A: Allocator> Mail<A> {
     }
 
     /// The place of the first item that has expired.
-    fn first_due(&self, moment: u32) -> Option<Place>
+    fn first_due(&self, moment: Moment) -> Option<Place>
         ensures first { result ≡ option_map place_of (find (is_expired moment) self.now.items) }
         ensures apart { AllPairs (λ a b. same_key b.key a.key ≡ false) self.now.items }
     {
@@ -181,7 +181,7 @@ impl<A: Allocator> Mail<A> {
         ensures { self.new ≡ without (is_reported envelope.now status) self.old }
     {
         if ends {
-            self.keep_order();
+            self.hold_order();
             self.remove_at(&envelope.answered(Kind::Message));
         }
     }
@@ -235,8 +235,8 @@ impl<A: Allocator + Clone> Mail<A> {
         pdu: Bits<A>,
     ) -> Result<(), MailFault>
         requires { ComesLast self.old stamp.number (key_of envelope.now kind.Message) }
-        ensures ok { let w = waiting_for registry.now (key_of envelope.now kind.Message) stamp pdu in OnOk result ((post_refusal registry.now self.old w ≡ None) × (self.new ≡ posted self.old w)) }
-        ensures err { let w = waiting_for registry.now (key_of envelope.now kind.Message) stamp pdu in IfErr result (λ e. (e ≡ unwrap_or (post_refusal registry.now self.old w) NoMemory) × (self.new ≡ self.old)) }
+        ensures ok { let w = item_for registry.now (key_of envelope.now kind.Message) stamp pdu in OnOk result ((post_refusal registry.now self.old w ≡ None) × (self.new ≡ posted self.old w)) }
+        ensures err { let w = item_for registry.now (key_of envelope.now kind.Message) stamp pdu in IfErr result (λ e. (e ≡ unwrap_or (post_refusal registry.now self.old w) NoMemory) × (self.new ≡ self.old)) }
     {
         let opening = self.judge_post(registry, envelope)?;
         let Ok(()) = self.post_judged(&opening, stamp, pdu) else {
@@ -276,9 +276,9 @@ impl<A: Allocator + Clone> Mail<A> {
         pdu: Bits<A>,
     ) -> Result<(), MailFault>
         requires { ComesLast self.old stamp.number (key_of envelope.now kind.Report) }
-        ensures ok { let w = waiting_for registry.now (key_of envelope.now kind.Report) stamp pdu in OnOk result ((report_refusal registry.now self.old envelope.now status w ≡ None) × (self.new ≡ reported self.old envelope.now status w)) }
-        ensures err { let w = waiting_for registry.now (key_of envelope.now kind.Report) stamp pdu in IfErr result (λ e. (e ≡ unwrap_or (report_refusal registry.now self.old envelope.now status w) NoMemory) × (self.new ≡ self.old)) }
-        ensures memory { let w = waiting_for registry.now (key_of envelope.now kind.Report) stamp pdu in OnErr result (report_refusal registry.now self.old envelope.now status w ≡ None → holds self.old (key_of envelope.now kind.Report) ≡ false) }
+        ensures ok { let w = item_for registry.now (key_of envelope.now kind.Report) stamp pdu in OnOk result ((report_refusal registry.now self.old envelope.now status w ≡ None) × (self.new ≡ reported self.old envelope.now status w)) }
+        ensures err { let w = item_for registry.now (key_of envelope.now kind.Report) stamp pdu in IfErr result (λ e. (e ≡ unwrap_or (report_refusal registry.now self.old envelope.now status w) NoMemory) × (self.new ≡ self.old)) }
+        ensures memory { let w = item_for registry.now (key_of envelope.now kind.Report) stamp pdu in OnErr result (report_refusal registry.now self.old envelope.now status w ≡ None → holds self.old (key_of envelope.now kind.Report) ≡ false) }
     {
         let judged = self.judge_report(registry, envelope, status)?;
         let Ok(()) = self.report_judged(&judged, envelope, status, stamp, pdu) else {
@@ -424,14 +424,14 @@ impl<A: Allocator + Clone> TryCopy for Mail<A> {
     }
 }
 
-/// The moment at which an item ends that is made at `moment`, in seconds.
-pub(crate) fn deadline_by(rule: Option<Rule>, moment: u32) -> u64
+/// When an item ends that is made at this moment, in seconds.
+pub(crate) fn deadline_by(rule: Option<Rule>, moment: Moment) -> u64
     ensures deadline { result ≡ deadline_by rule moment }
     ensures latest { result ≤ latest_deadline }
 {
     match rule {
-        Some(rule) => u64::from(moment) + u64::from(rule.keep()),
-        None => u64::from(moment),
+        Some(rule) => u64::from(moment.number()) + u64::from(rule.keep()),
+        None => u64::from(moment.number()),
     }
 }
 
@@ -439,6 +439,6 @@ pub(crate) fn deadline_by(rule: Option<Rule>, moment: u32) -> u64
 fn item_in<A: Allocator>(opening: &Opening, stamp: Stamp, pdu: Bits<A>) -> Item<A>
     ensures { result ≡ item_in opening.now stamp pdu }
 {
-    let deadline = u64::from(stamp.moment) + u64::from(opening.keep);
+    let deadline = u64::from(stamp.moment.number()) + u64::from(opening.keep);
     Item::new(opening.key, stamp.number, deadline, pdu, None)
 }

@@ -7,7 +7,7 @@ ghost use Rattle.std.specs.Option.{option_copied, option_map};
 ghost use Rattle.prefix_tree.specs.Following.{next_of};
 ghost use Rattle.mailbox.specs.Order.{named_cmp};
 ghost use Rattle.mailbox.specs.Inside.Boxes.{name_of};
-ghost use Rattle.mailbox.specs.Inside.Places.{same_place, InOrder, NoneBefore, is_due, places_of, joined, IsFirstOf, IsLastOf, EndsWith};
+ghost use Rattle.mailbox.specs.Inside.Places.{same_place, InOrder, NoneBefore, is_due, places_of, all_of, IsFirstOf, IsLastOf, EndsWith};
 
 use crate::Key;
 use crate::place::Place;
@@ -32,15 +32,15 @@ pub(crate) struct Node<A: Allocator> {
 impl<A: Allocator> Model for Node<A> {
     ghost use Rattle.std.specs.Prelude.{List, length};
     ghost use Rattle.mailbox.specs.declared.place.Place.{Place};
-    ghost use Rattle.mailbox.specs.Inside.Places.{coded_places, joined, NoneBefore};
+    ghost use Rattle.mailbox.specs.Inside.Places.{coded_places, all_of, NoneBefore};
 
     ghost Value = { List Place };
 
     ghost coded = { coded_places };
 
-    ghost view = { λ n. joined n.place n.earlier n.later };
+    ghost view = { λ n. all_of n.place n.earlier n.later };
 
-    ghost invariant = { λ n. NoneBefore n.least (joined n.place n.earlier n.later) };
+    ghost invariant = { λ n. NoneBefore n.least (all_of n.place n.earlier n.later) };
 
     ghost size = { length };
 
@@ -52,7 +52,7 @@ impl<A: Allocator> Model for Node<A> {
 impl<A: Allocator> Node<A> {
     /// A node with these sides.
     pub(crate) fn of(place: Place, earlier: Option<Link<A>>, later: Option<Link<A>>) -> Self
-        ensures { result ≡ joined place earlier later }
+        ensures { result ≡ all_of place earlier later }
     {
         let height = height(&earlier).max(height(&later)).saturating_add(1);
         let least = place.deadline.min(least(&earlier)).min(least(&later));
@@ -67,7 +67,7 @@ impl<A: Allocator> Node<A> {
 
     /// Its place and its sides.
     pub(crate) fn parts(&self) -> (&Place, &Option<Link<A>>, &Option<Link<A>>)
-        ensures { joined result.0.now result.1.now result.2.now ≡ self.now }
+        ensures { all_of result.0.now result.1.now result.2.now ≡ self.now }
     {
         (&self.place, &self.earlier, &self.later)
     }
@@ -81,7 +81,7 @@ impl<A: Allocator> Node<A> {
 
     /// Its place, and its sides taken out of it.
     fn take_apart(&mut self) -> (Place, Option<Link<A>>, Option<Link<A>>)
-        ensures { joined result.0 result.1 result.2 ≡ self.old }
+        ensures { all_of result.0 result.1 result.2 ≡ self.old }
     {
         (self.place, self.earlier.take(), self.later.take())
     }
@@ -110,7 +110,7 @@ fn turn_earlier<A: Allocator>(
     earlier: Option<Link<A>>,
     later: Option<Link<A>>,
 ) -> Node<A>
-    ensures { result ≡ joined place earlier later }
+    ensures { result ≡ all_of place earlier later }
 {
     let Some(mut up) = later else {
         return Node::of(place, earlier, None);
@@ -126,7 +126,7 @@ fn turn_later<A: Allocator>(
     earlier: Option<Link<A>>,
     later: Option<Link<A>>,
 ) -> Node<A>
-    ensures { result ≡ joined place earlier later }
+    ensures { result ≡ all_of place earlier later }
 {
     let Some(mut up) = earlier else {
         return Node::of(place, None, later);
@@ -164,7 +164,7 @@ fn lean_earlier<A: Allocator>(link: &mut Option<Link<A>>)
 
 // A node with these sides, of which one may be two levels higher than the other.
 fn balanced<A: Allocator>(place: Place, earlier: Option<Link<A>>, later: Option<Link<A>>) -> Node<A>
-    ensures { result ≡ joined place earlier later }
+    ensures { result ≡ all_of place earlier later }
 {
     let mut earlier = earlier;
     let mut later = later;

@@ -8,9 +8,9 @@ ghost use Rattle.mailbox.specs.Order.{named_cmp};
 ghost use Rattle.mailbox.specs.Inside.Boxes.{name_of};
 ghost use Rattle.mailbox.specs.Inside.Places.{same_place, InOrder, is_due, places_of, IsLastOf, EndsWith};
 
-use crate::Key;
 use crate::node::{self, Link, Node};
 use crate::place::Place;
+use crate::{Key, Moment};
 use prefix_tree::TryCopy;
 use std::alloc::{AllocError, Allocator};
 use std::marker::Model;
@@ -82,10 +82,10 @@ impl<A: Allocator> Order<A> {
     }
 
     /// The first place whose item has ended by the moment.
-    pub(crate) fn first_due(&self, moment: u32) -> Option<&Place>
+    pub(crate) fn first_due(&self, moment: Moment) -> Option<&Place>
         ensures { option_copied result ≡ find (is_due moment) self.now }
     {
-        node::first_due(&self.root, u64::from(moment))
+        node::first_due(&self.root, u64::from(moment.number()))
     }
 
     /// Puts the place at the end, in this box.

@@ -59,7 +59,7 @@ fn numbers(number: u64, key: &Key) -> [u64; 5]
         number,
         key.destination.number(),
         key.source.number(),
-        u64::from(key.reference),
+        u64::from(key.reference.number()),
         kind_number(key.kind),
     ]
 }

@@ -1,14 +1,15 @@
 //! Why the mail would refuse a call, memory aside.
 
-ghost use Rattle.std.specs.Prelude.{◌≡◌, ◌==◌, ◌+◌, ℕ, length, count_by, Bool, List, Option, IfOk};
+ghost use Rattle.std.specs.Prelude.{◌≡◌, ◌==◌, ◌+◌, ℕ, [], ◌∷◌, length, count_by, Bool, List, Option, IfOk};
 ghost use Rattle.mailbox.specs.declared.key.Kind.TheVariants as kind;
 ghost use Rattle.mailbox.specs.declared.key.Stamp.{Stamp};
-ghost use Rattle.mailbox.specs.Tests.{key_of, is_to, is_ended_by};
+ghost use Rattle.mailbox.specs.Item.{key_of, is_to, is_ended_by};
 ghost use Rattle.std.specs.Result.{result_err};
+ghost use Rattle.registration.specs.Refusals.{first_of};
 ghost use Rattle.registration.specs.Registered.{rule_of};
-ghost use Rattle.mailbox.specs.Mail.{without, waiting, waiting_for};
+ghost use Rattle.mailbox.specs.Mail.{without, waiting, item_for};
 ghost use Rattle.mailbox.specs.Judged.{keep_of, opening, item_in, report_opening};
-ghost use Rattle.mailbox.specs.Refusals.{or_then, unknown_refusal, absent_refusal, busy_refusal, missing_refusal, restore_refusal, crowd_refusal, post_refusal, report_refusal, ack_refusal, sent_refusal, delete_refusal};
+ghost use Rattle.mailbox.specs.Refusals.{unknown_refusal, absent_refusal, busy_refusal, missing_refusal, restore_refusal, crowd_refusal, post_refusal, report_refusal, ack_refusal, sent_refusal, delete_refusal};
 
 use crate::items::{any_at, any_reported, count_at, count_left, count_reported, place_at};
 use crate::{Envelope, Item, Key, Kind, Mail, MailFault, Opening, ReportOpening};
@@ -76,7 +77,7 @@ impl<A: Allocator> Mail<A> {
     // Of one more item, at this key, beside these for its destination.
     fn item_refusal(&self, items: &[Item<A>], key: &Key) -> Option<MailFault>
         requires { items.now ≡ waiting self.now key.now.destination }
-        ensures { result ≡ or_then (busy_refusal self.now key.now) (crowd_refusal self.now.room (count_by (is_to key.now.destination) self.now.items + 1) (length self.now.items + 1)) }
+        ensures { result ≡ first_of (busy_refusal self.now key.now ∷ crowd_refusal self.now.room (count_by (is_to key.now.destination) self.now.items + 1) (length self.now.items + 1) ∷ []) }
     {
         if any_at(items, key) {
             return Some(MailFault::ReferenceBusy);
@@ -116,7 +117,7 @@ impl<A: Allocator + Clone> Mail<A> {
     /// Why `post` would refuse a message: `UnknownDestination`, `NotAttached` (the source),
     /// `ReferenceBusy`, `MailboxFull` and `CentreFull`, in this order.
     pub fn post_refusal(&self, registry: &Registry<A>, envelope: &Envelope) -> Option<MailFault>
-        ensures { (stamp : Stamp) (pdu : List Bool) → result ≡ post_refusal registry.now self.now (waiting_for registry.now (key_of envelope.now kind.Message) stamp pdu) }
+        ensures { (stamp : Stamp) (pdu : List Bool) → result ≡ post_refusal registry.now self.now (item_for registry.now (key_of envelope.now kind.Message) stamp pdu) }
     {
         self.judge_post(registry, envelope).err()
     }
@@ -127,9 +128,9 @@ impl<A: Allocator + Clone> Mail<A> {
         registry: &Registry<A>,
         envelope: &Envelope,
     ) -> Result<Opening, MailFault>
-        ensures refusal { (stamp : Stamp) (pdu : List Bool) → result_err result ≡ post_refusal registry.now self.now (waiting_for registry.now (key_of envelope.now kind.Message) stamp pdu) }
+        ensures refusal { (stamp : Stamp) (pdu : List Bool) → result_err result ≡ post_refusal registry.now self.now (item_for registry.now (key_of envelope.now kind.Message) stamp pdu) }
         ensures found { let k = key_of envelope.now kind.Message in IfOk result (λ o. o ≡ opening self.now (keep_of (rule_of registry.now k.destination)) k) }
-        ensures item { let k = key_of envelope.now kind.Message in IfOk result (λ o. (stamp : Stamp) (pdu : List Bool) → item_in o stamp pdu ≡ waiting_for registry.now k stamp pdu) }
+        ensures item { let k = key_of envelope.now kind.Message in IfOk result (λ o. (stamp : Stamp) (pdu : List Bool) → item_in o stamp pdu ≡ item_for registry.now k stamp pdu) }
     {
         let Some(rule) = registry.rule_of(envelope.destination.number()) else {
             return Err(MailFault::UnknownDestination);
@@ -154,7 +155,7 @@ impl<A: Allocator + Clone> Mail<A> {
         envelope: &Envelope,
         status: DeliveryStatus,
     ) -> Option<MailFault>
-        ensures { (stamp : Stamp) (pdu : List Bool) → result ≡ report_refusal registry.now self.now envelope.now status (waiting_for registry.now (key_of envelope.now kind.Report) stamp pdu) }
+        ensures { (stamp : Stamp) (pdu : List Bool) → result ≡ report_refusal registry.now self.now envelope.now status (item_for registry.now (key_of envelope.now kind.Report) stamp pdu) }
     {
         self.judge_report(registry, envelope, status).err()
     }
@@ -167,9 +168,9 @@ impl<A: Allocator + Clone> Mail<A> {
         envelope: &Envelope,
         status: DeliveryStatus,
     ) -> Result<ReportOpening, MailFault>
-        ensures refusal { (stamp : Stamp) (pdu : List Bool) → result_err result ≡ report_refusal registry.now self.now envelope.now status (waiting_for registry.now (key_of envelope.now kind.Report) stamp pdu) }
+        ensures refusal { (stamp : Stamp) (pdu : List Bool) → result_err result ≡ report_refusal registry.now self.now envelope.now status (item_for registry.now (key_of envelope.now kind.Report) stamp pdu) }
         ensures found { IfOk result (λ o. o ≡ report_opening self.now (keep_of (rule_of registry.now envelope.now.destination)) envelope.now status) }
-        ensures item { let k = key_of envelope.now kind.Report in IfOk result (λ o. (stamp : Stamp) (pdu : List Bool) → item_in o.opening stamp pdu ≡ waiting_for registry.now k stamp pdu) }
+        ensures item { let k = key_of envelope.now kind.Report in IfOk result (λ o. (stamp : Stamp) (pdu : List Bool) → item_in o.opening stamp pdu ≡ item_for registry.now k stamp pdu) }
     {
         let Some(rule) = registry.rule_of(envelope.destination.number()) else {
             return Err(MailFault::UnknownDestination);

@@ -1,7 +1,7 @@
 //! What has ended goes, wherever it stands among what waits.
 
 use crate::fixture::{Call, Made, called, envelope, limits, pdu, registry};
-use mailbox::{Mail, Stamp};
+use mailbox::{Mail, Moment, Stamp};
 use registration::Registry;
 use std::alloc::Global;
 use std::test::Fail;
@@ -34,7 +34,7 @@ fn given(turn: u8, moment: u32, call: Call) -> Result<Made, Fail> {
         envelope,
         stamp: Stamp {
             number: u64::from(turn) + 1,
-            moment,
+            moment: Moment::new(moment),
         },
     })
 }
@@ -65,7 +65,7 @@ fn first_wrong(
     rows: &[(u32, u64)],
 ) -> Result<Option<u32>, Fail> {
     for (moment, want) in rows {
-        mail.expire(*moment);
+        mail.expire(Moment::new(*moment));
         if digits(alloc, mail)? != *want {
             return Ok(Some(*moment));
         }

@@ -4,7 +4,7 @@
 use crate::fixture::{Call, Made, called, envelope, limits, pdu, registry};
 use crate::to_group::{MESSAGE, post_group};
 use linked_list_allocator::LocalHeap;
-use mailbox::{Kind, Mail, Stamp};
+use mailbox::{Kind, Mail, Moment, Stamp};
 use registration::Registry;
 use std::alloc::Global;
 use std::test::Fail;
@@ -39,7 +39,7 @@ fn is_round_made<'a>(
             envelope: envelope(source, destination, reference)?,
             stamp: Stamp {
                 number,
-                moment: 100,
+                moment: Moment::new(100),
             },
         };
         if called(registry, mail, &made, pdu(heap, call)?).is_err() {
@@ -58,7 +58,7 @@ fn is_group_told<'a>(
 ) -> Result<bool, Fail> {
     let pdu = pdu(heap, Call::Post(3))?;
     let is_put = post_group(alloc, registry, mail, &MESSAGE, pdu).is_ok();
-    mail.expire(3700);
+    mail.expire(Moment::new(3700));
     Ok(is_put)
 }
 
@@ -83,7 +83,7 @@ fn is_even<'a>(
 }
 
 /// The register lies in another heap.
-fn is_kept_even<'a>(
+fn leaves_no_trace<'a>(
     alloc: Global,
     heap: &'a LocalHeap,
     other: &'a LocalHeap,
@@ -104,6 +104,6 @@ fn ten_thousand_changes_leave_no_trace(rt: HostRuntime) -> Result<(), Fail> {
         LocalHeap::new(rt.alloc(), 4096)?,
     );
     let empty = heap.used();
-    assert!(rt; is_kept_even(rt.alloc(), &heap, &other)? && heap.used() == empty);
+    assert!(rt; leaves_no_trace(rt.alloc(), &heap, &other)? && heap.used() == empty);
     Ok(())
 }

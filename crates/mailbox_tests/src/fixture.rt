@@ -1,10 +1,10 @@
 //! Radios, a register, and calls of the mail.
 
 use identity::{Bits, Itsi, Prefix, parse_bits};
-use mailbox::{Envelope, Kind, Mail, MailFault, Stamp};
+use mailbox::{Envelope, Kind, Mail, MailFault, Moment, Stamp};
 use mm_pdus::{Lifetime, LocationUpdateType};
-use registration::{Limits, LocationArea, Registry, Rule};
-use sds_tl::DeliveryStatus;
+use registration::{Limits, LocationArea, Registry, Rule, Station};
+use sds_tl::{DeliveryStatus, MessageReference};
 use std::alloc::Allocator;
 use std::test::Fail;
 
@@ -45,7 +45,7 @@ pub fn envelope(source: u32, destination: u32, reference: u8) -> Result<Envelope
     Ok(Envelope {
         source: radio(source)?,
         destination: radio(destination)?,
-        reference,
+        reference: MessageReference::new(reference),
     })
 }
 
@@ -55,9 +55,10 @@ fn rule(area: LocationArea) -> Result<Rule, Fail> {
 
 fn fill<A: Allocator + Clone>(registry: &mut Registry<A>, network: Itsi, rule: Rule) {
     let _ = registry.set_rule(Prefix::of(network.number(), 24), rule);
+    let (station, attach) = (Station::new(1), LocationUpdateType::ItsiAttach);
     for number in 1..4 {
         if let Some(itsi) = Itsi::new(234, 14, number) {
-            let _ = registry.locate(itsi, 1, rule.low(), LocationUpdateType::ItsiAttach);
+            let _ = registry.locate(itsi, station, rule.low(), attach);
         }
     }
 }
@@ -148,7 +149,7 @@ pub fn called<A: Allocator + Clone>(
         Call::Sent(kind) => mail.sent(registry, &envelope.key(kind)),
         Call::Delete(kind) => mail.delete(&envelope.key(kind)),
         Call::Expire(moment) => {
-            mail.expire(moment);
+            mail.expire(Moment::new(moment));
             Ok(())
         }
     }

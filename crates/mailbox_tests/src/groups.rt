@@ -13,7 +13,11 @@ fn is_copy(item: &Item<Global>, destination: u32) -> bool {
         return false;
     };
     let key = item.key();
-    (key.destination.ssi(), key.source.ssi(), key.reference) == (destination, 1, 5)
+    (
+        key.destination.ssi(),
+        key.source.ssi(),
+        key.reference.number(),
+    ) == (destination, 1, 5)
         && key.kind == Kind::Message
         && (item.number(), item.deadline(), group.ssi()) == (4, 3700, 50)
         && item.pdu().as_bytes() == [0x82, 0x0C, 0x05, 0x49].as_slice()

@@ -11,6 +11,8 @@ mod fixture;
 #[cfg(test)]
 mod groups;
 #[cfg(test)]
+mod moments;
+#[cfg(test)]
 mod one_by_one;
 #[cfg(test)]
 mod plain;

@@ -1,7 +1,7 @@
 //! From each item that waits to the next, without memory.
 
 use crate::fixture::{Call, Made, called, envelope, limits, pdu, registry};
-use mailbox::{Key, Kind, Mail, Stamp};
+use mailbox::{Key, Kind, Mail, Moment, Stamp};
 use registration::Registry;
 use std::alloc::Global;
 use std::test::Fail;
@@ -32,7 +32,7 @@ fn fill(alloc: Global, registry: &Registry<Global>, mail: &mut Mail<Global>) -> 
             envelope: envelope(source, destination, 5)?,
             stamp: Stamp {
                 number,
-                moment: 100,
+                moment: Moment::new(100),
             },
         };
         let _ = called(registry, mail, &made, pdu(alloc, made.call)?);

@@ -34,8 +34,11 @@ impl Name {
     }
 
     pub fn is_of(self, key: &Key) -> bool {
-        (key.destination.ssi(), key.source.ssi(), key.reference)
-            == (self.destination, self.source, self.reference)
+        (
+            key.destination.ssi(),
+            key.source.ssi(),
+            key.reference.number(),
+        ) == (self.destination, self.source, self.reference)
             && key.kind == self.kind
     }
 }

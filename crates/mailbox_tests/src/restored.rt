@@ -9,7 +9,7 @@ use std::alloc::{Allocator, Global};
 use std::test::Fail;
 
 /// The number of the command that made a message, its source and its destination.
-const KEPT: [(u64, u32, u32); 3] = [(4, 8, 2), (4, 9, 100), (7, 1, 2)];
+const RESTORED: [(u64, u32, u32); 3] = [(4, 8, 2), (4, 9, 100), (7, 1, 2)];
 
 /// What is answered to a message, which comes after all that wait.
 fn restored<A: Allocator + Clone>(
@@ -28,7 +28,7 @@ fn restored<A: Allocator + Clone>(
 }
 
 fn all_restored(alloc: Global, mail: &mut Mail<Global>) -> Result<bool, Fail> {
-    for (number, source, destination) in KEPT {
+    for (number, source, destination) in RESTORED {
         if restored(mail, alloc, number, source, destination)?.is_err() {
             return Ok(false);
         }
@@ -36,14 +36,14 @@ fn all_restored(alloc: Global, mail: &mut Mail<Global>) -> Result<bool, Fail> {
     Ok(true)
 }
 
-fn are_kept(mail: &Mail<Global>) -> Result<bool, Fail> {
+fn are_there(mail: &Mail<Global>) -> Result<bool, Fail> {
     let mut last = None;
-    for (number, source, destination) in KEPT {
+    for (number, source, destination) in RESTORED {
         let key = envelope(source, destination, 5)?.key(Kind::Message);
-        let is_kept = mail.next(last).is_some_and(|item| item.number() == number
+        let is_there = mail.next(last).is_some_and(|item| item.number() == number
             && item.key() == key
             && item.deadline() == 5000);
-        if !is_kept {
+        if !is_there {
             return Ok(false);
         }
         last = Some((number, key));
@@ -51,18 +51,18 @@ fn are_kept(mail: &Mail<Global>) -> Result<bool, Fail> {
     Ok(mail.next(last).is_none())
 }
 
-fn are_all_kept(alloc: Global, mail: &mut Mail<Global>) -> Result<bool, Fail> {
+fn are_all_there(alloc: Global, mail: &mut Mail<Global>) -> Result<bool, Fail> {
     let done = all_restored(alloc, mail)?;
     let busy = restored(mail, alloc, 8, 1, 2)? == Err(MailFault::ReferenceBusy);
     let full = restored(mail, alloc, 8, 1, 3)? == Err(MailFault::CentreFull);
-    Ok(done && busy && full && are_kept(mail)?)
+    Ok(done && busy && full && are_there(mail)?)
 }
 
 fn are_restored(alloc: Global) -> Result<bool, Fail> {
     let mut mail = Mail::new(alloc, limits(3)?);
-    let are_kept = are_all_kept(alloc, &mut mail);
+    let are_there = are_all_there(alloc, &mut mail);
     drop(mail);
-    are_kept
+    are_there
 }
 
 #[test]

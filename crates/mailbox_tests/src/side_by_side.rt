@@ -3,7 +3,7 @@
 use crate::fixture::{Call, Made, called, envelope, limits, pdu, radio, refusal, registry, text};
 use crate::plain::{Name, PlainMail, Waits};
 use identity::{Bits, parse_bits};
-use mailbox::{Item, Kind, Mail, Stamp};
+use mailbox::{Item, Kind, Mail, Moment, Stamp};
 use prefix_tree::TryCopy;
 use registration::Registry;
 use std::alloc::Global;
@@ -99,7 +99,10 @@ fn is_answered_alike(
     if called(registry, &mut both.mail, made, pdu).err() != want {
         return false;
     }
-    let (number, deadline) = (made.stamp.number, u64::from(made.stamp.moment) + 3600);
+    let (number, deadline) = (
+        made.stamp.number,
+        u64::from(made.stamp.moment.number()) + 3600,
+    );
     want.is_some() || both.plain.change(made.call, name, number, deadline)
 }
 
@@ -120,7 +123,7 @@ fn is_turn_alike(
     random: u64,
     stamp: Stamp,
 ) -> Result<bool, Fail> {
-    let (call, name) = (call_of(random, stamp.moment), name_of(random));
+    let (call, name) = (call_of(random, stamp.moment.number()), name_of(random));
     let made = made_of(name, call, stamp)?;
     let pdu = pdu(alloc, call)?;
     if !is_answered_alike(registry, both, &made, name, pdu) {
@@ -143,7 +146,7 @@ fn most_items(
             .wrapping_add(1_442_695_040_888_963_407);
         let stamp = Stamp {
             number: u64::from(turn),
-            moment: turn.saturating_mul(200),
+            moment: Moment::new(turn.saturating_mul(200)),
         };
         if !is_turn_alike(alloc, registry, both, random >> 16, stamp)? {
             return Err(Fail::from("mail and list differ"));
@@ -155,7 +158,7 @@ fn most_items(
 
 /// Whether the copy shows the same once the mail is empty.
 fn is_apart(alloc: Global, both: &mut Both, copy: &Mail<Global>) -> Result<bool, Fail> {
-    both.mail.expire(u32::MAX);
+    both.mail.expire(Moment::new(u32::MAX));
     let empty = both.mail.items(alloc)?.is_empty();
     Ok(empty && are_alike(alloc, copy, &both.plain)?)
 }

@@ -3,7 +3,7 @@
 use crate::fixture::{Call, Made, called, envelope, limits, pdu, radio, registry};
 use crate::to_group::{MESSAGE, post_group};
 use linked_list_allocator::LocalHeap;
-use mailbox::{Mail, MailFault, Stamp};
+use mailbox::{Mail, MailFault, Moment, Stamp};
 use prefix_tree::TryCopy;
 use registration::Registry;
 use std::alloc::Global;
@@ -13,7 +13,7 @@ use std::test::Fail;
 fn made_at(turn: u8) -> Result<Made, Fail> {
     let stamp = Stamp {
         number: u64::from(turn) + 1,
-        moment: 100,
+        moment: Moment::new(100),
     };
     let (call, envelope) = if turn < 8 {
         (Call::Post(3), envelope(1, 2, turn)?)
@@ -60,8 +60,8 @@ fn taken<'a>(
     mail: &mut Mail<&'a LocalHeap>,
 ) -> Result<Option<usize>, Fail> {
     for turn in 0..16u8 {
-        if let Some(kept) = tried(alloc, ample, registry, mail, turn)? {
-            return Ok(kept.then_some(usize::from(turn)));
+        if let Some(unchanged) = tried(alloc, ample, registry, mail, turn)? {
+            return Ok(unchanged.then_some(usize::from(turn)));
         }
     }
     Ok(Some(16 + usize::from(mail.try_copy().is_ok())))

@@ -4,8 +4,9 @@ ghost use Rattle.std.specs.Prelude.{◌≡◌, ◌<◌, IsTrue, []};
 ghost use Rattle.std.specs.List.{AllPairs};
 
 use identity::{Bits, Gtsi, Itsi};
-use mailbox::{GroupEnvelope, Mail, MailFault, Stamp};
+use mailbox::{GroupEnvelope, Mail, MailFault, Moment, Stamp};
 use registration::Registry;
+use sds_tl::MessageReference;
 use std::alloc::{Allocator, Global};
 
 /// A message of reference 5 from a radio to a group, by the numbers of both, with its members.
@@ -29,7 +30,7 @@ fn envelope(message: &ToGroup) -> Option<GroupEnvelope> {
     Some(GroupEnvelope {
         source: Itsi::new(234, 14, message.source)?,
         group: Gtsi::new(mcc, 14, message.group)?,
-        reference: 5,
+        reference: MessageReference::new(5),
     })
 }
 
@@ -85,7 +86,7 @@ pub fn post_group<A: Allocator + Clone>(
 ) -> Result<(), MailFault> {
     let stamp = Stamp {
         number: 4,
-        moment: 100,
+        moment: Moment::new(100),
     };
     let (Some(envelope), Some(members)) = (envelope(message), members(message)) else {
         return Err(MailFault::NoSuchMessage);

@@ -158,12 +158,12 @@ module _ {T : Type 0} (group_at : List Bool → Result (T × List Bool) MmFault)
 
 -- ---- PDUs from a radio
 
-joined : (items : List GroupUp) (e : Element) → OfBits (join_groups group_up_at items e)
-joined items e = either _ _ _ (after _ _ (body group_up_at group_up _ e.body) (λ more. ends _)) (ends _)
+join_of_bits : (items : List GroupUp) (e : Element) → OfBits (join_groups group_up_at items e)
+join_of_bits items e = either _ _ _ (after _ _ (body group_up_at group_up _ e.body) (λ more. ends _)) (ends _)
 
 all_groups : (bits : List Bool) → OfBits (all_groups_at group_up_at bits)
 unfolding all_groups_at
-all_groups bits = after _ _ (bit bits) (λ more. either _ _ _ (elements (join_groups group_up_at) joined _ _ more.1) (ends _))
+all_groups bits = after _ _ (bit bits) (λ more. either _ _ _ (elements (join_groups group_up_at) join_of_bits _ _ more.1) (ends _))
 
 module _ {A : Type 0} where
   detach : (bits : List Bool) → OfBits (detach_at {A = A} bits)

@@ -98,11 +98,11 @@ pub join_wants : (start : List GroupUp) (begin : List Bool) (items : List GroupU
 join_wants start begin items bits rest e f (inl same) read wants is = sym same ∙ elements_refuse without items bits rest e f read (wants is)
 join_wants start begin items bits rest e f (inr first) read wants is = first ∙ ap (λ (d : MmFault). Err d) (sym is)
 
-pub joined_first : (start : List GroupUp) (begin : List Bool) (items joined : List GroupUp) (bits rest : List Bool) (e : Element) → AreFirst start begin items bits → element_at bits ≡ Ok (Some e, rest)
-    → join_groups group_up_at items e ≡ Ok joined → AreFirst start begin joined rest
-joined_first start begin items joined bits rest e (inr first) read is = inr first
-joined_first start begin items joined bits rest e (inl same) read is =
-    elim (join_same items e joined is) [
-      | inl kept ↦ inl (sym (elements_on without items joined bits rest e read kept) ∙ same)
+pub first_after_join : (start : List GroupUp) (begin : List Bool) (items longer : List GroupUp) (bits rest : List Bool) (e : Element) → AreFirst start begin items bits → element_at bits ≡ Ok (Some e, rest)
+    → join_groups group_up_at items e ≡ Ok longer → AreFirst start begin longer rest
+first_after_join start begin items longer bits rest e (inr first) read is = inr first
+first_after_join start begin items longer bits rest e (inl same) read is =
+    elim (join_same items e longer is) [
+      | inl now ↦ inl (sym (elements_on without items longer bits rest e read now) ∙ same)
       | inr wants ↦ inr (sym same ∙ elements_refuse without items bits rest e NoMemory read wants)
     ]

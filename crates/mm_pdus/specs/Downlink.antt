@@ -2,6 +2,7 @@
 use Rattle.std.specs.Prelude.{◌≡◌, ℕ, ◌<◌, ◌≤◌, ◌^◌, Bool, false, List, [], ◌∷◌, ◌++◌, length}
 use Rattle.std.specs.List.{AllByRecursion, list_any}
 use Rattle.identity.specs.Number.{num}
+use Rattle.mm_pdus.specs.Numbers.{Cause}
 use Rattle.mm_pdus.specs.declared.update.AcceptType.{AcceptType}
 use Rattle.mm_pdus.specs.declared.update.LocationUpdateType.{LocationUpdateType}
 use Rattle.mm_pdus.specs.declared.group.GroupDown.{GroupDown}
@@ -24,7 +25,7 @@ abbrev pub accept_text : AcceptType → List Bool
 accept_text update = num 4 5 ++ num 3 (update_number (update_accepted update)) ++ false ∷ []
 
 -- a D-LOCATION UPDATE REJECT: the type of the update, and the reject cause
-abbrev pub reject_text : LocationUpdateType → ℕ → List Bool
+abbrev pub reject_text : LocationUpdateType → Cause → List Bool
 reject_text update cause = num 4 7 ++ num 3 (update_number update) ++ num 5 cause ++ false ∷ false ∷ []
 
 -- a D-ATTACH/DETACH GROUP IDENTITY ACKNOWLEDGEMENT, with this bit in the place of the reserved one

@@ -9,13 +9,13 @@ use Rattle.mm_pdus.specs.declared.downlink.MmDown.{MmDown}
 use Rattle.mm_pdus.specs.declared.downlink.MmDown.TheVariants.{Accept, Reject, Acknowledge}
 use Rattle.mm_pdus.specs.Values.{update_of, accept_of}
 use Rattle.mm_pdus.specs.Downlink.{identity_downlink, rejects}
-use Rattle.mm_pdus.specs.Reading.{◌>>=◌, known, needs, bit_at, clear_at, field_at, piece_at, whole}
+use Rattle.mm_pdus.specs.Reading.{Part, ◌>>=◌, known, needs, bit_at, clear_at, field_at, piece_at, whole}
 use Rattle.mm_pdus.specs.GroupReading.{group_down_at, unkept, body_at}
 
 -- Each group is read by this function.
-module _ (group_at : List Bool → Result (GroupDown × List Bool) MmFault) where
+module _ (group_at : List Bool → Part GroupDown) where
   -- the one element with groups, at least one, and no element behind it
-  unfoldable pub one_element_at : List Bool → Result (List GroupDown × List Bool) MmFault
+  unfoldable pub one_element_at : List Bool → Part (List GroupDown)
   one_element_at bits = do
     more ← bit_at bits
     there ← needs more.0
@@ -29,7 +29,7 @@ module _ (group_at : List Bool → Result (GroupDown × List Bool) MmFault) wher
     Ok (items, rest)
 
   -- the O-bit, and the groups where it is 1
-  unfoldable pub answers_at : List Bool → Result (List GroupDown × List Bool) MmFault
+  unfoldable pub answers_at : List Bool → Part (List GroupDown)
   answers_at bits = do
     more ← bit_at bits
     if more.0 then one_element_at more.1 else Ok ([], more.1)
@@ -41,7 +41,7 @@ names_groups bits = number (take 4 bits) == 11
 -- What is read is a PDU, and whether what it says of its groups is so.
 module _ {A : Type 0} where
   -- behind the accept type the O-bit
-  unfoldable pub accept_at : List Bool → Result ((MmDown A × Bool) × List Bool) MmFault
+  unfoldable pub accept_at : List Bool → Part (MmDown A × Bool)
   accept_at bits = do
     number ← field_at 3 bits
     update ← known (update_of number.0)
@@ -50,7 +50,7 @@ module _ {A : Type 0} where
     Ok ((Accept accept, true), rest)
 
   -- behind the cause cipher control and the O-bit
-  unfoldable pub reject_at : List Bool → Result ((MmDown A × Bool) × List Bool) MmFault
+  unfoldable pub reject_at : List Bool → Part (MmDown A × Bool)
   reject_at bits = do
     number ← field_at 3 bits
     update ← known (update_of number.0)
@@ -59,9 +59,9 @@ module _ {A : Type 0} where
     rest ← clear_at rest
     Ok ((Reject update cause.0, true), rest)
 
-  module _ (group_at : List Bool → Result (GroupDown × List Bool) MmFault) where
+  module _ (group_at : List Bool → Part GroupDown) where
     -- the reserved bit is ignored
-    unfoldable pub acknowledge_at : List Bool → Result ((MmDown A × Bool) × List Bool) MmFault
+    unfoldable pub acknowledge_at : List Bool → Part (MmDown A × Bool)
     acknowledge_at bits = do
       rejected ← bit_at bits
       reserved ← bit_at rejected.1
@@ -69,7 +69,7 @@ module _ {A : Type 0} where
       Ok ((Acknowledge items.0, beq rejected.0 (rejects items.0)), items.1)
 
     -- the PDU type, and what stands behind it in a PDU of that type
-    unfoldable pub down_at : List Bool → Result ((MmDown A × Bool) × List Bool) MmFault
+    unfoldable pub down_at : List Bool → Part (MmDown A × Bool)
     down_at bits = do
       kind ← field_at 4 bits
       if kind.0 == 5 then accept_at kind.1 else if kind.0 == 7 then reject_at kind.1 else if kind.0 == 11 then acknowledge_at kind.1 else Err UnknownType

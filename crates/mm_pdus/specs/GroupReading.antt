@@ -10,32 +10,70 @@ use Rattle.mm_pdus.specs.declared.group.GroupUp.TheVariants as up
 use Rattle.mm_pdus.specs.declared.group.GroupDown.{GroupDown}
 use Rattle.mm_pdus.specs.declared.group.GroupDown.TheVariants as down
 use Rattle.mm_pdus.specs.Values.{lifetime_of, leave_of, detach_of, most_groups}
-use Rattle.mm_pdus.specs.Reading.{◌>>=◌, known, bit_at, field_at}
+use Rattle.mm_pdus.specs.Reading.{Part, ◌>>=◌, known, bit_at, field_at}
+
+-- behind the GSSI of a full address: the country code, and the network code
+abbrev pub full_at : ℕ → List Bool → Part GroupAddress
+full_at gssi bits = do
+  mcc ← field_at 10 bits
+  mnc ← field_at 14 mcc.1
+  Ok (Full (identity_number mcc.0 mnc.0 gssi), mnc.1)
+
+-- behind an address type: the GSSI, which is all of a short address, whose type is 0
+abbrev pub address_behind : ℕ → List Bool → Part GroupAddress
+address_behind kind bits = do
+  gssi ← field_at 24 bits
+  if kind == 0 then Ok (Short gssi.0, gssi.1) else full_at gssi.0 gssi.1
 
 -- the address type is judged before the GSSI is read
-unfoldable pub address_at : List Bool → Result (GroupAddress × List Bool) MmFault
+unfoldable pub address_at : List Bool → Part GroupAddress
 address_at bits = do
   kind ← field_at 2 bits
-  if nat_lt 1 kind.0 then Err fault.UnsupportedAddress
-      else (field_at 24 kind.1 >>= λ gssi.
-      if kind.0 == 0 then Ok (Short gssi.0, gssi.1)
-      else (field_at 10 gssi.1 >>= λ mcc. field_at 14 mcc.1 >>= λ mnc. Ok (Full (identity_number mcc.0 mnc.0 gssi.0), mnc.1)))
+  if nat_lt 1 kind.0 then Err fault.UnsupportedAddress else address_behind kind.0 kind.1
 
--- one group from a radio: a class of usage or the reason for leaving, and the address
-unfoldable pub group_up_at : List Bool → Result (GroupUp × List Bool) MmFault
+-- of a group that a radio leaves: the reason, and the address
+abbrev pub up_leave_at : List Bool → Part GroupUp
+up_leave_at bits = do
+  number ← field_at 2 bits
+  reason ← known (leave_of number.0)
+  address ← address_at number.1
+  Ok (up.Leave reason address.0, address.1)
+
+-- of one that it attaches to: the class of usage, and the address
+abbrev pub up_attach_at : List Bool → Part GroupUp
+up_attach_at bits = do
+  class ← field_at 3 bits
+  address ← address_at class.1
+  Ok (up.Attach class.0 address.0, address.1)
+
+-- one group from a radio: whether it leaves it, and what that needs
+unfoldable pub group_up_at : List Bool → Part GroupUp
 group_up_at bits = do
   leaves ← bit_at bits
-  if leaves.0
-      then (field_at 2 leaves.1 >>= λ number. known (leave_of number.0) >>= λ reason. address_at number.1 >>= λ a. Ok (up.Leave reason a.0, a.1))
-      else (field_at 3 leaves.1 >>= λ class. address_at class.1 >>= λ a. Ok (up.Attach class.0 a.0, a.1))
+  if leaves.0 then up_leave_at leaves.1 else up_attach_at leaves.1
 
--- one group to a radio: a lifetime and a class of usage or the reason of the detach, and the address
-unfoldable pub group_down_at : List Bool → Result (GroupDown × List Bool) MmFault
+-- of a group that a radio is detached from: the reason, and the address
+abbrev pub down_detach_at : List Bool → Part GroupDown
+down_detach_at bits = do
+  number ← field_at 2 bits
+  reason ← known (detach_of number.0)
+  address ← address_at number.1
+  Ok (down.Detach reason address.0, address.1)
+
+-- of one that it is attached to: the lifetime, the class of usage, and the address
+abbrev pub down_attach_at : List Bool → Part GroupDown
+down_attach_at bits = do
+  number ← field_at 2 bits
+  lifetime ← known (lifetime_of number.0)
+  class ← field_at 3 number.1
+  address ← address_at class.1
+  Ok (down.Attach lifetime class.0 address.0, address.1)
+
+-- one group to a radio: whether it is detached from it, and what that needs
+unfoldable pub group_down_at : List Bool → Part GroupDown
 group_down_at bits = do
   detached ← bit_at bits
-  if detached.0
-      then (field_at 2 detached.1 >>= λ number. known (detach_of number.0) >>= λ reason. address_at number.1 >>= λ a. Ok (down.Detach reason a.0, a.1))
-      else (field_at 2 detached.1 >>= λ number. known (lifetime_of number.0) >>= λ lifetime. field_at 3 number.1 >>= λ class. address_at class.1 >>= λ a. Ok (down.Attach lifetime class.0 a.0, a.1))
+  if detached.0 then down_detach_at detached.1 else down_attach_at detached.1
 
 -- inside an element its length is known, so bits that are missing there are its fault
 abbrev pub inside : MmFault → MmFault
@@ -53,25 +91,30 @@ read_inside (Ok x) = Ok x
 read_inside (Err f) = Err (inside f)
 
 -- a group that is read, and there is no memory to keep it
-abbrev pub unkept : {T : Type 0} → (List Bool → Result (T × List Bool) MmFault) → List Bool → Result (T × List Bool) MmFault
+abbrev pub unkept : {T : Type 0} → (List Bool → Part T) → List Bool → Part T
 unkept group_at bits = group_at bits >>= λ group. Err fault.NoMemory
 
 -- Groups one after the other, each read by this function.
-module _ {T : Type 0} (group_at : List Bool → Result (T × List Bool) MmFault) where
+module _ {T : Type 0} (group_at : List Bool → Part T) where
   -- so many groups, and the bits behind them
-  unfoldable pub groups_at : ℕ → List Bool → Result (List T × List Bool) MmFault
+  unfoldable pub groups_at : ℕ → List Bool → Part (List T)
   groups_at zero bits = Ok ([], bits)
   groups_at (suc n) bits = do
     first ← group_at bits
     others ← groups_at n first.1
     Ok (first.0 ∷ others.0, others.1)
 
-  -- how many there are, with so many before them, then each, and no bit behind the last
+  -- so many groups, and no bit behind the last
+  abbrev pub only_groups_at : ℕ → List Bool → Result (List T) MmFault
+  only_groups_at n bits = do
+    items ← groups_at n bits
+    if length items.1 == 0 then Ok items.0 else Err fault.BadElement
+
+  -- how many there are, which with those before them are no more than may be, and then each
   unfoldable pub counted_at : ℕ → List Bool → Result (List T) MmFault
   counted_at before bits = do
     count ← field_at 6 bits
-    if nat_lt most_groups (before + count.0) then Err fault.TooMany
-        else (groups_at count.0 count.1 >>= λ items. if length items.1 == 0 then Ok items.0 else Err fault.BadElement)
+    if nat_lt most_groups (before + count.0) then Err fault.TooMany else only_groups_at count.0 count.1
 
   -- the groups of an element with these bits, behind so many of other elements
   abbrev pub body_at : ℕ → List Bool → Result (List T) MmFault
@@ -82,5 +125,5 @@ abbrev pub behind : {T : Type 0} → List T → Result (List T) MmFault → Resu
 behind front read = read >>= λ more. Ok (front ++ more)
 
 -- the same, with the bits behind them
-abbrev pub with_front : {T : Type 0} → List T → Result (List T × List Bool) MmFault → Result (List T × List Bool) MmFault
+abbrev pub with_front : {T : Type 0} → List T → Part (List T) → Part (List T)
 with_front front read = read >>= λ x. Ok (front ++ x.0, x.1)

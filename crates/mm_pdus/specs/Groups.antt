@@ -10,7 +10,7 @@ use Rattle.mm_pdus.specs.declared.group.GroupUp.TheVariants as up
 use Rattle.mm_pdus.specs.declared.group.GroupDown.{GroupDown}
 use Rattle.mm_pdus.specs.declared.group.GroupDown.TheVariants as down
 use Rattle.mm_pdus.specs.Values.{lifetime_number, leave_number, detach_number}
-use Rattle.mm_pdus.specs.Syntax.{Extension}
+use Rattle.mm_pdus.specs.Syntax.{Element, Extension}
 
 -- The address type and the GSSI, and behind a full one the country code and the network code.
 abbrev pub address : GroupAddress → List Bool
@@ -52,7 +52,11 @@ module _ {T : Type 0} (text : T → List Bool) where
   abbrev pub groups_body : List T → List Bool
   groups_body items = num 6 (length items) ++ flat_map text items
 
+  -- The element with this identifier that has these groups.
+  abbrev pub groups_element : ℕ → List T → Element
+  groups_element identifier items = record { identifier = identifier; body = groups_body items }
+
   -- The written form: nothing where there are no groups, else one element with all of them.
   abbrev pub groups_extension : ℕ → List T → Option Extension
   groups_extension identifier [] = None
-  groups_extension identifier (first ∷ others) = Some (record { parts = []; elements = (record { identifier = identifier; body = groups_body (first ∷ others) }) ∷ [] })
+  groups_extension identifier (first ∷ others) = Some (record { parts = []; elements = groups_element identifier (first ∷ others) ∷ [] })

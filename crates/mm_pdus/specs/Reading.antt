@@ -5,6 +5,10 @@ use Rattle.mm_pdus.specs.declared.fault.MmFault.{MmFault}
 use Rattle.mm_pdus.specs.declared.fault.MmFault.TheVariants.{Short, Trailing, BadElement, NoMemory}
 use Rattle.mm_pdus.specs.Syntax.{Element}
 
+-- what is read first of some bits, with the bits behind it, or the fault there
+abbrev pub Part : Type 0 → Type 0
+Part T = Result (T × List Bool) MmFault
+
 infixl 10 ◌>>=◌
 -- one part and what is read behind it, up to the first fault
 abbrev pub ◌>>=◌ : {A B : Type 0} → Result A MmFault → (A → Result B MmFault) → Result B MmFault
@@ -12,7 +16,7 @@ abbrev pub ◌>>=◌ : {A B : Type 0} → Result A MmFault → (A → Result B M
 (Err e) >>= f = Err e
 
 -- what a function answered, with the bits that it left
-abbrev pub with_rest : {A : Type 0} → Result A MmFault → List Bool → Result (A × List Bool) MmFault
+abbrev pub with_rest : {A : Type 0} → Result A MmFault → List Bool → Part A
 with_rest (Ok x) rest = Ok (x, rest)
 with_rest (Err f) rest = Err f
 
@@ -32,7 +36,7 @@ needs true = Ok tt
 needs false = Err BadElement
 
 -- one bit
-abbrev pub bit_at : List Bool → Result (Bool × List Bool) MmFault
+abbrev pub bit_at : List Bool → Part Bool
 bit_at [] = Err Short
 bit_at (b ∷ rest) = Ok (b, rest)
 
@@ -43,11 +47,11 @@ clear_at (true ∷ rest) = Err BadElement
 clear_at (false ∷ rest) = Ok rest
 
 -- a number of w bits
-abbrev pub field_at : ℕ → List Bool → Result (ℕ × List Bool) MmFault
+abbrev pub field_at : ℕ → List Bool → Part ℕ
 field_at w bits = if nat_lt (length bits) w then Err Short else Ok (number (take w bits), drop w bits)
 
 -- w bits
-abbrev pub piece_at : ℕ → List Bool → Result (List Bool × List Bool) MmFault
+abbrev pub piece_at : ℕ → List Bool → Part (List Bool)
 piece_at w bits = if nat_lt (length bits) w then Err Short else Ok (take w bits, drop w bits)
 
 -- a part that may be left out is ignored
@@ -63,13 +67,19 @@ optionals_at (w ∷ ws) bits = do
   rest ← optional_at w bits
   optionals_at ws rest
 
+-- an element behind the bit that says that there is one: its identifier, its length, and so many bits
+abbrev pub element_behind : List Bool → Part (Option Element)
+element_behind bits = do
+  identifier ← field_at 4 bits
+  len ← field_at 11 identifier.1
+  body ← piece_at len.0 len.1
+  Ok (Some (record { identifier = identifier.0; body = body.0 }), body.1)
+
 -- the next element, or none behind the last
-unfoldable pub element_at : List Bool → Result (Option Element × List Bool) MmFault
+unfoldable pub element_at : List Bool → Part (Option Element)
 element_at bits = do
   more ← bit_at bits
-  if more.0
-      then (field_at 4 more.1 >>= λ identifier. field_at 11 identifier.1 >>= λ len. piece_at len.0 len.1 >>= λ body. Ok (Some (record { identifier = identifier.0; body = body.0 }), body.1))
-      else Ok (None, more.1)
+  if more.0 then element_behind more.1 else Ok (None, more.1)
 
 -- the element with this identifier and these bits
 abbrev pub made_element : ℕ → List Bool → Element
@@ -82,7 +92,7 @@ seen (Ok (Some e)) = Ok (Some (made_element e.0 e.1))
 seen (Err f) = Err f
 
 -- Elements, each of which is taken into what the ones before gave. There are no more of them than bits.
-unfoldable pub elements_at : {S : Type 0} → (S → Element → Result S MmFault) → ℕ → S → List Bool → Result (S × List Bool) MmFault
+unfoldable pub elements_at : {S : Type 0} → (S → Element → Result S MmFault) → ℕ → S → List Bool → Part S
 elements_at into zero s bits = Err Short
 elements_at into (suc n) s bits = do
   next ← element_at bits
@@ -92,14 +102,21 @@ elements_at into (suc n) s bits = do
 abbrev pub ignore : Unit {0} → Element → Result (Unit {0}) MmFault
 ignore s e = Ok s
 
+-- the parts of these widths, each there or left out, and the elements behind them, all ignored
+abbrev pub skipped_at : List ℕ → List Bool → Result (List Bool) MmFault
+skipped_at widths bits = do
+  rest ← optionals_at widths bits
+  ended ← elements_at ignore (length rest) tt rest
+  Ok ended.1
+
 -- what follows the fixed fields is ignored
 unfoldable pub extension_at : List ℕ → List Bool → Result (List Bool) MmFault
 extension_at widths bits = do
   more ← bit_at bits
-  if more.0 then (optionals_at widths more.1 >>= λ rest. elements_at ignore (length rest) tt rest >>= λ ended. Ok ended.1) else Ok more.1
+  if more.0 then skipped_at widths more.1 else Ok more.1
 
 -- a PDU that takes all of the bits
-abbrev pub whole : {A : Type 0} → Result (A × List Bool) MmFault → Result A MmFault
+abbrev pub whole : {A : Type 0} → Part A → Result A MmFault
 whole read = read >>= λ p. if length p.1 == 0 then Ok p.0 else Err Trailing
 
 -- What is answered is what reading gives, unless memory ran out.

@@ -23,10 +23,14 @@ demand_widths = 24 ∷ 3 ∷ 15 ∷ 24 ∷ 24 ∷ []
 abbrev pub identity_uplink : ℕ
 identity_uplink = 8
 
+-- The element has these groups: those that its bits spell where it is one with groups, and else none.
+abbrev pub HasGroups : Element → List GroupUp → Type 0
+HasGroups e items = MatchBool (e.identifier == identity_uplink) (AllByRecursion IsGroupUp items × (e.body ≡ groups_body group_up items)) (items ≡ [])
+
 -- The groups of all elements with groups, in order; the other elements are skipped.
 abbrev pub GroupsOf : List Element → List GroupUp → Type 0
 GroupsOf [] items = items ≡ []
-GroupsOf (e ∷ es) items = (front : List GroupUp) × (back : List GroupUp) × (items ≡ front ++ back) × MatchBool (e.identifier == identity_uplink) (AllByRecursion IsGroupUp front × (e.body ≡ groups_body group_up front)) (front ≡ []) × GroupsOf es back
+GroupsOf (e ∷ es) items = (front : List GroupUp) × (back : List GroupUp) × (items ≡ front ++ back) × HasGroups e front × GroupsOf es back
 
 -- the elements of what follows the fixed fields
 abbrev pub elements_of : Option Extension → List Element

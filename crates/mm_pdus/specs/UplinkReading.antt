@@ -9,17 +9,17 @@ use Rattle.mm_pdus.specs.declared.uplink.MmUp.TheVariants.{Demand, Detach, Group
 use Rattle.mm_pdus.specs.Values.{update_of, mode_of}
 use Rattle.mm_pdus.specs.Syntax.{Element}
 use Rattle.mm_pdus.specs.Uplink.{detach_widths, demand_widths, identity_uplink}
-use Rattle.mm_pdus.specs.Reading.{◌>>=◌, known, bit_at, field_at, optional_at, extension_at, elements_at, whole}
+use Rattle.mm_pdus.specs.Reading.{Part, ◌>>=◌, known, bit_at, field_at, optional_at, extension_at, elements_at, whole}
 use Rattle.mm_pdus.specs.GroupReading.{group_up_at, unkept, body_at, behind}
 
 -- Each group is read by this function.
-module _ (group_at : List Bool → Result (GroupUp × List Bool) MmFault) where
+module _ (group_at : List Bool → Part GroupUp) where
   -- elements with groups are joined, and other elements are skipped
   abbrev pub join_groups : List GroupUp → Element → Result (List GroupUp) MmFault
   join_groups items e = if e.identifier == identity_uplink then behind items (body_at group_at (length items) e.body) else Ok items
 
   -- the O-bit, and the groups of all elements where it is 1
-  unfoldable pub all_groups_at : List Bool → Result (List GroupUp × List Bool) MmFault
+  unfoldable pub all_groups_at : List Bool → Part (List GroupUp)
   all_groups_at bits = do
     more ← bit_at bits
     if more.0 then elements_at join_groups (length more.1) [] more.1 else Ok ([], more.1)
@@ -30,13 +30,13 @@ names_groups bits = number (take 4 bits) == 7
 
 module _ {A : Type 0} where
   -- a U-ITSI DETACH behind its PDU type
-  unfoldable pub detach_at : List Bool → Result (MmUp A × List Bool) MmFault
+  unfoldable pub detach_at : List Bool → Part (MmUp A)
   detach_at bits = do
     rest ← extension_at detach_widths bits
     Ok (Detach, rest)
 
   -- a U-LOCATION UPDATE DEMAND behind its PDU type
-  unfoldable pub demand_at : List Bool → Result (MmUp A × List Bool) MmFault
+  unfoldable pub demand_at : List Bool → Part (MmUp A)
   demand_at bits = do
     number ← field_at 3 bits
     update ← known (update_of number.0)
@@ -45,9 +45,9 @@ module _ {A : Type 0} where
     rest ← extension_at demand_widths rest
     Ok (Demand update, rest)
 
-  module _ (group_at : List Bool → Result (GroupUp × List Bool) MmFault) where
+  module _ (group_at : List Bool → Part GroupUp) where
     -- a U-ATTACH/DETACH GROUP IDENTITY behind its PDU type
-    unfoldable pub groups_up_at : List Bool → Result (MmUp A × List Bool) MmFault
+    unfoldable pub groups_up_at : List Bool → Part (MmUp A)
     groups_up_at bits = do
       report ← bit_at bits
       mode ← bit_at report.1
@@ -55,7 +55,7 @@ module _ {A : Type 0} where
       Ok (Groups (mode_of mode.0) items.0, items.1)
 
     -- the PDU type, and what stands behind it in a PDU of that type
-    unfoldable pub up_at : List Bool → Result (MmUp A × List Bool) MmFault
+    unfoldable pub up_at : List Bool → Part (MmUp A)
     up_at bits = do
       kind ← field_at 4 bits
       if kind.0 == 1 then detach_at kind.1 else if kind.0 == 2 then demand_at kind.1 else if kind.0 == 7 then groups_up_at kind.1 else Err UnknownType

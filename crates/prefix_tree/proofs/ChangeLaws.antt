@@ -5,19 +5,19 @@ use Rattle.identity.specs.Path.{Path, begins}
 use Rattle.prefix_tree.specs.declared.node.Node.TheInside.{Inside}
 use Rattle.prefix_tree.specs.Table.{PathMap}
 use Rattle.prefix_tree.specs.Change.{with_value}
-use Rattle.prefix_tree.specs.Inside.Joined.{NodeSeen, joined, table_of, node_view, IsLoose, IsFirm}
+use Rattle.prefix_tree.specs.Inside.Around.{NodeSeen, around, table_of, node_view, IsLoose, IsFirm}
 use Rattle.prefix_tree.proofs.NodeLaws.{write_here, take_here, into_zero, into_one, out_of_zero, out_of_one, firm_put, loose_after}
 
 module _ {V A : Type 0} (n : Inside V A) (d : NodeSeen V) (seen : node_view n.at n.value n.zero n.one ≡ d) (sound : IsTrue d.sound) where
-  pub changed_here : (q : Path) (w : Option V) → q ≡ d.at → joined n.at w (table_of n.zero) (table_of n.one) ≡ with_value d.table q w
+  pub changed_here : (q : Path) (w : Option V) → q ≡ d.at → around n.at w (table_of n.zero) (table_of n.one) ≡ with_value d.table q w
   changed_here q None e = take_here n d seen sound q e
   changed_here q (Some x) e = write_here n d seen sound q x e
 
-  pub changed_zero : (m : PathMap V) (q : Path) (w : Option V) → IsTrue (begins (d.at ++ false ∷ []) q) → m ≡ with_value (table_of n.zero) q w → joined n.at n.value m (table_of n.one) ≡ with_value d.table q w
+  pub changed_zero : (m : PathMap V) (q : Path) (w : Option V) → IsTrue (begins (d.at ++ false ∷ []) q) → m ≡ with_value (table_of n.zero) q w → around n.at n.value m (table_of n.one) ≡ with_value d.table q w
   changed_zero m q None e new = out_of_zero n d seen sound m q e new
   changed_zero m q (Some x) e new = into_zero n d seen sound m q x e new
 
-  pub changed_one : (m : PathMap V) (q : Path) (w : Option V) → IsTrue (begins (d.at ++ true ∷ []) q) → m ≡ with_value (table_of n.one) q w → joined n.at n.value (table_of n.zero) m ≡ with_value d.table q w
+  pub changed_one : (m : PathMap V) (q : Path) (w : Option V) → IsTrue (begins (d.at ++ true ∷ []) q) → m ≡ with_value (table_of n.one) q w → around n.at n.value (table_of n.zero) m ≡ with_value d.table q w
   changed_one m q None e new = out_of_one n d seen sound m q e new
   changed_one m q (Some x) e new = into_one n d seen sound m q x e new
 

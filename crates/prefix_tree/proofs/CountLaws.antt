@@ -7,11 +7,11 @@ use Rattle.std.specs.FinMap as map
 use Rattle.std.proofs.Math.Pow.{pow_mono}
 use Rattle.std.proofs.lemmas.Nat.{pow-add}
 use Rattle.prefix_tree.specs.declared.node.Node.TheInside.{Inside}
-use Rattle.prefix_tree.specs.Inside.Joined.{NodeSeen, table_of, node_view}
+use Rattle.prefix_tree.specs.Inside.Around.{NodeSeen, table_of, node_view}
 use Rattle.prefix_tree.specs.Visits.{is_place}
 use Rattle.prefix_tree.proofs.JoinLaws.{place_parts}
 use Rattle.prefix_tree.proofs.NodeLaws.{table_is, zero_keys, one_keys}
-use Rattle.prefix_tree.proofs.OrderLaws.{len_joined}
+use Rattle.prefix_tree.proofs.OrderLaws.{len_around}
 
 count_full : (v l r : Bool) (a b x y n : ℕ) → (v || l && r) ≡ true → n ≡ cond v 1 0 + (x + y) → a ≤ 2 * x → b ≤ 2 * y → (IsTrue l → a + 1 ≤ 2 * x) → (IsTrue r → b + 1 ≤ 2 * y) → 1 + a + b + 1 ≤ 2 * n
 count_full true l r a b x y n e is p q f g = omega (arith, is, p, q)
@@ -37,7 +37,7 @@ fits_word k a p = let le : 49 - k ≤ 64 = omega arith in let h : 2 ^ (49 - k) �
 
 module _ {V A : Type 0} (n : Inside V A) (d : NodeSeen V) (seen : node_view n.at n.value n.zero n.one ≡ d) (sound : IsTrue d.sound) where
   node_len : map.len d.table ≡ cond (is_some n.value) 1 0 + (map.len (table_of n.zero) + map.len (table_of n.one))
-  node_len = sym (ap map.len (table_is n d seen)) ∙ len_joined n.at n.value _ _ (zero_keys n d seen sound) (one_keys n d seen sound)
+  node_len = sym (ap map.len (table_is n d seen)) ∙ len_around n.at n.value _ _ (zero_keys n d seen sound) (one_keys n d seen sound)
 
   pub few_nodes : (a b : ℕ) → a ≤ 2 * map.len (table_of n.zero) → b ≤ 2 * map.len (table_of n.one) → 1 + a + b ≤ 2 * map.len d.table + 1
   few_nodes a b p q = count_any (is_some n.value) a b _ _ _ node_len p q

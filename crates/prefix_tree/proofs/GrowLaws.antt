@@ -5,14 +5,14 @@ use Rattle.std.specs.Prelude.{IsTrue, not, ◌&&◌, ◌||◌}
 use Rattle.std.specs.FinMap as map
 use Rattle.std.specs.Option.{is_some}
 use Rattle.prefix_tree.specs.Visits.{is_place}
-use Rattle.prefix_tree.proofs.Standing.{place_single, place_joined, goes_link, sound_when}
+use Rattle.prefix_tree.proofs.Standing.{place_single, place_around, goes_link, sound_when}
 use Rattle.std.specs.declared.boxed.Box.{Box}
 use Rattle.identity.specs.Path.{Path, begins}
 use Rattle.prefix_tree.specs.Table.{PathMap}
 use Rattle.prefix_tree.specs.Inside.Paths.{common}
-use Rattle.prefix_tree.specs.Inside.Joined.{NodeSeen, joined, spread, KeysUnder, table_of, is_under, IsFirm, IsUnder, IsParting, leads_to}
+use Rattle.prefix_tree.specs.Inside.Around.{NodeSeen, around, spread, KeysUnder, table_of, is_under, IsFirm, IsUnder, IsParting, leads_to}
 use Rattle.prefix_tree.proofs.Begins.{begins_self, common_second, common_under, common_parts, other_side, begins_whole, begins_length}
-use Rattle.prefix_tree.proofs.JoinedLaws.{under_empty, keys_insert, insert_here, insert_zero, insert_one, joined_zero, joined_one, keys_joined}
+use Rattle.prefix_tree.proofs.AroundLaws.{under_empty, keys_insert, insert_here, insert_zero, insert_one, around_zero, around_one, keys_around}
 use Rattle.prefix_tree.proofs.NodeLaws.{keys_of}
 
 module _ {V A : Type 0} where
@@ -31,13 +31,13 @@ module _ {V A : Type 0} where
 module _ {V : Type 0} where
   -- a new node at the key itself, above what is there
   pub spread_here : (p : Path) (side : Bool) (old : PathMap V) (x : V) → KeysUnder (p ++ side ∷ []) old → spread p (Some x) side old map.empty ≡ map.insert old p x
-  spread_here p true old x keys = insert_here p None map.empty old (under_empty V _) keys x ∙ ap (λ m. map.insert m p x) (joined_one p old keys)
-  spread_here p false old x keys = insert_here p None old map.empty keys (under_empty V _) x ∙ ap (λ m. map.insert m p x) (joined_zero p old keys)
+  spread_here p true old x keys = insert_here p None map.empty old (under_empty V _) keys x ∙ ap (λ m. map.insert m p x) (around_one p old keys)
+  spread_here p false old x keys = insert_here p None old map.empty keys (under_empty V _) x ∙ ap (λ m. map.insert m p x) (around_zero p old keys)
 
   -- a new node above what is there and the key's
   pub spread_beside : (p k : Path) (side : Bool) (old : PathMap V) (x : V) → KeysUnder (p ++ side ∷ []) old → begins (p ++ not side ∷ []) k ≡ true → spread p None side old (map.insert map.empty k x) ≡ map.insert old k x
-  spread_beside p k true old x keys other = insert_zero p None map.empty old (under_empty V _) keys k x other ∙ ap (λ m. map.insert m k x) (joined_one p old keys)
-  spread_beside p k false old x keys other = insert_one p None old map.empty keys (under_empty V _) k x other ∙ ap (λ m. map.insert m k x) (joined_zero p old keys)
+  spread_beside p k true old x keys other = insert_zero p None map.empty old (under_empty V _) keys k x other ∙ ap (λ m. map.insert m k x) (around_one p old keys)
+  spread_beside p k false old x keys other = insert_one p None old map.empty keys (under_empty V _) k x other ∙ ap (λ m. map.insert m k x) (around_zero p old keys)
 
   -- a new node with the key's value alone is firm
   pub sprout_firm : (d : NodeSeen V) (k : Path) (x : V) → d.at ≡ k → d.table ≡ map.insert map.empty k x → IsTrue d.sound → (p : Path) → IsTrue (begins p k) → IsFirm p d
@@ -57,39 +57,39 @@ module _ {V : Type 0} where
   }
 
 module _ {V A : Type 0} (p : Path) (v : Option V) (side : Bool) (old other : Option (Box (NodeSeen V) A)) (u : IsUnder (p ++ side ∷ []) old) (w : IsUnder (p ++ not side ∷ []) other) where
-  pub above_one : side ≡ true → KeysUnder p (joined p v (table_of other) (table_of old))
-  above_one e = keys_joined p v (table_of other) (table_of old) (keys_of _ other (subst (λ b. IsUnder (p ++ not b ∷ []) other) e w)) (keys_of _ old (subst (λ b. IsUnder (p ++ b ∷ []) old) e u))
+  pub above_one : side ≡ true → KeysUnder p (around p v (table_of other) (table_of old))
+  above_one e = keys_around p v (table_of other) (table_of old) (keys_of _ other (subst (λ b. IsUnder (p ++ not b ∷ []) other) e w)) (keys_of _ old (subst (λ b. IsUnder (p ++ b ∷ []) old) e u))
 
-  pub above_zero : side ≡ false → KeysUnder p (joined p v (table_of old) (table_of other))
-  above_zero e = keys_joined p v (table_of old) (table_of other) (keys_of _ old (subst (λ b. IsUnder (p ++ b ∷ []) old) e u)) (keys_of _ other (subst (λ b. IsUnder (p ++ not b ∷ []) other) e w))
+  pub above_zero : side ≡ false → KeysUnder p (around p v (table_of old) (table_of other))
+  above_zero e = keys_around p v (table_of old) (table_of other) (keys_of _ old (subst (λ b. IsUnder (p ++ b ∷ []) old) e u)) (keys_of _ other (subst (λ b. IsUnder (p ++ not b ∷ []) other) e w))
 
   -- it is a place with a value, or with both sides
-  place_one : side ≡ true → is_place (joined p v (table_of other) (table_of old)) p ≡ (is_some v || is_some other && is_some old)
+  place_one : side ≡ true → is_place (around p v (table_of other) (table_of old)) p ≡ (is_some v || is_some other && is_some old)
   place_one e =
       let left : IsUnder (p ++ false ∷ []) other = subst (λ b. IsUnder (p ++ not b ∷ []) other) e w in
       let right : IsUnder (p ++ true ∷ []) old = subst (λ b. IsUnder (p ++ b ∷ []) old) e u in
-      place_joined p v (table_of other) (table_of old) (keys_of _ other left) (keys_of _ old right) ∙ (λ i. is_some v || goes_link (p ++ false ∷ []) other left i && goes_link (p ++ true ∷ []) old right i)
+      place_around p v (table_of other) (table_of old) (keys_of _ other left) (keys_of _ old right) ∙ (λ i. is_some v || goes_link (p ++ false ∷ []) other left i && goes_link (p ++ true ∷ []) old right i)
 
-  place_zero : side ≡ false → is_place (joined p v (table_of old) (table_of other)) p ≡ (is_some v || is_some old && is_some other)
+  place_zero : side ≡ false → is_place (around p v (table_of old) (table_of other)) p ≡ (is_some v || is_some old && is_some other)
   place_zero e =
       let left : IsUnder (p ++ false ∷ []) old = subst (λ b. IsUnder (p ++ b ∷ []) old) e u in
       let right : IsUnder (p ++ true ∷ []) other = subst (λ b. IsUnder (p ++ not b ∷ []) other) e w in
-      place_joined p v (table_of old) (table_of other) (keys_of _ old left) (keys_of _ other right) ∙ (λ i. is_some v || goes_link (p ++ false ∷ []) old left i && goes_link (p ++ true ∷ []) other right i)
+      place_around p v (table_of old) (table_of other) (keys_of _ old left) (keys_of _ other right) ∙ (λ i. is_some v || goes_link (p ++ false ∷ []) old left i && goes_link (p ++ true ∷ []) other right i)
 
-  pub valued_one : side ≡ true → IsTrue (is_some v) → IsTrue (is_place (joined p v (table_of other) (table_of old)) p)
+  pub valued_one : side ≡ true → IsTrue (is_some v) → IsTrue (is_place (around p v (table_of other) (table_of old)) p)
   valued_one e h = place_one e ∙ ap (λ b. b || is_some other && is_some old) h
 
-  pub valued_zero : side ≡ false → IsTrue (is_some v) → IsTrue (is_place (joined p v (table_of old) (table_of other)) p)
+  pub valued_zero : side ≡ false → IsTrue (is_some v) → IsTrue (is_place (around p v (table_of old) (table_of other)) p)
   valued_zero e h = place_zero e ∙ ap (λ b. b || is_some old && is_some other) h
 
   always : (b : Bool) → (b || true) ≡ true
   always true = refl
   always false = refl
 
-  pub forked_one : side ≡ true → IsTrue (is_some old) → IsTrue (is_some other) → IsTrue (is_place (joined p v (table_of other) (table_of old)) p)
+  pub forked_one : side ≡ true → IsTrue (is_some old) → IsTrue (is_some other) → IsTrue (is_place (around p v (table_of other) (table_of old)) p)
   forked_one e h k = place_one e ∙ (λ i. is_some v || k i && h i) ∙ always (is_some v)
 
-  pub forked_zero : side ≡ false → IsTrue (is_some old) → IsTrue (is_some other) → IsTrue (is_place (joined p v (table_of old) (table_of other)) p)
+  pub forked_zero : side ≡ false → IsTrue (is_some old) → IsTrue (is_some other) → IsTrue (is_place (around p v (table_of old) (table_of other)) p)
   forked_zero e h k = place_zero e ∙ (λ i. is_some v || h i && k i) ∙ always (is_some v)
 
   pub sound_one : side ≡ true → (is_under (p ++ false ∷ []) other && is_under (p ++ true ∷ []) old) ≡ true

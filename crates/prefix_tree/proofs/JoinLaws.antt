@@ -7,11 +7,11 @@ use Rattle.std.specs.FinMap as map
 use Rattle.std.specs.declared.boxed.Box.{Box}
 use Rattle.identity.specs.Path.{Path, begins}
 use Rattle.prefix_tree.specs.declared.node.Node.TheInside.{Inside}
-use Rattle.prefix_tree.specs.Inside.Joined.{NodeSeen, joined, table_of, IsLoose, IsUnder, node_view}
+use Rattle.prefix_tree.specs.Inside.Around.{NodeSeen, around, table_of, IsLoose, IsUnder, node_view}
 use Rattle.prefix_tree.proofs.Begins.{begins_trans, begins_self, side_begins}
-use Rattle.prefix_tree.proofs.JoinedLaws.{joined_zero, joined_one}
+use Rattle.prefix_tree.proofs.AroundLaws.{around_zero, around_one}
 use Rattle.prefix_tree.proofs.NodeLaws.{at_is, table_is, fits, zero_keys, one_keys, none_behind}
-use Rattle.prefix_tree.proofs.Standing.{place_joined, goes_link}
+use Rattle.prefix_tree.proofs.Standing.{place_around, goes_link}
 use Rattle.prefix_tree.specs.Visits.{is_place}
 
 pub none_if : {X : Type 0} → (o : Option X) → is_none o ≡ true → o ≡ None
@@ -46,7 +46,7 @@ under_up p r (Some b) begun h = record { loose = record { extends = begins_trans
 pub place_parts : {V A : Type 0} → (n : Inside V A) (d : NodeSeen V) (seen : node_view n.at n.value n.zero n.one ≡ d) → IsTrue d.sound → is_place d.table d.at ≡ (is_some n.value || is_some n.zero && is_some n.one)
 place_parts n d seen sound =
     (λ i. is_place (sym (table_is n d seen) i) (sym (at_is n d seen) i))
-    ∙ place_joined n.at n.value _ _ (zero_keys n d seen sound) (one_keys n d seen sound)
+    ∙ place_around n.at n.value _ _ (zero_keys n d seen sound) (one_keys n d seen sound)
     ∙ (λ i. is_some n.value || goes_link (n.at ++ false ∷ []) n.zero (fits n d seen sound).0 i && goes_link (n.at ++ true ∷ []) n.one (fits n d seen sound).1 i)
 
 module _ {V A : Type 0} (n : Inside V A) (d : NodeSeen V) (seen : node_view n.at n.value n.zero n.one ≡ d) (sound : IsTrue d.sound) (lone : is_place d.table d.at ≡ false) where
@@ -58,14 +58,14 @@ module _ {V A : Type 0} (n : Inside V A) (d : NodeSeen V) (seen : node_view n.at
 
   pub only_zero : is_none n.one ≡ true → table_of n.zero ≡ d.table
   only_zero none =
-      sym (joined_zero n.at (table_of n.zero) (zero_keys n d seen sound))
-      ∙ (λ i. joined n.at (sym bare i) (table_of n.zero) (table_of (sym (none_if n.one none) i))) ∙ table_is n d seen
+      sym (around_zero n.at (table_of n.zero) (zero_keys n d seen sound))
+      ∙ (λ i. around n.at (sym bare i) (table_of n.zero) (table_of (sym (none_if n.one none) i))) ∙ table_is n d seen
 
   pub only_one : is_none n.one ≡ false → table_of n.one ≡ d.table
   only_one some =
       let zero : n.zero ≡ None = none_of n.zero (one_not _ _ (second_not _ _ not_full) (some_of n.one some)) in
-      sym (joined_one n.at (table_of n.one) (one_keys n d seen sound))
-      ∙ (λ i. joined n.at (sym bare i) (table_of (sym zero i)) (table_of n.one)) ∙ table_is n d seen
+      sym (around_one n.at (table_of n.one) (one_keys n d seen sound))
+      ∙ (λ i. around n.at (sym bare i) (table_of (sym zero i)) (table_of n.one)) ∙ table_is n d seen
 
   pub zero_up : (p : Path) → IsLoose p d → IsUnder p n.zero
   zero_up p loose = under_up p (n.at ++ false ∷ []) n.zero (ends p n.at false (ap (begins p) (at_is n d seen) ∙ loose.extends)) (fits n d seen sound).0

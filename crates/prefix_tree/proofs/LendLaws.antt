@@ -13,11 +13,11 @@ use Rattle.identity.specs.Path.{Path, path_cmp, begins}
 use Rattle.identity.specs.Inside.PathLaws.{paths_total, paths_exact, tie_exact}
 use Rattle.prefix_tree.specs.declared.node.Node.TheInside.{Inside}
 use Rattle.prefix_tree.specs.Visits.{visits_beyond}
-use Rattle.prefix_tree.specs.Inside.Joined.{NodeSeen, KeysUnder, table_of, leads_to, link_visits, IsFirm, IsUnder, node_view}
+use Rattle.prefix_tree.specs.Inside.Around.{NodeSeen, KeysUnder, table_of, leads_to, link_visits, IsFirm, IsUnder, node_view}
 use Rattle.prefix_tree.specs.Inside.Grafting.{IsOnWay, IsLike, IsGrafted}
 use Rattle.prefix_tree.proofs.Begins.{pick, pick_zero, pick_one, begins_self, begins_trans, begins_length, begins_whole, longer_side, side_begins}
-use Rattle.prefix_tree.proofs.JoinedLaws.{get_joined, keys_joined, under_off}
-use Rattle.prefix_tree.proofs.Standing.{place_joined, goes_link, sound_when}
+use Rattle.prefix_tree.proofs.AroundLaws.{get_around, keys_around, under_off}
+use Rattle.prefix_tree.proofs.Standing.{place_around, goes_link, sound_when}
 use Rattle.prefix_tree.proofs.NodeLaws.{at_is, table_is, fits, zero_keys, one_keys, keys_of, zero_under, one_under, read_zero, read_one}
 use Rattle.prefix_tree.proofs.JoinLaws.{place_parts}
 use Rattle.prefix_tree.proofs.StepLaws.{still_sound, visits_on, some_one}
@@ -89,11 +89,11 @@ module _ {V : Type 0} where
 
     -- what is below stays: so does the whole
     pub graft_same : (w.table ≡ low.table) × IsLike low w → (n.table ≡ s.table) × IsLike s n
-    graft_same h = (same_map paths_total paths_exact n.table s.table (λ z. (ends (like_is l low w is h.1)).table z ∙ kept z (begins l.at z) refl), graft_like h.1)
+    graft_same h = (same_map paths_total paths_exact n.table s.table (λ z. (ends (like_is l low w is h.1)).table z ∙ as_before z (begins l.at z) refl), graft_like h.1)
       where
-        kept : (z : Path) (t : Bool) → begins l.at z ≡ t → cond (begins l.at z) (map.get w.table z) (map.get s.table z) ≡ map.get s.table z
-        kept z true a = ap (λ t. cond t (map.get w.table z) (map.get s.table z)) a ∙ ap (λ m. map.get m z) h.0 ∙ ap (λ (x : NodeSeen V). map.get x.table z) is ∙ sym (on.same z a)
-        kept z false a = ap (λ t. cond t (map.get w.table z) (map.get s.table z)) a
+        as_before : (z : Path) (t : Bool) → begins l.at z ≡ t → cond (begins l.at z) (map.get w.table z) (map.get s.table z) ≡ map.get s.table z
+        as_before z true a = ap (λ t. cond t (map.get w.table z) (map.get s.table z)) a ∙ ap (λ m. map.get m z) h.0 ∙ ap (λ (x : NodeSeen V). map.get x.table z) is ∙ sym (on.same z a)
+        as_before z false a = ap (λ t. cond t (map.get w.table z) (map.get s.table z)) a
 
     -- one value set below is set in the whole
     pub graft_insert : (p : Path) (x : V) → low.at ≡ p → IsLike low w → w.table ≡ map.insert low.table p x → n.table ≡ map.insert s.table p x
@@ -122,8 +122,8 @@ module _ {V A : Type 0} (n : Inside V A) (d : NodeSeen V) (seen : node_view n.at
   pub own_like : (x : V) → IsLike d (node_view n.at (Some x) n.zero n.one)
   own_like x = record {
     at = at_is n d seen;
-    place = λ h. place_joined n.at (Some x) _ _ (zero_keys n d seen sound) (one_keys n d seen sound);
-    keys = λ h. keys_joined n.at (Some x) _ _ (zero_keys n d seen sound) (one_keys n d seen sound);
+    place = λ h. place_around n.at (Some x) _ _ (zero_keys n d seen sound) (one_keys n d seen sound);
+    keys = λ h. keys_around n.at (Some x) _ _ (zero_keys n d seen sound) (one_keys n d seen sound);
     sound = λ h. still_sound n d seen sound;
   }
 
@@ -140,18 +140,18 @@ module _ {V A : Type 0} (n : Inside V A) (d : NodeSeen V) (seen : node_view n.at
           like = record {
             at = at_is n d seen;
             place = λ h.
-                place_joined n.at n.value _ _ (zero_keys n d seen sound) keys
+                place_around n.at n.value _ _ (zero_keys n d seen sound) keys
                 ∙ (λ i. is_some n.value || goes_link (n.at ++ false ∷ []) n.zero zero_fit i && goes_link {V = V} {A = A} (n.at ++ true ∷ []) (Some w) new i)
                 ∙ ap (λ o. is_some n.value || is_some n.zero && is_some o) (sym is) ∙ sym (place_parts n d seen sound) ∙ h;
-            keys = λ h. keys_joined n.at n.value _ _ (zero_keys n d seen sound) keys;
+            keys = λ h. keys_around n.at n.value _ _ (zero_keys n d seen sound) keys;
             sound = λ h. sound_when n.at n.zero (Some w) zero_fit new;
           };
           table = λ q.
-              get_joined n.at n.value _ _ (zero_keys n d seen sound) keys q ∙ split q (begins l.value.at q) refl old new;
+              get_around n.at n.value _ _ (zero_keys n d seen sound) keys q ∙ split q (begins l.value.at q) refl old new;
         }
       where
         here : (q : Path) → map.get d.table q ≡ pick n.at q n.value (map.get (table_of n.zero) q) (map.get l.value.table q)
-        here q = ap (λ m. map.get m q) (sym (table_is n d seen)) ∙ get_joined n.at n.value _ _ (zero_keys n d seen sound) (one_keys n d seen sound) q ∙ ap (λ o. pick n.at q n.value (map.get (table_of n.zero) q) (map.get (table_of o) q)) is
+        here q = ap (λ m. map.get m q) (sym (table_is n d seen)) ∙ get_around n.at n.value _ _ (zero_keys n d seen sound) (one_keys n d seen sound) q ∙ ap (λ o. pick n.at q n.value (map.get (table_of n.zero) q) (map.get (table_of o) q)) is
 
         split : (q : Path) (t : Bool) → begins l.value.at q ≡ t → IsFirm (n.at ++ true ∷ []) l.value → IsFirm (n.at ++ true ∷ []) w.value → pick n.at q n.value (map.get (table_of n.zero) q) (map.get w.value.table q) ≡ cond (begins l.value.at q) (map.get w.value.table q) (map.get d.table q)
         split q true on old new = pick_one n.at q n.value _ _ (begins_trans (n.at ++ true ∷ []) l.value.at q old.loose.extends on) ∙ sym (ap (λ t. cond t (map.get w.value.table q) (map.get d.table q)) on)
@@ -168,18 +168,18 @@ module _ {V A : Type 0} (n : Inside V A) (d : NodeSeen V) (seen : node_view n.at
           like = record {
             at = at_is n d seen;
             place = λ h.
-                place_joined n.at n.value _ _ keys (one_keys n d seen sound)
+                place_around n.at n.value _ _ keys (one_keys n d seen sound)
                 ∙ (λ i. is_some n.value || goes_link {V = V} {A = A} (n.at ++ false ∷ []) (Some w) new i && goes_link (n.at ++ true ∷ []) n.one one_fit i)
                 ∙ ap (λ o. is_some n.value || is_some o && is_some n.one) (sym is) ∙ sym (place_parts n d seen sound) ∙ h;
-            keys = λ h. keys_joined n.at n.value _ _ keys (one_keys n d seen sound);
+            keys = λ h. keys_around n.at n.value _ _ keys (one_keys n d seen sound);
             sound = λ h. sound_when n.at (Some w) n.one new one_fit;
           };
           table = λ q.
-              get_joined n.at n.value _ _ keys (one_keys n d seen sound) q ∙ split q (begins l.value.at q) refl old new;
+              get_around n.at n.value _ _ keys (one_keys n d seen sound) q ∙ split q (begins l.value.at q) refl old new;
         }
       where
         here : (q : Path) → map.get d.table q ≡ pick n.at q n.value (map.get l.value.table q) (map.get (table_of n.one) q)
-        here q = ap (λ m. map.get m q) (sym (table_is n d seen)) ∙ get_joined n.at n.value _ _ (zero_keys n d seen sound) (one_keys n d seen sound) q ∙ ap (λ o. pick n.at q n.value (map.get (table_of o) q) (map.get (table_of n.one) q)) is
+        here q = ap (λ m. map.get m q) (sym (table_is n d seen)) ∙ get_around n.at n.value _ _ (zero_keys n d seen sound) (one_keys n d seen sound) q ∙ ap (λ o. pick n.at q n.value (map.get (table_of o) q) (map.get (table_of n.one) q)) is
 
         split : (q : Path) (t : Bool) → begins l.value.at q ≡ t → IsFirm (n.at ++ false ∷ []) l.value → IsFirm (n.at ++ false ∷ []) w.value → pick n.at q n.value (map.get w.value.table q) (map.get (table_of n.one) q) ≡ cond (begins l.value.at q) (map.get w.value.table q) (map.get d.table q)
         split q true on old new = pick_zero n.at q n.value _ _ (begins_trans (n.at ++ false ∷ []) l.value.at q old.loose.extends on) ∙ sym (ap (λ t. cond t (map.get w.value.table q) (map.get d.table q)) on)

@@ -4,7 +4,7 @@ pub mod CountLaws
 pub mod Following
 pub mod GrowLaws
 pub mod JoinLaws
-pub mod JoinedLaws
+pub mod AroundLaws
 pub mod LazyLaws
 pub mod LendFacts
 pub mod LendLaws

@@ -7,9 +7,9 @@ use Rattle.std.specs.FinMap as map
 use Rattle.std.specs.declared.boxed.Box.{Box}
 use Rattle.identity.specs.Path.{Path, begins}
 use Rattle.prefix_tree.specs.Table.{PathMap, longest, longest_below}
-use Rattle.prefix_tree.specs.Inside.Joined.{NodeSeen, table_of, IsFirm, IsUnder}
+use Rattle.prefix_tree.specs.Inside.Around.{NodeSeen, table_of, IsFirm, IsUnder}
 use Rattle.prefix_tree.proofs.Begins.{begins_self, begins_trans, begins_length, side_begins, longer_side}
-use Rattle.prefix_tree.proofs.JoinedLaws.{under_off}
+use Rattle.prefix_tree.proofs.AroundLaws.{under_off}
 use Rattle.prefix_tree.proofs.Standing.{never_so}
 use Rattle.prefix_tree.proofs.NodeLaws.{firm_node, none_behind, table_behind}
 
@@ -75,8 +75,8 @@ module _ {V : Type 0} (m : PathMap V) (q : Path) (d : NodeSeen V) (on : IsTrue (
       ∙ ap (λ o. option_or (option_map (λ v. (take (length d.at) q, v)) o) (longest_below m q (length d.at))) (here ∙ there)
       ∙ ap (λ (z : Path). Some (z, x)) (take_begun d.at q on ∙ sym is))
 
-  pub best_kept : (o : Option (Path × V)) → map.get d.table d.at ≡ None → o ≡ longest_below m q (length d.at) → o ≡ longest_below m q (length d.at + 1)
-  best_kept o none best =
+  pub best_stays : (o : Option (Path × V)) → map.get d.table d.at ≡ None → o ≡ longest_below m q (length d.at) → o ≡ longest_below m q (length d.at + 1)
+  best_stays o none best =
       best ∙ sym (one_more m q (length d.at) ∙ ap (λ o. option_or (option_map (λ v. (take (length d.at) q, v)) o) (longest_below m q (length d.at))) (here ∙ none))
 
   upto : (n : ℕ) → length d.at + 1 ≤ n → ((j : ℕ) → length d.at + 1 ≤ j → j < n → map.get m (take j q) ≡ None) → longest_below m q (length d.at + 1) ≡ longest_below m q n

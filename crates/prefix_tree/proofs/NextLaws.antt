@@ -12,13 +12,13 @@ use Rattle.identity.specs.Path.{Path, path_cmp, begins}
 use Rattle.prefix_tree.specs.Table.{PathMap}
 use Rattle.prefix_tree.specs.Inside.Paths.{common}
 use Rattle.prefix_tree.specs.Visits.{goes_on, any_under}
-use Rattle.prefix_tree.specs.Inside.Joined.{NodeSeen, own_entry, joined, KeysUnder, table_of, IsUnder, node_view}
+use Rattle.prefix_tree.specs.Inside.Around.{NodeSeen, own_entry, around, KeysUnder, table_of, IsUnder, node_view}
 use Rattle.prefix_tree.specs.Next.{first_entry, entry_past}
 use Rattle.prefix_tree.proofs.Begins.{begins_length, side_begins}
 use Rattle.prefix_tree.proofs.Standing.{never_so, place_goes}
 use Rattle.prefix_tree.proofs.VisitLaws.{one_side}
 use Rattle.prefix_tree.proofs.NodeLaws.{at_is, table_is, firm_node, zero_keys, one_keys}
-use Rattle.prefix_tree.proofs.OrderLaws.{AllUnder, entries_under, entries_joined}
+use Rattle.prefix_tree.proofs.OrderLaws.{AllUnder, entries_under, entries_around}
 
 -- what is under a path that does not begin q stands to q as the path itself does
 pub cmp_under : (a q x : Path) → begins a q ≡ false → begins a x ≡ true → path_cmp q x ≡ path_cmp q a
@@ -133,14 +133,14 @@ module _ {V : Type 0} where
   own_past p q (Some x) on = ap (λ b. cond b (Some (p, x)) None) (not_past p q on)
 
   module _ (p : Path) (v : Option V) (l r : PathMap V) (left : KeysUnder (p ++ false ∷ []) l) (right : KeysUnder (p ++ true ∷ []) r) where
-    pub first_joined : first_entry (map.entries (joined p v l r)) ≡ option_or (first_entry (own_entry p v)) (option_or (first_entry (map.entries l)) (first_entry (map.entries r)))
-    first_joined =
-        ap first_entry (entries_joined p v l r left right) ∙ first_append (own_entry p v) (map.entries l ++ map.entries r)
+    pub first_around : first_entry (map.entries (around p v l r)) ≡ option_or (first_entry (own_entry p v)) (option_or (first_entry (map.entries l)) (first_entry (map.entries r)))
+    first_around =
+        ap first_entry (entries_around p v l r left right) ∙ first_append (own_entry p v) (map.entries l ++ map.entries r)
         ∙ ap (option_or (first_entry (own_entry p v))) (first_append (map.entries l) (map.entries r))
 
-    pub past_joined : (q : Path) → begins p q ≡ true → entry_past q (map.entries (joined p v l r)) ≡ option_or (entry_past q (map.entries l)) (entry_past q (map.entries r))
-    past_joined q on =
-        ap (entry_past q) (entries_joined p v l r left right) ∙ past_append q (own_entry p v) (map.entries l ++ map.entries r)
+    pub past_around : (q : Path) → begins p q ≡ true → entry_past q (map.entries (around p v l r)) ≡ option_or (entry_past q (map.entries l)) (entry_past q (map.entries r))
+    past_around q on =
+        ap (entry_past q) (entries_around p v l r left right) ∙ past_append q (own_entry p v) (map.entries l ++ map.entries r)
         ∙ ap (λ o. option_or o (entry_past q (map.entries l ++ map.entries r))) (own_past p q v on) ∙ past_append q (map.entries l) (map.entries r)
 
 nil_of : {X : Type 0} (es : List X) → length es ≡ 0 → es ≡ []
@@ -159,7 +159,7 @@ module _ {V A : Type 0} where
 
   module _ (n : Inside V A) (d : NodeSeen V) (seen : node_view n.at n.value n.zero n.one ≡ d) (sound : IsTrue d.sound) where
     first_node : first_entry (map.entries d.table) ≡ option_or (first_entry (own_entry n.at n.value)) (option_or (first_entry (map.entries (table_of n.zero))) (first_entry (map.entries (table_of n.one))))
-    first_node = ap (λ m. first_entry (map.entries m)) (sym (table_is n d seen)) ∙ first_joined n.at n.value _ _ (zero_keys n d seen sound) (one_keys n d seen sound)
+    first_node = ap (λ m. first_entry (map.entries m)) (sym (table_is n d seen)) ∙ first_around n.at n.value _ _ (zero_keys n d seen sound) (one_keys n d seen sound)
 
     pub first_own : (x : V) → n.value ≡ Some x → Some (n.at, x) ≡ first_entry (map.entries d.table)
     first_own x is = sym (first_node ∙ ap (λ v. option_or (first_entry (own_entry n.at v)) (option_or (first_entry (map.entries (table_of n.zero))) (first_entry (map.entries (table_of n.one))))) is)
@@ -174,7 +174,7 @@ module _ {V A : Type 0} where
     first_one o is none found = found ∙ sym (first_bare is ∙ ap (λ o. option_or o (first_entry (map.entries (table_of n.one)))) (sym none))
 
     past_node : (q : Path) → begins d.at q ≡ true → entry_past q (map.entries d.table) ≡ option_or (entry_past q (map.entries (table_of n.zero))) (entry_past q (map.entries (table_of n.one)))
-    past_node q on = ap (λ m. entry_past q (map.entries m)) (sym (table_is n d seen)) ∙ past_joined n.at n.value _ _ (zero_keys n d seen sound) (one_keys n d seen sound) q (ap (λ p. begins p q) (at_is n d seen) ∙ on)
+    past_node q on = ap (λ m. entry_past q (map.entries m)) (sym (table_is n d seen)) ∙ past_around n.at n.value _ _ (zero_keys n d seen sound) (one_keys n d seen sound) q (ap (λ p. begins p q) (at_is n d seen) ∙ on)
 
     pub past_zero : (q : Path) → begins d.at q ≡ true → (e : Path × V) → Some e ≡ entry_past q (map.entries (table_of n.zero)) → Some e ≡ entry_past q (map.entries d.table)
     past_zero q on e found = sym (past_node q on ∙ ap (λ o. option_or o (entry_past q (map.entries (table_of n.one)))) (sym found))

@@ -13,10 +13,10 @@ use Rattle.identity.specs.Inside.PathLaws.{paths_total, paths_exact, tie_exact}
 use Rattle.prefix_tree.specs.Table.{PathMap}
 use Rattle.prefix_tree.specs.declared.node.Node.TheInside.{Inside}
 use Rattle.prefix_tree.specs.Visits.{is_place}
-use Rattle.prefix_tree.specs.Inside.Joined.{NodeSeen, joined, KeysUnder, table_of, IsLoose, IsFirm, IsUnder, node_view, leads_to}
+use Rattle.prefix_tree.specs.Inside.Around.{NodeSeen, around, KeysUnder, table_of, IsLoose, IsFirm, IsUnder, node_view, leads_to}
 use Rattle.prefix_tree.proofs.Standing.{fits_when, place_inserted}
 use Rattle.prefix_tree.proofs.Begins.{longer_side, begins_whole, begins_length}
-use Rattle.prefix_tree.proofs.JoinedLaws.{under_wider, under_empty, under_off, get_here, get_zero, get_one, keys_joined, keys_insert, keys_remove, insert_here, insert_zero, insert_one, remove_here, remove_zero, remove_one, joined_empty}
+use Rattle.prefix_tree.proofs.AroundLaws.{under_wider, under_empty, under_off, get_here, get_zero, get_one, keys_around, keys_insert, keys_remove, insert_here, insert_zero, insert_one, remove_here, remove_zero, remove_one, around_empty}
 
 module _ {V A : Type 0} where
   pub keys_of : (p : Path) (o : Option (Box (NodeSeen V) A)) → IsUnder p o → KeysUnder p (table_of o)
@@ -37,7 +37,7 @@ module _ {V A : Type 0} (n : Inside V A) (d : NodeSeen V) (seen : node_view n.at
   pub at_is : n.at ≡ d.at
   at_is = ap (λ (x : NodeSeen V). x.at) seen
 
-  pub table_is : joined n.at n.value (table_of n.zero) (table_of n.one) ≡ d.table
+  pub table_is : around n.at n.value (table_of n.zero) (table_of n.one) ≡ d.table
   table_is = ap (λ (x : NodeSeen V). x.table) seen
 
   pub at_box : (x : NodeSeen V) → d ≡ x → n.at ≡ x.at
@@ -47,7 +47,7 @@ module _ {V A : Type 0} (n : Inside V A) (d : NodeSeen V) (seen : node_view n.at
   the_at : n.at ≡ d.at
   the_at = at_is n d seen
 
-  the_table : joined n.at n.value (table_of n.zero) (table_of n.one) ≡ d.table
+  the_table : around n.at n.value (table_of n.zero) (table_of n.one) ≡ d.table
   the_table = table_is n d seen
 
   pub fits : IsUnder (n.at ++ false ∷ []) n.zero × IsUnder (n.at ++ true ∷ []) n.one
@@ -78,29 +78,29 @@ module _ {V A : Type 0} (n : Inside V A) (d : NodeSeen V) (seen : node_view n.at
   one_under = subst (λ p. IsUnder (p ++ true ∷ []) n.one) the_at fits.1
 
   pub keys_is : KeysUnder d.at d.table
-  keys_is = subst (λ p. KeysUnder p d.table) the_at (subst (λ m. KeysUnder n.at m) the_table (keys_joined n.at n.value _ _ zero_keys one_keys))
+  keys_is = subst (λ p. KeysUnder p d.table) the_at (subst (λ m. KeysUnder n.at m) the_table (keys_around n.at n.value _ _ zero_keys one_keys))
 
   -- what an edit at the node, or on a side, makes of its map
-  pub write_here : (q : Path) (x : V) → q ≡ d.at → joined n.at (Some x) (table_of n.zero) (table_of n.one) ≡ map.insert d.table q x
+  pub write_here : (q : Path) (x : V) → q ≡ d.at → around n.at (Some x) (table_of n.zero) (table_of n.one) ≡ map.insert d.table q x
   write_here q x e = insert_here n.at n.value _ _ zero_keys one_keys x ∙ (λ i. map.insert (the_table i) ((the_at ∙ sym e) i) x)
 
-  pub take_here : (q : Path) → q ≡ d.at → joined n.at None (table_of n.zero) (table_of n.one) ≡ map.remove d.table q
+  pub take_here : (q : Path) → q ≡ d.at → around n.at None (table_of n.zero) (table_of n.one) ≡ map.remove d.table q
   take_here q e = remove_here n.at n.value _ _ zero_keys one_keys ∙ (λ i. map.remove (the_table i) ((the_at ∙ sym e) i))
 
-  pub into_zero : (m : PathMap V) (q : Path) (x : V) → IsTrue (begins (d.at ++ false ∷ []) q) → m ≡ map.insert (table_of n.zero) q x → joined n.at n.value m (table_of n.one) ≡ map.insert d.table q x
-  into_zero m q x e new = ap (λ z. joined n.at n.value z (table_of n.one)) new ∙ insert_zero n.at n.value _ _ zero_keys one_keys q x (ap (λ p. begins (p ++ false ∷ []) q) the_at ∙ e) ∙ ap (λ z. map.insert z q x) the_table
+  pub into_zero : (m : PathMap V) (q : Path) (x : V) → IsTrue (begins (d.at ++ false ∷ []) q) → m ≡ map.insert (table_of n.zero) q x → around n.at n.value m (table_of n.one) ≡ map.insert d.table q x
+  into_zero m q x e new = ap (λ z. around n.at n.value z (table_of n.one)) new ∙ insert_zero n.at n.value _ _ zero_keys one_keys q x (ap (λ p. begins (p ++ false ∷ []) q) the_at ∙ e) ∙ ap (λ z. map.insert z q x) the_table
 
-  pub into_one : (m : PathMap V) (q : Path) (x : V) → IsTrue (begins (d.at ++ true ∷ []) q) → m ≡ map.insert (table_of n.one) q x → joined n.at n.value (table_of n.zero) m ≡ map.insert d.table q x
-  into_one m q x e new = ap (λ z. joined n.at n.value (table_of n.zero) z) new ∙ insert_one n.at n.value _ _ zero_keys one_keys q x (ap (λ p. begins (p ++ true ∷ []) q) the_at ∙ e) ∙ ap (λ z. map.insert z q x) the_table
+  pub into_one : (m : PathMap V) (q : Path) (x : V) → IsTrue (begins (d.at ++ true ∷ []) q) → m ≡ map.insert (table_of n.one) q x → around n.at n.value (table_of n.zero) m ≡ map.insert d.table q x
+  into_one m q x e new = ap (λ z. around n.at n.value (table_of n.zero) z) new ∙ insert_one n.at n.value _ _ zero_keys one_keys q x (ap (λ p. begins (p ++ true ∷ []) q) the_at ∙ e) ∙ ap (λ z. map.insert z q x) the_table
 
-  pub out_of_zero : (m : PathMap V) (q : Path) → IsTrue (begins (d.at ++ false ∷ []) q) → m ≡ map.remove (table_of n.zero) q → joined n.at n.value m (table_of n.one) ≡ map.remove d.table q
-  out_of_zero m q e new = ap (λ z. joined n.at n.value z (table_of n.one)) new ∙ remove_zero n.at n.value _ _ zero_keys one_keys q (ap (λ p. begins (p ++ false ∷ []) q) the_at ∙ e) ∙ ap (λ z. map.remove z q) the_table
+  pub out_of_zero : (m : PathMap V) (q : Path) → IsTrue (begins (d.at ++ false ∷ []) q) → m ≡ map.remove (table_of n.zero) q → around n.at n.value m (table_of n.one) ≡ map.remove d.table q
+  out_of_zero m q e new = ap (λ z. around n.at n.value z (table_of n.one)) new ∙ remove_zero n.at n.value _ _ zero_keys one_keys q (ap (λ p. begins (p ++ false ∷ []) q) the_at ∙ e) ∙ ap (λ z. map.remove z q) the_table
 
-  pub out_of_one : (m : PathMap V) (q : Path) → IsTrue (begins (d.at ++ true ∷ []) q) → m ≡ map.remove (table_of n.one) q → joined n.at n.value (table_of n.zero) m ≡ map.remove d.table q
-  out_of_one m q e new = ap (λ z. joined n.at n.value (table_of n.zero) z) new ∙ remove_one n.at n.value _ _ zero_keys one_keys q (ap (λ p. begins (p ++ true ∷ []) q) the_at ∙ e) ∙ ap (λ z. map.remove z q) the_table
+  pub out_of_one : (m : PathMap V) (q : Path) → IsTrue (begins (d.at ++ true ∷ []) q) → m ≡ map.remove (table_of n.one) q → around n.at n.value (table_of n.zero) m ≡ map.remove d.table q
+  out_of_one m q e new = ap (λ z. around n.at n.value (table_of n.zero) z) new ∙ remove_one n.at n.value _ _ zero_keys one_keys q (ap (λ p. begins (p ++ true ∷ []) q) the_at ∙ e) ∙ ap (λ z. map.remove z q) the_table
 
-pub one_here : {V : Type 0} (p : Path) (x : V) → joined p (Some x) map.empty map.empty ≡ map.insert map.empty p x
-one_here {V} p x = insert_here p None map.empty map.empty (under_empty V _) (under_empty V _) x ∙ ap (λ m. map.insert m p x) (joined_empty V p)
+pub one_here : {V : Type 0} (p : Path) (x : V) → around p (Some x) map.empty map.empty ≡ map.insert map.empty p x
+one_here {V} p x = insert_here p None map.empty map.empty (under_empty V _) (under_empty V _) x ∙ ap (λ m. map.insert m p x) (around_empty V p)
 
 pub on_ok : {T E P Q : Type 0} (r : Result T E) → (P → Q) → OnOk r P → OnOk r Q
 on_ok (Ok x) f h = f h

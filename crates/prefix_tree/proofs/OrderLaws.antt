@@ -11,7 +11,7 @@ use Rattle.std.specs.FinMap.Entries.{below_all}
 use Rattle.identity.specs.Path.{Path, path_cmp, begins}
 use Rattle.identity.specs.Inside.PathLaws.{paths_total, paths_exact, tied}
 use Rattle.prefix_tree.specs.Table.{PathMap}
-use Rattle.prefix_tree.specs.Inside.Joined.{own_entry, joined_entries, joined, KeysUnder}
+use Rattle.prefix_tree.specs.Inside.Around.{own_entry, around_entries, around, KeysUnder}
 
 -- a path before what goes on from it, and what goes on with 0 before what goes on with 1
 pub own_before : (p x : Path) (b : Bool) → begins (p ++ b ∷ []) x ≡ true → path_cmp p x ≡ Less
@@ -101,24 +101,24 @@ module _ {V : Type 0} where
   sorted_sides p [] fs a b h k = k
   sorted_sides p (e ∷ es) fs a b h k = both _ _ (below_append e.0 es fs (first _ _ h) (zero_below p e.0 fs a.0 b)) (sorted_sides p es fs a.1 b (second _ _ h) k)
 
-  sorted_joined : (p : Path) (v : Option V) (es fs : List (Path × V)) → AllUnder (p ++ false ∷ []) es → AllUnder (p ++ true ∷ []) fs → T (is_sorted path_cmp es) → T (is_sorted path_cmp fs) → T (is_sorted path_cmp (own_entry p v ++ (es ++ fs)))
-  sorted_joined p None es fs a b h k = sorted_sides p es fs a b h k
-  sorted_joined p (Some v) es fs a b h k = both _ _ (below_append p es fs (own_below p false es a) (own_below p true fs b)) (sorted_sides p es fs a b h k)
+  sorted_around : (p : Path) (v : Option V) (es fs : List (Path × V)) → AllUnder (p ++ false ∷ []) es → AllUnder (p ++ true ∷ []) fs → T (is_sorted path_cmp es) → T (is_sorted path_cmp fs) → T (is_sorted path_cmp (own_entry p v ++ (es ++ fs)))
+  sorted_around p None es fs a b h k = sorted_sides p es fs a b h k
+  sorted_around p (Some v) es fs a b h k = both _ _ (below_append p es fs (own_below p false es a) (own_below p true fs b)) (sorted_sides p es fs a b h k)
 
   module _ (p : Path) (v : Option V) (l r : PathMap V) (left : KeysUnder (p ++ false ∷ []) l) (right : KeysUnder (p ++ true ∷ []) r) where
-    joined_sorted : T (is_sorted path_cmp (joined_entries p v l r))
-    joined_sorted = sorted_joined p v (map.entries l) (map.entries r) (entries_under _ l left) (entries_under _ r right) (entries_sorted l) (entries_sorted r)
+    around_sorted : T (is_sorted path_cmp (around_entries p v l r))
+    around_sorted = sorted_around p v (map.entries l) (map.entries r) (entries_under _ l left) (entries_under _ r right) (entries_sorted l) (entries_sorted r)
 
-    pub entries_joined : map.entries (joined p v l r) ≡ joined_entries p v l r
-    unfolding joined
-    entries_joined =
-        ap map.entries (same_map paths_total paths_exact (map.from_entries (joined_entries p v l r)) (map.from_sorted (joined_entries p v l r)) (λ q.
-        get-from_entries paths_total (joined_entries p v l r) q ∙ sym (get-from_sorted path_cmp (joined_entries p v l r) q joined_sorted)))
-        ∙ entries-from_sorted path_cmp (joined_entries p v l r) joined_sorted
+    pub entries_around : map.entries (around p v l r) ≡ around_entries p v l r
+    unfolding around
+    entries_around =
+        ap map.entries (same_map paths_total paths_exact (map.from_entries (around_entries p v l r)) (map.from_sorted (around_entries p v l r)) (λ q.
+        get-from_entries paths_total (around_entries p v l r) q ∙ sym (get-from_sorted path_cmp (around_entries p v l r) q around_sorted)))
+        ∙ entries-from_sorted path_cmp (around_entries p v l r) around_sorted
 
-    pub len_joined : map.len (joined p v l r) ≡ cond (is_some v) 1 0 + (map.len l + map.len r)
-    len_joined =
-        len-entries (joined p v l r) ∙ ap length entries_joined ∙ length-append (own_entry p v) (map.entries l ++ map.entries r)
+    pub len_around : map.len (around p v l r) ≡ cond (is_some v) 1 0 + (map.len l + map.len r)
+    len_around =
+        len-entries (around p v l r) ∙ ap length entries_around ∙ length-append (own_entry p v) (map.entries l ++ map.entries r)
         ∙ ap (λ n. length (own_entry p v) + n) (length-append (map.entries l) (map.entries r))
         ∙ (λ i. own_length v i + (sym (len-entries l) i + sym (len-entries r) i))
       where

@@ -11,9 +11,9 @@ use Rattle.identity.specs.Path.{Path, path_cmp, begins}
 use Rattle.identity.specs.Inside.PathLaws.{paths_total, tie_exact, tied}
 use Rattle.prefix_tree.specs.Table.{PathMap}
 use Rattle.prefix_tree.specs.Visits.{any_under, goes_on, is_place}
-use Rattle.prefix_tree.specs.Inside.Joined.{NodeSeen, joined, KeysUnder, all_under, is_under, table_of, IsUnder, node_view}
+use Rattle.prefix_tree.specs.Inside.Around.{NodeSeen, around, KeysUnder, all_under, is_under, table_of, IsUnder, node_view}
 use Rattle.prefix_tree.proofs.Begins.{begins_self, begins_trans, begins_push, side_begins}
-use Rattle.prefix_tree.proofs.JoinedLaws.{get_here, get_zero, get_one}
+use Rattle.prefix_tree.proofs.AroundLaws.{get_here, get_zero, get_one}
 use Rattle.prefix_tree.proofs.OrderLaws.{AllUnder, entries_under}
 
 pub and_true : (a b : Bool) → a ≡ true → b ≡ true → (a && b) ≡ true
@@ -121,12 +121,12 @@ module _ {V : Type 0} where
   pub place_single : (m : PathMap V) (k : Path) (x : V) → is_place (map.insert m k x) k ≡ true
   place_single m k x = place_of (map.insert m k x) k (ap is_some (get-insert paths_total m k x k) ∙ ap (λ b. is_some (cond b (Some x) (map.get m k))) (tied k))
 
-  pub place_joined : (p : Path) (v : Option V) (l r : PathMap V) → KeysUnder (p ++ false ∷ []) l → KeysUnder (p ++ true ∷ []) r → is_place (joined p v l r) p ≡ (is_some v || goes_on l (p ++ false ∷ []) && goes_on r (p ++ true ∷ []))
+  pub place_around : (p : Path) (v : Option V) (l r : PathMap V) → KeysUnder (p ++ false ∷ []) l → KeysUnder (p ++ true ∷ []) r → is_place (around p v l r) p ≡ (is_some v || goes_on l (p ++ false ∷ []) && goes_on r (p ++ true ∷ []))
   unfolding is_place
-  place_joined p v l r left right =
-      let here : is_some (map.get (joined p v l r) p) ≡ is_some v = ap is_some (get_here p v l r left right) in
-      let zero : goes_on (joined p v l r) (p ++ false ∷ []) ≡ goes_on l (p ++ false ∷ []) = goes_same (joined p v l r) l (p ++ false ∷ []) (get_zero p v l r left right) in
-      let one : goes_on (joined p v l r) (p ++ true ∷ []) ≡ goes_on r (p ++ true ∷ []) = goes_same (joined p v l r) r (p ++ true ∷ []) (get_one p v l r left right) in
+  place_around p v l r left right =
+      let here : is_some (map.get (around p v l r) p) ≡ is_some v = ap is_some (get_here p v l r left right) in
+      let zero : goes_on (around p v l r) (p ++ false ∷ []) ≡ goes_on l (p ++ false ∷ []) = goes_same (around p v l r) l (p ++ false ∷ []) (get_zero p v l r left right) in
+      let one : goes_on (around p v l r) (p ++ true ∷ []) ≡ goes_on r (p ++ true ∷ []) = goes_same (around p v l r) r (p ++ true ∷ []) (get_one p v l r left right) in
       λ i. here i || zero i && one i
 
   -- the keys of a map as a test

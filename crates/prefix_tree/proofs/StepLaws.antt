@@ -8,9 +8,9 @@ use Rattle.identity.specs.Path.{Path, begins}
 use Rattle.prefix_tree.specs.Table.{PathMap}
 use Rattle.prefix_tree.specs.declared.node.Node.TheInside.{Inside}
 use Rattle.prefix_tree.specs.Visits.{visits_beyond}
-use Rattle.prefix_tree.specs.Inside.Joined.{NodeSeen, table_of, is_under, leads_to, link_visits, own_entry, IsUnder, node_view}
+use Rattle.prefix_tree.specs.Inside.Around.{NodeSeen, table_of, is_under, leads_to, link_visits, own_entry, IsUnder, node_view}
 use Rattle.prefix_tree.proofs.Begins.{begins_trans, side_begins}
-use Rattle.prefix_tree.proofs.OrderLaws.{entries_joined}
+use Rattle.prefix_tree.proofs.OrderLaws.{entries_around}
 use Rattle.prefix_tree.proofs.Standing.{sound_when}
 use Rattle.prefix_tree.proofs.VisitLaws.{visits_step}
 use Rattle.prefix_tree.proofs.NodeLaws.{at_is, table_is, fits, zero_keys, one_keys, zero_under, one_under, read_zero, read_one, firm_node, table_behind}
@@ -66,7 +66,7 @@ module _ {V A : Type 0} (n : Inside V A) (d : NodeSeen V) (seen : node_view n.at
   sound_with_one o h = sound_when n.at n.zero o (fits n d seen sound).0 h
 
   pub entries_node : map.entries d.table ≡ own_entry d.at n.value ++ (map.entries (table_of n.zero) ++ map.entries (table_of n.one))
-  entries_node = ap map.entries (sym (table_is n d seen)) ∙ entries_joined n.at n.value _ _ (zero_keys n d seen sound) (one_keys n d seen sound) ∙ ap (λ p. own_entry p n.value ++ (map.entries (table_of n.zero) ++ map.entries (table_of n.one))) (at_is n d seen)
+  entries_node = ap map.entries (sym (table_is n d seen)) ∙ entries_around n.at n.value _ _ (zero_keys n d seen sound) (one_keys n d seen sound) ∙ ap (λ p. own_entry p n.value ++ (map.entries (table_of n.zero) ++ map.entries (table_of n.one))) (at_is n d seen)
 
 -- one step down towards a path that goes on with the bit
 module _ {V A : Type 0} (d : NodeSeen V) (b : Bool) (o : Option (Box (NodeSeen V) A)) (q : Path) (side : IsTrue (begins (d.at ++ b ∷ []) q)) (under : IsUnder (d.at ++ b ∷ []) o) (table : (z : Path) → IsTrue (begins (d.at ++ b ∷ []) z) → map.get d.table z ≡ map.get (table_of o) z) where

@@ -12,10 +12,10 @@ use Rattle.std.specs.declared.boxed.Box.{Box}
 use Rattle.identity.specs.Path.{Path, path_cmp, begins}
 use Rattle.prefix_tree.specs.Table.{PathMap}
 use Rattle.prefix_tree.specs.Visits.{goes_on, is_place, visits, visits_beyond, nodes_on_way}
-use Rattle.prefix_tree.specs.Inside.Joined.{NodeSeen, KeysUnder, table_of, IsUnder, link_visits}
+use Rattle.prefix_tree.specs.Inside.Around.{NodeSeen, KeysUnder, table_of, IsUnder, link_visits}
 use Rattle.prefix_tree.proofs.Begins.{begins_self, begins_push, side_begins, begins_length, begins_whole}
 use Rattle.prefix_tree.proofs.Numbers.{begins_front}
-use Rattle.prefix_tree.proofs.JoinedLaws.{under_off}
+use Rattle.prefix_tree.proofs.AroundLaws.{under_off}
 use Rattle.prefix_tree.proofs.Standing.{never_so, goes_same, goes_wider, goes_none, place_same, place_goes}
 
 -- of two beginnings of a path, the shorter one begins the longer one

@@ -9,7 +9,7 @@ use Rattle.std.specs.Borrow.{Bor}
 use Rattle.identity.specs.Path.{Path}
 use Rattle.prefix_tree.specs.Walk.{seen}
 use Rattle.prefix_tree.specs.declared.node.Node.TheInside.{Inside}
-use Rattle.prefix_tree.specs.Inside.Joined.{NodeSeen, own_entry, table_of, node_view}
+use Rattle.prefix_tree.specs.Inside.Around.{NodeSeen, own_entry, table_of, node_view}
 use Rattle.prefix_tree.proofs.NodeLaws.{at_is, read_here}
 use Rattle.prefix_tree.proofs.StepLaws.{entries_node}
 

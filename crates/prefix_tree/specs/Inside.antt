@@ -1,5 +1,5 @@
 pub mod PrefixList
-pub mod Joined
+pub mod Around
 pub mod Paths
 pub mod Counts
 pub mod Grafting

@@ -5,8 +5,14 @@ use Rattle.std.specs.FinMap as map
 use Rattle.std.specs.declared.alloc.Allocator.{Ghosts}
 use Rattle.identity.specs.Path.{Path}
 use Rattle.prefix_tree.specs.Table.{PathMap}
-use Rattle.prefix_tree.specs.contracts.tree.PrefixTree as tree
+use Rattle.prefix_tree.specs.contracts.tree.PrefixTree as rows
 
--- the tree ends with the last value behind r under the prefix, and else as it was
-abbrev pub LendsEntry : (V A : RattleType) (g : Ghosts A.Denot) → MutBor (PathMap V.Denot) → Path → Option (MutBor V.Denot) → Fml
-LendsEntry V A g s p r = LendsIf (tree.the_row V A g) V s r (map.insert s.now p) s.now
+-- the map with the value that was last written through the borrow, under the path
+abbrev pub with_last : {V : Type 0} → PathMap V → Path → V → PathMap V
+with_last m path last = map.insert m path last
+
+-- A tree of values V, kept by the allocator A.
+module _ (V A : RattleType) (g : Ghosts A.Denot) where
+  -- the tree lends the value under the path, if there is one: it ends with what was last written there, and else as it was
+  abbrev pub LendsEntry : MutBor (PathMap V.Denot) → Path → Option (MutBor V.Denot) → Fml
+  LendsEntry tree path value = LendsIf (rows.the_row V A g) V tree value (with_last tree.now path) tree.now

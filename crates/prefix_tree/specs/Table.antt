@@ -9,10 +9,14 @@ use Rattle.identity.specs.Path.{Path, path_cmp, begins}
 abbrev pub PathMap : Type 0 → Type 0
 PathMap V = map.FinMap path_cmp V
 
+-- the path, with the value that stands under it
+abbrev pub entry_at : {V : Type 0} → PathMap V → Path → Option (Path × V)
+entry_at m p = option_map (λ v. (p, v)) (map.get m p)
+
 -- what the map has at the longest of the path's beginnings of fewer than n bits that is in the map
 unfoldable pub longest_below : {V : Type 0} → PathMap V → Path → ℕ → Option (Path × V)
 longest_below m q zero = None
-longest_below m q (suc n) = option_or (option_map (λ v. (take n q, v)) (map.get m (take n q))) (longest_below m q n)
+longest_below m q (suc n) = option_or (entry_at m (take n q)) (longest_below m q n)
 
 -- the entry under the longest prefix in the map that begins the path
 unfoldable pub longest : {V : Type 0} → PathMap V → Path → Option (Path × V)

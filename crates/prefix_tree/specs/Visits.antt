@@ -14,14 +14,18 @@ any_under p (e ∷ es) = begins p e.0 || any_under p es
 unfoldable pub goes_on : {V : Type 0} → PathMap V → Path → Bool
 goes_on m p = any_under p (map.entries m)
 
+-- the path with one bit more
+abbrev pub longer : Path → Bool → Path
+longer p b = p ++ b ∷ []
+
 -- where a node stands beside the root: the path is a key, or keys go on from it with both bits
 unfoldable pub is_place : {V : Type 0} → PathMap V → Path → Bool
-is_place m p = is_some (map.get m p) || goes_on m (p ++ false ∷ []) && goes_on m (p ++ true ∷ [])
+is_place m p = is_some (map.get m p) || goes_on m (longer p false) && goes_on m (longer p true)
 
 -- the nodes that are visited beyond p on the way to p and then q: each one that is next after a node of the way
 unfoldable pub visits : {V : Type 0} → PathMap V → Path → Bool → Path → ℕ
 visits m p place [] = 0
-visits m p place (b ∷ q) = cond (place && goes_on m (p ++ b ∷ [])) 1 0 + visits m (p ++ b ∷ []) (is_place m (p ++ b ∷ [])) q
+visits m p place (b ∷ q) = cond (place && goes_on m (longer p b)) 1 0 + visits m (longer p b) (is_place m (longer p b)) q
 
 -- those beyond the node at p
 unfoldable pub visits_beyond : {V : Type 0} → PathMap V → Path → Path → ℕ

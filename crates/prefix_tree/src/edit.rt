@@ -6,7 +6,7 @@ ghost use Rattle.std.specs.FinMap as map;
 ghost use Rattle.std.specs.Option.{is_some};
 ghost use Rattle.identity.specs.Path.{begins};
 ghost use Rattle.prefix_tree.specs.Change.{with_value, Makes};
-ghost use Rattle.prefix_tree.specs.Inside.Joined.{table_of, nodes_of, leads_to, spread, KeysUnder, IsFirm, IsUnder, IsLoose, IsLooseUnder, PartsAt, is_lone, link_visits};
+ghost use Rattle.prefix_tree.specs.Inside.Around.{table_of, nodes_of, leads_to, spread, KeysUnder, IsFirm, IsUnder, IsLoose, IsLooseUnder, PartsAt, is_lone, link_visits};
 ghost use Rattle.prefix_tree.specs.Visits.{is_place, visits_beyond};
 
 use crate::node::{Link, Node};

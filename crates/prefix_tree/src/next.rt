@@ -5,7 +5,7 @@ ghost use Rattle.std.specs.FinMap as map;
 ghost use Rattle.std.specs.Option.{option_map, option_or};
 ghost use Rattle.std.specs.Ordering.{is_lt};
 ghost use Rattle.identity.specs.Path.{begins, path_cmp};
-ghost use Rattle.prefix_tree.specs.Inside.Joined.{table_of, own_entry, IsUnder};
+ghost use Rattle.prefix_tree.specs.Inside.Around.{table_of, own_entry, IsUnder};
 ghost use Rattle.prefix_tree.specs.Next.{first_entry, entry_past};
 
 use crate::node::{Link, Node};

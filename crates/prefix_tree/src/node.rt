@@ -5,7 +5,7 @@ ghost use Rattle.std.specs.FinMap as map;
 ghost use Rattle.std.specs.Option.{option_copied, option_map, is_some};
 ghost use Rattle.prefix_tree.specs.Table.{longest};
 ghost use Rattle.identity.specs.Path.{begins};
-ghost use Rattle.prefix_tree.specs.Inside.Joined.{table_of, nodes_of, IsUnder};
+ghost use Rattle.prefix_tree.specs.Inside.Around.{table_of, nodes_of, IsUnder};
 ghost use Rattle.prefix_tree.specs.Visits.{is_place, visits_beyond};
 
 use crate::{Steps, path};
@@ -28,7 +28,7 @@ pub(crate) struct Node<V, A: Allocator> {
 }
 
 impl<V, A: Allocator> Model for Node<V, A> {
-    ghost use Rattle.prefix_tree.specs.Inside.Joined.{NodeSeen, coded_node, node_view};
+    ghost use Rattle.prefix_tree.specs.Inside.Around.{NodeSeen, coded_node, node_view};
 
     ghost Value = { NodeSeen V };
 

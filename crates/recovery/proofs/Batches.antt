@@ -26,7 +26,7 @@ use Rattle.recovery.specs.declared.outcome.Outcome.TheVariants.{NoMemory, Replie
 use Rattle.centre_core.specs.Same.{under}
 use Rattle.command_bytes.specs.Text.{command_text}
 use Rattle.gated_journal.specs.Record.{given}
-use Rattle.recovery.specs.Outcomes.{AreApplied, AreKept, IsAnswered, IsEnd, accepted_of, asked, replies}
+use Rattle.recovery.specs.Outcomes.{AreApplied, AreRecorded, IsAnswered, IsEnd, accepted_of, asked, replies}
 use Rattle.recovery.proofs.Limited.{step_limits}
 
 -- one more of the same behind a list
@@ -240,8 +240,8 @@ module _ {B : Type 0} where
     pub ends_none : accepted_of s (asked cs) ≡ [] → items ≡ []
     ends_none none = nothing_asked items (e.are.taken ∙ none_accepted s (asked cs) e.applied none)
 
-    pub ends_kept : (A : Type 0) → AreKept A s (asked cs) t (given A items)
-    ends_kept A = record {
+    pub ends_recorded : (A : Type 0) → AreRecorded A s (asked cs) t (given A items)
+    ends_recorded A = record {
       applied = e.applied;
       state = e.are.state;
       these = sym (map-map (under A) (λ (x : Bor (Asked B)). x.now) items) ∙ ap (map (under A)) e.are.taken;
@@ -258,14 +258,14 @@ module _ {B : Type 0} where
           front_size (asked cs) e.applied,
         )
 
--- nothing is kept, where nothing was applied
-pub none_kept : {B : Type 0} (A : Type 0) (s t : State) (cs : List (Asked B)) → t ≡ s → AreKept A s cs t []
-none_kept A s t cs same = record { applied = 0; state = same; these = refl }
+-- nothing is recorded, where nothing was applied
+pub none_recorded : {B : Type 0} (A : Type 0) (s t : State) (cs : List (Asked B)) → t ≡ s → AreRecorded A s cs t []
+none_recorded A s t cs same = record { applied = 0; state = same; these = refl }
 
 -- a batch applied after a checkpoint, which left the state as it was
-pub kept_behind : {B : Type 0} (A : Type 0) (s m t u : State) (cs : List (Asked B)) (given_are items : List (Bor (Asked B))) → m ≡ s → given_are ≡ items → u ≡ t → AreKept A m cs t (given A items) → AreKept A s cs u (given A given_are)
-kept_behind A s m t u cs given_are items same are last kept = record {
-  applied = kept.applied;
-  state = last ∙ kept.state ∙ ap (λ x. after x (take kept.applied cs)) same;
-  these = ap (given A) are ∙ kept.these ∙ ap (λ x. map (under A) (accepted_of x (take kept.applied cs))) same;
+pub recorded_behind : {B : Type 0} (A : Type 0) (s m t u : State) (cs : List (Asked B)) (given_are items : List (Bor (Asked B))) → m ≡ s → given_are ≡ items → u ≡ t → AreRecorded A m cs t (given A items) → AreRecorded A s cs u (given A given_are)
+recorded_behind A s m t u cs given_are items same are last recorded = record {
+  applied = recorded.applied;
+  state = last ∙ recorded.state ∙ ap (λ x. after x (take recorded.applied cs)) same;
+  these = ap (given A) are ∙ recorded.these ∙ ap (λ x. map (under A) (accepted_of x (take recorded.applied cs))) same;
 }

@@ -14,7 +14,7 @@ use Rattle.checkpoint.specs.declared.layout.Layout.{Layout}
 use Rattle.checkpoint.specs.declared.side.Side.{Side}
 use Rattle.checkpoint.specs.declared.side.Side.TheVariants as side
 use Rattle.checkpoint.specs.Layout.{half_at, label_at, other_of, root_at, slot_at}
-use Rattle.recovery.specs.Calls.{first_header, format_calls, keep_calls, label_sector, side_calls}
+use Rattle.recovery.specs.Calls.{first_header, format_calls, record_calls, label_sector, side_calls}
 
 -- ---- the sides
 
@@ -101,9 +101,9 @@ module _ (old mid new : View) (first second : List Call) (were : mid.calls ≡ o
   }
 
 -- some commands are kept by an append
-pub kept_by_append : {B : Type 0} (A : Type 0) (gate : ℕ) (items : List (Bor (Asked B))) → 1 ≤ length items → keep_calls gate (given A items) ≡ append_calls gate (record_text (given A items))
-kept_by_append A gate [] some = absurd (omega (arith, some))
-kept_by_append A gate (x ∷ xs) some = refl
+pub recorded_by_append : {B : Type 0} (A : Type 0) (gate : ℕ) (items : List (Bor (Asked B))) → 1 ≤ length items → record_calls gate (given A items) ≡ append_calls gate (record_text (given A items))
+recorded_by_append A gate [] some = absurd (omega (arith, some))
+recorded_by_append A gate (x ∷ xs) some = refl
 
 -- behind a checkpoint the next gate is the other half's first one
 pub gate_behind : {T E : Type 0} (r : Result T E) (layout same : Layout) (side now : Side) (epoch later next : ℕ) → same ≡ layout → OnOk r ((now ≡ other_of side) × (later ≡ epoch + 1)) → OnOk r (next ≡ half_at same now) → OnOk r (next ≡ half_at layout (other_of side))

@@ -10,7 +10,7 @@ use Rattle.checkpoint.specs.Standing.{Base, Held}
 use Rattle.recovery.specs.declared.fault.StoreFault.{StoreFault}
 use Rattle.recovery.specs.declared.fault.StoreFault.TheVariants.{BadGeometry, Broken, Damaged, DiskFault, EpochsUsedUp, NoMemory, Unformatted}
 use Rattle.recovery.specs.Label.{layout_in}
-use Rattle.recovery.specs.Opens.{Opening, base_in, chosen, held_by, opening, opens, opens_by, played, played_by, side_at, side_in, then_on}
+use Rattle.recovery.specs.Opens.{Opening, base_in, chosen, held_by, opening, opens, opens_by, played, played_by, side_at, side_in, ◌>>=◌}
 use Rattle.recovery.specs.Opening.{Fails, Gives}
 
 -- a fault of one step is a fault of what it is a step of
@@ -39,18 +39,18 @@ gives_same (Err e) q is = fails_is e q (sym is)
 
 module _ {X Y : Type 0} where
   -- the first step fails
-  pub fails_then : (e : StoreFault) (r : Result X StoreFault) (go : X → Result Y StoreFault) → Fails e r → Fails e (then_on r go)
-  fails_then e r go is = fails_by e r (then_on r go) (λ f. ap (λ (s : Result X StoreFault). then_on s go) f) is
+  pub fails_then : (e : StoreFault) (r : Result X StoreFault) (go : X → Result Y StoreFault) → Fails e r → Fails e (r >>= go)
+  fails_then e r go is = fails_by e r (r >>= go) (λ f. ap (λ (s : Result X StoreFault). s >>= go) f) is
 
   -- it was taken
-  pub then_past : (x : X) (r : Result X StoreFault) (go : X → Result Y StoreFault) → r ≡ Ok x → then_on r go ≡ go x
-  then_past x r go is = ap (λ (s : Result X StoreFault). then_on s go) is
+  pub then_past : (x : X) (r : Result X StoreFault) (go : X → Result Y StoreFault) → r ≡ Ok x → (r >>= go) ≡ go x
+  then_past x r go is = ap (λ (s : Result X StoreFault). s >>= go) is
 
-  pub fails_past : (e : StoreFault) (x : X) (r : Result X StoreFault) (go : X → Result Y StoreFault) → r ≡ Ok x → Fails e (go x) → Fails e (then_on r go)
+  pub fails_past : (e : StoreFault) (x : X) (r : Result X StoreFault) (go : X → Result Y StoreFault) → r ≡ Ok x → Fails e (go x) → Fails e (r >>= go)
   fails_past e x r go is failed = subst (λ (q : Result Y StoreFault). Fails e q) (sym (then_past x r go is)) failed
 
   -- both were taken
-  pub then_ok : (r : Result X StoreFault) (go : X → Result Y StoreFault) (y : Y) → then_on r go ≡ Ok y → (x : X) × (r ≡ Ok x) × (go x ≡ Ok y)
+  pub then_ok : (r : Result X StoreFault) (go : X → Result Y StoreFault) (y : Y) → (r >>= go) ≡ Ok y → (x : X) × (r ≡ Ok x) × (go x ≡ Ok y)
   then_ok (Ok x) go y e = (x, refl, e)
   then_ok (Err fault) go y e = absurd cc
 
@@ -58,7 +58,7 @@ module _ {X Y : Type 0} where
 
 module _ (layout : Layout) (image : List (List ℕ)) where
   abbrev pub with_a : Option ℕ → Result Side StoreFault
-  with_a a = then_on (side_at layout side.B image) (λ b. chosen a b)
+  with_a a = side_at layout side.B image >>= λ b. chosen a b
 
   pub side_a : (e : StoreFault) → Fails e (side_at layout side.A image) → Fails e (side_in layout image)
   unfolding side_in
@@ -82,7 +82,7 @@ module _ (A : Type 0) (layout : Layout) (s : Side) (image : List (List ℕ)) whe
   whole = held_by (half_of image (half_at layout s) (half_end layout s))
 
   abbrev pub on_held : State → Held A → Result (State × ℕ) StoreFault
-  on_held t held = then_on (played t held.0) (λ u. Ok (u, held.1))
+  on_held t held = played t held.0 >>= λ u. Ok (u, held.1)
 
   pub played_half : (t : State) (e : StoreFault) → Fails e whole → Fails e (played_by A layout s t image)
   unfolding played_by
@@ -99,7 +99,7 @@ module _ (A : Type 0) (layout : Layout) (s : Side) (image : List (List ℕ)) whe
   -- ---- by one side
 
   abbrev pub on_base : Base → Result Opening StoreFault
-  on_base base = then_on (played_by A layout s base.1 image) (λ end. Ok (opening layout s base.0 end.1 end.0))
+  on_base base = played_by A layout s base.1 image >>= λ end. Ok (opening layout s base.0 end.1 end.0)
 
   pub by_slot : (e : StoreFault) → Fails e (base_in layout s image) → Fails e (opens_by A layout s image)
   unfolding opens_by
@@ -117,7 +117,7 @@ module _ (A : Type 0) (layout : Layout) (s : Side) (image : List (List ℕ)) whe
 
 module _ (A : Type 0) (image : List (List ℕ)) where
   abbrev pub on_side : Layout → Result Opening StoreFault
-  on_side layout = then_on (side_in layout image) (λ s. opens_by A layout s image)
+  on_side layout = side_in layout image >>= λ s. opens_by A layout s image
 
   pub opens_label : (e : StoreFault) → Fails e (layout_in image) → Fails e (opens A image)
   unfolding opens

@@ -1,6 +1,6 @@
 -- Messages in what an image opens to.
 use Rattle.std.proofs.Common.{ℕ, IfOk, List, ◌↔◌}
-use Rattle.mailbox.specs.Values.{Waiting}
+use Rattle.mailbox.specs.Values.{Item}
 use Rattle.centre_core.specs.State.{State}
 use Rattle.centre_core.proofs.MailLaws.{none_lost, none_lost_made}
 use Rattle.std.specs.List.{Contains}
@@ -9,7 +9,7 @@ use Rattle.recovery.specs.Opens.{opens}
 use Rattle.recovery.specs.Standing.{StandsFor}
 
 -- what is so of the state that an image stands for is so of what it opens to
-in_image : {A : Type 0} (s : State) (image : List (List ℕ)) (m : Waiting) (P : Type 0) → StandsFor A s image → ((¬ Contains s.mail.items m) ↔ P) → IfOk (opens A image) (λ opening. Lacks opening m ↔ P)
+in_image : {A : Type 0} (s : State) (image : List (List ℕ)) (m : Item) (P : Type 0) → StandsFor A s image → ((¬ Contains s.mail.items m) ↔ P) → IfOk (opens A image) (λ opening. Lacks opening m ↔ P)
 in_image s image m P stands is = rw stands.opens (rw stands.same is)
 
 pub none_lost_on_disk : {A : Type 0} → NoneLostOnDisk A

@@ -3,12 +3,12 @@ mod Sided
 mod Played
 mod Opened
 mod Lasting
-mod Served
+mod OneCommand
 mod Called
 mod Formatted
 mod Faults
 mod Batches
-pub mod Keeping
+pub mod Stored
 mod Chained
 mod Limited
 mod Applied

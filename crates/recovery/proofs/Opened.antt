@@ -8,8 +8,8 @@ use Rattle.centre_core.specs.Histories.{IsHistory}
 use Rattle.checkpoint.specs.declared.layout.Layout.{Layout}
 use Rattle.checkpoint.specs.declared.side.Side.{Side}
 use Rattle.checkpoint.specs.Layout.{half_at, half_end, slot_at}
-use Rattle.checkpoint.specs.Reading.{image_looks, slot_in}
-use Rattle.checkpoint.specs.Standing.{Base, Held, IsInSlot, Stands}
+use Rattle.checkpoint.specs.Reading.{image_looks}
+use Rattle.checkpoint.specs.Standing.{Base, Held, IsInSlot, Stands, slot_in}
 use Rattle.checkpoint.proofs.Apart.{lies}
 use Rattle.checkpoint.proofs.Epochs.{slot_tells}
 use Rattle.recovery.specs.Opens.{base_in, opening, opens, opens_by, placed, played_by}

@@ -13,8 +13,8 @@ use Rattle.centre_core.specs.Asked.{Asked}
 use Rattle.centre_core.specs.State.{State}
 use Rattle.centre_core.specs.Step.{step}
 use Rattle.centre_core.specs.History.{after, next}
-use Rattle.centre_core.proofs.RangeLaws.{step_keeps_ranges}
-use Rattle.centre_core.proofs.StateLaws.{step_keeps_state}
+use Rattle.centre_core.proofs.RangeLaws.{next_is_in_range}
+use Rattle.centre_core.proofs.StateLaws.{next_is_state}
 use Rattle.registration.specs.declared.limits.Limits.{Limits}
 use Rattle.image_rows.proofs.Images.{image_is_spelt}
 use Rattle.gated_journal.specs.Half.{Entry, Half, data_from, half_from, half_on, record_at, told_size, with_front}
@@ -107,8 +107,8 @@ module _ {A : Type 0} where
   ranged_after limits s (c ∷ cs) are is =
       let first = All-head IsCommand c cs are in
       ranged_after limits (next s c) cs (All-tail IsCommand c cs are) (record {
-        kept = step_keeps_state s c is.kept;
-        ranges = step_keeps_ranges A s c first.range is.ranges;
+        state = next_is_state s c is.state;
+        ranges = next_is_in_range A s c first.range is.ranges;
         under = step_limits s (next s c) c (step {B = A} s c).1 refl ∙ is.under;
       })
 
@@ -119,5 +119,5 @@ opens_ranged A o image are e =
     let end = half_end o.layout o.side in
     let base = image_is_spelt o.layout.limits (sectors_from image (slot_at o.layout o.side) (slot_size o.layout)) o.epoch is.base (slot_bytes image are (slot_size o.layout) (slot_at o.layout o.side)) is.slot in
     let commands = all_commands is.entries (half_commands image are (end - first) first end is.entries o.next is.half) in
-    let after_is = ranged_after o.layout.limits is.base (commands_of is.entries) commands (record { kept = base.0; ranges = base.1; under = base.2 }) in
+    let after_is = ranged_after o.layout.limits is.base (commands_of is.entries) commands (record { state = base.0; ranges = base.1; under = base.2 }) in
     subst (IsRanged o.layout.limits) (sym is.made) after_is

@@ -9,7 +9,7 @@ use Rattle.gated_journal.specs.Reading as reading
 use Rattle.gated_journal.proofs.Halves.{front_none, unrolled}
 use Rattle.checkpoint.specs.Standing.{Held}
 use Rattle.recovery.specs.declared.fault.StoreFault.{StoreFault}
-use Rattle.recovery.specs.Opens.{held_by, played, played_from, run, taken, then_on}
+use Rattle.recovery.specs.Opens.{held_by, played, played_from, run, taken, ◌>>=◌}
 use Rattle.recovery.specs.Opening.{BeginsWith, Fails, Stops, fault_of}
 use Rattle.recovery.proofs.Chained.{fails_then}
 
@@ -44,6 +44,10 @@ module _ {A : Type 0} where
 
   -- ---- one record
 
+  -- the rest of a half's records are played behind the first
+  abbrev on_held : Held A → Result State StoreFault → Result (State × ℕ) StoreFault
+  on_held held r = (r >>= λ t. played t held.0) >>= λ t. Ok (t, held.1)
+
   module _ (image : List (List ℕ)) (at end : ℕ) (lt : at < end) where
     from : (r : Found A) → record_at image at end ≡ r → half_of image at end ≡ half_on at r (λ next. half_of image next end)
     from r is = unrolled image at end lt ∙ ap (λ (q : Found A). half_on at q (λ next. half_of image next end)) is
@@ -58,9 +62,9 @@ module _ {A : Type 0} where
 
       module _ (commands : List (Asked A)) (next : ℕ) (there : record_at image at end ≡ Ok (Some (commands, next))) where
         with_more : (half : Half A) (r : Result State StoreFault) → taken (at + 1) (run s commands) ≡ r
-            → played_from s (with_front ((at + 1, commands) ∷ []) half) ≡ then_on (held_by half) (λ held. then_on (then_on r (λ t. played t held.0)) (λ t. Ok (t, held.1)))
+            → played_from s (with_front ((at + 1, commands) ∷ []) half) ≡ (held_by half >>= λ held. on_held held r)
         unfolding played
-        with_more (Ok held) r is = ap (λ (q : Result State StoreFault). then_on (then_on q (λ t. played t held.0)) (λ t. Ok (t, held.1))) is
+        with_more (Ok held) r is = ap (on_held held) is
         with_more (Err x) r is = refl
 
         -- its commands are accepted
@@ -71,13 +75,13 @@ module _ {A : Type 0} where
         pub plays_stop : (e : StoreFault) → Fails e (taken (at + 1) (run s commands)) → Stops e (held_by (half_of {A = A} image next end)) (played_from s (half_of {A = A} image at end))
         plays_stop e failed =
             let r = taken (at + 1) (run s commands) in
-            let whole : played_from s (half_of {A = A} image at end) ≡ then_on (held_by (half_of {A = A} image next end)) (λ held. then_on (then_on (taken (at + 1) (run s commands)) (λ t. played t held.0)) (λ t. Ok (t, held.1))) = ap (played_from s) (from (Ok (Some (commands, next))) there) ∙ with_more (half_of image next end) r refl in
+            let whole : played_from s (half_of {A = A} image at end) ≡ (held_by (half_of {A = A} image next end) >>= λ held. on_held held (taken (at + 1) (run s commands))) = ap (played_from s) (from (Ok (Some (commands, next))) there) ∙ with_more (half_of image next end) r refl in
             by (half_of image next end) (played_from s (half_of {A = A} image at end)) whole
           where
-            by : (half : Half A) (is : Result (State × ℕ) StoreFault) → is ≡ then_on (held_by half) (λ held. then_on (then_on (taken (at + 1) (run s commands)) (λ t. played t held.0)) (λ t. Ok (t, held.1))) → Stops e (held_by half) is
+            by : (half : Half A) (is : Result (State × ℕ) StoreFault) → is ≡ (held_by half >>= λ held. on_held held (taken (at + 1) (run s commands))) → Stops e (held_by half) is
             by (Ok held) is whole =
                 subst (λ (q : Result (State × ℕ) StoreFault). Fails e q) (sym whole)
-                (fails_then e (then_on (taken (at + 1) (run s commands)) (λ t. played t held.0)) (λ t. Ok (t, held.1)) (fails_then e (taken (at + 1) (run s commands)) (λ t. played t held.0) failed))
+                (fails_then e (taken (at + 1) (run s commands) >>= λ t. played t held.0) (λ t. Ok (t, held.1)) (fails_then e (taken (at + 1) (run s commands)) (λ t. played t held.0) failed))
             by (Err x) is whole = whole
 
 -- the sector that is at fault at a gate is so in the half

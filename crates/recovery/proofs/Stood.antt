@@ -23,7 +23,7 @@ use Rattle.recovery.specs.declared.fault.StoreFault.{StoreFault}
 use Rattle.recovery.specs.declared.fault.StoreFault.TheVariants.{Damaged}
 use Rattle.recovery.specs.Label.{layout_in}
 use Rattle.recovery.specs.Opens.{Opening, base_in, chosen, headed, held_by, opening, opens, opens_by, placed, played, played_by, run, side_at, side_in, taken}
-use Rattle.recovery.specs.Kept.{IsKept}
+use Rattle.recovery.specs.Stored.{IsStored}
 use Rattle.recovery.specs.Standing.{OpensAs, commands_of}
 use Rattle.recovery.proofs.Chained.{on_base, on_held, on_side, then_ok, whole, with_a}
 use Rattle.recovery.proofs.Faults.{label_only}
@@ -217,9 +217,9 @@ module _ (A : Type 0) where
       }
 
   -- where every image is what is read, and that opens, the register is kept
-  pub kept_so : (disk : View) (o : Opening) → ((image : List (List ℕ)) → IsImageOf disk image → image ≡ disk.reads) → AreBytes (sector disk.reads label_at) → opens A disk.reads ≡ Ok o → o.next < half_end o.layout o.side
-      → IsKept A o.layout o.side o.epoch o.next o.state disk
-  kept_so disk o one bytes e within =
+  pub stored_so : (disk : View) (o : Opening) → ((image : List (List ℕ)) → IsImageOf disk image → image ≡ disk.reads) → AreBytes (sector disk.reads label_at) → opens A disk.reads ≡ Ok o → o.next < half_end o.layout o.side
+      → IsStored A o.layout o.side o.epoch o.next o.state disk
+  stored_so disk o one bytes e within =
       let is = behind o disk.reads e in
       record {
         base = is.base;

@@ -14,7 +14,7 @@ module _ (given synced now : View) (result : Result Unit DiskError) (sound : IsS
     same_images image is = record {
       count = rw (← looked.reads) is.count;
       whole = is.whole;
-      kept = λ k clear. rw (← looked.reads) (is.kept k (rw looked.pending clear));
+      others = λ k clear. rw (← looked.reads) (is.others k (rw looked.pending clear));
     }
 
     pub no_image_arises : LeavesOnly given now (IsImageOf given)

@@ -1,10 +1,13 @@
 -- The calls of the disk that a format, a checkpoint and a commit make.
-use Rattle.std.specs.Prelude.{ℕ, ◌+◌, Bool, true, false, List, [], ◌∷◌, ◌++◌, nat_le}
+use Rattle.std.specs.Prelude.{◌+◌, Bool, true, false, List, [], ◌∷◌, ◌++◌, nat_le}
 use Rattle.std.specs.Borrow.{Bor}
+use Rattle.identity.specs.Numbers.{Byte}
+use Rattle.sector_disk.specs.Numbers.{Sector}
 use Rattle.sector_disk.specs.declared.record.Call.{Call}
 use Rattle.sector_disk.specs.declared.record.Call.TheVariants.{Sync, Write}
 use Rattle.centre_core.specs.Asked.{Asked}
 use Rattle.centre_core.specs.State.{State}
+use Rattle.image_rows.specs.Numbers.{Epoch}
 use Rattle.image_rows.specs.Rows.{HeaderRow}
 use Rattle.image_rows.specs.RowText.{padded, sector_of}
 use Rattle.image_rows.specs.Worked.{bare}
@@ -20,11 +23,11 @@ use Rattle.checkpoint.specs.Label.{label_text}
 use Rattle.checkpoint.specs.Layout.{half_at, label_at, other_of, root_at, slot_at}
 
 -- the sector of the one row that an empty register has, of epoch 1
-abbrev pub first_header : List ℕ
+abbrev pub first_header : List Byte
 first_header = sector_of (HeaderRow (bare 1))
 
 -- the sector of a label
-abbrev pub label_sector : Layout → List ℕ
+abbrev pub label_sector : Layout → List Byte
 label_sector layout = padded (label_text layout)
 
 -- the header and the root of side A are written, the root of side B and both first gates closed
@@ -44,29 +47,31 @@ format_calls layout = side_calls layout ++ Write label_at (label_sector layout) 
 
 -- ---- a register that is kept
 
--- the register's image is written to the other side, with the next epoch, and that side is made to count
-abbrev pub checkpoint_calls : Layout → Side → ℕ → State → List (List ℕ) → List Call
-checkpoint_calls layout side epoch state reads = image_calls layout (other_of side) reads (epoch + 1, state) ++ switch_calls (other_of side)
-
 -- may a record of all these commands go to the next gate?
 abbrev pub fits_in : {B : Type 0} (A : Type 0) → Place → List (Bor (Asked B)) → Bool
 fits_in A place commands = nat_le (data_size (record_text (given A commands))) (room_of place)
 
--- a checkpoint first, where it may not
-abbrev pub room_calls : Bool → Layout → Side → ℕ → State → List (List ℕ) → List Call
-room_calls true layout side epoch state reads = []
-room_calls false layout side epoch state reads = checkpoint_calls layout side epoch state reads
-
--- the next gate then
-abbrev pub gate_then : Bool → Layout → Side → ℕ → ℕ
-gate_then true layout side gate = gate
-gate_then false layout side gate = half_at layout (other_of side)
-
 -- these commands as one record at a gate; of none nothing
-abbrev pub keep_calls : {A : Type 0} → ℕ → List (Asked A) → List Call
-keep_calls gate [] = []
-keep_calls gate (c ∷ cs) = append_calls gate (record_text (c ∷ cs))
+abbrev pub record_calls : {A : Type 0} → Sector → List (Asked A) → List Call
+record_calls gate [] = []
+record_calls gate (c ∷ cs) = append_calls gate (record_text (c ∷ cs))
 
--- room is made, and then the accepted ones are kept
-abbrev pub commit_calls : {A : Type 0} → Bool → Layout → Side → ℕ → ℕ → State → List (List ℕ) → List (Asked A) → List Call
-commit_calls fits layout side epoch gate state reads accepted = room_calls fits layout side epoch state reads ++ keep_calls (gate_then fits layout side gate) accepted
+module _ (layout : Layout) (side : Side) where
+  -- the gate of the next record, where it fits or not: the next one, or behind a checkpoint the first of the other side's half
+  abbrev pub gate_then : Bool → Sector → Sector
+  gate_then true gate = gate
+  gate_then false gate = half_at layout (other_of side)
+
+  module _ (epoch : Epoch) (state : State) (reads : List (List Byte)) where
+    -- the register's image is written to the other side, with the next epoch, and that side is made to count
+    abbrev pub checkpoint_calls : List Call
+    checkpoint_calls = image_calls layout (other_of side) reads (epoch + 1, state) ++ switch_calls (other_of side)
+
+    -- where the record fits none, else those of a checkpoint
+    abbrev pub room_calls : Bool → List Call
+    room_calls true = []
+    room_calls false = checkpoint_calls
+
+    -- room is made where the record does not fit, and then the accepted commands are kept
+    abbrev pub commit_calls : {A : Type 0} → Bool → Sector → List (Asked A) → List Call
+    commit_calls fits gate accepted = room_calls fits ++ record_calls (gate_then fits gate) accepted

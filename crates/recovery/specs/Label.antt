@@ -1,6 +1,8 @@
 -- What the label of a disk tells: the layout, or why there is none.
-use Rattle.std.specs.Prelude.{ℕ, ◌==◌, Bool, List, length, take, drop, Option, Some, None, Result, Ok, Err, nat_le, if◌then◌else◌}
+use Rattle.std.specs.Prelude.{◌==◌, Bool, List, length, take, drop, Option, Some, None, Result, Ok, Err, nat_le, if◌then◌else◌}
 use Rattle.std.specs.Str.{bytes_eq}
+use Rattle.identity.specs.Numbers.{Byte}
+use Rattle.sector_disk.specs.Numbers.{Sectors}
 use Rattle.sector_disk.specs.Disk.{sector}
 use Rattle.command_bytes.specs.Fields.{◌>>=◌, number_at}
 use Rattle.checkpoint.specs.declared.layout.Layout.{Layout}
@@ -12,7 +14,7 @@ use Rattle.recovery.specs.declared.label.Told.{Told}
 use Rattle.recovery.specs.Ranges.{layout_of, limits_of}
 
 -- the numbers of a label, and the bytes behind them are ignored
-unfoldable pub told_at : List ℕ → Option Told
+unfoldable pub told_at : List Byte → Option Told
 told_at bytes = do
   number ← number_at 2 bytes
   rules ← number_at 4 number.1
@@ -27,22 +29,22 @@ abbrev pub layout_told : Told → Option Layout
 layout_told told = if told.number == layout_number then (limits_of told.rules told.radios told.mail told.stations >>= λ limits. layout_of limits told.journal) else None
 
 -- bytes that begin with TETRALOC
-abbrev pub is_named : List ℕ → Bool
+abbrev pub is_named : List Byte → Bool
 is_named bytes = bytes_eq (take 8 bytes) name
 
 -- a layout for which there are enough sectors
-abbrev pub fitting : ℕ → Option Layout → Result Layout StoreFault
+abbrev pub fitting : Sectors → Option Layout → Result Layout StoreFault
 fitting sectors None = Err BadGeometry
 fitting sectors (Some layout) = if nat_le (disk_size layout) sectors then Ok layout else Err BadGeometry
 
 -- the layout that the bytes behind the name tell
-abbrev pub layout_behind : List ℕ → Option Layout
+abbrev pub layout_behind : List Byte → Option Layout
 layout_behind bytes = told_at bytes >>= layout_told
 
 -- the layout that a label tells, on a disk of so many sectors
-abbrev pub layout_at : ℕ → List ℕ → Result Layout StoreFault
+abbrev pub layout_at : Sectors → List Byte → Result Layout StoreFault
 layout_at sectors bytes = if is_named bytes then fitting sectors (layout_behind (drop 8 bytes)) else Err Unformatted
 
 -- the layout that a disk tells
-unfoldable pub layout_in : List (List ℕ) → Result Layout StoreFault
+unfoldable pub layout_in : List (List Byte) → Result Layout StoreFault
 layout_in image = layout_at (length image) (sector image label_at)

@@ -4,7 +4,7 @@ pub mod Opens
 pub mod Opening
 pub mod Standing
 pub mod Calls
-pub mod Kept
+pub mod Stored
 pub mod Outcomes
 pub mod Refusals
 pub mod Serving

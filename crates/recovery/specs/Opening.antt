@@ -1,5 +1,7 @@
 -- What the calls that open a disk answer.
 use Rattle.std.specs.Prelude.{◌≡◌, ◌⊎◌, ◌≤◌, ℕ, Bool, true, false, List, ◌++◌, Result, Ok, Err}
+use Rattle.identity.specs.Numbers.{Byte}
+use Rattle.sector_disk.specs.Numbers.{Sector, Sectors}
 use Rattle.sector_disk.specs.declared.record.Call.{Call}
 use Rattle.centre_core.specs.State.{State}
 use Rattle.gated_journal.specs.declared.fault.JournalError.{JournalError}
@@ -9,12 +11,12 @@ use Rattle.gated_journal.specs.Reading.{HasRecords}
 use Rattle.checkpoint.specs.declared.layout.Layout.{Layout}
 use Rattle.checkpoint.specs.declared.side.Side.{Side}
 use Rattle.checkpoint.specs.Layout.{half_at, half_end, slot_at}
-use Rattle.checkpoint.specs.Reading.{looks, slot_in}
-use Rattle.checkpoint.specs.Standing.{Base, Held}
+use Rattle.checkpoint.specs.Reading.{looks}
+use Rattle.checkpoint.specs.Standing.{Base, Held, slot_in}
 use Rattle.recovery.specs.declared.fault.StoreFault.{StoreFault}
 use Rattle.recovery.specs.declared.fault.StoreFault.TheVariants.{BadGeometry, Broken, Damaged, DiskFault, EpochsUsedUp, NoMemory, Unformatted}
 use Rattle.recovery.specs.Label.{layout_in}
-use Rattle.recovery.specs.Opens.{base_in, held_by, played_from, side_in}
+use Rattle.recovery.specs.Opens.{Reached, base_in, held_by, played_from, side_in}
 
 -- a fault of a disk that is read without memory
 abbrev pub IsOfDisk : StoreFault → Type 0
@@ -57,7 +59,7 @@ PlaysTo (Ok u) t is = is ≡ Ok t
 PlaysTo (Err fault) t is = Fails fault is
 
 -- The state and the gate that were reached, or why they were not.
-abbrev pub EndsAt : {X : Type 0} → (X → ℕ) → Result X StoreFault → State → Result (State × ℕ) StoreFault → Type 0
+abbrev pub EndsAt : {X : Type 0} → (X → Sector) → Result X StoreFault → State → Result Reached StoreFault → Type 0
 EndsAt gate (Ok x) t is = is ≡ Ok (t, gate x)
 EndsAt gate (Err fault) t is = Fails fault is
 
@@ -76,42 +78,42 @@ module _ {A : Type 0} where
   BeginsWith half rest = (front : List (Entry A)) × (half ≡ with_front front rest)
 
   -- A fault is met before these records: theirs stands before it.
-  abbrev pub Stops : StoreFault → Result (Held A) StoreFault → Result (State × ℕ) StoreFault → Type 0
+  abbrev pub Stops : StoreFault → Result (Held A) StoreFault → Result Reached StoreFault → Type 0
   Stops fault (Ok held) is = Fails fault is
   Stops fault (Err first) is = is ≡ Err first
 
   -- one record more was played, or there was none, or a fault is met before the rest of the half
-  abbrev pub PlaysOn : Result Bool StoreFault → State → ℕ → Half A → Result (State × ℕ) StoreFault → Type 0
+  abbrev pub PlaysOn : Result Bool StoreFault → State → Sector → Half A → Result Reached StoreFault → Type 0
   PlaysOn (Ok true) t gate rest is = is ≡ played_from t rest
   PlaysOn (Ok false) t gate rest is = is ≡ Ok (t, gate)
   PlaysOn (Err fault) t gate rest is = Stops fault (held_by rest) is
 
   -- all records were played, or a fault is met before the rest of the half
-  abbrev pub StopsAt : Result Unit StoreFault → State → ℕ → Half A → Result (State × ℕ) StoreFault → Type 0
+  abbrev pub StopsAt : Result Unit StoreFault → State → Sector → Half A → Result Reached StoreFault → Type 0
   StopsAt (Ok u) t gate rest is = is ≡ Ok (t, gate)
   StopsAt (Err fault) t gate rest is = Stops fault (held_by rest) is
 
 -- ---- want of memory
 
 -- So many sectors of the side's slot were read last, from the first on, and none of them is a bad one.
-pub record AreGoodRows (layout : Layout) (side : Side) (image : List (List ℕ)) (calls : List Call) : Type 0 where
+pub record AreGoodRows (layout : Layout) (side : Side) (image : List (List Byte)) (calls : List Call) : Type 0 where
   pub before : List Call
-  pub read : ℕ
+  pub read : Sectors
   pub last : calls ≡ before ++ looks (slot_at layout side) read
   pub good : (place : ℕ) → slot_in layout side image ≡ Err place → read ≤ place
 
 -- All rows of the side's image are good, and there are good records up to a closed gate. (Whether their commands are accepted is told by playing them alone.)
-pub record AreAllGood (A : Type 0) (layout : Layout) (side : Side) (image : List (List ℕ)) : Type 0 where
+pub record AreAllGood (A : Type 0) (layout : Layout) (side : Side) (image : List (List Byte)) : Type 0 where
   pub base : Base
   pub rows : base_in layout side image ≡ Ok base
   pub records : HasRecords A image (half_at layout side) (half_end layout side)
 
 -- the rows that were read last are good, or all rows and all records are
-abbrev pub AreGoodSoFar : Type 0 → Layout → Side → List (List ℕ) → List Call → Type 0
+abbrev pub AreGoodSoFar : Type 0 → Layout → Side → List (List Byte) → List Call → Type 0
 AreGoodSoFar A layout side image calls = AreGoodRows layout side image calls ⊎ AreAllGood A layout side image
 
 -- No fault was met: the image has a label and a side that counts, and what was read of that side is good.
-pub record HasNoFaultYet (A : Type 0) (image : List (List ℕ)) (calls : List Call) : Type 0 where
+pub record HasNoFaultYet (A : Type 0) (image : List (List Byte)) (calls : List Call) : Type 0 where
   pub layout : Layout
   pub side : Side
   pub label : layout_in image ≡ Ok layout

@@ -1,62 +1,68 @@
 -- What an image of a disk opens to: a register with its side and epoch, or the first fault.
-use Rattle.std.specs.Prelude.{ℕ, ◌+◌, ◌==◌, List, [], ◌∷◌, slice_index, Option, Some, None, Result, Ok, Err, nat_lt, if◌then◌else◌}
+use Rattle.std.specs.Prelude.{ℕ, ◌+◌, ◌==◌, List, [], ◌∷◌, Option, Some, None, Result, Ok, Err, nat_lt, if◌then◌else◌}
+use Rattle.identity.specs.Numbers.{Byte}
+use Rattle.sector_disk.specs.Numbers.{Sector}
 use Rattle.sector_disk.specs.Disk.{sector}
 use Rattle.centre_core.specs.Asked.{Asked}
 use Rattle.centre_core.specs.State.{State}
 use Rattle.centre_core.specs.History.{accepts, next}
-use Rattle.image_rows.specs.Image.{slot_of}
-use Rattle.gated_journal.specs.Half.{Entry, Half, half_of}
+use Rattle.image_rows.specs.Numbers.{Epoch}
+use Rattle.gated_journal.specs.Half.{Entry, Half, half_of, is_open}
 use Rattle.checkpoint.specs.declared.layout.Layout.{Layout}
 use Rattle.checkpoint.specs.declared.side.Side.{Side}
 use Rattle.checkpoint.specs.declared.side.Side.TheVariants as side
-use Rattle.checkpoint.specs.Layout.{half_at, half_end, root_at, slot_at, slot_size}
-use Rattle.checkpoint.specs.Standing.{Base, Held, sectors_from, slot_epoch}
+use Rattle.checkpoint.specs.Layout.{half_at, half_end, root_at, slot_at}
+use Rattle.checkpoint.specs.Standing.{Base, Held, slot_epoch, slot_in}
 use Rattle.recovery.specs.declared.fault.StoreFault.{StoreFault}
 use Rattle.recovery.specs.declared.fault.StoreFault.TheVariants.{Damaged}
 use Rattle.recovery.specs.Label.{layout_in}
 
+infixl 10 ◌>>=◌
 -- one step of opening, and the steps after it, up to the first fault
-abbrev pub then_on : {X Y : Type 0} → Result X StoreFault → (X → Result Y StoreFault) → Result Y StoreFault
-then_on (Ok x) go = go x
-then_on (Err fault) go = Err fault
+abbrev pub ◌>>=◌ : {X Y : Type 0} → Result X StoreFault → (X → Result Y StoreFault) → Result Y StoreFault
+(Ok x) >>= go = go x
+(Err fault) >>= go = Err fault
 
 -- ---- the sides
 
 -- a header's epoch; a sector that is no header is at fault
-abbrev pub headed : ℕ → Option ℕ → Result (Option ℕ) StoreFault
+abbrev pub headed : Sector → Option Epoch → Result (Option Epoch) StoreFault
 headed at None = Err (Damaged at)
 headed at (Some epoch) = Ok (Some epoch)
 
 -- the epoch of a side whose root is open
-unfoldable pub side_at : Layout → Side → List (List ℕ) → Result (Option ℕ) StoreFault
-side_at layout side image = if slice_index (sector image (root_at side)) 0 == 1 then headed (slot_at layout side) (slot_epoch layout side image) else Ok None
+unfoldable pub side_at : Layout → Side → List (List Byte) → Result (Option Epoch) StoreFault
+side_at layout side image = if is_open (sector image (root_at side)) then headed (slot_at layout side) (slot_epoch layout side image) else Ok None
 
 -- the side of the greater epoch
-abbrev pub chosen : Option ℕ → Option ℕ → Result Side StoreFault
+abbrev pub chosen : Option Epoch → Option Epoch → Result Side StoreFault
 chosen None None = Err (Damaged (root_at side.A))
 chosen (Some a) None = Ok side.A
 chosen None (Some b) = Ok side.B
-chosen (Some a) (Some b) = if a == b then Err (Damaged (root_at side.B)) else (if nat_lt a b then Ok side.B else Ok side.A)
+chosen (Some a) (Some b) = if a == b then Err (Damaged (root_at side.B)) else if nat_lt a b then Ok side.B else Ok side.A
 
 -- the side that counts: of those with an open root the one of the greater epoch
-unfoldable pub side_in : Layout → List (List ℕ) → Result Side StoreFault
-side_in layout image = then_on (side_at layout side.A image) (λ a. then_on (side_at layout side.B image) (λ b. chosen a b))
+unfoldable pub side_in : Layout → List (List Byte) → Result Side StoreFault
+side_in layout image = do
+  a ← side_at layout side.A image
+  b ← side_at layout side.B image
+  chosen a b
 
 -- ---- the image in a side's slot
 
 -- what a slot's rows make; the first bad one is at fault
-abbrev pub placed : ℕ → Result Base ℕ → Result Base StoreFault
+abbrev pub placed : Sector → Result Base ℕ → Result Base StoreFault
 placed at (Ok base) = Ok base
 placed at (Err place) = Err (Damaged (at + place))
 
 -- the image of a register in a side's slot
-unfoldable pub base_in : Layout → Side → List (List ℕ) → Result Base StoreFault
-base_in layout side image = placed (slot_at layout side) (slot_of layout.limits (sectors_from image (slot_at layout side) (slot_size layout)))
+unfoldable pub base_in : Layout → Side → List (List Byte) → Result Base StoreFault
+base_in layout side image = placed (slot_at layout side) (slot_in layout side image)
 
 -- ---- the records in a side's half
 
 -- a record of which a command is not accepted is at fault
-abbrev pub taken : ℕ → Option State → Result State StoreFault
+abbrev pub taken : Sector → Option State → Result State StoreFault
 taken at None = Err (Damaged at)
 taken at (Some s) = Ok s
 
@@ -69,7 +75,9 @@ module _ {A : Type 0} where
   -- the state after records
   unfoldable pub played : State → List (Entry A) → Result State StoreFault
   played s [] = Ok s
-  played s (entry ∷ entries) = then_on (taken entry.0 (run s entry.1)) (λ t. played t entries)
+  played s (entry ∷ entries) = do
+    t ← taken entry.0 (run s entry.1)
+    played t entries
 
   -- the records that a half holds, and its first closed gate; the first bad sector is at fault
   abbrev pub held_by : Half A → Result (Held A) StoreFault
@@ -82,27 +90,40 @@ module _ {A : Type 0} where
 pub record Opening : Type 0 where
   pub layout : Layout
   pub side : Side
-  pub epoch : ℕ
-  pub next : ℕ
+  pub epoch : Epoch
+  pub next : Sector
   pub state : State
 
 -- what an image opens to, put together from its parts
-abbrev pub opening : Layout → Side → ℕ → ℕ → State → Opening
+abbrev pub opening : Layout → Side → Epoch → Sector → State → Opening
 opening layout side epoch gate state = record { layout = layout; side = side; epoch = epoch; next = gate; state = state }
 
+-- the state that was reached, and the first closed gate
+abbrev pub Reached : Type 0
+Reached = State × ℕ
+
 -- the state after the commands of the records of a half, or of a part of one, and the first closed gate: all records are judged before one is played
-abbrev pub played_from : {A : Type 0} → State → Half A → Result (State × ℕ) StoreFault
-played_from s half = then_on (held_by half) (λ held. then_on (played s held.0) (λ t. Ok (t, held.1)))
+abbrev pub played_from : {A : Type 0} → State → Half A → Result Reached StoreFault
+played_from s half = do
+  held ← held_by half
+  t ← played s held.0
+  Ok (t, held.1)
 
 module _ (A : Type 0) where
   -- the same of a side's half
-  unfoldable pub played_by : Layout → Side → State → List (List ℕ) → Result (State × ℕ) StoreFault
+  unfoldable pub played_by : Layout → Side → State → List (List Byte) → Result Reached StoreFault
   played_by layout side s image = played_from s (half_of {A = A} image (half_at layout side) (half_end layout side))
 
   -- by this side: its image, then its records
-  unfoldable pub opens_by : Layout → Side → List (List ℕ) → Result Opening StoreFault
-  opens_by layout side image = then_on (base_in layout side image) (λ base. then_on (played_by layout side base.1 image) (λ end. Ok (opening layout side base.0 end.1 end.0)))
+  unfoldable pub opens_by : Layout → Side → List (List Byte) → Result Opening StoreFault
+  opens_by layout side image = do
+    base ← base_in layout side image
+    end ← played_by layout side base.1 image
+    Ok (opening layout side base.0 end.1 end.0)
 
   -- what the image of a disk opens to, or the first fault
-  unfoldable pub opens : List (List ℕ) → Result Opening StoreFault
-  opens image = then_on (layout_in image) (λ layout. then_on (side_in layout image) (λ side. opens_by layout side image))
+  unfoldable pub opens : List (List Byte) → Result Opening StoreFault
+  opens image = do
+    layout ← layout_in image
+    side ← side_in layout image
+    opens_by layout side image

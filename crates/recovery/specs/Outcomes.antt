@@ -1,6 +1,7 @@
 -- What becomes of a batch of commands.
 use Rattle.std.specs.Prelude.{◌≡◌, ◌⊎◌, ℕ, ◌-◌, ◌≤◌, IsTrue, List, [], ◌∷◌, ◌++◌, length, map, take, replicate, slice_get, Some, if◌then◌else◌}
 use Rattle.std.specs.Borrow.{Bor}
+use Rattle.identity.specs.Numbers.{Byte}
 use Rattle.centre_core.specs.Asked.{Asked}
 use Rattle.centre_core.specs.Same.{under}
 use Rattle.centre_core.specs.declared.reply.Reply.{Reply}
@@ -43,10 +44,10 @@ module _ {B : Type 0} where
   IsAfterBatch s commands t = (applied : ℕ) × (t ≡ after s (take applied commands)) × IsEnd commands applied t
 
   -- commands that a journal under the allocator A keeps: the accepted ones of the first commands, which made the state t
-  pub record AreKept (A : Type 0) (s : State) (commands : List (Asked B)) (t : State) (kept : List (Asked A)) : Type 0 where
+  pub record AreRecorded (A : Type 0) (s : State) (commands : List (Asked B)) (t : State) (recorded : List (Asked A)) : Type 0 where
     pub applied : ℕ
     pub state : t ≡ after s (take applied commands)
-    pub these : kept ≡ map (under A) (accepted_of s (take applied commands))
+    pub these : recorded ≡ map (under A) (accepted_of s (take applied commands))
 
   -- so the batch is answered: the first commands by their replies, and from the first one that found no memory on each by want of memory
   pub record IsAnswered {C : Type 0} (s : State) (commands : List (Asked B)) (t : State) (outcomes : List (Outcome C)) : Type 0 where
@@ -56,5 +57,5 @@ module _ {B : Type 0} where
     pub outcomes_are : outcomes ≡ map Replied (replies C s (take applied commands)) ++ replicate (length commands - applied) NoMemory
 
 -- the image stands for one of two states
-abbrev pub StandsForEither : (A : Type 0) → State → State → List (List ℕ) → Type 0
+abbrev pub StandsForEither : (A : Type 0) → State → State → List (List Byte) → Type 0
 StandsForEither A s t image = StandsFor A s image ⊎ StandsFor A t image

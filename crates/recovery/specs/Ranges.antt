@@ -4,6 +4,7 @@ use Rattle.std.proofs.Common.{refl}
 use Rattle.std.proofs.lemmas.Bool.{leb-true}
 use Rattle.registration.specs.Limits.{AreLimits, rule_capacity, radio_capacity, mail_capacity, station_capacity}
 use Rattle.registration.specs.declared.limits.Limits.{Limits}
+use Rattle.sector_disk.specs.Numbers.{Sectors}
 use Rattle.checkpoint.specs.Half.{IsHalfSize, fewest_sectors, most_sectors}
 use Rattle.checkpoint.specs.declared.layout.Layout.{Layout}
 
@@ -16,7 +17,7 @@ abbrev pub are_limits : ℕ → ℕ → ℕ → ℕ → Bool
 are_limits rules radios mail stations = (is_within 1 rule_capacity rules && is_within 1 radio_capacity radios) && (is_within 1 mail_capacity mail && is_within 1 station_capacity stations)
 
 -- that of `IsHalfSize`
-abbrev pub is_half_size : ℕ → Bool
+abbrev pub is_half_size : Sectors → Bool
 is_half_size journal = is_within fewest_sectors most_sectors journal
 
 -- ---- what passes the tests is in range
@@ -45,7 +46,7 @@ limits_pass rules radios mail stations e =
       most_stations = leb-true stations station_capacity s.1;
     }
 
-pub half_size_passes : (journal : ℕ) → is_half_size journal ≡ true → IsHalfSize journal
+pub half_size_passes : (journal : Sectors) → is_half_size journal ≡ true → IsHalfSize journal
 half_size_passes journal e =
     let parts = both (nat_le fewest_sectors journal) (nat_le journal most_sectors) e in
     record { fewest = leb-true fewest_sectors journal parts.0; most = leb-true journal most_sectors parts.1 }
@@ -62,10 +63,10 @@ abbrev pub limits_of : ℕ → ℕ → ℕ → ℕ → Option Limits
 limits_of rules radios mail stations = limits_by rules radios mail stations (are_limits rules radios mail stations) (limits_pass rules radios mail stations)
 
 -- the layout with these limits and halves of this size, where the size has passed a test of its range
-abbrev pub layout_by : (limits : Limits) (journal : ℕ) (may : Bool) → (may ≡ true → IsHalfSize journal) → Option Layout
+abbrev pub layout_by : (limits : Limits) (journal : Sectors) (may : Bool) → (may ≡ true → IsHalfSize journal) → Option Layout
 layout_by limits journal true is = Some (record { limits = limits; journal = journal; in_range = is refl })
 layout_by limits journal false is = None
 
 -- the layout with these limits and halves of this size, where the size is in its range
-abbrev pub layout_of : Limits → ℕ → Option Layout
+abbrev pub layout_of : Limits → Sectors → Option Layout
 layout_of limits journal = layout_by limits journal (is_half_size journal) (half_size_passes journal)

@@ -3,6 +3,7 @@ use Rattle.std.specs.Prelude.{◌≡◌, ◌⊎◌, ℕ, Bool, IsTrue, nat_le}
 use Rattle.centre_core.specs.Asked.{Asked}
 use Rattle.centre_core.specs.State.{State}
 use Rattle.centre_core.specs.History.{accepts, next}
+use Rattle.image_rows.specs.Numbers.{Epoch}
 use Rattle.image_rows.specs.Rows.{last_epoch}
 use Rattle.desk.specs.OfStore.{Stored}
 use Rattle.desk.specs.declared.service.Service.{Service}
@@ -21,7 +22,7 @@ IsWordFor BadGeometry word = ⊥
 IsWordFor (Damaged at) word = ⊥
 
 -- what a store stands for, by the failures of its disk, its epoch, whether it is broken, and its register
-abbrev pub stored_of : ℕ → ℕ → Bool → State → Stored
+abbrev pub stored_of : ℕ → Epoch → Bool → State → Stored
 stored_of failures epoch broken state = record { register = state; broken = broken; failures = failures; last = nat_le last_epoch epoch }
 
 -- nothing was done, or the command was accepted

@@ -1,6 +1,7 @@
 -- An image that stands for a register.
-use Rattle.std.specs.Prelude.{◌≡◌, ℕ, List, Ok}
+use Rattle.std.specs.Prelude.{◌≡◌, List, Ok}
 use Rattle.std.specs.List.{flat_map}
+use Rattle.identity.specs.Numbers.{Byte}
 use Rattle.centre_core.specs.Asked.{Asked}
 use Rattle.registration.specs.declared.limits.Limits.{Limits}
 use Rattle.centre_core.specs.State.{IsState, State, empty}
@@ -17,7 +18,7 @@ abbrev pub commands_of : {A : Type 0} → List (Entry A) → List (Asked A)
 commands_of entries = flat_map (λ entry. entry.1) entries
 
 -- the image opens to this state
-pub record StandsFor (A : Type 0) (state : State) (image : List (List ℕ)) : Type 0 where
+pub record StandsFor (A : Type 0) (state : State) (image : List (List Byte)) : Type 0 where
   pub opening : Opening
   pub opens : opens A image ≡ Ok opening
   pub same : opening.state ≡ state
@@ -28,12 +29,12 @@ first_base layout = (1, empty layout.limits)
 
 -- a state under these limits, with all its numbers in their ranges
 pub record IsRanged (limits : Limits) (s : State) : Type 0 where
-  pub kept : IsState s
+  pub state : IsState s
   pub ranges : StateInRange s
   pub under : s.registered.limits ≡ limits
 
 -- How an image stands that opens: by this side, for a base and records whose commands were accepted one after the other.
-pub record OpensAs (A : Type 0) (opening : Opening) (image : List (List ℕ)) : Type 0 where
+pub record OpensAs (A : Type 0) (opening : Opening) (image : List (List Byte)) : Type 0 where
   pub base : State
   pub entries : List (Entry A)
   pub stands : Stands opening.layout opening.side (opening.epoch, base) (entries, opening.next) image

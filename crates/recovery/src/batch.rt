@@ -6,7 +6,7 @@ ghost use Rattle.centre_core.specs.Histories.{IsHistory};
 ghost use Rattle.centre_core.specs.Memory.{needs_memory};
 ghost use Rattle.command_bytes.specs.Text.{command_text};
 ghost use Rattle.gated_journal.specs.Record.{given};
-ghost use Rattle.recovery.specs.Outcomes.{AreApplied, AreKept, IsAnswered, IsEnd, accepted_of, asked, replies};
+ghost use Rattle.recovery.specs.Outcomes.{AreApplied, AreRecorded, IsAnswered, IsEnd, accepted_of, asked, replies};
 ghost use Rattle.recovery.specs.declared.outcome.Outcome.TheVariants.{NoMemory, Replied};
 
 use crate::Outcome;
@@ -95,7 +95,7 @@ pub(crate) fn apply_all<'a, A: Allocator + Clone, B: Allocator, C: Allocator + C
     ensures count { length accepted.new.items ≤ length commands.now }
     ensures size { length (flat_map (λ command. command_text command.now) accepted.new.items) ≤ length (flat_map (λ command. command_text command.now) commands.now) }
     ensures none { accepted_of register.old (asked commands.now) ≡ [] → accepted.new.items ≡ [] }
-    ensures kept { AreKept A register.old (asked commands.now) register.new (given A accepted.new.items) }
+    ensures recorded { AreRecorded A register.old (asked commands.now) register.new (given A accepted.new.items) }
 {
     let _ = apply_in_turn(register, alloc, commands, outcomes, accepted);
     fill_up(outcomes, commands.len());

@@ -9,7 +9,7 @@ ghost use Rattle.checkpoint.specs.Layout.{disk_size, half_at, half_end, other_of
 ghost use Rattle.checkpoint.specs.Standing.{Base, Held, InEach, IsEither, Stands, fresh};
 ghost use Rattle.recovery.specs.declared.fault.StoreFault.TheVariants.{Broken, DiskFault, EpochsUsedUp};
 ghost use Rattle.recovery.specs.Calls.{checkpoint_calls};
-ghost use Rattle.recovery.specs.Kept.{IsKept};
+ghost use Rattle.recovery.specs.Stored.{IsStored};
 ghost use Rattle.recovery.specs.Refusals.{IsOfCheckpoint};
 ghost use Rattle.recovery.specs.Standing.{StandsFor};
 
@@ -54,14 +54,14 @@ impl<A: Allocator + Clone, D: Disk> Store<A, D> {
     /// last epoch, 2 to the 62nd; nothing is then changed. After `DiskFault` the disk is to be opened again.
     pub fn checkpoint(&mut self) -> Result<(), StoreFault>
         // A stop at any moment of the call, also of one that fails, leaves the disk standing for the register.
-        ensures any_moment { (D.view self.old.disk).honest → IsKept A self.old.layout self.old.side self.old.epoch self.old.journal.next self.old.register (D.view self.old.disk)
+        ensures any_moment { (D.view self.old.disk).honest → IsStored A self.old.layout self.old.side self.old.epoch self.old.journal.next self.old.register (D.view self.old.disk)
             → LeavesOnly (D.view self.old.disk) (D.view self.new.disk) (StandsFor A self.old.register) }
 
         // At `Ok` each stop leaves it standing by the other side, with the next epoch and no record.
-        ensures moved { OnOk result ((D.view self.old.disk).honest → IsKept A self.old.layout self.old.side self.old.epoch self.old.journal.next self.old.register (D.view self.old.disk)
+        ensures moved { OnOk result ((D.view self.old.disk).honest → IsStored A self.old.layout self.old.side self.old.epoch self.old.journal.next self.old.register (D.view self.old.disk)
             → InEach (D.view self.new.disk) (Stands {A = A} self.old.layout (other_of self.old.side) (self.old.epoch + 1, self.old.register) (fresh self.old.layout (other_of self.old.side)))) }
-        ensures kept { OnOk result ((D.view self.old.disk).honest → IsKept A self.old.layout self.old.side self.old.epoch self.old.journal.next self.old.register (D.view self.old.disk)
-            → IsKept A self.new.layout self.new.side self.new.epoch self.new.journal.next self.new.register (D.view self.new.disk)) }
+        ensures kept { OnOk result ((D.view self.old.disk).honest → IsStored A self.old.layout self.old.side self.old.epoch self.old.journal.next self.old.register (D.view self.old.disk)
+            → IsStored A self.new.layout self.new.side self.new.epoch self.new.journal.next self.new.register (D.view self.new.disk)) }
         ensures sides { OnOk result ((self.new.side ≡ other_of self.old.side) × (self.new.epoch ≡ self.old.epoch + 1)) }
         ensures no_record { OnOk result (self.new.journal.next ≡ half_at self.new.layout self.new.side) }
         ensures same { (self.new.layout ≡ self.old.layout) × (self.new.register ≡ self.old.register) }

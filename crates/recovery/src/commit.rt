@@ -13,9 +13,9 @@ ghost use Rattle.gated_journal.specs.Settled.{room_of};
 ghost use Rattle.checkpoint.specs.Layout.{other_of};
 ghost use Rattle.checkpoint.specs.Standing.{InEach};
 ghost use Rattle.recovery.specs.declared.fault.StoreFault.TheVariants.{Broken, DiskFault, EpochsUsedUp, NoMemory};
-ghost use Rattle.recovery.specs.Calls.{commit_calls, fits_in, gate_then, keep_calls, room_calls};
-ghost use Rattle.recovery.specs.Kept.{IsKept};
-ghost use Rattle.recovery.specs.Outcomes.{AreKept, IsAfterBatch, IsAnswered, StandsForEither, accepted_of, asked};
+ghost use Rattle.recovery.specs.Calls.{commit_calls, fits_in, gate_then, record_calls, room_calls};
+ghost use Rattle.recovery.specs.Stored.{IsStored};
+ghost use Rattle.recovery.specs.Outcomes.{AreRecorded, IsAfterBatch, IsAnswered, StandsForEither, accepted_of, asked};
 ghost use Rattle.recovery.specs.Refusals.{IsOfCheckpoint, IsOfCommit};
 ghost use Rattle.recovery.specs.Standing.{StandsFor};
 
@@ -29,16 +29,16 @@ impl<A: Allocator + Clone, D: Disk> Store<A, D> {
     // A checkpoint where a record of these commands would not fit.
     fn make_room<B: Allocator>(&mut self, commands: &[&Command<B>]) -> Result<(), StoreFault>
         requires { length commands.now ≤ most_commands }
-        ensures any_moment { (D.view self.old.disk).honest → IsKept A self.old.layout self.old.side self.old.epoch self.old.journal.next self.old.register (D.view self.old.disk)
+        ensures any_moment { (D.view self.old.disk).honest → IsStored A self.old.layout self.old.side self.old.epoch self.old.journal.next self.old.register (D.view self.old.disk)
             → LeavesOnly (D.view self.old.disk) (D.view self.new.disk) (StandsFor A self.old.register) }
-        ensures kept { OnOk result ((D.view self.old.disk).honest → IsKept A self.old.layout self.old.side self.old.epoch self.old.journal.next self.old.register (D.view self.old.disk)
-            → IsKept A self.new.layout self.new.side self.new.epoch self.new.journal.next self.new.register (D.view self.new.disk)) }
+        ensures kept { OnOk result ((D.view self.old.disk).honest → IsStored A self.old.layout self.old.side self.old.epoch self.old.journal.next self.old.register (D.view self.old.disk)
+            → IsStored A self.new.layout self.new.side self.new.epoch self.new.journal.next self.new.register (D.view self.new.disk)) }
         ensures fits { OnOk result (data_size (record_text (given A commands.now)) ≤ room_of self.new.journal) }
         ensures stays { data_size (record_text (given A commands.now)) ≤ room_of self.old.journal → (result ≡ Ok tt) × (self.new ≡ self.old) }
         ensures moves { OnOk result (room_of self.old.journal < data_size (record_text (given A commands.now)) → (self.new.side ≡ other_of self.old.side) × (self.new.epoch ≡ self.old.epoch + 1)) }
-        ensures calls { OnOk result ((D.view self.old.disk).honest → (D.view self.new.disk).calls ≡ (D.view self.old.disk).calls ++ room_calls (fits_in A self.old.journal commands.now) self.old.layout self.old.side self.old.epoch self.old.register (D.view self.old.disk).reads) }
-        ensures some_calls { (D.view self.old.disk).honest → HasMade (D.view self.old.disk) (D.view self.new.disk) (room_calls (fits_in A self.old.journal commands.now) self.old.layout self.old.side self.old.epoch self.old.register (D.view self.old.disk).reads) }
-        ensures gate { OnOk result (self.new.journal.next ≡ gate_then (fits_in A self.old.journal commands.now) self.old.layout self.old.side self.old.journal.next) }
+        ensures calls { OnOk result ((D.view self.old.disk).honest → (D.view self.new.disk).calls ≡ (D.view self.old.disk).calls ++ room_calls self.old.layout self.old.side self.old.epoch self.old.register (D.view self.old.disk).reads (fits_in A self.old.journal commands.now)) }
+        ensures some_calls { (D.view self.old.disk).honest → HasMade (D.view self.old.disk) (D.view self.new.disk) (room_calls self.old.layout self.old.side self.old.epoch self.old.register (D.view self.old.disk).reads (fits_in A self.old.journal commands.now)) }
+        ensures gate { OnOk result (self.new.journal.next ≡ gate_then self.old.layout self.old.side (fits_in A self.old.journal commands.now) self.old.journal.next) }
         ensures same { (self.new.layout ≡ self.old.layout) × (self.new.register ≡ self.old.register) }
         ensures unmoved { OnErr result ((self.new.side ≡ self.old.side) × (self.new.epoch ≡ self.old.epoch) × (self.new.journal ≡ self.old.journal)) }
         ensures only_broken { IsErrOf result Broken → (self.old.broken ≡ true) × (self.new ≡ self.old) }
@@ -57,16 +57,16 @@ impl<A: Allocator + Clone, D: Disk> Store<A, D> {
     }
 
     // Adds a record of these commands to the journal, of none nothing. The register has them already.
-    fn keep<B: Allocator>(&mut self, accepted: &[&Command<B>]) -> Result<(), StoreFault>
+    fn add_record<B: Allocator>(&mut self, accepted: &[&Command<B>]) -> Result<(), StoreFault>
         requires few { length accepted.now ≤ most_commands }
         requires fits { data_size (record_text (given A accepted.now)) ≤ room_of self.old.journal }
-        ensures any_moment { (state : State) → IsHistory state (asked accepted.now) → (D.view self.old.disk).honest → IsKept A self.old.layout self.old.side self.old.epoch self.old.journal.next state (D.view self.old.disk)
+        ensures any_moment { (state : State) → IsHistory state (asked accepted.now) → (D.view self.old.disk).honest → IsStored A self.old.layout self.old.side self.old.epoch self.old.journal.next state (D.view self.old.disk)
             → LeavesOnly (D.view self.old.disk) (D.view self.new.disk) (StandsForEither A state (after state (asked accepted.now))) }
-        ensures kept { OnOk result ((state : State) → IsHistory state (asked accepted.now) → (D.view self.old.disk).honest → IsKept A self.old.layout self.old.side self.old.epoch self.old.journal.next state (D.view self.old.disk)
-            → IsKept A self.new.layout self.new.side self.new.epoch self.new.journal.next (after state (asked accepted.now)) (D.view self.new.disk)) }
+        ensures kept { OnOk result ((state : State) → IsHistory state (asked accepted.now) → (D.view self.old.disk).honest → IsStored A self.old.layout self.old.side self.old.epoch self.old.journal.next state (D.view self.old.disk)
+            → IsStored A self.new.layout self.new.side self.new.epoch self.new.journal.next (after state (asked accepted.now)) (D.view self.new.disk)) }
         ensures none { accepted.now ≡ [] → self.new ≡ self.old }
-        ensures calls { OnOk result ((D.view self.new.disk).calls ≡ (D.view self.old.disk).calls ++ keep_calls self.old.journal.next (given A accepted.now)) }
-        ensures some_calls { HasMade (D.view self.old.disk) (D.view self.new.disk) (keep_calls self.old.journal.next (given A accepted.now)) }
+        ensures calls { OnOk result ((D.view self.new.disk).calls ≡ (D.view self.old.disk).calls ++ record_calls self.old.journal.next (given A accepted.now)) }
+        ensures some_calls { HasMade (D.view self.old.disk) (D.view self.new.disk) (record_calls self.old.journal.next (given A accepted.now)) }
         ensures same { (self.new.layout ≡ self.old.layout) × (self.new.side ≡ self.old.side) × (self.new.epoch ≡ self.old.epoch) × (self.new.register ≡ self.old.register) }
         ensures fault { IfErr result (λ fault. (fault ≡ DiskFault) × HasFailed (D.view self.old.disk) (D.view self.new.disk) × (self.new.broken ≡ true)) }
         ensures sound { OnOk result (self.new.broken ≡ self.old.broken) }
@@ -99,15 +99,15 @@ impl<A: Allocator + Clone, D: Disk> Store<A, D> {
 
         // A stop at any moment of the call, also of one that fails, leaves the disk standing for the register before it or
         // after it, that is with none or with all of its accepted commands.
-        ensures any_moment { (D.view self.old.disk).honest → IsKept A self.old.layout self.old.side self.old.epoch self.old.journal.next self.old.register (D.view self.old.disk)
+        ensures any_moment { (D.view self.old.disk).honest → IsStored A self.old.layout self.old.side self.old.epoch self.old.journal.next self.old.register (D.view self.old.disk)
             → LeavesOnly (D.view self.old.disk) (D.view self.new.disk) (StandsForEither A self.old.register self.new.register) }
         ensures register { OnErr result ((self.new.register ≡ self.old.register) ⊎ IsAfterBatch self.old.register (asked commands.now) self.new.register) }
 
         // At `Ok` the register has them, each stop leaves the disk standing for it, and each command is answered.
         ensures outcomes { IfOk result (λ outcomes. IsAnswered self.old.register (asked commands.now) self.new.register outcomes.items) }
-        ensures kept { OnOk result ((D.view self.old.disk).honest → IsKept A self.old.layout self.old.side self.old.epoch self.old.journal.next self.old.register (D.view self.old.disk)
-            → IsKept A self.new.layout self.new.side self.new.epoch self.new.journal.next self.new.register (D.view self.new.disk)) }
-        ensures acknowledged { OnOk result ((D.view self.old.disk).honest → IsKept A self.old.layout self.old.side self.old.epoch self.old.journal.next self.old.register (D.view self.old.disk)
+        ensures kept { OnOk result ((D.view self.old.disk).honest → IsStored A self.old.layout self.old.side self.old.epoch self.old.journal.next self.old.register (D.view self.old.disk)
+            → IsStored A self.new.layout self.new.side self.new.epoch self.new.journal.next self.new.register (D.view self.new.disk)) }
+        ensures acknowledged { OnOk result ((D.view self.old.disk).honest → IsStored A self.old.layout self.old.side self.old.epoch self.old.journal.next self.old.register (D.view self.old.disk)
             → InEach (D.view self.new.disk) (StandsFor A self.new.register)) }
 
         // A checkpoint is made exactly where a record of all commands would not fit. Nothing is written of no commands,
@@ -121,10 +121,10 @@ impl<A: Allocator + Clone, D: Disk> Store<A, D> {
 
         // The calls of that checkpoint, and then of one record of the accepted commands; of no commands none. A call that
         // fails is the last.
-        ensures calls { OnOk result (1 ≤ length commands.now → (D.view self.old.disk).honest → (kept : List (Asked A)) × AreKept A self.old.register (asked commands.now) self.new.register kept
-            × ((D.view self.new.disk).calls ≡ (D.view self.old.disk).calls ++ commit_calls (fits_in A self.old.journal commands.now) self.old.layout self.old.side self.old.epoch self.old.journal.next self.old.register (D.view self.old.disk).reads kept)) }
-        ensures some_calls { (D.view self.old.disk).honest → (kept : List (Asked A)) × AreKept A self.old.register (asked commands.now) self.new.register kept
-            × HasMade (D.view self.old.disk) (D.view self.new.disk) (commit_calls (fits_in A self.old.journal commands.now) self.old.layout self.old.side self.old.epoch self.old.journal.next self.old.register (D.view self.old.disk).reads kept) }
+        ensures calls { OnOk result (1 ≤ length commands.now → (D.view self.old.disk).honest → (recorded : List (Asked A)) × AreRecorded A self.old.register (asked commands.now) self.new.register recorded
+            × ((D.view self.new.disk).calls ≡ (D.view self.old.disk).calls ++ commit_calls self.old.layout self.old.side self.old.epoch self.old.register (D.view self.old.disk).reads (fits_in A self.old.journal commands.now) self.old.journal.next recorded)) }
+        ensures some_calls { (D.view self.old.disk).honest → (recorded : List (Asked A)) × AreRecorded A self.old.register (asked commands.now) self.new.register recorded
+            × HasMade (D.view self.old.disk) (D.view self.new.disk) (commit_calls self.old.layout self.old.side self.old.epoch self.old.register (D.view self.old.disk).reads (fits_in A self.old.journal commands.now) self.old.journal.next recorded) }
 
         // It does not give up by itself.
         ensures broken { self.old.broken ≡ true → result ≡ Err Broken }
@@ -154,7 +154,7 @@ impl<A: Allocator + Clone, D: Disk> Store<A, D> {
             &mut outcomes,
             &mut accepted,
         );
-        self.keep(&accepted)?;
+        self.add_record(&accepted)?;
         Ok(outcomes)
     }
 }

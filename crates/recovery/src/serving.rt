@@ -10,8 +10,8 @@ ghost use Rattle.centre_core.specs.declared.reply.Reply.{Reply};
 ghost use Rattle.recovery.specs.declared.outcome.Outcome.TheVariants as outcome;
 ghost use Rattle.recovery.specs.declared.outcome.Outcome.TheVariants.{Replied};
 ghost use Rattle.recovery.specs.Calls.{commit_calls, fits_in};
-ghost use Rattle.recovery.specs.Kept.{IsKept};
-ghost use Rattle.recovery.specs.Outcomes.{AreKept, StandsForEither};
+ghost use Rattle.recovery.specs.Stored.{IsStored};
+ghost use Rattle.recovery.specs.Outcomes.{AreRecorded, StandsForEither};
 ghost use Rattle.recovery.specs.Refusals.{IsOfCommit};
 ghost use Rattle.recovery.specs.Serving.{IsAfterOne, IsWordFor, stored_of};
 
@@ -39,10 +39,10 @@ impl<A: Allocator + Clone, D: Disk> Desk for Store<A, D> {
         // The register is as before, or the command was accepted; each stop leaves the disk standing for one of the two, and,
         // where the disk has not failed, for the register after the call.
         ensures register { IsAfterOne self.old.register command.now self.new.register }
-        ensures any_moment { (D.view self.old.disk).honest → IsKept A self.old.layout self.old.side self.old.epoch self.old.journal.next self.old.register (D.view self.old.disk)
+        ensures any_moment { (D.view self.old.disk).honest → IsStored A self.old.layout self.old.side self.old.epoch self.old.journal.next self.old.register (D.view self.old.disk)
             → LeavesOnly (D.view self.old.disk) (D.view self.new.disk) (StandsForEither A self.old.register self.new.register) }
-        ensures kept { self.new.broken ≡ false → (D.view self.old.disk).honest → IsKept A self.old.layout self.old.side self.old.epoch self.old.journal.next self.old.register (D.view self.old.disk)
-            → IsKept A self.new.layout self.new.side self.new.epoch self.new.journal.next self.new.register (D.view self.new.disk) }
+        ensures kept { self.new.broken ≡ false → (D.view self.old.disk).honest → IsStored A self.old.layout self.old.side self.old.epoch self.old.journal.next self.old.register (D.view self.old.disk)
+            → IsStored A self.new.layout self.new.side self.new.epoch self.new.journal.next self.new.register (D.view self.new.disk) }
         ensures broken { self.old.broken ≡ true → self.new ≡ self.old }
         ensures honest { (D.view self.old.disk).honest → (D.view self.new.disk).honest }
 
@@ -50,10 +50,10 @@ impl<A: Allocator + Clone, D: Disk> Desk for Store<A, D> {
         // of this one command, and a call that fails is the last.
         ensures layout { self.new.layout ≡ self.old.layout }
         ensures stays { data_size (record_text (given A (command.entry ∷ []))) ≤ room_of self.old.journal → (self.new.side ≡ self.old.side) × (self.new.epoch ≡ self.old.epoch) }
-        ensures calls { OnOk result ((D.view self.old.disk).honest → (kept : List (Asked A)) × AreKept A self.old.register (command.now ∷ []) self.new.register kept
-            × ((D.view self.new.disk).calls ≡ (D.view self.old.disk).calls ++ commit_calls (fits_in A self.old.journal (command.entry ∷ [])) self.old.layout self.old.side self.old.epoch self.old.journal.next self.old.register (D.view self.old.disk).reads kept)) }
-        ensures some_calls { (D.view self.old.disk).honest → (kept : List (Asked A)) × AreKept A self.old.register (command.now ∷ []) self.new.register kept
-            × HasMade (D.view self.old.disk) (D.view self.new.disk) (commit_calls (fits_in A self.old.journal (command.entry ∷ [])) self.old.layout self.old.side self.old.epoch self.old.journal.next self.old.register (D.view self.old.disk).reads kept) }
+        ensures calls { OnOk result ((D.view self.old.disk).honest → (recorded : List (Asked A)) × AreRecorded A self.old.register (command.now ∷ []) self.new.register recorded
+            × ((D.view self.new.disk).calls ≡ (D.view self.old.disk).calls ++ commit_calls self.old.layout self.old.side self.old.epoch self.old.register (D.view self.old.disk).reads (fits_in A self.old.journal (command.entry ∷ [])) self.old.journal.next recorded)) }
+        ensures some_calls { (D.view self.old.disk).honest → (recorded : List (Asked A)) × AreRecorded A self.old.register (command.now ∷ []) self.new.register recorded
+            × HasMade (D.view self.old.disk) (D.view self.new.disk) (commit_calls self.old.layout self.old.side self.old.epoch self.old.register (D.view self.old.disk).reads (fits_in A self.old.journal (command.entry ∷ [])) self.old.journal.next recorded) }
     {
         match self.commit(alloc, &[command]) {
             Ok(outcomes) => reply_of(outcomes),

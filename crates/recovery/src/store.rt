@@ -7,7 +7,7 @@ ghost use Rattle.sector_disk.specs.declared.record.Call.TheVariants.{Sync};
 ghost use Rattle.checkpoint.specs.Layout.{disk_size, half_at, half_end};
 ghost use Rattle.checkpoint.specs.Standing.{InEach};
 ghost use Rattle.recovery.specs.declared.fault.StoreFault.TheVariants.{DiskFault, NoMemory};
-ghost use Rattle.recovery.specs.Kept.{IsKept};
+ghost use Rattle.recovery.specs.Stored.{IsStored};
 ghost use Rattle.recovery.specs.Opens.{opening, opens};
 ghost use Rattle.recovery.specs.Opening.{Fails, HasNoFaultYet, IsOfOpening};
 
@@ -47,7 +47,7 @@ impl<A: Allocator + Copy, D: Disk> Store<A, D> {
         ensures refused { IfErr result (λ e. (D.view disk).honest → Fails e.0 (opens A (D.view disk).reads)) }
 
         // The store is kept: each stop leaves what was read, and no stop in the call leaves anything else than one before it.
-        ensures kept { IfOk result (λ store. (D.view disk).honest → IsKept A store.layout store.side store.epoch store.journal.next store.register (D.view store.disk)) }
+        ensures kept { IfOk result (λ store. (D.view disk).honest → IsStored A store.layout store.side store.epoch store.journal.next store.register (D.view store.disk)) }
         ensures sound { IfOk result (λ store. store.broken ≡ false) }
         ensures only { IfOk result (λ store. (D.view disk).honest → InEach (D.view store.disk) (λ image. image ≡ (D.view disk).reads)) }
         ensures left { IfOk result (λ store. (D.view disk).honest → LeavesOnly (D.view disk) (D.view store.disk) (IsImageOf (D.view disk))) }

@@ -20,7 +20,7 @@ const RULE_ALONE: [u8; 6] = [0, 1, 0, 0, 0, 0x1b];
 /// The record of an attach.
 const ATTACH_ALONE: [u8; 6] = [0, 1, 0, 0, 0, 0x17];
 
-fn are_kept(alloc: Global) -> Result<bool, Fail> {
+fn are_recorded(alloc: Global) -> Result<bool, Fail> {
     let rule = made::rule().ok_or("a rule")?;
     let attach = made::attach(alloc).ok_or("an attach")?;
     let (answered, disk) = run(alloc, made::formatted(alloc)?, &[&rule, &attach]);
@@ -36,8 +36,8 @@ fn are_kept(alloc: Global) -> Result<bool, Fail> {
 }
 
 #[test]
-fn commands_are_kept_one_after_the_other(rt: HostRuntime) -> Result<(), Fail> {
-    assert!(rt; are_kept(rt.alloc())?);
+fn commands_are_recorded_one_after_the_other(rt: HostRuntime) -> Result<(), Fail> {
+    assert!(rt; are_recorded(rt.alloc())?);
     Ok(())
 }
 
@@ -285,7 +285,7 @@ fn is_prefix(count: Option<u64>, acknowledged: u64) -> bool {
 }
 
 /// Whether what was acknowledged is there after a stop, where this call has failed; and whether none has.
-fn is_script_kept(
+fn is_script_stored(
     alloc: Global,
     call: u64,
     failing: Failing,
@@ -294,15 +294,15 @@ fn is_script_kept(
     let disk = FailingDisk::new(made::formatted(alloc)?, call, failing);
     let (acknowledged, disk) = run_script(alloc, disk);
     let (count, _) = stands_for(alloc, stop(alloc, disk.into_inner(), bytes)?);
-    let kept = acknowledged.is_some_and(|commands| is_prefix(count, commands));
-    Ok((kept, acknowledged == Some(5)))
+    let stored = acknowledged.is_some_and(|commands| is_prefix(count, commands));
+    Ok((stored, acknowledged == Some(5)))
 }
 
 /// How many calls failed, the first one first, until none did; nothing where something was lost.
 fn script_stops(alloc: Global, failing: Failing, bytes: [u8; 512]) -> Result<Option<u64>, Fail> {
     for call in 1..100 {
-        let (kept, whole) = is_script_kept(alloc, call, failing, bytes)?;
-        if !kept {
+        let (stored, whole) = is_script_stored(alloc, call, failing, bytes)?;
+        if !stored {
             return Ok(None);
         }
         if whole {

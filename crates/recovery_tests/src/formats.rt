@@ -31,7 +31,7 @@ const WRITTEN: [(u64, &[u8]); 6] = [
 const NINES: [u8; 512] = [9; 512];
 
 /// Sectors that a format leaves.
-const KEPT: [(u64, &[u8]); 3] = [(4, &NINES), (588, &NINES), (666, &NINES)];
+const LEFT: [(u64, &[u8]); 3] = [(4, &NINES), (588, &NINES), (666, &NINES)];
 
 fn layout() -> Option<Layout> {
     Layout::new(Limits::new(16, 16, 256, 4)?, 39)
@@ -88,7 +88,7 @@ fn is_written(alloc: Global, layout: &Layout) -> Result<bool, AllocError> {
     Ok(
         ready
             && written
-            && first_wrong(&mut disk, &KEPT).is_none()
+            && first_wrong(&mut disk, &LEFT).is_none()
             && disk.pending(alloc)?.is_empty(),
     )
 }

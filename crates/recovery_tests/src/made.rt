@@ -1,11 +1,12 @@
 //! The disk and the commands of the tests.
 
-use centre_core::{Body, Command};
+use centre_core::{Body, Command, Sequence};
 use checkpoint::Layout;
 use identity::{BitWriter, Bits, Itsi, Prefix};
+use mailbox::Moment;
 use mm_pdus::Lifetime;
 use recovery::format;
-use registration::{Limits, LocationArea, Rule};
+use registration::{Limits, LocationArea, Rule, Station};
 use sector_disk::MemoryDisk;
 use std::alloc::Global;
 use std::test::Fail;
@@ -25,13 +26,28 @@ pub fn formatted(alloc: Global) -> Result<MemoryDisk<Global>, Fail> {
     }
 }
 
+/// A command of a station.
+fn made(
+    station: u16,
+    sequence: u32,
+    moment: Moment,
+    body: Body<Global>,
+) -> Option<Command<Global>> {
+    Command::new(
+        Station::new(station),
+        Sequence::new(sequence)?,
+        moment,
+        body,
+    )
+}
+
 /// A rule for the radios of a network, sequence 1 of station 1: 27 bytes.
 pub fn rule() -> Option<Command<Global>> {
     let prefix = Prefix::new(0x3a80_0e00_0000, 24)?;
     let low = LocationArea::new(1)?;
     let high = LocationArea::new(99)?;
     let rule = Rule::new(low, high, Lifetime::NextItsiAttach, 3_600)?;
-    Command::new(1, 1, 0, Body::RuleSet { prefix, rule })
+    made(1, 1, Moment::new(0), Body::RuleSet { prefix, rule })
 }
 
 /// The radio 234-14-2001.
@@ -50,7 +66,7 @@ fn attach_of(alloc: Global, sequence: u32, itsi: Itsi) -> Option<Command<Global>
     let mut writer = BitWriter::new(alloc);
     writer.put(0x98, 10).ok()?;
     let pdu = writer.finish();
-    Command::new(1, sequence, 10, Body::Mm { itsi, area, pdu })
+    made(1, sequence, Moment::new(10), Body::Mm { itsi, area, pdu })
 }
 
 /// The ITSI attach of 234-14-2001, sequence 2 of station 1: 23 bytes.
@@ -86,12 +102,12 @@ pub fn message(alloc: Global, sequence: u32, reference: u8, times: u32) -> Optio
         destination,
         pdu,
     };
-    Command::new(1, sequence, 20, body)
+    made(1, sequence, Moment::new(20), body)
 }
 
 /// An expiry of station 2 with this sequence: 11 bytes.
 pub fn expiry(sequence: u32) -> Option<Command<Global>> {
-    Command::new(2, sequence, 11, Body::Expire)
+    made(2, sequence, Moment::new(11), Body::Expire)
 }
 
 /// A sector that begins with these bytes, with zeros behind them.

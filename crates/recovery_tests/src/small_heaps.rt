@@ -84,7 +84,7 @@ fn is_there<A: Allocator + Clone>(alloc: Global, register: &Register<A>, itsi: I
     )
 }
 
-fn is_served<A: Allocator + Clone>(alloc: Global, register: &Register<A>, itsi: Itsi) -> bool {
+fn is_ruled<A: Allocator + Clone>(alloc: Global, register: &Register<A>, itsi: Itsi) -> bool {
     matches!(
         register.query(alloc, &Query::Look(itsi)),
         Ok(Told::Look { rule: Some(_), .. })
@@ -98,7 +98,7 @@ fn tells<A: Allocator + Clone>(alloc: Global, register: &Register<A>, commands: 
         return false;
     };
     register.count() == commands
-        && is_served(alloc, register, sender) == (commands >= 1)
+        && is_ruled(alloc, register, sender) == (commands >= 1)
         && is_there(alloc, register, sender) == (commands >= 2)
         && is_there(alloc, register, receiver) == (commands >= 3)
         && waiting(alloc, register, receiver) == usize::from(commands >= 4)

@@ -1,3 +1,4 @@
 pub mod Refusals
+mod ByNumber
 mod TypeLaws
 mod Whole

@@ -6,12 +6,12 @@ use Rattle.mm_pdus.specs.declared.update.LocationUpdateType.TheVariants.{Roaming
 use Rattle.mm_pdus.specs.Values.{accept_of}
 use Rattle.registration.specs.Registered.{type_refusal}
 
-pub served_types : (update : LocationUpdateType) → (type_refusal update ≡ None) ↔ IsSome (accept_of update)
-served_types Roaming = (λ e. refl, λ s. refl)
-served_types Migrating = (λ e. absurd cc, λ s. absurd cc)
-served_types Periodic = (λ e. refl, λ s. refl)
-served_types ItsiAttach = (λ e. refl, λ s. refl)
-served_types ServiceRestorationRoaming = (λ e. refl, λ s. refl)
-served_types ServiceRestorationMigrating = (λ e. absurd cc, λ s. absurd cc)
-served_types Demand = (λ e. refl, λ s. refl)
-served_types DisabledMs = (λ e. absurd cc, λ s. absurd cc)
+pub accepted_types : (update : LocationUpdateType) → (type_refusal update ≡ None) ↔ IsSome (accept_of update)
+accepted_types Roaming = (λ e. refl, λ s. refl)
+accepted_types Migrating = (λ e. absurd cc, λ s. absurd cc)
+accepted_types Periodic = (λ e. refl, λ s. refl)
+accepted_types ItsiAttach = (λ e. refl, λ s. refl)
+accepted_types ServiceRestorationRoaming = (λ e. refl, λ s. refl)
+accepted_types ServiceRestorationMigrating = (λ e. absurd cc, λ s. absurd cc)
+accepted_types Demand = (λ e. refl, λ s. refl)
+accepted_types DisabledMs = (λ e. absurd cc, λ s. absurd cc)

@@ -1,17 +1,20 @@
 -- The rules and the radios of a register, and what each call makes of them.
-use Rattle.std.specs.Prelude.{◌≡◌, ℕ, nat_le, nat_lt, Bool, true, false, ◌&&◌, length, Option, Some, None, IsSome, if◌then◌else◌, refl}
+use Rattle.std.specs.Prelude.{◌≡◌, nat_le, nat_lt, Bool, true, false, ◌&&◌, length, Option, Some, None, IsSome, if◌then◌else◌, refl, [], ◌∷◌}
 use Rattle.std.specs.Option.{option_map, is_some}
 use Rattle.std.specs.Coded.{Coded, code_by, coded×}
 use Rattle.std.specs.FinMap as map
+use Rattle.identity.specs.Numbers.{Identity, Itsi}
 use Rattle.identity.specs.Path.{Path, id_path}
 use Rattle.mm_pdus.specs.declared.update.LocationUpdateType.{LocationUpdateType}
 use Rattle.mm_pdus.specs.declared.update.LocationUpdateType.TheVariants.{Roaming, Migrating, Periodic, ItsiAttach, ServiceRestorationRoaming, ServiceRestorationMigrating, Demand, DisabledMs}
 use Rattle.prefix_tree.specs.Table.{PathMap, coded_table, longest}
+use Rattle.registration.specs.Numbers.{Area, Station}
 use Rattle.registration.specs.declared.limits.Limits.{Limits}
 use Rattle.registration.specs.declared.rule.Rule.{Rule}
 use Rattle.registration.specs.declared.radio.Radio.{Radio}
 use Rattle.registration.specs.declared.fault.RegFault.{RegFault}
 use Rattle.registration.specs.declared.fault.RegFault.TheVariants.{UnknownIdentity, LaNotAllowed, Congestion, Migration, UnsupportedType, NotAttached, RulesFull}
+use Rattle.registration.specs.Refusals.{first_of}
 use Rattle.registration.specs.contracts.limits.Limits as limits
 use Rattle.registration.specs.contracts.rule.Rule as rule
 use Rattle.registration.specs.contracts.radio.Radio as radio
@@ -33,11 +36,11 @@ abbrev pub empty_registered : Limits → Registered
 empty_registered limits = record { limits = limits; rules = map.empty; radios = map.empty }
 
 -- the rule that serves an identity and its prefix: the longest that begins the identity
-abbrev pub longest_rule : Registered → ℕ → Option (Path × Rule)
+abbrev pub longest_rule : Registered → Identity → Option (Path × Rule)
 longest_rule s identity = longest s.rules (id_path identity)
 
 -- the rule that serves an identity
-abbrev pub rule_of : Registered → ℕ → Option Rule
+abbrev pub rule_of : Registered → Identity → Option Rule
 rule_of s identity = option_map (λ e. e.1) (longest_rule s identity)
 
 -- radios stand under all 48 bits of an identity, and under no other prefix
@@ -45,7 +48,7 @@ abbrev pub AreWhole : PathMap Radio → Type 0
 AreWhole radios = (p : Path) → IsSome (map.get radios p) → length p ≡ 48
 
 -- where a radio is, or was
-abbrev pub radio_of : Registered → ℕ → Option Radio
+abbrev pub radio_of : Registered → Itsi → Option Radio
 radio_of s itsi = map.get s.radios (id_path itsi)
 
 -- why a rule is not set: its prefix is new and the table is full
@@ -76,47 +79,45 @@ type_refusal Demand = None
 type_refusal DisabledMs = Some UnsupportedType
 
 -- no rule serves the identity, or the one that does has not this location area
-abbrev pub area_refusal : Option Rule → ℕ → Option RegFault
+abbrev pub area_refusal : Option Rule → Area → Option RegFault
 area_refusal None area = Some UnknownIdentity
 area_refusal (Some rule) area = if nat_le rule.low area && nat_le area rule.high then None else Some LaNotAllowed
 
 -- the radio is new, and there are as many as may be
-abbrev pub room_refusal : Registered → ℕ → Option RegFault
+abbrev pub room_refusal : Registered → Itsi → Option RegFault
 room_refusal s itsi = if is_some (radio_of s itsi) then None else (if nat_lt (map.len s.radios) s.limits.radios then None else Some Congestion)
 
--- the first of three refusals that applies
-abbrev pub first_of_three : Option RegFault → Option RegFault → Option RegFault → Option RegFault
-first_of_three (Some fault) second third = Some fault
-first_of_three None (Some fault) third = Some fault
-first_of_three None None third = third
-
--- the first two of them, which are the same whether the radio is known or new
-abbrev pub first_of_two : Option RegFault → Option RegFault → Option RegFault
-first_of_two (Some fault) second = Some fault
-first_of_two None second = second
-
--- why a location update is refused, but for want of room
-abbrev pub service_refusal : Registered → ℕ → ℕ → LocationUpdateType → Option RegFault
-service_refusal s itsi area update = first_of_two (type_refusal update) (area_refusal (rule_of s itsi) area)
+-- why a location update is refused, but for want of room: the same whether the radio is known or new
+abbrev pub service_refusal : Registered → Itsi → Area → LocationUpdateType → Option RegFault
+service_refusal s itsi area update =
+    first_of
+    (type_refusal update
+    ∷ area_refusal (rule_of s itsi) area
+    ∷ [])
 
 -- why a location update is refused: for its type first, then by the identity's rule and the location area, then for want of room
-abbrev pub locate_refusal : Registered → ℕ → ℕ → LocationUpdateType → Option RegFault
-locate_refusal s itsi area update = first_of_three (type_refusal update) (area_refusal (rule_of s itsi) area) (room_refusal s itsi)
+abbrev pub locate_refusal : Registered → Itsi → Area → LocationUpdateType → Option RegFault
+locate_refusal s itsi area update =
+    first_of
+    (type_refusal update
+    ∷ area_refusal (rule_of s itsi) area
+    ∷ room_refusal s itsi
+    ∷ [])
 
 -- the radio is there as this one
-abbrev pub with_radio : Registered → ℕ → Radio → Registered
+abbrev pub with_radio : Registered → Itsi → Radio → Registered
 with_radio s itsi radio = record s { radios = map.insert s.radios (id_path itsi) radio }
 
 -- whether the register knows the radio
-abbrev pub has_radio : Registered → ℕ → Bool
+abbrev pub has_radio : Registered → Itsi → Bool
 has_radio s itsi = is_some (radio_of s itsi)
 
 -- the register knows nothing of the radio
-abbrev pub without_radio : Registered → ℕ → Registered
+abbrev pub without_radio : Registered → Itsi → Registered
 without_radio s itsi = record s { radios = map.remove s.radios (id_path itsi) }
 
 -- the radio is present at this station and location area
-abbrev pub located : Registered → ℕ → ℕ → ℕ → Registered
+abbrev pub located : Registered → Itsi → Station → Area → Registered
 located s itsi station area = with_radio s itsi (record { station = station; area = area; present = true })
 
 -- whether a radio is known and present
@@ -125,7 +126,7 @@ is_present None = false
 is_present (Some radio) = radio.present
 
 -- why a detach is refused: the radio is not present
-abbrev pub detach_refusal : Registered → ℕ → Option RegFault
+abbrev pub detach_refusal : Registered → Itsi → Option RegFault
 detach_refusal s itsi = if is_present (radio_of s itsi) then None else Some NotAttached
 
 -- the radio is not present; its station and location area stay
@@ -133,10 +134,10 @@ abbrev pub absent : Radio → Radio
 absent radio = record { station = radio.station; area = radio.area; present = false }
 
 -- the radio that stood there is no longer present; without one nothing changes
-abbrev pub detached_at : Registered → ℕ → Option Radio → Registered
+abbrev pub detached_at : Registered → Itsi → Option Radio → Registered
 detached_at s itsi None = s
 detached_at s itsi (Some radio) = with_radio s itsi (absent radio)
 
 -- the radio is no longer present, if the register knows it
-abbrev pub detached : Registered → ℕ → Registered
+abbrev pub detached : Registered → Itsi → Registered
 detached s itsi = detached_at s itsi (radio_of s itsi)

@@ -6,6 +6,6 @@ ghost use Rattle.mm_pdus.specs.Values.{accept_of};
 ghost use Rattle.registration.specs.Registered.{type_refusal};
 
 /// The types that are not refused are those with which an update is accepted.
-pub fn served_types()
+pub fn accepted_types()
     ensures { (update : LocationUpdateType) → (type_refusal update ≡ None) ↔ IsSome (accept_of update) }
 {}

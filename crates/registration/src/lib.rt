@@ -7,8 +7,10 @@ mod fault;
 pub mod laws;
 mod limits;
 mod radio;
+mod radios;
 mod registry;
 mod rule;
+mod station;
 
 pub use area::LocationArea;
 pub use fault::RegFault;
@@ -16,3 +18,4 @@ pub use limits::{Limits, MAIL_CAPACITY, RADIO_CAPACITY, RULE_CAPACITY, STATION_C
 pub use radio::Radio;
 pub use registry::Registry;
 pub use rule::Rule;
+pub use station::Station;

@@ -2,15 +2,15 @@
 
 ghost use Rattle.std.specs.Prelude.{◌≡◌, IfOk, true};
 
-use crate::LocationArea;
+use crate::{LocationArea, Station};
 use prefix_tree::TryCopy;
 use std::alloc::AllocError;
 
 /// Where a radio is, or was when it left.
 #[derive(Clone, Copy, Debug, PartialEq, Eq)]
 pub struct Radio {
-    /// The number of the station that its last location update came by.
-    pub station: u16,
+    /// The station that its last location update came by.
+    pub station: Station,
     /// The location area of that update.
     pub area: LocationArea,
     /// Whether it has not left since.
@@ -19,7 +19,7 @@ pub struct Radio {
 
 impl Radio {
     // Present there.
-    pub(crate) fn at(station: u16, area: LocationArea) -> Radio
+    pub(crate) fn at(station: Station, area: LocationArea) -> Radio
         ensures { result ≡ record { station = station; area = area; present = true } }
     {
         Radio {

@@ -1,7 +1,6 @@
 //! The register: rules, radios, and the calls that change them.
 
-ghost use Rattle.std.specs.Prelude.{◌≡◌, ◌↔◌, length, nat_lt, None, Some, OnOk, OnErr, OnSome, IfOk, IfErr, IfNone, IsOk, IsSome, unwrap_or};
-ghost use Rattle.std.specs.List.{All};
+ghost use Rattle.std.specs.Prelude.{◌≡◌, ◌↔◌, nat_lt, None, Some, OnOk, OnErr, OnSome, IfOk, IfErr, IfNone, IsOk, IsSome, unwrap_or};
 ghost use Rattle.std.specs.Option.{option_map};
 ghost use Rattle.std.specs.FinMap as map;
 ghost use Rattle.identity.specs.Path.{id_path};
@@ -10,7 +9,8 @@ ghost use Rattle.registration.specs.Listed.{under_bits, under_its_bits};
 ghost use Rattle.registration.specs.Registered.{has_rule, longest_rule, rule_of, radio_of, type_refusal, area_refusal, service_refusal, room_refusal, locate_refusal, located, with_radio, detach_refusal, detached, is_present, has_radio, without_radio, set_refusal, with_rule, without_rule, empty_registered};
 ghost use Rattle.registration.specs.declared.fault.RegFault.TheVariants.{NoMemory};
 
-use crate::{Limits, LocationArea, Radio, RegFault, Rule};
+use crate::radios::Radios;
+use crate::{Limits, LocationArea, Radio, RegFault, Rule, Station};
 use identity::{Itsi, Prefix};
 use mm_pdus::LocationUpdateType;
 use prefix_tree::{PrefixTree, TryCopy};
@@ -23,7 +23,7 @@ pub struct Registry<A: Allocator> {
     limits: Limits,
     rules: PrefixTree<Rule, A>,
     rule_count: u32,
-    radios: PrefixTree<Radio, A>,
+    radios: Radios<A>,
     radio_count: u32,
 }
 
@@ -52,7 +52,7 @@ impl<A: Allocator + Clone> Registry<A> {
             limits,
             rules,
             rule_count: 0,
-            radios: PrefixTree::new_in(alloc),
+            radios: Radios::new(alloc),
             radio_count: 0,
         })
     }
@@ -101,7 +101,7 @@ impl<A: Allocator + Clone> Registry<A> {
     pub fn where_is(&self, itsi: Itsi) -> Option<Radio>
         ensures { result ≡ radio_of self.now itsi }
     {
-        self.radios.find(&itsi.path()).copied()
+        self.radios.find(itsi)
     }
 
     /// Whether the radio is present: it came, and has not left since.
@@ -119,15 +119,11 @@ impl<A: Allocator + Clone> Registry<A> {
         self.rules.entries(alloc)
     }
 
-    /// All radios with their identities, in order of their bits. It takes memory for two such lists.
-    pub fn radios<B: Allocator + Clone>(
-        &self,
-        alloc: B,
-    ) -> Result<Vec<(Itsi, Radio), B>, AllocError>
+    /// All radios with their identities, in order of their bits.
+    pub fn radios<B: Allocator>(&self, alloc: B) -> Result<Vec<(Itsi, Radio), B>, AllocError>
         ensures { IfOk result (λ list. under_bits list.items ≡ map.entries self.now.radios) }
     {
-        let entries = self.radios.entries(alloc.clone()?)?;
-        with_identities(alloc, &entries)
+        self.radios.entries(alloc)
     }
 
     /// The first rule after this prefix in the order of `rules`, also where no rule stands under it, or the first of
@@ -146,10 +142,7 @@ impl<A: Allocator + Clone> Registry<A> {
     pub fn next_radio(&self, after: Option<Itsi>) -> Option<(Itsi, Radio)>
         ensures { option_map under_its_bits result ≡ next_entry self.now.radios (option_map id_path after) }
     {
-        match self.radios.next(path_of(after)) {
-            Some((bits, radio)) => Some((itsi_of(&bits), *radio)),
-            None => None,
-        }
+        self.radios.next(after)
     }
 
     /// Why `set_rule` would refuse a rule under this prefix, memory aside.
@@ -238,7 +231,7 @@ impl<A: Allocator + Clone> Registry<A> {
     pub fn locate(
         &mut self,
         itsi: Itsi,
-        station: u16,
+        station: Station,
         area: LocationArea,
         update: LocationUpdateType,
     ) -> Result<(), RegFault>
@@ -255,7 +248,12 @@ impl<A: Allocator + Clone> Registry<A> {
     /// As `locate`, where `service_refusal` has told nothing: no rule is asked. It tells whether the radio was known
     /// before. `Congestion` where it is new and there are `limits.radios` radios, `NoMemory` where it is new; a
     /// refusal changes nothing.
-    pub fn place(&mut self, itsi: Itsi, station: u16, area: LocationArea) -> Result<bool, RegFault>
+    pub fn place(
+        &mut self,
+        itsi: Itsi,
+        station: Station,
+        area: LocationArea,
+    ) -> Result<bool, RegFault>
         ensures ok { OnOk result ((room_refusal self.old itsi ≡ None) × (self.new ≡ located self.old itsi station area)) }
         ensures known { IfOk result (λ known. known ≡ has_radio self.old itsi) }
         ensures err { IfErr result (λ e. (e ≡ unwrap_or (room_refusal self.old itsi) NoMemory) × (self.new ≡ self.old)) }
@@ -292,7 +290,7 @@ impl<A: Allocator + Clone> Registry<A> {
         ensures there { result ≡ has_radio self.old itsi }
         ensures gone { self.new ≡ without_radio self.old itsi }
     {
-        match self.radios.take(&itsi.path()) {
+        match self.radios.take(itsi) {
             Some(_) => {
                 self.radio_count -= 1;
                 true
@@ -308,7 +306,7 @@ impl<A: Allocator + Clone> Registry<A> {
         ensures err { OnErr result (self.new ≡ self.old) }
         ensures moves { IsSome (radio_of self.old itsi) → IsOk result }
     {
-        match self.radios.insert(itsi.path(), radio) {
+        match self.radios.insert(itsi, radio) {
             Ok(Some(_)) => Ok(()),
             Ok(None) => {
                 self.radio_count += 1;
@@ -324,7 +322,7 @@ impl<A: Allocator + Clone> Registry<A> {
         ensures there { OnSome result (self.new ≡ with_radio self.old itsi radio) }
         ensures absent { IfNone result (self.new ≡ self.old) }
     {
-        match self.radios.replace(&itsi.path(), radio) {
+        match self.radios.replace(itsi, radio) {
             Some(_) => Some(()),
             None => None,
         }
@@ -346,7 +344,7 @@ impl<A: Allocator + Clone> Registry<A> {
             present: false,
             ..radio
         };
-        let _ = self.radios.replace(&itsi.path(), absent);
+        let _ = self.radios.replace(itsi, absent);
         Ok(())
     }
 
@@ -378,38 +376,6 @@ impl<A: Allocator + Clone> TryCopy for Registry<A> {
             radio_count: self.radio_count,
         })
     }
-}
-
-fn path_of(itsi: Option<Itsi>) -> Option<Prefix>
-    ensures { result ≡ option_map id_path itsi }
-{
-    match itsi {
-        Some(itsi) => Some(itsi.path()),
-        None => None,
-    }
-}
-
-/// The radio whose 48 bits these are.
-#[tactic(auto, unfolding(identity::specs::Path::id_path))]
-fn itsi_of(bits: &Prefix) -> Itsi
-    requires { length bits.now ≡ 48 }
-    ensures { id_path result ≡ bits.now }
-{
-    Itsi::from_number(bits.number()).unwrap()
-}
-
-fn with_identities<A: Allocator>(
-    alloc: A,
-    entries: &[(Prefix, Radio)],
-) -> Result<Vec<(Itsi, Radio), A>, AllocError>
-    requires { All (λ e. length e.0 ≡ 48) entries.now }
-    ensures { IfOk result (λ list. under_bits list.items ≡ entries.now) }
-{
-    let mut list = Vec::with_capacity(alloc, entries.len())?;
-    for (bits, radio) in entries {
-        list.push((itsi_of(bits), *radio))?;
-    }
-    Ok(list)
 }
 
 fn type_refusal(update: LocationUpdateType) -> Option<RegFault>

@@ -19,9 +19,9 @@ pub struct Rule {
 
 impl Model for Rule {
     ghost use Rattle.std.specs.Prelude.{◌≤◌};
-    ghost use Rattle.registration.specs.Terms.{Terms};
+    ghost use Rattle.registration.specs.Rule.{Rule};
 
-    ghost Value = { Terms };
+    ghost Value = { Rule };
 
     ghost view = { λ r. record { low = r.low; high = r.high; lifetime = r.lifetime; keep = r.keep } };
 

@@ -8,10 +8,10 @@ use Rattle.centre_core.specs.History.{after}
 use Rattle.schedule.specs.declared.event.Event.{Event}
 use Rattle.schedule.specs.declared.event.Event.TheVariants.{Submit, Seal, CommitBegin, CommitEnd, Publish, Answer, Read, CheckpointBegin, CheckpointEnd, Crash, Reopen}
 use Rattle.schedule.specs.World.{World, Entry}
-use Rattle.schedule.specs.Next.{joined, taken, records_of, first_of, answered, effect, Next, Run}
+use Rattle.schedule.specs.Next.{all_of, taken, records_of, first_of, answered, effect, Next, Run}
 use Rattle.schedule.specs.Clauses.{IsBeginning, IsShortenedByCrashAlone, is_crash}
 use Rattle.schedule.proofs.Lists.{opposed}
-use Rattle.schedule.proofs.Keeping.{Sound, next_keeps, crash_front}
+use Rattle.schedule.proofs.Soundness.{Sound, next_is_sound, crash_front}
 
 module _ {A : Type 0} where
   begins_self : (xs : List (Command A)) → IsBeginning xs xs
@@ -71,7 +71,7 @@ module _ {A : Type 0} where
   grows base w CheckpointEnd h = record { published = omega arith; safe = begins_self (take w.durable w.accepted); answers = stays w }
   grows base w (Crash k) h =
       let safe = take w.durable w.accepted in
-      let more = joined (take k (records_of w.flying)) in
+      let more = all_of (take k (records_of w.flying)) in
       let same : take w.durable (safe ++ more) ≡ safe = take_at safe more w.durable (length-take-le w.durable w.accepted h.stored) in
       record { published = omega arith; safe = subst (λ t. IsBeginning safe t) (sym same) (begins_self safe); answers = stays w }
   grows base w Reopen h = record {
@@ -86,10 +86,10 @@ module _ {A : Type 0} where
   pub run_grows : (base : State) (es : List (Event A)) (w w' : World A) → Sound base w → Run base w es w' → Grows w w'
   run_grows base [] w w' h r = subst (λ (x : World A). Grows w x) (sym r) (grows_same w)
   run_grows base (e ∷ es) w w' h r =
-      grows_trans w r.0 w' (next_grows base w r.0 e h r.1) (run_grows base es r.0 w' (next_keeps base w r.0 e h r.1) r.2)
+      grows_trans w r.0 w' (next_grows base w r.0 e h r.1) (run_grows base es r.0 w' (next_is_sound base w r.0 e h r.1) r.2)
 
   no_crash : (w w' : World A) (e : Event A) → is_crash e ≡ false → IsBeginning w.accepted w'.accepted → IsShortenedByCrashAlone w e w'
-  no_crash w w' e is h = (λ a. h, λ a. absurd (opposed (is_crash e) is a))
+  no_crash w w' e is h = record { else_stays = λ a. h; to_a_beginning = λ a. absurd (opposed (is_crash e) is a); with_durable = λ a. absurd (opposed (is_crash e) is a) }
 
   shortens : (base : State) (w : World A) (e : Event A) → Sound base w → IsShortenedByCrashAlone w e (effect base w e)
   shortens base w (Submit s c) h = no_crash w (effect base w (Submit s c)) (Submit s c) refl (begins_self w.accepted)
@@ -101,10 +101,11 @@ module _ {A : Type 0} where
   shortens base w (Read s) h = no_crash w (effect base w (Read s)) (Read s) refl (begins_self w.accepted)
   shortens base w CheckpointBegin h = no_crash w (effect base w CheckpointBegin) CheckpointBegin refl (begins_self w.accepted)
   shortens base w CheckpointEnd h = no_crash w (effect base w CheckpointEnd) CheckpointEnd refl (begins_self w.accepted)
-  shortens base w (Crash k) h = (
-    λ a. absurd (true≢false a),
-    λ a. (crash_front base w.down w.durable w.accepted w.flying k h.aloft, (joined (take k (records_of w.flying)), refl)),
-  )
+  shortens base w (Crash k) h = record {
+    else_stays = λ a. absurd (true≢false a);
+    to_a_beginning = λ a. crash_front base w.down w.durable w.accepted w.flying k h.aloft;
+    with_durable = λ a. (all_of (take k (records_of w.flying)), refl);
+  }
   shortens base w Reopen h = no_crash w (effect base w Reopen) Reopen refl (begins_self w.accepted)
 
   pub next_shortens : (base : State) (w m : World A) (e : Event A) → Sound base w → Next base w e m → IsShortenedByCrashAlone w e m

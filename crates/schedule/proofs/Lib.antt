@@ -1,6 +1,6 @@
 pub mod Lists
 pub mod Stepping
-pub mod Keeping
+pub mod Soundness
 pub mod Later
 pub mod Sealing
 pub mod Running

@@ -6,7 +6,7 @@ use Rattle.std.proofs.Common.{◌≡◌, ℕ, zero, suc, ◌<◌, ◌≤◌, ◌
 use Rattle.std.proofs.lemmas.List.{append-nil}
 use Rattle.centre_core.specs.declared.command.Command.{Command}
 use Rattle.schedule.specs.World.{Line, line, line_of, with_line}
-use Rattle.schedule.specs.Next.{is_place, cut, joined, emptied, unread}
+use Rattle.schedule.specs.Next.{is_place, cut, all_of, emptied, unread}
 
 pub both : (a b : Bool) → (a && b) ≡ true → (a ≡ true) × (b ≡ true)
 both true b e = (refl, e)
@@ -96,10 +96,10 @@ module _ {A : Type 0} where
   unread_line xs zero = (refl, refl)
   unread_line xs (suc k) = unread_at xs k
 
-  pub joined-cut : (xs : List (Command A)) → joined (cut xs) ≡ xs
-  joined-cut [] = refl
-  joined-cut (x ∷ xs) = append-nil (x ∷ xs)
+  pub all_of-cut : (xs : List (Command A)) → all_of (cut xs) ≡ xs
+  all_of-cut [] = refl
+  all_of-cut (x ∷ xs) = append-nil (x ∷ xs)
 
-  pub joined-append : (xs ys : List (List (Command A))) → joined (xs ++ ys) ≡ joined xs ++ joined ys
-  joined-append [] ys = refl
-  joined-append (x ∷ xs) ys = ap (λ t. x ++ t) (joined-append xs ys) ∙ sym (append_assoc x (joined xs) (joined ys))
+  pub all_of-append : (xs ys : List (List (Command A))) → all_of (xs ++ ys) ≡ all_of xs ++ all_of ys
+  all_of-append [] ys = refl
+  all_of-append (x ∷ xs) ys = ap (λ t. x ++ t) (all_of-append xs ys) ∙ sym (append_assoc x (all_of xs) (all_of ys))

@@ -169,7 +169,7 @@ module _ {A : Type 0} where
       (xs, run-append base (publish_if how.shown) (checkpoint_if how.tidied) (at r xs) (at after xs) (at after xs) (publish_run base how.shown (at r xs) refl) (checkpoint_run base how.tidied (at after xs) refl refl))
 
   is_resting : (f : World A) → IsIdle f → resting f ≡ f
-  is_resting f h = λ i. record f { down = sym h.0 i; flying = sym h.1 i; checking = sym h.2 i; batch = sym h.3 i; owed = sym h.4 i }
+  is_resting f h = λ i. record f { down = sym h.up i; flying = sym h.none_flying i; checking = sym h.none_checking i; batch = sym h.none_sealed i; owed = sym h.none_owed i }
 
   pub rounds_run : RoundsRun A
   rounds_run base f how c cs h small =

@@ -10,7 +10,7 @@ use Rattle.centre_core.specs.InTurn.{reply_to}
 use Rattle.centre_core.proofs.InTurnLaws.{after-append}
 use Rattle.schedule.specs.declared.event.Event.TheVariants.{Answer}
 use Rattle.schedule.specs.World.{World, Line, line, line_of, with_line, ground, Entry}
-use Rattle.schedule.specs.Next.{joined, replies, taken, accepted_of, cut, records_of, first_of, without_first, told, answered, seen_after, effect, IsFlown}
+use Rattle.schedule.specs.Next.{all_of, replies, taken, accepted_of, cut, records_of, first_of, without_first, told, answered, seen_after, effect, IsFlown}
 use Rattle.schedule.proofs.Stepping.{not_accepted}
 
 module _ {A : Type 0} where
@@ -41,18 +41,18 @@ module _ {A : Type 0} where
         (whole ∙ (ap (λ t. t ++ news) (sym front) ∙ ap (λ t. take d acc' ++ t) (sym same)), up),
       )
 
-  all_records : (k : ℕ) (xs : List (Command A)) → 0 < k → k ≤ length (cut xs) → joined (take k (cut xs)) ≡ xs
+  all_records : (k : ℕ) (xs : List (Command A)) → 0 < k → k ≤ length (cut xs) → all_of (take k (cut xs)) ≡ xs
   all_records zero xs some few = absurd (omega arith)
   all_records (suc k) [] some few = absurd (omega arith)
   all_records (suc zero) (x ∷ xs) some few = append-nil (x ∷ xs)
   all_records (suc (suc k)) (x ∷ xs) some few = absurd (omega arith)
 
   -- a crash that lets no record through leaves what is durable
-  pub none_left : (d : ℕ) (acc : List (Command A)) (f : Option (List (Entry A))) → take d acc ≡ take d acc ++ joined (take 0 (records_of f))
+  pub none_left : (d : ℕ) (acc : List (Command A)) (f : Option (List (Entry A))) → take d acc ≡ take d acc ++ all_of (take 0 (records_of f))
   none_left d acc f = sym (append-nil (take d acc))
 
   -- one that lets a record through leaves all that is accepted
-  pub all_left : (down : Bool) (d k : ℕ) (acc : List (Command A)) (f : Option (List (Entry A))) → IsFlown down d acc f → 0 < k → k ≤ length (records_of f) → take (length acc) acc ≡ take d acc ++ joined (take k (records_of f))
+  pub all_left : (down : Bool) (d k : ℕ) (acc : List (Command A)) (f : Option (List (Entry A))) → IsFlown down d acc f → 0 < k → k ≤ length (records_of f) → take (length acc) acc ≡ take d acc ++ all_of (take k (records_of f))
   all_left down d k acc None h some few = absurd (omega arith)
   all_left down d k acc (Some xs) h some few = take_all (length acc) acc (omega arith) ∙ (h.0 ∙ ap (λ t. take d acc ++ t) (sym (all_records k (accepted_of xs) some few)))
 

@@ -12,8 +12,9 @@ use Rattle.schedule.specs.declared.event.Event.TheVariants.{Submit, Seal, Commit
 use Rattle.schedule.specs.World.{World, Line, line, line_of, with_line, queue_of, seen_of, opening}
 use Rattle.schedule.specs.Next.{is_place, is_empty, front, first_of, answered, seen_after, is_station, is_still, may, effect, Next, Run}
 use Rattle.schedule.specs.Clauses.{IsBeginning, IsBorneOut, IsWithin, read_by, is_reopen, submitted_by, submitted, sealed_by, sealed, IsOneLife, IsFresh}
+use Rattle.schedule.specs.Laws.{ReadsGrow, ReadsHoldAnswers}
 use Rattle.schedule.proofs.Lists.{both, not_true, opposed, line_put, line_same, line_other, unread_line}
-use Rattle.schedule.proofs.Keeping.{reached, run_keeps, next_keeps, opening_line, all_whole, all_within}
+use Rattle.schedule.proofs.Soundness.{reached, run_is_sound, next_is_sound, opening_line, all_whole, all_within}
 use Rattle.schedule.proofs.Later.{run_grows, take_begins}
 
 same_station : (s t : ℕ) → (s == t) ≡ true → s ≡ t
@@ -150,13 +151,12 @@ module _ {A : Type 0} where
       let same : take p ys ≡ take p xs = ap (λ t. take p t) h.1 ∙ take-append-le p xs h.0 short in
       subst (λ t. IsBeginning t (take q ys)) same (take_begins p q ys le)
 
-  pub reads_grow : (base : State) (n : ℕ) (es fs : List (Event A)) (w r w' r' : World A) (s t : ℕ) → Run base (opening n) es w → Next base w (Read s) r → Run base r fs w' → Next base w' (Read t) r'
-      → IsBeginning (read_by r s) (read_by r' t)
-  reads_grow base n es fs w r w' r' s t run one more two =
+  pub reads_grow : ReadsGrow A
+  reads_grow base n es w run s r one fs w' more t r' two =
       let sound = reached base n es w run in
-      let here = next_keeps base w r (Read s) sound one in
+      let here = next_is_sound base w r (Read s) sound one in
       let grown = run_grows base fs r w' here more in
-      let there = run_keeps base fs r w' here more in
+      let there = run_is_sound base fs r w' here more in
       let a = read_shows base w r s one in
       let b = read_shows base w' r' t two in
       let seen : seen_of r s ≡ r.published = a.0 ∙ sym a.1 in
@@ -169,8 +169,8 @@ module _ {A : Type 0} where
       take-take w'.published w'.durable w'.accepted small' ∙ (ap (λ v. take v w'.accepted) (sym b.0) ∙ ap (λ l. take (seen_of r' t) l) (sym b.3)) in
       subst (λ x. IsBeginning x (read_by r' t)) left (subst (λ x. IsBeginning (take r.published (take r.durable r.accepted)) x) right h)
 
-  pub answers_read : (base : State) (n : ℕ) (es fs : List (Event A)) (w w' r : World A) (t : ℕ) → Run base (opening n) es w → Run base w fs w' → Next base w' (Read t) r → All (IsWithin base (seen_of r t)) w.answers
-  answers_read base n es fs w w' r t run more one =
+  pub answers_read : ReadsHoldAnswers A
+  answers_read base n es w run fs w' more t r one =
       let sound = reached base n es w run in
       let grown = run_grows base fs w w' sound more in
       All-from_recursion (IsWithin base (seen_of r t)) w.answers (

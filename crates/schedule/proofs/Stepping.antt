@@ -7,7 +7,7 @@ use Rattle.centre_core.specs.declared.command.Command.{Command}
 use Rattle.centre_core.specs.declared.reply.Reply.{Reply}
 use Rattle.centre_core.specs.declared.reply.Reply.TheVariants.{Accepted, Kept, Refused}
 use Rattle.centre_core.specs.State.{State}
-use Rattle.centre_core.specs.Step.{kept_at}
+use Rattle.centre_core.specs.Step.{last_at}
 use Rattle.centre_core.specs.History.{is_acceptance, next, after}
 use Rattle.centre_core.specs.Histories.{IsHistory}
 use Rattle.centre_core.specs.InTurn.{reply_to, last_of, Replied}
@@ -41,7 +41,7 @@ module _ {A : Type 0} where
         replied = subst (λ t. reply_to (after base t) c ≡ Accepted n p) (sym (take_at l (c ∷ []) (length l) refl)) (subst (λ t. reply_to t c ≡ Accepted n p) at is);
       }
   reply_borne base s l c a at (Kept n p) is says =
-      let kept : kept_at (after base l) c.station ≡ Some (last_of c n p) = subst (λ t. kept_at t c.station ≡ Some (last_of c n p)) at says.2 in
+      let kept : last_at (after base l) c.station ≡ Some (last_of c n p) = subst (λ t. last_at t c.station ≡ Some (last_of c n p)) at says.2 in
       elim (kept_stands base l a c.station (last_of c n p) says.1 kept) [ inl q ↦ inl (left_more base l (c ∷ []) c.station (last_of c n p) q) | inr q ↦ inr q ]
   reply_borne base s l c a at (Refused r) is says = (
     length l,
@@ -53,7 +53,7 @@ module _ {A : Type 0} where
   reply_alone : (base s : State) (l : List (Command A)) (c : Command A) → IsHistory base l → s ≡ after base l → (r : Reply A) → reply_to s c ≡ r → Replied s c (next s c) r → is_acceptance r ≡ false → IsBorneOut base l (c, r)
   reply_alone base s l c a at (Accepted n p) is says not_it = absurd (true≢false not_it)
   reply_alone base s l c a at (Kept n p) is says not_it =
-      let kept : kept_at (after base l) c.station ≡ Some (last_of c n p) = subst (λ t. kept_at t c.station ≡ Some (last_of c n p)) at says.2 in kept_stands base l a c.station (last_of c n p) says.1 kept
+      let kept : last_at (after base l) c.station ≡ Some (last_of c n p) = subst (λ t. last_at t c.station ≡ Some (last_of c n p)) at says.2 in kept_stands base l a c.station (last_of c n p) says.1 kept
   reply_alone base s l c a at (Refused r) is says not_it = (
     length l,
     omega arith,

@@ -1,5 +1,7 @@
 -- What may happen next, and what it does.
-use Rattle.std.specs.Prelude.{◌≡◌, ℕ, ◌==◌, Bool, true, false, not, cond, ◌&&◌, nat_lt, nat_le, is_none, is_some, option_map, find, reverse, List, [], ◌∷◌, ◌++◌, length, take, drop, map, Option, Some, None}
+use Rattle.std.specs.Prelude.{◌≡◌, ◌==◌, Bool, true, false, not, cond, ◌&&◌, nat_lt, nat_le, is_none, is_some, option_map, find, reverse, List, [], ◌∷◌, ◌++◌, length, take, drop, map, Option, Some, None}
+use Rattle.registration.specs.Numbers.{Station}
+use Rattle.mailbox.specs.Numbers.{Count}
 use Rattle.centre_core.specs.declared.command.Command.{Command}
 use Rattle.centre_core.specs.declared.reply.Reply.{Reply}
 use Rattle.centre_core.specs.declared.reply.Reply.TheVariants.{Accepted, Kept, Refused}
@@ -23,7 +25,7 @@ front [] = []
 front (x ∷ xs) = x ∷ []
 
 -- there is a line of this station
-abbrev pub is_place : {A : Type 0} → List (Line A) → ℕ → Bool
+abbrev pub is_place : {A : Type 0} → List (Line A) → Station → Bool
 is_place lines s = nat_lt 0 s && nat_le s (length lines)
 
 module _ {A : Type 0} where
@@ -47,9 +49,9 @@ module _ {A : Type 0} where
   cut (c ∷ cs) = (c ∷ cs) ∷ []
 
   -- the commands of records, in order
-  abbrev pub joined : List (List (Command A)) → List (Command A)
-  joined [] = []
-  joined (r ∷ rs) = r ++ joined rs
+  abbrev pub all_of : List (List (Command A)) → List (Command A)
+  all_of [] = []
+  all_of (r ∷ rs) = r ++ all_of rs
 
   -- the records of the commit at work
   abbrev pub records_of : Option (List (Entry A)) → List (List (Command A))
@@ -62,12 +64,12 @@ module _ {A : Type 0} where
   replies_of (Some xs) = xs
 
   -- the first entry of a station, as a list of one, and the entries without it
-  abbrev pub first_of : ℕ → List (Entry A) → List (Entry A)
+  abbrev pub first_of : Station → List (Entry A) → List (Entry A)
   first_of s [] = []
   first_of s (x ∷ xs) = cond (x.0.station == s) (x ∷ []) (first_of s xs)
 
   -- the entries without the first one of a station
-  abbrev pub without_first : ℕ → List (Entry A) → List (Entry A)
+  abbrev pub without_first : Station → List (Entry A) → List (Entry A)
   without_first s [] = []
   without_first s (x ∷ xs) = cond (x.0.station == s) xs (x ∷ without_first s xs)
 
@@ -83,12 +85,12 @@ module _ {A : Type 0} where
   answered all (x ∷ xs) = (x.0, told all x.1) ∷ answered all xs
 
   -- how much a station has seen once it has this answer
-  abbrev pub seen_after : ℕ → ℕ → List (Entry A) → ℕ
+  abbrev pub seen_after : Count → Count → List (Entry A) → Count
   seen_after seen published [] = seen
   seen_after seen published (x ∷ xs) = cond (is_acceptance x.1) published seen
 
   -- the last reply to a station among these
-  abbrev pub last_answer : ℕ → List (Entry A) → Option (Reply A)
+  abbrev pub last_answer : Station → List (Entry A) → Option (Reply A)
   last_answer s xs = option_map (λ x. x.1) (find (λ x. x.0.station == s) (reverse xs))
 
   -- the lines with nothing queued
@@ -100,18 +102,26 @@ module _ {A : Type 0} where
   unread xs = map (λ x. line x.queue 0) xs
 
   -- whether there is a station of this number
-  abbrev pub is_station : World A → ℕ → Bool
+  abbrev pub is_station : World A → Station → Bool
   is_station w s = is_place w.lines s
 
   -- not down, and nothing flying
   abbrev pub is_still : World A → Bool
   is_still w = not w.down && is_none w.flying
 
+  -- all is answered, the batch is not full, and the station has something queued
+  abbrev pub can_seal : World A → Station → Bool
+  can_seal w s = is_empty w.owed && (nat_lt (length w.batch) 64 && not (is_empty (queue_of w s)))
+
+  -- something is sealed, and all that is durable is published
+  abbrev pub can_commit : World A → Bool
+  can_commit w = not (is_empty w.batch) && (w.published == w.durable)
+
   -- the condition of an event
   abbrev pub may : World A → Event A → Bool
   may w (Submit s c) = is_station w s && (not w.down && (c.station == s))
-  may w (Seal s) = is_station w s && (is_still w && (is_empty w.owed && (nat_lt (length w.batch) 64 && not (is_empty (queue_of w s)))))
-  may w CommitBegin = is_still w && (not w.checking && (not (is_empty w.batch) && (w.published == w.durable)))
+  may w (Seal s) = is_station w s && (is_still w && can_seal w s)
+  may w CommitBegin = is_still w && (not w.checking && can_commit w)
   may w CommitEnd = is_some w.flying
   may w Publish = is_still w
   may w (Answer s) = is_station w s && (not w.down && not (is_empty (first_of s w.owed)))
@@ -120,6 +130,10 @@ module _ {A : Type 0} where
   may w CheckpointEnd = w.checking
   may w (Crash k) = not w.down && nat_le k (length (records_of w.flying))
   may w Reopen = w.down
+
+  -- the first of what is owed to a station, as it is answered now
+  abbrev pub answer_to : World A → Station → List (Entry A)
+  answer_to w s = answered (w.published == w.durable) (first_of s w.owed)
 
   -- its effect, over the base from which the accepted commands are counted
   abbrev pub effect : State → World A → Event A → World A
@@ -135,9 +149,9 @@ module _ {A : Type 0} where
   effect base w CommitEnd = record w { durable = length w.accepted; flying = None; owed = replies_of w.flying; batch = [] }
   effect base w Publish = record w { published = w.durable }
   effect base w (Answer s) = record w {
-    lines = with_line w.lines s (line (queue_of w s) (seen_after (seen_of w s) w.published (answered (w.published == w.durable) (first_of s w.owed))));
+    lines = with_line w.lines s (line (queue_of w s) (seen_after (seen_of w s) w.published (answer_to w s)));
     owed = without_first s w.owed;
-    answers = w.answers ++ answered (w.published == w.durable) (first_of s w.owed);
+    answers = w.answers ++ answer_to w s;
   }
   effect base w (Read s) = record w { lines = with_line w.lines s (line (queue_of w s) w.published) }
   effect base w CheckpointBegin = record w { checking = true }
@@ -145,7 +159,7 @@ module _ {A : Type 0} where
   effect base w (Crash k) = record w {
     lines = emptied w.lines;
     batch = [];
-    accepted = take w.durable w.accepted ++ joined (take k (records_of w.flying));
+    accepted = take w.durable w.accepted ++ all_of (take k (records_of w.flying));
     flying = None;
     owed = [];
     checking = false;
@@ -163,7 +177,7 @@ module _ {A : Type 0} where
   Run base w (e ∷ es) w' = (m : World A) × Next base w e m × Run base m es w'
 
   -- where nothing flies, and the centre is not down, all that is accepted is durable; else what flies is all that is not
-  abbrev pub IsFlown : Bool → ℕ → List (Command A) → Option (List (Entry A)) → Type 0
+  abbrev pub IsFlown : Bool → Count → List (Command A) → Option (List (Entry A)) → Type 0
   IsFlown down durable acc None = down ≡ false → durable ≡ length acc
   IsFlown down durable acc (Some xs) = (acc ≡ take durable acc ++ accepted_of xs) × (down ≡ false)
 

@@ -20,10 +20,14 @@ module _ {A : Type 0} where
   abbrev pub at : World A → List (Line A) → World A
   at f xs = record f { lines = xs }
 
+  -- a line with a command before what waits in it
+  abbrev pub with_first : Command A → Line A → Line A
+  with_first c old = line (c ∷ old.queue) old.seen
+
   -- the lines with these commands before what waits
   abbrev pub fed : List (Command A) → List (Line A) → List (Line A)
   fed [] xs = xs
-  fed (c ∷ cs) xs = with_line (fed cs xs) c.station (line (c ∷ (line_of (fed cs xs) c.station).queue) (line_of (fed cs xs) c.station).seen)
+  fed (c ∷ cs) xs = with_line (fed cs xs) c.station (with_first c (line_of (fed cs xs) c.station))
 
   -- each is of one of these stations
   abbrev pub AreOf : List (Line A) → List (Command A) → Type 0
@@ -34,8 +38,12 @@ module _ {A : Type 0} where
   Goes base popped es f g = (xs : List (Line A)) → AreOf xs popped → (later : List (Line A)) × Run base (at f (fed popped xs)) es (at g later)
 
   -- the flusher is between two rounds: nothing is down, at work, sealed or owed; what is published may be less than what is durable
-  abbrev pub IsIdle : World A → Type 0
-  IsIdle f = (f.down ≡ false) × (f.flying ≡ None) × (f.checking ≡ false) × (f.batch ≡ []) × (f.owed ≡ [])
+  pub record IsIdle (f : World A) : Type 0 where
+    pub up : f.down ≡ false
+    pub none_flying : f.flying ≡ None
+    pub none_checking : f.checking ≡ false
+    pub none_sealed : f.batch ≡ []
+    pub none_owed : f.owed ≡ []
 
   -- each command is sealed
   abbrev pub seals : List (Command A) → List (Event A)
@@ -57,16 +65,33 @@ module _ {A : Type 0} where
   publish_if true = Publish ∷ []
   publish_if false = []
 
+  -- what is sealed is committed, and a checkpoint made behind it, or none
+  abbrev pub commit_of : Round → List (Event A)
+  commit_of how = CommitBegin ∷ CommitEnd ∷ checkpoint_if how.tidied
+
+  -- what was committed is published or not, and answered
+  abbrev pub shown_of : Round → List (Command A) → List (Event A)
+  shown_of how popped = publish_if how.shown ++ answers_to popped
+
   -- the events of a round that popped these commands: what was durable before is published first
   abbrev pub events_of : Round → List (Command A) → List (Event A)
-  events_of how popped = Publish ∷ seals popped ++ (checkpoint_if how.made_room ++ (CommitBegin ∷ CommitEnd ∷ checkpoint_if how.tidied ++ (publish_if how.shown ++ answers_to popped)))
+  events_of how popped = Publish ∷ seals popped ++ (checkpoint_if how.made_room ++ (commit_of how ++ shown_of how popped))
+
+  -- what is accepted after a round that popped these commands
+  abbrev pub accepted_after : State → World A → List (Command A) → List (Command A)
+  accepted_after base f popped = f.accepted ++ taken (after base f.accepted) popped
 
   -- after a round that popped these commands: all is published, or else what was durable before
   abbrev pub after_round : State → World A → List (Command A) → Bool → World A
   after_round base f popped shown =
-      let log = f.accepted ++ taken (after base f.accepted) popped in
-      let seen = cond shown (length log) f.durable in
-      record f { accepted = log; durable = length log; published = seen; answers = f.answers ++ answered (seen == length log) (replies (after base f.accepted) popped) }
+      let all = length (accepted_after base f popped) in
+      let published = cond shown all f.durable in
+      record f {
+        accepted = accepted_after base f popped;
+        durable = all;
+        published = published;
+        answers = f.answers ++ answered (published == all) (replies (after base f.accepted) popped);
+      }
 
   -- after a round that popped nothing
   abbrev pub after_idle_round : World A → Bool → World A
@@ -75,7 +100,8 @@ module _ {A : Type 0} where
 module _ (A : Type 0) where
   -- from whatever is idle, a round of 1 to 64 commands goes by a run
   abbrev pub RoundsRun : Type 0
-  RoundsRun = (base : State) (f : World A) (how : Round) (c : Command A) (cs : List (Command A)) → IsIdle f → length (c ∷ cs) ≤ 64 → Goes base (c ∷ cs) (events_of how (c ∷ cs)) f (after_round base f (c ∷ cs) how.shown)
+  RoundsRun = (base : State) (f : World A) (how : Round) (c : Command A) (cs : List (Command A)) → IsIdle f → length (c ∷ cs) ≤ 64
+      → Goes base (c ∷ cs) (events_of how (c ∷ cs)) f (after_round base f (c ∷ cs) how.shown)
 
   -- a round that popped nothing publishes what is durable, or does nothing; a checkpoint may be made in it
   abbrev pub IdleRoundsRun : Type 0

@@ -1,8 +1,10 @@
 -- The centre as a machine over events: its world.
 use Rattle.std.specs.Prelude.{ℕ, zero, suc, Bool, false, List, [], replicate, slice_index_or, slice_set, Option, None}
 use Rattle.std.proofs.Common.{arith}
+use Rattle.registration.specs.Numbers.{Station}
 use Rattle.registration.specs.Limits.{rule_capacity, radio_capacity, mail_capacity, station_capacity}
 use Rattle.registration.specs.declared.limits.Limits.{Limits}
+use Rattle.mailbox.specs.Numbers.{Count}
 use Rattle.centre_core.specs.declared.command.Command.{Command}
 use Rattle.centre_core.specs.declared.reply.Reply.{Reply}
 use Rattle.centre_core.specs.State.{State, empty}
@@ -37,15 +39,15 @@ Entry A = Command A × Reply A
 -- a station's part: what it submitted that is not sealed, oldest first, and how many accepted commands it has seen
 pub record Line (A : Type 0) : Type 0 where
   pub queue : List (Command A)
-  pub seen : ℕ
+  pub seen : Count
 
 -- the lines of the stations from 1 on, the batch that is sealed, and the commands accepted since the base; how many of these are durable and how many are published; the batch of a commit at work with its replies, if one is; what is to be answered, and all that was answered; whether a checkpoint is at work, and whether the centre is down
 pub record World (A : Type 0) : Type 0 where
   pub lines : List (Line A)
   pub batch : List (Command A)
   pub accepted : List (Command A)
-  pub durable : ℕ
-  pub published : ℕ
+  pub durable : Count
+  pub published : Count
   pub flying : Option (List (Entry A))
   pub owed : List (Entry A)
   pub answers : List (Entry A)
@@ -54,7 +56,7 @@ pub record World (A : Type 0) : Type 0 where
 
 module _ {A : Type 0} where
   -- a station's line: what is queued, and how many accepted commands it has seen
-  abbrev pub line : List (Command A) → ℕ → Line A
+  abbrev pub line : List (Command A) → Station → Line A
   line q s = record { queue = q; seen = s }
 
   -- the world at the start
@@ -73,19 +75,19 @@ module _ {A : Type 0} where
   }
 
   -- the line of a station, counted from 1; an empty one where there is no such station
-  abbrev pub line_of : List (Line A) → ℕ → Line A
+  abbrev pub line_of : List (Line A) → Station → Line A
   line_of lines zero = line [] 0
   line_of lines (suc k) = slice_index_or lines k (line [] 0)
 
   -- the lines with another one for this station
-  abbrev pub with_line : List (Line A) → ℕ → Line A → List (Line A)
+  abbrev pub with_line : List (Line A) → Station → Line A → List (Line A)
   with_line lines zero x = lines
   with_line lines (suc k) x = slice_set lines k x
 
   -- what a station submitted that is not sealed
-  abbrev pub queue_of : World A → ℕ → List (Command A)
+  abbrev pub queue_of : World A → Station → List (Command A)
   queue_of w s = (line_of w.lines s).queue
 
   -- how many accepted commands a station has seen
-  abbrev pub seen_of : World A → ℕ → ℕ
+  abbrev pub seen_of : World A → Station → Count
   seen_of w s = (line_of w.lines s).seen

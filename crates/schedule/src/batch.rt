@@ -9,7 +9,9 @@ ghost use Rattle.schedule.specs.Next.{told, last_answer, replies, accepted_of, t
 
 use centre_core::{Command, Register, Reply};
 use prefix_tree::TryCopy;
-use registration::{Limits, MAIL_CAPACITY, RADIO_CAPACITY, RULE_CAPACITY, STATION_CAPACITY};
+use registration::{
+    Limits, MAIL_CAPACITY, RADIO_CAPACITY, RULE_CAPACITY, STATION_CAPACITY, Station,
+};
 use std::alloc::{AllocError, Allocator};
 
 /// The greatest limits of a register.
@@ -133,7 +135,7 @@ pub(crate) fn tell<A: Allocator>(all: bool, reply: Reply<A>) -> Reply<A>
 // The last entry of the station.
 fn last_of<A: Allocator>(
     answers: &[(Command<A>, Reply<A>)],
-    station: u16,
+    station: Station,
 ) -> Option<&(Command<A>, Reply<A>)>
     ensures { option_copied result ≡ find (λ (x : Entry A). x.0.station == station) (reverse answers.now) }
 {
@@ -146,7 +148,7 @@ fn last_of<A: Allocator>(
 /// The last answer to a station.
 pub(crate) fn last_answer<A: Allocator>(
     answers: &[(Command<A>, Reply<A>)],
-    station: u16,
+    station: Station,
 ) -> Option<&Reply<A>>
     ensures { option_copied result ≡ last_answer station answers.now }
 {

@@ -5,6 +5,7 @@ ghost use Rattle.schedule.specs.World.{Entry};
 ghost use Rattle.schedule.specs.Next.{is_empty, accepted_of, cut, first_of, without_first, replies_of};
 
 use centre_core::{Command, Reply};
+use registration::Station;
 use std::alloc::Allocator;
 use std::marker::Model;
 
@@ -34,7 +35,7 @@ fn any_accepted<A: Allocator>(entries: &[(Command<A>, Reply<A>)]) -> bool
     false
 }
 
-fn place_of<A: Allocator>(entries: &[(Command<A>, Reply<A>)], station: u16) -> Option<usize>
+fn place_of<A: Allocator>(entries: &[(Command<A>, Reply<A>)], station: Station) -> Option<usize>
     ensures { result ≡ position (λ (x : Entry A). x.0.station == station) entries.now }
 {
     entries.iter().position(|entry| entry.0.station == station)
@@ -42,7 +43,7 @@ fn place_of<A: Allocator>(entries: &[(Command<A>, Reply<A>)], station: u16) -> O
 
 // Where the first entry of the station stands.
 #[tactic(auto, using(crate::proofs::Placing::placed))]
-fn first_place<A: Allocator>(entries: &[(Command<A>, Reply<A>)], station: u16) -> Option<usize>
+fn first_place<A: Allocator>(entries: &[(Command<A>, Reply<A>)], station: Station) -> Option<usize>
     ensures { MatchOption result (first_of station entries.now ≡ []) (λ i. (i < length entries.now) × (without_first station entries.now ≡ take i entries.now ++ drop (i + 1) entries.now) × ((d : Entry A) → first_of station entries.now ≡ slice_index_or entries.now i d ∷ []) × (is_empty (first_of station entries.now) ≡ false)) }
 {
     place_of(entries, station)
@@ -79,14 +80,14 @@ impl<A: Allocator> Entries<A> {
     }
 
     /// Whether one of them is of the station.
-    pub(crate) fn has(&self, station: u16) -> bool
+    pub(crate) fn has(&self, station: Station) -> bool
         ensures { result ≡ not (is_empty (first_of station self.now)) }
     {
         first_place(&self.items, station).is_some()
     }
 
     /// Takes out the first one of the station.
-    pub(crate) fn take_first(&mut self, station: u16) -> (Command<A>, Reply<A>)
+    pub(crate) fn take_first(&mut self, station: Station) -> (Command<A>, Reply<A>)
         requires { not (is_empty (first_of station self.old)) ≡ true }
         ensures first { first_of station self.old ≡ result ∷ [] }
         ensures rest { self.new ≡ without_first station self.old }

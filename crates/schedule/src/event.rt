@@ -1,14 +1,15 @@
 use centre_core::Command;
+use registration::Station;
 use std::alloc::Allocator;
 
 /// What may happen next. Stations are counted from 1.
 #[derive(Drop)]
 pub enum Event<A: Allocator> {
     /// A station submits a command of its own: it goes last into the station's queue. Not while down.
-    Submit(u16, Command<A>),
+    Submit(Station, Command<A>),
     /// The first command of a station's queue goes last into the batch, of at most 64 commands. Not while
     /// down, while a commit is at work, or while an entry of the last batch is owed.
-    Seal(u16),
+    Seal(Station),
     /// A commit begins: what the register accepts of the batch, in turn, is accepted. Not while down, while
     /// a commit or a checkpoint is at work, or while something durable is not published.
     CommitBegin,
@@ -17,9 +18,9 @@ pub enum Event<A: Allocator> {
     /// All that is durable is published. Not while down or while a commit is at work.
     Publish,
     /// The first entry that is owed to a station is answered. Not while down.
-    Answer(u16),
+    Answer(Station),
     /// A station reads what is published. It may do so while down.
-    Read(u16),
+    Read(Station),
     /// A checkpoint begins. Not while down, or while a commit or another checkpoint is at work.
     CheckpointBegin,
     /// It ends.

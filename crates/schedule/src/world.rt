@@ -3,7 +3,7 @@
 ghost use Rattle.std.specs.Prelude.{◌≡◌, ◌<◌, ◌≤◌, ◌++◌, true, IfOk, OnOk, IfErr, OnErr, length, take};
 ghost use Rattle.std.specs.Option.{option_copied};
 ghost use Rattle.schedule.specs.World.{ground, opening};
-ghost use Rattle.schedule.specs.Next.{is_station, is_still, may, effect, joined, grows, Next, IsRefused, records_of, last_answer};
+ghost use Rattle.schedule.specs.Next.{is_station, is_still, may, effect, all_of, grows, Next, IsRefused, records_of, last_answer};
 
 use crate::batch;
 use crate::entries::Entries;
@@ -11,6 +11,7 @@ use crate::event::Event;
 use crate::fault::StepFault;
 use crate::seats::Seats;
 use centre_core::{Command, Register, Reply};
+use registration::Station;
 use std::alloc::{AllocError, Allocator};
 use std::marker::Model;
 use std::mem;
@@ -74,10 +75,10 @@ impl<A: Allocator + Copy> World<A> {
         })
     }
 
-    fn is_station(&self, station: u16) -> bool
+    fn is_station(&self, station: Station) -> bool
         ensures { result ≡ is_station self.now station }
     {
-        self.seats.has(station)
+        self.seats.has(station.number())
     }
 
     fn is_still(&self) -> bool
@@ -86,14 +87,14 @@ impl<A: Allocator + Copy> World<A> {
         !self.down && self.flying.is_none()
     }
 
-    fn may_seal(&self, station: u16) -> bool
+    fn may_seal(&self, station: Station) -> bool
         ensures { result ≡ may self.now (Event.Seal station) }
     {
         self.is_station(station)
             && self.is_still()
             && self.owed.is_empty()
             && self.batch.len() < MOST_SEALED
-            && self.seats.waits(station)
+            && self.seats.waits(station.number())
     }
 
     fn may_commit(&self) -> bool
@@ -105,7 +106,7 @@ impl<A: Allocator + Copy> World<A> {
             && self.published == self.durable
     }
 
-    fn may_answer(&self, station: u16) -> bool
+    fn may_answer(&self, station: Station) -> bool
         ensures { result ≡ may self.now (Event.Answer station) }
     {
         self.is_station(station) && (!self.down && self.owed.has(station))
@@ -141,23 +142,23 @@ impl<A: Allocator + Copy> World<A> {
         }
     }
 
-    fn submit(&mut self, station: u16, command: &Command<A>) -> Result<(), AllocError>
+    fn submit(&mut self, station: Station, command: &Command<A>) -> Result<(), AllocError>
         requires { may self.old (Event.Submit station command.now) ≡ true }
         ensures ok { OnOk result (self.new ≡ effect ground self.old (Event.Submit station command.now)) }
         ensures err { OnErr result (self.new ≡ self.old) }
     {
         let copy = batch::copy_of(self.alloc, command)?;
-        self.seats.submit(station, copy)?;
+        self.seats.submit(station.number(), copy)?;
         Ok(())
     }
 
-    fn seal(&mut self, station: u16) -> Result<(), AllocError>
+    fn seal(&mut self, station: Station) -> Result<(), AllocError>
         requires { may self.old (Event.Seal station) ≡ true }
         ensures ok { OnOk result (self.new ≡ effect ground self.old (Event.Seal station)) }
         ensures err { OnErr result (self.new ≡ self.old) }
     {
         self.batch.reserve(1)?;
-        let command = self.seats.seal(station);
+        let command = self.seats.seal(station.number());
         self.batch.push_reserved(command);
         Ok(())
     }
@@ -193,11 +194,11 @@ impl<A: Allocator + Copy> World<A> {
         self.published = self.durable;
     }
 
-    fn read(&mut self, station: u16)
+    fn read(&mut self, station: Station)
         requires { may self.old (Event.Read station) ≡ true }
         ensures { self.new ≡ effect ground self.old (Event.Read station) }
     {
-        self.seats.see(station, self.published); // and no more
+        self.seats.see(station.number(), self.published); // and no more
     }
 
     fn reopen(&mut self)
@@ -210,7 +211,7 @@ impl<A: Allocator + Copy> World<A> {
         self.down = false;
     }
 
-    fn answer(&mut self, station: u16) -> Result<(), AllocError>
+    fn answer(&mut self, station: Station) -> Result<(), AllocError>
         requires { may self.old (Event.Answer station) ≡ true }
         ensures ok { OnOk result (self.new ≡ effect ground self.old (Event.Answer station)) }
         ensures err { OnErr result (self.new ≡ self.old) }
@@ -219,7 +220,7 @@ impl<A: Allocator + Copy> World<A> {
         let (command, reply) = self.owed.take_first(station);
         let told = batch::tell(self.published == self.durable, reply);
         let accepted = told.is_acceptance();
-        self.seats.hear(station, accepted, self.published);
+        self.seats.hear(station.number(), accepted, self.published);
         self.answers.push_reserved((command, told));
         Ok(())
     }
@@ -231,9 +232,9 @@ impl<A: Allocator + Copy> World<A> {
     }
 
     // How many commands a crash leaves, where so many records came through.
-    fn kept_length(&self, count: usize) -> usize
+    fn left_length(&self, count: usize) -> usize
         requires { may self.now (Event.Crash count) ≡ true }
-        ensures front { take result self.now.accepted ≡ take self.now.durable self.now.accepted ++ joined (take count (records_of self.now.flying)) }
+        ensures front { take result self.now.accepted ≡ take self.now.durable self.now.accepted ++ all_of (take count (records_of self.now.flying)) }
         ensures durable { self.now.durable ≤ result }
         ensures within { result ≤ length self.now.accepted }
     {
@@ -249,7 +250,7 @@ impl<A: Allocator + Copy> World<A> {
         ensures ok { OnOk result (self.new ≡ effect ground self.old (Event.Crash count)) }
         ensures err { OnErr result (self.new ≡ self.old) }
     {
-        let length = self.kept_length(count);
+        let length = self.left_length(count);
         let register = batch::replay(self.alloc, &self.accepted.as_slice()[..length])?;
         self.seats.fall();
         self.batch.clear();
@@ -322,7 +323,7 @@ impl<A: Allocator + Copy> World<A> {
     }
 
     /// The last answer to the station, if it had one.
-    pub fn last_answer(&self, station: u16) -> Option<&Reply<A>>
+    pub fn last_answer(&self, station: Station) -> Option<&Reply<A>>
         ensures { option_copied result ≡ last_answer station self.now.answers }
     {
         batch::last_answer(&self.answers, station)

@@ -2,6 +2,7 @@
 
 use crate::commands::{Made, event};
 use centre_core::Reply;
+use registration::Station;
 use schedule::World;
 use std::alloc::Global;
 use std::test::Fail;
@@ -57,7 +58,8 @@ fn is_kept_first(answer: Option<&Reply<Global>>) -> bool {
 fn row_goes(alloc: Global) -> Result<bool, Fail> {
     let mut world = World::new(alloc, 2)?;
     let went = goes(&mut world);
-    let kept = is_kept_first(world.last_answer(1)) && world.last_answer(2).is_none();
+    let kept = is_kept_first(world.last_answer(Station::new(1)))
+        && world.last_answer(Station::new(2)).is_none();
     drop(world);
     Ok(went? && kept)
 }

@@ -2,6 +2,7 @@
 
 use crate::commands::{Made, event};
 use linked_list_allocator::LocalHeap;
+use registration::Station;
 use schedule::{StepFault, World};
 use std::alloc::Global;
 use std::test::Fail;
@@ -44,7 +45,7 @@ fn numbers(world: &World<&LocalHeap>) -> (u64, u64, u64, bool) {
         world.accepted(),
         world.durable(),
         world.published(),
-        world.last_answer(1).is_some(),
+        world.last_answer(Station::new(1)).is_some(),
     )
 }
 

@@ -1,3 +1,4 @@
+pub mod Numbers
 pub mod Identifier
 pub mod Values
 pub mod Syntax

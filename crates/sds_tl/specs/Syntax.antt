@@ -1,6 +1,7 @@
 -- How PDUs are spelt: the tables of ETSI EN 300 392-2, clause 29, as texts.
 use Rattle.std.specs.Prelude.{◌≡◌, ℕ, ◌<◌, ◌≤◌, ◌^◌, Bool, false, List, ◌∷◌, ◌++◌, length, replicate}
 use Rattle.identity.specs.Number.{num}
+use Rattle.sds_tl.specs.Numbers.{Reference, Status}
 use Rattle.sds_tl.specs.Identifier.{first_identifier}
 use Rattle.sds_tl.specs.declared.pdu.Sds.{Sds}
 use Rattle.sds_tl.specs.declared.pdu.Sds.TheVariants.{Transfer, Report, Ack}
@@ -26,7 +27,7 @@ text (Ack identifier status reference) reserved =
     num 8 identifier ++ num 4 2 ++ reserved ++ num 8 status ++ num 8 reference
 
 -- Each number is one that its field can hold, and the identifier is one of this layer.
-pub record InRange (identifier status reference : ℕ) : Type 0 where
+pub record InRange (identifier : ℕ) (status : Status) (reference : Reference) : Type 0 where
   pub layer : first_identifier ≤ identifier
   pub identifier_fits : identifier < 2 ^ 8
   pub status_fits : status < 2 ^ 8

@@ -1,5 +1,6 @@
 -- What is read where only a message will do: a report and an acknowledgement are refused, after every other fault.
-use Rattle.std.specs.Prelude.{ℕ, Bool, true, false, List, Result, Ok, Err}
+use Rattle.std.specs.Prelude.{Bool, true, false, List, Result, Ok, Err}
+use Rattle.sds_tl.specs.Numbers.{Reference}
 use Rattle.sds_tl.specs.declared.fault.SdsFault.{SdsFault}
 use Rattle.sds_tl.specs.declared.fault.SdsFault.TheVariants.{NotATransfer}
 use Rattle.sds_tl.specs.declared.pdu.Sds.{Sds}
@@ -26,13 +27,13 @@ is_transfer (Report identifier acknowledge status reference user_data) = false
 is_transfer (Ack identifier status reference) = false
 
 -- a PDU's message reference
-abbrev pub reference_of : {A : Type 0} → Sds A → ℕ
+abbrev pub reference_of : {A : Type 0} → Sds A → Reference
 reference_of (Transfer identifier request selection reference user_data) = reference
 reference_of (Report identifier acknowledge status reference user_data) = reference
 reference_of (Ack identifier status reference) = reference
 
 -- the message reference of a head that is a message's
-abbrev pub transfer_reference : Result Head SdsFault → Result ℕ SdsFault
+abbrev pub transfer_reference : Result Head SdsFault → Result Reference SdsFault
 transfer_reference (Ok (heads.Transfer request reference)) = Ok reference
 transfer_reference (Ok (heads.Report acknowledge status reference)) = Err NotATransfer
 transfer_reference (Ok (heads.Ack status reference)) = Err NotATransfer

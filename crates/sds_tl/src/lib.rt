@@ -6,6 +6,7 @@ pub mod laws;
 mod pdu;
 mod pieces;
 mod reading;
+mod reference;
 mod reserved;
 mod transfer;
 mod writing;
@@ -16,6 +17,7 @@ pub use pdu::{
     Sds,
 };
 pub use reading::{head, read};
+pub use reference::MessageReference;
 pub use reserved::canonical;
 pub use transfer::{read_transfer, transfer_reference};
 pub use writing::write;

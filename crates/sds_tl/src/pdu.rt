@@ -2,6 +2,7 @@ ghost use Rattle.std.specs.Prelude.{◌≡◌, ◌<◌, ◌≤◌, ◌^◌, ◌=
 ghost use Rattle.sds_tl.specs.Identifier.{first_identifier};
 ghost use Rattle.sds_tl.specs.Reading.{head_of};
 
+use crate::MessageReference;
 use identity::Bits;
 use std::alloc::Allocator;
 use std::marker::Model;
@@ -123,8 +124,8 @@ pub enum Sds<A: Allocator> {
         request: DeliveryReportRequest,
         /// Service selection or short form report, as it is sent.
         selection: bool,
-        /// The number, 0 to 255, by which reports name the message.
-        reference: u8,
+        /// By what reports name the message.
+        reference: MessageReference,
         /// The message itself: any bits, into which the switch does not look.
         user_data: Bits<A>,
     },
@@ -137,7 +138,7 @@ pub enum Sds<A: Allocator> {
         /// What became of the message.
         status: DeliveryStatus,
         /// The reference of the message.
-        reference: u8,
+        reference: MessageReference,
         /// Any bits, into which the switch does not look.
         user_data: Bits<A>,
     },
@@ -148,7 +149,7 @@ pub enum Sds<A: Allocator> {
         /// What the report said.
         status: DeliveryStatus,
         /// The reference of the message.
-        reference: u8,
+        reference: MessageReference,
     },
 }
 
@@ -159,18 +160,18 @@ pub enum Head {
     /// A message.
     Transfer {
         request: DeliveryReportRequest,
-        reference: u8,
+        reference: MessageReference,
     },
     /// What became of a message.
     Report {
         acknowledge: bool,
         status: DeliveryStatus,
-        reference: u8,
+        reference: MessageReference,
     },
     /// That a report came.
     Ack {
         status: DeliveryStatus,
-        reference: u8,
+        reference: MessageReference,
     },
 }
 

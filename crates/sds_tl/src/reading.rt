@@ -10,8 +10,8 @@ ghost use Rattle.sds_tl.specs.Reading.{field, flag, type_of, data_fault, ack_fau
 
 use crate::pieces::rest;
 use crate::{
-    DeliveryReportRequest, DeliveryStatus, FIRST_IDENTIFIER, Head, MOST_BITS, ProtocolIdentifier,
-    Sds, SdsFault,
+    DeliveryReportRequest, DeliveryStatus, FIRST_IDENTIFIER, Head, MOST_BITS, MessageReference,
+    ProtocolIdentifier, Sds, SdsFault,
 };
 use identity::{BitReader, Bits};
 use std::alloc::Allocator;
@@ -131,6 +131,14 @@ fn status<A: Allocator>(bits: &Bits<A>) -> DeliveryStatus
     DeliveryStatus::new(octet(bits, 16))
 }
 
+/// The message reference at place `at`.
+fn reference<A: Allocator>(bits: &Bits<A>, at: usize) -> MessageReference
+    requires { at + 8 ≤ length bits.now }
+    ensures { result ≡ field at 8 bits.now }
+{
+    MessageReference::new(octet(bits, at))
+}
+
 fn transfer<A: Allocator, B: Allocator>(alloc: A, bits: &Bits<B>) -> Result<Sds<A>, SdsFault>
     requires room { 24 ≤ length bits.now }
     requires layer { first_identifier ≤ field 0 8 bits.now }
@@ -141,7 +149,7 @@ fn transfer<A: Allocator, B: Allocator>(alloc: A, bits: &Bits<B>) -> Result<Sds<
         identifier: identifier(bits),
         request: request(bits),
         selection: flag(bits, 14),
-        reference: octet(bits, 16),
+        reference: reference(bits, 16),
         user_data: rest(alloc, bits, 24)?,
     })
 }
@@ -156,7 +164,7 @@ fn report<A: Allocator, B: Allocator>(alloc: A, bits: &Bits<B>) -> Result<Sds<A>
         identifier: identifier(bits),
         acknowledge: flag(bits, 12),
         status: status(bits),
-        reference: octet(bits, 24),
+        reference: reference(bits, 24),
         user_data: rest(alloc, bits, 32)?,
     })
 }
@@ -169,7 +177,7 @@ fn ack<A: Allocator, B: Allocator>(bits: &Bits<B>) -> Sds<A>
     Sds::Ack {
         identifier: identifier(bits),
         status: status(bits),
-        reference: octet(bits, 24),
+        reference: reference(bits, 24),
     }
 }
 
@@ -196,16 +204,16 @@ fn head_value<A: Allocator>(bits: &Bits<A>) -> Head
     match field(bits, 8, 4) {
         0 => Head::Transfer {
             request: request(bits),
-            reference: octet(bits, 16),
+            reference: reference(bits, 16),
         },
         1 => Head::Report {
             acknowledge: flag(bits, 12),
             status: status(bits),
-            reference: octet(bits, 24),
+            reference: reference(bits, 24),
         },
         _ => Head::Ack {
             status: status(bits),
-            reference: octet(bits, 24),
+            reference: reference(bits, 24),
         },
     }
 }

@@ -6,19 +6,19 @@ ghost use Rattle.sds_tl.specs.Syntax.{Spells};
 ghost use Rattle.sds_tl.specs.Reading.{heading, Gives};
 ghost use Rattle.sds_tl.specs.Transfers.{only_transfer, reading_transfer, is_transfer, transfer_reference};
 
-use crate::{Head, Sds, SdsFault, head, read};
+use crate::{Head, MessageReference, Sds, SdsFault, head, read};
 use identity::Bits;
 use std::alloc::Allocator;
 
 /// The message reference of the message that the bits spell; else their first fault, and behind all
 /// others `NotATransfer` for a report and an acknowledgement. Takes no memory.
-pub fn transfer_reference<A: Allocator>(bits: &Bits<A>) -> Result<u8, SdsFault>
+pub fn transfer_reference<A: Allocator>(bits: &Bits<A>) -> Result<MessageReference, SdsFault>
     ensures { result ≡ transfer_reference (heading bits.now) }
 {
-    match head(bits) {
-        Ok(Head::Transfer { reference, .. }) => Ok(reference),
+    match &head(bits) {
+        Ok(Head::Transfer { reference, .. }) => Ok(*reference),
         Ok(Head::Report { .. } | Head::Ack { .. }) => Err(SdsFault::NotATransfer),
-        Err(fault) => Err(fault),
+        Err(fault) => Err(*fault),
     }
 }
 

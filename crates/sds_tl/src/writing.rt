@@ -7,7 +7,10 @@ ghost use Rattle.sds_tl.specs.Syntax.{most_bits, canon, IsInRange, Spells};
 ghost use Rattle.sds_tl.specs.Reading.{writing, Gives};
 
 use crate::pieces::{put, put_left, put_reserved};
-use crate::{DeliveryReportRequest, DeliveryStatus, MOST_BITS, ProtocolIdentifier, Sds, SdsFault};
+use crate::{
+    DeliveryReportRequest, DeliveryStatus, MOST_BITS, MessageReference, ProtocolIdentifier, Sds,
+    SdsFault,
+};
 use identity::{BitReader, BitWriter, Bits};
 use std::alloc::Allocator;
 
@@ -59,14 +62,15 @@ fn put_start<A: Allocator>(
 fn put_outcome<A: Allocator>(
     writer: &mut BitWriter<A>,
     status: DeliveryStatus,
-    reference: u8,
+    reference: MessageReference,
 ) -> Result<(), SdsFault>
     ensures ok { OnOk result (writer.new ≡ writer.old ++ (num 8 status ++ num 8 reference)) }
     ensures fits { status < 2 ^ 8 }
+    ensures named { reference < 2 ^ 8 }
     ensures err { IfErr result (λ e. e ≡ NoMemory) }
 {
     put_octet(writer, status.code())?;
-    put_octet(writer, reference)
+    put_octet(writer, reference.number())
 }
 
 /// Puts the whole PDU.
@@ -91,7 +95,7 @@ fn put_sds<A: Allocator, B: Allocator>(
             put(writer, code(*request), 2)?;
             put_bit(writer, *selection)?;
             put_bit(writer, false)?;
-            put_octet(writer, *reference)?;
+            put_octet(writer, reference.number())?;
             put_left(writer, &mut BitReader::new(user_data))
         }
         Sds::Report {

@@ -6,9 +6,9 @@ use Rattle.std.proofs.lemmas.Bool.{cases_eq, cases_lt}
 use Rattle.std.proofs.lemmas.List.FromFn.{filter_of_map_range_with_len_more}
 use Rattle.std.specs.List.{range_with_len}
 use Rattle.sector_disk.specs.Disk.{AreSectors, IsSector, sector, HasRead, HasWritten, HasSynced}
-use Rattle.sector_disk.specs.Memory.{IsBlank, IsRestarted, Contents, after, called, IsReplayed, began, memory_view}
+use Rattle.sector_disk.specs.Memory.{IsBlank, IsRestarted, Contents, after_calls, called, IsReplayed, began, memory_view}
 use Rattle.sector_disk.specs.Crash.{is_pending}
-use Rattle.sector_disk.specs.Inside.Past.{after-append, time_on}
+use Rattle.sector_disk.specs.Inside.Past.{after_calls-append, time_on}
 use Rattle.sector_disk.specs.declared.record.Call.{Call}
 use Rattle.sector_disk.specs.declared.record.Call.TheVariants.{Read, Write, Sync}
 use Rattle.sector_disk.specs.declared.memory.MemoryDisk.{MemoryDisk}
@@ -16,15 +16,15 @@ use Rattle.sector_disk.specs.declared.memory.MemoryDisk.{MemoryDisk}
 abbrev pub contents : {A : Type 0} → MemoryDisk A → Contents
 contents disk = record { reads = disk.sectors.items; pending = disk.pending.items }
 
-contents_are : {A : Type 0} (disk : MemoryDisk A) → IsReplayed disk → contents disk ≡ after disk.record.calls.items (began disk)
+contents_are : {A : Type 0} (disk : MemoryDisk A) → IsReplayed disk → contents disk ≡ after_calls disk.record.calls.items (began disk)
 contents_are disk is = rw (is.reads, is.pending) refl
 
 pub replayed_on : {A : Type 0} (old new : MemoryDisk A) (call : Call) → IsReplayed old → new.base.items ≡ old.base.items → new.record.calls.items ≡ old.record.calls.items ++ call ∷ []
     → new.sectors.items ≡ (called call (contents old)).reads → new.pending.items ≡ (called call (contents old)).pending
     → ((k : ℕ) → k < length new.sectors.items → IsSector (sector new.sectors.items k)) → IsReplayed new
 replayed_on old new call is base calls reads pending bytes =
-    let now : after new.record.calls.items (began new) ≡ called call (contents old) =
-    rw (calls, base) (after-append (began old) old.record.calls.items call ∙ ap (called call) (sym (contents_are old is))) in
+    let now : after_calls new.record.calls.items (began new) ≡ called call (contents old) =
+    rw (calls, base) (after_calls-append (began old) old.record.calls.items call ∙ ap (called call) (sym (contents_are old is))) in
     record {
       reads = reads ∙ ap (λ (c : Contents). c.reads) (sym now);
       pending = pending ∙ ap (λ (c : Contents). c.pending) (sym now);
@@ -96,19 +96,19 @@ no_marks [] (y ∷ ys) same = absurd (omega (arith, same))
 no_marks (x ∷ xs) [] same = absurd (omega (arith, same))
 no_marks (x ∷ xs) (y ∷ ys) same = ap (λ (l : List Bool). false ∷ l) (no_marks xs ys (omega (arith, same)))
 
-pub crash_replayed : {A : Type 0} (new : MemoryDisk A) (after : List (List ℕ)) (marks : List Bool) → new.record.calls.items ≡ [] → new.base.items ≡ after → new.sectors.items ≡ after
-    → new.pending.items ≡ map (λ mark. false) marks → length marks ≡ length after → AreSectors after → IsReplayed new
-crash_replayed new after marks calls base sectors pending count whole = record {
+pub crash_replayed : {A : Type 0} (new : MemoryDisk A) (after_calls : List (List ℕ)) (marks : List Bool) → new.record.calls.items ≡ [] → new.base.items ≡ after_calls → new.sectors.items ≡ after_calls
+    → new.pending.items ≡ map (λ mark. false) marks → length marks ≡ length after_calls → AreSectors after_calls → IsReplayed new
+crash_replayed new after_calls marks calls base sectors pending count whole = record {
   reads = rw calls (sectors ∙ sym base);
-  pending = rw (calls, base) (pending ∙ no_marks marks after count);
+  pending = rw (calls, base) (pending ∙ no_marks marks after_calls count);
   bytes = rw sectors whole.each;
 }
 
 -- after a stop
-pub restarted : {A : Type 0} (old new : MemoryDisk A) (after : List (List ℕ)) (marks : List Bool) → new.record.calls.items ≡ [] → new.base.items ≡ after → new.sectors.items ≡ after
-    → new.pending.items ≡ map (λ mark. false) marks → length marks ≡ length after → (IsReplayed old → AreSectors after) → new.record.room ≡ old.record.room → new.record.failures ≡ old.record.failures → IsRestarted old new
-restarted old new after marks calls base sectors pending count whole room failures = record {
-  honest = λ is. crash_replayed new after marks calls base sectors pending count (whole is);
+pub restarted : {A : Type 0} (old new : MemoryDisk A) (after_calls : List (List ℕ)) (marks : List Bool) → new.record.calls.items ≡ [] → new.base.items ≡ after_calls → new.sectors.items ≡ after_calls
+    → new.pending.items ≡ map (λ mark. false) marks → length marks ≡ length after_calls → (IsReplayed old → AreSectors after_calls) → new.record.room ≡ old.record.room → new.record.failures ≡ old.record.failures → IsRestarted old new
+restarted old new after_calls marks calls base sectors pending count whole room failures = record {
+  honest = λ is. crash_replayed new after_calls marks calls base sectors pending count (whole is);
   durable = λ k. rw pending (all_clear marks k);
   moment = rw calls refl;
   room = room;

@@ -10,7 +10,7 @@ not_looked disk honest = record {
   honest = honest;
   reads = refl;
   pending = refl;
-  time = record { later = omega arith; keeps = λ t image le was. was; nothing_else = λ t image le was. inl was };
+  time = record { later = omega arith; each_stays = λ t image le was. was; nothing_else = λ t image le was. inl was };
 }
 
 -- one run after another
@@ -21,7 +21,7 @@ looked_on old mid new first second = record {
   pending = second.pending ∙ first.pending;
   time = record {
     later = omega (arith, first.time.later, second.time.later);
-    keeps = λ t image le was. second.time.keeps t image (omega (arith, le, first.time.later)) (first.time.keeps t image le was);
+    each_stays = λ t image le was. second.time.each_stays t image (omega (arith, le, first.time.later)) (first.time.each_stays t image le was);
     nothing_else = λ t image le left. ⊎_elim (λ mid_left. ⊎_elim inl (λ now. inr (rw (second.reads, second.pending) now)) (first.time.nothing_else t image le mid_left)) inr
         (second.time.nothing_else t image (omega (arith, le, first.time.later)) left);
   };

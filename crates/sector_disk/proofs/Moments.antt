@@ -43,9 +43,9 @@ torn_by old new at bytes result sound in_range wrote image now =
           | inl same ↦ rw (same, get_or-set_same image at (sector old.reads at) [] here) whole
           | inr other ↦ rw (get_or-set_other image at k (sector old.reads at) [] other) (now.whole k (omega (arith, lt, long)))
         ];
-        kept = λ k clear. elim (cases_eq k at) [
+        others = λ k clear. elim (cases_eq k at) [
           | inl same ↦ rw (same, get_or-set_same image at (sector old.reads at) [] here) refl
-          | inr other ↦ get_or-set_other image at k (sector old.reads at) [] other ∙ now.kept k (wrote.others_pending k other ∙ clear) ∙ wrote.others k other
+          | inr other ↦ get_or-set_other image at k (sector old.reads at) [] other ∙ now.others k (wrote.others_pending k other ∙ clear) ∙ wrote.others k other
         ];
       },
       record {
@@ -112,7 +112,7 @@ pub read_images : (old new : View) (at : ℕ) (bytes : List ℕ) (result : Resul
 read_images old new at bytes result has image is = record {
   count = rw (← has.reads) is.count;
   whole = is.whole;
-  kept = λ k clear. rw (← has.reads) (is.kept k (rw has.pending clear));
+  others = λ k clear. rw (← has.reads) (is.others k (rw has.pending clear));
 }
 
 -- a sync adds no image
@@ -120,7 +120,7 @@ pub synced_images : (old new : View) (result : Result Unit DiskError) → HasSyn
 synced_images old new result synced image is = record {
   count = rw (← synced.reads) is.count;
   whole = is.whole;
-  kept = λ k clear. rw (← synced.reads) (is.kept k (still result synced.pending synced.durable k clear));
+  others = λ k clear. rw (← synced.reads) (is.others k (still result synced.pending synced.durable k clear));
 }
   where
     still : (outcome : Result Unit DiskError) → OnErr outcome (new.pending ≡ old.pending) → OnOk outcome ((k : ℕ) → new.pending k ≡ false) → (k : ℕ) → old.pending k ≡ false → new.pending k ≡ false
@@ -129,12 +129,12 @@ synced_images old new result synced image is = record {
 
 -- an image where nothing is pending
 pub durable_image : (disk : View) → ((k : ℕ) → disk.pending k ≡ false) → (image : List (List ℕ)) → IsImageOf disk image → (k : ℕ) → sector image k ≡ sector disk.reads k
-durable_image disk clear image is k = is.kept k (clear k)
+durable_image disk clear image is k = is.others k (clear k)
 
 -- where nothing is pending, there is no other image than what reading gives
 pub only_image : (disk : View) → ((k : ℕ) → disk.pending k ≡ false) → (image : List (List ℕ)) → IsImageOf disk image → image ≡ disk.reads
 only_image disk clear image is =
-    same_lists image disk.reads is.count (λ k d lt. get_or_default image k d [] lt ∙ is.kept k (clear k) ∙ get_or_default disk.reads k [] d (omega (arith, lt, is.count)))
+    same_lists image disk.reads is.count (λ k d lt. get_or_default image k d [] lt ∙ is.others k (clear k) ∙ get_or_default disk.reads k [] d (omega (arith, lt, is.count)))
 
 -- a run goes on by a read
 pub read_on : (old mid new : View) (P : List (List ℕ) → Type 0) (at : ℕ) (bytes : List ℕ) (result : Result Unit DiskError) → LeavesOnly old mid P → HasRead mid new at bytes result

@@ -1,34 +1,35 @@
 -- What a disk of sectors is: what reading gives, what a stop may leave, and how each call changes both.
 use Rattle.std.specs.Prelude.{◌≡◌, ◌≢◌, ◌⊎◌, ℕ, ◌<◌, ◌≤◌, ◌+◌, ◌^◌, ◌-◌, min, Bool, true, false, List, [], ◌∷◌, ◌++◌, length, slice_index, slice_index_or, Result, IsErrOf, OnOk, OnErr}
+use Rattle.sector_disk.specs.Numbers.{Byte, Sector, Sectors, Tick}
 use Rattle.sector_disk.specs.declared.disk.DiskError.{DiskError}
 use Rattle.sector_disk.specs.declared.disk.DiskError.TheVariants.{DiskFault}
 use Rattle.sector_disk.specs.declared.record.Call.{Call}
 
 -- the sector at a place, empty past the end
-abbrev pub sector : List (List ℕ) → ℕ → List ℕ
+abbrev pub sector : List (List Byte) → Sector → List Byte
 sector sectors at = slice_index_or sectors at []
 
 -- 512 bytes
-pub record IsSector (numbers : List ℕ) : Type 0 where
+pub record IsSector (numbers : List Byte) : Type 0 where
   pub size : length numbers ≡ 512
   pub bytes : (i : ℕ) → slice_index numbers i < 256
 
 -- each of these is 512 bytes
-pub record AreSectors (sectors : List (List ℕ)) : Type 0 where
-  pub each : (k : ℕ) → k < length sectors → IsSector (sector sectors k)
+pub record AreSectors (sectors : List (List Byte)) : Type 0 where
+  pub each : (k : Sector) → k < length sectors → IsSector (sector sectors k)
 
 -- What contracts see of a disk.
 pub record View : Type 1 where
   -- how many sectors it has
-  pub sectors : ℕ
+  pub sectors : Sectors
   -- the sectors that reading gives
-  pub reads : List (List ℕ)
+  pub reads : List (List Byte)
   -- the sectors in which a stop may leave any bytes
-  pub pending : ℕ → Bool
+  pub pending : Sector → Bool
   -- the clock: a number that does not fall
-  pub moment : ℕ
+  pub moment : Tick
   -- the images of all moments from that one to now, those within a call too
-  pub since : ℕ → List (List ℕ) → Type 0
+  pub since : Tick → List (List Byte) → Type 0
   -- the calls `read`, `write` and `sync` that it has had, the last one last
   pub calls : List Call
   -- how often the device has failed
@@ -37,13 +38,13 @@ pub record View : Type 1 where
   pub honest : Type 0
 
 -- what a stop may leave: any 512 bytes in each pending sector, and the others as they read
-pub record IsImage (reads : List (List ℕ)) (pending : ℕ → Bool) (image : List (List ℕ)) : Type 0 where
+pub record IsImage (reads : List (List Byte)) (pending : Sector → Bool) (image : List (List Byte)) : Type 0 where
   pub count : length image ≡ length reads
-  pub whole : (k : ℕ) → k < length image → IsSector (sector image k)
-  pub kept : (k : ℕ) → pending k ≡ false → sector image k ≡ sector reads k
+  pub whole : (k : Sector) → k < length image → IsSector (sector image k)
+  pub others : (k : Sector) → pending k ≡ false → sector image k ≡ sector reads k
 
 -- what a stop may leave of the disk now
-abbrev pub IsImageOf : View → List (List ℕ) → Type 0
+abbrev pub IsImageOf : View → List (List Byte) → Type 0
 IsImageOf disk image = IsImage disk.reads disk.pending image
 
 -- What holds of an honest disk at each moment.
@@ -52,20 +53,20 @@ pub record IsSound (disk : View) : Type 0 where
   -- what reading gives is one of the images
   pub reads_left : IsImageOf disk disk.reads
   -- the images of now are among those since any moment
-  pub counts_now : (t : ℕ) (image : List (List ℕ)) → t ≤ disk.moment → IsImageOf disk image → disk.since t image
+  pub counts_now : (t : Tick) (image : List (List Byte)) → t ≤ disk.moment → IsImageOf disk image → disk.since t image
   -- since now there are no others
-  pub only_now : (image : List (List ℕ)) → disk.since disk.moment image → IsImageOf disk image
+  pub only_now : (image : List (List Byte)) → disk.since disk.moment image → IsImageOf disk image
   -- since an earlier moment there are no fewer
-  pub earlier : (s t : ℕ) (image : List (List ℕ)) → s ≤ t → disk.since t image → disk.since s image
+  pub earlier : (s t : Tick) (image : List (List Byte)) → s ≤ t → disk.since t image → disk.since s image
 
 -- Time goes on: since t there are the images that there were, and no others but those of now.
 pub record Elapses (old new : View) : Type 0 where
   pub later : old.moment ≤ new.moment
-  pub keeps : (t : ℕ) (image : List (List ℕ)) → t ≤ old.moment → old.since t image → new.since t image
-  pub nothing_else : (t : ℕ) (image : List (List ℕ)) → t ≤ old.moment → new.since t image → old.since t image ⊎ IsImageOf new image
+  pub each_stays : (t : Tick) (image : List (List Byte)) → t ≤ old.moment → old.since t image → new.since t image
+  pub nothing_else : (t : Tick) (image : List (List Byte)) → t ≤ old.moment → new.since t image → old.since t image ⊎ IsImageOf new image
 
 -- Reading gives the sector, and changes no image.
-pub record HasRead (old new : View) (at : ℕ) (bytes : List ℕ) (result : Result Unit DiskError) : Type 0 where
+pub record HasRead (old new : View) (at : Sector) (bytes : List Byte) (result : Result Unit DiskError) : Type 0 where
   pub honest : new.honest
   pub time : Elapses old new
   pub reads : new.reads ≡ old.reads
@@ -73,12 +74,12 @@ pub record HasRead (old new : View) (at : ℕ) (bytes : List ℕ) (result : Resu
   pub given : OnOk result (bytes ≡ sector old.reads at)
 
 -- A write makes its sector pending, and leaves the others. If it fails, what the sector reads as is not said.
-pub record HasWritten (old new : View) (at : ℕ) (bytes : List ℕ) (result : Result Unit DiskError) : Type 0 where
+pub record HasWritten (old new : View) (at : Sector) (bytes : List Byte) (result : Result Unit DiskError) : Type 0 where
   pub honest : new.honest
   pub time : Elapses old new
   pub count : length new.reads ≡ length old.reads
-  pub others : (k : ℕ) → k ≢ at → sector new.reads k ≡ sector old.reads k
-  pub others_pending : (k : ℕ) → k ≢ at → new.pending k ≡ old.pending k
+  pub others : (k : Sector) → k ≢ at → sector new.reads k ≡ sector old.reads k
+  pub others_pending : (k : Sector) → k ≢ at → new.pending k ≡ old.pending k
   pub still_pending : old.pending at ≡ true → new.pending at ≡ true
   pub written : OnOk result ((sector new.reads at ≡ bytes) × (new.pending at ≡ true))
 
@@ -88,7 +89,7 @@ pub record HasSynced (old new : View) (result : Result Unit DiskError) : Type 0 
   pub time : Elapses old new
   pub reads : new.reads ≡ old.reads
   pub pending : OnErr result (new.pending ≡ old.pending)
-  pub durable : OnOk result ((k : ℕ) → new.pending k ≡ false)
+  pub durable : OnOk result ((k : Sector) → new.pending k ≡ false)
 
 -- A call that answers `Ok` is one call of the disk, with these numbers and bytes, and one that fails is one or none.
 pub record IsCalled (old new : View) (call : Call) (result : Result Unit DiskError) : Type 0 where

@@ -1,3 +1,4 @@
+pub mod Numbers
 pub mod Crash
 pub mod Disk
 pub mod Example

@@ -1,5 +1,6 @@
 -- What a disk in memory is: the sectors that it began with, after each of its calls.
 use Rattle.std.specs.Prelude.{◌≡◌, ℕ, ◌<◌, ◌≤◌, ◌+◌, ◌-◌, Bool, true, false, List, [], ◌∷◌, length, map, replicate, set, take, nat_lt, if◌then◌else◌, Result, Ok, Err}
+use Rattle.sector_disk.specs.Numbers.{Byte, Sector, Sectors, Tick}
 use Rattle.sector_disk.specs.Disk.{IsImage, IsSector, View, one_failure_more, sector}
 use Rattle.sector_disk.specs.Crash.{is_pending}
 use Rattle.sector_disk.specs.declared.disk.DiskError.{DiskError}
@@ -10,7 +11,7 @@ use Rattle.sector_disk.specs.declared.memory.MemoryDisk.{MemoryDisk}
 
 -- what stands in it: the sectors, and for each whether it is pending
 pub record Contents : Type 0 where
-  pub reads : List (List ℕ)
+  pub reads : List (List Byte)
   pub pending : List Bool
 
 -- after one call that did not fail
@@ -20,14 +21,17 @@ called (Write at bytes) was = record { reads = set was.reads at bytes; pending =
 called Sync was = record { reads = was.reads; pending = map (λ mark. false) was.pending }
 
 -- after some calls, the first of them first
-abbrev pub after : List Call → Contents → Contents
-after [] was = was
-after (call ∷ calls) was = after calls (called call was)
+abbrev pub after_calls : List Call → Contents → Contents
+after_calls [] was = was
+after_calls (call ∷ calls) was = after_calls calls (called call was)
+
+-- the image is one that a stop may leave of these contents
+abbrev pub IsLeftOf : Contents → List (List ℕ) → Type 0
+IsLeftOf now image = IsImage now.reads (is_pending now.pending) image
 
 -- one of the images after k of the calls, for some k from t on
-abbrev pub left_since : Contents → List Call → ℕ → List (List ℕ) → Type 0
-left_since was calls t image = (k : ℕ) × (t ≤ k) × (k ≤ length calls)
-    × IsImage (after (take k calls) was).reads (is_pending (after (take k calls) was).pending) image
+abbrev pub left_since : Contents → List Call → Tick → List (List Byte) → Type 0
+left_since was calls t image = (k : Tick) × (t ≤ k) × (k ≤ length calls) × IsLeftOf (after_calls (take k calls) was) image
 
 -- what it began with: its sectors, and nothing pending
 abbrev pub began : {A : Type 0} → MemoryDisk A → Contents
@@ -35,9 +39,9 @@ began disk = record { reads = disk.base.items; pending = map (λ bytes. false) d
 
 -- what stands in it is what its calls made of what it began with
 pub record IsReplayed {A : Type 0} (disk : MemoryDisk A) : Type 0 where
-  pub reads : disk.sectors.items ≡ (after disk.record.calls.items (began disk)).reads
-  pub pending : disk.pending.items ≡ (after disk.record.calls.items (began disk)).pending
-  pub bytes : (k : ℕ) → k < length disk.sectors.items → IsSector (sector disk.sectors.items k)
+  pub reads : disk.sectors.items ≡ (after_calls disk.record.calls.items (began disk)).reads
+  pub pending : disk.pending.items ≡ (after_calls disk.record.calls.items (began disk)).pending
+  pub bytes : (k : Sector) → k < length disk.sectors.items → IsSector (sector disk.sectors.items k)
 
 -- what contracts see of a disk in memory: its clock counts the calls in its record
 abbrev pub memory_view : {A : Type 0} → MemoryDisk A → View
@@ -65,10 +69,10 @@ pub record HasRecorded {A : Type 0} (old new : MemoryDisk A) (result : Result Un
   pub left : room_left new ≡ room_left old - 1
 
 -- a new disk: zeros, nothing pending, no call recorded, room for just so many
-pub record IsBlank {A : Type 0} (disk : MemoryDisk A) (sectors calls : ℕ) : Type 0 where
+pub record IsBlank {A : Type 0} (disk : MemoryDisk A) (sectors : Sectors) (calls : ℕ) : Type 0 where
   pub honest : (memory_view disk).honest
   pub reads : disk.sectors.items ≡ replicate sectors (replicate 512 0)
-  pub durable : (k : ℕ) → is_pending disk.pending.items k ≡ false
+  pub durable : (k : Sector) → is_pending disk.pending.items k ≡ false
   pub moment : (memory_view disk).moment ≡ 0
   pub room : disk.record.room ≡ calls
   pub failures : disk.record.failures ≡ 0
@@ -76,7 +80,7 @@ pub record IsBlank {A : Type 0} (disk : MemoryDisk A) (sectors calls : ℕ) : Ty
 -- a disk after a stop: nothing pending, an empty record with all its room
 pub record IsRestarted {A : Type 0} (old new : MemoryDisk A) : Type 0 where
   pub honest : (memory_view old).honest → (memory_view new).honest
-  pub durable : (k : ℕ) → is_pending new.pending.items k ≡ false
+  pub durable : (k : Sector) → is_pending new.pending.items k ≡ false
   pub moment : (memory_view new).moment ≡ 0
   pub room : new.record.room ≡ old.record.room
   pub failures : new.record.failures ≡ old.record.failures

@@ -1,25 +1,26 @@
 -- What a stop may leave at some moment of a run of calls.
 use Rattle.std.specs.Prelude.{◌≡◌, ◌⊎◌, ℕ, zero, suc, ◌<◌, ◌≤◌, ◌+◌, List, [], ◌∷◌, ◌++◌, length}
+use Rattle.sector_disk.specs.Numbers.{Byte, Sector, Sectors, Tick}
 use Rattle.sector_disk.specs.Disk.{View, Elapses, IsImageOf, sector}
 use Rattle.sector_disk.specs.declared.disk.DiskError.{DiskError}
 use Rattle.sector_disk.specs.declared.record.Call.{Call}
 use Rattle.sector_disk.specs.declared.record.Call.TheVariants.{Write}
 
 -- A stop at any moment from old to new leaves an image with P.
-pub record LeavesOnly (old new : View) (P : List (List ℕ) → Type 0) : Type 0 where
+pub record LeavesOnly (old new : View) (P : List (List Byte) → Type 0) : Type 0 where
   pub later : old.moment ≤ new.moment
-  pub each : (image : List (List ℕ)) → new.since old.moment image → P image
+  pub each : (image : List (List Byte)) → new.since old.moment image → P image
   -- for a run that began earlier
-  pub before : (t : ℕ) (image : List (List ℕ)) → t ≤ old.moment → new.since t image → old.since t image ⊎ P image
+  pub before : (t : Tick) (image : List (List Byte)) → t ≤ old.moment → new.since t image → old.since t image ⊎ P image
 
 -- new is old with any sectors in the place of n of them, from at on
-pub record IsTorn (at n : ℕ) (old new : List (List ℕ)) : Type 0 where
+pub record IsTorn (at : Sector) (n : Sectors) (old new : List (List Byte)) : Type 0 where
   pub count : length new ≡ length old
-  pub others : (k : ℕ) → (k < at) ⊎ (at + n ≤ k) → sector new k ≡ sector old k
+  pub others : (k : Sector) → (k < at) ⊎ (at + n ≤ k) → sector new k ≡ sector old k
 
 -- an image of the disk with any sectors in the place of n of them, from at on
-abbrev pub IsTornImage : View → ℕ → ℕ → List (List ℕ) → Type 0
-IsTornImage disk at n image = (was : List (List ℕ)) × IsImageOf disk was × IsTorn at n was image
+abbrev pub IsTornImage : View → Sector → Sectors → List (List Byte) → Type 0
+IsTornImage disk at n image = (was : List (List Byte)) × IsImageOf disk was × IsTorn at n was image
 
 -- A run of reads: what reading gives, what is pending and the images stay.
 pub record HasLooked (old new : View) : Type 0 where
@@ -29,7 +30,7 @@ pub record HasLooked (old new : View) : Type 0 where
   pub time : Elapses old new
 
 -- the calls of a run of writes: each sector is written once, in order
-unfoldable pub writes : ℕ → ℕ → (ℕ → List ℕ) → List Call
+unfoldable pub writes : Sector → Sectors → (ℕ → List Byte) → List Call
 writes at zero bytes = []
 writes at (suc n) bytes = writes at n bytes ++ Write (at + n) (bytes n) ∷ []
 

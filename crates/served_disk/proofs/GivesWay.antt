@@ -9,7 +9,7 @@ use Rattle.centre_core.specs.declared.query.Told.TheVariants as told
 use Rattle.desk.specs.declared.service.Service.TheVariants.{Memory}
 use Rattle.desk.specs.OfRegister.{of_register}
 use Rattle.console.specs.declared.line.Line.{Line}
-use Rattle.console.specs.declared.line.Line.TheVariants.{Silent, Bad, Order, Ask}
+use Rattle.console.specs.declared.line.Line.TheVariants.{Silent, Bad, Apply, Ask}
 use Rattle.console.specs.declared.answer.Answer.{Answer}
 use Rattle.console.specs.declared.answer.Answer.TheVariants as answer
 use Rattle.console.specs.Answer.{is_list, IsLine, IsOneLine}
@@ -32,7 +32,7 @@ module _ {A : Type 0} where
   untold s q answer.Quiet long is = absurd is
   untold s q (answer.Bad number fault) long is = absurd is
   untold s q (answer.Replied sequence reply) long is = absurd is
-  untold s q (answer.Unserved sequence word) long is = absurd is
+  untold s q (answer.Unreplied sequence word) long is = absurd is
 
   short : (a b : Answer A) → a ≡ b → IsLine b → IsLine a
   short a b same is = subst (λ (c : Answer A). IsLine c) (sym same) is
@@ -40,12 +40,12 @@ module _ {A : Type 0} where
   gives_way : (s : State) (said : Line A) (a : Answer A) → (IsLine a → ⊥) → ShowsReading s said a → ShowsReading {A = A} s said (answer.Untold 1 Memory)
   gives_way s Silent a long is = absurd (long (short a _ is tt))
   gives_way s (Bad fault) a long is = absurd (long (short a _ is tt))
-  gives_way s (Order c) a long is = absurd (long (short a _ is tt))
+  gives_way s (Apply c) a long is = absurd (long (short a _ is tt))
   gives_way s (Ask q) a long is = untold s q a long is
 
   pub shown : (s : State) (whole out : List ℕ) (troubled : Bool) (a : Answer A) → ShowsReading s (reading 1 whole) a → IsTextOf a out troubled → IsShown A s whole out troubled
-  shown s whole out troubled a is (inl (written, trouble)) = record { given = a; answers = is; written = written; trouble = trouble }
-  shown s whole out troubled a is (inr (long, written, trouble)) = record { given = answer.Untold 1 Memory; answers = gives_way s (reading 1 whole) a long is; written = written; trouble = trouble }
+  shown s whole out troubled a is (inl told) = record { given = a; answers = is; written = told.written; trouble = told.trouble }
+  shown s whole out troubled a is (inr told) = record { given = answer.Untold 1 Memory; answers = gives_way s (reading 1 whole) a told.long is; written = told.written; trouble = told.trouble }
 
 -- what was written behind nothing
 pub written_first : {X E : Type 0} (r : Result X E) (old new more : List ℕ) → old ≡ [] → is_ok r ≡ true → OnOk r (new ≡ old ++ more) → new ≡ more

@@ -2,6 +2,7 @@
 use Rattle.std.specs.Prelude.{◌≡◌, ℕ, List, ◌++◌, codes, decimal}
 use Rattle.console.specs.declared.running.RunFault.{RunFault}
 use Rattle.console.specs.declared.running.RunFault.TheVariants as run
+use Rattle.sector_disk.specs.Numbers.{Byte}
 use Rattle.file_disk.specs.declared.fault.FileFault.{FileFault}
 use Rattle.file_disk.specs.declared.fault.FileFault.TheVariants as file
 use Rattle.recovery.specs.declared.fault.StoreFault.{StoreFault}
@@ -12,7 +13,7 @@ use Rattle.served_disk.specs.declared.fault.Fault.{Fault}
 use Rattle.served_disk.specs.declared.fault.Fault.TheVariants as fault
 
 -- the line of a fault
-abbrev pub fault_text : Fault → List ℕ
+abbrev pub fault_text : Fault → List Byte
 fault_text fault.Settings = codes "fault: settings\n"
 fault_text (fault.File name) = codes "fault: file " ++ name.now ++ codes "\n"
 fault_text fault.Unformatted = codes "fault: unformatted\n"
@@ -34,7 +35,7 @@ fault_status fault.Memory = 5
 fault_status fault.Epochs = 5
 
 -- the fault names a file, this one
-abbrev pub Names : Fault → List ℕ → Type 0
+abbrev pub Names : Fault → List Byte → Type 0
 Names (fault.File name) text = name.now ≡ text
 Names other text = ⊥
 
@@ -46,7 +47,7 @@ of_settings settings.BadSettings = fault.Settings
 of_settings settings.NoMemory = fault.Memory
 
 -- of a disk in the file of this name
-abbrev pub IsOfFile : FileFault → List ℕ → Fault → Type 0
+abbrev pub IsOfFile : FileFault → List Byte → Fault → Type 0
 IsOfFile file.NotOpened name is = Names is name
 IsOfFile file.DiskFault name is = is ≡ fault.Device
 IsOfFile file.NoMemory name is = is ≡ fault.Memory
@@ -62,7 +63,7 @@ of_store store.NoMemory = fault.Memory
 of_store store.EpochsUsedUp = fault.Epochs
 
 -- of the lines in the file of this name, whose answers wait in memory: these find no room, and so are not written
-abbrev pub IsOfRun : RunFault → List ℕ → Fault → Type 0
+abbrev pub IsOfRun : RunFault → List Byte → Fault → Type 0
 IsOfRun run.Read name is = Names is name
 IsOfRun run.Write name is = is ≡ fault.Memory
 IsOfRun run.NoMemory name is = is ≡ fault.Memory

@@ -1,7 +1,8 @@
 -- Which disk a settings text asks for.
-use Rattle.std.specs.Prelude.{◌≡◌, ℕ, List, IsUtf8}
+use Rattle.std.specs.Prelude.{◌≡◌, List, IsUtf8}
 use Rattle.toml.specs.Errors.{IsBlank}
 use Rattle.registration.specs.Limits.{AreLimits}
+use Rattle.sector_disk.specs.Numbers.{Byte}
 use Rattle.checkpoint.specs.declared.layout.Layout.{Layout}
 use Rattle.checkpoint.specs.Half.{IsHalfSize}
 use Rattle.settings.specs.declared.reading.Settings.{Settings}
@@ -22,25 +23,25 @@ pub record IsFor (settings : Settings) (layout : Layout) : Type 0 where
   pub journal : layout.journal ≡ settings.journal
 
 -- the text holds settings, and the layout is for them
-abbrev pub AsksFor : List ℕ → Layout → Type 0
+abbrev pub AsksFor : List Byte → Layout → Type 0
 AsksFor text layout = (settings : Settings) × Holds text settings × IsFor settings layout
 
 -- why the text asks for no disk: it holds no settings; their numbers are out of range; or there was no memory to read it
-abbrev pub AsksForNone : List ℕ → Fault → Type 0
+abbrev pub AsksForNone : List Byte → Fault → Type 0
 AsksForNone text fault.Settings = (settings : Settings) → ¬ Holds text settings
 AsksForNone text fault.BadGeometry = (settings : Settings) × Holds text settings × ¬ AreInRange settings
 AsksForNone text fault.Memory = IsUtf8 text × ¬ IsBlank text
 AsksForNone text other = ⊥
 
 -- why a disk in a file of this name was not made: the file was not, or the device failed, or there was no memory
-abbrev pub IsOfMaking : List ℕ → Fault → Type 0
+abbrev pub IsOfMaking : List Byte → Fault → Type 0
 IsOfMaking name (fault.File text) = text.now ≡ name
 IsOfMaking name fault.Device = Unit {0}
 IsOfMaking name fault.Memory = Unit {0}
 IsOfMaking name other = ⊥
 
 -- why the register on the disk in a file of this name was not opened
-abbrev pub IsOfOpening : List ℕ → Fault → Type 0
+abbrev pub IsOfOpening : List Byte → Fault → Type 0
 IsOfOpening name (fault.File text) = text.now ≡ name
 IsOfOpening name fault.Settings = ⊥
 IsOfOpening name fault.Epochs = ⊥

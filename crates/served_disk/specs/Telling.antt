@@ -1,22 +1,24 @@
 -- What the program writes beside the answers.
-use Rattle.std.specs.Prelude.{ℕ, List, ◌++◌, codes, decimal}
+use Rattle.std.specs.Prelude.{List, ◌++◌, codes, decimal}
 use Rattle.std.specs.List.{flat_map}
+use Rattle.registration.specs.Numbers.{Station}
+use Rattle.sector_disk.specs.Numbers.{Byte, Sectors}
 use Rattle.served_disk.specs.declared.telling.Part.{Part}
 use Rattle.served_disk.specs.declared.telling.Part.TheVariants as part
 
 -- the bytes of a part
-abbrev pub part_text : Part → List ℕ
+abbrev pub part_text : Part → List Byte
 part_text (part.Text text) = text.now
 part_text (part.Number number) = decimal number
 
 -- the bytes of the parts, one after another
-abbrev pub parts_text : List Part → List ℕ
+abbrev pub parts_text : List Part → List Byte
 parts_text parts = flat_map part_text parts
 
 -- a disk of so many sectors was made
-abbrev pub formatted_text : ℕ → List ℕ
+abbrev pub formatted_text : Sectors → List Byte
 formatted_text sectors = codes "formatted " ++ decimal sectors ++ codes " sectors\n"
 
 -- a station, and the name of the file in which its lines stood
-abbrev pub station_text : ℕ → List ℕ → List ℕ
+abbrev pub station_text : Station → List Byte → List Byte
 station_text station name = codes "station " ++ decimal station ++ codes " " ++ name ++ codes "\n"

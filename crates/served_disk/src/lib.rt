@@ -15,7 +15,7 @@ pub use fault::Fault;
 pub use making::{format_disk, layout_of};
 pub use opening::open_disk;
 pub use progress::Progress;
-pub use serving::{Served, TURNS, serve};
+pub use serving::{Answered, TURNS, serve};
 pub use showing::{Shown, show};
 pub use telling::{tell_formatted, tell_station};
 pub use watched::{WatchedDesk, WatchedReader};

@@ -23,8 +23,8 @@ struct Figures {
 }
 
 impl Figures {
-    /// The lines that are known to be served.
-    fn served(&self) -> u64 {
+    /// The lines that are known to be answered.
+    fn answered(&self) -> u64 {
         self.lines.saturating_add(self.asked)
     }
 }
@@ -128,7 +128,7 @@ impl<'r, R: Clock + Eprint> Progress<'r, R> {
         };
         if now.duration_since(last).as_secs() >= PERIOD {
             self.telling.set(Telling::Next(now));
-            let _ = self.tell(self.figures.get().served(), "");
+            let _ = self.tell(self.figures.get().answered(), "");
         }
     }
 
@@ -144,7 +144,7 @@ impl<'r, R: Clock + Eprint> Progress<'r, R> {
         };
         let lines = match ended {
             Ok(ran) => ran.lines,
-            Err(_) => self.figures.get().served(),
+            Err(_) => self.figures.get().answered(),
         };
         let _ = self.tell(lines, "\n");
     }

@@ -1,8 +1,9 @@
 //! A station's lines served at a desk, with answers that wait in memory.
-ghost use Rattle.std.specs.Prelude.{[], IfOk, OnErr, Some};
-ghost use Rattle.console.specs.Runs.{AnswersAll, AnswersSome};
+ghost use Rattle.std.specs.Prelude.{[], Some};
+ghost use Rattle.console.specs.Runs.{IsRun};
 
 use console::{Desk, Ran, RunFault, run};
+use registration::Station;
 use std::alloc::Allocator;
 use std::io::Read;
 
@@ -11,7 +12,7 @@ pub const TURNS: u32 = 1_073_741_824;
 
 /// What serving a station's lines has come to.
 #[derive(Drop)]
-pub struct Served<A: Allocator> {
+pub struct Answered<A: Allocator> {
     /// The answers, or the front of them.
     pub answers: Vec<u8, A>,
     /// How the run has ended.
@@ -22,13 +23,13 @@ pub struct Served<A: Allocator> {
 pub fn serve<A: Allocator + Copy + Drop, R: Read, D: Desk>(
     alloc: A,
     reader: &mut R,
-    station: u16,
+    station: Station,
     desk: &mut D,
-) -> Served<A>
-    ensures all { IfOk result.ended (λ ran. AnswersAll A D.rules station (D.world desk.old) (R.remaining reader.old) (Some []) ran (Some result.answers.items) (D.world desk.new)) }
-    ensures some { OnErr result.ended (AnswersSome A D.rules station (D.world desk.old) (R.remaining reader.old) (Some []) (Some result.answers.items) (D.world desk.new)) }
+) -> Answered<A>
+    ensures answers { IsRun A D.rules (record { station = station; world = D.world desk.old; unread = R.remaining reader.old; written = Some [] })
+        (record { result = result.ended; world = D.world desk.new; written = Some result.answers.items }) }
 {
     let mut answers = Vec::new(alloc);
     let ended = run(alloc, reader, &mut answers, station, TURNS, desk);
-    Served { answers, ended }
+    Answered { answers, ended }
 }

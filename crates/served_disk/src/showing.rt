@@ -8,6 +8,7 @@ ghost use Rattle.served_disk.specs.Showing.{IsShown, IsTextOf, ShowsReading};
 
 use centre_core::{Query, Register};
 use console::{Answer, Line, LineFault, Service, parse_line, print_answer};
+use registration::Station;
 use std::alloc::{AllocError, Allocator};
 
 /// What a query has shown.
@@ -41,12 +42,12 @@ fn answer<A: Allocator + Copy, B: Allocator + Clone>(
 ) -> Answer<A>
     ensures shows { ShowsReading register.now (reading 1 line.now) result }
 {
-    let said = parse_line(alloc, 1, line);
+    let said = parse_line(alloc, Station::new(1), line);
     match &said {
         Ok(Line::Silent) => Answer::Quiet,
         Ok(Line::Bad(fault)) => Answer::Bad(1, *fault),
         Ok(Line::Ask(query)) => told(alloc, register, query),
-        Ok(Line::Order(_)) | Err(_) => Answer::Bad(1, LineFault::Syntax),
+        Ok(Line::Apply(_)) | Err(_) => Answer::Bad(1, LineFault::Syntax),
     }
 }
 

@@ -4,6 +4,7 @@ ghost use Rattle.std.specs.Io.KnownBytes.{Appends};
 ghost use Rattle.served_disk.specs.Telling.{formatted_text, part_text, parts_text, station_text};
 
 use itoa::Buffer;
+use registration::Station;
 use std::io;
 use std::io::Write;
 
@@ -50,12 +51,12 @@ pub fn tell_formatted<W: Write>(out: &mut W, sectors: u64) -> io::Result<()>
 }
 
 /// Writes which station's answers come, whose lines stood in the file of this name.
-fn tell_name<W: Write>(out: &mut W, station: u16, name: &str) -> io::Result<()>
+fn tell_name<W: Write>(out: &mut W, station: Station, name: &str) -> io::Result<()>
     ensures { OnOk result (Appends (W.contents out.old) (W.contents out.new) (station_text station name.now)) }
 {
     let parts = [
         Part::Text("station "),
-        Part::Number(u64::from(station)),
+        Part::Number(u64::from(station.number())),
         Part::Text(" "),
         Part::Text(name),
         Part::Text("\n"),
@@ -66,7 +67,7 @@ fn tell_name<W: Write>(out: &mut W, station: u16, name: &str) -> io::Result<()>
 /// Writes the answers of a station, whose lines stood in the file of this name.
 pub fn tell_station<W: Write>(
     out: &mut W,
-    station: u16,
+    station: Station,
     name: &str,
     answers: &[u8],
 ) -> io::Result<()>

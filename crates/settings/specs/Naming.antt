@@ -1,33 +1,34 @@
 -- Names in order, each with its place, and the first place whose name stood earlier. Names are compared byte by byte.
-use Rattle.std.specs.Prelude.{ℕ, ◌-◌, Bool, List, Option, option_map, map, take, find, bytes_eq, String, string_bytes}
+use Rattle.std.specs.Prelude.{◌-◌, Bool, List, Option, option_map, map, take, find, bytes_eq, String, string_bytes}
 use Rattle.std.specs.Borrow.{Bor}
 use Rattle.std.specs.List.{enumerate_from, list_any}
 use Rattle.indexmap.specs.IndexMap.{IndexMap}
+use Rattle.settings.specs.Numbers.{Byte, Place}
 
 -- the bytes of each name
-abbrev pub texts : List (Bor (List ℕ)) → List (List ℕ)
+abbrev pub texts : List (Bor (List Byte)) → List (List Byte)
 texts names = map (λ name. name.now) names
 
 -- each name with its place, the first at 1
-abbrev pub placed : List (List ℕ) → List (ℕ × List ℕ)
+abbrev pub placed : List (List Byte) → List (Place × List Byte)
 placed names = enumerate_from 1 names
 
 -- what a map of names to places holds, in its order
-abbrev pub shown : {A S : Type 0} → IndexMap (String A) ℕ S → List (ℕ × List ℕ)
+abbrev pub shown : {A S : Type 0} → IndexMap (String A) Place S → List (Place × List Byte)
 shown places = map (λ entry. (entry.1, string_bytes entry.0)) places.entries
 
 -- the names that have a place
-abbrev pub names_of : List (ℕ × List ℕ) → List (List ℕ)
+abbrev pub names_of : List (Place × List Byte) → List (List Byte)
 names_of places = map (λ place. place.1) places
 
 -- the name is one of these
-abbrev pub is_among : List (List ℕ) → List ℕ → Bool
+abbrev pub is_among : List (List Byte) → List Byte → Bool
 is_among names name = list_any (bytes_eq name) names
 
 -- the name of this place stands at an earlier place too
-abbrev pub stood_earlier : List (List ℕ) → ℕ × List ℕ → Bool
+abbrev pub stood_earlier : List (List Byte) → Place × List Byte → Bool
 stood_earlier names place = is_among (take (place.0 - 1) names) place.1
 
 -- the first place whose name stood earlier
-unfoldable pub first_twice : List (List ℕ) → Option ℕ
+unfoldable pub first_twice : List (List Byte) → Option Place
 first_twice names = option_map (λ place. place.0) (find (stood_earlier names) (placed names))

@@ -2,6 +2,7 @@
 use Rattle.std.specs.Prelude.{◌≡◌, ℕ, ℤ, List, Option, None, Some, pos, codes, nat_le, if◌then◌else◌, option_and_then, IsUtf8}
 use Rattle.toml.specs.Data.{Members, get_member, as_integer}
 use Rattle.toml.specs.Parse.{parse_document}
+use Rattle.settings.specs.Numbers.{Byte}
 use Rattle.settings.specs.declared.reading.Settings.{Settings}
 
 -- the integer, where it is from 0 to 4,294,967,295
@@ -10,11 +11,11 @@ number_of (pos n) = if nat_le n 4294967295 then Some n else None
 number_of _ = None
 
 -- the integer under a key of the table
-abbrev pub integer_at : List ℕ → Members → Option ℤ
+abbrev pub integer_at : List Byte → Members → Option ℤ
 integer_at key table = option_and_then as_integer (get_member key table)
 
 -- such an integer under a key of the table, where it is in that range
-abbrev pub number_at : List ℕ → Members → Option ℕ
+abbrev pub number_at : List Byte → Members → Option ℕ
 number_at key table = option_and_then number_of (integer_at key table)
 
 -- the table has these five numbers
@@ -26,5 +27,5 @@ pub record Has (table : Members) (settings : Settings) : Type 0 where
   pub journal : number_at (codes "journal") table ≡ Some settings.journal
 
 -- the text is UTF-8 and a TOML document, and its table has these five numbers
-abbrev pub Holds : List ℕ → Settings → Type 0
+abbrev pub Holds : List Byte → Settings → Type 0
 Holds text settings = IsUtf8 text × ((table : Members) × (parse_document text ≡ Some table) × Has table settings)

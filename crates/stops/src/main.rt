@@ -12,7 +12,7 @@ use centre_core::Command;
 use checkpoint::Layout;
 use console::{Answer, Line, parse_line, print_answer};
 use recovery::{Outcome, Store, format};
-use registration::Limits;
+use registration::{Limits, Station};
 use sector_disk::{Disk, MemoryDisk};
 use std::alloc::Global;
 use std::cell::RefCell;
@@ -34,8 +34,8 @@ fn command(alloc: Global, line: &str) -> io::Result<Command<Global>> {
     let Ok(station) = station.parse() else {
         return Err(io::ErrorKind::InvalidData.into());
     };
-    match parse_line(alloc, station, said.as_bytes())? {
-        Line::Order(command) => Ok(command),
+    match parse_line(alloc, Station::new(station), said.as_bytes())? {
+        Line::Apply(command) => Ok(command),
         _ => Err(io::ErrorKind::InvalidData.into()),
     }
 }

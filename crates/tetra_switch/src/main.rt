@@ -6,7 +6,7 @@ use centre_core::Register;
 use command_line::{Refusal, Request, read_command_line};
 use console::{Desk, RunFault, run};
 use recovery::Store;
-use registration::Limits;
+use registration::{Limits, Station};
 use sector_disk::Disk;
 use served_disk::{
     Fault, Progress, TURNS, WatchedDesk, WatchedReader, format_disk, layout_of, open_disk, serve,
@@ -89,7 +89,15 @@ fn serve_lines<'a>(rt: &HostRuntime) -> Result<bool, Fault<'a>> {
     let mut desk = WatchedDesk::new(register, &progress);
     let mut reader = WatchedReader::new(rt.stdin(), &progress);
     let mut writer = io::writer(rt);
-    let ended = run(rt.alloc(), &mut reader, &mut writer, 1, TURNS, &mut desk);
+    let station = Station::new(1);
+    let ended = run(
+        rt.alloc(),
+        &mut reader,
+        &mut writer,
+        station,
+        TURNS,
+        &mut desk,
+    );
     progress.finish(&ended);
     match ended {
         Ok(ran) => Ok(ran.troubled),
@@ -147,10 +155,11 @@ fn serve_file<'a, D: Desk>(
         Err(error) => return Err(not_read(error, name)),
     };
     let mut reader = WatchedReader::new(file, progress);
-    let served = serve(rt.alloc(), &mut reader, 1, desk);
-    progress.finish(&served.ended);
-    let told = tell_station(&mut io::writer(rt), 1, name, &served.answers);
-    match served.ended {
+    let station = Station::new(1);
+    let answered = serve(rt.alloc(), &mut reader, station, desk);
+    progress.finish(&answered.ended);
+    let told = tell_station(&mut io::writer(rt), station, name, &answered.answers);
+    match answered.ended {
         Ok(ran) => printed(told, ran.troubled),
         Err(fault) => Err(Fault::of_run(fault, name)),
     }

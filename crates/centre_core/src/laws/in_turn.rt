@@ -1,5 +1,5 @@
 //! Lists of commands that are accepted in their turn.
-ghost use Rattle.centre_core.specs.InTurn.{AcceptedAreCounted, EndedAreNamed, KeptAreOfTheList, RepliesSay};
+ghost use Rattle.centre_core.specs.InTurn.{AcceptedAreCounted, EndedAreNamed, LastAreOfTheList, RepliesSay};
 
 use std::alloc::Allocator;
 
@@ -13,6 +13,6 @@ pub fn replies_say<A: Allocator, B: Allocator>()
 /// one of them names it.
 pub fn accepted_in_turn<A: Allocator>()
     ensures counted { AcceptedAreCounted A }
-    ensures kept { KeptAreOfTheList A }
+    ensures kept { LastAreOfTheList A }
     ensures ended { EndedAreNamed A }
 {}

@@ -3,11 +3,11 @@ ghost use Rattle.std.specs.Prelude.{◌≡◌, IfOk, OnErr, IsTrue, map};
 ghost use Rattle.sds_tl.specs.Reading.{heading};
 ghost use Rattle.sds_tl.specs.Transfers.{transfer_reference};
 ghost use Rattle.mailbox.specs.declared.key.Kind.TheVariants as kind;
-ghost use Rattle.mailbox.specs.Kept.{is_head_of};
+ghost use Rattle.mailbox.specs.Sound.{is_head_of};
 ghost use Rattle.centre_core.specs.Step.{CanBeAccepted, members, copies_of, step_copies, step_group_sds};
 ghost use Rattle.centre_core.specs.Memory.{needs_reference};
 
-use crate::last_accepted::{bits_copy, keep};
+use crate::last_accepted::{bits_copy, count_accepted};
 use crate::tables::Tables;
 use crate::{Command, Refusal, Reply};
 use group_attach::Attachment;
@@ -60,16 +60,16 @@ impl<A: Allocator + Clone> Tables<A> {
         if let Some(fault) = self.mail.group_refusal(&self.registry, envelope, members) {
             return Ok(Reply::Refused(Refusal::Mail(fault)));
         }
-        let kept = bits_copy(self.alloc.clone()?, pdu)?;
+        let bits = bits_copy(self.alloc.clone()?, pdu)?;
         let stamp = self.stamp(command);
         let Ok(()) = self
             .mail
-            .post_group(&self.registry, envelope, members, stamp, kept)
+            .post_group(&self.registry, envelope, members, stamp, bits)
         else {
             return Err(AllocError);
         };
         // The copies have the next number already, which is counted now.
-        keep(&mut self.served, &mut self.count, command, None);
+        count_accepted(&mut self.served, &mut self.count, command, None);
         Ok(Reply::Accepted {
             number: self.count,
             pdu: None,

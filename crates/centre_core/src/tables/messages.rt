@@ -5,16 +5,16 @@ ghost use Rattle.sds_tl.specs.Reading.{heading, cleared};
 ghost use Rattle.mailbox.specs.declared.key.Kind.TheVariants as kind;
 ghost use Rattle.mailbox.specs.Mail.{waiting};
 ghost use Rattle.mailbox.specs.Refusals.{post_refusal, report_refusal};
-ghost use Rattle.mailbox.specs.Kept.{is_head_of};
+ghost use Rattle.mailbox.specs.Sound.{is_head_of};
 ghost use Rattle.centre_core.specs.Step.{CanBeAccepted, envelope, message_of, step_made, report_of, step_sds, step_message, step_report, step_ack, step_sent, step_expire, step_delete};
 ghost use Rattle.centre_core.specs.Memory.{needs_head};
 
-use crate::last_accepted::{bits_copy, keep};
+use crate::last_accepted::{bits_copy, count_accepted};
 use crate::tables::Tables;
 use crate::{Command, Items, Refusal, Reply};
 use identity::{Bits, Itsi};
 use mailbox::{Envelope, Item, Key, Stamp};
-use sds_tl::{DeliveryStatus, Head};
+use sds_tl::{DeliveryStatus, Head, MessageReference};
 use std::alloc::{AllocError, Allocator};
 
 impl<A: Allocator + Clone> Tables<A> {
@@ -85,11 +85,11 @@ impl<A: Allocator + Clone> Tables<A> {
             Ok(opening) => opening,
             Err(fault) => return Ok(Reply::Refused(Refusal::Mail(fault))),
         };
-        let kept = bits_copy(self.alloc.clone()?, pdu)?;
+        let bits = bits_copy(self.alloc.clone()?, pdu)?;
         let stamp = self.stamp(command);
-        self.mail.post_judged(&opening, stamp, kept)?;
+        self.mail.post_judged(&opening, stamp, bits)?;
         // The item has the next number already, which is counted now.
-        keep(&mut self.served, &mut self.count, command, None);
+        count_accepted(&mut self.served, &mut self.count, command, None);
         Ok(Reply::Accepted {
             number: self.count,
             pdu: None,
@@ -113,14 +113,14 @@ impl<A: Allocator + Clone> Tables<A> {
             Ok(judged) => judged,
             Err(fault) => return Ok(Reply::Refused(Refusal::Mail(fault))),
         };
-        let Ok(kept) = sds_tl::canonical(self.alloc.clone()?, pdu) else {
+        let Ok(bits) = sds_tl::canonical(self.alloc.clone()?, pdu) else {
             return Err(AllocError);
         };
         let stamp = self.stamp(command);
         self.mail
-            .report_judged(&judged, envelope, status, stamp, kept)?;
+            .report_judged(&judged, envelope, status, stamp, bits)?;
         // The item has the next number already, which is counted now.
-        keep(&mut self.served, &mut self.count, command, None);
+        count_accepted(&mut self.served, &mut self.count, command, None);
         Ok(Reply::Accepted {
             number: self.count,
             pdu: None,
@@ -201,7 +201,7 @@ impl<A: Allocator + Clone> Tables<A> {
     }
 }
 
-fn envelope(source: Itsi, destination: Itsi, reference: u8) -> Envelope
+fn envelope(source: Itsi, destination: Itsi, reference: MessageReference) -> Envelope
     ensures { result ≡ envelope source destination reference }
 {
     Envelope {

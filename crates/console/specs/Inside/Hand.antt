@@ -1,6 +1,7 @@
 -- What is kept of the line at hand, and which answer is given to it.
 use Rattle.std.specs.Prelude.{◌≡◌, ◌⊎◌, ℕ, suc, ◌<◌, ◌≤◌, Bool, true, false, List, [], ◌∷◌, ◌++◌, length, Option, Some, None, nat_lt}
 use Rattle.std.specs.Str.Lines.{strip_carriage_return}
+use Rattle.identity.specs.Numbers.{Byte}
 use Rattle.console.specs.declared.answer.Answer.{Answer}
 use Rattle.console.specs.declared.answer.Answer.TheVariants.{Untold}
 use Rattle.desk.specs.declared.service.Service.TheVariants.{Memory}
@@ -8,26 +9,26 @@ use Rattle.console.specs.Answer.{tells_list}
 use Rattle.console.specs.Reading.{Lacks, longest_line}
 
 -- no byte of it ends a line
-abbrev pub HasNoEnd : List ℕ → Type 0
+abbrev pub HasNoEnd : List Byte → Type 0
 HasNoEnd text = Lacks 10 text
 
 -- line, the bytes of the line so far, are kept while they can be a longest line and a carriage return, and else it is known that there are more
-abbrev pub Holds : List ℕ → Bool → List ℕ → Type 0
-Holds kept true line = suc longest_line < length line
-Holds kept false line = (kept ≡ line) × (length line ≤ suc longest_line)
+abbrev pub Holds : List Byte → Bool → List Byte → Type 0
+Holds bytes true line = suc longest_line < length line
+Holds bytes false line = (bytes ≡ line) × (length line ≤ suc longest_line)
 
 -- run ends the line: it is kept with the bytes that came before, and where none did it is not
-abbrev pub HoldsWith : List ℕ → Bool → List ℕ → List ℕ → Type 0
-HoldsWith kept long [] run = Holds kept long []
-HoldsWith kept long (b ∷ line) run = Holds kept long (b ∷ line ++ run)
+abbrev pub HoldsWith : List Byte → Bool → List Byte → List Byte → Type 0
+HoldsWith bytes long [] run = Holds bytes long []
+HoldsWith bytes long (b ∷ line) run = Holds bytes long (b ∷ line ++ run)
 
 -- a line without its end
-abbrev pub line_at_end : Bool → List ℕ → List ℕ
+abbrev pub line_at_end : Bool → List Byte → List Byte
 line_at_end true line = strip_carriage_return line
 line_at_end false line = line
 
 -- the line, or nothing of one that is too long
-abbrev pub StandsFor : Option (List ℕ) → List ℕ → Type 0
+abbrev pub StandsFor : Option (List Byte) → List Byte → Type 0
 StandsFor None line = nat_lt longest_line (length line) ≡ true
 StandsFor (Some text) line = text ≡ line
 

@@ -1,6 +1,7 @@
 -- The parts of an answer's text, and how many bytes each takes at most.
 use Rattle.std.specs.Prelude.{ℕ, ◌+◌, ◌/◌, List, length, decimal, sum_by}
 use Rattle.std.specs.List.{flat_map}
+use Rattle.identity.specs.Numbers.{Byte}
 use Rattle.identity.specs.IdentityText.{identity_text, prefix_text}
 use Rattle.identity.specs.BitsText.{bits_text}
 use Rattle.console.specs.declared.text_part.Part.{Part}
@@ -8,7 +9,7 @@ use Rattle.console.specs.declared.text_part.Part.TheVariants as part
 
 module _ {B : Type 0} where
   -- the bytes of a part
-  abbrev pub part_text : Part B → List ℕ
+  abbrev pub part_text : Part B → List Byte
   part_text (part.Text text) = text.now
   part_text (part.Number number) = decimal number
   part_text (part.Radio itsi) = identity_text itsi
@@ -17,7 +18,7 @@ module _ {B : Type 0} where
   part_text (part.Pdu bits) = bits_text bits.now
 
   -- the bytes of the parts, one after another
-  abbrev pub parts_text : List (Part B) → List ℕ
+  abbrev pub parts_text : List (Part B) → List Byte
   parts_text parts = flat_map part_text parts
 
   -- a number has at most 20 digits, and a digit of a PDU stands for four bits

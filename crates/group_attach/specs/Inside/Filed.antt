@@ -1,9 +1,10 @@
 -- Attachments in lists, each list under the path of a radio or of a group.
-use Rattle.std.specs.Prelude.{◌≡◌, ℕ, ◌<◌, ◌==◌, Bool, List, Option, None, Some, IsSome, unwrap_or, if◌then◌else◌}
+use Rattle.std.specs.Prelude.{◌≡◌, ◌<◌, ◌==◌, Bool, List, Option, None, Some, IsSome, unwrap_or, if◌then◌else◌}
 use Rattle.std.specs.List.{flat_map, fold}
 use Rattle.std.specs.Option.{is_some}
 use Rattle.std.specs.Ordering.{eq_by_cmp}
 use Rattle.std.specs.FinMap as finite
+use Rattle.identity.specs.Numbers.{Identity, Itsi}
 use Rattle.identity.specs.Number.{number}
 use Rattle.identity.specs.Path.{Path, path_cmp, id_path}
 use Rattle.prefix_tree.specs.Table.{PathMap}
@@ -32,31 +33,31 @@ abbrev pub placed : Filed → Path → Attached → Filed
 placed f p list = if finite.len list == 0 then finite.remove f p else finite.insert f p list
 
 -- the list, if it is not empty
-abbrev pub kept : Attached → Option Attached
-kept list = if finite.len list == 0 then None else Some list
+abbrev pub unless_empty : Attached → Option Attached
+unless_empty list = if finite.len list == 0 then None else Some list
 
 -- of each list the pairs whose number has the list's path
-abbrev pub of_entries : (Pair → ℕ) → List (Path × Attached) → List (Pair × Usage)
+abbrev pub of_entries : (Pair → Identity) → List (Path × Attached) → List (Pair × Usage)
 of_entries key es = flat_map (λ e. finite.entries (finite.retain_keys e.1 (λ pair. eq_by_cmp path_cmp (id_path (key pair)) e.0))) es
 
 -- the attachments of all lists
-unfoldable pub gathered : (Pair → ℕ) → Filed → Attached
+unfoldable pub gathered : (Pair → Identity) → Filed → Attached
 gathered key f = finite.from_entries (of_entries key (finite.entries f))
 
 -- all pairs of the list have this number
-abbrev pub AllHave : (Pair → ℕ) → ℕ → Attached → Type 0
+abbrev pub AllHave : (Pair → Identity) → Identity → Attached → Type 0
 AllHave key k list = (pair : Pair) → IsSome (finite.get list pair) → key pair ≡ k
 
 -- no list is empty, and each stands under the path of its pairs
-unfoldable pub IsFiled : (Pair → ℕ) → Filed → Type 0
+unfoldable pub IsFiled : (Pair → Identity) → Filed → Type 0
 IsFiled key f = (p : Path) (list : Attached) → finite.get f p ≡ Some list → (0 < finite.len list) × AllHave key (number p) list
 
 -- the part of the attachments with this number
-abbrev pub part_of : (Pair → ℕ) → Attached → ℕ → Attached
+abbrev pub part_of : (Pair → Identity) → Attached → Identity → Attached
 part_of key m k = finite.retain_keys m (λ pair. key pair == k)
 
 -- n is m with the list in place of the radio's attachments
-abbrev pub IsReplaced : Attached → ℕ → Attached → Attached → Type 0
+abbrev pub IsReplaced : Attached → Itsi → Attached → Attached → Type 0
 IsReplaced m itsi list n = (pair : Pair) → finite.get n pair ≡ (if pair.0 == itsi then finite.get list pair else finite.get m pair)
 
 -- without the attachments of the old list whose pairs the new one has not
@@ -85,6 +86,6 @@ set_back m pair None = finite.remove m pair
 set_back m pair (Some usage) = finite.insert m pair usage
 
 -- what ends attachments of a radio: that it leaves a group, or a location update
-abbrev pub ended : Attached → ℕ → Ending → Attached
+abbrev pub ended : Attached → Itsi → Ending → Attached
 ended m itsi (ending.Leave gtsi) = finite.remove m (itsi, gtsi)
 ended m itsi (ending.Update update) = after_update m itsi update

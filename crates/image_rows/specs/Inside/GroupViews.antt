@@ -1,5 +1,6 @@
 -- The groups of a radio's row that still lie in the bytes, as a list.
 use Rattle.std.specs.Prelude.{ℕ, List, [], Some, None}
+use Rattle.identity.specs.Numbers.{Byte}
 use Rattle.command_bytes.specs.Reading.{Read}
 use Rattle.image_rows.specs.Rows.{Group}
 use Rattle.image_rows.specs.RowReading.{groups_at}
@@ -10,5 +11,5 @@ listed None = []
 listed (Some x) = x.0
 
 -- so many groups from the first byte on
-unfoldable pub groups_from : ℕ → List ℕ → List Group
+unfoldable pub groups_from : ℕ → List Byte → List Group
 groups_from n bytes = listed (groups_at n bytes)

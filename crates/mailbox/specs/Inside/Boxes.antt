@@ -1,74 +1,75 @@
 -- How the items are kept: in boxes by destination, and beside them an index of their places, in order.
-use Rattle.std.specs.Prelude.{◌≡◌, ℕ, ◌<◌, ◌^◌, Bool, false, not, List, [], ◌∷◌, ◌++◌, map, Option, Some, None}
+use Rattle.std.specs.Prelude.{◌≡◌, ◌<◌, ◌^◌, Bool, false, not, List, [], ◌∷◌, ◌++◌, map, Option, Some, None}
 use Rattle.std.specs.List.{All, AllPairs, filter, filter_map, find, list_any}
 use Rattle.std.specs.FinMap as finite
 use Rattle.std.specs.Ordering.{eq_by_cmp}
 use Rattle.identity.specs.Path.{Path, path_cmp, id_path}
 use Rattle.prefix_tree.specs.Table.{PathMap}
+use Rattle.mailbox.specs.Numbers.{Number}
 use Rattle.mailbox.specs.declared.key.Key.{Key}
 use Rattle.mailbox.specs.declared.place.Place.{Place}
-use Rattle.mailbox.specs.Values.{Waiting}
-use Rattle.mailbox.specs.Tests.{same_key, is_at}
+use Rattle.mailbox.specs.Values.{Item}
+use Rattle.mailbox.specs.Item.{same_key, is_at}
 use Rattle.mailbox.specs.Order.{IsBefore, place_of}
 
 -- for each destination, under all bits of its identity, its items, the oldest first
 abbrev pub Boxes : Type 0
-Boxes = PathMap (List Waiting)
+Boxes = PathMap (List Item)
 
 -- the items of a box, none where there is no box
-abbrev pub contents : Option (List Waiting) → List Waiting
+abbrev pub contents : Option (List Item) → List Item
 contents None = []
 contents (Some ws) = ws
 
 -- the items under a path
-abbrev pub items_under : Boxes → Path → List Waiting
+abbrev pub items_under : Boxes → Path → List Item
 items_under boxes p = contents (finite.get boxes p)
 
 -- where no items are, there is no box
-abbrev pub box_of : List Waiting → Option (List Waiting)
+abbrev pub box_of : List Item → Option (List Item)
 box_of [] = None
 box_of (w ∷ ws) = Some (w ∷ ws)
 
 -- the boxes with these items under the path
-abbrev pub with_items : Boxes → Path → List Waiting → Boxes
+abbrev pub with_items : Boxes → Path → List Item → Boxes
 with_items boxes p [] = finite.remove boxes p
 with_items boxes p (w ∷ ws) = finite.insert boxes p (w ∷ ws)
 
 -- the items under the path that pass the test go
-abbrev pub swept : Boxes → Path → (Waiting → Bool) → Boxes
+abbrev pub swept : Boxes → Path → (Item → Bool) → Boxes
 swept boxes p test = with_items boxes p (filter (λ w. not (test w)) (items_under boxes p))
 
 -- the item is the last of these, in place of any at its key
-abbrev pub put_last : List Waiting → Waiting → List Waiting
+abbrev pub put_last : List Item → Item → List Item
 put_last ws w = filter (λ o. not (is_at w.key o)) ws ++ w ∷ []
 
 -- the item is the last in its destination's box, in place of any at its key
-abbrev pub put : Boxes → Waiting → Boxes
+abbrev pub put : Boxes → Item → Boxes
 put boxes w = let p = id_path w.key.destination in with_items boxes p (put_last (items_under boxes p) w)
 
 -- the item at a key
-abbrev pub item_at : Boxes → Key → Option Waiting
+abbrev pub item_at : Boxes → Key → Option Item
 item_at boxes k = find (is_at k) (items_under boxes (id_path k.destination))
 
 -- whether an item stands at the key
-abbrev pub is_kept : Boxes → Key → Bool
-is_kept boxes k = list_any (is_at k) (items_under boxes (id_path k.destination))
+abbrev pub is_filed : Boxes → Key → Bool
+is_filed boxes k = list_any (is_at k) (items_under boxes (id_path k.destination))
 
 -- the number and the key of a place
-abbrev pub name_of : Place → ℕ × Key
+abbrev pub name_of : Place → Number × Key
 name_of p = (p.number, p.key)
 
 -- the items in the index's order
-abbrev pub in_order : Boxes → List Place → List Waiting
+abbrev pub in_order : Boxes → List Place → List Item
 in_order boxes order = filter_map (λ place. item_at boxes place.key) order
 
 -- its destination has this path
-abbrev pub is_under : Path → Waiting → Bool
+abbrev pub is_under : Path → Item → Bool
 is_under p w = eq_by_cmp path_cmp p (id_path w.key.destination)
 
 -- These items are what is kept: each destination's box has its items, the index has the place of each item, they are in
 -- order of number, then key, no two have one key, and each destination is the number of an identity.
-pub record AreKept (ws : List Waiting) (boxes : Boxes) (order : List Place) : Type 0 where
+pub record AreFiled (ws : List Item) (boxes : Boxes) (order : List Place) : Type 0 where
   pub boxed : (p : Path) → finite.get boxes p ≡ box_of (filter (is_under p) ws)
   pub indexed : order ≡ map place_of ws
   pub ordered : AllPairs IsBefore ws

@@ -1,11 +1,12 @@
 -- The places of all items as a tree keeps them: a node's place, those before it on one side, those after it on the other.
-use Rattle.std.specs.Prelude.{◌≡◌, ℕ, ◌≤◌, nat_le, Bool, List, [], ◌∷◌, ◌++◌, Option, Some, None}
+use Rattle.std.specs.Prelude.{◌≡◌, ◌≤◌, nat_le, Bool, List, [], ◌∷◌, ◌++◌, Option, Some, None}
 use Rattle.std.specs.Coded.{Coded, coded_list}
 use Rattle.std.specs.List.{All}
 use Rattle.std.specs.Ordering.{is_eq}
 use Rattle.std.specs.declared.boxed.Box.{Box}
 use Rattle.std.specs.declared.cmp.Ordering.{Ordering}
 use Rattle.prefix_tree.specs.Following.{AreRising}
+use Rattle.mailbox.specs.Numbers.{Moment}
 use Rattle.mailbox.specs.declared.place.Place.{Place}
 use Rattle.mailbox.specs.contracts.place.Place as place
 use Rattle.mailbox.specs.Order.{named_cmp}
@@ -28,11 +29,11 @@ abbrev pub InOrder : List Place → Type 0
 InOrder places = AreRising named_cmp name_of places
 
 -- its item has ended by the moment
-abbrev pub is_due : ℕ → Place → Bool
+abbrev pub is_due : Moment → Place → Bool
 is_due moment p = nat_le p.deadline moment
 
 -- no item ends before this moment
-abbrev pub NoneBefore : ℕ → List Place → Type 0
+abbrev pub NoneBefore : Moment → List Place → Type 0
 NoneBefore moment places = All (λ p. moment ≤ p.deadline) places
 
 -- the places at and below what a link leads to
@@ -41,8 +42,8 @@ places_of None = []
 places_of (Some b) = b.value
 
 -- those before a place, the place, those after it
-abbrev pub joined : {A : Type 0} → Place → Option (Box (List Place) A) → Option (Box (List Place) A) → List Place
-joined p earlier later = places_of earlier ++ p ∷ places_of later
+abbrev pub all_of : {A : Type 0} → Place → Option (Box (List Place) A) → Option (Box (List Place) A) → List Place
+all_of p earlier later = places_of earlier ++ p ∷ places_of later
 
 -- the first place and the others, if there are any
 abbrev pub IsFirstOf : List Place → List Place → Option Place → Type 0

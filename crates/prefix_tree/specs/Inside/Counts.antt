@@ -31,5 +31,5 @@ module _ {V : Type 0} where
       one_more zero l less never = absurd (never refl)
       one_more (suc k) l less never = omega (arith, less)
 
-  pub len_kept : (m n : PathMap V) (p : Path) → None ≡ map.get m p → n ≡ map.remove m p → map.len n ≡ map.len m
-  len_kept m n p absent is = ap map.len is ∙ len-remove paths_total m p ∙ ap (λ o. cond (is_some o) (map.len m - 1) (map.len m)) (sym absent)
+  pub len_same : (m n : PathMap V) (p : Path) → None ≡ map.get m p → n ≡ map.remove m p → map.len n ≡ map.len m
+  len_same m n p absent is = ap map.len is ∙ len-remove paths_total m p ∙ ap (λ o. cond (is_some o) (map.len m - 1) (map.len m)) (sym absent)

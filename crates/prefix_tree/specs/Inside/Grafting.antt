@@ -7,7 +7,7 @@ use Rattle.std.specs.declared.boxed.Box.{Box}
 use Rattle.std.specs.contracts.boxed.Box as box
 use Rattle.identity.specs.Path.{Path, begins}
 use Rattle.prefix_tree.specs.Visits.{is_place}
-use Rattle.prefix_tree.specs.Inside.Joined.{NodeSeen, KeysUnder, IsFirm}
+use Rattle.prefix_tree.specs.Inside.Around.{NodeSeen, KeysUnder, IsFirm}
 use Rattle.prefix_tree.specs.declared.node.Node.{Node}
 use Rattle.prefix_tree.specs.contracts.node.Node.{the_row}
 

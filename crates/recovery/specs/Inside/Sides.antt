@@ -1,5 +1,6 @@
 -- The two sides of a disk that is made ready.
-use Rattle.std.specs.Prelude.{◌≡◌, ℕ, false}
+use Rattle.std.specs.Prelude.{◌≡◌, false}
+use Rattle.sector_disk.specs.Numbers.{Sector}
 use Rattle.sector_disk.specs.Disk.{View, sector}
 use Rattle.gated_journal.specs.Calls.{closed_gate, open_gate}
 use Rattle.checkpoint.specs.declared.layout.Layout.{Layout}
@@ -9,7 +10,7 @@ use Rattle.recovery.specs.Calls.{first_header}
 
 -- nothing is pending; side A has an open root over the image of an empty register, side B a closed one, and neither half a record
 pub record AreReady (layout : Layout) (disk : View) : Type 0 where
-  pub durable : (k : ℕ) → disk.pending k ≡ false
+  pub durable : (k : Sector) → disk.pending k ≡ false
   pub header : sector disk.reads (slot_at layout side.A) ≡ first_header
   pub root : sector disk.reads (root_at side.A) ≡ open_gate
   pub other : sector disk.reads (root_at side.B) ≡ closed_gate

@@ -1,6 +1,6 @@
 use Rattle.std.proofs.Common.{◌≡◌, ℕ, Some, sym, subst}
 use Rattle.mailbox.specs.declared.key.Key.{Key}
-use Rattle.mailbox.specs.Values.{Waiting}
+use Rattle.mailbox.specs.Values.{Item}
 use Rattle.benchmarks.specs.Building.{EndsBy}
 use Rattle.benchmarks.proofs.Rebuilt.{comes_last, ends_by}
 use Rattle.benchmarks.proofs.building.put_item.Goals as goal
@@ -10,7 +10,7 @@ restore-requires c = comes_last c.args.from.now c.args.to.now c.args.last c.in-S
 
 pub returns-in-Ok-restore : goal.returns-in-Ok-restore
 returns-in-Ok-restore c =
-    let copy : Waiting = c.in-Ok.copy in
+    let copy : Item = c.in-Ok.copy in
     let last = comes_last c.args.from.now c.args.to.now c.args.last c.in-Some.item.now copy c.in-Some.ensures c.in-Ok.ensures c.requires in
     let place : (copy.number, copy.key) ≡ (c.number.result, c.key.result) = λ i. (sym c.number.ensures i, sym c.key.ensures i) in
     subst (λ (p : ℕ × Key). EndsBy c.restore.new.self (Some p)) place (ends_by c.args.to.now c.restore.new.self copy last c.in-Ok-restore.ensures.ok.1)

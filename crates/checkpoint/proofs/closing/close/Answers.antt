@@ -15,46 +15,46 @@ returns-in_err-write-clause-any_moment g c base held honest each =
     let layout = c.args.layout.now in
     let old : View = g.D.Disk.view c.args.disk.now in
     let mid : View = g.D.Disk.view c.close_root.new.disk in
-    let kept = c.close_root.ensures.honest honest in
+    let honest_still = c.close_root.ensures.honest honest in
     let room : disk_size layout ≤ mid.sectors = rw c.close_root.ensures.cause.sectors c.requires.room in
     let place : c.half.result ≡ half_at layout (other_of c.args.current) = c.half.ensures ∙ ap (half_at layout) c.other.ensures in
     let inside : c.half.result < mid.sectors = rw place (gate_inside layout (other_of c.args.current) mid.sectors room) in
-    let wrote = rw place at (c.in_err-write.ensures.effect inside kept) in
-    in_gate layout c.args.current base held old mid (c.close_root.ensures.any_moment base held honest each) (g.met.D.Disk.sound c.close_root.new.disk kept) room _ _ _ wrote
+    let wrote = rw place at (c.in_err-write.ensures.effect inside honest_still) in
+    in_gate layout c.args.current base held old mid (c.close_root.ensures.any_moment base held honest each) (g.met.D.Disk.sound c.close_root.new.disk honest_still) room _ _ _ wrote
 
 pub returns-in_err-sync-clause-any_moment : goal.returns-in_err-sync-clause-any_moment
 returns-in_err-sync-clause-any_moment g c base held honest each =
     let layout = c.args.layout.now in
     let old : View = g.D.Disk.view c.args.disk.now in
     let mid : View = g.D.Disk.view c.close_root.new.disk in
-    let kept = c.close_root.ensures.honest honest in
+    let honest_still = c.close_root.ensures.honest honest in
     let room : disk_size layout ≤ mid.sectors = rw c.close_root.ensures.cause.sectors c.requires.room in
     let place : c.half.result ≡ half_at layout (other_of c.args.current) = c.half.ensures ∙ ap (half_at layout) c.other.ensures in
     let inside : c.half.result < mid.sectors = rw place (gate_inside layout (other_of c.args.current) mid.sectors room) in
-    let wrote = rw place at (c.in_ok-write.ensures.effect inside kept) in
-    in_sync layout c.args.current base held old mid (c.close_root.ensures.any_moment base held honest each) (g.met.D.Disk.sound c.close_root.new.disk kept) room _ _ _ _ wrote (c.in_err-sync.ensures.effect wrote.honest)
+    let wrote = rw place at (c.in_ok-write.ensures.effect inside honest_still) in
+    in_sync layout c.args.current base held old mid (c.close_root.ensures.any_moment base held honest each) (g.met.D.Disk.sound c.close_root.new.disk honest_still) room _ _ _ _ wrote (c.in_err-sync.ensures.effect wrote.honest)
 
 pub returns-clause-any_moment : goal.returns-clause-any_moment
 returns-clause-any_moment g c base held honest each =
     let layout = c.args.layout.now in
     let old : View = g.D.Disk.view c.args.disk.now in
     let mid : View = g.D.Disk.view c.close_root.new.disk in
-    let kept = c.close_root.ensures.honest honest in
+    let honest_still = c.close_root.ensures.honest honest in
     let room : disk_size layout ≤ mid.sectors = rw c.close_root.ensures.cause.sectors c.requires.room in
     let place : c.half.result ≡ half_at layout (other_of c.args.current) = c.half.ensures ∙ ap (half_at layout) c.other.ensures in
     let inside : c.half.result < mid.sectors = rw place (gate_inside layout (other_of c.args.current) mid.sectors room) in
-    let wrote = rw place at (c.in_ok-write.ensures.effect inside kept) in
-    in_sync layout c.args.current base held old mid (c.close_root.ensures.any_moment base held honest each) (g.met.D.Disk.sound c.close_root.new.disk kept) room _ _ _ _ wrote (c.in_ok-sync.ensures.effect wrote.honest)
+    let wrote = rw place at (c.in_ok-write.ensures.effect inside honest_still) in
+    in_sync layout c.args.current base held old mid (c.close_root.ensures.any_moment base held honest each) (g.met.D.Disk.sound c.close_root.new.disk honest_still) room _ _ _ _ wrote (c.in_ok-sync.ensures.effect wrote.honest)
 
 pub returns-clause-shut : goal.returns-clause-shut
 returns-clause-shut g c honest =
     let layout = c.args.layout.now in
     let mid : View = g.D.Disk.view c.close_root.new.disk in
-    let kept = c.close_root.ensures.honest honest in
+    let honest_still = c.close_root.ensures.honest honest in
     let room : disk_size layout ≤ mid.sectors = rw c.close_root.ensures.cause.sectors c.requires.room in
     let place : c.half.result ≡ half_at layout (other_of c.args.current) = c.half.ensures ∙ ap (half_at layout) c.other.ensures in
     let inside : c.half.result < mid.sectors = rw place (gate_inside layout (other_of c.args.current) mid.sectors room) in
-    let wrote = rw place at (c.in_ok-write.ensures.effect inside kept) in
+    let wrote = rw place at (c.in_ok-write.ensures.effect inside honest_still) in
     is_shut layout (other_of c.args.current) mid (g.D.Disk.view c.write.new.self) (g.D.Disk.view c.sync.new.self) (c.in_ok-close_root.ensures.closed honest) wrote (c.in_ok-sync.ensures.effect wrote.honest)
 
 pub returns-in_err-close_root-clause-some_calls : goal.returns-in_err-close_root-clause-some_calls

@@ -36,40 +36,40 @@ returns-in_err-write_rows-clause-any_moment g c base held honest each =
     let layout = c.args.layout.now in
     let mid : View = g.D.Disk.view c.close.new.disk in
     let fit = rows_have_room layout (c.args.epoch + 1) c.args.register.now c.registers.ensures.state c.requires.limits in
-    let kept = c.close.ensures.honest honest in
+    let honest_still = c.close.ensures.honest honest in
     let place : c.slot.result ≡ slot_at layout (other_of c.args.current) = c.slot.ensures ∙ ap (slot_at layout) c.other.ensures in
-    let filled = rw place at (c.in_err-write_rows.ensures.effect kept) in
+    let filled = rw place at (c.in_err-write_rows.ensures.effect honest_still) in
     in_rows layout c.args.current (g.D.Disk.view c.args.disk.now) mid (c.in_ok-close.ensures.shut honest) (length (rows_of (c.args.epoch + 1) c.args.register.now)) fit (row_sector (c.args.epoch + 1, c.args.register.now)) (g.D.Disk.view c.write_rows.new.disk)
-    base held (c.close.ensures.any_moment base held honest each) (g.met.D.Disk.sound c.close.new.disk kept) _ filled
+    base held (c.close.ensures.any_moment base held honest each) (g.met.D.Disk.sound c.close.new.disk honest_still) _ filled
 
 pub returns-in_err-sync-clause-any_moment : goal.returns-in_err-sync-clause-any_moment
 returns-in_err-sync-clause-any_moment g c base held honest each =
     let layout = c.args.layout.now in
     let mid : View = g.D.Disk.view c.close.new.disk in
     let fit = rows_have_room layout (c.args.epoch + 1) c.args.register.now c.registers.ensures.state c.requires.limits in
-    let kept = c.close.ensures.honest honest in
+    let honest_still = c.close.ensures.honest honest in
     let place : c.slot.result ≡ slot_at layout (other_of c.args.current) = c.slot.ensures ∙ ap (slot_at layout) c.other.ensures in
-    let filled = rw place at (c.in_ok-write_rows.ensures.effect kept) in
+    let filled = rw place at (c.in_ok-write_rows.ensures.effect honest_still) in
     in_last layout c.args.current (g.D.Disk.view c.args.disk.now) mid (c.in_ok-close.ensures.shut honest) (length (rows_of (c.args.epoch + 1) c.args.register.now)) fit (row_sector (c.args.epoch + 1, c.args.register.now)) (g.D.Disk.view c.write_rows.new.disk)
-    base held (c.close.ensures.any_moment base held honest each) (g.met.D.Disk.sound c.close.new.disk kept) (g.D.Disk.view c.sync.new.self) _ filled (c.in_err-sync.ensures.effect filled.honest)
+    base held (c.close.ensures.any_moment base held honest each) (g.met.D.Disk.sound c.close.new.disk honest_still) (g.D.Disk.view c.sync.new.self) _ filled (c.in_err-sync.ensures.effect filled.honest)
 
 pub returns-clause-any_moment : goal.returns-clause-any_moment
 returns-clause-any_moment g c base held honest each =
     let layout = c.args.layout.now in
     let mid : View = g.D.Disk.view c.close.new.disk in
     let fit = rows_have_room layout (c.args.epoch + 1) c.args.register.now c.registers.ensures.state c.requires.limits in
-    let kept = c.close.ensures.honest honest in
+    let honest_still = c.close.ensures.honest honest in
     let place : c.slot.result ≡ slot_at layout (other_of c.args.current) = c.slot.ensures ∙ ap (slot_at layout) c.other.ensures in
-    let filled = rw place at (c.in_ok-write_rows.ensures.effect kept) in
+    let filled = rw place at (c.in_ok-write_rows.ensures.effect honest_still) in
     in_last layout c.args.current (g.D.Disk.view c.args.disk.now) mid (c.in_ok-close.ensures.shut honest) (length (rows_of (c.args.epoch + 1) c.args.register.now)) fit (row_sector (c.args.epoch + 1, c.args.register.now)) (g.D.Disk.view c.write_rows.new.disk)
-    base held (c.close.ensures.any_moment base held honest each) (g.met.D.Disk.sound c.close.new.disk kept) (g.D.Disk.view c.sync.new.self) _ filled (c.in_ok-sync.ensures.effect filled.honest)
+    base held (c.close.ensures.any_moment base held honest each) (g.met.D.Disk.sound c.close.new.disk honest_still) (g.D.Disk.view c.sync.new.self) _ filled (c.in_ok-sync.ensures.effect filled.honest)
 
 pub returns-clause-ready : goal.returns-clause-ready
 returns-clause-ready g c honest =
     let layout = c.args.layout.now in
-    let kept = c.close.ensures.honest honest in
+    let honest_still = c.close.ensures.honest honest in
     let place : c.slot.result ≡ slot_at layout (other_of c.args.current) = c.slot.ensures ∙ ap (slot_at layout) c.other.ensures in
-    let filled = rw place at (c.in_ok-write_rows.ensures.effect kept) in
+    let filled = rw place at (c.in_ok-write_rows.ensures.effect honest_still) in
     is_ready layout (other_of c.args.current) (c.args.epoch + 1) c.args.register.now (g.D.Disk.view c.close.new.disk) (g.D.Disk.view c.write_rows.new.disk) (g.D.Disk.view c.sync.new.self)
     (c.in_ok-close.ensures.shut honest) c.registers.ensures.state c.registers.ensures.ranges c.requires.limits (omega arith) (omega arith) filled (c.in_ok-sync.ensures.effect filled.honest)
 

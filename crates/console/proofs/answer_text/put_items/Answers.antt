@@ -1,5 +1,5 @@
 use Rattle.console.specs.Answer.{item_text}
-use Rattle.console.proofs.Listed.{no_room, keeps_front}
+use Rattle.console.proofs.Listed.{no_room, front_with_more}
 use Rattle.console.proofs.Writing.{on_err_true}
 use Rattle.console.proofs.answer_text.put_items.Goals as goal
 
@@ -8,4 +8,4 @@ returns-in_err-put_item-clause-full g c = on_err_true c.from_residual.result (no
     c.args.out.now.items c.loop-item.out.items _ _ _ _ c.args.out.now.ok.0 c.loop-item.out.ok.0 c.loop-item.invariant.0 c.loop-item.invariant.1 c.in_err-put_item.ensures.full)
 
 pub returns-in_err-put_item-clause-err : goal.returns-in_err-put_item-clause-err
-returns-in_err-put_item-clause-err g c = on_err_true c.from_residual.result (keeps_front c.args.out.now.items _ c.loop-item.out.items c.put_item.new.out.items c.loop-item.invariant.0 c.in_err-put_item.ensures.err)
+returns-in_err-put_item-clause-err g c = on_err_true c.from_residual.result (front_with_more c.args.out.now.items _ c.loop-item.out.items c.put_item.new.out.items c.loop-item.invariant.0 c.in_err-put_item.ensures.err)

@@ -26,4 +26,5 @@ returns-in-Some-Mail g c =
 pub returns-in-Some-Served : goal.returns-in-Some-Served
 returns-in-Some-Served g c =
     let is : c.args.after ≡ Some (place.Served c.in-Some-Served.station) = search rules in
-    told_at c.args.epoch c.args.register.now c.args.after (place.Served c.in-Some-Served.station) c.station_after.result c.registers.ensures.ranges is tt c.station_after.ensures
+    let told = rw (c.number.ensures.value) at c.station_after.ensures in
+    told_at c.args.epoch c.args.register.now c.args.after (place.Served c.in-Some-Served.station) c.station_after.result c.registers.ensures.ranges is tt told

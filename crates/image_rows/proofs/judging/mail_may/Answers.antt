@@ -3,8 +3,8 @@ use Rattle.std.specs.Prelude.{◌&&◌, not, nat_lt, count_by}
 use Rattle.centre_core.specs.State.{State}
 use Rattle.mailbox.specs.Mail.{holds}
 use Rattle.mailbox.specs.Refusals.{most_for_one}
-use Rattle.mailbox.specs.Tests.{is_to}
-use Rattle.image_rows.specs.Held.{before_place}
+use Rattle.mailbox.specs.Item.{is_to}
+use Rattle.image_rows.specs.Loading.{before_place}
 use Rattle.image_rows.proofs.Judged.{few_yet, may_by_place}
 use Rattle.image_rows.proofs.judging.mail_may.Goals as goal
 
@@ -16,5 +16,5 @@ is_free-requires g c =
 pub returns : goal.returns
 returns g c =
     let before : before_place c.args.header.now c.args.parts.now c.args.item.now ≡ true = search rules in
-    may_by_place c.args.header.now c.args.parts.now c.args.item.now c.is_free.result before c.keep_known.ensures
+    may_by_place c.args.header.now c.args.parts.now c.args.item.now c.is_free.result before c.hold_known.ensures
     (c.is_free.ensures ∙ (λ i. not (holds (c.parts.view_is i).mail (c.key.ensures i)) && nat_lt (count_by (is_to (c.key.ensures i).destination) (c.parts.view_is i).mail.items) most_for_one))

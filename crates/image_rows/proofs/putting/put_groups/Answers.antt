@@ -7,7 +7,7 @@ use Rattle.group_attach.specs.InOrder.{IsInOrder}
 use Rattle.centre_core.specs.State.{State}
 use Rattle.identity.proofs.NumberText.{and_right as right}
 use Rattle.image_rows.specs.Held.{Came, IsPlace, with_groups}
-use Rattle.image_rows.proofs.Joined.{in_order}
+use Rattle.image_rows.proofs.WithAttachments.{in_order}
 use Rattle.image_rows.proofs.Filling.{all_own}
 use Rattle.image_rows.proofs.PutRows.{with_own}
 use Rattle.image_rows.proofs.putting.put_groups.Goals as goal

@@ -1,5 +1,5 @@
 use Rattle.std.proofs.Common.{◌≡◌, true, rules}
-use Rattle.image_rows.specs.Held.{place_may}
+use Rattle.image_rows.specs.Loading.{place_may}
 use Rattle.image_rows.proofs.PutRows.{is_place}
 use Rattle.image_rows.proofs.putting.put_radio.Goals as goal
 

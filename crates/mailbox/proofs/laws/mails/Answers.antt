@@ -1,5 +1,5 @@
-use Rattle.mailbox.proofs.Kept.{empty_is_mail, more_is_mail, removal_is_mail, post_is_mail, report_is_mail, new_comes_last}
-use Rattle.mailbox.proofs.CopiesKept.{group_post_is_mail}
+use Rattle.mailbox.proofs.Sound.{empty_is_mail, more_is_mail, removal_is_mail, post_is_mail, report_is_mail, new_comes_last}
+use Rattle.mailbox.proofs.CopiesSound.{group_post_is_mail}
 use Rattle.mailbox.proofs.laws.mails.Goals as goal
 
 pub returns-clause-empty : goal.returns-clause-empty

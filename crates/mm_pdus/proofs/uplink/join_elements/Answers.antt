@@ -4,7 +4,7 @@ use Rattle.mm_pdus.specs.Reading.{made_element}
 use Rattle.mm_pdus.specs.GroupReading.{group_up_at}
 use Rattle.mm_pdus.specs.UplinkReading.{join_groups}
 use Rattle.mm_pdus.proofs.ElementSteps.{element_shorter, elements_on, elements_end, elements_fail, elements_refuse}
-use Rattle.mm_pdus.proofs.Unkept.{element_wants, join_wants, joined_first}
+use Rattle.mm_pdus.proofs.Unkept.{element_wants, join_wants, first_after_join}
 use Rattle.mm_pdus.proofs.uplink.join_elements.Goals as goal
 
 pub loop-identifier-init : goal.loop-identifier-init
@@ -30,7 +30,7 @@ loop-identifier-preserved g c =
     let e = made_element c.in-Some.identifier c.in-Some.body in
     let read = rw c.in-Some.is at c.in_ok-identifier.ensures in (
       sym (elements_on (join_groups group_up_at) c.loop-identifier.items c.join_element.new.items c.loop-identifier.reader c.element.new.reader e read c.in_ok-join_element.ensures.given) ∙ c.loop-identifier.invariant.0,
-      joined_first c.args.items.now c.args.reader.now c.loop-identifier.items c.join_element.new.items c.loop-identifier.reader c.element.new.reader e c.loop-identifier.invariant.1 read c.in_ok-join_element.ensures.given,
+      first_after_join c.args.items.now c.args.reader.now c.loop-identifier.items c.join_element.new.items c.loop-identifier.reader c.element.new.reader e c.loop-identifier.invariant.1 read c.in_ok-join_element.ensures.given,
     )
 
 pub returns-in_err-join_element-clause-given : goal.returns-in_err-join_element-clause-given

@@ -1,7 +1,7 @@
 use Rattle.std.proofs.Common.{◌≡◌, ◌<◌, ◌++◌, ◌∷◌, [], false, length, sym, ap, ◌∙◌, arith}
 use Rattle.identity.specs.Path.{begins}
 use Rattle.prefix_tree.specs.Inside.Paths.{common}
-use Rattle.prefix_tree.specs.Inside.Joined.{leads_to}
+use Rattle.prefix_tree.specs.Inside.Around.{leads_to}
 use Rattle.prefix_tree.proofs.Begins.{common_first, common_shorter}
 use Rattle.prefix_tree.proofs.NodeLaws.{at_box}
 use Rattle.prefix_tree.proofs.GrowLaws.{parting_here}

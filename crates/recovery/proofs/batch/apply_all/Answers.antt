@@ -1,6 +1,6 @@
 use Rattle.std.proofs.Common.{arith}
 use Rattle.recovery.specs.Outcomes.{asked}
-use Rattle.recovery.proofs.Batches.{ends, ends_answered, ends_count, ends_history, ends_kept, ends_limits, ends_none, ends_places, ends_size, ends_state}
+use Rattle.recovery.proofs.Batches.{ends, ends_answered, ends_count, ends_history, ends_recorded, ends_limits, ends_none, ends_places, ends_size, ends_state}
 use Rattle.recovery.proofs.batch.apply_all.Goals as goal
 
 pub fill_up-requires-clause-some : goal.fill_up-requires-clause-some
@@ -43,7 +43,7 @@ returns-clause-none g c =
     let e = ends c.args.register.now c.apply_in_turn.new.register c.args.commands.now c.apply_in_turn.new.outcomes.items (asked c.apply_in_turn.new.accepted.items) c.apply_in_turn.result c.apply_in_turn.ensures.all c.apply_in_turn.ensures.some in
     ends_none c.args.register.now c.apply_in_turn.new.register c.args.commands.now c.apply_in_turn.new.accepted.items c.apply_in_turn.new.outcomes.items e
 
-pub returns-clause-kept : goal.returns-clause-kept
-returns-clause-kept g c =
+pub returns-clause-recorded : goal.returns-clause-recorded
+returns-clause-recorded g c =
     let e = ends c.args.register.now c.apply_in_turn.new.register c.args.commands.now c.apply_in_turn.new.outcomes.items (asked c.apply_in_turn.new.accepted.items) c.apply_in_turn.result c.apply_in_turn.ensures.all c.apply_in_turn.ensures.some in
-    ends_kept c.args.register.now c.apply_in_turn.new.register c.args.commands.now c.apply_in_turn.new.accepted.items c.apply_in_turn.new.outcomes.items e g.row.A.Denot
+    ends_recorded c.args.register.now c.apply_in_turn.new.register c.args.commands.now c.apply_in_turn.new.accepted.items c.apply_in_turn.new.outcomes.items e g.row.A.Denot

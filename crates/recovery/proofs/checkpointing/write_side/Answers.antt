@@ -5,7 +5,7 @@ use Rattle.checkpoint.specs.Layout.{other_of}
 use Rattle.checkpoint.proofs.Spared.{left_each}
 use Rattle.sector_disk.proofs.Made.{made_of_more}
 use Rattle.recovery.proofs.Called.{made_both, made_in_second}
-use Rattle.recovery.proofs.Keeping.{not_switched, then_switched}
+use Rattle.recovery.proofs.Stored.{not_switched, then_switched}
 use Rattle.recovery.proofs.checkpointing.write_side.Goals as goal
 
 on_ok : {T E P Q : Type 0} (r : Result T E) → OnOk r P → (P → Q) → OnOk r Q

@@ -1,5 +1,5 @@
 use Rattle.mailbox.specs.declared.key.Kind.TheVariants.{Report}
-use Rattle.mailbox.specs.Tests.{answered, is_at}
+use Rattle.mailbox.specs.Item.{answered, is_at}
 use Rattle.centre_core.proofs.MailEffects.{removal_state}
 use Rattle.centre_core.proofs.tables.Tables.acknowledge.Goals as goal
 

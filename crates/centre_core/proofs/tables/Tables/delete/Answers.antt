@@ -1,4 +1,4 @@
-use Rattle.mailbox.specs.Tests.{is_at}
+use Rattle.mailbox.specs.Item.{is_at}
 use Rattle.centre_core.proofs.MailEffects.{removal_state}
 use Rattle.centre_core.proofs.tables.Tables.delete.Goals as goal
 

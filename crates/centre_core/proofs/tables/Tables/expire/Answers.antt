@@ -1,4 +1,4 @@
-use Rattle.mailbox.specs.Tests.{is_expired}
+use Rattle.mailbox.specs.Item.{is_expired}
 use Rattle.centre_core.proofs.MailEffects.{removal_state}
 use Rattle.centre_core.proofs.tables.Tables.expire.Goals as goal
 

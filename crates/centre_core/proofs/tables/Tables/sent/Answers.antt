@@ -1,4 +1,4 @@
-use Rattle.mailbox.specs.Tests.{is_confirmed}
+use Rattle.mailbox.specs.Item.{is_confirmed}
 use Rattle.centre_core.proofs.MailEffects.{removal_state}
 use Rattle.centre_core.proofs.tables.Tables.sent.Goals as goal
 

@@ -1,10 +1,10 @@
 use Rattle.std.proofs.Common.{ap, ◌∙◌}
 use Rattle.std.specs.List.{find}
 use Rattle.std.specs.Option.{option_map}
-use Rattle.mailbox.specs.Tests.{is_expired}
+use Rattle.mailbox.specs.Item.{is_expired}
 use Rattle.mailbox.specs.Order.{place_of}
 use Rattle.mailbox.specs.Values.{Mailed}
-use Rattle.mailbox.proofs.Keeping.{first_expired}
+use Rattle.mailbox.proofs.Filing.{first_expired}
 use Rattle.mailbox.proofs.mail.Mail.first_due.Goals as goal
 
 pub returns-clause-first : goal.returns-clause-first

@@ -2,7 +2,7 @@ use Rattle.std.proofs.Common.{◌≡◌, ◌+◌, ◌-◌, length, not, arith, a
 use Rattle.std.specs.Prelude.{count_by}
 use Rattle.std.specs.List.{filter}
 use Rattle.mailbox.specs.declared.key.Kind.TheVariants.{Report}
-use Rattle.mailbox.specs.Tests.{key_of, is_at, is_to, is_reported, is_ended_by}
+use Rattle.mailbox.specs.Item.{key_of, is_at, is_to, is_reported, is_ended_by}
 use Rattle.mailbox.specs.Refusals.{crowd_refusal}
 use Rattle.mailbox.proofs.Effects.{reported_waiting, at_waiting, left_waiting, all_counted}
 use Rattle.mailbox.proofs.mail.Mail.full_by_report.Goals as goal

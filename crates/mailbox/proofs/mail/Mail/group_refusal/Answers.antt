@@ -1,7 +1,8 @@
 use Rattle.std.proofs.Common.{◌≡◌, Option, None, rules, ap, sym, ◌∙◌}
+use Rattle.std.specs.Option.{option_or}
 use Rattle.registration.specs.Registered.{rule_of}
 use Rattle.mailbox.specs.declared.fault.MailFault.{MailFault}
-use Rattle.mailbox.specs.Refusals.{or_then, unknown_refusal, absent_refusal}
+use Rattle.mailbox.specs.Refusals.{unknown_refusal, absent_refusal}
 use Rattle.mailbox.specs.GroupPost.{copies, copies_refusal}
 use Rattle.mailbox.proofs.CopiesRefused.{told_by_members}
 use Rattle.mailbox.proofs.mail.Mail.group_refusal.Goals as goal
@@ -14,4 +15,4 @@ returns g c = λ stamp pdu.
     let known : unknown_refusal (rule_of s e.group) ≡ None = search rules in
     let present : absent_refusal s e.source ≡ None = search rules in
     c.copies_refusal.ensures ∙ told_by_members s e stamp pdu c.args.self.now c.args.members.now c.requires
-    ∙ sym (ap (λ first. or_then first (or_then (absent_refusal s e.source) why)) known ∙ ap (λ first. or_then first why) present)
+    ∙ sym (ap (λ first. option_or first (option_or (absent_refusal s e.source) why)) known ∙ ap (λ first. option_or first why) present)

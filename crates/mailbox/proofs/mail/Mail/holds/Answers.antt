@@ -1,6 +1,6 @@
 use Rattle.std.proofs.Common.{ap, ◌∙◌}
 use Rattle.std.specs.List.{list_any}
-use Rattle.mailbox.specs.Tests.{is_at}
+use Rattle.mailbox.specs.Item.{is_at}
 use Rattle.mailbox.proofs.Effects.{holds_waiting}
 use Rattle.mailbox.proofs.mail.Mail.holds.Goals as goal
 

@@ -1,6 +1,6 @@
 use Rattle.std.proofs.Common.{◌≡◌, None, sym, ◌∙◌}
 use Rattle.mailbox.specs.GroupPost.{copies, group_refusal}
-use Rattle.mailbox.proofs.CopiesKept.{free_keys}
+use Rattle.mailbox.proofs.CopiesSound.{free_keys}
 use Rattle.mailbox.proofs.mail.Mail.post_group.Goals as goal
 
 pub put_copies-requires-clause-free : goal.put_copies-requires-clause-free

@@ -1,5 +1,5 @@
 use Rattle.std.proofs.Common.{◌∙◌}
-use Rattle.mailbox.proofs.Keeping.{kept_removed, kept_again, kept_in_order, none_left_out, place_removed}
+use Rattle.mailbox.proofs.Filing.{filed_removed, filed_again, filed_in_order, none_left_out, place_removed}
 use Rattle.mailbox.proofs.NextItem.{places_rise}
 use Rattle.mailbox.proofs.mail.Mail.remove_at.Goals as goal
 
@@ -8,18 +8,18 @@ remove-requires g c = places_rise _ c.self.inside.order c.self.invariant.indexed
 
 pub invariant_of-self : goal.invariant_of-self
 invariant_of-self g c =
-    kept_again _ _ _ (kept_removed _ c.self.inside.boxes c.remove_at.new.self c.self.inside.order c.remove.new.self c.args.key.now c.self.invariant c.remove_at.ensures.left (c.remove.ensures ∙ place_removed _ c.self.inside.boxes c.self.inside.order c.args.key.now c.self.invariant c.in-Some.place c.in-Some.ensures.place))
+    filed_again _ _ _ (filed_removed _ c.self.inside.boxes c.remove_at.new.self c.self.inside.order c.remove.new.self c.args.key.now c.self.invariant c.remove_at.ensures.left (c.remove.ensures ∙ place_removed _ c.self.inside.boxes c.self.inside.order c.args.key.now c.self.invariant c.in-Some.place c.in-Some.ensures.place))
 
 pub returns-in-Some : goal.returns-in-Some
 returns-in-Some g c =
-    let is = kept_in_order _ _ _ (kept_removed _ c.self.inside.boxes c.remove_at.new.self c.self.inside.order c.remove.new.self c.args.key.now c.self.invariant c.remove_at.ensures.left (c.remove.ensures ∙ place_removed _ c.self.inside.boxes c.self.inside.order c.args.key.now c.self.invariant c.in-Some.place c.in-Some.ensures.place)) in
+    let is = filed_in_order _ _ _ (filed_removed _ c.self.inside.boxes c.remove_at.new.self c.self.inside.order c.remove.new.self c.args.key.now c.self.invariant c.remove_at.ensures.left (c.remove.ensures ∙ place_removed _ c.self.inside.boxes c.self.inside.order c.args.key.now c.self.invariant c.in-Some.place c.in-Some.ensures.place)) in
     rw (← c.self.view_is) (λ i. record { room = c.self.inside.room; items = is i })
 
 pub invariant_of-self-in_default : goal.invariant_of-self-in_default
 invariant_of-self-in_default g c =
-    kept_again _ _ _ (kept_removed _ c.self.inside.boxes c.remove_at.new.self c.self.inside.order c.self.inside.order c.args.key.now c.self.invariant c.remove_at.ensures.left (none_left_out _ c.self.inside.boxes c.self.inside.order c.args.key.now c.self.invariant c.in_default.ensures.place))
+    filed_again _ _ _ (filed_removed _ c.self.inside.boxes c.remove_at.new.self c.self.inside.order c.self.inside.order c.args.key.now c.self.invariant c.remove_at.ensures.left (none_left_out _ c.self.inside.boxes c.self.inside.order c.args.key.now c.self.invariant c.in_default.ensures.place))
 
 pub returns-in_default : goal.returns-in_default
 returns-in_default g c =
-    let is = kept_in_order _ _ _ (kept_removed _ c.self.inside.boxes c.remove_at.new.self c.self.inside.order c.self.inside.order c.args.key.now c.self.invariant c.remove_at.ensures.left (none_left_out _ c.self.inside.boxes c.self.inside.order c.args.key.now c.self.invariant c.in_default.ensures.place)) in
+    let is = filed_in_order _ _ _ (filed_removed _ c.self.inside.boxes c.remove_at.new.self c.self.inside.order c.self.inside.order c.args.key.now c.self.invariant c.remove_at.ensures.left (none_left_out _ c.self.inside.boxes c.self.inside.order c.args.key.now c.self.invariant c.in_default.ensures.place)) in
     rw (← c.self.view_is) (λ i. record { room = c.self.inside.room; items = is i })

@@ -1,6 +1,6 @@
 use Rattle.std.proofs.Common.{ap, sym, ◌∙◌}
 use Rattle.std.specs.List.{list_any}
-use Rattle.mailbox.specs.Tests.{is_answerless, is_confirmed}
+use Rattle.mailbox.specs.Item.{is_answerless, is_confirmed}
 use Rattle.mailbox.proofs.Effects.{removed_some, removed_none}
 use Rattle.mailbox.proofs.mail.Mail.remove_confirmed.Goals as goal
 

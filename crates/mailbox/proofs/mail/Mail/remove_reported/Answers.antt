@@ -1,14 +1,14 @@
 use Rattle.std.proofs.Common.{ap, sym, ◌∙◌}
 use Rattle.mailbox.specs.declared.key.Kind.TheVariants.{Message}
-use Rattle.mailbox.specs.Tests.{answered, is_at, ends_request, request_of}
+use Rattle.mailbox.specs.Item.{answered, is_at, ends_request, request_of}
 use Rattle.mailbox.specs.Mail.{without}
-use Rattle.mailbox.proofs.Effects.{removed_if, kept_if}
+use Rattle.mailbox.proofs.Effects.{removed_if, unchanged_if}
 use Rattle.mailbox.proofs.mail.Mail.remove_reported.Goals as goal
 
 pub returns-then-ends : goal.returns-then-ends
 returns-then-ends g c =
     c.remove_at.ensures ∙ ap (λ k. without (is_at k) c.args.self.now) c.answered.ensures
-    ∙ removed_if (answered c.args.envelope.now Message) (λ w. ends_request c.args.status (request_of w.pdu)) c.args.self.now c.keep_order.ensures.apart (sym c.requires ∙ c.if-ends.true)
+    ∙ removed_if (answered c.args.envelope.now Message) (λ w. ends_request c.args.status (request_of w.pdu)) c.args.self.now c.hold_order.ensures.apart (sym c.requires ∙ c.if-ends.true)
 
 pub returns-else-ends : goal.returns-else-ends
-returns-else-ends g c = kept_if (answered c.args.envelope.now Message) (λ w. ends_request c.args.status (request_of w.pdu)) c.args.self.now (sym c.requires ∙ c.if-ends.false)
+returns-else-ends g c = unchanged_if (answered c.args.envelope.now Message) (λ w. ends_request c.args.status (request_of w.pdu)) c.args.self.now (sym c.requires ∙ c.if-ends.false)

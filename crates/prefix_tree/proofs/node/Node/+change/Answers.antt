@@ -1,6 +1,6 @@
 use Rattle.std.proofs.Common.{◌≡◌, None, refl, [], true, false, length, sym, ap, ◌∙◌, arith, rules}
 use Rattle.std.proofs.lemmas.Bool.Decides.{nat_tests}
-use Rattle.prefix_tree.specs.Inside.Joined.{IsUnder}
+use Rattle.prefix_tree.specs.Inside.Around.{IsUnder}
 use Rattle.prefix_tree.proofs.NodeLaws.{fits, whole_key, longer_key, side_is, read_at, read_zero, read_one, off_link, on_link, firm_node, begins_box, remove_absent}
 use Rattle.prefix_tree.proofs.ChangeLaws.{changed_here, changed_zero, changed_one, loose_changed}
 use Rattle.prefix_tree.specs.Visits.{visits_beyond}

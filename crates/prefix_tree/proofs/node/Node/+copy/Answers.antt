@@ -1,6 +1,6 @@
 use Rattle.std.proofs.Common.{[], ◌++◌, ap, ◌∙◌, rules}
 use Rattle.std.specs.FinMap as map
-use Rattle.prefix_tree.specs.Inside.Joined.{IsUnder}
+use Rattle.prefix_tree.specs.Inside.Around.{IsUnder}
 use Rattle.prefix_tree.proofs.NodeLaws.{on_ok, table_behind}
 use Rattle.prefix_tree.proofs.NextLaws.{none_entries}
 use Rattle.prefix_tree.proofs.StepLaws.{zero_any, one_any}

@@ -1,5 +1,5 @@
 use Rattle.std.proofs.Common.{[], true, false, length, ap, arith, rules}
-use Rattle.prefix_tree.specs.Inside.Joined.{IsUnder}
+use Rattle.prefix_tree.specs.Inside.Around.{IsUnder}
 use Rattle.prefix_tree.proofs.CountLaws.{length_push}
 use Rattle.prefix_tree.proofs.NodeLaws.{at_is, fits}
 use Rattle.prefix_tree.proofs.StepLaws.{zero_any, one_any}

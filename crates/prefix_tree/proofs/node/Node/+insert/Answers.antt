@@ -1,6 +1,6 @@
 use Rattle.std.proofs.Common.{[], true, false, sym, ap, ◌∙◌, arith, rules}
 use Rattle.std.proofs.lemmas.Bool.Decides.{nat_tests}
-use Rattle.prefix_tree.specs.Inside.Joined.{joined, table_of, IsUnder}
+use Rattle.prefix_tree.specs.Inside.Around.{around, table_of, IsUnder}
 use Rattle.prefix_tree.proofs.NodeLaws.{fits, whole_key, longer_key, side_is, read_at, read_zero, read_one, write_here, into_zero, into_one, on_ok, if_ok, if_err, is_there, not_there, off_link, on_link, same_box, firm_node, firm_after, begins_box}
 use Rattle.prefix_tree.proofs.StepLaws.{turn, zero_any, one_any, still_sound, sound_with_zero, sound_with_one}
 use Rattle.prefix_tree.proofs.node.Node.+insert.Goals as goal
@@ -13,7 +13,7 @@ insert-returns-then-len-clause-before g t c =
 pub insert-returns-then-len-clause-ok : goal.insert-returns-then-len-clause-ok
 insert-returns-then-len-clause-ok g t c =
     let whole = whole_key c.self.inside _ c.self.view_is c.args.key.now c.requires.within (sym c.len.ensures.value ∙ c.if-len.true ∙ c.len-2.ensures.value) in
-    ap (λ v. joined c.self.inside.at v (table_of c.self.inside.zero) (table_of c.self.inside.one)) c.replace.ensures.after
+    ap (λ v. around c.self.inside.at v (table_of c.self.inside.zero) (table_of c.self.inside.one)) c.replace.ensures.after
     ∙ write_here c.self.inside _ c.self.view_is c.requires.sound _ _ whole
 
 pub insert-side-requires-clause-shorter : goal.insert-side-requires-clause-shorter

@@ -1,6 +1,6 @@
 use Rattle.std.proofs.Common.{[], rules, ◌≤◌, ◌<◌, ◌-◌, ◌^◌, length, true, false, arith}
 use Rattle.prefix_tree.proofs.Begins.{begins_length}
-use Rattle.prefix_tree.specs.Inside.Joined.{IsUnder}
+use Rattle.prefix_tree.specs.Inside.Around.{IsUnder}
 use Rattle.prefix_tree.proofs.StepLaws.{zero_any, one_any}
 use Rattle.prefix_tree.proofs.NodeLaws.{at_is, fits, firm_node}
 use Rattle.prefix_tree.proofs.CountLaws.{few_nodes, full_nodes, twice, fits_below, fits_word, length_push}

@@ -2,7 +2,7 @@ use Rattle.std.proofs.Common.{◌≡◌, refl, sym, length, ap, ◌∙◌, arith
 use Rattle.std.proofs.lemmas.Bool.Decides.{nat_tests}
 use Rattle.std.specs.FinMap as map
 use Rattle.prefix_tree.specs.Visits.{visits_beyond}
-use Rattle.prefix_tree.specs.Inside.Joined.{NodeSeen}
+use Rattle.prefix_tree.specs.Inside.Around.{NodeSeen}
 use Rattle.prefix_tree.proofs.NodeLaws.{at_is, whole_key, longer_key}
 use Rattle.prefix_tree.proofs.VisitLaws.{visits_done}
 use Rattle.prefix_tree.proofs.LendLaws.{if_at, on_some, at_end, graft_insert, graft_like, graft_same}

@@ -7,7 +7,7 @@ use Rattle.prefix_tree.specs.Visits.{visits_beyond}
 use Rattle.prefix_tree.proofs.NodeLaws.{at_is, longer_there, same_at}
 use Rattle.prefix_tree.proofs.StepLaws.{none_visits, off_visits, on_visits, sound_there, same_there}
 use Rattle.prefix_tree.proofs.VisitLaws.{visits_done}
-use Rattle.prefix_tree.proofs.LongestLaws.{none_yet, best_own, best_kept, found_none, found_off, found_on, found_whole}
+use Rattle.prefix_tree.proofs.LongestLaws.{none_yet, best_own, best_stays, found_none, found_off, found_on, found_whole}
 use Rattle.prefix_tree.proofs.node.Node.longest.Goals.{in-Some, in_default}
 use Rattle.prefix_tree.proofs.node.Node.longest.Goals as goal
 
@@ -26,7 +26,7 @@ returns-in_default-below-clause-found g c =
     let side : IsTrue (begins (c.loop-here.here.now.at ++ c.side.result ∷ []) c.args.key.now) = subst (λ (p : Path). IsTrue (begins (p ++ c.side.result ∷ []) c.args.key.now)) at c.side.ensures in
     let best : option_map (λ e. (e.0, e.1.now)) c.match-own.best ≡ longest_below c.args.self.now.table c.args.key.now (length c.loop-here.here.now.at + 1) = elim c.match-own.branch [
       | in-Some w ↦ ap (option_map (λ e. (e.0, e.1.now))) w.best-is ∙ best_own c.args.self.now.table c.args.key.now c.loop-here.here.now c.loop-here.invariant.0 c.loop-here.invariant.2 _ _ at (sym c.own.ensures ∙ ap option_copied w.in-Some.is)
-      | in_default w ↦ ap (option_map (λ e. (e.0, e.1.now))) w.best-is ∙ best_kept c.args.self.now.table c.args.key.now c.loop-here.here.now c.loop-here.invariant.0 c.loop-here.invariant.2 _ (sym c.own.ensures ∙ ap option_copied w.in_default.is) c.loop-here.invariant.3
+      | in_default w ↦ ap (option_map (λ e. (e.0, e.1.now))) w.best-is ∙ best_stays c.args.self.now.table c.args.key.now c.loop-here.here.now c.loop-here.invariant.0 c.loop-here.invariant.2 _ (sym c.own.ensures ∙ ap option_copied w.in_default.is) c.loop-here.invariant.3
     ] in
     best ∙ found_none c.args.self.now.table c.args.key.now c.loop-here.here.now c.loop-here.invariant.0 c.loop-here.invariant.2 _ _ side c.below.ensures.under c.below.ensures.table c.in_default-below.is
 
@@ -45,7 +45,7 @@ returns-then-not-begins-clause-found g c =
     let off : begins c.deref.result.now.at c.args.key.now ≡ false = ap (λ p. begins p c.args.key.now) (sym low) ∙ sym c.begins.ensures ∙ c.if-not-begins.true in
     let best : option_map (λ e. (e.0, e.1.now)) c.match-own.best ≡ longest_below c.args.self.now.table c.args.key.now (length c.loop-here.here.now.at + 1) = elim c.match-own.branch [
       | in-Some w ↦ ap (option_map (λ e. (e.0, e.1.now))) w.best-is ∙ best_own c.args.self.now.table c.args.key.now c.loop-here.here.now c.loop-here.invariant.0 c.loop-here.invariant.2 _ _ at (sym c.own.ensures ∙ ap option_copied w.in-Some.is)
-      | in_default w ↦ ap (option_map (λ e. (e.0, e.1.now))) w.best-is ∙ best_kept c.args.self.now.table c.args.key.now c.loop-here.here.now c.loop-here.invariant.0 c.loop-here.invariant.2 _ (sym c.own.ensures ∙ ap option_copied w.in_default.is) c.loop-here.invariant.3
+      | in_default w ↦ ap (option_map (λ e. (e.0, e.1.now))) w.best-is ∙ best_stays c.args.self.now.table c.args.key.now c.loop-here.here.now c.loop-here.invariant.0 c.loop-here.invariant.2 _ (sym c.own.ensures ∙ ap option_copied w.in_default.is) c.loop-here.invariant.3
     ] in
     best ∙ found_off c.args.self.now.table c.args.key.now c.loop-here.here.now c.loop-here.invariant.0 c.loop-here.invariant.2 _ _ side c.below.ensures.under c.below.ensures.table _ _ c.in-Some-below.is c.deref.ensures off
 
@@ -74,7 +74,7 @@ loop-here-preserved g c =
     let on : IsTrue (begins c.deref-here.result.now.at c.args.key.now) = same_at c.deref.result.now c.deref-here.result.now _ c.deref.ensures c.deref-here.ensures c.args.key.now ∙ ap (λ p. begins p c.args.key.now) (sym low) ∙ sym c.begins.ensures ∙ c.if-not-begins.false in
     let best : option_map (λ e. (e.0, e.1.now)) c.match-own.best ≡ longest_below c.args.self.now.table c.args.key.now (length c.loop-here.here.now.at + 1) = elim c.match-own.branch [
       | in-Some w ↦ ap (option_map (λ e. (e.0, e.1.now))) w.best-is ∙ best_own c.args.self.now.table c.args.key.now c.loop-here.here.now c.loop-here.invariant.0 c.loop-here.invariant.2 _ _ at (sym c.own.ensures ∙ ap option_copied w.in-Some.is)
-      | in_default w ↦ ap (option_map (λ e. (e.0, e.1.now))) w.best-is ∙ best_kept c.args.self.now.table c.args.key.now c.loop-here.here.now c.loop-here.invariant.0 c.loop-here.invariant.2 _ (sym c.own.ensures ∙ ap option_copied w.in_default.is) c.loop-here.invariant.3
+      | in_default w ↦ ap (option_map (λ e. (e.0, e.1.now))) w.best-is ∙ best_stays c.args.self.now.table c.args.key.now c.loop-here.here.now c.loop-here.invariant.0 c.loop-here.invariant.2 _ (sym c.own.ensures ∙ ap option_copied w.in_default.is) c.loop-here.invariant.3
     ] in
     let more : visits_beyond c.loop-here.here.now.table c.loop-here.here.now.at c.args.key.now ≡ 1 + visits_beyond c.deref-here.result.now.table c.deref-here.result.now.at c.args.key.now = on_visits c.loop-here.here.now _ _ _ side c.below.ensures.under c.below.ensures.table _ _ c.in-Some-below.is c.deref-here.ensures on in (
       on,
@@ -105,7 +105,7 @@ returns-in-None-clause-found g c =
     let at = at_is c.here.inside _ c.here.view_is in
     let same : length c.here.inside.at ≡ length c.loop-here.here.now.at = ap length at in
     let le : length c.args.key.now ≤ length c.loop-here.here.now.at = omega (arith, same, c.loop-here-test.false, c.len.ensures.value, c.len-in-loop-here.ensures.value) in
-    best_kept c.args.self.now.table c.args.key.now c.loop-here.here.now c.loop-here.invariant.0 c.loop-here.invariant.2 _ (sym c.own-2.ensures ∙ ap option_copied c.in-None.is) c.loop-here.invariant.3
+    best_stays c.args.self.now.table c.args.key.now c.loop-here.here.now c.loop-here.invariant.0 c.loop-here.invariant.2 _ (sym c.own-2.ensures ∙ ap option_copied c.in-None.is) c.loop-here.invariant.3
     ∙ found_whole c.args.self.now.table c.args.key.now c.loop-here.here.now c.loop-here.invariant.0 c.loop-here.invariant.2 le
 
 pub returns-in-None-clause-cost : goal.returns-in-None-clause-cost

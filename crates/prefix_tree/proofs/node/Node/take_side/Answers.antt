@@ -1,5 +1,5 @@
 use Rattle.std.proofs.Common.{sym, ap, subst, ◌∙◌}
-use Rattle.prefix_tree.specs.Inside.Joined.{table_of, IsUnder}
+use Rattle.prefix_tree.specs.Inside.Around.{table_of, IsUnder}
 use Rattle.prefix_tree.proofs.JoinLaws.{none_test, only_zero, only_one, zero_up, one_up}
 use Rattle.prefix_tree.proofs.node.Node.take_side.Goals as goal
 

@@ -1,36 +1,36 @@
 use Rattle.std.proofs.Common.{◌≡◌, ◌+◌, refl, rules}
 use Rattle.checkpoint.specs.Layout.{half_at, other_of}
 use Rattle.sector_disk.proofs.Made.{made_none}
-use Rattle.recovery.proofs.Keeping.{in_checkpoint, kept_fresh, nothing_done}
+use Rattle.recovery.proofs.Stored.{in_checkpoint, stored_fresh, nothing_done}
 use Rattle.recovery.proofs.store.Store.checkpoint.Goals as goal
 
 pub returns-then-self-clause-any_moment : goal.returns-then-self-clause-any_moment
-returns-then-self-clause-any_moment g c = λ honest kept. nothing_done g.row.A.Denot c.args.self.now.layout c.args.self.now.side c.args.self.now.epoch c.args.self.now.journal.next c.args.self.now.register (g.D.Disk.view c.args.self.now.disk) kept (g.met.D.Disk.sound c.args.self.now.disk honest)
+returns-then-self-clause-any_moment g c = λ honest stored. nothing_done g.row.A.Denot c.args.self.now.layout c.args.self.now.side c.args.self.now.epoch c.args.self.now.journal.next c.args.self.now.register (g.D.Disk.view c.args.self.now.disk) stored (g.met.D.Disk.sound c.args.self.now.disk honest)
 
 pub returns-in-Ok-clause-any_moment : goal.returns-in-Ok-clause-any_moment
-returns-in-Ok-clause-any_moment g c = λ honest kept.
-    in_checkpoint g.row.A.Denot c.args.self.now.layout c.args.self.now.side c.args.self.now.epoch c.args.self.now.journal.next c.args.self.now.register (g.D.Disk.view c.args.self.now.disk) kept (g.D.Disk.view c.write_side.new.disk)
-    (c.write_side.ensures.any_moment (c.args.self.now.epoch, kept.base) (kept.entries, c.args.self.now.journal.next) refl honest kept.each)
+returns-in-Ok-clause-any_moment g c = λ honest stored.
+    in_checkpoint g.row.A.Denot c.args.self.now.layout c.args.self.now.side c.args.self.now.epoch c.args.self.now.journal.next c.args.self.now.register (g.D.Disk.view c.args.self.now.disk) stored (g.D.Disk.view c.write_side.new.disk)
+    (c.write_side.ensures.any_moment (c.args.self.now.epoch, stored.base) (stored.entries, c.args.self.now.journal.next) refl honest stored.each)
 
 pub returns-in-Err-EpochsUsedUp-clause-any_moment : goal.returns-in-Err-EpochsUsedUp-clause-any_moment
-returns-in-Err-EpochsUsedUp-clause-any_moment g c = λ honest kept.
-    in_checkpoint g.row.A.Denot c.args.self.now.layout c.args.self.now.side c.args.self.now.epoch c.args.self.now.journal.next c.args.self.now.register (g.D.Disk.view c.args.self.now.disk) kept (g.D.Disk.view c.write_side.new.disk)
-    (c.write_side.ensures.any_moment (c.args.self.now.epoch, kept.base) (kept.entries, c.args.self.now.journal.next) refl honest kept.each)
+returns-in-Err-EpochsUsedUp-clause-any_moment g c = λ honest stored.
+    in_checkpoint g.row.A.Denot c.args.self.now.layout c.args.self.now.side c.args.self.now.epoch c.args.self.now.journal.next c.args.self.now.register (g.D.Disk.view c.args.self.now.disk) stored (g.D.Disk.view c.write_side.new.disk)
+    (c.write_side.ensures.any_moment (c.args.self.now.epoch, stored.base) (stored.entries, c.args.self.now.journal.next) refl honest stored.each)
 
 pub returns-in-Err-DiskFault-clause-any_moment : goal.returns-in-Err-DiskFault-clause-any_moment
-returns-in-Err-DiskFault-clause-any_moment g c = λ honest kept.
-    in_checkpoint g.row.A.Denot c.args.self.now.layout c.args.self.now.side c.args.self.now.epoch c.args.self.now.journal.next c.args.self.now.register (g.D.Disk.view c.args.self.now.disk) kept (g.D.Disk.view c.write_side.new.disk)
-    (c.write_side.ensures.any_moment (c.args.self.now.epoch, kept.base) (kept.entries, c.args.self.now.journal.next) refl honest kept.each)
+returns-in-Err-DiskFault-clause-any_moment g c = λ honest stored.
+    in_checkpoint g.row.A.Denot c.args.self.now.layout c.args.self.now.side c.args.self.now.epoch c.args.self.now.journal.next c.args.self.now.register (g.D.Disk.view c.args.self.now.disk) stored (g.D.Disk.view c.write_side.new.disk)
+    (c.write_side.ensures.any_moment (c.args.self.now.epoch, stored.base) (stored.entries, c.args.self.now.journal.next) refl honest stored.each)
 
 pub returns-in-Ok-clause-moved : goal.returns-in-Ok-clause-moved
-returns-in-Ok-clause-moved g c = λ honest kept. c.in-Ok.ensures.switched (c.args.self.now.epoch, kept.base) (kept.entries, c.args.self.now.journal.next) refl honest kept.each
+returns-in-Ok-clause-moved g c = λ honest stored. c.in-Ok.ensures.switched (c.args.self.now.epoch, stored.base) (stored.entries, c.args.self.now.journal.next) refl honest stored.each
 
 pub returns-in-Ok-clause-kept : goal.returns-in-Ok-clause-kept
-returns-in-Ok-clause-kept g c = λ honest kept.
+returns-in-Ok-clause-kept g c = λ honest stored.
     let side : c.other-self.result ≡ other_of c.args.self.now.side = c.other-self.ensures in
     let next : c.restart.new.self.next ≡ half_at c.args.self.now.layout c.other-self.result = search rules in
-    rw (next, side) (kept_fresh g.row.A.Denot c.args.self.now.layout (other_of c.args.self.now.side) (c.args.self.now.epoch + 1) c.args.self.now.register (g.D.Disk.view c.write_side.new.disk)
-    (c.in-Ok.ensures.switched (c.args.self.now.epoch, kept.base) (kept.entries, c.args.self.now.journal.next) refl honest kept.each))
+    rw (next, side) (stored_fresh g.row.A.Denot c.args.self.now.layout (other_of c.args.self.now.side) (c.args.self.now.epoch + 1) c.args.self.now.register (g.D.Disk.view c.write_side.new.disk)
+    (c.in-Ok.ensures.switched (c.args.self.now.epoch, stored.base) (stored.entries, c.args.self.now.journal.next) refl honest stored.each))
 
 pub returns-then-self-clause-some_calls : goal.returns-then-self-clause-some_calls
 returns-then-self-clause-some_calls g c = λ honest. made_none (g.D.Disk.view c.args.self.now.disk) _

@@ -1,10 +1,10 @@
 use Rattle.std.proofs.Common.{rules, sym, refl, ◌≡◌, [], inr, length, Result, Ok, Err, OnErr, ◌∙◌, arith}
 use Rattle.std.proofs.lemmas.List.{nil_from_length}
-use Rattle.recovery.proofs.Keeping.{batch_done, commit_history, commit_keeps, commit_leaves, fewer_fit, kept_stands, no_length, none_answered, nothing_done, only_before}
+use Rattle.recovery.proofs.Stored.{batch_done, commit_history, stored_commit, commit_leaves, fewer_fit, stored_stands, no_length, none_answered, nothing_done, only_before}
 use Rattle.sector_disk.proofs.Made.{made_none, made_of_more}
 use Rattle.gated_journal.specs.Record.{given}
-use Rattle.recovery.specs.Calls.{fits_in, gate_then, keep_calls, room_calls}
-use Rattle.recovery.proofs.Batches.{kept_behind, none_kept}
+use Rattle.recovery.specs.Calls.{fits_in, gate_then, record_calls, room_calls}
+use Rattle.recovery.proofs.Batches.{recorded_behind, none_recorded}
 use Rattle.recovery.proofs.Called.{made_both, made_in_second}
 use Rattle.recovery.specs.Outcomes.{asked}
 use Rattle.recovery.proofs.store.Store.commit.Goals as goal
@@ -14,20 +14,20 @@ on_err (Ok t) p = tt
 on_err (Err e) p = p
 
 pub returns-then-self-clause-any_moment : goal.returns-then-self-clause-any_moment
-returns-then-self-clause-any_moment g c = λ honest kept.
-    only_before g.row.A.Denot c.args.self.now.register c.args.self.now.register (g.D.Disk.view c.args.self.now.disk) (g.D.Disk.view c.args.self.now.disk) (nothing_done g.row.A.Denot c.args.self.now.layout c.args.self.now.side c.args.self.now.epoch c.args.self.now.journal.next c.args.self.now.register (g.D.Disk.view c.args.self.now.disk) kept (g.met.D.Disk.sound c.args.self.now.disk honest))
+returns-then-self-clause-any_moment g c = λ honest stored.
+    only_before g.row.A.Denot c.args.self.now.register c.args.self.now.register (g.D.Disk.view c.args.self.now.disk) (g.D.Disk.view c.args.self.now.disk) (nothing_done g.row.A.Denot c.args.self.now.layout c.args.self.now.side c.args.self.now.epoch c.args.self.now.journal.next c.args.self.now.register (g.D.Disk.view c.args.self.now.disk) stored (g.met.D.Disk.sound c.args.self.now.disk honest))
 
 pub returns-in_err-outcomes-clause-any_moment : goal.returns-in_err-outcomes-clause-any_moment
-returns-in_err-outcomes-clause-any_moment g c = λ honest kept.
-    only_before g.row.A.Denot c.args.self.now.register c.args.self.now.register (g.D.Disk.view c.args.self.now.disk) (g.D.Disk.view c.args.self.now.disk) (nothing_done g.row.A.Denot c.args.self.now.layout c.args.self.now.side c.args.self.now.epoch c.args.self.now.journal.next c.args.self.now.register (g.D.Disk.view c.args.self.now.disk) kept (g.met.D.Disk.sound c.args.self.now.disk honest))
+returns-in_err-outcomes-clause-any_moment g c = λ honest stored.
+    only_before g.row.A.Denot c.args.self.now.register c.args.self.now.register (g.D.Disk.view c.args.self.now.disk) (g.D.Disk.view c.args.self.now.disk) (nothing_done g.row.A.Denot c.args.self.now.layout c.args.self.now.side c.args.self.now.epoch c.args.self.now.journal.next c.args.self.now.register (g.D.Disk.view c.args.self.now.disk) stored (g.met.D.Disk.sound c.args.self.now.disk honest))
 
 pub returns-then-is_empty-clause-any_moment : goal.returns-then-is_empty-clause-any_moment
-returns-then-is_empty-clause-any_moment g c = λ honest kept.
-    only_before g.row.A.Denot c.args.self.now.register c.args.self.now.register (g.D.Disk.view c.args.self.now.disk) (g.D.Disk.view c.args.self.now.disk) (nothing_done g.row.A.Denot c.args.self.now.layout c.args.self.now.side c.args.self.now.epoch c.args.self.now.journal.next c.args.self.now.register (g.D.Disk.view c.args.self.now.disk) kept (g.met.D.Disk.sound c.args.self.now.disk honest))
+returns-then-is_empty-clause-any_moment g c = λ honest stored.
+    only_before g.row.A.Denot c.args.self.now.register c.args.self.now.register (g.D.Disk.view c.args.self.now.disk) (g.D.Disk.view c.args.self.now.disk) (nothing_done g.row.A.Denot c.args.self.now.layout c.args.self.now.side c.args.self.now.epoch c.args.self.now.journal.next c.args.self.now.register (g.D.Disk.view c.args.self.now.disk) stored (g.met.D.Disk.sound c.args.self.now.disk honest))
 
 pub returns-in_err-accepted-clause-any_moment : goal.returns-in_err-accepted-clause-any_moment
-returns-in_err-accepted-clause-any_moment g c = λ honest kept.
-    only_before g.row.A.Denot c.args.self.now.register c.args.self.now.register (g.D.Disk.view c.args.self.now.disk) (g.D.Disk.view c.args.self.now.disk) (nothing_done g.row.A.Denot c.args.self.now.layout c.args.self.now.side c.args.self.now.epoch c.args.self.now.journal.next c.args.self.now.register (g.D.Disk.view c.args.self.now.disk) kept (g.met.D.Disk.sound c.args.self.now.disk honest))
+returns-in_err-accepted-clause-any_moment g c = λ honest stored.
+    only_before g.row.A.Denot c.args.self.now.register c.args.self.now.register (g.D.Disk.view c.args.self.now.disk) (g.D.Disk.view c.args.self.now.disk) (nothing_done g.row.A.Denot c.args.self.now.layout c.args.self.now.side c.args.self.now.epoch c.args.self.now.journal.next c.args.self.now.register (g.D.Disk.view c.args.self.now.disk) stored (g.met.D.Disk.sound c.args.self.now.disk honest))
 
 pub returns-then-is_empty-clause-outcomes : goal.returns-then-is_empty-clause-outcomes
 returns-then-is_empty-clause-outcomes g c =
@@ -36,58 +36,58 @@ returns-then-is_empty-clause-outcomes g c =
     none_answered c.args.self.now.register c.args.commands.now c.new.result.items (nil_from_length c.args.commands.now nothing) empty
 
 pub returns-then-is_empty-clause-acknowledged : goal.returns-then-is_empty-clause-acknowledged
-returns-then-is_empty-clause-acknowledged g c = λ honest kept. kept_stands g.row.A.Denot c.args.self.now.layout c.args.self.now.side c.args.self.now.epoch c.args.self.now.journal.next c.args.self.now.register (g.D.Disk.view c.args.self.now.disk) kept
+returns-then-is_empty-clause-acknowledged g c = λ honest stored. stored_stands g.row.A.Denot c.args.self.now.layout c.args.self.now.side c.args.self.now.epoch c.args.self.now.journal.next c.args.self.now.register (g.D.Disk.view c.args.self.now.disk) stored
 
 pub returns-in_err-make_room-clause-any_moment : goal.returns-in_err-make_room-clause-any_moment
-returns-in_err-make_room-clause-any_moment g c = λ honest kept.
-    only_before g.row.A.Denot c.args.self.now.register c.make_room.new.self.register (g.D.Disk.view c.args.self.now.disk) (g.D.Disk.view c.make_room.new.self.disk) (c.make_room.ensures.any_moment honest kept)
+returns-in_err-make_room-clause-any_moment g c = λ honest stored.
+    only_before g.row.A.Denot c.args.self.now.register c.make_room.new.self.register (g.D.Disk.view c.args.self.now.disk) (g.D.Disk.view c.make_room.new.self.disk) (c.make_room.ensures.any_moment honest stored)
 
-pub keep-requires-clause-fits : goal.keep-requires-clause-fits
-keep-requires-clause-fits g c = fewer_fit g.row.A.Denot c.deref.result.now c.apply_all.new.accepted.items c.args.commands.now _ c.deref.ensures.value c.apply_all.ensures.size c.in_ok-make_room.ensures.fits
+pub add_record-requires-clause-fits : goal.add_record-requires-clause-fits
+add_record-requires-clause-fits g c = fewer_fit g.row.A.Denot c.deref.result.now c.apply_all.new.accepted.items c.args.commands.now _ c.deref.ensures.value c.apply_all.ensures.size c.in_ok-make_room.ensures.fits
 
-pub returns-in_err-keep-clause-any_moment : goal.returns-in_err-keep-clause-any_moment
-returns-in_err-keep-clause-any_moment g c = λ honest kept.
-    let history = commit_history g.row.A.Denot c.args.self.now.register c.make_room.new.self.register c.apply_all.new.register c.keep.new.self.register c.deref.result.now c.apply_all.new.accepted.items c.make_room.ensures.same.1 c.deref.ensures.value c.apply_all.ensures.state c.keep.ensures.same.3 c.apply_all.ensures.history in
-    commit_leaves g.row.A.Denot c.args.self.now.register c.make_room.new.self.register c.apply_all.new.register c.keep.new.self.register c.deref.result.now c.apply_all.new.accepted.items c.make_room.ensures.same.1 c.deref.ensures.value c.apply_all.ensures.state c.keep.ensures.same.3 (g.D.Disk.view c.args.self.now.disk) (g.D.Disk.view c.make_room.new.self.disk) (g.D.Disk.view c.keep.new.self.disk) (c.make_room.ensures.any_moment honest kept)
-    (c.keep.ensures.any_moment c.make_room.new.self.register history (c.make_room.ensures.honest honest) (c.in_ok-make_room.ensures.kept honest kept))
+pub returns-in_err-add_record-clause-any_moment : goal.returns-in_err-add_record-clause-any_moment
+returns-in_err-add_record-clause-any_moment g c = λ honest stored.
+    let history = commit_history g.row.A.Denot c.args.self.now.register c.make_room.new.self.register c.apply_all.new.register c.add_record.new.self.register c.deref.result.now c.apply_all.new.accepted.items c.make_room.ensures.same.1 c.deref.ensures.value c.apply_all.ensures.state c.add_record.ensures.same.3 c.apply_all.ensures.history in
+    commit_leaves g.row.A.Denot c.args.self.now.register c.make_room.new.self.register c.apply_all.new.register c.add_record.new.self.register c.deref.result.now c.apply_all.new.accepted.items c.make_room.ensures.same.1 c.deref.ensures.value c.apply_all.ensures.state c.add_record.ensures.same.3 (g.D.Disk.view c.args.self.now.disk) (g.D.Disk.view c.make_room.new.self.disk) (g.D.Disk.view c.add_record.new.self.disk) (c.make_room.ensures.any_moment honest stored)
+    (c.add_record.ensures.any_moment c.make_room.new.self.register history (c.make_room.ensures.honest honest) (c.in_ok-make_room.ensures.kept honest stored))
 
-pub returns-in_err-keep-clause-register : goal.returns-in_err-keep-clause-register
-returns-in_err-keep-clause-register g c =
-    on_err _ (inr (batch_done c.args.self.now.register c.make_room.new.self.register c.apply_all.new.register c.keep.new.self.register (asked c.args.commands.now) c.apply_all.new.outcomes.items c.make_room.ensures.same.1 c.keep.ensures.same.3 c.apply_all.ensures.answered))
+pub returns-in_err-add_record-clause-register : goal.returns-in_err-add_record-clause-register
+returns-in_err-add_record-clause-register g c =
+    on_err _ (inr (batch_done c.args.self.now.register c.make_room.new.self.register c.apply_all.new.register c.add_record.new.self.register (asked c.args.commands.now) c.apply_all.new.outcomes.items c.make_room.ensures.same.1 c.add_record.ensures.same.3 c.apply_all.ensures.answered))
 
 pub returns-clause-any_moment : goal.returns-clause-any_moment
-returns-clause-any_moment g c = λ honest kept.
-    let history = commit_history g.row.A.Denot c.args.self.now.register c.make_room.new.self.register c.apply_all.new.register c.keep.new.self.register c.deref.result.now c.apply_all.new.accepted.items c.make_room.ensures.same.1 c.deref.ensures.value c.apply_all.ensures.state c.keep.ensures.same.3 c.apply_all.ensures.history in
-    commit_leaves g.row.A.Denot c.args.self.now.register c.make_room.new.self.register c.apply_all.new.register c.keep.new.self.register c.deref.result.now c.apply_all.new.accepted.items c.make_room.ensures.same.1 c.deref.ensures.value c.apply_all.ensures.state c.keep.ensures.same.3 (g.D.Disk.view c.args.self.now.disk) (g.D.Disk.view c.make_room.new.self.disk) (g.D.Disk.view c.keep.new.self.disk) (c.make_room.ensures.any_moment honest kept)
-    (c.keep.ensures.any_moment c.make_room.new.self.register history (c.make_room.ensures.honest honest) (c.in_ok-make_room.ensures.kept honest kept))
+returns-clause-any_moment g c = λ honest stored.
+    let history = commit_history g.row.A.Denot c.args.self.now.register c.make_room.new.self.register c.apply_all.new.register c.add_record.new.self.register c.deref.result.now c.apply_all.new.accepted.items c.make_room.ensures.same.1 c.deref.ensures.value c.apply_all.ensures.state c.add_record.ensures.same.3 c.apply_all.ensures.history in
+    commit_leaves g.row.A.Denot c.args.self.now.register c.make_room.new.self.register c.apply_all.new.register c.add_record.new.self.register c.deref.result.now c.apply_all.new.accepted.items c.make_room.ensures.same.1 c.deref.ensures.value c.apply_all.ensures.state c.add_record.ensures.same.3 (g.D.Disk.view c.args.self.now.disk) (g.D.Disk.view c.make_room.new.self.disk) (g.D.Disk.view c.add_record.new.self.disk) (c.make_room.ensures.any_moment honest stored)
+    (c.add_record.ensures.any_moment c.make_room.new.self.register history (c.make_room.ensures.honest honest) (c.in_ok-make_room.ensures.kept honest stored))
 
 pub returns-clause-kept : goal.returns-clause-kept
-returns-clause-kept g c = λ honest kept.
-    let history = commit_history g.row.A.Denot c.args.self.now.register c.make_room.new.self.register c.apply_all.new.register c.keep.new.self.register c.deref.result.now c.apply_all.new.accepted.items c.make_room.ensures.same.1 c.deref.ensures.value c.apply_all.ensures.state c.keep.ensures.same.3 c.apply_all.ensures.history in
-    commit_keeps g.row.A.Denot c.args.self.now.register c.make_room.new.self.register c.apply_all.new.register c.keep.new.self.register c.deref.result.now c.apply_all.new.accepted.items c.make_room.ensures.same.1 c.deref.ensures.value c.apply_all.ensures.state c.keep.ensures.same.3 c.keep.new.self.layout c.keep.new.self.side c.keep.new.self.epoch c.keep.new.self.journal.next (g.D.Disk.view c.keep.new.self.disk)
-    (c.in_ok-keep.ensures.kept c.make_room.new.self.register history (c.make_room.ensures.honest honest) (c.in_ok-make_room.ensures.kept honest kept))
+returns-clause-kept g c = λ honest stored.
+    let history = commit_history g.row.A.Denot c.args.self.now.register c.make_room.new.self.register c.apply_all.new.register c.add_record.new.self.register c.deref.result.now c.apply_all.new.accepted.items c.make_room.ensures.same.1 c.deref.ensures.value c.apply_all.ensures.state c.add_record.ensures.same.3 c.apply_all.ensures.history in
+    stored_commit g.row.A.Denot c.args.self.now.register c.make_room.new.self.register c.apply_all.new.register c.add_record.new.self.register c.deref.result.now c.apply_all.new.accepted.items c.make_room.ensures.same.1 c.deref.ensures.value c.apply_all.ensures.state c.add_record.ensures.same.3 c.add_record.new.self.layout c.add_record.new.self.side c.add_record.new.self.epoch c.add_record.new.self.journal.next (g.D.Disk.view c.add_record.new.self.disk)
+    (c.in_ok-add_record.ensures.kept c.make_room.new.self.register history (c.make_room.ensures.honest honest) (c.in_ok-make_room.ensures.kept honest stored))
 
 pub returns-clause-acknowledged : goal.returns-clause-acknowledged
-returns-clause-acknowledged g c = λ honest kept.
-    let history = commit_history g.row.A.Denot c.args.self.now.register c.make_room.new.self.register c.apply_all.new.register c.keep.new.self.register c.deref.result.now c.apply_all.new.accepted.items c.make_room.ensures.same.1 c.deref.ensures.value c.apply_all.ensures.state c.keep.ensures.same.3 c.apply_all.ensures.history in
-    kept_stands g.row.A.Denot c.keep.new.self.layout c.keep.new.self.side c.keep.new.self.epoch c.keep.new.self.journal.next c.keep.new.self.register (g.D.Disk.view c.keep.new.self.disk)
-    (commit_keeps g.row.A.Denot c.args.self.now.register c.make_room.new.self.register c.apply_all.new.register c.keep.new.self.register c.deref.result.now c.apply_all.new.accepted.items c.make_room.ensures.same.1 c.deref.ensures.value c.apply_all.ensures.state c.keep.ensures.same.3 c.keep.new.self.layout c.keep.new.self.side c.keep.new.self.epoch c.keep.new.self.journal.next (g.D.Disk.view c.keep.new.self.disk)
-    (c.in_ok-keep.ensures.kept c.make_room.new.self.register history (c.make_room.ensures.honest honest) (c.in_ok-make_room.ensures.kept honest kept)))
+returns-clause-acknowledged g c = λ honest stored.
+    let history = commit_history g.row.A.Denot c.args.self.now.register c.make_room.new.self.register c.apply_all.new.register c.add_record.new.self.register c.deref.result.now c.apply_all.new.accepted.items c.make_room.ensures.same.1 c.deref.ensures.value c.apply_all.ensures.state c.add_record.ensures.same.3 c.apply_all.ensures.history in
+    stored_stands g.row.A.Denot c.add_record.new.self.layout c.add_record.new.self.side c.add_record.new.self.epoch c.add_record.new.self.journal.next c.add_record.new.self.register (g.D.Disk.view c.add_record.new.self.disk)
+    (stored_commit g.row.A.Denot c.args.self.now.register c.make_room.new.self.register c.apply_all.new.register c.add_record.new.self.register c.deref.result.now c.apply_all.new.accepted.items c.make_room.ensures.same.1 c.deref.ensures.value c.apply_all.ensures.state c.add_record.ensures.same.3 c.add_record.new.self.layout c.add_record.new.self.side c.add_record.new.self.epoch c.add_record.new.self.journal.next (g.D.Disk.view c.add_record.new.self.disk)
+    (c.in_ok-add_record.ensures.kept c.make_room.new.self.register history (c.make_room.ensures.honest honest) (c.in_ok-make_room.ensures.kept honest stored)))
 
 pub returns-clause-sound : goal.returns-clause-sound
-returns-clause-sound g c = c.in_ok-keep.ensures.sound ∙ c.in_ok-make_room.ensures.sound c.if-self.false
+returns-clause-sound g c = c.in_ok-add_record.ensures.sound ∙ c.in_ok-make_room.ensures.sound c.if-self.false
 
 pub returns-then-self-clause-some_calls : goal.returns-then-self-clause-some_calls
-returns-then-self-clause-some_calls g c = λ honest. ([], none_kept g.row.A.Denot c.args.self.now.register c.args.self.now.register (asked c.args.commands.now) refl, made_none (g.D.Disk.view c.args.self.now.disk) _)
+returns-then-self-clause-some_calls g c = λ honest. ([], none_recorded g.row.A.Denot c.args.self.now.register c.args.self.now.register (asked c.args.commands.now) refl, made_none (g.D.Disk.view c.args.self.now.disk) _)
 
 pub returns-in_err-outcomes-clause-some_calls : goal.returns-in_err-outcomes-clause-some_calls
-returns-in_err-outcomes-clause-some_calls g c = λ honest. ([], none_kept g.row.A.Denot c.args.self.now.register c.args.self.now.register (asked c.args.commands.now) refl, made_none (g.D.Disk.view c.args.self.now.disk) _)
+returns-in_err-outcomes-clause-some_calls g c = λ honest. ([], none_recorded g.row.A.Denot c.args.self.now.register c.args.self.now.register (asked c.args.commands.now) refl, made_none (g.D.Disk.view c.args.self.now.disk) _)
 
 pub returns-then-is_empty-clause-some_calls : goal.returns-then-is_empty-clause-some_calls
-returns-then-is_empty-clause-some_calls g c = λ honest. ([], none_kept g.row.A.Denot c.args.self.now.register c.args.self.now.register (asked c.args.commands.now) refl, made_none (g.D.Disk.view c.args.self.now.disk) _)
+returns-then-is_empty-clause-some_calls g c = λ honest. ([], none_recorded g.row.A.Denot c.args.self.now.register c.args.self.now.register (asked c.args.commands.now) refl, made_none (g.D.Disk.view c.args.self.now.disk) _)
 
 pub returns-in_err-accepted-clause-some_calls : goal.returns-in_err-accepted-clause-some_calls
-returns-in_err-accepted-clause-some_calls g c = λ honest. ([], none_kept g.row.A.Denot c.args.self.now.register c.args.self.now.register (asked c.args.commands.now) refl, made_none (g.D.Disk.view c.args.self.now.disk) _)
+returns-in_err-accepted-clause-some_calls g c = λ honest. ([], none_recorded g.row.A.Denot c.args.self.now.register c.args.self.now.register (asked c.args.commands.now) refl, made_none (g.D.Disk.view c.args.self.now.disk) _)
 
 pub returns-then-is_empty-clause-calls : goal.returns-then-is_empty-clause-calls
 returns-then-is_empty-clause-calls g c = λ some honest.
@@ -100,20 +100,20 @@ returns-in_err-make_room-clause-some_calls g c = λ honest.
     let fits = fits_in g.row.A.Denot self.journal c.args.commands.now in
     let old = g.D.Disk.view self.disk in (
       [],
-      none_kept g.row.A.Denot self.register c.make_room.new.self.register (asked c.args.commands.now) c.make_room.ensures.same.1,
-      made_of_more old (g.D.Disk.view c.make_room.new.self.disk) (room_calls fits self.layout self.side self.epoch self.register old.reads) [] (c.make_room.ensures.some_calls honest),
+      none_recorded g.row.A.Denot self.register c.make_room.new.self.register (asked c.args.commands.now) c.make_room.ensures.same.1,
+      made_of_more old (g.D.Disk.view c.make_room.new.self.disk) (room_calls self.layout self.side self.epoch self.register old.reads fits) [] (c.make_room.ensures.some_calls honest),
     )
 
-pub returns-in_err-keep-clause-some_calls : goal.returns-in_err-keep-clause-some_calls
-returns-in_err-keep-clause-some_calls g c = λ honest.
+pub returns-in_err-add_record-clause-some_calls : goal.returns-in_err-add_record-clause-some_calls
+returns-in_err-add_record-clause-some_calls g c = λ honest.
     let self = c.args.self.now in
     let fits = fits_in g.row.A.Denot self.journal c.args.commands.now in
     let old = g.D.Disk.view self.disk in
     let mid = g.D.Disk.view c.make_room.new.self.disk in
     let these = given g.row.A.Denot c.deref.result.now in (
       these,
-      kept_behind g.row.A.Denot self.register c.make_room.new.self.register c.apply_all.new.register c.keep.new.self.register (asked c.args.commands.now) c.deref.result.now c.apply_all.new.accepted.items c.make_room.ensures.same.1 c.deref.ensures.value c.keep.ensures.same.3 c.apply_all.ensures.kept,
-      made_in_second old mid (g.D.Disk.view c.keep.new.self.disk) (room_calls fits self.layout self.side self.epoch self.register old.reads) (keep_calls (gate_then fits self.layout self.side self.journal.next) these) (c.in_ok-make_room.ensures.calls honest) (rw c.in_ok-make_room.ensures.gate at c.keep.ensures.some_calls),
+      recorded_behind g.row.A.Denot self.register c.make_room.new.self.register c.apply_all.new.register c.add_record.new.self.register (asked c.args.commands.now) c.deref.result.now c.apply_all.new.accepted.items c.make_room.ensures.same.1 c.deref.ensures.value c.add_record.ensures.same.3 c.apply_all.ensures.recorded,
+      made_in_second old mid (g.D.Disk.view c.add_record.new.self.disk) (room_calls self.layout self.side self.epoch self.register old.reads fits) (record_calls (gate_then self.layout self.side fits self.journal.next) these) (c.in_ok-make_room.ensures.calls honest) (rw c.in_ok-make_room.ensures.gate at c.add_record.ensures.some_calls),
     )
 
 pub returns-clause-some_calls : goal.returns-clause-some_calls
@@ -124,8 +124,8 @@ returns-clause-some_calls g c = λ honest.
     let mid = g.D.Disk.view c.make_room.new.self.disk in
     let these = given g.row.A.Denot c.deref.result.now in (
       these,
-      kept_behind g.row.A.Denot self.register c.make_room.new.self.register c.apply_all.new.register c.keep.new.self.register (asked c.args.commands.now) c.deref.result.now c.apply_all.new.accepted.items c.make_room.ensures.same.1 c.deref.ensures.value c.keep.ensures.same.3 c.apply_all.ensures.kept,
-      made_in_second old mid (g.D.Disk.view c.keep.new.self.disk) (room_calls fits self.layout self.side self.epoch self.register old.reads) (keep_calls (gate_then fits self.layout self.side self.journal.next) these) (c.in_ok-make_room.ensures.calls honest) (rw c.in_ok-make_room.ensures.gate at c.keep.ensures.some_calls),
+      recorded_behind g.row.A.Denot self.register c.make_room.new.self.register c.apply_all.new.register c.add_record.new.self.register (asked c.args.commands.now) c.deref.result.now c.apply_all.new.accepted.items c.make_room.ensures.same.1 c.deref.ensures.value c.add_record.ensures.same.3 c.apply_all.ensures.recorded,
+      made_in_second old mid (g.D.Disk.view c.add_record.new.self.disk) (room_calls self.layout self.side self.epoch self.register old.reads fits) (record_calls (gate_then self.layout self.side fits self.journal.next) these) (c.in_ok-make_room.ensures.calls honest) (rw c.in_ok-make_room.ensures.gate at c.add_record.ensures.some_calls),
     )
 
 pub returns-clause-calls : goal.returns-clause-calls
@@ -136,6 +136,6 @@ returns-clause-calls g c = λ some honest.
     let mid = g.D.Disk.view c.make_room.new.self.disk in
     let these = given g.row.A.Denot c.deref.result.now in (
       these,
-      kept_behind g.row.A.Denot self.register c.make_room.new.self.register c.apply_all.new.register c.keep.new.self.register (asked c.args.commands.now) c.deref.result.now c.apply_all.new.accepted.items c.make_room.ensures.same.1 c.deref.ensures.value c.keep.ensures.same.3 c.apply_all.ensures.kept,
-      made_both old mid (g.D.Disk.view c.keep.new.self.disk) (room_calls fits self.layout self.side self.epoch self.register old.reads) (keep_calls (gate_then fits self.layout self.side self.journal.next) these) (c.in_ok-make_room.ensures.calls honest) (rw c.in_ok-make_room.ensures.gate at c.in_ok-keep.ensures.calls),
+      recorded_behind g.row.A.Denot self.register c.make_room.new.self.register c.apply_all.new.register c.add_record.new.self.register (asked c.args.commands.now) c.deref.result.now c.apply_all.new.accepted.items c.make_room.ensures.same.1 c.deref.ensures.value c.add_record.ensures.same.3 c.apply_all.ensures.recorded,
+      made_both old mid (g.D.Disk.view c.add_record.new.self.disk) (room_calls self.layout self.side self.epoch self.register old.reads fits) (record_calls (gate_then self.layout self.side fits self.journal.next) these) (c.in_ok-make_room.ensures.calls honest) (rw c.in_ok-make_room.ensures.gate at c.in_ok-add_record.ensures.calls),
     )

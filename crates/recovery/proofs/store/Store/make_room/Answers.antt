@@ -3,11 +3,11 @@ use Rattle.std.proofs.lemmas.List.{append-nil}
 use Rattle.sector_disk.proofs.Made.{made_none}
 use Rattle.recovery.specs.Calls.{fits_in}
 use Rattle.recovery.proofs.Called.{gate_behind}
-use Rattle.recovery.proofs.Keeping.{nothing_done}
+use Rattle.recovery.proofs.Stored.{nothing_done}
 use Rattle.recovery.proofs.store.Store.make_room.Goals as goal
 
 pub returns-then-has_room-clause-any_moment : goal.returns-then-has_room-clause-any_moment
-returns-then-has_room-clause-any_moment g c = λ honest kept. nothing_done g.row.A.Denot c.args.self.now.layout c.args.self.now.side c.args.self.now.epoch c.args.self.now.journal.next c.args.self.now.register (g.D.Disk.view c.args.self.now.disk) kept (g.met.D.Disk.sound c.args.self.now.disk honest)
+returns-then-has_room-clause-any_moment g c = λ honest stored. nothing_done g.row.A.Denot c.args.self.now.layout c.args.self.now.side c.args.self.now.epoch c.args.self.now.journal.next c.args.self.now.register (g.D.Disk.view c.args.self.now.disk) stored (g.met.D.Disk.sound c.args.self.now.disk honest)
 
 pub returns-then-has_room-clause-calls : goal.returns-then-has_room-clause-calls
 returns-then-has_room-clause-calls g c = λ honest.

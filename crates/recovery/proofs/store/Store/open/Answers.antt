@@ -5,7 +5,7 @@ use Rattle.sector_disk.proofs.Reading.{one_sync}
 use Rattle.checkpoint.specs.Layout.{disk_size}
 use Rattle.recovery.specs.Inside.Opened.{opened_view}
 use Rattle.recovery.specs.Opens.{Opening, opens}
-use Rattle.recovery.proofs.Stood.{kept_so}
+use Rattle.recovery.proofs.Stood.{stored_so}
 use Rattle.recovery.proofs.Synced.{no_image_arises, one_image}
 use Rattle.recovery.proofs.store.Store.open.Goals as goal
 
@@ -22,7 +22,7 @@ returns-in-Ok-read_all-clause-kept g c honest =
     let sound = g.met.D.Disk.sound c.read_all.new.disk looked.honest in
     let room : disk_size o.layout ≤ synced.sectors = c.in-Ok-read_all.ensures.room in
     let some : 0 < length now.reads = omega (arith, room, sound.count, c.read_all.ensures.sectors) in
-    kept_so g.row.A.Denot now o (one_image given synced now syncs looked) (sound.reads_left.whole 0 some).bytes last c.in-Ok-read_all.ensures.whole.next
+    stored_so g.row.A.Denot now o (one_image given synced now syncs looked) (sound.reads_left.whole 0 some).bytes last c.in-Ok-read_all.ensures.whole.next
 
 pub returns-in-Ok-read_all-clause-only : goal.returns-in-Ok-read_all-clause-only
 returns-in-Ok-read_all-clause-only g c honest image is =

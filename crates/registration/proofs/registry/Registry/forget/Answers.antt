@@ -1,6 +1,6 @@
 use Rattle.std.proofs.Common.{◌≡◌, ◌+◌, sym, ◌∙◌, arith}
 use Rattle.std.specs.FinMap as map
-use Rattle.prefix_tree.specs.Inside.Counts.{len_gone, len_kept}
+use Rattle.prefix_tree.specs.Inside.Counts.{len_gone, len_same}
 use Rattle.registration.proofs.Whole.{fewer_whole}
 use Rattle.registration.proofs.registry.Registry.forget.Goals as goal
 
@@ -11,4 +11,4 @@ pub invariant_of-self : goal.invariant_of-self
 invariant_of-self g c = let gone : c.self.inside.radio_count ≡ map.len c.take.new.self + 1 = c.self.invariant.1 ∙ len_gone _ _ _ _ c.in-Some.ensures.before c.in-Some.ensures.removed in (c.self.invariant.0, omega (arith, gone), fewer_whole _ _ _ c.self.invariant.2 c.in-Some.ensures.removed)
 
 pub invariant_of-self-in-None : goal.invariant_of-self-in-None
-invariant_of-self-in-None g c = (c.self.invariant.0, c.self.invariant.1 ∙ sym (len_kept _ _ _ c.in-None.ensures.before c.in-None.ensures.removed), fewer_whole _ _ _ c.self.invariant.2 c.in-None.ensures.removed)
+invariant_of-self-in-None g c = (c.self.invariant.0, c.self.invariant.1 ∙ sym (len_same _ _ _ c.in-None.ensures.before c.in-None.ensures.removed), fewer_whole _ _ _ c.self.invariant.2 c.in-None.ensures.removed)

@@ -1,0 +1,44 @@
+//! Lines that are served one after the other, and what a desk answers to them.
+
+use centre_core::Command;
+use console::{Desk, Line, parse_line, run};
+use registration::Station;
+use std::alloc::{Allocator, Global};
+use std::test::Fail;
+
+/// What a desk answers to these lines, where the run's own memory lies under `own`; nothing where the run failed.
+pub fn answers<B: Allocator + Copy + Drop, D: Desk>(
+    alloc: Global,
+    own: B,
+    desk: &mut D,
+    lines: &[u8],
+) -> Option<Vec<u8>> {
+    let mut out = Vec::new(alloc);
+    let mut reader = lines;
+    match run(own, &mut reader, &mut out, Station::new(1), 1 << 20, desk) {
+        Ok(_) => Some(out),
+        Err(_) => None,
+    }
+}
+
+/// Whether these are the answers.
+pub fn are_answered<B: Allocator + Copy + Drop, D: Desk>(
+    alloc: Global,
+    own: B,
+    desk: &mut D,
+    lines: &[u8],
+    want: &[u8],
+) -> bool {
+    match answers(alloc, own, desk, lines) {
+        Some(out) => out.as_slice() == want,
+        None => false,
+    }
+}
+
+/// The command that a station's line spells.
+pub fn command(alloc: Global, station: u16, line: &str) -> Result<Command<Global>, Fail> {
+    match parse_line(alloc, Station::new(station), line.as_bytes()) {
+        Ok(Line::Apply(command)) => Ok(command),
+        _ => Err(Fail::from("no command")),
+    }
+}

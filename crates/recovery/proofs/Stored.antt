@@ -1,0 +1,207 @@
+-- A register that is stored stays so: through a checkpoint, and through an append of commands that it accepts.
+use Rattle.std.proofs.Common.{◌≡◌, inl, inr, ℕ, ◌+◌, ◌<◌, ◌≤◌, List, [], ◌∷◌, ◌++◌, length, map, take, true, false, Ok, refl, sym, ap, subst, ◌∙◌, arith}
+use Rattle.std.specs.Prelude.{nat_eq}
+use Rattle.std.specs.Borrow.{Bor}
+use Rattle.std.proofs.lemmas.Bool.Decides.{nat_tests}
+use Rattle.std.specs.List.{flat_map}
+use Rattle.std.proofs.lemmas.Grind.{flat_map-append}
+use Rattle.std.proofs.lemmas.List.{append-nil}
+use Rattle.std.proofs.lemmas.Simd.{map-map}
+use Rattle.sector_disk.specs.Disk.{IsSound, View}
+use Rattle.sector_disk.specs.Run.{IsTorn, LeavesOnly}
+use Rattle.sector_disk.proofs.Moments.{run_on, started, weaker}
+use Rattle.centre_core.specs.Asked.{Asked}
+use Rattle.centre_core.specs.Same.{under}
+use Rattle.centre_core.specs.State.{State}
+use Rattle.centre_core.specs.History.{after}
+use Rattle.centre_core.specs.Histories.{IsHistory}
+use Rattle.centre_core.proofs.InTurnLaws.{after-append, history-append}
+use Rattle.centre_core.proofs.SameLaws.{after_is_same, histories_are_same}
+use Rattle.command_bytes.specs.Text.{command_text}
+use Rattle.gated_journal.specs.declared.place.Place.{Place}
+use Rattle.gated_journal.specs.Half.{Entry, half_of}
+use Rattle.gated_journal.specs.Record.{data_size, given, record_text}
+use Rattle.gated_journal.proofs.Given.{given_size}
+use Rattle.gated_journal.specs.Settled.{IsSettled, Leaves}
+use Rattle.gated_journal.proofs.Chain.{half_below}
+use Rattle.checkpoint.specs.declared.layout.Layout.{Layout}
+use Rattle.checkpoint.specs.declared.side.Side.{Side}
+use Rattle.checkpoint.specs.Layout.{half_at, half_end, other_of}
+use Rattle.checkpoint.specs.Standing.{Base, Held, InEach, IsEither, Stands, fresh}
+use Rattle.checkpoint.proofs.Added.{stands_with}
+use Rattle.checkpoint.proofs.Spared.{left_each}
+use Rattle.recovery.specs.Stored.{IsStored}
+use Rattle.recovery.specs.Opens.{opening}
+use Rattle.recovery.specs.declared.outcome.Outcome.{Outcome}
+use Rattle.recovery.specs.Outcomes.{IsAfterBatch, IsAnswered, IsEnd, StandsForEither, asked}
+use Rattle.recovery.specs.Standing.{StandsFor, commands_of}
+use Rattle.recovery.proofs.Opened.{standing_opens}
+
+-- ---- what stands is stood for
+
+pub stands_for : (A : Type 0) (layout : Layout) (side : Side) (base : Base) (held : Held A) (s : State) (image : List (List ℕ)) → Stands layout side base held image → IsHistory base.1 (commands_of held.0) → s ≡ after base.1 (commands_of held.0) → StandsFor A s image
+stands_for A layout side base held s image stands history made = record {
+  opening = opening layout side base.0 held.1 (after base.1 (commands_of held.0));
+  opens = standing_opens layout side base held image stands history;
+  same = sym made;
+}
+
+module _ (A : Type 0) (layout : Layout) (side : Side) (epoch next : ℕ) (s : State) (disk : View) (stored : IsStored A layout side epoch next s disk) where
+  pub stored_stands : InEach disk (StandsFor A s)
+  stored_stands image is = stands_for A layout side (epoch, stored.base) (stored.entries, next) s image (stored.each image is) stored.accepted stored.made
+
+  pub nothing_done : IsSound disk → LeavesOnly disk disk (StandsFor A s)
+  nothing_done sound = started disk (StandsFor A s) sound stored_stands
+
+  -- ---- a checkpoint
+
+  -- the image stands by the old side, or by the other one with no record
+  abbrev Either : List (List ℕ) → Type 0
+  Either = IsEither layout side (epoch, stored.base) (epoch + 1, s) (stored.entries, next)
+
+  either_stands : (image : List (List ℕ)) → Either image → StandsFor A s image
+  either_stands image (inl old) = stands_for A layout side (epoch, stored.base) (stored.entries, next) s image old stored.accepted stored.made
+  either_stands image (inr new) = stands_for A layout (other_of side) (epoch + 1, s) (fresh layout (other_of side)) s image new tt refl
+
+  pub in_checkpoint : (new : View) → LeavesOnly disk new Either → LeavesOnly disk new (StandsFor A s)
+  in_checkpoint new leaves = weaker disk new Either (StandsFor A s) leaves either_stands
+
+-- the image is written, and then the side switched to
+module _ {A : Type 0} (layout : Layout) (current : Side) (base next : Base) (held : Held A) (old mid : View) (written : LeavesOnly old mid (Stands layout current base held)) where
+  pub not_switched : LeavesOnly old mid (IsEither layout current base next held)
+  not_switched = weaker old mid (Stands layout current base held) (IsEither layout current base next held) written (λ image is. inl is)
+
+  pub then_switched : (new : View) → LeavesOnly mid new (IsEither layout current base next held) → LeavesOnly old new (IsEither layout current base next held)
+  then_switched new switched = run_on old mid new (IsEither layout current base next held) (IsEither layout current base next held) not_switched switched (λ image is. is)
+
+-- where all images stand by a side with no record, the register is stored there
+pub stored_fresh : (A : Type 0) (layout : Layout) (side : Side) (epoch : ℕ) (s : State) (disk : View) → InEach disk (Stands {A = A} layout side (epoch, s) (fresh layout side)) → IsStored A layout side epoch (half_at layout side) s disk
+stored_fresh A layout side epoch s disk each = record { base = s; entries = []; each = each; accepted = tt; made = refl }
+
+-- ---- commands that are given
+
+module _ {B : Type 0} (A : Type 0) (s : State) (cs : List (Bor (Asked B))) where
+  given_asked : given A cs ≡ map (under A) (asked cs)
+  given_asked = sym (map-map (under A) (λ (c : Bor (Asked B)). c.now) cs)
+
+  pub given_history : IsHistory s (asked cs) → IsHistory s (given A cs)
+  given_history is = subst (λ (l : List (Asked A)). IsHistory s l) (sym given_asked) (histories_are_same A s (asked cs) is)
+
+  pub given_after : after s (given A cs) ≡ after s (asked cs)
+  given_after = ap (after s) given_asked ∙ after_is_same A s (asked cs)
+
+-- ---- an append
+
+module _ (A : Type 0) (layout : Layout) (side : Side) (epoch : ℕ) (place : Place) (first_is : place.first ≡ half_at layout side) (end_is : place.end ≡ half_end layout side) (within : place.next < half_end layout side)
+    (s : State) (disk : View) (stored : IsStored A layout side epoch place.next s disk) where
+  some : half_at layout side < half_end layout side
+  some = let fewest = layout.in_range.fewest in omega (arith, fewest)
+
+  pub settled : IsSettled disk place stored.entries
+  settled = record {
+    begins = omega (arith, first_is, end_is, some);
+    within = omega (arith, end_is, within);
+    half = λ image is. rw (first_is, end_is) ((stored.each image is).half);
+  }
+
+  module _ (more : List (Asked A)) (history : IsHistory s more) where
+    abbrev last : Entry A
+    last = (place.next + 1, more)
+
+    abbrev longer : List (Entry A)
+    longer = stored.entries ++ last ∷ []
+
+    all : commands_of longer ≡ commands_of stored.entries ++ more
+    all = flat_map-append (λ (entry : Entry A). entry.1) stored.entries (last ∷ []) ∙ ap (λ (l : List (Asked A)). commands_of stored.entries ++ l) (append-nil more)
+
+    all_accepted : IsHistory stored.base (commands_of longer)
+    all_accepted =
+        subst (λ (l : List (Asked A)). IsHistory stored.base l) (sym all) (history-append stored.base (commands_of stored.entries) more stored.accepted (subst (λ (t : State). IsHistory t more) stored.made history))
+
+    all_made : after s more ≡ after stored.base (commands_of longer)
+    all_made = ap (λ (t : State). after t more) stored.made ∙ sym (after-append stored.base (commands_of stored.entries) more) ∙ ap (after stored.base) (sym all)
+
+    -- an image in which nothing but the half has changed
+    stands_so : (entries : List (Entry A)) (gate : ℕ) (image : List (List ℕ)) → Leaves disk place stored.entries last image → half_of image place.first place.end ≡ Ok (entries, gate) → Stands layout side (epoch, stored.base) (entries, gate) image
+    stands_so entries gate image leaves half =
+        let was = leaves.elsewhere.0 in
+        let torn : IsTorn (half_at layout side) layout.journal was image = record {
+          count = leaves.elsewhere.2.count;
+          others = λ k out. leaves.elsewhere.2.others k (elim out [ inl low ↦ inl (omega (arith, first_is, low)) | inr high ↦ inr (omega (arith, first_is, end_is, high)) ]);
+        } in
+        let there : half_of image (half_at layout side) (half_end layout side) ≡ Ok (entries, gate) = rw (first_is, end_is) at half in
+        stands_with layout side (epoch, stored.base) (stored.entries, place.next) (entries, gate) was image (stored.each was leaves.elsewhere.1) torn there (half_below image (half_at layout side) (half_end layout side) entries gate some there)
+
+    left_either : (image : List (List ℕ)) → Leaves disk place stored.entries last image → StandsForEither A s (after s more) image
+    left_either image leaves = elim (leaves.half) [
+      | inl without ↦ inl (stands_for A layout side (epoch, stored.base) (stored.entries, without.0) s image (stands_so stored.entries without.0 image leaves without.1) stored.accepted stored.made)
+      | inr with ↦ inr (stands_for A layout side (epoch, stored.base) (longer, with.0) (after s more) image (stands_so longer with.0 image leaves with.1) all_accepted all_made)
+    ]
+
+    pub in_append : (new : View) → LeavesOnly disk new (Leaves disk place stored.entries last) → LeavesOnly disk new (StandsForEither A s (after s more))
+    in_append new leaves = weaker disk new (Leaves disk place stored.entries last) (StandsForEither A s (after s more)) leaves left_either
+
+    pub stored_more : (new : View) (now : Place) → now.first ≡ place.first → now.end ≡ place.end → LeavesOnly disk new (Leaves disk place stored.entries last) → IsSound new → IsSettled new now longer → IsStored A layout side epoch now.next (after s more) new
+    stored_more new now first end leaves sound is = record {
+      base = stored.base;
+      entries = longer;
+      each = λ image left. stands_so longer now.next image (left_each disk new (Leaves disk place stored.entries last) leaves sound image left) (rw (first, end) at (is.half image left));
+      accepted = all_accepted;
+      made = all_made;
+    }
+
+  -- the same of commands that are given
+  module _ {B : Type 0} (cs : List (Bor (Asked B))) (history : IsHistory s (asked cs)) where
+    abbrev Left : List (List ℕ) → Type 0
+    Left = Leaves disk place stored.entries (place.next + 1, given A cs)
+
+    pub append_leaves : (new : View) → LeavesOnly disk new Left → LeavesOnly disk new (StandsForEither A s (after s (asked cs)))
+    append_leaves new leaves = subst (λ (t : State). LeavesOnly disk new (StandsForEither A s t)) (given_after A s cs) (in_append (given A cs) (given_history A s cs history) new leaves)
+
+    pub stored_append : (new : View) (now : Place) → now.first ≡ place.first → now.end ≡ place.end → LeavesOnly disk new Left → IsSound new → IsSettled new now (stored.entries ++ (place.next + 1, given A cs) ∷ []) → IsStored A layout side epoch now.next (after s (asked cs)) new
+    stored_append new now first end leaves sound is = subst (λ (t : State). IsStored A layout side epoch now.next t new) (given_after A s cs) (stored_more (given A cs) (given_history A s cs history) new now first end leaves sound is)
+
+-- ---- one part of a commit after another
+
+pub only_before : (A : Type 0) (s t : State) (old new : View) → LeavesOnly old new (StandsFor A s) → LeavesOnly old new (StandsForEither A s t)
+only_before A s t old new leaves = weaker old new (StandsFor A s) (StandsForEither A s t) leaves (λ image is. inl is)
+
+pub then_either : (A : Type 0) (s t : State) (old mid new : View) → LeavesOnly old mid (StandsFor A s) → LeavesOnly mid new (StandsForEither A s t) → LeavesOnly old new (StandsForEither A s t)
+then_either A s t old mid new first second = run_on old mid new (StandsForEither A s t) (StandsForEither A s t) (only_before A s t old mid first) second (λ image is. is)
+
+-- a record of fewer bytes of commands fits where the greater one does
+pub fewer_fit : {B : Type 0} (A : Type 0) (less few more : List (Bor (Asked B))) (room : ℕ) → less ≡ few → length (flat_map (λ c. command_text c.now) few) ≤ length (flat_map (λ c. command_text c.now) more)
+    → data_size (record_text (given A more)) ≤ room → data_size (record_text (given A less)) ≤ room
+fewer_fit A less few more room same size fits =
+    let bytes : length (flat_map (λ c. command_text c.now) less) ≡ length (flat_map (λ c. command_text c.now) few) = ap (λ l. length (flat_map (λ c. command_text c.now) l)) same in
+    omega (arith, given_size A less, given_size A more, bytes, size, fits)
+
+-- m is the state s as the checkpoint left it, t the one after the batch, and u what the register has in the end
+module _ {B : Type 0} (A : Type 0) (s m t u : State) (given_are items : List (Bor (Asked B))) (same : m ≡ s) (are : given_are ≡ items) (made : t ≡ after m (asked items)) (last : u ≡ t) where
+  in_end : u ≡ after m (asked given_are)
+  in_end = last ∙ made ∙ ap (λ l. after m (asked l)) (sym are)
+
+  pub commit_history : IsHistory m (asked items) → IsHistory m (asked given_are)
+  commit_history is = subst (λ l. IsHistory m (asked l)) (sym are) is
+
+  pub commit_leaves : (old mid new : View) → LeavesOnly old mid (StandsFor A s) → LeavesOnly mid new (StandsForEither A m (after m (asked given_are))) → LeavesOnly old new (StandsForEither A s u)
+  commit_leaves old mid new first second =
+      let now : LeavesOnly mid new (StandsForEither A m u) = subst (λ x. LeavesOnly mid new (StandsForEither A m x)) (sym in_end) second in
+      then_either A s u old mid new first (subst (λ x. LeavesOnly mid new (StandsForEither A x u)) same now)
+
+  pub stored_commit : (layout : Layout) (side : Side) (epoch next : ℕ) (disk : View) → IsStored A layout side epoch next (after m (asked given_are)) disk → IsStored A layout side epoch next u disk
+  stored_commit layout side epoch next disk stored = subst (λ x. IsStored A layout side epoch next x disk) (sym in_end) stored
+
+pub batch_done : {B C : Type 0} (s m t u : State) (cs : List (Asked B)) (outcomes : List (Outcome C)) → m ≡ s → u ≡ t → IsAnswered m cs t outcomes → IsAfterBatch s cs u
+batch_done s m t u cs outcomes same last is = (is.applied, last ∙ is.state ∙ ap (λ x. after x (take is.applied cs)) same, subst (λ x. IsEnd cs is.applied x) (sym last) is.end)
+
+pub no_length : (n : ℕ) → nat_eq n 0 ≡ true → n ≡ 0
+no_length n e = grind (arith, nat_tests)
+
+pub some_length : (n : ℕ) → nat_eq n 0 ≡ false → 1 ≤ n
+some_length n e = grind (arith, nat_tests)
+
+-- nothing is asked
+pub none_answered : {B C : Type 0} (s : State) (cs : List (Bor (Asked B))) (outcomes : List (Outcome C)) → cs ≡ [] → outcomes ≡ [] → IsAnswered s (asked cs) s outcomes
+none_answered {B} {C} s cs outcomes none empty =
+    subst (λ l. IsAnswered s (asked l) s outcomes) (sym none) (record { applied = 0; end = record { most = omega arith; wants = λ c e. absurd cc }; state = refl; outcomes_are = empty })
