@@ -10,14 +10,14 @@ use crate::Attachment;
 use crate::attachments::AttachmentList;
 use crate::ending::Ending;
 use identity::{Itsi, Prefix};
-use prefix_tree::{LazyTree, TryCopy};
+use prefix_tree::{LazyMap, TryCopy};
 use std::alloc::{AllocError, Allocator};
 use std::marker::Model;
 
 /// Lists of attachments under paths.
 #[derive(Drop)]
 pub(crate) struct Lists<A: Allocator> {
-    tree: LazyTree<AttachmentList<A>, A>,
+    lists: LazyMap<AttachmentList<A>, A>,
 }
 
 impl<A: Allocator> Model for Lists<A> {
@@ -29,7 +29,7 @@ impl<A: Allocator> Model for Lists<A> {
 
     ghost coded = { coded_table coded_attached };
 
-    ghost view = { λ l. l.tree };
+    ghost view = { λ l. l.lists };
 }
 
 impl<A: Allocator> Lists<A> {
@@ -38,7 +38,7 @@ impl<A: Allocator> Lists<A> {
         ensures { result ≡ finite.empty }
     {
         Lists {
-            tree: LazyTree::new(),
+            lists: LazyMap::new(),
         }
     }
 
@@ -46,7 +46,7 @@ impl<A: Allocator> Lists<A> {
     pub(crate) fn find(&self, path: &Prefix) -> Option<&AttachmentList<A>>
         ensures { option_copied result ≡ finite.get self.now path.now }
     {
-        self.tree.find(path)
+        self.lists.find(path)
     }
 
     /// Takes out the list under the path.
@@ -54,7 +54,7 @@ impl<A: Allocator> Lists<A> {
         ensures before { result ≡ finite.get self.old path.now }
         ensures removed { self.new ≡ finite.remove self.old path.now }
     {
-        self.tree.take(path)
+        self.lists.take(path)
     }
 
     /// Takes away the list under the path.
@@ -65,11 +65,11 @@ impl<A: Allocator> Lists<A> {
     }
 
     /// Takes away what ends of the list under the path, and the list where nothing is left. It takes no
-    /// memory, and goes down the tree once.
+    /// memory.
     pub(crate) fn end(&mut self, path: &Prefix, itsi: Itsi, ending: Ending)
         ensures { self.new ≡ placed self.old path.now (ended (under self.old path.now) itsi ending) }
     {
-        end_under(&mut self.tree, path, itsi, ending);
+        end_under(&mut self.lists, path, itsi, ending);
     }
 }
 
@@ -87,11 +87,11 @@ impl<A: Allocator + Clone> Lists<A> {
         ensures err { OnErr result (self.new ≡ self.old) }
         ensures overwrites { IsSome (finite.get (under self.old path) (pair_of attachment)) → IsOk result }
     {
-        if let Some(tried) = attach_there(&mut self.tree, &path, attachment) {
+        if let Some(tried) = attach_there(&mut self.lists, &path, attachment) {
             return tried;
         }
         let list = AttachmentList::one(alloc.clone()?, attachment)?;
-        self.tree.insert(alloc, path, list)?;
+        self.lists.insert(alloc, path, list)?;
         Ok(None)
     }
 
@@ -112,7 +112,7 @@ impl<A: Allocator + Clone> Lists<A> {
         if list.is_empty() {
             Ok(self.take(&path))
         } else {
-            self.tree.insert(alloc, path, list)
+            self.lists.insert(alloc, path, list)
         }
     }
 }
@@ -120,35 +120,35 @@ impl<A: Allocator + Clone> Lists<A> {
 impl<A: Allocator + Clone> TryCopy for Lists<A> {
     fn try_copy(&self) -> Result<Self, AllocError> {
         Ok(Lists {
-            tree: self.tree.try_copy()?,
+            lists: self.lists.try_copy()?,
         })
     }
 }
 
 // Attaches in the list under the path; `None` where there is none.
 fn attach_there<A: Allocator>(
-    tree: &mut LazyTree<AttachmentList<A>, A>,
+    lists: &mut LazyMap<AttachmentList<A>, A>,
     path: &Prefix,
     attachment: Attachment,
 ) -> Option<Result<Option<Attachment>, AllocError>>
-    ensures before { IfSome result (λ r. IfOk r (λ before. before ≡ attachment_at (under tree.old path.now) (pair_of attachment))) }
-    ensures there { is_some result ≡ is_some (finite.get tree.old path.now) }
-    ensures ok { IfSome result (λ r. OnOk r (tree.new ≡ finite.insert tree.old path.now (attached (under tree.old path.now) attachment))) }
-    ensures err { IfSome result (λ r. OnErr r (tree.new ≡ tree.old)) }
-    ensures absent { IfNone result (tree.new ≡ tree.old) }
-    ensures overwrites { IsSome (finite.get (under tree.old path.now) (pair_of attachment)) → IfSome result (λ r. IsOk r) }
+    ensures before { IfSome result (λ r. IfOk r (λ before. before ≡ attachment_at (under lists.old path.now) (pair_of attachment))) }
+    ensures there { is_some result ≡ is_some (finite.get lists.old path.now) }
+    ensures ok { IfSome result (λ r. OnOk r (lists.new ≡ finite.insert lists.old path.now (attached (under lists.old path.now) attachment))) }
+    ensures err { IfSome result (λ r. OnErr r (lists.new ≡ lists.old)) }
+    ensures absent { IfNone result (lists.new ≡ lists.old) }
+    ensures overwrites { IsSome (finite.get (under lists.old path.now) (pair_of attachment)) → IfSome result (λ r. IsOk r) }
 {
-    tree.change(path, |list| list.with(attachment))
+    lists.change(path, |list| list.with(attachment))
 }
 
 // Takes away what ends of the list under the path, and the list where nothing is left.
 fn end_under<A: Allocator>(
-    tree: &mut LazyTree<AttachmentList<A>, A>,
+    lists: &mut LazyMap<AttachmentList<A>, A>,
     path: &Prefix,
     itsi: Itsi,
     ending: Ending,
 )
-    ensures { tree.new ≡ placed tree.old path.now (ended (under tree.old path.now) itsi ending) }
+    ensures { lists.new ≡ placed lists.old path.now (ended (under lists.old path.now) itsi ending) }
 {
-    let _ = tree.change(path, |list| ((), list.ended(itsi, ending)));
+    let _ = lists.change(path, |list| ((), list.ended(itsi, ending)));
 }

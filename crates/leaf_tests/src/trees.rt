@@ -2,6 +2,7 @@
 
 mod changed;
 mod counted;
+mod lazy;
 mod nodes;
 pub mod number;
 mod side_by_side;

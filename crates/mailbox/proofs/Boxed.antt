@@ -23,6 +23,10 @@ pub on_err : {T E Q : Type 0} (r : Result T E) → Q → IfErr r (λ _. Q)
 on_err (Ok x) q = tt
 on_err (Err e) q = q
 
+pub on_any : {T E P : Type 0} (r : Result T E) → P → OnOk r P
+on_any (Ok x) p = p
+on_any (Err e) p = tt
+
 -- each destination's box has its items
 abbrev pub IsBoxed : List Item → Boxes → Type 0
 IsBoxed ws boxes = (p : Path) → finite.get boxes p ≡ box_of (filter (is_under p) ws)

@@ -90,6 +90,9 @@ module _ {X : Type 0} where
   pub none_left : (p : X → Bool) (xs : List X) → All (λ x. p x ≡ false) (filter (λ x. not (p x)) xs)
   none_left p xs = All-weaker (λ x. not (p x) ≡ true) (λ x. p x ≡ false) (λ x e. not-true (p x) e) (filter (λ x. not (p x)) xs) (filter_passes (λ x. not (p x)) xs)
 
+  pub no_longer : (p : X → Bool) (xs : List X) → length (filter p xs) ≤ length xs
+  no_longer p xs = omega (arith, length-filter p xs, count_by-le-length p xs)
+
   one_fewer : (p : X → Bool) (b : Bool) (x : X) (ys xs : List X) → length ys ≤ length xs → (b ≡ false → length ys < length xs) → length (cond (not b) (x ∷ ys) ys) < length (x ∷ xs)
   one_fewer p true x ys xs h less = omega (arith, h)
   one_fewer p false x ys xs h less = omega (arith, less refl)
@@ -98,13 +101,12 @@ module _ {X : Type 0} where
   pub fewer_left : (p : X → Bool) (xs : List X) → list_any p xs ≡ true → length (filter (λ x. not (p x)) xs) < length xs
   fewer_left p [] e = absurd (false≢true e)
   fewer_left p (x ∷ xs) e =
-      one_fewer p (p x) x (filter (λ y. not (p y)) xs) xs (omega (arith, length-filter (λ y. not (p y)) xs, count_by-le-length (λ y. not (p y)) xs))
+      one_fewer p (p x) x (filter (λ y. not (p y)) xs) xs (no_longer (λ y. not (p y)) xs)
       (λ other. fewer_left p xs (sym (ap (λ b. b || list_any p xs) other) ∙ e))
 
-  -- of a list that has room, or has one that passes: without what passes it has room
-  pub room_left : (p : X → Bool) (xs : List X) (any : Bool) (old new room : ℕ) → list_any p xs ≡ any → (any ≡ false → old < room) → old ≡ length xs → new ≡ length (filter (λ x. not (p x)) xs) → new ≤ old → old ≤ room → new < room
-  room_left p xs true old new room e h len_old len_new shorter fits = omega (arith, fewer_left p xs e, len_old, len_new, fits)
-  room_left p xs false old new room e h len_old len_new shorter fits = omega (arith, h refl, shorter)
+  -- where one passes there is room without it
+  pub room_left : (p : X → Bool) (xs : List X) (old new room : ℕ) → list_any p xs ≡ true → old ≡ length xs → new ≡ length (filter (λ x. not (p x)) xs) → old ≤ room → new < room
+  room_left p xs old new room e len_old len_new fits = omega (arith, fewer_left p xs e, len_old, len_new, fits)
 
   pub pairs_head : (R : X → X → Type 0) (x : X) (xs : List X) → AllPairs R (x ∷ xs) → All (R x) xs
   pairs_head R x xs h = λ k d below. h 0 (suc k) d (omega arith) (omega (arith, below))

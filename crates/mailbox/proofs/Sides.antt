@@ -12,7 +12,7 @@ use mathlib.Core.List.{append_assoc}
 use Rattle.std.proofs.lemmas.List.{length-append}
 use Rattle.std.proofs.lemmas.Bool.{false≢true, false_from_ne_true}
 use Rattle.std.proofs.lemmas.Cmp.{nat_list_cmp_total}
-use Rattle.std.proofs.lemmas.List.Elements.{All-nil, All-cons, All-head, All-tail, All-weaker, filter-append}
+use Rattle.std.proofs.lemmas.List.Elements.{All-nil, All-cons, All-head, All-tail, All-weaker, All-append, All-filter, filter-append}
 use Rattle.std.proofs.lemmas.List.Folds.{list_any-append}
 use Rattle.prefix_tree.specs.Following.{is_after}
 use Rattle.mailbox.specs.declared.key.Key.{Key}
@@ -71,6 +71,17 @@ pub left_alone : {A : Type 0} (moment : ℕ) (p : Place) (e l f m : Option (Box 
 left_alone moment p e l f m none empty nothing =
     subst (λ o. NoneBefore moment (all_of p o m)) (sym empty) (subst (λ o. NoneBefore moment (p ∷ places_of o)) (sym nothing)
     (All-cons (λ q. moment ≤ q.deadline) p [] (middle (λ q. moment ≤ q.deadline) (places_of e) p (places_of l) none) (All-nil (λ q. moment ≤ q.deadline))))
+
+-- a node with one place more at its end
+pub all_with : {A : Type 0} (p q : Place) (e l m : Option (Box (List Place) A)) → places_of m ≡ places_of l ++ q ∷ [] → all_of p e m ≡ all_of p e l ++ q ∷ []
+all_with p q e l m is = ap (λ places. places_of e ++ p ∷ places) is ∙ sym (append_assoc (places_of e) (p ∷ places_of l) (q ∷ []))
+
+pub none_with : {A : Type 0} (least new : ℕ) (p q : Place) (e l m : Option (Box (List Place) A)) → NoneBefore least (all_of p e l) → places_of m ≡ places_of l ++ q ∷ [] → new ≤ least → new ≤ q.deadline → NoneBefore new (all_of p e m)
+none_with least new p q e l m none is earlier early =
+    subst (NoneBefore new) (sym (all_with p q e l m is))
+    (All-append (λ x. new ≤ x.deadline) (all_of p e l) (q ∷ [])
+    (All-weaker (λ x. least ≤ x.deadline) (λ x. new ≤ x.deadline) (λ x le. omega (arith, earlier, le)) (all_of p e l) none)
+    (All-cons (λ x. new ≤ x.deadline) q [] early (All-nil (λ x. new ≤ x.deadline))))
 
 not_yet : (moment deadline least : ℕ) → moment < least → least ≤ deadline → nat_le deadline moment ≡ false
 not_yet moment deadline least before le = grind (arith, nat_tests)
@@ -232,6 +243,11 @@ module _ {A : Type 0} (o : Option (Box (List Place) A)) (b : Box (List Place) A)
 
       pub removed_here : place_cmp q p ≡ Equal → places_of e ++ places_of l ≡ filter (λ z. not (same_place q z)) (places_of o)
       removed_here equal = gone_here (places_of e) p (places_of l) parted q equal ∙ ap (filter (λ z. not (same_place q z))) (sym there)
+
+      -- what is left ends no earlier
+      pub none_removed : (least : ℕ) (left : List Place) → NoneBefore least (all_of p e l) → left ≡ filter (λ z. not (same_place q z)) (places_of o) → NoneBefore least left
+      none_removed least left none is =
+          subst (NoneBefore least) (sym is) (All-filter (λ z. not (same_place q z)) (λ z. least ≤ z.deadline) (places_of o) (subst (NoneBefore least) (sym there) none))
 
       pub is_earlier : place_cmp q p ≡ Less → list_any (same_place q) (places_of o) ≡ true → list_any (same_place q) (places_of e) ≡ true
       is_earlier less any = there_earlier (places_of e) p (places_of l) parted q less (ap (list_any (same_place q)) (sym there) ∙ any)

@@ -115,6 +115,15 @@ not_crowded room for_one in_all h =
     let e = crowd_if (nat_lt most_for_one for_one) room in_all h in
     (at_most most_for_one for_one e.0, e.1)
 
+not_over : (most n : ℕ) → n ≤ most → nat_lt most n ≡ false
+not_over most n h = grind (arith, nat_tests)
+
+-- where so many have their places, fewer have
+pub fewer_fit : (room a b c d : ℕ) → crowd_refusal room a b ≡ None → c ≤ a → d ≤ b → None ≡ crowd_refusal room c d
+fewer_fit room a b c d h for_one in_all =
+    let e = not_crowded room a b h in
+    λ i. option_or (refused_if (sym (not_over most_for_one c (omega (arith, for_one, e.0))) i) MailboxFull) (refused_if (sym (not_over room d (omega (arith, in_all, e.1))) i) CentreFull)
+
 nat_same : (a b : ℕ) → (a == b) ≡ true → a ≡ b
 nat_same a b h = grind (arith, nat_tests)
 

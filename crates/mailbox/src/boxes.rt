@@ -16,14 +16,14 @@ use crate::order::Order;
 use crate::place::Place;
 use crate::{Item, Key, items};
 use identity::{Itsi, Prefix};
-use prefix_tree::{LazyTree, TryCopy};
+use prefix_tree::{LazyMap, TryCopy};
 use std::alloc::{AllocError, Allocator};
 use std::marker::Model;
 
 /// The inboxes of all destinations for which something waits.
 #[derive(Drop)]
 pub(crate) struct Boxes<A: Allocator> {
-    tree: LazyTree<Inbox<A>, A>,
+    inboxes: LazyMap<Inbox<A>, A>,
 }
 
 impl<A: Allocator> Model for Boxes<A> {
@@ -38,7 +38,7 @@ impl<A: Allocator> Model for Boxes<A> {
 
     ghost coded = { coded_table (coded_list coded_item) };
 
-    ghost view = { λ b. b.tree };
+    ghost view = { λ b. b.inboxes };
 }
 
 impl<A: Allocator> Boxes<A> {
@@ -47,7 +47,7 @@ impl<A: Allocator> Boxes<A> {
         ensures { result ≡ finite.empty }
     {
         Boxes {
-            tree: LazyTree::new(),
+            inboxes: LazyMap::new(),
         }
     }
 
@@ -57,7 +57,7 @@ impl<A: Allocator> Boxes<A> {
         ensures whole { destination < 2 ^ 48 }
     {
         let path = Prefix::whole(destination.number());
-        match self.tree.find(&path) {
+        match self.inboxes.find(&path) {
             Some(inbox) => inbox.as_slice(),
             None => &[],
         }
@@ -84,12 +84,12 @@ impl<A: Allocator> Boxes<A> {
     }
 
     /// Takes the item at a key away, and the inbox where nothing is left, and answers the item's place. It takes no
-    /// memory, and goes down the tree once.
+    /// memory.
     pub(crate) fn remove_at(&mut self, key: &Key) -> Option<Place>
         ensures left { self.new ≡ swept self.old (id_path key.now.destination) (is_at key.now) }
         ensures place { result ≡ option_map place_of (item_at self.old key.now) }
     {
-        remove_at(&mut self.tree, key)
+        remove_at(&mut self.inboxes, key)
     }
 }
 
@@ -105,9 +105,9 @@ impl<A: Allocator + Clone> Boxes<A> {
     {
         let path = Prefix::whole(item.key().destination.number());
         if is_first {
-            put_first(&mut self.tree, alloc, path, item)
+            put_first(&mut self.inboxes, alloc, path, item)
         } else {
-            put_there(&mut self.tree, &path, item)
+            put_there(&mut self.inboxes, &path, item)
         }
     }
 }
@@ -115,7 +115,7 @@ impl<A: Allocator + Clone> Boxes<A> {
 impl<A: Allocator + Clone> TryCopy for Boxes<A> {
     fn try_copy(&self) -> Result<Self, AllocError> {
         Ok(Boxes {
-            tree: self.tree.try_copy()?,
+            inboxes: self.inboxes.try_copy()?,
         })
     }
 }
@@ -152,41 +152,42 @@ fn push_some<'i, A: Allocator, B: Allocator>(
 
 // Puts the item into an inbox of its own, where there is none yet.
 fn put_first<A: Allocator + Clone>(
-    tree: &mut LazyTree<Inbox<A>, A>,
+    inboxes: &mut LazyMap<Inbox<A>, A>,
     alloc: &A,
     path: Prefix,
     item: Item<A>,
 ) -> Result<(), AllocError>
-    requires { finite.get tree.old path ≡ None }
-    ensures ok { OnOk result (tree.new ≡ with_items tree.old path (put_last (items_under tree.old path) item)) }
-    ensures err { OnErr result (tree.new ≡ tree.old) }
-    ensures memory { OnErr result (list_any (is_at item.key) (items_under tree.old path) ≡ false) }
+    requires { finite.get inboxes.old path ≡ None }
+    ensures ok { OnOk result (inboxes.new ≡ with_items inboxes.old path (put_last (items_under inboxes.old path) item)) }
+    ensures err { OnErr result (inboxes.new ≡ inboxes.old) }
+    ensures memory { OnErr result (list_any (is_at item.key) (items_under inboxes.old path) ≡ false) }
 {
     let mut inbox = Inbox::new(alloc.clone()?);
     inbox.put(item)?;
-    tree.insert(alloc, path, inbox)?;
+    inboxes.insert(alloc, path, inbox)?;
     Ok(())
 }
 
 // Puts the item into the inbox that is there.
 fn put_there<A: Allocator>(
-    tree: &mut LazyTree<Inbox<A>, A>,
+    inboxes: &mut LazyMap<Inbox<A>, A>,
     path: &Prefix,
     item: Item<A>,
 ) -> Result<(), AllocError>
-    requires { IsSome (finite.get tree.old path.now) }
-    ensures ok { OnOk result (tree.new ≡ finite.insert tree.old path.now (put_last (items_under tree.old path.now) item)) }
-    ensures err { OnErr result (tree.new ≡ tree.old) }
-    ensures memory { OnErr result (list_any (is_at item.key) (items_under tree.old path.now) ≡ false) }
+    requires { IsSome (finite.get inboxes.old path.now) }
+    ensures ok { OnOk result (inboxes.new ≡ finite.insert inboxes.old path.now (put_last (items_under inboxes.old path.now) item)) }
+    ensures err { OnErr result (inboxes.new ≡ inboxes.old) }
+    ensures memory { OnErr result (list_any (is_at item.key) (items_under inboxes.old path.now) ≡ false) }
 {
-    tree.change(path, |inbox| inbox.with(item))
+    inboxes
+        .change(path, |inbox| inbox.with(item))
         .unwrap_or(Ok(()))
 }
 
 // Takes the item at the key out of its destination's inbox, and the inbox where nothing is left.
-fn remove_at<A: Allocator>(tree: &mut LazyTree<Inbox<A>, A>, key: &Key) -> Option<Place>
-    ensures left { tree.new ≡ swept tree.old (id_path key.now.destination) (is_at key.now) }
-    ensures place { result ≡ option_map place_of (find (is_at key.now) (items_under tree.old (id_path key.now.destination))) }
+fn remove_at<A: Allocator>(inboxes: &mut LazyMap<Inbox<A>, A>, key: &Key) -> Option<Place>
+    ensures left { inboxes.new ≡ swept inboxes.old (id_path key.now.destination) (is_at key.now) }
+    ensures place { result ≡ option_map place_of (find (is_at key.now) (items_under inboxes.old (id_path key.now.destination))) }
 {
-    tree.change(&key.destination.path(), |inbox| inbox.without(key))?
+    inboxes.change(&key.destination.path(), |inbox| inbox.without(key))?
 }

@@ -1,6 +1,6 @@
 //! The items of one destination.
 
-ghost use Rattle.std.specs.Prelude.{◌≡◌, ◌<◌, [], false, not, Some, OnOk, OnErr, IfOk, vec_len, vec_capacity};
+ghost use Rattle.std.specs.Prelude.{◌≡◌, ◌<◌, [], true, false, not, Some, OnOk, OnErr, IfOk, vec_len, vec_capacity};
 ghost use Rattle.std.specs.List.{filter, find, list_any};
 ghost use Rattle.std.specs.Option.{option_map};
 ghost use Rattle.mailbox.specs.Item.{is_at};
@@ -54,10 +54,8 @@ impl<A: Allocator> Inbox<A> {
         ensures err { OnErr result (self.new ≡ self.old) }
         ensures memory { OnErr result (list_any (is_at item.key) self.old ≡ false) }
     {
-        if !any_at(&self.items, &item.key()) && self.items.reserve(1).is_err() {
-            return Err(AllocError);
-        }
-        put_at_end(&mut self.items, item);
+        make_room(&mut self.items, &item.key())?;
+        let _ = self.items.push(item);
         Ok(())
     }
 
@@ -104,19 +102,23 @@ fn copied<A: Allocator + Clone>(alloc: &A, items: &[Item<A>]) -> Result<Vec<Item
     Ok(copy)
 }
 
-/// There is room for the item, or one at its key.
-fn put_at_end<A: Allocator>(items: &mut Vec<Item<A>, A>, item: Item<A>)
-    requires { list_any (is_at item.key) items.old.items ≡ false → vec_len items.old < vec_capacity items.old }
-    ensures { items.new.items ≡ put_last items.old.items item }
+/// Takes the item at the key away, and where there is none, makes room for one.
+fn make_room<A: Allocator>(items: &mut Vec<Item<A>, A>, key: &Key) -> Result<(), AllocError>
+    ensures ok { OnOk result (items.new.items ≡ filter (λ w. not (is_at key.now w)) items.old.items) }
+    ensures room { OnOk result (vec_len items.new < vec_capacity items.new) }
+    ensures err { OnErr result (items.new.items ≡ items.old.items) }
+    ensures memory { OnErr result (list_any (is_at key.now) items.old.items ≡ false) }
 {
-    let key = item.key();
-    remove_at(items, &key);
-    let _ = items.push(item);
+    if any_at(items, key) {
+        remove_at(items, key);
+        return Ok(());
+    }
+    items.reserve(1)
 }
 
 fn remove_at<A: Allocator>(items: &mut Vec<Item<A>, A>, key: &Key)
     ensures left { items.new.items ≡ filter (λ w. not (is_at key.now w)) items.old.items }
-    ensures room { (list_any (is_at key.now) items.old.items ≡ false → vec_len items.old < vec_capacity items.old) → vec_len items.new < vec_capacity items.new }
+    ensures room { list_any (is_at key.now) items.old.items ≡ true → vec_len items.new < vec_capacity items.new }
 {
     items.retain(|item| !item.is_at(key));
 }

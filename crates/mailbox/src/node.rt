@@ -79,6 +79,28 @@ impl<A: Allocator> Node<A> {
         self.least > moment
     }
 
+    // Puts the place at the end.
+    #[cycle(append)]
+    fn append(&mut self, place: &Place, spare: Link<A>)
+        ensures { self.new ≡ self.old ++ place.now ∷ [] }
+    {
+        let before = height(&self.later);
+        self.least = self.least.min(place.deadline);
+        append(&mut self.later, place, spare);
+        let is_even = height(&self.later) == before;
+        self.settle(is_even);
+    }
+
+    // Makes it anew where the side that has changed is not as it was: no higher, no lower, ending no earlier or later.
+    fn settle(&mut self, is_even: bool)
+        ensures { self.new ≡ self.old }
+    {
+        if !is_even {
+            let (place, earlier, later) = self.take_apart();
+            *self = balanced(place, earlier, later);
+        }
+    }
+
     /// Its place, and its sides taken out of it.
     fn take_apart(&mut self) -> (Place, Option<Link<A>>, Option<Link<A>>)
         ensures { all_of result.0 result.1 result.2 ≡ self.old }
@@ -102,6 +124,11 @@ fn least<A: Allocator>(link: &Option<Link<A>>) -> u64
         Some(node) => node.least,
         None => u64::MAX,
     }
+}
+
+// What a node's own height and moment hang on.
+fn measure<A: Allocator>(link: &Option<Link<A>>) -> (u8, u64) {
+    (height(link), least(link))
 }
 
 // The node of the later side comes up.
@@ -184,15 +211,10 @@ fn balanced<A: Allocator>(place: Place, earlier: Option<Link<A>>, later: Option<
 pub(crate) fn append<A: Allocator>(link: &mut Option<Link<A>>, place: &Place, spare: Link<A>)
     ensures { places_of link.new ≡ places_of link.old ++ place.now ∷ [] }
 {
-    let mut spare = spare;
-    match link.take() {
-        Some(mut node) => {
-            let (own, earlier, mut later) = node.take_apart();
-            append(&mut later, place, spare);
-            *node = balanced(own, earlier, later);
-            *link = Some(node);
-        }
+    match link {
+        Some(node) => node.append(place, spare),
         None => {
+            let mut spare = spare;
             *spare = Node::of(*place, None, None);
             *link = Some(spare);
         }
@@ -269,16 +291,27 @@ pub(crate) fn remove<A: Allocator>(link: &mut Option<Link<A>>, place: &Place) ->
     let Some(mut node) = link.take() else {
         return None;
     };
-    let (own, mut earlier, mut later) = node.take_apart();
-    let spare = match place.cmp(&own) {
-        Ordering::Less => remove(&mut earlier, place),
-        Ordering::Greater => remove(&mut later, place),
+    let own: &mut Node<A> = &mut node;
+    let spare = match place.cmp(&own.place) {
+        Ordering::Less => {
+            let before = measure(&own.earlier);
+            let spare = remove(&mut own.earlier, place);
+            let is_even = measure(&own.earlier) == before;
+            own.settle(is_even);
+            spare
+        }
+        Ordering::Greater => {
+            let before = measure(&own.later);
+            let spare = remove(&mut own.later, place);
+            let is_even = measure(&own.later) == before;
+            own.settle(is_even);
+            spare
+        }
         Ordering::Equal => {
-            *link = join(earlier, later);
+            *link = join(own.earlier.take(), own.later.take());
             return Some(node);
         }
     };
-    *node = balanced(own, earlier, later);
     *link = Some(node);
     spare
 }

@@ -105,6 +105,10 @@ impl<A: Allocator> Mail<A> {
         requires destination { at_destination.now ≡ waiting self.now envelope.now.destination }
         ensures { let left = without (is_ended_by envelope.now status) self.now in result ≡ crowd_refusal self.now.room (count_by (is_to envelope.now.destination) left.items + 1) (length left.items + 1) }
     {
+        // (what is ended only leaves more room)
+        if crowd_refusal(self.room(), at_destination.len(), self.len()).is_none() {
+            return None;
+        }
         let for_one = count_left(at_destination, envelope, status);
         let ended = count_reported(at_source, envelope, status);
         let replaced = count_at(at_destination, &envelope.key(Kind::Report));

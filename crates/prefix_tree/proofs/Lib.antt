@@ -15,6 +15,7 @@ pub mod NextLaws
 pub mod NodeLaws
 pub mod Numbers
 pub mod Order
+pub mod OrderedLaws
 pub mod OrderLaws
 pub mod Places
 pub mod Removal

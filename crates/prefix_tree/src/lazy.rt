@@ -1,23 +1,24 @@
-//! A tree that is made for its first value.
+//! A map that is made for its first value.
 
 ghost use Rattle.std.specs.Prelude.{◌≡◌, Option, IfOk, IsOk, IsSome, OnErr, OnOk};
 ghost use Rattle.std.specs.FinMap as map;
 ghost use Rattle.std.specs.Option.{option_copied};
 ghost use Rattle.prefix_tree.specs.Change.{with_value, Makes};
 
-use crate::{PrefixTree, TryCopy};
+use crate::TryCopy;
+use crate::ordered::OrderedMap;
 use identity::Prefix;
 use std::alloc::{AllocError, Allocator};
 use std::marker::Model;
 
-/// A finite map from prefixes, kept as a `PrefixTree` that is made for the first value. So an empty one needs no
-/// allocator, and several of them can stand under one that is kept beside them.
+/// A finite map from prefixes, kept as an ordered map that is made for the first value and goes with the last. So an
+/// empty one needs no allocator, and several of them can stand under one that is kept beside them.
 #[derive(Drop)]
-pub struct LazyTree<V, A: Allocator> {
-    tree: Option<PrefixTree<V, A>>,
+pub struct LazyMap<V, A: Allocator> {
+    ordered: Option<OrderedMap<V, A>>,
 }
 
-impl<V, A: Allocator> Model for LazyTree<V, A> {
+impl<V, A: Allocator> Model for LazyMap<V, A> {
     ghost use Rattle.prefix_tree.specs.Table.{PathMap, coded_table};
     ghost use Rattle.std.specs.Prelude.{unwrap_or};
     ghost use Rattle.std.specs.FinMap as map;
@@ -26,42 +27,44 @@ impl<V, A: Allocator> Model for LazyTree<V, A> {
 
     ghost coded = { coded_table V.code };
 
-    ghost view = { λ t. unwrap_or t.tree map.empty };
+    ghost view = { λ m. unwrap_or m.ordered map.empty };
 }
 
-impl<V, A: Allocator> LazyTree<V, A> {
+impl<V, A: Allocator> LazyMap<V, A> {
     /// The empty map. It takes no memory.
     pub fn new() -> Self
         ensures { result ≡ map.empty }
     {
-        LazyTree { tree: None }
+        LazyMap { ordered: None }
     }
 
     /// The value at this very prefix.
     pub fn find(&self, prefix: &Prefix) -> Option<&V>
         ensures { option_copied result ≡ map.get self.now prefix.now }
     {
-        match &self.tree {
-            Some(tree) => tree.find(prefix),
+        match &self.ordered {
+            Some(map) => map.find(prefix),
             None => None,
         }
     }
 
-    /// Takes the value at a prefix out, with its node. It takes no memory.
+    /// Takes the value at a prefix out. It takes no memory.
     pub fn take(&mut self, prefix: &Prefix) -> Option<V>
     where
         V: Drop,
         ensures before { result ≡ map.get self.old prefix.now }
         ensures removed { self.new ≡ map.remove self.old prefix.now }
     {
-        let Some(tree) = &mut self.tree else {
+        let Some(map) = &mut self.ordered else {
             return None;
         };
-        tree.take(prefix)
+        let value = map.take(prefix);
+        self.settle();
+        value
     }
 
     /// What the closure answers of the value at a prefix, if there is one. The value becomes what the closure leaves
-    /// of it; where that is nothing, it goes with its node. It takes no memory, and goes down the tree once.
+    /// of it; where that is nothing, it goes. It takes no memory, and goes down once where the value stays.
     pub fn change<R, F: FnOnce(V) -> (R, Option<V>)>(
         &mut self,
         prefix: &Prefix,
@@ -72,10 +75,12 @@ impl<V, A: Allocator> LazyTree<V, A> {
         requires { F.IsAlwaysCallable change }
         ensures { (left : Option V) × (self.new ≡ with_value self.old prefix.now left) × Makes (F.post change) (map.get self.old prefix.now) result left }
     {
-        let Some(tree) = &mut self.tree else {
+        let Some(map) = &mut self.ordered else {
             return None;
         };
-        tree.change(prefix, change)
+        let answer = map.change(prefix, change);
+        self.settle();
+        answer
     }
 
     /// Sets the value at a prefix, and answers the one before. It takes memory only where there was none; for want
@@ -89,23 +94,36 @@ impl<V, A: Allocator> LazyTree<V, A> {
         ensures err { OnErr result (self.new ≡ self.old) }
         ensures overwrites { IsSome (map.get self.old prefix) → IsOk result }
     {
-        if let Some(tree) = &mut self.tree {
-            return tree.insert(prefix, value).or(Err(AllocError));
+        if let Some(map) = &mut self.ordered {
+            return map.insert(prefix, value);
         }
-        let mut tree = PrefixTree::new_in(alloc.clone()?);
-        let before = tree.insert(prefix, value).or(Err(AllocError))?;
-        self.tree = Some(tree);
+        let mut map = OrderedMap::new(alloc.clone()?);
+        let before = map.insert(prefix, value)?;
+        self.ordered = Some(map);
         Ok(before)
+    }
+
+    // An empty map lets its memory go.
+    fn settle(&mut self)
+    where
+        V: Drop,
+        ensures { self.new ≡ self.old }
+    {
+        if let Some(map) = &self.ordered
+            && map.is_empty()
+        {
+            self.ordered = None;
+        }
     }
 }
 
-impl<V: TryCopy + Drop, A: Allocator + Clone> TryCopy for LazyTree<V, A> {
+impl<V: TryCopy + Drop, A: Allocator + Clone> TryCopy for LazyMap<V, A> {
     fn try_copy(&self) -> Result<Self, AllocError> {
-        match &self.tree {
-            Some(tree) => Ok(LazyTree {
-                tree: Some(tree.try_copy()?),
+        match &self.ordered {
+            Some(map) => Ok(LazyMap {
+                ordered: Some(map.try_copy()?),
             }),
-            None => Ok(LazyTree { tree: None }),
+            None => Ok(LazyMap { ordered: None }),
         }
     }
 }

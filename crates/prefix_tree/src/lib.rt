@@ -7,18 +7,20 @@ use std::alloc::AllocError;
 
 mod copy;
 mod edit;
+mod key;
 pub mod laws;
 mod lazy;
 mod lend;
 mod list;
 mod next;
 mod node;
+mod ordered;
 mod path;
 mod steps;
 mod tree;
 mod walk;
 
-pub use lazy::LazyTree;
+pub use lazy::LazyMap;
 pub use list::PrefixList;
 pub use steps::Steps;
 pub use tree::PrefixTree;

@@ -162,7 +162,7 @@ fn place<V>(entries: &[(Prefix, V)], prefix: &Prefix) -> Result<usize, usize>
 }
 
 // The order of two prefixes.
-fn order(left: &Prefix, right: &Prefix) -> Ordering
+pub(crate) fn order(left: &Prefix, right: &Prefix) -> Ordering
     ensures { result ≡ path_cmp left.now right.now }
 {
     let by_bits = left.bits().cmp(&right.bits());

@@ -7,7 +7,7 @@ use Rattle.group_attach.proofs.lists.end_under.Goals as goal
 
 pub returns : goal.returns
 returns g c =
-    let f = c.args.tree.now in let p = c.args.path.now in
+    let f = c.args.lists.now in let p = c.args.path.now in
     let left : c.change.ensures.0 ≡ unless_empty (ended (under f p) c.args.itsi c.args.ending) =
     elim (list_or_none (finite.get f p)) [
       | inl none ↦ let made = rw none at c.change.ensures.2 in rw (none, none_ended c.args.itsi c.args.ending) made.1

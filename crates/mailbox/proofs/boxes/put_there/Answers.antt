@@ -6,7 +6,7 @@ use Rattle.mailbox.proofs.boxes.put_there.Goals as goal
 
 pub returns-clause-ok : goal.returns-clause-ok
 returns-clause-ok g c =
-    let boxes = c.args.tree.now in let p = c.args.path.now in
+    let boxes = c.args.inboxes.now in let p = c.args.path.now in
     elim (box_or_none (finite.get boxes p)) [
       | inl none ↦ absurd (none_there none c.requires)
       | inr found ↦ by_answer (rw found.1 at c.change.ensures.2) (λ r is posted.
@@ -15,7 +15,7 @@ returns-clause-ok g c =
 
 pub returns-clause-err : goal.returns-clause-err
 returns-clause-err g c =
-    let boxes = c.args.tree.now in let p = c.args.path.now in
+    let boxes = c.args.inboxes.now in let p = c.args.path.now in
     elim (box_or_none (finite.get boxes p)) [
       | inl none ↦ absurd (none_there none c.requires)
       | inr found ↦ by_answer (rw found.1 at c.change.ensures.2) (λ r is posted.
@@ -24,7 +24,7 @@ returns-clause-err g c =
 
 pub returns-clause-memory : goal.returns-clause-memory
 returns-clause-memory g c =
-    elim (box_or_none (finite.get c.args.tree.now c.args.path.now)) [
+    elim (box_or_none (finite.get c.args.inboxes.now c.args.path.now)) [
       | inl none ↦ absurd (none_there none c.requires)
       | inr found ↦ by_answer (rw found.1 at c.change.ensures.2) (λ r is posted. rw (c.unwrap_or.ensures, is, found.1) (search rules))
     ]

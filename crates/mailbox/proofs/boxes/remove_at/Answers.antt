@@ -9,7 +9,7 @@ use Rattle.mailbox.proofs.boxes.remove_at.Goals as goal
 
 pub returns-clause-left : goal.returns-clause-left
 returns-clause-left g c =
-    let boxes = c.args.tree.now in let p = c.path.result in
+    let boxes = c.args.inboxes.now in let p = c.path.result in
     let left : c.change.ensures.0 ≡ box_of (filter (λ w. not (is_at c.args.key.now w)) (items_under boxes p)) =
     elim (box_or_none (finite.get boxes p)) [
       | inl none ↦ let made = rw none at c.change.ensures.2 in rw none made.1

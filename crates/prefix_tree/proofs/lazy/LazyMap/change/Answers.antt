@@ -1,6 +1,6 @@
 use Rattle.std.proofs.Common.{None, refl, ◌∙◌}
 use Rattle.prefix_tree.proofs.LazyLaws.{nothing_in, nothing_out}
-use Rattle.prefix_tree.proofs.lazy.LazyTree.change.Goals as goal
+use Rattle.prefix_tree.proofs.lazy.LazyMap.change.Goals as goal
 
 pub returns-in_default : goal.returns-in_default
 returns-in_default g c =
