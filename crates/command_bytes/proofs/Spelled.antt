@@ -1,6 +1,6 @@
 -- What the two laws of a command say of all bytes.
-use Rattle.std.proofs.Common.{◌≡◌, ℕ, ◌≤◌, List, [], ◌∷◌, ◌++◌, length, Option, Some, None, Result, Ok, Err, refl, sym, ap, subst, ◌∙◌}
-use Rattle.std.specs.Prelude.{IsSome, IfSome, IfNone, IfOk, OnErr}
+use Rattle.std.proofs.Common.{◌≡◌, ℕ, ◌≤◌, List, [], ◌∷◌, ◌++◌, length, Option, Some, None, refl, sym, ap, subst, ◌∙◌}
+use Rattle.std.specs.Prelude.{IsSome, IfSome, IfNone}
 use Rattle.std.proofs.lemmas.List.{append-nil}
 use Rattle.centre_core.specs.Asked.{Asked}
 use Rattle.centre_core.specs.Ranges.{pdu_of}
@@ -10,14 +10,6 @@ use Rattle.command_bytes.specs.Text.{IsCommand, Spells, command_text, longest}
 use Rattle.command_bytes.proofs.Steps.{some_is}
 use Rattle.command_bytes.proofs.Sizes.{command_short}
 use Rattle.command_bytes.proofs.BodyLaws.{command_takes, command_again}
-
-pub ok_then : {T E : Type 0} {P Q : T → Type 0} (r : Result T E) → ((x : T) → P x → Q x) → IfOk r P → IfOk r Q
-ok_then (Ok x) f p = f x p
-ok_then (Err e) f p = tt
-
-pub err_then : {T E : Type 0} {P Q : Type 0} (r : Result T E) → (P → Q) → OnErr r P → OnErr r Q
-err_then (Ok x) f p = tt
-err_then (Err e) f p = f p
 
 module _ {A : Type 0} where
   -- what is read of a text

@@ -1,21 +1,9 @@
 -- Bytes that are written a part at a time.
-use Rattle.std.proofs.Common.{◌≡◌, ℕ, ◌+◌, ◌-◌, ◌≤◌, ◌<◌, ◌∷◌, get_or, slice_get, Some, sym, ap, ◌∙◌, List, [], ◌++◌, length, take, drop, refl, arith, append_assoc, Result, Ok, Err, IfErr, OnErr, OnOk}
+use Rattle.std.proofs.Common.{◌≡◌, ℕ, ◌+◌, ◌-◌, ◌≤◌, ◌<◌, ◌∷◌, get_or, slice_get, Some, sym, ap, ◌∙◌, List, [], ◌++◌, length, take, drop, refl, arith, append_assoc}
 use Rattle.std.proofs.lemmas.List.{take_all, take_more, take-append-drop, append-nil}
 use Rattle.std.proofs.lemmas.Option.{get_or_from_slice_get}
 use Rattle.std.proofs.Math.Seq.{take-add}
 use Rattle.std.proofs.lemmas.Grind.{common_steps}
-
-pub on_err_true : {T E P : Type 0} (r : Result T E) → P → OnErr r P
-on_err_true (Ok x) p = tt
-on_err_true (Err e) p = p
-
-pub if_err_of : {T E P : Type 0} {Q : E → Type 0} (r : Result T E) → ((e : E) → P → Q e) → OnErr r P → IfErr r Q
-if_err_of (Ok x) so p = tt
-if_err_of (Err e) so p = so e p
-
-pub on_ok_true : {T E P : Type 0} (r : Result T E) → P → OnOk r P
-on_ok_true (Ok x) p = p
-on_ok_true (Err e) p = tt
 
 pub written_all : (bytes : List ℕ) (at : ℕ) → at ≡ length bytes → take at bytes ≡ bytes
 written_all bytes at all = take_all at bytes (omega (arith, all))

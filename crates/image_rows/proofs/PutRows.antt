@@ -113,14 +113,6 @@ told_refused l n row r t is came so =
     ] came in
     (ap (λ o. o >>= row_taken l) (sym is) ∙ told.0, told.1)
 
-pub if_ok : {E : Type 0} (P Q : Bool → Type 0) (r : Result Bool E) → IfOk r P → ((t : Bool) → P t → Q t) → IfOk r Q
-if_ok P Q (Ok t) p f = f t p
-if_ok P Q (Err e) p f = tt
-
-pub on_err : {E P Q : Type 0} (r : Result Bool E) → OnErr r P → (P → Q) → OnErr r Q
-on_err (Ok t) p f = tt
-on_err (Err e) p f = f p
-
 pub loaded_after : {E : Type 0} (r : Result Bool E) (h k : Option Header) (s n : State) (row : Row) → IsLoaded (loading h s) → RowInRange row → IfOk r (λ t. Came (row_taken (loading h s) row) (loading h s) t (loading k n)) → OnErr r ((k ≡ h) × (n ≡ s)) → IsLoaded (loading k n)
 loaded_after (Ok t) h k s n row loaded range came same = stays_loaded (loading h s) (loading k n) row t loaded range came
 loaded_after (Err e) h k s n row loaded range came same = subst (λ (o : Option Header). IsLoaded (loading o n)) (sym same.0) (subst (λ (m : State). IsLoaded (loading h m)) (sym same.1) loaded)
@@ -181,7 +173,3 @@ finished_not l h is done = ap (λ (o : Option Header). finished_by o l.state) is
 pub finished_none : (l : Loading) → l.header ≡ None → finished l ≡ None
 unfolding finished
 finished_none l is = ap (λ (o : Option Header). finished_by o l.state) is
-
-pub whatever : {T E P : Type 0} (r : Result T E) → P → OnErr r P
-whatever (Ok x) p = tt
-whatever (Err e) p = p

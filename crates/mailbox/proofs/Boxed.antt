@@ -1,7 +1,7 @@
 -- What each change makes of the boxes.
 use Rattle.std.proofs.Common.{◌≡◌, Bool, true, false, cond, List, [], ◌∷◌, ◌++◌, refl, ap, sym, ◌∙◌, Option, Some, None, Result, Ok, Err, ◌⊎◌, inl, inr}
 use Rattle.std.specs.Option.{is_some}
-use Rattle.std.specs.Prelude.{IfErr, IsSome, OnOk, OnErr, not, ◌&&◌}
+use Rattle.std.specs.Prelude.{IsSome, OnOk, OnErr, not, ◌&&◌}
 use Rattle.std.specs.List.{filter}
 use Rattle.std.specs.FinMap as finite
 use Rattle.std.specs.FinMap.{get-insert, get-remove, same_map}
@@ -17,15 +17,6 @@ use Rattle.mailbox.specs.Item.{is_at}
 use Rattle.mailbox.specs.Inside.Boxes.{Boxes, contents, items_under, box_of, with_items, swept, put_last, put, is_under}
 use Rattle.mailbox.proofs.Lists.{beside, filter_twice, filter_within, filter_turned}
 use Rattle.mailbox.proofs.Keys.{key_exact, under_other}
-
--- what is known where a call fails
-pub on_err : {T E Q : Type 0} (r : Result T E) → Q → IfErr r (λ _. Q)
-on_err (Ok x) q = tt
-on_err (Err e) q = q
-
-pub on_any : {T E P : Type 0} (r : Result T E) → P → OnOk r P
-on_any (Ok x) p = p
-on_any (Err e) p = tt
 
 -- each destination's box has its items
 abbrev pub IsBoxed : List Item → Boxes → Type 0

@@ -1,10 +1,10 @@
 -- What the calls ask of the items of one destination, and what they make of all.
 use Rattle.std.proofs.Common.{◌≡◌, ℕ, ◌+◌, Bool, true, false, cond, List, [], ◌∷◌, ◌++◌, length, refl, ap, sym, ◌∙◌, arith}
-use Rattle.std.specs.Prelude.{not, ◌&&◌, ◌||◌, count_by}
-use Rattle.std.specs.List.{All, AllPairs, filter, find, list_any}
-use Rattle.std.proofs.lemmas.Bool.{false≢true, false_from_ne_true, and_parts, and_right}
+use Rattle.std.specs.Prelude.{◌==◌, not, ◌&&◌, ◌||◌, count_by}
+use Rattle.std.specs.List.{All, AllPairs, filter, find, list_all, list_any}
+use Rattle.std.proofs.lemmas.Bool.{false≢true, false_from_ne_true, not-true, and_parts, and_right}
 use Rattle.std.proofs.lemmas.List.Elements.{All-weaker, filter_agree, filter-append}
-use Rattle.std.proofs.lemmas.List.{length-append}
+use Rattle.std.proofs.lemmas.List.{append-nil, length-append}
 use Rattle.std.proofs.lemmas.List.Folds.{list_any-append}
 use Rattle.std.proofs.lemmas.List.Sums.{length-filter, sum_by_push}
 use Rattle.mailbox.specs.declared.key.Kind.TheVariants.{Message, Report}
@@ -13,7 +13,8 @@ use Rattle.mailbox.specs.declared.key.Envelope.{Envelope}
 use Rattle.mailbox.specs.Values.{Item, Mailed}
 use Rattle.mailbox.specs.Item.{same_kind, same_key, key_of, answered, is_at, is_to, is_reported, ends_request, request_of, is_ended_by}
 use Rattle.mailbox.specs.Mail.{holds, without, with_item, posted, reported, waiting}
-use Rattle.mailbox.proofs.Lists.{filter_within, filter_turned, filter_twice, filter_alike, any_within, find_within, none_passes, any_of_none, filter_all, pairs_head, pairs_tail}
+use Rattle.mailbox.specs.Judged.{waits_alone}
+use Rattle.mailbox.proofs.Lists.{filter_within, filter_turned, filter_twice, filter_alike, any_within, find_within, none_passes, any_of_none, filter_all, some_pass, pairs_head, pairs_tail}
 use Rattle.mailbox.specs.Refusals.{crowd_refusal, full_refusal}
 use Rattle.mailbox.proofs.Keys.{number_itself, key_turned, key_itself, key_exact, at_is_to}
 
@@ -135,6 +136,19 @@ still_ends m e status w is =
     list_any-append (is_reported e status) (filter (λ o. not (is_at w.key o)) m.items) (w ∷ [])
     ∙ (λ i. any_within (is_reported e status) (λ o. not (is_at w.key o)) (λ o h. ap (λ k. not (is_at k o)) is ∙ ap not (no_report e status o h)) m.items i || (stays i || false))
     ∙ or_none (list_any (is_reported e status) m.items)
+
+-- to put the report for another leaves alone what is alone for its source
+pub still_alone : (m : Mailed) (e : Envelope) (w : Item) → w.key ≡ key_of e Report → (not (e.destination == e.source) && waits_alone m (answered e Message)) ≡ true → waits_alone (with_item (without (is_at w.key) m) w) (answered e Message) ≡ true
+still_alone m e w is alone =
+    let k : Key = answered e Message in
+    let both = and_parts (not (e.destination == e.source)) (waits_alone m k) alone in
+    let apart : is_to e.source w ≡ false = ap (λ (j : Key). j.destination == e.source) is ∙ not-true (e.destination == e.source) both.0 in
+    let left : filter (is_to e.source) (filter (λ o. not (is_at w.key o)) m.items ++ w ∷ []) ≡ filter (λ o. not (is_at w.key o)) (waiting m e.source) =
+    filter-append (is_to e.source) (filter (λ o. not (is_at w.key o)) m.items) (w ∷ [])
+    ∙ (λ i. filter (is_to e.source) (filter (λ o. not (is_at w.key o)) m.items) ++ cond (apart i) (w ∷ []) [])
+    ∙ append-nil (filter (is_to e.source) (filter (λ o. not (is_at w.key o)) m.items))
+    ∙ filter_turned (is_to e.source) (λ o. not (is_at w.key o)) m.items in
+    ap (list_all (is_at k)) left ∙ some_pass (is_at k) (λ o. not (is_at w.key o)) (waiting m e.source) both.1
 
 -- what a report ends is for its source
 pub ends_waiting : (m : Mailed) (e : Envelope) (status : ℕ) → list_any (is_reported e status) (waiting m e.source) ≡ list_any (is_reported e status) m.items

@@ -1,3 +1,4 @@
+pub mod Results
 pub mod Lists
 pub mod Keys
 pub mod Boxed

@@ -1,9 +1,9 @@
 -- Filters of filters, and lists no two elements of which are alike.
 use Rattle.std.proofs.Common.{◌≡◌, ℕ, suc, ◌<◌, ◌≤◌, Bool, true, false, cond, List, [], ◌∷◌, length, get_or, map, refl, ap, sym, ◌∙◌, subst, arith, Option, Some, None}
 use Rattle.std.specs.Prelude.{not, ◌&&◌, ◌||◌}
-use Rattle.std.specs.List.{All, AllPairs, cons_option, filter, filter_map, find, list_any}
+use Rattle.std.specs.List.{All, AllPairs, cons_option, filter, filter_map, find, list_all, list_any}
 use Rattle.std.specs.Option.{option_map}
-use Rattle.std.proofs.lemmas.Bool.{false≢true, false_from_ne_true, not-true, or_parts}
+use Rattle.std.proofs.lemmas.Bool.{false≢true, false_from_ne_true, not-true, and_parts, or_parts}
 use Rattle.std.proofs.lemmas.List.Sums.{length-filter, count_by-le-length}
 use Rattle.std.proofs.lemmas.List.Elements.{All-nil, All-cons, All-head, All-tail, All-weaker, filter_agree, filter_passes}
 
@@ -85,6 +85,24 @@ module _ {X : Type 0} where
       let first : p x ≡ false = All-head (λ y. p y ≡ false) x xs h in
       let rest : filter (λ y. not (p y)) xs ≡ xs = filter_all p xs (All-tail (λ y. p y ≡ false) x xs h) in
       λ i. cond (not (first i)) (x ∷ rest i) (rest i)
+
+  left_but : (p : X → Bool) (b : Bool) (x : X) (xs : List X) → (b && list_all p xs) ≡ true → (list_all p xs ≡ true → filter (λ y. not (p y)) xs ≡ []) → cond (not b) (x ∷ filter (λ y. not (p y)) xs) (filter (λ y. not (p y)) xs) ≡ []
+  left_but p true x xs h rest = rest h
+  left_but p false x xs h rest = absurd (false≢true h)
+
+  -- where all pass, nothing is left
+  pub nothing_left : (p : X → Bool) (xs : List X) → list_all p xs ≡ true → filter (λ x. not (p x)) xs ≡ []
+  nothing_left p [] h = refl
+  nothing_left p (x ∷ xs) h = left_but p (p x) x xs h (nothing_left p xs)
+
+  one_passes : (p : X → Bool) (b : Bool) (x : X) (ys xs : List X) → (p x && list_all p xs) ≡ true → (list_all p xs ≡ true → list_all p ys ≡ true) → list_all p (cond b (x ∷ ys) ys) ≡ true
+  one_passes p true x ys xs h rest = let both = and_parts (p x) (list_all p xs) h in (λ i. both.0 i && rest both.1 i)
+  one_passes p false x ys xs h rest = rest (and_parts (p x) (list_all p xs) h).1
+
+  -- and of some of them too
+  pub some_pass : (p q : X → Bool) (xs : List X) → list_all p xs ≡ true → list_all p (filter q xs) ≡ true
+  some_pass p q [] h = refl
+  some_pass p q (x ∷ xs) h = one_passes p (q x) x (filter q xs) xs h (some_pass p q xs)
 
   -- what is left does not pass
   pub none_left : (p : X → Bool) (xs : List X) → All (λ x. p x ≡ false) (filter (λ x. not (p x)) xs)

@@ -1,20 +1,20 @@
 -- What judging finds out, and the item that is made of it.
-use Rattle.std.specs.Prelude.{◌+◌, ◌≡◌, ◌==◌, Bool, List, length, Option, Some, None}
-use Rattle.std.specs.List.{find, list_any}
+use Rattle.std.specs.Prelude.{◌+◌, ◌≡◌, ◌==◌, ◌&&◌, not, Bool, List, length, Option, Some, None}
+use Rattle.std.specs.List.{find, list_all, list_any}
 use Rattle.std.specs.Option.{option_map}
 use Rattle.identity.specs.Numbers.{Itsi}
 use Rattle.registration.specs.Numbers.{Seconds}
 use Rattle.registration.specs.declared.rule.Rule.{Rule}
 use Rattle.registration.specs.Registered.{Registered}
 use Rattle.sds_tl.specs.Numbers.{Status}
-use Rattle.mailbox.specs.declared.key.Kind.TheVariants.{Report}
+use Rattle.mailbox.specs.declared.key.Kind.TheVariants.{Message, Report}
 use Rattle.mailbox.specs.declared.key.Key.{Key}
 use Rattle.mailbox.specs.declared.key.Envelope.{Envelope}
 use Rattle.mailbox.specs.declared.key.Stamp.{Stamp}
 use Rattle.mailbox.specs.declared.opening.Opening.{Opening}
 use Rattle.mailbox.specs.declared.opening.ReportOpening.{ReportOpening}
 use Rattle.mailbox.specs.Values.{Item, Mailed}
-use Rattle.mailbox.specs.Item.{key_of, is_at, is_reported}
+use Rattle.mailbox.specs.Item.{key_of, answered, is_at, is_reported}
 use Rattle.mailbox.specs.Order.{place_of}
 use Rattle.mailbox.specs.Mail.{waiting}
 use Rattle.mailbox.specs.Refusals.{post_refusal, report_refusal}
@@ -28,6 +28,10 @@ keep_of (Some rule) = rule.keep
 abbrev pub none_waits : Mailed → Itsi → Bool
 none_waits m destination = length (waiting m destination) == 0
 
+-- whether nothing but what is at a key waits for its destination
+abbrev pub waits_alone : Mailed → Key → Bool
+waits_alone m k = list_all (is_at k) (waiting m k.destination)
+
 -- the place of a new item at a key, which is kept so long
 abbrev pub opening : Mailed → Seconds → Key → Opening
 opening m keep k = record { key = k; keep = keep; is_first = none_waits m k.destination }
@@ -40,13 +44,14 @@ item_in o stamp pdu = record { key = o.key; number = stamp.number; deadline = st
 abbrev pub item_at : Mailed → Key → Option Item
 item_at m k = find (is_at k) m.items
 
--- the place of a report on a message, that of the one before, and whether the message ends
+-- the place of a report on a message, that of the one before, whether the message ends, and whether nothing else waits for its destination then, the report neither
 abbrev pub report_opening : Mailed → Seconds → Envelope → Status → ReportOpening
 report_opening m keep e status =
     record {
       opening = opening m keep (key_of e Report);
       earlier = option_map place_of (item_at m (key_of e Report));
       ends = list_any (is_reported e status) m.items;
+      is_alone = not (e.destination == e.source) && waits_alone m (answered e Message);
     }
 
 -- some rules and radios let the message, or the report, pass

@@ -1,7 +1,7 @@
 //! The inboxes of all destinations.
 
-ghost use Rattle.std.specs.Prelude.{◌≡◌, ◌<◌, ◌^◌, ◌++◌, [], false, map, None, OnOk, OnErr, IfOk, IsSome};
-ghost use Rattle.std.specs.List.{cons_option, find, list_any};
+ghost use Rattle.std.specs.Prelude.{◌≡◌, ◌<◌, ◌^◌, ◌++◌, [], true, false, map, None, OnOk, OnErr, IfOk, IsSome};
+ghost use Rattle.std.specs.List.{cons_option, find, list_all, list_any};
 ghost use Rattle.std.specs.Option.{is_none, option_copied, option_map};
 ghost use Rattle.std.specs.FinMap as finite;
 ghost use Rattle.identity.specs.Path.{id_path};
@@ -83,13 +83,18 @@ impl<A: Allocator> Boxes<A> {
         Ok(items)
     }
 
-    /// Takes the item at a key away, and the inbox where nothing is left, and answers the item's place. It takes no
-    /// memory.
-    pub(crate) fn remove_at(&mut self, key: &Key) -> Option<Place>
+    /// Takes the item at a key away, and the inbox where nothing is left, and answers the item's place. Told that
+    /// nothing else is in the inbox, it goes down once in all. It takes no memory.
+    pub(crate) fn remove_at(&mut self, key: &Key, is_alone: bool) -> Option<Place>
+        requires { is_alone ≡ true → list_all (is_at key.now) (items_under self.old (id_path key.now.destination)) ≡ true }
         ensures left { self.new ≡ swept self.old (id_path key.now.destination) (is_at key.now) }
         ensures place { result ≡ option_map place_of (item_at self.old key.now) }
     {
-        remove_at(&mut self.inboxes, key)
+        if is_alone {
+            remove_alone(&mut self.inboxes, key)
+        } else {
+            remove_at(&mut self.inboxes, key)
+        }
     }
 }
 
@@ -190,4 +195,14 @@ fn remove_at<A: Allocator>(inboxes: &mut LazyMap<Inbox<A>, A>, key: &Key) -> Opt
     ensures place { result ≡ option_map place_of (find (is_at key.now) (items_under inboxes.old (id_path key.now.destination))) }
 {
     inboxes.change(&key.destination.path(), |inbox| inbox.without(key))?
+}
+
+// Takes the inbox of its destination away, in which nothing but the item at the key is.
+fn remove_alone<A: Allocator>(inboxes: &mut LazyMap<Inbox<A>, A>, key: &Key) -> Option<Place>
+    requires { list_all (is_at key.now) (items_under inboxes.old (id_path key.now.destination)) ≡ true }
+    ensures left { inboxes.new ≡ swept inboxes.old (id_path key.now.destination) (is_at key.now) }
+    ensures place { result ≡ option_map place_of (find (is_at key.now) (items_under inboxes.old (id_path key.now.destination))) }
+{
+    let inbox = inboxes.take(&key.destination.path())?;
+    items::place_at(inbox.as_slice(), key)
 }

@@ -1,7 +1,7 @@
 //! What is asked of the items of one destination.
 
 ghost use Rattle.std.specs.Prelude.{◌≡◌, not, length};
-ghost use Rattle.std.specs.List.{filter, find, list_any};
+ghost use Rattle.std.specs.List.{filter, find, list_all, list_any};
 ghost use Rattle.std.specs.Option.{option_copied, option_map};
 ghost use Rattle.mailbox.specs.Order.{place_of};
 ghost use Rattle.mailbox.specs.Item.{is_at, is_reported, is_ended_by, is_confirmed};
@@ -16,6 +16,13 @@ pub(crate) fn any_at<A: Allocator>(items: &[Item<A>], key: &Key) -> bool
     ensures { result ≡ list_any (is_at key.now) items.now }
 {
     items.iter().any(|item| item.is_at(key))
+}
+
+/// Whether nothing but what is at the key is among them.
+pub(crate) fn all_at<A: Allocator>(items: &[Item<A>], key: &Key) -> bool
+    ensures { result ≡ list_all (is_at key.now) items.now }
+{
+    items.iter().all(|item| item.is_at(key))
 }
 
 /// The one at the key.

@@ -1,20 +1,20 @@
 //! The mail, and the calls that change it.
 
-ghost use Rattle.std.specs.Prelude.{◌≡◌, ◌↔◌, IsTrue, ◌<◌, ◌≤◌, ◌-◌, length, count_by, false, map, None, OnOk, OnErr, IfOk, IfErr, unwrap_or};
+ghost use Rattle.std.specs.Prelude.{◌≡◌, ◌↔◌, IsTrue, ◌<◌, ◌≤◌, ◌-◌, length, count_by, true, false, map, None, OnOk, OnErr, IfOk, IfErr, unwrap_or};
 ghost use Rattle.std.specs.List.{AllPairs, find, list_any};
 ghost use Rattle.std.specs.Option.{option_copied, option_map};
 ghost use Rattle.mailbox.specs.declared.fault.MailFault.TheVariants.{NoMemory};
 ghost use Rattle.mailbox.specs.declared.key.Kind.TheVariants as kind;
 ghost use Rattle.mailbox.specs.Values.{empty_mailed, latest_deadline};
-ghost use Rattle.mailbox.specs.Item.{same_key, key_of, is_to, is_at, is_reported, is_expired};
+ghost use Rattle.mailbox.specs.Item.{same_key, key_of, answered, is_to, is_at, is_reported, is_expired};
 ghost use Rattle.mailbox.specs.Order.{IsBefore, ComesLast, next_item, place_of};
 ghost use Rattle.mailbox.specs.Mail.{holds, without, with_item, deadline_by, item_for, posted, reported, acknowledged, confirmed, expired, deleted, waiting};
 ghost use Rattle.mailbox.specs.GroupPost.{shortened};
-ghost use Rattle.mailbox.specs.Judged.{none_waits, item_in, report_opening, MayPost, MayReport};
+ghost use Rattle.mailbox.specs.Judged.{none_waits, waits_alone, item_in, report_opening, MayPost, MayReport};
 ghost use Rattle.mailbox.specs.Refusals.{restore_refusal, post_refusal, report_refusal, ack_refusal, sent_refusal, delete_refusal};
 
 use crate::boxes::Boxes;
-use crate::items::{any_at, any_confirmed};
+use crate::items::{all_at, any_at, any_confirmed};
 use crate::order::Order;
 use crate::place::Place;
 use crate::{Envelope, Item, Key, Kind, MailFault, Moment, Opening, ReportOpening, Stamp};
@@ -134,7 +134,7 @@ impl<A: Allocator> Mail<A> {
         ensures { self.new ≡ expired self.old moment }
     {
         while let Some(place) = self.first_due(moment) {
-            self.remove_at(&place.key);
+            self.remove_at(&place.key, false);
         }
     }
 
@@ -152,17 +152,19 @@ impl<A: Allocator> Mail<A> {
         ensures ok { OnOk result ((delete_refusal self.old key.now ≡ None) × (self.new ≡ deleted self.old key.now)) }
         ensures err { IfErr result (λ e. (delete_refusal self.old key.now ≡ Some e) × (self.new ≡ self.old)) }
     {
-        if let Some(fault) = self.delete_refusal(key) {
-            return Err(fault);
-        }
-        self.remove_at(key);
+        let is_alone = self.judge_at(key)?;
+        self.remove_at(key, is_alone);
         Ok(())
     }
 
-    fn remove_at(&mut self, key: &Key)
+    /// Takes the item at the key away, where one waits. Told that nothing else waits for its destination, it goes down
+    /// to the inbox once in all.
+    fn remove_at(&mut self, key: &Key, is_alone: bool)
+        requires { is_alone ≡ true → waits_alone self.old key.now ≡ true }
         ensures { self.new ≡ deleted self.old key.now }
     {
-        if let Some(place) = self.boxes.remove_at(key) {
+        let _whole = key.destination.number();
+        if let Some(place) = self.boxes.remove_at(key, is_alone) {
             self.order.remove(&place);
         }
     }
@@ -170,19 +172,28 @@ impl<A: Allocator> Mail<A> {
     fn remove_confirmed(&mut self, key: &Key)
         ensures { self.new ≡ confirmed self.old key.now }
     {
-        if any_confirmed(self.items_of(key.destination), key) {
-            self.remove_at(key);
+        let items = self.items_of(key.destination);
+        if any_confirmed(items, key) {
+            let is_alone = all_at(items, key);
+            self.remove_at(key, is_alone);
         }
     }
 
     /// Removes the message that a report in this envelope ends, if it ends one.
-    fn remove_reported(&mut self, envelope: &Envelope, status: DeliveryStatus, ends: bool)
-        requires { ends ≡ list_any (is_reported envelope.now status) self.old.items }
+    fn remove_reported(
+        &mut self,
+        envelope: &Envelope,
+        status: DeliveryStatus,
+        ends: bool,
+        is_alone: bool,
+    )
+        requires ends { ends ≡ list_any (is_reported envelope.now status) self.old.items }
+        requires alone { is_alone ≡ true → waits_alone self.old (answered envelope.now kind.Message) ≡ true }
         ensures { self.new ≡ without (is_reported envelope.now status) self.old }
     {
         if ends {
             self.hold_order();
-            self.remove_at(&envelope.answered(Kind::Message));
+            self.remove_at(&envelope.answered(Kind::Message), is_alone);
         }
     }
 
@@ -201,7 +212,7 @@ impl<A: Allocator> Mail<A> {
         let Some(place) = self.order.pop() else {
             return;
         };
-        let _ = self.boxes.remove_at(&place.key);
+        let _ = self.boxes.remove_at(&place.key, false);
     }
 
     /// All that waits, in order of number, then of key.
@@ -310,7 +321,7 @@ impl<A: Allocator + Clone> Mail<A> {
             &judged.earlier,
             opening.is_first,
         )?;
-        self.remove_reported(envelope, status, judged.ends);
+        self.remove_reported(envelope, status, judged.ends, judged.is_alone);
         Ok(())
     }
 
@@ -321,10 +332,8 @@ impl<A: Allocator + Clone> Mail<A> {
         ensures ok { OnOk result ((ack_refusal registry.now self.old envelope.now ≡ None) × (self.new ≡ acknowledged self.old envelope.now)) }
         ensures err { IfErr result (λ e. (ack_refusal registry.now self.old envelope.now ≡ Some e) × (self.new ≡ self.old)) }
     {
-        if let Some(fault) = self.ack_refusal(registry, envelope) {
-            return Err(fault);
-        }
-        self.remove_at(&envelope.answered(Kind::Report));
+        let is_alone = self.judge_ack(registry, envelope)?;
+        self.remove_at(&envelope.answered(Kind::Report), is_alone);
         Ok(())
     }
 

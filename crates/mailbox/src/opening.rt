@@ -23,4 +23,6 @@ pub struct ReportOpening {
     pub(crate) earlier: Option<Place>,
     /// Whether it ends the message.
     pub(crate) ends: bool,
+    /// Whether nothing else waits for the message's destination then, the report neither.
+    pub(crate) is_alone: bool,
 }

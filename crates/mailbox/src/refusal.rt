@@ -1,17 +1,18 @@
 //! Why the mail would refuse a call, memory aside.
 
-ghost use Rattle.std.specs.Prelude.{◌≡◌, ◌==◌, ◌+◌, ℕ, [], ◌∷◌, length, count_by, Bool, List, Option, IfOk};
+ghost use Rattle.std.specs.Prelude.{◌≡◌, ◌==◌, ◌+◌, ◌&&◌, not, ℕ, [], ◌∷◌, length, count_by, Bool, List, Option, IfOk};
 ghost use Rattle.mailbox.specs.declared.key.Kind.TheVariants as kind;
 ghost use Rattle.mailbox.specs.declared.key.Stamp.{Stamp};
-ghost use Rattle.mailbox.specs.Item.{key_of, is_to, is_ended_by};
+ghost use Rattle.mailbox.specs.Item.{key_of, answered, is_at, is_to, is_ended_by};
+ghost use Rattle.std.specs.List.{list_all};
 ghost use Rattle.std.specs.Result.{result_err};
 ghost use Rattle.registration.specs.Refusals.{first_of};
 ghost use Rattle.registration.specs.Registered.{rule_of};
 ghost use Rattle.mailbox.specs.Mail.{without, waiting, item_for};
-ghost use Rattle.mailbox.specs.Judged.{keep_of, opening, item_in, report_opening};
+ghost use Rattle.mailbox.specs.Judged.{keep_of, opening, waits_alone, item_in, report_opening};
 ghost use Rattle.mailbox.specs.Refusals.{unknown_refusal, absent_refusal, busy_refusal, missing_refusal, restore_refusal, crowd_refusal, post_refusal, report_refusal, ack_refusal, sent_refusal, delete_refusal};
 
-use crate::items::{any_at, any_reported, count_at, count_left, count_reported, place_at};
+use crate::items::{all_at, any_at, any_reported, count_at, count_left, count_reported, place_at};
 use crate::{Envelope, Item, Key, Kind, Mail, MailFault, Opening, ReportOpening};
 use identity::Itsi;
 use registration::{Registry, Rule};
@@ -67,11 +68,19 @@ impl<A: Allocator> Mail<A> {
     fn missing_refusal(&self, key: &Key) -> Option<MailFault>
         ensures { result ≡ missing_refusal self.now key.now }
     {
-        if self.holds(key) {
-            None
-        } else {
-            Some(MailFault::NoSuchMessage)
+        self.judge_at(key).err()
+    }
+
+    /// Whether nothing but the item at the key waits for its destination, or that there is none.
+    pub(crate) fn judge_at(&self, key: &Key) -> Result<bool, MailFault>
+        ensures refusal { result_err result ≡ missing_refusal self.now key.now }
+        ensures alone { IfOk result (λ b. b ≡ waits_alone self.now key.now) }
+    {
+        let items = self.items_of(key.destination);
+        if !any_at(items, key) {
+            return Err(MailFault::NoSuchMessage);
         }
+        Ok(all_at(items, key))
     }
 
     // Of one more item, at this key, beside these for its destination.
@@ -195,6 +204,7 @@ impl<A: Allocator + Clone> Mail<A> {
             opening: opening(at_destination, key, rule),
             earlier: place_at(at_destination, &key),
             ends: any_reported(at_source, envelope, status),
+            is_alone: is_alone(at_source, envelope),
         })
     }
 
@@ -203,14 +213,27 @@ impl<A: Allocator + Clone> Mail<A> {
     pub fn ack_refusal(&self, registry: &Registry<A>, envelope: &Envelope) -> Option<MailFault>
         ensures { result ≡ ack_refusal registry.now self.now envelope.now }
     {
+        self.judge_ack(registry, envelope).err()
+    }
+
+    /// Whether nothing but the report that is acknowledged waits for its destination, or why `ack` would
+    /// refuse.
+    pub(crate) fn judge_ack(
+        &self,
+        registry: &Registry<A>,
+        envelope: &Envelope,
+    ) -> Result<bool, MailFault>
+        ensures refusal { result_err result ≡ ack_refusal registry.now self.now envelope.now }
+        ensures alone { IfOk result (λ b. b ≡ waits_alone self.now (answered envelope.now kind.Report)) }
+    {
         let rule = registry.rule_of(envelope.destination.number());
         if let Some(fault) = unknown_refusal(rule) {
-            return Some(fault);
+            return Err(fault);
         }
         if let Some(fault) = absent_refusal(registry, envelope.source) {
-            return Some(fault);
+            return Err(fault);
         }
-        self.missing_refusal(&envelope.answered(Kind::Report))
+        self.judge_at(&envelope.answered(Kind::Report))
     }
 
     /// Why `sent` would refuse this key: `NotAttached` (the destination) and `NoSuchMessage`, in this
@@ -234,4 +257,12 @@ fn opening<A: Allocator>(items: &[Item<A>], key: Key, rule: Rule) -> Opening
         keep: rule.keep(),
         is_first: items.is_empty(),
     }
+}
+
+/// Whether nothing else waits for the destination of the message that a report in this envelope is on, once the report is
+/// put: not beside these, and not the report itself.
+fn is_alone<A: Allocator>(at_source: &[Item<A>], envelope: &Envelope) -> bool
+    ensures { result ≡ (not (envelope.now.destination == envelope.now.source) && list_all (is_at (answered envelope.now kind.Message)) at_source.now) }
+{
+    envelope.destination != envelope.source && all_at(at_source, &envelope.answered(Kind::Message))
 }

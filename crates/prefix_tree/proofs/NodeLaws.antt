@@ -1,7 +1,7 @@
 -- A node seen as a map, and its parts.
 use Rattle.std.proofs.Common.{◌≡◌, ◌<◌, ◌≤◌, inl, inr, arith, length, Bool, true, false, cond, [], ◌∷◌, ◌++◌, Option, Some, None, refl, sym, ap, subst, ◌∙◌}
 use mathlib.Core.Bool.{false≢true}
-use Rattle.std.specs.Prelude.{IsTrue, Result, Ok, Err, OnOk, IfOk, IfErr, IsSome}
+use Rattle.std.specs.Prelude.{IsTrue, Result, Ok, Err, OnOk, IfErr, IsSome}
 use Rattle.std.proofs.lemmas.Bool.{cases_eq}
 use Rattle.std.specs.Box.{with_value}
 use Rattle.std.specs.FinMap as map
@@ -101,18 +101,6 @@ module _ {V A : Type 0} (n : Inside V A) (d : NodeSeen V) (seen : node_view n.at
 
 pub one_here : {V : Type 0} (p : Path) (x : V) → around p (Some x) map.empty map.empty ≡ map.insert map.empty p x
 one_here {V} p x = insert_here p None map.empty map.empty (under_empty V _) (under_empty V _) x ∙ ap (λ m. map.insert m p x) (around_empty V p)
-
-pub on_ok : {T E P Q : Type 0} (r : Result T E) → (P → Q) → OnOk r P → OnOk r Q
-on_ok (Ok x) f h = f h
-on_ok (Err e) f h = h
-
-pub if_ok : {T E : Type 0} {P Q : T → Type 0} (r : Result T E) → ((x : T) → P x → Q x) → IfOk r P → IfOk r Q
-if_ok (Ok x) f h = f x h
-if_ok (Err e) f h = h
-
-pub if_err : {T E : Type 0} {P Q : E → Type 0} (r : Result T E) → ((e : E) → P e → Q e) → IfErr r P → IfErr r Q
-if_err (Ok x) f h = h
-if_err (Err e) f h = f e h
 
 -- one step down towards a path that goes on with the bit
 module _ {V A : Type 0} (d : NodeSeen V) (b : Bool) (o : Option (Box (NodeSeen V) A)) (q : Path) (side : IsTrue (begins (d.at ++ b ∷ []) q)) (under : IsUnder (d.at ++ b ∷ []) o) (table : (z : Path) → IsTrue (begins (d.at ++ b ∷ []) z) → map.get d.table z ≡ map.get (table_of o) z) where

@@ -14,7 +14,7 @@ use Rattle.identity.specs.Inside.PathLaws.{paths_total, paths_exact, tied}
 use Rattle.prefix_tree.specs.declared.ordered.Held.{Held}
 use Rattle.prefix_tree.specs.Table.{PathMap}
 use Rattle.prefix_tree.specs.Change.{with_value}
-use Rattle.prefix_tree.specs.Inside.Ordered.{held, map_of}
+use Rattle.prefix_tree.specs.Inside.Ordered.{held, map_held}
 use Rattle.prefix_tree.proofs.NodeLaws.{remove_absent}
 
 same_tie : (r : Ordering) → is_eq (ordering_reverse r) ≡ is_eq r
@@ -39,32 +39,32 @@ module _ {V : Type 0} where
   inside true o r = refl
   inside false o r = refl
 
-  pub found : (es : List (Path × Held V)) (q : Path) → map.get (map_of es) q ≡ held (lookup (is_at (path_cmp q)) es)
+  pub found : (es : List (Path × Held V)) (q : Path) → map.get (map_held es) q ≡ held (lookup (is_at (path_cmp q)) es)
   found [] q = map.get-empty path_cmp q
   found (e ∷ es) q =
-      get_with (map_of es) e.0 e.1.value q ∙ ap (cond (eq_by_cmp path_cmp q e.0) e.1.value) (found es q)
+      get_with (map_held es) e.0 e.1.value q ∙ ap (cond (eq_by_cmp path_cmp q e.0) e.1.value) (found es q)
       ∙ inside (eq_by_cmp path_cmp q e.0) (Some e.1) (lookup (is_at (path_cmp q)) es)
 
   -- what is new at one prefix is new in the map
-  pub changed : (m n : List (Path × Held V)) (k : Path) (w : Option (Held V)) → ((j : Path) → lookup (is_at (path_cmp j)) n ≡ cond (is_at (path_cmp k) j) w (lookup (is_at (path_cmp j)) m)) → map_of n ≡ with_value (map_of m) k (held w)
+  pub changed : (m n : List (Path × Held V)) (k : Path) (w : Option (Held V)) → ((j : Path) → lookup (is_at (path_cmp j)) n ≡ cond (is_at (path_cmp k) j) w (lookup (is_at (path_cmp j)) m)) → map_held n ≡ with_value (map_held m) k (held w)
   changed m n k w new = same_map paths_total paths_exact _ _ (λ q.
       found n q ∙ ap held (new q) ∙ sym (inside (is_eq (path_cmp k q)) w (lookup (is_at (path_cmp q)) m))
-      ∙ (λ i. cond (turned k q i) (held w) (sym (found m q) i)) ∙ sym (get_with (map_of m) k (held w) q))
+      ∙ (λ i. cond (turned k q i) (held w) (sym (found m q) i)) ∙ sym (get_with (map_held m) k (held w) q))
 
   -- where nothing is, nothing goes
   pub absent : (m : PathMap V) (p : Path) → map.get m p ≡ None → m ≡ with_value m p None
   absent m p none = sym (remove_absent m p none)
 
-  module _ (es : List (Path × Held V)) (m : PathMap V) (k p : Path) (seen : map_of es ≡ m) (same : k ≡ p) where
+  module _ (es : List (Path × Held V)) (m : PathMap V) (k p : Path) (seen : map_held es ≡ m) (same : k ≡ p) where
     -- what the ordered map's calls say of this one
     pub found_in : (o : Option (Held V)) → o ≡ lookup (is_at (path_cmp k)) es → held o ≡ map.get m p
     found_in o is = ap held is ∙ sym (found es k) ∙ (λ i. map.get (seen i) (same i))
 
-    pub changed_in : (n : List (Path × Held V)) (w : Option (Held V)) → ((j : Path) → lookup (is_at (path_cmp j)) n ≡ cond (is_at (path_cmp k) j) w (lookup (is_at (path_cmp j)) es)) → map_of n ≡ with_value m p (held w)
+    pub changed_in : (n : List (Path × Held V)) (w : Option (Held V)) → ((j : Path) → lookup (is_at (path_cmp j)) n ≡ cond (is_at (path_cmp k) j) w (lookup (is_at (path_cmp j)) es)) → map_held n ≡ with_value m p (held w)
     changed_in n w new = changed es n k w new ∙ (λ i. with_value (seen i) (same i) (held w))
 
     -- what is written at a key that is there
-    pub written_in : (map_m map_n : BTreeMap Path (Held V)) (there w : Held V) → map_m.entries ≡ es → Some there ≡ lookup (is_at (path_cmp k)) map_m.entries → WritesThrough path_cmp (path_cmp k) map_m w map_n → map_of map_n.entries ≡ with_value m p w.value
+    pub written_in : (map_m map_n : BTreeMap Path (Held V)) (there w : Held V) → map_m.entries ≡ es → Some there ≡ lookup (is_at (path_cmp k)) map_m.entries → WritesThrough path_cmp (path_cmp k) map_m w map_n → map_held map_n.entries ≡ with_value m p w.value
     written_in map_m map_n there w is was written =
         changed_in map_n.entries (Some w) (subst (λ l. (j : Path) → lookup (is_at (path_cmp j)) map_n.entries ≡ cond (is_at (path_cmp k) j) (Some w) (lookup (is_at (path_cmp j)) l)) is (written.3 (subst IsSome was refl)).0)
 

@@ -59,7 +59,7 @@ impl<V, A: Allocator> LazyMap<V, A> {
             return None;
         };
         let value = map.take(prefix);
-        self.settle();
+        self.shrink();
         value
     }
 
@@ -79,7 +79,7 @@ impl<V, A: Allocator> LazyMap<V, A> {
             return None;
         };
         let answer = map.change(prefix, change);
-        self.settle();
+        self.shrink();
         answer
     }
 
@@ -104,7 +104,7 @@ impl<V, A: Allocator> LazyMap<V, A> {
     }
 
     // An empty map lets its memory go.
-    fn settle(&mut self)
+    fn shrink(&mut self)
     where
         V: Drop,
         ensures { self.new ≡ self.old }

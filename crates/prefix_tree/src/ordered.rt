@@ -40,13 +40,13 @@ pub(crate) struct OrderedMap<V, A: Allocator> {
 
 impl<V, A: Allocator> Model for OrderedMap<V, A> {
     ghost use Rattle.prefix_tree.specs.Table.{PathMap, coded_table};
-    ghost use Rattle.prefix_tree.specs.Inside.Ordered.{map_of};
+    ghost use Rattle.prefix_tree.specs.Inside.Ordered.{map_held};
 
     ghost Value = { PathMap V };
 
     ghost coded = { coded_table V.code };
 
-    ghost view = { λ m. map_of m.by_prefix.entries };
+    ghost view = { λ m. map_held m.by_prefix.entries };
 }
 
 impl<V, A: Allocator> OrderedMap<V, A> {
@@ -106,12 +106,12 @@ impl<V, A: Allocator> OrderedMap<V, A> {
         let (answer, left) = change(value);
         let stays = left.is_some();
         held.value = left;
-        self.settle(&key, stays);
+        self.sweep(&key, stays);
         Some(answer)
     }
 
     // A key under which nothing is held goes.
-    fn settle(&mut self, key: &Key, stays: bool)
+    fn sweep(&mut self, key: &Key, stays: bool)
     where
         V: Drop,
         requires { stays ≡ false → map.get self.old key.now ≡ None }

@@ -1,5 +1,5 @@
 -- A commit of one command.
-use Rattle.std.proofs.Common.{◌≡◌, ◌⊎◌, inl, inr, ⊎_elim, subst, IsTrue, ℕ, zero, suc, Bool, true, false, refl, Result, Ok, Err, OnOk, ◌-◌, ◌≤◌, List, [], ◌∷◌, ◌++◌, length, map, take, replicate, ap, ap₂, ◌∙◌, sym, arith}
+use Rattle.std.proofs.Common.{◌≡◌, ◌⊎◌, inl, inr, ⊎_elim, subst, IsTrue, ℕ, zero, suc, Bool, true, false, refl, Result, Ok, Err, ◌-◌, ◌≤◌, List, [], ◌∷◌, ◌++◌, length, map, take, replicate, ap, ap₂, ◌∙◌, sym, arith}
 use Rattle.centre_core.specs.Asked.{Asked}
 use Rattle.centre_core.specs.declared.reply.Reply.{Reply}
 use Rattle.centre_core.specs.State.{State}
@@ -71,8 +71,3 @@ by_each_fault fault.DiskFault P is broken memory epochs device = device refl
 by_each_fault fault.Broken P is broken memory epochs device = broken refl
 by_each_fault fault.NoMemory P is broken memory epochs device = memory refl
 by_each_fault fault.EpochsUsedUp P is broken memory epochs device = epochs refl
-
--- what holds whatever the reply is
-pub on_any : {T E P : Type 0} (r : Result T E) → P → OnOk r P
-on_any (Ok x) p = p
-on_any (Err e) p = tt

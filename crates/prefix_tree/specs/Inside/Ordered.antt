@@ -12,6 +12,6 @@ held None = None
 held (Some h) = h.value
 
 -- the map with these under their prefixes, the first of them where one stands twice
-abbrev pub map_of : {V : Type 0} → List (Path × Held V) → PathMap V
-map_of [] = map.empty
-map_of (e ∷ es) = with_value (map_of es) e.0 e.1.value
+abbrev pub map_held : {V : Type 0} → List (Path × Held V) → PathMap V
+map_held [] = map.empty
+map_held (e ∷ es) = with_value (map_held es) e.0 e.1.value

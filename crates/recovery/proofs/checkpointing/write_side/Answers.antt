@@ -1,4 +1,5 @@
-use Rattle.std.proofs.Common.{◌+◌, ◌<◌, Result, Ok, Err, OnOk, arith}
+use Rattle.std.proofs.Common.{◌+◌, ◌<◌, arith}
+use Rattle.std.proofs.lemmas.Result.{on_ok_weaker}
 use Rattle.checkpoint.specs.Standing.{Base, Stands}
 use Rattle.checkpoint.specs.Calls.{image_calls, switch_calls}
 use Rattle.checkpoint.specs.Layout.{other_of}
@@ -7,10 +8,6 @@ use Rattle.sector_disk.proofs.Made.{made_of_more}
 use Rattle.recovery.proofs.Called.{made_both, made_in_second}
 use Rattle.recovery.proofs.Stored.{not_switched, then_switched}
 use Rattle.recovery.proofs.checkpointing.write_side.Goals as goal
-
-on_ok : {T E P Q : Type 0} (r : Result T E) → OnOk r P → (P → Q) → OnOk r Q
-on_ok (Ok t) p then = then p
-on_ok (Err e) p then = tt
 
 pub returns-in_err-write_image-clause-any_moment : goal.returns-in_err-write_image-clause-any_moment
 returns-in_err-write_image-clause-any_moment g c = λ base held same honest each.
@@ -28,14 +25,14 @@ returns-clause-any_moment g c = λ base held same honest each.
     (c.switch.ensures.any_moment base next held newer still (left_each old mid (Stands c.args.layout.now c.args.current base held) written (g.met.D.Disk.sound c.write_image.new.disk still)) (c.in_ok-write_image.ensures.ready honest))
 
 pub returns-clause-switched : goal.returns-clause-switched
-returns-clause-switched g c = on_ok c.switch.result c.switch.ensures.switched (λ then base held same honest each.
+returns-clause-switched g c = on_ok_weaker c.switch.result (λ then base held same honest each.
     let next : Base = (c.args.epoch + 1, c.args.register.now) in
     let old = g.D.Disk.view c.args.disk.now in
     let mid = g.D.Disk.view c.write_image.new.disk in
     let written = c.write_image.ensures.any_moment base held honest each in
     let still = c.write_image.ensures.honest honest in
     let newer : base.0 < next.0 = omega (arith, same) in
-    then base next held newer still (left_each old mid (Stands c.args.layout.now c.args.current base held) written (g.met.D.Disk.sound c.write_image.new.disk still)) (c.in_ok-write_image.ensures.ready honest))
+    then base next held newer still (left_each old mid (Stands c.args.layout.now c.args.current base held) written (g.met.D.Disk.sound c.write_image.new.disk still)) (c.in_ok-write_image.ensures.ready honest)) c.switch.ensures.switched
 
 pub returns-in_err-write_image-clause-some_calls : goal.returns-in_err-write_image-clause-some_calls
 returns-in_err-write_image-clause-some_calls g c honest =
@@ -43,9 +40,9 @@ returns-in_err-write_image-clause-some_calls g c honest =
     made_of_more old (g.D.Disk.view c.write_image.new.disk) (image_calls c.args.layout.now (other_of c.args.current) old.reads (c.args.epoch + 1, c.args.register.now)) (switch_calls (other_of c.args.current)) (c.write_image.ensures.some_calls honest)
 
 pub returns-clause-calls : goal.returns-clause-calls
-returns-clause-calls g c = on_ok c.switch.result c.switch.ensures.calls (λ made honest.
+returns-clause-calls g c = on_ok_weaker c.switch.result (λ made honest.
     let old = g.D.Disk.view c.args.disk.now in
-    made_both old (g.D.Disk.view c.write_image.new.disk) (g.D.Disk.view c.switch.new.disk) (image_calls c.args.layout.now (other_of c.args.current) old.reads (c.args.epoch + 1, c.args.register.now)) (switch_calls (other_of c.args.current)) (c.in_ok-write_image.ensures.calls honest) made)
+    made_both old (g.D.Disk.view c.write_image.new.disk) (g.D.Disk.view c.switch.new.disk) (image_calls c.args.layout.now (other_of c.args.current) old.reads (c.args.epoch + 1, c.args.register.now)) (switch_calls (other_of c.args.current)) (c.in_ok-write_image.ensures.calls honest) made) c.switch.ensures.calls
 
 pub returns-clause-some_calls : goal.returns-clause-some_calls
 returns-clause-some_calls g c honest =

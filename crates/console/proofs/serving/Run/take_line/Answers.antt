@@ -3,7 +3,6 @@ use Rattle.std.proofs.lemmas.Result.{on_ok_weaker, IfErr-weaker}
 use Rattle.console.specs.Dialogue.{Stops}
 use Rattle.console.specs.Inside.Feed.{LeavesUnsent}
 use Rattle.console.proofs.Answering.{stops_unsent}
-use Rattle.console.proofs.Writing.{if_err_of}
 use Rattle.console.proofs.Going.{goes_on, stops_within}
 use Rattle.console.proofs.serving.Run.take_line.Goals as goal
 
@@ -14,7 +13,7 @@ returns-clause-ok g c = on_ok_weaker c.send_answer.result (λ sends. λ start be
     c.send_answer.ensures.ok
 
 pub returns-clause-err : goal.returns-clause-err
-returns-clause-err g c = if_err_of c.send_answer.result (λ fault sends. λ start before taken rest i.
+returns-clause-err g c = IfErr-weaker c.send_answer.result _ _ (λ fault sends. λ start before taken rest i.
     stops_within g.D.Desk.rules start before taken rest _ fault _ _ c.args.run.now c.answer_line-answer.result c.requires.plain sends
     (λ line holds. c.answer_line-answer.ensures.answers _ (c.ended.ensures line (c.join.ensures line holds))) i)
     c.send_answer.ensures.err

@@ -1,13 +1,10 @@
-use Rattle.std.proofs.Common.{◌≡◌, List, Result, Ok, Err, OnOk, length, ap, ◌∙◌, arith}
+use Rattle.std.proofs.Common.{◌≡◌, List, length, ap, ◌∙◌, arith}
+use Rattle.std.proofs.lemmas.Result.{on_ok_weaker}
 use Rattle.centre_core.specs.Asked.{Asked}
 use Rattle.gated_journal.specs.Record.{given, pack, record_text}
 use Rattle.gated_journal.proofs.Listed.{fits}
 use Rattle.gated_journal.proofs.Written.{length-packed}
 use Rattle.gated_journal.proofs.journal.Journal.append.Goals as goal
-
-on_ok : {T E P Q : Type 0} (r : Result T E) → OnOk r P → (P → Q) → OnOk r Q
-on_ok (Ok t) p then = then p
-on_ok (Err e) p then = tt
 
 pub append_text-requires-clause-some : goal.append_text-requires-clause-some
 append_text-requires-clause-some g c =
@@ -28,5 +25,5 @@ returns-clause-any_moment g c =
 
 pub returns-clause-acknowledged : goal.returns-clause-acknowledged
 returns-clause-acknowledged g c =
-    rw (← c.self.view_is) (on_ok c.append_text.result c.append_text.ensures.acknowledged
-    (λ then entries honest settled. then entries (given g.row.A.Denot c.args.commands.now) c.put_record.ensures.fit (c.deref.ensures.value ∙ c.put_record.ensures.items) honest settled))
+    rw (← c.self.view_is) (on_ok_weaker c.append_text.result
+    (λ then entries honest settled. then entries (given g.row.A.Denot c.args.commands.now) c.put_record.ensures.fit (c.deref.ensures.value ∙ c.put_record.ensures.items) honest settled) c.append_text.ensures.acknowledged)

@@ -1,6 +1,6 @@
 use Rattle.std.proofs.Common.{◌≡◌, true, false, length, Some, ap, sym, ◌∙◌}
-use Rattle.std.specs.Prelude.{◌==◌}
-use Rattle.std.specs.List.{find, list_any}
+use Rattle.std.specs.Prelude.{◌==◌, ◌&&◌, not}
+use Rattle.std.specs.List.{find, list_all, list_any}
 use Rattle.std.specs.Option.{option_map}
 use Rattle.registration.specs.Registered.{rule_of}
 use Rattle.mailbox.specs.declared.key.Kind.TheVariants.{Message, Report}
@@ -41,4 +41,5 @@ returns-clause-found g c =
     let place = c.opening.ensures ∙ (λ i. record { key = c.key-key.ensures i; keep = keep_of (ruled i); is_first = length (c.items_of-at_destination.ensures.items i) == 0 }) in
     let earlier = c.place_at.ensures ∙ (λ i. option_map place_of (find (is_at (c.key-key.ensures i)) (c.items_of-at_destination.ensures.items i))) ∙ ap (option_map place_of) (found_waiting c.args.self.now (key_of e Report)) in
     let ends = c.any_reported.ensures ∙ ap (list_any (is_reported e c.args.status)) c.items_of-at_source.ensures.items ∙ ends_waiting c.args.self.now e c.args.status in
-    λ i. record { opening = place i; earlier = earlier i; ends = ends i }
+    let alone = c.is_alone.ensures ∙ ap (λ ws. not (e.destination == e.source) && list_all (is_at (answered e Message)) ws) c.items_of-at_source.ensures.items in
+    λ i. record { opening = place i; earlier = earlier i; ends = ends i; is_alone = alone i }

@@ -1,7 +1,7 @@
 use Rattle.std.proofs.Common.{◌≡◌, ◌<◌, ◌^◌, Some, rules, ap, sym, subst, ◌∙◌}
 use Rattle.std.specs.List.{find}
 use Rattle.std.specs.Option.{option_map}
-use Rattle.prefix_tree.proofs.NodeLaws.{on_ok}
+use Rattle.std.proofs.lemmas.Result.{on_ok_weaker}
 use Rattle.mailbox.specs.declared.place.Place.{Place}
 use Rattle.mailbox.specs.Values.{Mailed}
 use Rattle.mailbox.specs.Item.{is_at}
@@ -9,7 +9,7 @@ use Rattle.mailbox.specs.Order.{ComesLast, place_of}
 use Rattle.mailbox.specs.Inside.Boxes.{item_at}
 use Rattle.mailbox.specs.Mail.{holds}
 use Rattle.mailbox.specs.Judged.{none_waits}
-use Rattle.mailbox.proofs.Boxed.{on_err}
+use Rattle.mailbox.proofs.Results.{known_err}
 use Rattle.mailbox.proofs.Effects.{posted_alone}
 use Rattle.mailbox.proofs.Filing.{filed_holds, filed_put_again, filed_again, filed_in_order, first_filed, found_at_key, none_placed, place_found}
 use Rattle.mailbox.proofs.NextItem.{places_rise}
@@ -19,10 +19,10 @@ pub put_last-requires-clause-free : goal.put_last-requires-clause-free
 put_last-requires-clause-free g c = none_placed (is_at c.args.item.key) c.args.self.now.items (sym c.in_default.is ∙ c.requires.earlier)
 
 pub returns-in_default-clause-ok : goal.returns-in_default-clause-ok
-returns-in_default-clause-ok g c = on_ok c.put_last.result (λ e. e ∙ sym (posted_alone c.args.self.now c.args.item (none_placed (is_at c.args.item.key) c.args.self.now.items (sym c.in_default.is ∙ c.requires.earlier)))) c.put_last.ensures.ok
+returns-in_default-clause-ok g c = on_ok_weaker c.put_last.result (λ e. e ∙ sym (posted_alone c.args.self.now c.args.item (none_placed (is_at c.args.item.key) c.args.self.now.items (sym c.in_default.is ∙ c.requires.earlier)))) c.put_last.ensures.ok
 
 pub returns-in_default-clause-memory : goal.returns-in_default-clause-memory
-returns-in_default-clause-memory g c = on_err c.put_last.result (none_placed (is_at c.args.item.key) c.args.self.now.items (sym c.in_default.is ∙ c.requires.earlier))
+returns-in_default-clause-memory g c = known_err c.put_last.result (none_placed (is_at c.args.item.key) c.args.self.now.items (sym c.in_default.is ∙ c.requires.earlier))
 
 pub put-requires : goal.put-requires
 put-requires g c =
@@ -31,7 +31,7 @@ put-requires g c =
 
 pub returns-in_err-put-clause-memory : goal.returns-in_err-put-clause-memory
 returns-in_err-put-clause-memory g c =
-    on_err c.from_residual.result (ap (λ (m : Mailed). holds m c.args.item.key) (sym {A = Mailed} c.self.view_is) ∙ sym (filed_holds _ c.self.inside.boxes c.self.inside.order c.args.item.key c.self.invariant) ∙ c.in_err-put.ensures.memory)
+    known_err c.from_residual.result (ap (λ (m : Mailed). holds m c.args.item.key) (sym {A = Mailed} c.self.view_is) ∙ sym (filed_holds _ c.self.inside.boxes c.self.inside.order c.args.item.key c.self.invariant) ∙ c.in_err-put.ensures.memory)
 
 pub renew-requires-clause-order : goal.renew-requires-clause-order
 renew-requires-clause-order g c = places_rise _ c.self.inside.order c.self.invariant.indexed c.self.invariant.ordered

@@ -1,7 +1,17 @@
-use Rattle.std.proofs.Common.{◌∙◌}
-use Rattle.mailbox.proofs.Filing.{filed_removed, filed_again, filed_in_order, none_left_out, place_removed}
+use Rattle.std.proofs.Common.{◌<◌, ◌^◌, rules, ap, ◌∙◌}
+use Rattle.std.specs.List.{list_all}
+use Rattle.mailbox.specs.Values.{Mailed}
+use Rattle.mailbox.specs.Item.{is_at}
+use Rattle.mailbox.specs.Judged.{waits_alone}
+use Rattle.mailbox.proofs.Filing.{filed_waiting, filed_removed, filed_again, filed_in_order, none_left_out, place_removed}
 use Rattle.mailbox.proofs.NextItem.{places_rise}
 use Rattle.mailbox.proofs.mail.Mail.remove_at.Goals as goal
+
+pub remove_at-requires : goal.remove_at-requires
+remove_at-requires g c alone =
+    let below : c.args.key.now.destination < 2 ^ 48 = search rules in
+    ap (list_all (is_at c.args.key.now)) (filed_waiting _ c.self.inside.boxes c.self.inside.order c.args.key.now.destination c.self.invariant below)
+    ∙ ap (λ (m : Mailed). waits_alone m c.args.key.now) c.self.view_is ∙ c.requires alone
 
 pub remove-requires : goal.remove-requires
 remove-requires g c = places_rise _ c.self.inside.order c.self.invariant.indexed c.self.invariant.ordered

@@ -1,7 +1,8 @@
 use Rattle.std.proofs.Common.{[], true, false, sym, ap, ◌∙◌, arith, rules}
 use Rattle.std.proofs.lemmas.Bool.Decides.{nat_tests}
+use Rattle.std.proofs.lemmas.Result.{on_ok_weaker, IfOk-weaker, IfErr-weaker}
 use Rattle.prefix_tree.specs.Inside.Around.{around, table_of, IsUnder}
-use Rattle.prefix_tree.proofs.NodeLaws.{fits, whole_key, longer_key, side_is, read_at, read_zero, read_one, write_here, into_zero, into_one, on_ok, if_ok, if_err, is_there, not_there, off_link, on_link, same_box, firm_node, firm_after, begins_box}
+use Rattle.prefix_tree.proofs.NodeLaws.{fits, whole_key, longer_key, side_is, read_at, read_zero, read_one, write_here, into_zero, into_one, is_there, not_there, off_link, on_link, same_box, firm_node, firm_after, begins_box}
 use Rattle.prefix_tree.proofs.StepLaws.{turn, zero_any, one_any, still_sound, sound_with_zero, sound_with_one}
 use Rattle.prefix_tree.proofs.node.Node.+insert.Goals as goal
 
@@ -23,12 +24,12 @@ insert-side-requires-clause-shorter g t c =
 pub insert-returns-then-side-clause-before : goal.insert-returns-then-side-clause-before
 insert-returns-then-side-clause-before g t c =
     let side = side_is c.self.inside _ c.self.view_is c.args.key.now c.requires.within _ true c.if-side.true c.side.ensures in
-    if_ok c.insert_below.result (λ x e. e ∙ sym (read_one c.self.inside _ c.self.view_is c.requires.sound _ side)) c.insert_below.ensures.before
+    IfOk-weaker c.insert_below.result _ _ (λ x e. e ∙ sym (read_one c.self.inside _ c.self.view_is c.requires.sound _ side)) c.insert_below.ensures.before
 
 pub insert-returns-then-side-clause-ok : goal.insert-returns-then-side-clause-ok
 insert-returns-then-side-clause-ok g t c =
     let side = side_is c.self.inside _ c.self.view_is c.args.key.now c.requires.within _ true c.if-side.true c.side.ensures in
-    on_ok c.insert_below.result (into_one c.self.inside _ c.self.view_is c.requires.sound _ _ _ side) c.insert_below.ensures.ok
+    on_ok_weaker c.insert_below.result (into_one c.self.inside _ c.self.view_is c.requires.sound _ _ _ side) c.insert_below.ensures.ok
 
 pub insert-returns-then-side-clause-overwrite_succeeds : goal.insert-returns-then-side-clause-overwrite_succeeds
 insert-returns-then-side-clause-overwrite_succeeds g t c some =
@@ -38,12 +39,12 @@ insert-returns-then-side-clause-overwrite_succeeds g t c some =
 pub insert-returns-else-side-clause-before : goal.insert-returns-else-side-clause-before
 insert-returns-else-side-clause-before g t c =
     let side = side_is c.self.inside _ c.self.view_is c.args.key.now c.requires.within _ false c.if-side.false c.side.ensures in
-    if_ok c.insert_below-else-side.result (λ x e. e ∙ sym (read_zero c.self.inside _ c.self.view_is c.requires.sound _ side)) c.insert_below-else-side.ensures.before
+    IfOk-weaker c.insert_below-else-side.result _ _ (λ x e. e ∙ sym (read_zero c.self.inside _ c.self.view_is c.requires.sound _ side)) c.insert_below-else-side.ensures.before
 
 pub insert-returns-else-side-clause-ok : goal.insert-returns-else-side-clause-ok
 insert-returns-else-side-clause-ok g t c =
     let side = side_is c.self.inside _ c.self.view_is c.args.key.now c.requires.within _ false c.if-side.false c.side.ensures in
-    on_ok c.insert_below-else-side.result (into_zero c.self.inside _ c.self.view_is c.requires.sound _ _ _ side) c.insert_below-else-side.ensures.ok
+    on_ok_weaker c.insert_below-else-side.result (into_zero c.self.inside _ c.self.view_is c.requires.sound _ _ _ side) c.insert_below-else-side.ensures.ok
 
 pub insert-returns-else-side-clause-overwrite_succeeds : goal.insert-returns-else-side-clause-overwrite_succeeds
 insert-returns-else-side-clause-overwrite_succeeds g t c some =
@@ -51,13 +52,13 @@ insert-returns-else-side-clause-overwrite_succeeds g t c some =
     c.insert_below-else-side.ensures.overwrite_succeeds (is_there (sym (read_zero c.self.inside _ c.self.view_is c.requires.sound _ side)) some)
 
 pub insert_below-returns-then-not-leads-clause-before : goal.insert_below-returns-then-not-leads-clause-before
-insert_below-returns-then-not-leads-clause-before g t c = if_ok c.grow.result (λ x e. e ∙ sym (off_link _ _ _ c.requires (sym c.leads.ensures ∙ c.if-not-leads.true))) c.grow.ensures.before
+insert_below-returns-then-not-leads-clause-before g t c = IfOk-weaker c.grow.result _ _ (λ x e. e ∙ sym (off_link _ _ _ c.requires (sym c.leads.ensures ∙ c.if-not-leads.true))) c.grow.ensures.before
 
 pub insert_below-returns-then-not-leads-clause-overwrite_succeeds : goal.insert_below-returns-then-not-leads-clause-overwrite_succeeds
 insert_below-returns-then-not-leads-clause-overwrite_succeeds g t c some = absurd (not_there (off_link _ _ _ c.requires (sym c.leads.ensures ∙ c.if-not-leads.true)) some)
 
 pub insert_below-returns-clause-err : goal.insert_below-returns-clause-err
-insert_below-returns-clause-err g t c = if_err c.insert.result (λ x e. (e.0, same_box _ c.in-Some.node _ _ c.in-Some.is e.1 c.deref_mut.ensures.value)) c.insert.ensures.err
+insert_below-returns-clause-err g t c = IfErr-weaker c.insert.result _ _ (λ x e. (e.0, same_box _ c.in-Some.node _ _ c.in-Some.is e.1 c.deref_mut.ensures.value)) c.insert.ensures.err
 
 pub insert_below-returns-clause-under : goal.insert_below-returns-clause-under
 insert_below-returns-clause-under g t c p under begun =

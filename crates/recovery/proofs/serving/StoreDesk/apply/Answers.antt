@@ -1,6 +1,7 @@
 use Rattle.std.proofs.Common.{rules, ◌≡◌, Err, ap, arith, false, sym, ◌∙◌}
 use Rattle.std.proofs.lemmas.Bool.{true≢false}
-use Rattle.recovery.proofs.OneCommand.{after_answered, after_refused, by_rule, by_each_fault, on_any, one_answered, was_sound}
+use Rattle.mailbox.proofs.Results.{known_ok}
+use Rattle.recovery.proofs.OneCommand.{after_answered, after_refused, by_rule, by_each_fault, one_answered, was_sound}
 use Rattle.recovery.proofs.serving.StoreDesk.apply.Goals as goal
 
 pub returns-in-Ok-clause-applies : goal.returns-in-Ok-clause-applies
@@ -16,7 +17,7 @@ pub returns-in-Ok-clause-broken : goal.returns-in-Ok-clause-broken
 returns-in-Ok-clause-broken g c was = absurd (true≢false (sym was ∙ was_sound c.args.self.now.broken c.in-Ok.outcomes _ c.in-Ok.ensures.broken))
 
 pub returns-in-Ok-clause-calls : goal.returns-in-Ok-clause-calls
-returns-in-Ok-clause-calls g c = on_any c.reply_of.result (λ honest. c.in-Ok.ensures.calls (omega arith) honest)
+returns-in-Ok-clause-calls g c = known_ok c.reply_of.result (λ honest. c.in-Ok.ensures.calls (omega arith) honest)
 
 pub returns-in-Err-clause-register : goal.returns-in-Err-clause-register
 returns-in-Err-clause-register g c = after_refused c.args.self.now.register c.args.command.now c.commit.new.self.register c.in-Err.ensures.register

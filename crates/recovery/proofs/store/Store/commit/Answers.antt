@@ -1,5 +1,6 @@
-use Rattle.std.proofs.Common.{rules, sym, refl, ◌≡◌, [], inr, length, Result, Ok, Err, OnErr, ◌∙◌, arith}
+use Rattle.std.proofs.Common.{rules, sym, refl, ◌≡◌, [], inr, length, ◌∙◌, arith}
 use Rattle.std.proofs.lemmas.List.{nil_from_length}
+use Rattle.mailbox.proofs.Results.{known_err}
 use Rattle.recovery.proofs.Stored.{batch_done, commit_history, stored_commit, commit_leaves, fewer_fit, stored_stands, no_length, none_answered, nothing_done, only_before}
 use Rattle.sector_disk.proofs.Made.{made_none, made_of_more}
 use Rattle.gated_journal.specs.Record.{given}
@@ -8,10 +9,6 @@ use Rattle.recovery.proofs.Batches.{recorded_behind, none_recorded}
 use Rattle.recovery.proofs.Called.{made_both, made_in_second}
 use Rattle.recovery.specs.Outcomes.{asked}
 use Rattle.recovery.proofs.store.Store.commit.Goals as goal
-
-on_err : {T E P : Type 0} (r : Result T E) → P → OnErr r P
-on_err (Ok t) p = tt
-on_err (Err e) p = p
 
 pub returns-then-self-clause-any_moment : goal.returns-then-self-clause-any_moment
 returns-then-self-clause-any_moment g c = λ honest stored.
@@ -53,7 +50,7 @@ returns-in_err-add_record-clause-any_moment g c = λ honest stored.
 
 pub returns-in_err-add_record-clause-register : goal.returns-in_err-add_record-clause-register
 returns-in_err-add_record-clause-register g c =
-    on_err _ (inr (batch_done c.args.self.now.register c.make_room.new.self.register c.apply_all.new.register c.add_record.new.self.register (asked c.args.commands.now) c.apply_all.new.outcomes.items c.make_room.ensures.same.1 c.add_record.ensures.same.3 c.apply_all.ensures.answered))
+    known_err _ (inr (batch_done c.args.self.now.register c.make_room.new.self.register c.apply_all.new.register c.add_record.new.self.register (asked c.args.commands.now) c.apply_all.new.outcomes.items c.make_room.ensures.same.1 c.add_record.ensures.same.3 c.apply_all.ensures.answered))
 
 pub returns-clause-any_moment : goal.returns-clause-any_moment
 returns-clause-any_moment g c = λ honest stored.

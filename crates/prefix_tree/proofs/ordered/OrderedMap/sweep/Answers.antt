@@ -1,6 +1,6 @@
 use Rattle.std.proofs.Common.{None, refl, sym, ◌∙◌}
 use Rattle.prefix_tree.proofs.OrderedLaws.{changed_in, absent}
-use Rattle.prefix_tree.proofs.ordered.OrderedMap.settle.Goals as goal
+use Rattle.prefix_tree.proofs.ordered.OrderedMap.sweep.Goals as goal
 
 pub returns-then-not-stays : goal.returns-then-not-stays
 returns-then-not-stays g c =
