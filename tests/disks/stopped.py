@@ -4,7 +4,7 @@ what a front of the file's accepted commands made, by the independent reading be
 every radio, group, item and rule. The same run again has to answer `kept` or `old-sequence` to the commands of that front and
 the rest as a run that nothing stopped; then the disk stands for all commands. Prints the seed, what was found, and last 'N passed,
 M failed'.
-Usage: stopped.py PROGRAM [--moments N] [--lines N] [--seed N]"""
+Usage: tests/run stopped PROGRAM [--moments N] [--lines N] [--seed N]"""
 import random
 import subprocess
 import time

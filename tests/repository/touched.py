@@ -1,12 +1,12 @@
 #!/usr/bin/env python3
 """The short way while working: proves the crates that a change touches and those above them, runs the tests of these, and tries the
 touched crates' wrong bodies, all over the work kept in out/. It stops at the first that fails. The gate is `bash .ci/run`.
-Usage: tests/touched [BASE]    (what is changed since BASE, committed or not; without it since the last commit)"""
+Usage: tests/run touched [BASE]    (what is changed since BASE, committed or not; without it since the last commit)"""
 import pathlib
 import subprocess
 import sys
 
-TOP = pathlib.Path(__file__).resolve().parent.parent
+TOP = pathlib.Path(__file__).resolve().parents[2]
 
 
 def said(*words):
@@ -44,7 +44,7 @@ def main():
         run(TOP / "crates" / name, "rt", "test")
     asked = [name for name in below if name in changed and any((TOP / "crates" / name / "wrong-bodies").glob("*.edit"))]
     if asked:
-        run(TOP, "tests/wrong_bodies", "--kept", *asked)
+        run(TOP, "tests/run", "wrong_bodies", "--kept", *asked)
 
 
 def closure(name, below):

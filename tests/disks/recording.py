@@ -5,7 +5,7 @@ the last sync are done, left out or torn in 20 ways: the independent reading bes
 the accepted commands made, all that were answered by then among them, and for one of the ways the program's `show` tells the same.
 On some of the images the file is served again, and that run stopped in turn. Bugs planted in the record have to be found, and some
 of the calls fail (failing_calls.py). Prints the seed, what was done, and last 'N passed, M failed'.
-Usage: recording.py PROGRAM [--seconds N] [--lines N] [--seed N]"""
+Usage: tests/run recording PROGRAM [--seconds N] [--lines N] [--seed N]"""
 import collections
 import random
 import time

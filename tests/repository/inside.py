@@ -3,14 +3,14 @@
 its or another's specs/Inside/, but from there, and no clause of a public function or of a trait does. And that each
 definition of specs/ has a comment line above it, which says it in words. Cases for each crate with definitions. Tells
 the cases that fail, and last 'N passed, M failed'.
-Usage: inside.py"""
+Usage: tests/run inside"""
 import pathlib
 import re
 
 from running import Differs
 from testing import Count
 
-CRATES = pathlib.Path(__file__).resolve().parent.parent / 'crates'
+CRATES = pathlib.Path(__file__).resolve().parents[2] / 'crates'
 NAME = re.compile(r"[A-Za-z_][\w'-]*")
 IMPORT = re.compile(r'use Rattle\.\w+\.specs\.(?P<module>[A-Z][\w.]*?)\.\{(?P<names>[^}]*)\}')
 # The head of a public function, and a public trait, up to the line on which its body or it ends.

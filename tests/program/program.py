@@ -1,7 +1,7 @@
 #!/usr/bin/env python3
 """Runs the built program for each of its exit statuses, and over streams that give and take little at a time, and compares
 what it writes with the independent reading beside this file. Prints a line for each case, and last 'N passed, M failed'.
-Usage: program.py PROGRAM (the program itself, not a script that starts it)"""
+Usage: tests/run program PROGRAM (the program itself, not a script that starts it)"""
 import contextlib
 import fcntl
 import os
@@ -23,7 +23,7 @@ import refusing
 from running import SECONDS, Differs, compare, ends, gives, started
 
 HERE = pathlib.Path(__file__).resolve().parent
-TOP = HERE.parent
+TOP = HERE.parent.parent
 EXAMPLE = (TOP / 'examples' / 'commands.txt').read_bytes()
 ANSWERS = (TOP / 'examples' / 'answers.txt').read_bytes()
 EVERY_FORM = (HERE / 'growths.txt').read_bytes()

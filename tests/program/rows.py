@@ -4,7 +4,7 @@
 with, right below the line that is answered; lines that begin with # are remarks. Between `< ` and the end
 `\\r` and `\\x20` are the bytes 13 and 32. The status has to be 1 where an answer tells of a bad line, else 0.
 Prints the first difference of each case that fails, and last 'N passed, M failed'.
-Usage: rows.py COMMAND..."""
+Usage: tests/run rows COMMAND..."""
 import pathlib
 import subprocess
 import sys

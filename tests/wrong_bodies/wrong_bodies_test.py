@@ -1,15 +1,18 @@
 #!/usr/bin/env python3
-"""Tests tests/wrong_bodies on a repository of two small crates made for it: bugs are refused, in a batch and alone; an edit that is no
-bug makes it fail, in a batch and alone; a kept verdict is taken, a changed body is tried again in its own crate, and a changed
-contract in the crates above too. Prints 'N passed, M failed' last.
-Usage: tests/wrong_bodies_test"""
+"""Tests wrong_bodies.py on a repository of two small crates made for it. Bugs are refused, in a batch and alone. An edit that is no bug
+makes it fail, in a batch and alone, whether the kit answers by a truth value or by a word; a kit that answers otherwise stops it, without
+a verdict. A kept verdict is taken; a changed body is tried again in its own crate, and a changed contract in the crates above too.
+Prints 'N passed, M failed' last.
+Usage: tests/run wrong_bodies_test"""
 import os
 import re
+import shutil
 import subprocess
 import sys
 import tempfile
 
-JUDGE = os.path.join(os.path.dirname(os.path.realpath(__file__)), "wrong_bodies")
+JUDGE, VERDICTS = os.path.join(os.path.dirname(os.path.realpath(__file__)), "wrong_bodies.py"), "tests/refused_edits.txt"
+RT = os.path.realpath(shutil.which("rt") or sys.exit("wrong_bodies_test: there is no rt on PATH"))
 HEAD = "#![tactic(auto)]\n\nghost use Rattle.std.specs.Prelude.{◌≡◌, ◌≤◌, ◌+◌, ◌<◌, ◌^◌};\n"
 FILES = {
     "HANDLES": "Handles allowed: none.\n",
@@ -70,6 +73,27 @@ pub fn most() -> u32
 NO_BUG = "file: src/lib.rt\nold: greater(a, b)\nnew: greater(b, a)\n"
 NO_BUG_ALONE = "only: most\nfile: src/lib.rt\nold: u32 = 7;\nnew: u32 = 3 + 4;\n"
 LOW = "crates/low/src/lib.rt"
+# The installed kit, but for how it says what an edit's try came to
+STAND_IN = """#!/usr/bin/env python3
+import importlib.machinery
+import importlib.util
+import os
+import sys
+
+if __name__ == "__main__":
+    os.execv({rt!r}, [{rt!r}, *sys.argv[1:]])
+loader = importlib.machinery.SourceFileLoader("installed_rt", {rt!r})
+installed = importlib.util.module_from_spec(importlib.util.spec_from_loader(loader.name, loader))
+loader.exec_module(installed)
+globals().update({{name: value for name, value in vars(installed).items() if not name.startswith("__")}})
+
+
+def must_fail(*words):
+    kind, said = installed.must_fail(*words)
+    is_refused = kind in (True, "refused", "limit")
+    return {answer}, said
+"""
+TRUTH, WORD, OTHER = "is_refused", "'refused' if is_refused else 'missed'", "3 if is_refused else 4"
 
 
 def write(path, text):
@@ -84,13 +108,28 @@ def changed(path, old, new):
     write(path, FILES[path].replace(old, new))
 
 
-def judged():
-    """Returns the counts of the script's last line and how many edits it took from its file, or all that it said where its status tells another thing."""
-    ran = subprocess.run([sys.executable, JUDGE, "--proved"], stdout=subprocess.PIPE, stderr=subprocess.STDOUT, text=True)
-    last = ran.stdout.rstrip("\n").split("\n")[-1]
-    taken = re.search(r"^rt: (\d+) edits of \d+ crates not tried", ran.stdout, re.M)
-    if not taken or (ran.returncode == 0) != last.endswith(" 0 failed"):
-        return ran.stdout
+def stand_in(name, answer):
+    """Makes a kit whose rt gives this answer, and returns its folder."""
+    write(f"{name}/rt", STAND_IN.format(rt=RT, answer=answer))
+    os.chmod(f"{name}/rt", 0o755)
+    os.symlink(f"{os.path.dirname(RT)}/rt-plant-bodies", f"{name}/rt-plant-bodies")
+    return os.path.abspath(name)
+
+
+def said(folder=None):
+    """Returns what the script printed and its status, with the kit of this folder."""
+    how = {"env": {**os.environ, "PATH": f"{folder}:{os.environ['PATH']}"}} if folder else {}
+    ran = subprocess.run([sys.executable, JUDGE, "--proved"], stdout=subprocess.PIPE, stderr=subprocess.STDOUT, text=True, **how)
+    return ran.stdout, ran.returncode
+
+
+def judged(folder=None):
+    """Returns the counts of the script's last line and how many edits it took from its file, or all that it printed where its status differs."""
+    printed, status = said(folder)
+    last = printed.rstrip("\n").split("\n")[-1]
+    taken = re.search(r"^rt: (\d+) edits of \d+ crates not tried", printed, re.M)
+    if not taken or (status == 0) != last.endswith(" 0 failed"):
+        return printed
     return last, int(taken[1])
 
 
@@ -99,6 +138,15 @@ def cases():
     write("crates/high/wrong-bodies/no_bug.edit", NO_BUG)
     write("crates/high/wrong-bodies/no_bug_alone.edit", NO_BUG_ALONE)
     yield "bugs are refused; what is no bug is not, beside bugs and alone", judged(), ("3 passed, 2 failed", 0)
+    with open(VERDICTS, encoding="utf-8") as it:
+        verdicts = it.read()
+    for name, answer in (("truth", TRUTH), ("word", WORD)):
+        os.remove(VERDICTS)
+        yield f"the same where the kit answers by a {name}", judged(stand_in(name, answer)), ("3 passed, 2 failed", 0)
+    os.remove(VERDICTS)
+    yield "a kit that answers otherwise", said(stand_in("other", OTHER)), ("tests/wrong_bodies does not know how this kit says 'refused'\n", 1)
+    yield "no verdict is kept of it", os.path.exists(VERDICTS), False
+    write(VERDICTS, verdicts)
     os.remove("crates/high/wrong-bodies/no_bug.edit")
     os.remove("crates/high/wrong-bodies/no_bug_alone.edit")
     yield "a crate where an edit failed is tried again, and no other", judged(), ("2 passed, 0 failed", 1)

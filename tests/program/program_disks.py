@@ -1,7 +1,7 @@
 #!/usr/bin/env python3
 """Runs format, run and show of the built program: the sample, each fault line with its status, and what is left of the files.
 Tells the cases that fail, and last 'N passed, M failed'.
-Usage: program_disks.py PROGRAM (the program itself, not a script that starts it)"""
+Usage: tests/run program_disks PROGRAM (the program itself, not a script that starts it)"""
 import os
 import pathlib
 import re

@@ -1,7 +1,7 @@
 #!/usr/bin/env python3
 """What the built program tells on a terminal while it serves: standard error is a pseudo terminal, and the lines come over a pipe,
 with a second between. Tells the cases that fail, and last 'N passed, M failed'.
-Usage: progress.py PROGRAM (the program itself, not a script that starts it)"""
+Usage: tests/run progress PROGRAM (the program itself, not a script that starts it)"""
 import contextlib
 import os
 import pty

@@ -1,7 +1,7 @@
 #!/usr/bin/env python3
 """Tries wrong bodies in batches: the prover must refuse each edit of crates/NAME/wrong-bodies/*.edit.
 
-usage: tests/wrong_bodies [--all] [--kept] [--proved] [CRATE..]    at the top of the repository; the last line is 'N passed, M failed'
+Usage: tests/run wrong_bodies [--all] [--kept] [--proved] [CRATE..]    at the top of the repository; the last line is 'N passed, M failed'
 
 Why: `rt must-fail` plants one edit a check, and each check reads all libraries anew and judges again what stands on the changed
 function. Here many edits, each in the body of another function, are planted in one copy of their crate, and one check
@@ -9,7 +9,7 @@ function. Here many edits, each in the body of another function, are planted in 
 'only: NAME' names the function whose proof has to refuse an edit that stands in no function's body.
 
 A verdict is kept: tests/refused_edits.txt has a line for each crate whose edits were all refused, with a sum over what these verdicts
-hang on: the crate's own text and edits, the definitions, lemmas and contracts of the crates below it, the kit, and this script.
+depend on: the crate's own text and edits, the definitions, lemmas and contracts of the crates below it, the kit's logic, and this script.
 A crate whose sum stands there is not tried again; --all tries every crate, and so does naming them. The script writes the file.
 
 --proved says that `rt ci` has just proved these crates as they stand. Without it each is proved first, for the edited functions.
@@ -30,8 +30,6 @@ Why 'refused' is never said of an edit whose function is still proved:
 import collections
 import functools
 import hashlib
-import importlib.machinery
-import importlib.util
 import os
 import re
 import shutil
@@ -40,22 +38,13 @@ import sys
 import tempfile
 from concurrent.futures import ThreadPoolExecutor
 
-sys.dont_write_bytecode = True
+import kit
+from kit import bodies, rt, rtlib
+
 MOST, FLAGS = 60, ["--jobs", "1"]
 FOLDER, VERDICTS = "wrong-bodies", "tests/refused_edits.txt"
 GONE = re.compile(r"has no field|is not in scope|has no `|was not admitted")
-
-
-def load(file):
-    loader = importlib.machinery.SourceFileLoader(re.sub(r"\W", "_", os.path.basename(file)), file)
-    made = importlib.util.module_from_spec(importlib.util.spec_from_loader(loader.name, loader))
-    loader.exec_module(made)
-    return made
-
-
-KIT = os.path.dirname(os.path.realpath(shutil.which("rt") or sys.exit("wrong_bodies: there is no rt on PATH")))
-rt, bodies = load(f"{KIT}/rt"), load(f"{KIT}/rt-plant-bodies")
-rtlib, named = rt.rtlib, bodies.named
+named = bodies.named
 Edit = collections.namedtuple("Edit", "file texts functions lines is_shared")
 
 
@@ -87,7 +76,7 @@ def is_constant(source, f):
     return b"const fn" in source.data[f.file][f.first : f.opens]
 
 
-# What a verdict hangs on.
+# What a verdict depends on.
 
 
 def definitions(text):
@@ -112,9 +101,10 @@ def contracts(crate):
 
 
 def sum_of(crate, seen):
-    """Returns a sum over all that the verdicts on the crate's edits hang on; `seen` keeps the contracts of each crate."""
+    """Returns a sum over all that the verdicts on the crate's edits depend on; `seen` keeps the contracts of each crate."""
     made = hashlib.sha256()
-    for path in [f"{KIT}/../KIT-ID", os.path.abspath(__file__)]:
+    made.update(kit.logic().encode())
+    for path in [os.path.abspath(it) for it in (kit.__file__, __file__)]:
         made.update(rtlib.text_of(path).encode())
     made.update(f"{crate.name} {crate.of_kit} {[it.name for it in crate.deps]}\n".encode())
     for at, folders, files in sorted(os.walk(crate.folder)):
@@ -137,7 +127,7 @@ def kept_verdicts():
 
 def keep_verdicts(found):
     with open(VERDICTS, "w", encoding="utf-8") as it:
-        it.write("# Made by tests/wrong_bodies: crates whose edits were all refused, each with a sum over what that hangs on.\n")
+        it.write("# Made by tests/run wrong_bodies: crates whose edits were all refused, each with a sum over what that depends on.\n")
         it.writelines(f"{name} {found[name]}\n" for name in sorted(found))
 
 
@@ -321,13 +311,8 @@ def tried_alone(crate, edits, kept):
     """Tries edits as `rt must-fail` does: in turn over kept work, and what is not refused so, or rests on work gone bad, from nothing."""
     found = [rt.must_fail(crate, it, FLAGS, kept) for it in edits]
     is_sound = not edits or not rt.checked(crate, {}, FLAGS, kept).returncode
-    tried = [it if is_sound and is_refused(it) else rt.must_fail(crate, edit, FLAGS) for edit, it in zip(edits, found)]
-    return [(is_refused(it), it[1]) for it in tried]
-
-
-def is_refused(found):
-    """Returns whether rt says of an edit what it counts as refused."""
-    return found[0] in (rt.REFUSED, rt.AT_LIMIT)
+    tried = [it if is_sound and kit.is_refused(it) else rt.must_fail(crate, edit, FLAGS) for edit, it in zip(edits, found)]
+    return [(kit.is_refused(it), it[1]) for it in tried]
 
 
 def files_of(crate):
@@ -377,6 +362,8 @@ def main(words):
     sums = {it.name: sum_of(it, seen) for it in crates}
     is_asked = lambda it: it.name in names if names else "--all" in words or verdicts.get(it.name) != sums[it.name]
     asked = [it for it in crates if is_asked(it)]
+    for crate in asked[:1]:
+        kit.must_know_answers(crate, FLAGS)
     for below in {low.name: low for it in asked for low in it.below()}.values():
         if not is_usable(below) and below.build_rlib(FLAGS, anew=False):
             sys.exit(f"wrong_bodies: {below.name} is not proved")

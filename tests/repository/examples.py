@@ -1,12 +1,12 @@
 #!/usr/bin/env python3
 """Looks whether a test runs each example in the documentation: the lines between two ``` of a `///` comment stand one behind another in
 a file of a crate of tests, crates/NAME_tests. Prints 'N passed, M failed' last.
-Usage: tests/examples.py"""
+Usage: tests/run examples"""
 import pathlib
 import re
 import sys
 
-CRATES = pathlib.Path(__file__).resolve().parent.parent / 'crates'
+CRATES = pathlib.Path(__file__).resolve().parents[2] / 'crates'
 
 
 def sources(crates):

@@ -4,7 +4,7 @@ gets. At every stop, after each call and within each write, the image has to sta
 by the independent reading beside this file, and once the batch is answered only for that after it. The reading has to tell the
 faults of images put together by hand, and bugs planted in the calls have to be found. Prints a line for each part, the first
 case of a part that is wrong, and last 'N passed, M failed'.
-Usage: disks.py COMMAND..."""
+Usage: tests/run disks COMMAND..."""
 import collections
 import random
 import subprocess

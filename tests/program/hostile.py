@@ -2,7 +2,7 @@
 """Runs a program on hostile input (the modules of streams) and compares each answer with the
 independent reading beside this file. Prints a line for each kind of input, the first difference of a
 kind that fails, and last 'N passed, M failed' (streams compared).
-Usage: hostile.py COMMAND..."""
+Usage: tests/run hostile COMMAND..."""
 import itertools
 import subprocess
 import sys

@@ -3,7 +3,7 @@
 (file_cases.py). It has to tell the fault that the independent reading beside this file finds, or that the case names, with its
 status, and `show` has to write nothing. Prints the seed, a line for each part, the first cases that fail, and last 'N passed, M
 failed'.
-Usage: hostile_disks.py PROGRAM [--seed N]"""
+Usage: tests/run hostile_disks PROGRAM [--seed N]"""
 import random
 
 import file_cases

@@ -4,7 +4,7 @@ which have every form. Each run has to answer as the independent reading beside 
 most one line answered by want of memory and what follows as if that line had not come; or it ends before
 its first line with `fault: memory` and status 5. The first run in which no answer changed and the
 two after it end the test. Prints 'N passed, M failed' last.
-Usage: growths.py PROGRAM (the program itself, not a script that starts it; a proved build by either
+Usage: tests/run growths PROGRAM (the program itself, not a script that starts it; a proved build by either
 compiler. What `rt try` builds has a heap of its own, which nothing preloaded can refuse, and is kept in no
 file: its own --fail-alloc N refuses one allocation, and compiles it anew, a minute, for each N)"""
 import collections
