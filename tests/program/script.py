@@ -1,7 +1,7 @@
 #!/usr/bin/env python3
 """Tests the script ./tetra-switch in a copy of the repository without sources, with a stand-in for `rt` that writes down what it is
-called for: each crate is built after those below it, as many at a time as there are processors; a failure ends it; words that it does
-not take. Prints 'N passed, M failed' last.
+called for: the program and all below it are built once, in as many lanes as there are processors; a failure ends it with the last
+messages; words that it does not take. Prints 'N passed, M failed' last.
 Usage: tests/run script"""
 import os
 import pathlib
@@ -14,13 +14,11 @@ from testing import Count
 
 TOP = pathlib.Path(__file__).resolve().parents[2]
 RT = """#!/usr/bin/env bash
-name=${PWD##*/}
-echo "begins $name $*" >>"$LOG"
-sleep 0.2
-[ "$name" != "${FAILS:-}" ] || { echo 'this one fails'; exit 1; }
-[ "$name" != tetra_switch ] || printf '#!/bin/sh\\necho "$@"\\n' >out/tetra_switch && chmod +x out/* 2>/dev/null
-echo "ends $name" >>"$LOG"
+echo "${PWD##*/} $*" >>"$LOG"
+[ "$1" != "${FAILS:-}" ] || { echo 'this one fails'; exit 1; }
+[ "$1" != run ] || { printf '#!/bin/sh\\necho "$@"\\n' >out/tetra_switch; chmod +x out/tetra_switch; }
 """
+BUILD = [f'tetra_switch all check --jobs {os.cpu_count()}', 'tetra_switch run --jobs 1']
 
 
 class Copy:
@@ -28,10 +26,8 @@ class Copy:
 
     def __init__(self, folder):
         self.folder, self.log = pathlib.Path(folder), pathlib.Path(folder) / 'log'
-        for name in ('tetra-switch', 'crates.txt'):
-            shutil.copy(TOP / name, self.folder)
-        for crate in (TOP / 'crates').iterdir():
-            (self.folder / 'crates' / crate.name).mkdir(parents=True)
+        shutil.copy(TOP / 'tetra-switch', self.folder)
+        (self.folder / 'crates/tetra_switch').mkdir(parents=True)
         (self.folder / 'bin').mkdir()
         (self.folder / 'bin/rt').write_text(RT)
         (self.folder / 'bin/rt').chmod(0o755)
@@ -41,45 +37,27 @@ class Copy:
         self.log.write_text('')
         env = {**os.environ, 'PATH': f"{self.folder / 'bin'}:{os.environ['PATH']}", 'LOG': str(self.log), **more}
         ran = subprocess.run([self.folder / 'tetra-switch', *words], env=env, capture_output=True, text=True, stdin=subprocess.DEVNULL, timeout=60)
-        return ran.returncode, ran.stdout, ran.stderr.splitlines(), [line.split() for line in self.log.read_text().splitlines()]
+        return ran.returncode, ran.stdout, ran.stderr.splitlines(), self.log.read_text().splitlines()
 
 
-def below():
-    """What each crate of the repository stands on, by the file that says so."""
-    lines = [line.partition('#')[0].partition(':') for line in (TOP / 'crates.txt').read_text().splitlines()]
-    found = {name.split()[0]: low.split() for name, _, low in lines if name.strip()}
-    return {name: [it for it in low if it in found] for name, low in found.items()}
-
-
-def in_order(copy):
-    status, out, said, calls = copy.run('one', 'two')
-    compare('status and output', (status, out), (0, 'one two\n'))
-    stands_on, ended, at_work, most = below(), set(), set(), 0
-    for what, name, *words in calls:
-        if what == 'begins':
-            compare(f'what {name} stands on and is not built', [it for it in stands_on[name] if it not in ended], [])
-            compare(f'the words for {name}', words, ['run' if name == 'tetra_switch' else 'lib', '--jobs', '1'])
-            at_work.add(name)
-        else:
-            ended.add(name)
-            at_work.discard(name)
-        most = max(most, len(at_work))
-    compare('crates built twice', len(ended), len([it for it in calls if it[0] == 'ends']))
-    compare('crates that are not told', sorted(f'tetra-switch: proving {it}' for it in ended), sorted(said))
-    compare('the program is built last', calls[-1], ['ends', 'tetra_switch'])
-    compare('too many at a time', most <= os.cpu_count(), True)
-
-
-def built_once(copy):
+def builds(copy):
+    compare('the first call', copy.run('one', 'two'), (0, 'one two\n', ['tetra-switch: proving the program and the crates below it'], BUILD))
     compare('a second call', copy.run('again'), (0, 'again\n', [], []))
 
 
-def failing(copy):
-    (copy.folder / 'crates/tetra_switch/out/tetra_switch').unlink()
-    status, out, said, calls = copy.run(FAILS='mailbox')
-    compare('status and output', (status, out), (70, ''))
-    compare('the last lines', said[-2:], ['this one fails', 'tetra-switch: mailbox is not built'])
-    compare('begun above it', [it for it in calls if it[1] == 'centre_core'], [])
+def builds_anew(copy):
+    (copy.folder / 'crates/tetra_switch/newer.rt').touch()
+    os.utime(copy.folder / 'crates/tetra_switch/out/tetra_switch', (0, 0))
+    compare('a call after a change', copy.run('changed')[3], BUILD)
+    (copy.folder / 'crates/tetra_switch/newer.rt').unlink()
+
+
+def fails(copy):
+    for call, calls in (('all', BUILD[:1]), ('run', BUILD)):
+        (copy.folder / 'crates/tetra_switch/out/tetra_switch').unlink(missing_ok=True)
+        status, out, said, called = copy.run(FAILS=call)
+        compare('status, output and calls', (status, out, called), (70, '', calls))
+        compare('the last lines', said[-2:], ['this one fails', 'tetra-switch: the program is not built'])
 
 
 def words(copy):
@@ -93,7 +71,7 @@ def main():
     count = Count()
     with tempfile.TemporaryDirectory() as folder:
         copy = Copy(folder)
-        for case in (in_order, built_once, failing, words):
+        for case in (builds, builds_anew, fails, words):
             count.case(case.__name__, case, copy)
     count.end()
 
