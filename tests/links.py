@@ -25,8 +25,9 @@ OUTSIDE = re.compile(r'rattle-kit-\w+|/.*|man|mcc-mnc-ssi/len')
 REMARK = {'.rt': '//.*', '.antt': r'(?m:^| )--\s.*', '.py': '#.*|(?s:""".*?""")'}
 
 
-def defined(text):
-    return {name for one in DEFINES.finditer(text) for name in one.groups() if name}
+@functools.cache
+def defined(path):
+    return {name for one in DEFINES.finditer(CODE[path]) for name in one.groups() if name}
 
 
 @functools.cache
@@ -34,7 +35,7 @@ def names():
     """Every name that the code has, without its comments; files, folders and crates too."""
     found = {part for path in CODE for part in (path.stem, path.parent.name)}
     for path, text in CODE.items():
-        if path.suffix in REMARK or path.parent.name == 'tests' or path.name == 'crates.txt':
+        if path.suffix in REMARK or path.parts[len(TOP.parts)] in ('tests', 'bench', 'crates.txt'):
             found |= set(re.findall(r'\w+', re.sub(REMARK.get(path.suffix, '#.*'), '', text)))
     return found
 
@@ -52,7 +53,7 @@ def words():
 def holds(owner, name):
     """Whether a file of this crate or module, or one that has this type's items, defines the name."""
     head = re.compile(rf'\b(?:impl|enum|trait|struct|mod)\b[^\n;]*\b{owner}\b')
-    return any(name in defined(text) for path, text in CODE.items() if path.suffix == '.rt'
+    return any(name in defined(path) for path, text in CODE.items() if path.suffix == '.rt'
                and (owner in (path.stem, path.relative_to(TOP).parts[1], path.parent.name) or head.search(text)))
 
 
