@@ -53,11 +53,14 @@ def the_sample(place):
     place.gives(['show', 'd.img', 'where', '234-14-2001'], 0, WHERE)
 
 
-def the_example(place):
-    """The first thing in README.md is what examples/disk.sh prints."""
-    told = subprocess.run([TOP / 'examples' / 'disk.sh', *place.command], capture_output=True, timeout=60)
-    compare('standard error', told.stderr, b'')
-    compare('the example', told.stdout, (TOP / 'README.md').read_bytes().split(b'```')[1].lstrip(b'\n'))
+def the_readme(place):
+    """The first commands of README.md, in a folder with examples/: each prints what README.md shows."""
+    place.path('examples').symlink_to(TOP / 'examples')
+    block = (TOP / 'README.md').read_text().split('```')[1]
+    commands = re.findall(r'^\$ \./tetra-switch (.*)\n((?:[^$].*\n)+)', block, re.M)
+    compare('commands', [words.split(' ')[0] for words, _ in commands], ['format', 'run', 'show'])
+    for words, shown in commands:
+        place.gives(words.split(' '), 0, shown.encode())
 
 
 def what_is_shown(place):
@@ -296,7 +299,7 @@ def memory_that_ends_between(place):
 
 
 CASES = [
-    the_sample, the_example, what_is_shown, lines_without_trouble_and_with, a_long_file, wrong_words, help_and_version, bad_settings, bad_geometry, settings_that_can_not_be_read,
+    the_sample, the_readme, what_is_shown, lines_without_trouble_and_with, a_long_file, wrong_words, help_and_version, bad_settings, bad_geometry, settings_that_can_not_be_read,
     a_disk_that_can_not_be_made, no_room_for_a_disk, nowhere_to_say_it, disks_that_can_not_be_opened,
     hostile_disks, files_that_can_not_be_read, the_order_of_faults, no_memory, memory_that_ends_between,
 ]

@@ -1,5 +1,5 @@
 #!/usr/bin/env python3
-"""An independent reading of the written rules (docs/DEFINITIONS.md), in another language and by
+"""An independent reading of the written rules (docs/proofs/definitions.md), in another language and by
 another road than the program: texts by regular expressions, bits as strings of 0 and 1, the state
 as dictionaries. It answers command lines as `tetra-switch` has to.
 Usage: tests/run reading [STATION] < lines > answers (exit status 1 where an answer was troubled)"""

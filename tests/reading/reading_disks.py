@@ -1,4 +1,4 @@
-"""An independent reading of whole disks, from docs/FORMATS.md alone: what an image stands for, or its first fault. An image is a
+"""An independent reading of whole disks, from docs/formats/disk.md alone: what an image stands for, or its first fault. An image is a
 list of sectors of 512 bytes; rows are read by reading_rows.py, and the rules of the register are those of reading.py."""
 import collections
 import functools

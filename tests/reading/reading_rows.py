@@ -1,4 +1,4 @@
-"""An independent reading of the rows that a register is kept as, from docs/FORMATS.md alone, and their writing. A register is as
+"""An independent reading of the rows that a register is kept as, from docs/formats/disk.md alone, and their writing. A register is as
 reading.py has it, its identities and prefixes as strings of 0 and 1; a row is a sector of 512 bytes."""
 import collections
 import functools

@@ -10,7 +10,7 @@ const SAMPLE: [u32; 5] = [16, 16, 256, 4, 39];
 const HELD: [(&str, [u32; 5]); 7] = [
     // examples/settings.toml, and its five lines alone.
     (
-        "# What a disk is made for (docs/FORMATS.md, \"Settings\").\nrules = 16     # rules that the register holds\nradios = 16    # radios\nmail = 256     # waiting messages and reports\nstations = 4   # stations\njournal = 39   # sectors in each half of the journal\n",
+        "# What a disk is made for (docs/formats/disk.md, \"Settings\").\nrules = 16     # rules that the register holds\nradios = 16    # radios\nmail = 256     # waiting messages and reports\nstations = 4   # stations\njournal = 39   # sectors in each half of the journal\n",
         SAMPLE,
     ),
     (

@@ -3,14 +3,14 @@
 backquotes that looks like an item of the code (snake_case, CamelCase) is one that the code has, and `a::b` is defined in a. Each
 other word in backquotes occurs in code, scripts or tests. No source, script or test names a document that does not exist.
 Prints what fails, and last 'N passed, M failed'.
-Usage: tests/links.py [DOCUMENT..]"""
+Usage: tests/run links [DOCUMENT..]"""
 import functools
 import pathlib
 import re
 import subprocess
 import sys
 
-TOP = pathlib.Path(__file__).resolve().parent.parent
+TOP = pathlib.Path(__file__).resolve().parents[2]
 TRACKED = [TOP / name for name in subprocess.run(['git', 'ls-files', '-co', '--exclude-standard'], cwd=TOP, check=True,
                                                  stdout=subprocess.PIPE, text=True).stdout.split('\n') if name]
 FILES = [path for path in TRACKED if path.is_file()]
