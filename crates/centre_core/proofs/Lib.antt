@@ -17,6 +17,7 @@ pub mod UpdateLaws
 pub mod ReplyLaws
 pub mod RepliesSay
 pub mod InTurnLaws
+pub mod JoinedLaws
 pub mod EntriesLaws
 pub mod PduRanges
 pub mod RangeLaws

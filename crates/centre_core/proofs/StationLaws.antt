@@ -11,7 +11,7 @@ use Rattle.centre_core.specs.State.{State}
 use Rattle.centre_core.specs.Step.{step, is_station, last_at}
 use Rattle.centre_core.specs.History.{is_acceptance, accepts, next}
 use Rattle.centre_core.specs.Histories.{reply_pdu, accepted_by}
-use Rattle.centre_core.specs.Laws.{AcceptedAreLast}
+use Rattle.centre_core.specs.Laws.{AcceptedAreLast, AcceptedHaveRoom}
 use Rattle.centre_core.proofs.StepLaws.{Advanced, Outcome, says}
 
 -- there is a place for each station
@@ -85,3 +85,6 @@ module _ {A : Type 0} where
 
 pub accepted_are_last : {A : Type 0} → AcceptedAreLast A
 accepted_are_last s state c ok station = kept_next s c state.stations ok station
+
+pub accepted_have_room : {A : Type 0} → AcceptedHaveRoom A
+accepted_have_room s c ok = (advanced s c ok).0.numbers_left

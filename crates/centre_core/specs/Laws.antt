@@ -1,5 +1,5 @@
 -- What holds of the register over all commands and lists of commands.
-use Rattle.std.specs.Prelude.{◌≡◌, ◌+◌, ◌↔◌, ◌⊎◌, IsTrue, Bool, false, List, ◌∷◌, ◌++◌, length, map, Option, Some, None}
+use Rattle.std.specs.Prelude.{◌≡◌, ◌+◌, ◌<◌, ◌↔◌, ◌⊎◌, IsTrue, Bool, false, List, ◌∷◌, ◌++◌, length, map, Option, Some, None}
 use Rattle.std.specs.List.{Contains}
 use Rattle.mm_pdus.specs.declared.update.LocationUpdateType.{LocationUpdateType}
 use Rattle.mm_pdus.specs.declared.update.AcceptType.{AcceptType}
@@ -13,7 +13,7 @@ use Rattle.mailbox.specs.Values.{Item, Mailed}
 use Rattle.mailbox.specs.Item.{is_message}
 use Rattle.centre_core.specs.declared.command.Command.{Command}
 use Rattle.centre_core.specs.declared.reply.Reply.TheVariants.{Accepted, Kept}
-use Rattle.centre_core.specs.State.{State, IsState, empty}
+use Rattle.centre_core.specs.State.{State, IsState, last_number, empty}
 use Rattle.centre_core.specs.Ranges.{InRange}
 use Rattle.centre_core.specs.StateRanges.{StateInRange}
 use Rattle.centre_core.specs.Step.{step, accept_pdu, last_at}
@@ -79,6 +79,10 @@ module _ (A : Type 0) where
       → IsTrue (accepts (after s bs) c)
       → Contains (made (after s bs) c) m
       → (¬ Waits (after s (bs ++ c ∷ cs)) m) ↔ IsTrue (ended (next (after s bs) c) cs m)
+
+  -- a state that accepts a command has a number left for it
+  abbrev pub AcceptedHaveRoom : Type 0
+  AcceptedHaveRoom = (s : State) (c : Command A) → IsTrue (accepts s c) → s.count < last_number
 
   -- what an accepted command is answered is kept of its station, and of the others what was kept of them
   abbrev pub AcceptedAreLast : Type 0

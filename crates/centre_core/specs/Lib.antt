@@ -11,3 +11,5 @@ pub mod Histories
 pub mod Same
 pub mod Laws
 pub mod InTurn
+pub mod Batches
+pub mod Joined

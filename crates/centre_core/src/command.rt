@@ -75,6 +75,16 @@ impl<A: Allocator> Command<A> {
         })
     }
 
+    /// Whether the two are one command: all four parts are equal.
+    pub fn same(&self, other: &Command<A>) -> bool
+        ensures { IsTrue result ↔ (self.now ≡ other.now) }
+    {
+        self.station == other.station
+            && self.sequence == other.sequence
+            && self.moment == other.moment
+            && self.body.same(&other.body)
+    }
+
     // What its fields keep, as a clause.
     pub(crate) fn hold_ranges(&self)
         ensures { InRange self.now }
@@ -124,6 +134,59 @@ pub enum Body<A: Allocator> {
 }
 
 impl<A: Allocator> Body<A> {
+    /// Whether the two ask the same, with the same bits.
+    pub fn same(&self, other: &Body<A>) -> bool
+        ensures { IsTrue result ↔ (self.now ≡ other.now) }
+    {
+        match (self, other) {
+            (Body::RuleSet { prefix, rule }, Body::RuleSet { prefix: p, rule: r }) => {
+                prefix.same(p) && rule == r
+            }
+            (Body::RuleClear { prefix }, Body::RuleClear { prefix: p }) => prefix.same(p),
+            (Body::Sent(key), Body::Sent(k)) => key == k,
+            (Body::Delete(key), Body::Delete(k)) => key == k,
+            (Body::Expire, Body::Expire) => true,
+            _ => self.same_from_radio(other),
+        }
+    }
+
+    // Whether both are from a radio, and the same.
+    fn same_from_radio(&self, other: &Body<A>) -> bool
+        ensures { IsTrue result ↔ (IsSome (pdu_of self.now) × (self.now ≡ other.now)) }
+    {
+        match (self, other) {
+            (
+                Body::Mm { itsi, area, pdu },
+                Body::Mm {
+                    itsi: i,
+                    area: a,
+                    pdu: p,
+                },
+            ) => itsi == i && area == a && pdu.same(p),
+            (
+                Body::Sds {
+                    source,
+                    destination,
+                    pdu,
+                },
+                Body::Sds {
+                    source: s,
+                    destination: d,
+                    pdu: p,
+                },
+            ) => source == s && destination == d && pdu.same(p),
+            (
+                Body::GroupSds { source, group, pdu },
+                Body::GroupSds {
+                    source: s,
+                    group: g,
+                    pdu: p,
+                },
+            ) => source == s && group == g && pdu.same(p),
+            _ => false,
+        }
+    }
+
     // Whether its PDU, if it has one, has at most 2,048 bits: then all of it is in range.
     fn is_short(&self) -> bool
         ensures short { IsTrue result ↔ IsShort (pdu_of self.now) }

@@ -6,10 +6,10 @@ mod in_turn;
 ghost use Rattle.centre_core.specs.Ranges.{InRange};
 ghost use Rattle.centre_core.specs.State.{IsState};
 ghost use Rattle.centre_core.specs.StateRanges.{StateInRange};
-ghost use Rattle.centre_core.specs.Laws.{AcceptedAreAnswered, AcceptedAreNumbered, AcceptedAreLast, HistoriesAreNumbered, LastAcceptedAreLast, SameAgain, NamesAreSame, AcceptsAreSame, AfterIsSame, FreshIsSame, HistoriesAreSame, StepIsSame, EmptyIsState, NextIsState, EmptyIsInRange, NextIsInRange, NoneLost, NoneLostMade, OnlyAcceptedChange, StepIsNext, ResendsAreAnswered, ResendsAreIdle};
+ghost use Rattle.centre_core.specs.Laws.{AcceptedAreAnswered, AcceptedAreNumbered, AcceptedAreLast, AcceptedHaveRoom, HistoriesAreNumbered, LastAcceptedAreLast, SameAgain, NamesAreSame, AcceptsAreSame, AfterIsSame, FreshIsSame, HistoriesAreSame, StepIsSame, EmptyIsState, NextIsState, EmptyIsInRange, NextIsInRange, NoneLost, NoneLostMade, OnlyAcceptedChange, StepIsNext, ResendsAreAnswered, ResendsAreIdle};
 
 use crate::{Command, Register};
-pub use in_turn::{accepted_in_turn, replies_say};
+pub use in_turn::{accepted_in_turn, batches, joined_lists, prefixes, replies_say};
 use std::alloc::Allocator;
 
 /// What holds of every state holds of the empty one, and a command keeps it.
@@ -54,6 +54,11 @@ pub fn step_is_next<A: Allocator, B: Allocator>()
 pub fn replies<A: Allocator, B: Allocator>()
     ensures numbered { AcceptedAreNumbered A B }
     ensures again { ResendsAreAnswered A B }
+{}
+
+/// A command is accepted only where a number is left for it: fewer than 2^62 commands were accepted before.
+pub fn accepted_have_room<A: Allocator>()
+    ensures { AcceptedHaveRoom A }
 {}
 
 /// What an accepted command is answered is kept of its station until the station's next accepted one.

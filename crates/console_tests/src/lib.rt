@@ -22,4 +22,6 @@ mod limits;
 #[cfg(test)]
 mod parts;
 #[cfg(test)]
+mod same;
+#[cfg(test)]
 mod small_heaps;

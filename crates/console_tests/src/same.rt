@@ -1,0 +1,104 @@
+//! Whether two commands are the same.
+
+use crate::answered::command;
+use std::alloc::Global;
+use std::test::Fail;
+
+/// Commands that differ in one part from another one of the list.
+const COMMANDS: &str = "7 100 expire
+8 100 expire
+7 101 expire
+7 100 rule 234-14-0/24 1 99 1 3600
+7 100 rule 234-14-0/23 1 99 1 3600
+7 100 rule 234-14-0/24 2 99 1 3600
+7 100 rule 234-14-0/24 1 98 1 3600
+7 100 rule 234-14-0/24 1 99 2 3600
+7 100 rule 234-14-0/24 1 99 1 3601
+7 100 unrule 234-14-0/24
+7 100 unrule 234-14-0/25
+7 100 mm 234-14-2001 7 10:260
+7 100 mm 234-14-2002 7 10:260
+7 100 mm 234-14-2001 8 10:260
+7 100 mm 234-14-2001 7 10:264
+7 100 mm 234-14-2001 7 11:260
+7 100 sds 234-14-2001 234-14-2002 8:82
+7 100 sds 234-14-2003 234-14-2002 8:82
+7 100 sds 234-14-2001 234-14-2003 8:82
+7 100 sds 234-14-2001 234-14-2002 8:83
+7 100 gsds 234-14-2001 234-14-2002 8:82
+7 100 gsds 234-14-2003 234-14-2002 8:82
+7 100 gsds 234-14-2001 234-14-2003 8:82
+7 100 gsds 234-14-2001 234-14-2002 8:83
+7 100 sent 234-14-2001 234-14-2002 5 m
+7 100 sent 234-14-2003 234-14-2002 5 m
+7 100 sent 234-14-2001 234-14-2003 5 m
+7 100 sent 234-14-2001 234-14-2002 6 m
+7 100 sent 234-14-2001 234-14-2002 5 r
+7 100 delete 234-14-2001 234-14-2002 5 m
+7 100 delete 234-14-2003 234-14-2002 5 m
+7 100 delete 234-14-2001 234-14-2003 5 m
+7 100 delete 234-14-2001 234-14-2002 6 m
+7 100 delete 234-14-2001 234-14-2002 5 r";
+
+/// Whether the two lines of these stations spell the same command.
+fn is_same(alloc: Global, (one, of): (&str, u16), (other, by): (&str, u16)) -> Result<bool, Fail> {
+    let one = command(alloc, of, one)?;
+    let other = command(alloc, by, other)?;
+    Ok(one.same(&other))
+}
+
+/// Whether what the two lines ask is the same.
+fn asks_same(alloc: Global, one: &str, other: &str) -> Result<bool, Fail> {
+    let one = command(alloc, 4, one)?;
+    let other = command(alloc, 5, other)?;
+    Ok(one.body.same(&other.body))
+}
+
+/// Whether the line spells the command at its place in the list, and no other one.
+fn is_one(alloc: Global, place: usize, line: &str) -> Result<bool, Fail> {
+    for (at, other) in COMMANDS.lines().enumerate() {
+        if is_same(alloc, (line, 4), (other, 4))? != (at == place) {
+            return Ok(false);
+        }
+    }
+    Ok(true)
+}
+
+/// Whether each command of the list is the same as itself, and as no other one.
+fn are_apart(alloc: Global) -> Result<bool, Fail> {
+    for (place, line) in COMMANDS.lines().enumerate() {
+        if !is_one(alloc, place, line)? {
+            return Ok(false);
+        }
+    }
+    Ok(true)
+}
+
+#[test]
+fn a_command_is_the_same_as_itself_alone(rt: HostRuntime) -> Result<(), Fail> {
+    let alloc = rt.alloc();
+    assert!(rt; are_apart(alloc)?);
+    assert!(rt; !is_same(alloc, ("7 100 expire", 4), ("7 100 expire", 5))?);
+    Ok(())
+}
+
+#[test]
+fn a_body_is_the_same_under_another_head(rt: HostRuntime) -> Result<(), Fail> {
+    let alloc = rt.alloc();
+    assert!(rt; asks_same(alloc, "7 100 expire", "8 101 expire")?);
+    assert!(rt;
+        asks_same(
+            alloc,
+            "7 100 mm 234-14-2001 7 10:260",
+            "8 101 mm 234-14-2001 7 10:260"
+        )?
+    );
+    assert!(rt;
+        !asks_same(
+            alloc,
+            "7 100 mm 234-14-2001 7 10:260",
+            "7 100 mm 234-14-2001 7 10:264"
+        )?
+    );
+    Ok(())
+}
