@@ -28,9 +28,12 @@ pub struct HostFile {
 impl HostFile {
     ghost use Rattle.sector_disk.specs.Disk.{HasCause};
     ghost use Rattle.file_disk.specs.File.{moved, one_more};
-    ghost use Rattle.file_disk.specs.Host.{host_view};
+    ghost use Rattle.file_disk.specs.Host.{host_turns, host_view};
 
-    pub(crate) fn new(file: File) -> HostFile {
+    // Nothing was read or written yet.
+    pub(crate) fn new(file: File) -> HostFile
+        ensures { host_turns result ≡ 0 }
+    {
         HostFile {
             file,
             turns: 0,

@@ -9,7 +9,8 @@ use std::os::fd::AsRawFd;
 use std::path::Path;
 
 impl FileDisk<HostFile> {
-    ghost use Rattle.file_disk.specs.Disk.{IsNew, blank_calls, calls_of, is_lost};
+    ghost use Rattle.file_disk.specs.Disk.{IsNew, blank_calls, calls_of, file_of, is_lost};
+    ghost use Rattle.file_disk.specs.Host.{host_turns};
 
     /// Makes a file of that many sectors of zeros, and keeps it locked. A file that exists is `NotOpened`.
     ///
@@ -48,6 +49,7 @@ impl FileDisk<HostFile> {
     /// Where an earlier sync of the file has failed, reads may give what the device does not hold (`HostFile` says why).
     pub fn adopt<R: Files<File = File>>(rt: &R, path: &str) -> Result<Self, FileFault>
         ensures new { IfOk result IsNew }
+        ensures untouched { IfOk result (λ disk. host_turns (file_of disk) ≡ 0) }
     {
         FileDisk::over(HostFile::new(open_locked(rt, path, false)?))
     }
