@@ -1,7 +1,9 @@
 /* Preloaded into a program by recorder.py. It writes down to the file RECORD what is done with the file DISK, once the call has
-   succeeded: `w`, offset and length and the bytes of each write, `p`, offset and 0 of each read, and `s` for each sync. The FAILS-th
-   of these calls, from 1, fails and does nothing, which is `f`. It lets a read of the file LINES have one line at most, and writes
-   down, before the read, `r`, how many whole lines were read so far, and 0. Numbers have 8 bytes, in this machine's order. */
+   succeeded: `w`, offset and length and the bytes of each write, `p`, offset and 0 of each read, `t`, the length that the file is
+   given, and 0, and for each sync `s` (fdatasync) or `a` (fsync); `d` is an fsync of the folder FOLDER. The FAILS-th of these calls,
+   from 1, fails and does nothing, which is `f`. It lets a read of the file LINES have one line at most, and writes down, before the
+   read, `r`, how many whole lines were read so far, and 0; where these are BREAKS or more, and BREAKS is not 0, the read fails.
+   Numbers have 8 bytes, in this machine's order. */
 #define _GNU_SOURCE
 #include <errno.h>
 #include <fcntl.h>
@@ -41,7 +43,7 @@ static int fails(int fd)
 {
     static long left;
     static int is_known;
-    if (!is_file(fd, "DISK"))
+    if (!is_file(fd, "DISK") && !is_file(fd, "FOLDER"))
         return 0;
     if (!is_known)
         left = atol(getenv("FAILS"));
@@ -83,24 +85,41 @@ ssize_t pread64(int fd, void *bytes, size_t length, off_t offset)
     return pread(fd, bytes, length, offset);
 }
 
-static int synced(int fd, long number)
+int ftruncate(int fd, off_t length)
+{
+    if (fails(fd))
+        return -1;
+    int result = syscall(SYS_ftruncate, fd, length);
+    if (result == 0 && is_file(fd, "DISK"))
+        note('t', length, 0, "", 0);
+    return result;
+}
+
+int ftruncate64(int fd, off_t length)
+{
+    return ftruncate(fd, length);
+}
+
+static int synced(int fd, long number, char kind)
 {
     if (fails(fd))
         return -1;
     int result = syscall(number, fd);
     if (result == 0 && is_file(fd, "DISK"))
-        note('s', 0, 0, "", 0);
+        note(kind, 0, 0, "", 0);
+    if (result == 0 && is_file(fd, "FOLDER"))
+        note('d', 0, 0, "", 0);
     return result;
 }
 
 int fdatasync(int fd)
 {
-    return synced(fd, SYS_fdatasync);
+    return synced(fd, SYS_fdatasync, 's');
 }
 
 int fsync(int fd)
 {
-    return synced(fd, SYS_fsync);
+    return synced(fd, SYS_fsync, 'a');
 }
 
 static ssize_t read_line(int fd, char *bytes, size_t length)
@@ -108,6 +127,10 @@ static ssize_t read_line(int fd, char *bytes, size_t length)
     static uint64_t lines;
     size_t have = 0;
     note('r', lines, 0, "", 0);
+    if (lines >= (uint64_t)atol(getenv("BREAKS")) && atol(getenv("BREAKS")) > 0) {
+        errno = EIO;
+        return -1;
+    }
     while (have < length && (have == 0 || bytes[have - 1] != '\n')) {
         ssize_t got = syscall(SYS_read, fd, bytes + have, 1);
         if (got <= 0)

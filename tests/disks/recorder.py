@@ -1,7 +1,8 @@
-"""What the program does with its disk file while it serves a station's file, written down by record.c, which is compiled and
-preloaded; and one of these calls failing."""
+"""What the program does with its disk file, written down by record.c, which is compiled and preloaded; and one of these calls
+failing, or a read of the station's file."""
 import collections
 import contextlib
+import os
 import pathlib
 import struct
 
@@ -14,8 +15,8 @@ SOURCE = pathlib.Path(__file__).resolve().parent / 'record.c'
 RECORD = 'record'
 HEAD = struct.Struct('=cQQ')
 
-# What the program did: a write of these bytes from an offset on, a read, a sync, a call that failed, or that it asked for a line,
-# having read so many
+# What the program did: a write of these bytes from an offset on, a read, a sync, a length given, the folder synced, a call that
+# failed, or that it asked for a line, having read so many
 Done = collections.namedtuple('Done', 'kind number bytes', defaults=[0, b''])
 
 
@@ -35,13 +36,19 @@ class Recorder:
     def __init__(self, place, made):
         self.place, self.made = place, made
 
+    def does(self, words, status, out=b'', err=b'', fails=0, breaks=0, disk=DISK):
+        """What the program does with this disk file, once what it writes is compared. The call of one number fails, from 1; and
+        the read of the station's file behind so many lines."""
+        self.place.write(RECORD, b'')
+        names = {'RECORD': RECORD, 'DISK': disk, 'FOLDER': os.path.dirname(disk) or '.', 'LINES': LINES}
+        paths = {name: self.place.path(file) for name, file in names.items()}
+        how = preloading.environment(self.made, FAILS=fails, BREAKS=breaks, **paths)
+        self.place.gives(words, status, out, err, env=how)
+        return record_in(self.place.path(RECORD).read_bytes())
+
     def run(self, status, out, err=b'', fails=0):
         """What the program does while it serves the file, once its answers are compared; the call of that number fails, from 1."""
-        self.place.write(RECORD, b'')
-        names = {name: self.place.path(file) for name, file in {'RECORD': RECORD, 'DISK': DISK, 'LINES': LINES}.items()}
-        how = preloading.environment(self.made, FAILS=fails, **names)
-        self.place.gives(['run', DISK, LINES], status, out, err, env=how)
-        return record_in(self.place.path(RECORD).read_bytes())
+        return self.does(['run', DISK, LINES], status, out, err, fails)
 
 
 @contextlib.contextmanager
@@ -63,7 +70,7 @@ def writes(disk, done):
 
 def follow(disk, done):
     """Does to a disk what the program did to its file."""
-    if done.kind == 's':
+    if done.kind in ('s', 'a'):
         disk.call(SYNC)
     for write in writes(disk, done) if done.kind == 'w' else ():
         disk.call(write)

@@ -205,6 +205,18 @@ def bytes_one_by_one(command):
     os.close(read)
 
 
+def many_pieces(command):
+    """4,500 of them, each written when the one before was read."""
+    pieces, (read, write) = 4500, os.pipe()
+    with started(command, stdin=read, stdout=subprocess.PIPE) as program:
+        for _ in range(pieces):
+            os.write(write, b'count\n')
+            waits(lambda: not queued(read))
+        os.close(write)
+        compare('output', ends(program, 0), b'count 0\n' * pieces)
+    os.close(read)
+
+
 def lines_one_by_one(command):
     """Each line is answered, from its first byte to its last, before the next is sent."""
     text = EVERY_FORM + b'no such\n' + EXAMPLE.replace(b'\n', b'\r\n')
@@ -251,7 +263,7 @@ def output_that_takes_little(command):
 CASES = [
     the_example, the_readme, the_manual, no_line, a_bad_line, a_word, a_directory_to_read, closed_input, input_that_is_only_written,
     input_that_fails_behind_lines, closed_output, full_output, output_that_is_only_read, output_that_ends_between,
-    nowhere_to_tell_of_it, no_memory, bytes_one_by_one, lines_one_by_one, lines_in_parts, output_that_takes_little,
+    nowhere_to_tell_of_it, no_memory, bytes_one_by_one, many_pieces, lines_one_by_one, lines_in_parts, output_that_takes_little,
 ]
 
 

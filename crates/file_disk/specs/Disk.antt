@@ -1,9 +1,12 @@
 -- A disk over a file.
-use Rattle.std.specs.Prelude.{◌≡◌, ℕ, ◌<◌, Bool, false, [], replicate, Result, Ok, Err}
+use Rattle.std.specs.Prelude.{◌≡◌, ℕ, ◌<◌, Bool, false, List, [], ◌∷◌, ◌++◌, replicate, Result, Ok, Err}
 use Rattle.sector_disk.specs.Numbers.{Sector, Sectors}
 use Rattle.sector_disk.specs.Disk.{View, IsSound, one_failure_more, sector}
+use Rattle.sector_disk.specs.Run.{writes}
 use Rattle.sector_disk.specs.declared.disk.DiskError.{DiskError}
 use Rattle.sector_disk.specs.declared.disk.DiskError.TheVariants.{DiskFault, OutOfRange}
+use Rattle.sector_disk.specs.declared.record.Call.{Call}
+use Rattle.sector_disk.specs.declared.record.Call.TheVariants.{Sync}
 use Rattle.file_disk.specs.declared.disk.FileDisk.{FileDisk}
 
 -- The file's sectors, what of them is pending, and its moments; it is honest as the file is, where that has as many sectors.
@@ -26,6 +29,10 @@ file_sound view disk is same = record { count = rw (← same) is.count; reads_le
 abbrev pub file_of : {F : Type 0} → FileDisk F → F
 file_of disk = disk.file
 
+-- the calls `read`, `write` and `sync` that the disk has had, the last one last
+abbrev pub calls_of : {F : Type 0} → FileDisk F → List Call
+calls_of disk = disk.history.calls
+
 -- a sync has failed
 abbrev pub is_lost : {F : Type 0} → FileDisk F → Bool
 is_lost disk = disk.lost
@@ -46,6 +53,10 @@ pub record IsNew {F : Type 0} (disk : FileDisk F) : Type 0 where
   pub calls : disk.history.calls ≡ []
   pub failures : disk.failures ≡ 0
   pub lost : disk.lost ≡ false
+
+-- the calls that make a blank disk: zeros are written into each sector, in order, and then it is synced
+abbrev pub blank_calls : Sectors → List Call
+blank_calls sectors = writes 0 sectors (λ k. replicate 512 0) ++ Sync ∷ []
 
 -- an honest disk of so many sectors of zeros, which no stop takes back
 pub record IsBlank {F : Type 0} (view : F → View) (sectors : Sectors) (disk : FileDisk F) : Type 0 where

@@ -14,6 +14,9 @@ use sector_disk::{Disk, DiskError};
 ///
 /// A sector is read and written whole, in at most 1,024 calls of the file. After a sync that failed every call in range is
 /// a `DiskFault`: an operating system may have dropped what it could not write, and call the next sync good.
+///
+/// A new disk over the same file does not know of that sync. It reads what the file gives, and this need not be what the
+/// device holds.
 #[derive(Drop)]
 pub struct FileDisk<F> {
     file: F,
@@ -27,7 +30,7 @@ pub struct FileDisk<F> {
 
 impl<F: SectorFile> FileDisk<F> {
     ghost use Rattle.file_disk.specs.declared.fault.FileFault.TheVariants.{NotOpened};
-    ghost use Rattle.file_disk.specs.Disk.{IsBlank, IsNew, file_of, file_view, is_lost};
+    ghost use Rattle.file_disk.specs.Disk.{IsBlank, IsNew, blank_calls, calls_of, file_of, file_view, is_lost};
 
     /// The disk of a file as it stands: as many sectors as it has whole ones. A rest of its length is ignored.
     pub fn over(file: F) -> Result<Self, FileFault>
@@ -49,9 +52,11 @@ impl<F: SectorFile> FileDisk<F> {
         }
     }
 
-    /// The same, with zeros in each sector, which last.
+    /// The same, with zeros in each sector, which last. Each sector is written once, and then the file is synced.
     pub fn blank(file: F) -> Result<Self, FileFault>
         ensures blank { (F.view file).honest → IfOk result (IsBlank F.view (F.view file).sectors) }
+        ensures calls { IfOk result (λ disk. calls_of disk ≡ blank_calls disk.sectors) }
+        ensures failures { IfOk result (λ disk. disk.failures ≡ 0) }
         ensures kept { IfOk result (λ disk. is_lost disk ≡ false) }
         ensures refused { IsErrOf result NotOpened → ⊥ }
     {

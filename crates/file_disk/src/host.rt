@@ -12,6 +12,10 @@ use std::os::unix::fs::FileExt;
 /// What it gives and keeps nobody can prove, so it is never honest here: that it keeps what an honest file keeps is the
 /// premise under which a disk over it keeps what was written. `sync` is `fdatasync`: on Linux it answers once the kernel
 /// has written the file's bytes, and the device has said that it holds them. A device that says so too early keeps nothing.
+///
+/// Reads go through the page cache. After an `fdatasync` that failed, Linux can keep the pages that it could not write there,
+/// marked as written: reads give them, the next `fdatasync` answers `Ok`, and a power cut takes them back. The same holds for
+/// every later opening of the file, until the cache is dropped or the machine has started anew.
 #[derive(Drop)]
 pub struct HostFile {
     file: File,
@@ -24,9 +28,12 @@ pub struct HostFile {
 impl HostFile {
     ghost use Rattle.sector_disk.specs.Disk.{HasCause};
     ghost use Rattle.file_disk.specs.File.{moved, one_more};
-    ghost use Rattle.file_disk.specs.Host.{host_view};
+    ghost use Rattle.file_disk.specs.Host.{host_turns, host_view};
 
-    pub(crate) fn new(file: File) -> HostFile {
+    // Nothing was read or written yet.
+    pub(crate) fn new(file: File) -> HostFile
+        ensures { host_turns result ≡ 0 }
+    {
         HostFile {
             file,
             turns: 0,

@@ -9,7 +9,8 @@ use std::os::fd::AsRawFd;
 use std::path::Path;
 
 impl FileDisk<HostFile> {
-    ghost use Rattle.file_disk.specs.Disk.{IsNew, is_lost};
+    ghost use Rattle.file_disk.specs.Disk.{IsNew, blank_calls, calls_of, file_of, is_lost};
+    ghost use Rattle.file_disk.specs.Host.{host_turns};
 
     /// Makes a file of that many sectors of zeros, and keeps it locked. A file that exists is `NotOpened`.
     ///
@@ -22,6 +23,8 @@ impl FileDisk<HostFile> {
         sectors: u64,
     ) -> Result<Self, FileFault>
         ensures sectors { IfOk result (λ disk. disk.sectors ≡ sectors) }
+        ensures calls { IfOk result (λ disk. calls_of disk ≡ blank_calls sectors) }
+        ensures failures { IfOk result (λ disk. disk.failures ≡ 0) }
         ensures kept { IfOk result (λ disk. is_lost disk ≡ false) }
     {
         let Some(bytes) = sectors.checked_mul(512) else {
@@ -42,8 +45,11 @@ impl FileDisk<HostFile> {
     }
 
     /// Opens a file as it stands, and keeps it locked: as many sectors as it has whole ones. A rest of its length is ignored.
+    ///
+    /// Where an earlier sync of the file has failed, reads may give what the device does not hold (`HostFile` says why).
     pub fn adopt<R: Files<File = File>>(rt: &R, path: &str) -> Result<Self, FileFault>
         ensures new { IfOk result IsNew }
+        ensures untouched { IfOk result (λ disk. host_turns (file_of disk) ≡ 0) }
     {
         FileDisk::over(HostFile::new(open_locked(rt, path, false)?))
     }

@@ -3,6 +3,8 @@
 use crate::parts::pattern;
 use file_disk::{FileDisk, FileFault, HostFile};
 use sector_disk::{Disk, DiskError};
+use std::fs::{File, OpenOptions};
+use std::os::unix::fs::FileExt;
 use std::test::Fail;
 use std::{fs, io};
 
@@ -92,5 +94,78 @@ fn is_refused(rt: &HostRuntime) -> io::Result<bool> {
 #[test]
 fn what_is_no_file_is_refused(rt: HostRuntime) -> Result<(), Fail> {
     assert!(rt; is_refused(&rt)?);
+    Ok(())
+}
+
+/// How many sectors a disk of the greatest limits has.
+const GREATEST: u64 = 401_541;
+
+/// The first and the last sector of each of its parts: the label, the roots, the slots and the halves.
+const PLACES: [u64; 11] = [
+    0, 1, 2, 3, 135_235, 135_236, 270_468, 270_469, 336_004, 336_005, 401_540,
+];
+
+/// A sector that tells its place.
+fn telling(at: u64) -> [u8; 512] {
+    let mut bytes = [0xa5; 512];
+    bytes[..8].copy_from_slice(&at.to_be_bytes());
+    bytes
+}
+
+/// Makes a file of that length, of one hole.
+fn make_hole(rt: &HostRuntime, path: &str) -> io::Result<()> {
+    let made = OpenOptions::new()
+        .write(true)
+        .create_new(true)
+        .open(rt, path)?;
+    made.set_len(512 * GREATEST)
+}
+
+/// Each of the places is written.
+fn are_written(disk: &mut FileDisk<HostFile>) -> bool {
+    let mut written = true;
+    for at in PLACES {
+        written = written && disk.write(at, &telling(at)).is_ok();
+    }
+    written && disk.sync().is_ok() && disk.write(GREATEST, &[0; 512]) == Err(DiskError::OutOfRange)
+}
+
+/// Each is read as it was written.
+fn are_read(disk: &mut FileDisk<HostFile>) -> bool {
+    let mut read = true;
+    for at in PLACES {
+        let mut bytes = [0; 512];
+        read = read && disk.read(at, &mut bytes).is_ok() && bytes == telling(at);
+    }
+    read
+}
+
+/// The file has the bytes of each place there, as the file itself is read.
+fn are_there(rt: &HostRuntime, path: &str) -> io::Result<bool> {
+    let file = File::open(rt, path)?;
+    let mut there = file.metadata()?.len() == 512 * GREATEST;
+    for at in PLACES {
+        let mut bytes = [0; 512];
+        there = there && file.read_at(&mut bytes, 512 * at)? == 512 && bytes == telling(at);
+    }
+    Ok(there)
+}
+
+/// The greatest disk, in a file with holes.
+fn is_great(rt: &HostRuntime, path: &str) -> io::Result<bool> {
+    make_hole(rt, path)?;
+    let Ok(mut disk) = FileDisk::adopt(rt, path) else {
+        return Ok(false);
+    };
+    let kept = disk.sectors() == GREATEST && are_written(&mut disk) && are_read(&mut disk);
+    Ok(kept && are_there(rt, path)?)
+}
+
+#[test]
+fn a_great_disk_is_written_in_its_places(rt: HostRuntime) -> Result<(), Fail> {
+    let _ = fs::remove_file(&rt, "great.disk");
+    let great = is_great(&rt, "great.disk")?;
+    fs::remove_file(&rt, "great.disk")?;
+    assert!(rt; great);
     Ok(())
 }
