@@ -1,0 +1,125 @@
+//! The two ends of a channel.
+ghost use Rattle.std.specs.Prelude.{◌≡◌, true, false, [], ◌∷◌, ◌++◌, All, length, IfOk, MatchOption};
+ghost use mathlib.Core.List.{IsPrefix};
+ghost use Rattle.crossbeam_channel.specs.Claims.{view, IsSeatAt};
+ghost use Rattle.crossbeam_channel.specs.Ends.{sends_on, receives_on};
+ghost use Rattle.answers.specs.Views.{view_of, sent_of, received_of};
+ghost use Rattle.answers.specs.Sent.{HasSent, AreEnds};
+
+use crate::rule::{AnswerPass, Halves, Receives, ReceivingEnd, SendingEnd, Sends, Total};
+use crossbeam_channel::bounded_with;
+use std::alloc::{AllocError, Global};
+use std::sync::Wait;
+
+/// The end that sends answers to one session.
+#[derive(Drop)]
+pub struct AnswerSender<T: Drop> {
+    pub channel: SendingEnd<T>,
+    pub pass: AnswerPass<T>,
+    gone: bool,
+    pub ghost seat: { IsSeatAt (sends_on channel) pass },
+    pub ghost view_is: { view pass ≡ view_of true false (sent_of pass) [] },
+}
+
+/// The session's end.
+#[derive(Drop)]
+pub struct AnswerReceiver<T: Drop> {
+    pub channel: ReceivingEnd<T>,
+    pub pass: AnswerPass<T>,
+    pub ghost seat: { IsSeatAt (receives_on channel) pass },
+    pub ghost view_is: { view pass ≡ view_of false true [] (received_of pass) },
+}
+
+/// The two ends of a channel with room for one message. Nothing was sent yet.
+pub fn open_channel<T: Drop>(
+    alloc: Global,
+) -> Result<(AnswerSender<T>, AnswerReceiver<T>), AllocError>
+    ensures { IfOk result (λ r. AreEnds (sends_on r.0.channel) (receives_on r.1.channel) (sent_of r.0.pass) (received_of r.1.pass) r.0.gone) }
+{
+    let (sending, receiving, mut pass) = bounded_with(alloc, 1)?;
+    let other = sending.another::<Halves>(&mut pass);
+    Ok((
+        AnswerSender {
+            channel: sending,
+            pass,
+            gone: false,
+        },
+        AnswerReceiver {
+            channel: receiving,
+            pass: other,
+        },
+    ))
+}
+
+/// So many channels.
+pub fn open_channels<T: Drop>(
+    alloc: Global,
+    count: usize,
+) -> Result<Vec<(AnswerSender<T>, AnswerReceiver<T>)>, AllocError>
+    ensures count { IfOk result (λ v. length v.items ≡ count) }
+    ensures ends { IfOk result (λ v. All (λ r. AreEnds (sends_on r.0.channel) (receives_on r.1.channel) (sent_of r.0.pass) (received_of r.1.pass) r.0.gone) v.items) }
+{
+    let mut channels = Vec::with_capacity(alloc, count)?;
+    for _ in 0..count {
+        let ends = open_channel(alloc)?;
+        let Ok(()) = channels.push(ends) else {
+            return Err(AllocError);
+        };
+    }
+    Ok(channels)
+}
+
+impl<T: Drop> AnswerSender<T> {
+    /// Sends an answer, and waits while the channel is full. Where the session's end is gone, the answer is dropped, and
+    /// so is every later one.
+    pub fn send<R: Wait>(&mut self, rt: &R, answer: T)
+        ensures same { sends_on self.new.channel ≡ sends_on self.old.channel }
+        ensures sent { HasSent (sent_of self.old.pass) self.old.gone answer (sent_of self.new.pass) self.new.gone }
+    {
+        if self.gone {
+            return;
+        }
+        match self.channel.send_as::<Sends, R>(rt, &mut self.pass, answer) {
+            Ok(()) => {}
+            Err(_) => self.gone = true,
+        }
+    }
+
+    /// Whether an answer was dropped since the session's end is gone.
+    pub fn is_gone(&self) -> bool
+        ensures { result ≡ self.now.gone }
+    {
+        self.gone
+    }
+
+    /// Ends the channel. What the session received is a prefix of what was sent to it.
+    pub fn settle(self, receiver: AnswerReceiver<T>)
+        requires { receives_on receiver.channel ≡ sends_on self.channel }
+        ensures { IsPrefix (received_of receiver.pass) (sent_of self.pass) }
+    {
+        let AnswerSender {
+            channel,
+            mut pass,
+            gone: _,
+        } = self;
+        let AnswerReceiver {
+            channel: _,
+            pass: other,
+        } = receiver;
+        channel.absorb::<Halves>(&mut pass, other);
+        channel.learn_as::<Total>(&mut pass);
+    }
+}
+
+impl<T: Drop> AnswerReceiver<T> {
+    /// Waits for the next answer. `None` where the channel is empty and its sender gone.
+    pub fn receive<R: Wait>(&mut self, rt: &R) -> Option<T>
+        ensures same { receives_on self.new.channel ≡ receives_on self.old.channel }
+        ensures received { MatchOption result (view self.new.pass ≡ view self.old.pass) (λ x. received_of self.new.pass ≡ received_of self.old.pass ++ x ∷ []) }
+    {
+        match self.channel.recv_as::<Receives, R>(rt, &mut self.pass) {
+            Ok(answer) => Some(answer),
+            Err(_) => None,
+        }
+    }
+}

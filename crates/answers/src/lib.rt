@@ -1,0 +1,10 @@
+//! Answers to one session, over a channel with room for one message. Generic in the message.
+//!
+//! What the receiver has received, followed by what the channel holds, is what was sent. What the sender knows of a
+//! message travels as a ghost field of the message's type.
+#![tactic(auto)]
+
+mod channel;
+pub mod rule;
+
+pub use channel::{AnswerReceiver, AnswerSender, open_channel, open_channels};

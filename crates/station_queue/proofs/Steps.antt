@@ -1,0 +1,266 @@
+-- Each step keeps the rule of the queue.
+use Rattle.std.proofs.Common.{◌≡◌, ◌≢◌, ◌⊎◌, inl, inr, ℕ, zero, suc, ◌+◌, ◌<◌, ◌≤◌, ◌==◌, Bool, true, false, cond, true≢false, List, [], ◌∷◌, ◌++◌, length, set, sym, refl, ap, ◌∙◌, subst, ⊎_elim, append_assoc, arith}
+use Rattle.std.specs.Prelude.{Option, Some, None, slice_get, All, ⊤}
+use Rattle.atomic_table.specs.Seated.{TableId}
+use Rattle.station_queue.specs.Ends.{Sending, sending}
+use Rattle.std.proofs.lemmas.List.{append-nil}
+use Rattle.std.proofs.lemmas.List.Elements.{All-nil, All-push, All-weaker}
+use Rattle.std.proofs.lemmas.Bool.Decides.{nat_tests}
+use mathlib.Core.Option.{some, some-ne-none, some-injective}
+use lib.ListN.{get_elem?}
+use Rattle.crossbeam_queue.specs.Fifo.{Pushes, Pops, Forks, Merges, Learns}
+use Rattle.crossbeam_queue.proofs.Lists.{at_set}
+use Rattle.station_queue.specs.declared.entry.Entry.{Entry}
+use Rattle.station_queue.specs.declared.rule.View.{View}
+use Rattle.station_queue.specs.declared.rule.Settled.{Settled}
+use Rattle.station_queue.specs.Entries.{station_of, entries_of}
+use Rattle.station_queue.specs.Order.{taker, sender, settled, nobody, Fits, FitsSettled, IsInOrder, AreAllSent}
+
+same_test : (a b : ℕ) → a ≡ b → (a == b) ≡ true
+same_test a b e = grind (arith, nat_tests)
+
+other_test : (a b : ℕ) → a ≢ b → (a == b) ≡ false
+other_test a b n = grind (arith, nat_tests)
+
+entries_of-append-go : (x : Entry) (b : Bool) (all xs ys : List Entry) → all ≡ xs ++ ys → cond b (x ∷ all) all ≡ cond b (x ∷ xs) xs ++ ys
+entries_of-append-go x true all xs ys e = ap (λ l. x ∷ l) e
+entries_of-append-go x false all xs ys e = e
+
+pub entries_of-append : (s : ℕ) (xs ys : List Entry) → entries_of s (xs ++ ys) ≡ entries_of s xs ++ entries_of s ys
+entries_of-append s [] ys = refl
+entries_of-append s (x ∷ xs) ys = entries_of-append-go x (station_of x == s) (entries_of s (xs ++ ys)) (entries_of s xs) (entries_of s ys) (entries_of-append s xs ys)
+
+-- one more entry of the station
+of_mine : (s : ℕ) (taken items : List Entry) (x : Entry) → station_of x ≡ s → entries_of s (taken ++ (items ++ x ∷ [])) ≡ entries_of s (taken ++ items) ++ x ∷ []
+of_mine s taken items x e =
+    ap (entries_of s) (sym (append_assoc taken items (x ∷ []))) ∙ entries_of-append s (taken ++ items) (x ∷ []) ∙ ap (λ b. entries_of s (taken ++ items) ++ cond b (x ∷ []) []) (same_test (station_of x) s e)
+
+-- one more entry of another station
+of_other : (s : ℕ) (taken items : List Entry) (x : Entry) → station_of x ≢ s → entries_of s (taken ++ (items ++ x ∷ [])) ≡ entries_of s (taken ++ items)
+of_other s taken items x n =
+    ap (entries_of s) (sym (append_assoc taken items (x ∷ []))) ∙ entries_of-append s (taken ++ items) (x ∷ []) ∙ ap (λ b. entries_of s (taken ++ items) ++ cond b (x ∷ []) []) (other_test (station_of x) s n) ∙ append-nil (entries_of s (taken ++ items))
+
+at_end : {A : Type 0} (l : List A) (a b : A) (j : ℕ) → get_elem? (l ++ a ∷ []) j ≡ some b → (get_elem? l j ≡ some b) ⊎ ((j ≡ length l) × (a ≡ b))
+at_end [] a b zero e = inr (refl, some-injective a b e)
+at_end [] a b (suc j) e = absurd (some-ne-none b (sym e))
+at_end (x ∷ xs) a b zero e = inl e
+at_end (x ∷ xs) a b (suc j) e = ⊎_elim (λ (t : get_elem? xs j ≡ some b). inl t) (λ (t : (j ≡ length xs) × (a ≡ b)). inr (ap suc t.0, t.1)) (at_end xs a b j e)
+
+abbrev EachView : (ℕ → View → Type 0) → List View → Type 0
+EachView F views = (pass : ℕ) (v : View) → get_elem? views pass ≡ some v → F pass v
+
+each_set : (F : ℕ → View → Type 0) (views : List View) (port : ℕ) (w : View) → F port w → ((j : ℕ) (u : View) → j ≢ port → get_elem? views j ≡ some u → F j u) → EachView F (set views port w)
+each_set F views port w mine others j u e = ⊎_elim (λ (x : (j ≡ port) × (w ≡ u)). subst (λ (y : ℕ × View). F y.0 y.1) (λ i. (sym x.0 i, x.1 i)) mine)
+    (λ (x : (j ≢ port) × (get_elem? views j ≡ some u)). others j u x.0 x.1) (at_set views port j w u e)
+
+no : {A : Type 0} → false ≡ true → A
+no e = absurd (true≢false (sym e))
+
+some_is : (a b : ℕ) → Some a ≡ Some b → a ≡ b
+some_is a b e = cc
+
+not_none : (a : ℕ) → Some a ≡ None → ⊥
+not_none a e = cc
+
+pub begins : IsInOrder [] (taker 0 [] [] ∷ [])
+begins = (
+  0,
+  (λ _. None),
+  0,
+  [],
+  (λ s _. refl),
+  each_set (Fits 0 (λ _. None) 0 [] []) (taker 0 [] [] ∷ []) 0 (taker 0 [] []) ((λ _. (refl, refl, refl)), All-nil (FitsSettled 0 (λ _. None) 0 [] []), (λ e. no e)) (λ j u other e. absurd (only j u other e)),
+)
+  where
+    only : (j : ℕ) (u : View) → j ≢ 0 → get_elem? (taker 0 [] [] ∷ []) j ≡ some u → ⊥
+    only zero u other e = other refl
+    only (suc j) u other e = some-ne-none u (sym e)
+
+within_not : (s made n m : ℕ) → (made < s) ⊎ (s ≡ 0) → n ≡ m → m ≤ made → 0 < m → n ≡ s → ⊥
+within_not s made n m late is le pos e = ⊎_elim (λ (h : made < s). let b : ⊥ = omega (arith, is, le, pos, e, h) in b) (λ (h : s ≡ 0). let b : ⊥ = omega (arith, is, le, pos, e, h) in b) late
+
+pub puts : (n pass : ℕ) (v : View) (x : Entry) → v.sends ≡ true → station_of x ≡ v.station → Pushes IsInOrder n pass v x (λ w. w ≡ sender v.station (v.sent ++ x ∷ []))
+puts n pass v x may is items views _ h at =
+    let reader = h.0 in let seat = h.1 in let made = h.2 in let taken = h.3 in
+    let w = sender v.station (v.sent ++ x ∷ []) in
+    let mine = (h.5 pass v at).2 may in
+    let all = taken ++ (items ++ x ∷ []) in (
+      w,
+      (
+        reader,
+        seat,
+        made,
+        taken,
+        (λ s late. of_other s taken items x (λ e. within_not s made (station_of x) v.station late is mine.1 mine.3 e) ∙ h.4 s late),
+        each_set (Fits reader seat made taken all) views pass w
+            ((λ e. no e), All-nil (FitsSettled reader seat made taken all), (λ _. (mine.0, mine.1, of_mine v.station taken items x is ∙ ap (λ l. l ++ x ∷ []) mine.2, mine.3)))
+            (λ j u other e.
+            let was = h.5 j u e in (
+              was.0,
+              All-weaker (FitsSettled reader seat made taken (taken ++ items)) (FitsSettled reader seat made taken all)
+                  (λ k f. (f.0, f.1, of_other k.station taken items x (λ s. not_none pass (sym mine.0 ∙ (ap seat (sym is ∙ s) ∙ f.0))) ∙ f.2)) u.settled was.1,
+              (λ k. let f = was.2 k in (f.0, f.1, of_other u.station taken items x (λ s. other (some_is j pass (sym f.0 ∙ (ap seat (sym s ∙ is) ∙ mine.0)))) ∙ f.2, f.3)),
+            )),
+      ),
+      refl,
+    )
+
+some_of : (taken items : List Entry) (x : Entry) → entries_of (station_of x) (taken ++ x ∷ items) ≡ [] → ⊥
+some_of taken items x none =
+    not_empty (entries_of (station_of x) taken) (entries_of (station_of x) items) x (sym (entries_of-append (station_of x) taken (x ∷ items) ∙ ap (λ b. entries_of (station_of x) taken ++ cond b (x ∷ entries_of (station_of x) items) (entries_of (station_of x) items)) (same_test (station_of x) (station_of x) refl)) ∙ none)
+  where
+    not_empty : (xs ys : List Entry) (y : Entry) → xs ++ y ∷ ys ≡ [] → ⊥
+    not_empty [] ys y e = cc
+    not_empty (z ∷ zs) ys y e = cc
+
+-- the entry that leaves is of a station that has a sender
+of_one : (made : ℕ) (taken items : List Entry) (x : Entry) → ((s : ℕ) → (made < s) ⊎ (s ≡ 0) → entries_of s (taken ++ x ∷ items) ≡ []) → (0 < station_of x) × (station_of x ≤ made)
+of_one made taken items x none = (above (station_of x) refl, below)
+  where
+    above : (n : ℕ) → n ≡ station_of x → 0 < station_of x
+    above zero e = absurd (some_of taken items x (none (station_of x) (inr (sym e))))
+    above (suc n) e = omega arith
+
+    split : (made < station_of x) ⊎ (station_of x ≤ made)
+    split = grind arith
+
+    below : station_of x ≤ made
+    below = ⊎_elim (λ (h : made < station_of x). absurd (some_of taken items x (none (station_of x) (inl h)))) (λ (h : station_of x ≤ made). h) split
+
+pub takes : (pass : ℕ) (v : View) → v.takes ≡ true → Pops IsInOrder pass v (λ x w. (w ≡ taker v.made (v.taken ++ x ∷ []) v.settled) × (0 < station_of x) × (station_of x ≤ v.made))
+takes pass v may x items views h at =
+    let reader = h.0 in let seat = h.1 in let made = h.2 in let taken = h.3 in
+    let w = taker v.made (v.taken ++ x ∷ []) v.settled in
+    let this = h.5 pass v at in
+    let mine = this.0 may in
+    let now = taken ++ x ∷ [] in
+    let same : taken ++ (x ∷ items) ≡ now ++ items = sym (append_assoc taken (x ∷ []) items) in
+    let settled_still : (u : View) → All (FitsSettled reader seat made taken (taken ++ (x ∷ items))) u.settled → All (FitsSettled reader seat made now (now ++ items)) u.settled =
+    λ u was. All-weaker (FitsSettled reader seat made taken (taken ++ (x ∷ items))) (FitsSettled reader seat made now (now ++ items))
+    (λ k f. (f.0, f.1, ap (entries_of k.station) (sym same) ∙ f.2)) u.settled was in (
+      w,
+      (
+        reader,
+        seat,
+        made,
+        now,
+        (λ s late. ap (entries_of s) (sym same) ∙ h.4 s late),
+        each_set (Fits reader seat made now (now ++ items)) views pass w
+            ((λ _. (mine.0, ap (λ l. l ++ x ∷ []) mine.1, mine.2)), settled_still v this.1, (λ e. no e))
+            (λ j u other e.
+            let was = h.5 j u e in (
+              (λ k. absurd (other ((was.0 k).0 ∙ sym mine.0))),
+              settled_still u was.1,
+              (λ k. let f = was.2 k in (f.0, f.1, ap (entries_of u.station) (sym same) ∙ f.2, f.3)),
+            )),
+      ),
+      (refl, (of_one made taken items x h.4).0, subst (λ m. station_of x ≤ m) (sym mine.2) (of_one made taken items x h.4).1),
+    )
+
+abbrev put_seat : ℕ → Option ℕ → (ℕ → Option ℕ) → ℕ → Option ℕ
+put_seat s o seat k = cond (k == s) o (seat k)
+
+seat_here : (s : ℕ) (o : Option ℕ) (seat : ℕ → Option ℕ) → put_seat s o seat s ≡ o
+seat_here s o seat = ap (λ b. cond b o (seat s)) (same_test s s refl)
+
+seat_else : (s : ℕ) (o : Option ℕ) (seat : ℕ → Option ℕ) (k : ℕ) → k ≢ s → put_seat s o seat k ≡ seat k
+seat_else s o seat k n = ap (λ b. cond b o (seat k)) (other_test k s n)
+
+pub forks : (pass : ℕ) (v : View) → v.takes ≡ true → Forks IsInOrder pass v (taker (v.made + 1) v.taken v.settled) (sender (v.made + 1) [])
+forks pass v may items views h at =
+    let reader = h.0 in let seat = h.1 in let made = h.2 in let taken = h.3 in
+    let this = h.5 pass v at in
+    let mine = this.0 may in
+    let left = taker (v.made + 1) v.taken v.settled in
+    let right = sender (v.made + 1) [] in
+    let vs : List View = set views pass left in
+    let new = put_seat (v.made + 1) (Some (length vs)) seat in
+    let all = taken ++ items in
+    let F : ℕ → View → Type 0 = Fits reader new (made + 1) taken all in
+    let still : (s : ℕ) → s ≤ made → new s ≡ seat s = λ s le. seat_else (v.made + 1) (Some (length vs)) seat s (λ e. omega (arith, e, le, mine.2)) in
+    let settled_still : (u : View) → All (FitsSettled reader seat made taken all) u.settled → All (FitsSettled reader new (made + 1) taken all) u.settled =
+    λ u was. All-weaker (FitsSettled reader seat made taken all) (FitsSettled reader new (made + 1) taken all) (λ k f. (still k.station f.1 ∙ f.0, omega (arith, f.1), f.2)) u.settled was in
+    let old : EachView F vs =
+    each_set F views pass left ((λ _. (mine.0, mine.1, ap (λ k. k + 1) mine.2)), settled_still v this.1, (λ e. no e))
+    (λ j u other e.
+    let was = h.5 j u e in (
+      (λ k. absurd (other ((was.0 k).0 ∙ sym mine.0))),
+      settled_still u was.1,
+      (λ k. let f = was.2 k in (still u.station f.1 ∙ f.0, omega (arith, f.1), f.2, f.3)),
+    )) in
+    let here : F (length vs) right = (
+      (λ e. no e),
+      All-nil (FitsSettled reader new (made + 1) taken all),
+      (λ _. (seat_here (v.made + 1) (Some (length vs)) seat, omega (arith, mine.2), h.4 (v.made + 1) (inl (omega (arith, mine.2))), omega arith)),
+    ) in (
+      reader,
+      new,
+      made + 1,
+      taken,
+      (λ s late. h.4 s (⊎_elim (λ (q : made + 1 < s). inl (let r : made < s = omega (arith, q) in r)) (λ (q : s ≡ 0). inr q) late)),
+      (λ j u e. ⊎_elim (λ (x : get_elem? vs j ≡ some u). old j u x) (λ (x : (j ≡ length vs) × (right ≡ u)). subst (λ (y : ℕ × View). F y.0 y.1) (λ i. (sym x.0 i, x.1 i)) here) (at_end vs right u j e)),
+    )
+
+none_still : (s : ℕ) (seat : ℕ → Option ℕ) (k : ℕ) → seat k ≡ None → put_seat s None seat k ≡ None
+none_still s seat k e = go (k == s)
+  where
+    go : (b : Bool) → cond b None (seat k) ≡ None
+    go true = refl
+    go false = e
+
+pub merges : (pass : ℕ) (v : View) (other : ℕ) (w : View) → v.takes ≡ true → w.sends ≡ true → Merges IsInOrder pass v other w (taker v.made v.taken (v.settled ++ settled w.station w.sent ∷ [])) nobody
+merges pass v other w may came items views h at apart there =
+    let reader = h.0 in let seat = h.1 in let made = h.2 in let taken = h.3 in
+    let this = h.5 pass v at in
+    let mine = this.0 may in
+    let both = taker v.made v.taken (v.settled ++ settled w.station w.sent ∷ []) in
+    let was : get_elem? views other ≡ some w = ⊎_elim (λ (x : (other ≡ pass) × (both ≡ w)). absurd (apart x.0)) (λ (x : (other ≢ pass) × (get_elem? views other ≡ some w)). x.1) (at_set views pass other both w there) in
+    let theirs = (h.5 other w was).2 came in
+    let new = put_seat w.station None seat in
+    let all = taken ++ items in
+    let Now : ℕ → View → Type 0 = λ j y. j ≢ other → Fits reader new made taken all j y in
+    let settled_still : (u : View) → All (FitsSettled reader seat made taken all) u.settled → All (FitsSettled reader new made taken all) u.settled =
+    λ u was. All-weaker (FitsSettled reader seat made taken all) (FitsSettled reader new made taken all) (λ k f. (none_still w.station seat k.station f.0, f.1, f.2)) u.settled was in
+    let now : EachView Now (set views pass both) =
+    each_set Now views pass both
+    (λ _. ((λ _. mine), All-push (FitsSettled reader new made taken all) v.settled (settled w.station w.sent) (settled_still v this.1) (seat_here w.station None seat, theirs.1, theirs.2), (λ e. no e)))
+    (λ j u _ e apart'.
+    let f = h.5 j u e in (
+      f.0,
+      settled_still u f.1,
+      (λ k. let g = f.2 k in (seat_else w.station None seat u.station (λ s. apart' (some_is j other (sym g.0 ∙ (ap seat s ∙ theirs.0)))) ∙ g.0, g.1, g.2, g.3)),
+    )) in (
+      reader,
+      new,
+      made,
+      taken,
+      h.4,
+      each_set (Fits reader new made taken all) (set views pass both) other nobody ((λ e. no e), All-nil (FitsSettled reader new made taken all), (λ e. no e)) (λ j y apart' e. now j y e apart'),
+    )
+
+pub totals : (pass : ℕ) (v : View) → v.takes ≡ true → Learns IsInOrder pass v (λ items. AreAllSent v.taken items v.settled)
+totals pass v may items views h at =
+    let f = h.5 pass v at in
+    All-weaker (FitsSettled h.0 h.1 h.2 h.3 (h.3 ++ items)) (λ s. entries_of s.station (v.taken ++ items) ≡ s.sent) (λ k g. ap (λ l. entries_of k.station (l ++ items)) (f.0 may).1 ∙ g.2) v.settled f.1
+
+pub anything : (pass : ℕ) (v : View) → Learns IsInOrder pass v (λ items. ⊤)
+anything pass v items views h at = tt
+
+-- one more sender in the list of senders
+pub more_senders : (n : ℕ) (xs ys : List Sending) (t u : TableId) (s : Sending) → ys ≡ xs ++ s ∷ [] → length xs + 1 ≡ n → s ≡ sending t n [] → u ≡ t
+    → ((k : ℕ) → k + 1 < n → slice_get xs k ≡ Some (sending t (k + 1) [])) → (k : ℕ) → k + 1 < n + 1 → slice_get ys k ≡ Some (sending u (k + 1) [])
+more_senders n xs ys t u s all long is same old k small =
+    rw (all, same) (⊎_elim (λ (lt : k + 1 < n). at_front xs s k _ (old k lt)) (λ (eq : k ≡ length xs). at_last' xs s k eq ∙ ap Some (is ∙ ap (λ m. sending t m []) (omega arith))) (below_or))
+  where
+    below_or : (k + 1 < n) ⊎ (k ≡ length xs)
+    below_or = grind arith
+
+    at_front : (l : List Sending) (a : Sending) (j : ℕ) (b : Sending) → slice_get l j ≡ Some b → slice_get (l ++ a ∷ []) j ≡ Some b
+    at_front [] a j b e = absurd cc
+    at_front (x ∷ l) a zero b e = e
+    at_front (x ∷ l) a (suc j) b e = at_front l a j b e
+
+    at_last' : (l : List Sending) (a : Sending) (j : ℕ) → j ≡ length l → slice_get (l ++ a ∷ []) j ≡ Some a
+    at_last' [] a j e = ap (slice_get (a ∷ [])) e
+    at_last' (x ∷ l) a zero e = absurd (omega arith)
+    at_last' (x ∷ l) a (suc j) e = at_last' l a j (omega arith)

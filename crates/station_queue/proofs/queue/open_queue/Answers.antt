@@ -1,0 +1,24 @@
+use Rattle.std.proofs.Common.{[], ◌∷◌, length, ap, ◌∙◌, arith, length-append}
+use Rattle.station_queue.specs.Ends.{Taking, sending}
+use Rattle.station_queue.proofs.Steps.{begins, more_senders}
+use Rattle.station_queue.proofs.queue.open_queue.Goals as goal
+
+pub ruled-requires-clause-rule : goal.ruled-requires-clause-rule
+ruled-requires-clause-rule c = begins
+
+pub loop-station-preserved : goal.loop-station-preserved
+loop-station-preserved c =
+    let i = c.loop-station.invariant in
+    let now = c.in_ok-sender.ensures.made in
+    let items = c.in-Ok.ensures.items in
+    let made = ap (λ (t : Taking). t.made) now in
+    let before = i.0 in
+    let long = i.2 in
+    let more = ap length items in
+    let one = length-append c.loop-station.senders.items (c.in_ok-sender.sender ∷ []) in (
+      omega arith,
+      ap (λ (t : Taking). t.taken) now ∙ i.1,
+      omega arith,
+      more_senders _ _ _ c.loop-station.taker.queue _ _ items i.2 (c.in_ok-sender.ensures.sender ∙ ap (λ n. sending c.loop-station.taker.queue n []) c.new-in-loop-station.ensures) (ap (λ (t : Taking). t.queue) now) i.3,
+      ap (λ (t : Taking). t.settled) now ∙ i.4,
+    )

@@ -1,0 +1,26 @@
+-- What contracts see of the two ends.
+use Rattle.std.specs.Prelude.{ℕ, Bool, List}
+use Rattle.atomic_table.specs.Seated.{TableId}
+use Rattle.registration.specs.Numbers.{Station}
+use Rattle.station_queue.specs.declared.entry.Entry.{Entry}
+use Rattle.station_queue.specs.declared.rule.Settled.{Settled}
+
+-- a sender: its queue, its station, and what it sent
+pub record Sending : Type 0 where
+  pub queue : TableId
+  pub station : Station
+  pub sent : List Entry
+
+abbrev pub sending : TableId → Station → List Entry → Sending
+sending queue station sent = record { queue = queue; station = station; sent = sent }
+
+-- the taker: its queue, how many senders it made, what it took, the senders that came back, and whether its last call of `take` found the queue empty
+pub record Taking : Type 0 where
+  pub queue : TableId
+  pub made : ℕ
+  pub taken : List Entry
+  pub settled : List Settled
+  pub empty : Bool
+
+abbrev pub taking : TableId → ℕ → List Entry → List Settled → Bool → Taking
+taking queue made taken settled empty = record { queue = queue; made = made; taken = taken; settled = settled; empty = empty }

@@ -1,0 +1,16 @@
+-- What the queue holds.
+use Rattle.std.specs.Prelude.{◌==◌, cond, List, [], ◌∷◌}
+use Rattle.std.specs.Arc.{arc_value}
+use Rattle.registration.specs.Numbers.{Station}
+use Rattle.station_queue.specs.declared.entry.Entry.{Entry}
+use Rattle.station_queue.specs.declared.entry.Entry.TheVariants.{Submitted, Ended}
+
+-- whose entry it is
+abbrev pub station_of : Entry → Station
+station_of (Submitted request) = (arc_value request.command).station
+station_of (Ended station) = station
+
+-- the entries of a station, in order
+abbrev pub entries_of : Station → List Entry → List Entry
+entries_of s [] = []
+entries_of s (x ∷ xs) = cond (station_of x == s) (x ∷ entries_of s xs) (entries_of s xs)

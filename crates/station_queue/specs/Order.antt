@@ -1,0 +1,51 @@
+-- The rule of the queue.
+use Rattle.std.specs.Prelude.{◌≡◌, ◌⊎◌, ℕ, ◌<◌, ◌≤◌, true, false, List, [], ◌++◌, Option, Some, None, All}
+use mathlib.Core.Option.{some}
+use lib.ListN.{get_elem?}
+use Rattle.registration.specs.Numbers.{Station}
+use Rattle.station_queue.specs.declared.entry.Entry.{Entry}
+use Rattle.station_queue.specs.declared.rule.Settled.{Settled}
+use Rattle.station_queue.specs.declared.rule.View.{View}
+use Rattle.station_queue.specs.Entries.{entries_of}
+
+-- what a sender that came back has sent
+abbrev pub settled : Station → List Entry → Settled
+settled station sent = record { station = station; sent = sent }
+
+-- what the taker knows
+abbrev pub taker : ℕ → List Entry → List Settled → View
+taker made taken settled = record { takes = true; made = made; taken = taken; settled = settled; sends = false; station = 0; sent = [] }
+
+-- what a sender knows
+abbrev pub sender : Station → List Entry → View
+sender station sent = record { takes = false; made = 0; taken = []; settled = []; sends = true; station = station; sent = sent }
+
+-- what is left of the pass of a sender that came back
+abbrev pub nobody : View
+nobody = record { takes = false; made = 0; taken = []; settled = []; sends = false; station = 0; sent = [] }
+
+-- of each of these stations: what was taken of it, followed by what the queue holds of it, is what it sent
+abbrev pub AreAllSent : List Entry → List Entry → List Settled → Type 0
+AreAllSent taken items stations = All (λ s. entries_of s.station (taken ++ items) ≡ s.sent) stations
+
+-- What the rule says of one pass. reader: the taker's pass; seat: the pass of each station's sender; made: how many senders there are; all: what was taken, followed by what the queue holds.
+module _ (reader : ℕ) (seat : Station → Option ℕ) (made : ℕ) (taken all : List Entry) where
+  abbrev pub FitsTaker : ℕ → View → Type 0
+  FitsTaker pass v = v.takes ≡ true → (pass ≡ reader) × (v.taken ≡ taken) × (v.made ≡ made)
+
+  -- a sender that came back sends no more
+  abbrev pub FitsSettled : Settled → Type 0
+  FitsSettled s = (seat s.station ≡ None) × (s.station ≤ made) × (entries_of s.station all ≡ s.sent)
+
+  abbrev pub FitsSender : ℕ → View → Type 0
+  FitsSender pass v = v.sends ≡ true → (seat v.station ≡ Some pass) × (v.station ≤ made) × (entries_of v.station all ≡ v.sent) × (0 < v.station)
+
+  abbrev pub Fits : ℕ → View → Type 0
+  Fits pass v = FitsTaker pass v × All FitsSettled v.settled × FitsSender pass v
+
+-- what was taken of a station, followed by what the queue holds of it, is what its pass says that it sent; stations without a sender sent nothing
+abbrev pub IsInOrder : List Entry → List View → Type 0
+IsInOrder items views =
+    (reader : ℕ) × (seat : Station → Option ℕ) × (made : ℕ) × (taken : List Entry)
+    × ((s : Station) → (made < s) ⊎ (s ≡ 0) → entries_of s (taken ++ items) ≡ [])
+    × ((pass : ℕ) (v : View) → get_elem? views pass ≡ some v → Fits reader seat made taken (taken ++ items) pass v)

@@ -1,0 +1,16 @@
+//! One queue of 64 entries from the sessions of several stations to one taker.
+//!
+//! What was taken of a station, followed by what the queue holds of it, is what that station sent. At the end the taker
+//! takes the senders back and knows it of all of them at once.
+#![tactic(auto)]
+
+mod entry;
+mod queue;
+mod rule;
+mod sender;
+mod taker;
+
+pub use entry::{Entry, Request, SharedCommand};
+pub use queue::{PLACES, open_queue, settle_all};
+pub use sender::Sender;
+pub use taker::Taker;

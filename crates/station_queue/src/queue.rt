@@ -1,0 +1,50 @@
+ghost use Rattle.std.specs.Prelude.{◌≡◌, [], ◌++◌, ◌+◌, ◌<◌, ◌≤◌, ℕ, List, All, length, map, slice_get, Some, IfOk};
+ghost use Rattle.station_queue.specs.declared.entry.Entry.{Entry};
+ghost use Rattle.station_queue.specs.Order.{AreAllSent, settled};
+ghost use Rattle.station_queue.specs.Ends.{sending, taking};
+
+use crate::rule::Queue;
+use crate::sender::Sender;
+use crate::taker::Taker;
+use registration::Station;
+use std::alloc::{AllocError, Global};
+use std::sync::Arc;
+
+/// How many entries the queue holds at most.
+pub const PLACES: usize = 64;
+
+/// An empty queue: its taker, and a sender for each station from 1 to `count`, that of station 1 first.
+pub fn open_queue(alloc: Global, count: u16) -> Result<(Taker, Vec<Sender>), AllocError>
+    requires { count ≤ 64 }
+    ensures taker { IfOk result (λ r. r.0 ≡ taking r.0.queue count [] [] r.0.empty) }
+    ensures senders { IfOk result (λ r. (length r.1.items ≡ count) × ((k : ℕ) → k < count → slice_get r.1.items k ≡ Some (sending r.0.queue (k + 1) []))) }
+{
+    let mut senders = Vec::with_capacity(alloc, usize::from(count))?;
+    let (queue, pass) = Queue::ruled(alloc, PLACES)?;
+    let queue = Arc::new(alloc, queue).map_err(|_| AllocError)?;
+    let mut taker = Taker {
+        queue,
+        pass,
+        empty: false,
+    };
+    for station in 1..count + 1 {
+        let sender = taker.sender(Station::new(station))?;
+        let Ok(()) = senders.push(sender) else {
+            return Err(AllocError);
+        };
+    }
+    Ok((taker, senders))
+}
+
+/// Takes all these senders of the queue back. Then there is one list of entries, which the queue holds, so that what was
+/// taken of a station, followed by what that list has of it, is what the station sent.
+pub fn settle_all(taker: &mut Taker, senders: Vec<Sender>)
+    requires { All (λ s. s.queue ≡ taker.old.queue) senders.items }
+    ensures settled { taker.new ≡ taking taker.old.queue taker.old.made taker.old.taken (taker.old.settled ++ map (λ s. settled s.station s.sent) senders.items) taker.old.empty }
+    ensures total { (items : List Entry) × AreAllSent taker.new.taken items taker.new.settled }
+{
+    for sender in senders {
+        taker.settle(sender);
+    }
+    taker.total();
+}

@@ -1,0 +1,100 @@
+//! The rule that every step on the queue keeps.
+use crate::entry::Entry;
+use crossbeam_queue::protocol::{Join, Lesson, Outcome, Protocol, Split};
+use crossbeam_queue::{Pass, RuledArrayQueue};
+use std::collections::LinkedList;
+
+/// What a sender that came back has sent. No value of it is made.
+pub struct Settled {
+    pub station: u64,
+    pub sent: LinkedList<Entry>,
+}
+
+/// What the holder of a pass knows. No value of it is made.
+pub struct View {
+    /// It is the taker's: how many senders it made, what it took, and the senders that came back.
+    pub takes: bool,
+    pub made: u64,
+    pub taken: LinkedList<Entry>,
+    pub settled: LinkedList<Settled>,
+    /// It is a sender's: its station, and what it sent.
+    pub sends: bool,
+    pub station: u64,
+    pub sent: LinkedList<Entry>,
+}
+
+/// Each station's entries are taken in the order in which it sent them, each once.
+pub struct InOrder;
+
+impl Protocol<Entry, View> for InOrder {
+    ghost use Rattle.std.specs.Prelude.{[]};
+    ghost use Rattle.station_queue.specs.Order.{IsInOrder, taker};
+
+    ghost holds = { IsInOrder };
+
+    ghost first = { taker 0 [] [] };
+}
+
+/// The taker makes a sender for the next station.
+pub struct NewSender;
+
+impl Split<View> for NewSender {
+    ghost use Rattle.std.specs.Prelude.{[], ◌+◌};
+    ghost use Rattle.station_queue.specs.Order.{taker, sender};
+
+    ghost left = { λ v. taker (v.made + 1) v.taken v.settled };
+
+    ghost right = { λ v. sender (v.made + 1) [] };
+}
+
+/// The taker takes a sender back.
+pub struct SenderBack;
+
+impl Join<View> for SenderBack {
+    ghost use Rattle.std.specs.Prelude.{[], ◌∷◌, ◌++◌};
+    ghost use Rattle.station_queue.specs.Order.{taker, settled, nobody};
+
+    ghost both = { λ v w. taker v.made v.taken (v.settled ++ settled w.station w.sent ∷ []) };
+
+    ghost spent = { nobody };
+}
+
+/// One push.
+pub struct Puts;
+
+impl Outcome<Entry, View> for Puts {
+    ghost use Rattle.std.specs.Prelude.{◌≡◌, [], ◌∷◌, ◌++◌};
+    ghost use Rattle.station_queue.specs.Order.{sender};
+
+    ghost then = { λ v x w. w ≡ sender v.station (v.sent ++ x ∷ []) };
+}
+
+/// One pop.
+pub struct Takes;
+
+impl Outcome<Entry, View> for Takes {
+    ghost use Rattle.std.specs.Prelude.{◌≡◌, ◌<◌, ◌≤◌, [], ◌∷◌, ◌++◌};
+    ghost use Rattle.station_queue.specs.Entries.{station_of};
+    ghost use Rattle.station_queue.specs.Order.{taker};
+
+    ghost then = { λ v x w. (w ≡ taker v.made (v.taken ++ x ∷ []) v.settled) × (0 < station_of x) × (station_of x ≤ v.made) };
+}
+
+impl Lesson<Entry, View> for Takes {
+    ghost use Rattle.std.specs.Prelude.{⊤};
+
+    ghost fact = { λ v items. ⊤ };
+}
+
+/// What was taken and what the queue holds, beside what the senders that came back have sent.
+pub struct Total;
+
+impl Lesson<Entry, View> for Total {
+    ghost use Rattle.station_queue.specs.Order.{AreAllSent};
+
+    ghost fact = { λ v items. AreAllSent v.taken items v.settled };
+}
+
+pub type Queue = RuledArrayQueue<Entry, View, InOrder>;
+
+pub type QueuePass = Pass<Entry, View>;
