@@ -14,5 +14,6 @@ pub mod Texts
 pub mod Next
 pub mod NextItem
 pub mod Sides
+pub mod Heights
 pub mod Expiry
 pub mod Pushed

@@ -7,14 +7,14 @@ use Rattle.std.proofs.lemmas.List.Elements.{filter_map-append}
 use Rattle.mailbox.specs.declared.place.Place.{Place}
 use Rattle.mailbox.specs.Values.{Item}
 use Rattle.mailbox.specs.Inside.Boxes.{Boxes, item_at, in_order}
-use Rattle.mailbox.specs.Inside.Places.{places_of, all_of}
+use Rattle.mailbox.specs.Inside.Places.{Branch, places_of, branch}
 use Rattle.mailbox.proofs.Sides.{there}
 
 one_first : (o : Option Item) (ws : List Item) → cons_option o ws ≡ cons_option o [] ++ ws
 one_first None ws = refl
 one_first (Some w) ws = refl
 
-module _ (boxes : Boxes) {A : Type 0} (o : Option (Box (List Place) A)) (b : Box (List Place) A) (v : List Place) (is : o ≡ Some b) (at : v ≡ b.value) (p : Place) (e l : Option (Box (List Place) A)) (parts : all_of p e l ≡ v) where
+module _ (boxes : Boxes) {A : Type 0} (o : Option (Box Branch A)) (b : Box Branch A) (v : Branch) (is : o ≡ Some b) (at : v ≡ b.value) (p : Place) (e l : Option (Box Branch A)) (parts : branch p e l ≡ v) where
   in_parts : in_order boxes (places_of o) ≡ in_order boxes (places_of e) ++ (cons_option (item_at boxes p.key) [] ++ in_order boxes (places_of l))
   in_parts =
       ap (in_order boxes) (there o b v is at p e l parts) ∙ filter_map-append (λ place. item_at boxes place.key) (places_of e) (p ∷ places_of l)

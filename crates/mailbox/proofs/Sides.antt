@@ -1,6 +1,6 @@
 -- The places at and below a node: those of its one side, its own, those of the other.
 use Rattle.std.proofs.Common.{◌≡◌, ℕ, zero, suc, ◌<◌, ◌≤◌, Bool, true, false, cond, List, [], ◌∷◌, ◌++◌, length, refl, ap, sym, ◌∙◌, subst, arith, Option, Some, None}
-use Rattle.std.specs.Prelude.{nat_le, not, ◌||◌}
+use Rattle.std.specs.Prelude.{min, nat_le, nat_lt, not, ◌||◌}
 use Rattle.std.specs.List.{All, AllPairs, filter, find, list_any}
 use Rattle.std.specs.Ordering.{is_eq, is_lt, ordering_reverse}
 use Rattle.std.specs.Cmp.{IsTotalOrder, on_total}
@@ -10,7 +10,7 @@ use Rattle.std.specs.declared.boxed.Box.{Box}
 use Rattle.std.proofs.lemmas.Bool.Decides.{nat_tests}
 use mathlib.Core.List.{append_assoc}
 use Rattle.std.proofs.lemmas.List.{length-append}
-use Rattle.std.proofs.lemmas.Bool.{false≢true, false_from_ne_true}
+use Rattle.std.proofs.lemmas.Bool.{false≢true, false_from_ne_true, ltb-true}
 use Rattle.std.proofs.lemmas.Cmp.{nat_list_cmp_total}
 use Rattle.std.proofs.lemmas.List.Elements.{All-nil, All-cons, All-head, All-tail, All-weaker, All-append, All-filter, filter-append}
 use Rattle.std.proofs.lemmas.List.Folds.{list_any-append}
@@ -19,7 +19,7 @@ use Rattle.mailbox.specs.declared.key.Key.{Key}
 use Rattle.mailbox.specs.declared.place.Place.{Place}
 use Rattle.mailbox.specs.Order.{place_at, named_cmp}
 use Rattle.mailbox.specs.Inside.Boxes.{name_of}
-use Rattle.mailbox.specs.Inside.Places.{place_cmp, same_place, InOrder, NoneBefore, is_due, places_of, all_of, EndsWith}
+use Rattle.mailbox.specs.Inside.Places.{place_cmp, same_place, InOrder, Branch, soonest, is_due, places_of, all_of, branch, EndsWith}
 use Rattle.mailbox.proofs.Lists.{pairs_head, pairs_tail, filter_all, any_of_none}
 
 module _ {X : Type 0} where
@@ -66,34 +66,26 @@ module _ {X : Type 0} where
   pairs_front R [] ys h = λ i j d less below. absurd (omega (arith, below))
   pairs_front R (x ∷ xs) ys h = pairs_cons R x xs (all_front (R x) xs ys (pairs_head R x (xs ++ ys) h)) (pairs_front R xs ys (pairs_tail R x (xs ++ ys) h))
 
--- a node whose sides are taken out
-pub left_alone : {A : Type 0} (moment : ℕ) (p : Place) (e l f m : Option (Box (List Place) A)) → NoneBefore moment (all_of p e l) → f ≡ None → m ≡ None → NoneBefore moment (all_of p f m)
-left_alone moment p e l f m none empty nothing =
-    subst (λ o. NoneBefore moment (all_of p o m)) (sym empty) (subst (λ o. NoneBefore moment (p ∷ places_of o)) (sym nothing)
-    (All-cons (λ q. moment ≤ q.deadline) p [] (middle (λ q. moment ≤ q.deadline) (places_of e) p (places_of l) none) (All-nil (λ q. moment ≤ q.deadline))))
-
 -- a node with one place more at its end
-pub all_with : {A : Type 0} (p q : Place) (e l m : Option (Box (List Place) A)) → places_of m ≡ places_of l ++ q ∷ [] → all_of p e m ≡ all_of p e l ++ q ∷ []
+pub all_with : {A : Type 0} (p q : Place) (e l m : Option (Box Branch A)) → places_of m ≡ places_of l ++ q ∷ [] → all_of p e m ≡ all_of p e l ++ q ∷ []
 all_with p q e l m is = ap (λ places. places_of e ++ p ∷ places) is ∙ sym (append_assoc (places_of e) (p ∷ places_of l) (q ∷ []))
-
-pub none_with : {A : Type 0} (least new : ℕ) (p q : Place) (e l m : Option (Box (List Place) A)) → NoneBefore least (all_of p e l) → places_of m ≡ places_of l ++ q ∷ [] → new ≤ least → new ≤ q.deadline → NoneBefore new (all_of p e m)
-none_with least new p q e l m none is earlier early =
-    subst (NoneBefore new) (sym (all_with p q e l m is))
-    (All-append (λ x. new ≤ x.deadline) (all_of p e l) (q ∷ [])
-    (All-weaker (λ x. least ≤ x.deadline) (λ x. new ≤ x.deadline) (λ x le. omega (arith, earlier, le)) (all_of p e l) none)
-    (All-cons (λ x. new ≤ x.deadline) q [] early (All-nil (λ x. new ≤ x.deadline))))
-
-not_yet : (moment deadline least : ℕ) → moment < least → least ≤ deadline → nat_le deadline moment ≡ false
-not_yet moment deadline least before le = grind (arith, nat_tests)
 
 less_is : (r : Ordering) → is_lt r ≡ true → r ≡ Less
 less_is Less e = refl
 less_is Equal e = absurd (false≢true e)
 less_is Greater e = absurd (false≢true e)
 
--- nothing is due that ends later
-pub none_due : (moment least : ℕ) (places : List Place) → moment < least → NoneBefore least places → find (is_due moment) places ≡ None
-none_due moment least places before none = none_found (is_due moment) places (All-weaker (λ p. least ≤ p.deadline) (λ p. is_due moment p ≡ false) (λ p le. not_yet moment p.deadline least before le) places none)
+-- nothing is due where the first ends later
+pub none_due : (moment : ℕ) (places : List Place) → moment < soonest places → find (is_due moment) places ≡ None
+none_due moment [] before = refl
+none_due moment (p ∷ ps) before =
+    let here : is_due moment p ≡ false = grind (arith, nat_tests, before) in
+    let rest : moment < soonest ps = grind (arith, before) in
+    ap (λ b. cond b (Some p) (find (is_due moment) ps)) here ∙ none_due moment ps rest
+
+-- so too of the places that a link leads to
+pub not_due : {A : Type 0} (o : Option (Box Branch A)) (b : Box Branch A) (v : Branch) (is : o ≡ Some b) (at : v ≡ b.value) (moment : ℕ) → nat_lt moment (soonest v.places) ≡ true → None ≡ find (is_due moment) (places_of o)
+not_due o b v is at moment later = sym (ap (find (is_due moment)) (ap places_of is ∙ ap (λ (w : Branch). w.places) (sym at)) ∙ none_due moment v.places (ltb-true _ _ later))
 
 place_total : IsTotalOrder place_cmp
 place_total = on_total (λ (p : Place). place_at p.number p.key) nat_list_cmp_total
@@ -194,9 +186,9 @@ module _ (es : List Place) (own : Place) (ls : List Place) (order : InOrder (es 
   pub none_earlier : (after : Option (ℕ × Key)) → is_after named_cmp name_of after own ≡ false → find (is_after named_cmp name_of after) es ≡ None
   none_earlier after not_after = none_found (is_after named_cmp name_of after) es (All-weaker (λ q. place_cmp q own ≡ Less) (λ q. is_after named_cmp name_of after q ≡ false) (λ q less. still_not after q less not_after) es befores)
 
-module _ {A : Type 0} (o : Option (Box (List Place) A)) (b : Box (List Place) A) (v : List Place) (is : o ≡ Some b) (at : v ≡ b.value) (p : Place) (e l : Option (Box (List Place) A)) (parts : all_of p e l ≡ v) where
+module _ {A : Type 0} (o : Option (Box Branch A)) (b : Box Branch A) (v : Branch) (is : o ≡ Some b) (at : v ≡ b.value) (p : Place) (e l : Option (Box Branch A)) (parts : branch p e l ≡ v) where
   pub there : places_of o ≡ all_of p e l
-  there = ap places_of is ∙ sym at ∙ sym parts
+  there = ap places_of is ∙ ap (λ (w : Branch). w.places) (sym (parts ∙ at))
 
   -- what is found at the node
   found_there : (test : Place → Bool) → find test (places_of o) ≡ or_found (find test (places_of e)) (cond (test p) (Some p) (find test (places_of l)))
@@ -243,11 +235,6 @@ module _ {A : Type 0} (o : Option (Box (List Place) A)) (b : Box (List Place) A)
 
       pub removed_here : place_cmp q p ≡ Equal → places_of e ++ places_of l ≡ filter (λ z. not (same_place q z)) (places_of o)
       removed_here equal = gone_here (places_of e) p (places_of l) parted q equal ∙ ap (filter (λ z. not (same_place q z))) (sym there)
-
-      -- what is left ends no earlier
-      pub none_removed : (least : ℕ) (left : List Place) → NoneBefore least (all_of p e l) → left ≡ filter (λ z. not (same_place q z)) (places_of o) → NoneBefore least left
-      none_removed least left none is =
-          subst (NoneBefore least) (sym is) (All-filter (λ z. not (same_place q z)) (λ z. least ≤ z.deadline) (places_of o) (subst (NoneBefore least) (sym there) none))
 
       pub is_earlier : place_cmp q p ≡ Less → list_any (same_place q) (places_of o) ≡ true → list_any (same_place q) (places_of e) ≡ true
       is_earlier less any = there_earlier (places_of e) p (places_of l) parted q less (ap (list_any (same_place q)) (sym there) ∙ any)

@@ -1,13 +1,13 @@
 //! The nodes of the tree of places. Of each node's two sides none stays more than a level higher than the other, so
 //! that a way down visits about as many nodes as the number of places has digits in base 2, half as many again at most.
 
-ghost use Rattle.std.specs.Prelude.{◌≡◌, ◌+◌, ◌++◌, ◌∷◌, [], not, true, length, None, is_some, IsSome, IfOk, if◌then◌else◌};
+ghost use Rattle.std.specs.Prelude.{◌≡◌, ◌+◌, ◌<◌, ◌≤◌, ◌^◌, ◌++◌, ◌∷◌, [], not, true, length, max, nat_lt, is_some, IsSome, IfNone, IfOk, if◌then◌else◌};
 ghost use Rattle.std.specs.List.{filter, find, list_any};
 ghost use Rattle.std.specs.Option.{option_copied, option_map};
 ghost use Rattle.prefix_tree.specs.Following.{next_of};
 ghost use Rattle.mailbox.specs.Order.{named_cmp};
 ghost use Rattle.mailbox.specs.Inside.Boxes.{name_of};
-ghost use Rattle.mailbox.specs.Inside.Places.{same_place, InOrder, NoneBefore, is_due, places_of, all_of, IsFirstOf, IsLastOf, EndsWith};
+ghost use Rattle.mailbox.specs.Inside.Places.{same_place, InOrder, soonest, is_due, places_of, height_of, all_of, branch, IsLow, IsBalanced, IsFirstOf, IsLastOf, EndsWith};
 
 use crate::Key;
 use crate::place::Place;
@@ -23,26 +23,25 @@ pub(crate) type Link<A> = Box<Node<A>, A>;
 pub(crate) struct Node<A: Allocator> {
     place: Place,
     height: u8,
-    // Nothing here ends before this moment.
+    // When the first item here ends.
     least: u64,
     earlier: Option<Link<A>>,
     later: Option<Link<A>>,
 }
 
 impl<A: Allocator> Model for Node<A> {
-    ghost use Rattle.std.specs.Prelude.{List, length};
-    ghost use Rattle.mailbox.specs.declared.place.Place.{Place};
-    ghost use Rattle.mailbox.specs.Inside.Places.{coded_places, all_of, NoneBefore};
+    ghost use Rattle.std.specs.Prelude.{length};
+    ghost use Rattle.mailbox.specs.Inside.Places.{Branch, coded_branch, branch, IsNode};
 
-    ghost Value = { List Place };
+    ghost Value = { Branch };
 
-    ghost coded = { coded_places };
+    ghost coded = { coded_branch };
 
-    ghost view = { λ n. all_of n.place n.earlier n.later };
+    ghost view = { λ n. branch n.place n.earlier n.later };
 
-    ghost invariant = { λ n. NoneBefore n.least (all_of n.place n.earlier n.later) };
+    ghost invariant = { λ n. IsNode n.height n.least n.place n.earlier n.later };
 
-    ghost size = { length };
+    ghost size = { λ b. length b.places };
 
     ghost use Rattle.std.proofs.Common.{arith, length-append};
 
@@ -50,11 +49,14 @@ impl<A: Allocator> Model for Node<A> {
 }
 
 impl<A: Allocator> Node<A> {
-    /// A node with these sides.
+    /// A node with these sides, of which neither is more than a level higher than the other.
     pub(crate) fn of(place: Place, earlier: Option<Link<A>>, later: Option<Link<A>>) -> Self
-        ensures { result ≡ all_of place earlier later }
+        requires earlier { height_of earlier ≤ height_of later + 1 }
+        requires later { height_of later ≤ height_of earlier + 1 }
+        requires few { length (places_of earlier) + length (places_of later) + 1 < 2 ^ 64 }
+        ensures { result ≡ branch place earlier later }
     {
-        let height = height(&earlier).max(height(&later)).saturating_add(1);
+        let height = height(&earlier).max(height(&later)) + 1;
         let least = place.deadline.min(least(&earlier)).min(least(&later));
         Node {
             place,
@@ -67,58 +69,47 @@ impl<A: Allocator> Node<A> {
 
     /// Its place and its sides.
     pub(crate) fn parts(&self) -> (&Place, &Option<Link<A>>, &Option<Link<A>>)
-        ensures { all_of result.0.now result.1.now result.2.now ≡ self.now }
+        ensures parts { branch result.0.now result.1.now result.2.now ≡ self.now }
+        ensures earlier { height_of result.1.now ≤ height_of result.2.now + 1 }
+        ensures later { height_of result.2.now ≤ height_of result.1.now + 1 }
+        ensures few { length (places_of result.1.now) + length (places_of result.2.now) + 1 < 2 ^ 64 }
     {
         (&self.place, &self.earlier, &self.later)
     }
 
     // Whether nothing here has ended by the moment.
     fn is_later_than(&self, moment: u64) -> bool
-        ensures { result ≡ true → find (is_due moment) self.now ≡ None }
+        ensures { result ≡ nat_lt moment (soonest self.now.places) }
     {
         self.least > moment
     }
 
-    // Puts the place at the end.
-    #[cycle(append)]
-    fn append(&mut self, place: &Place, spare: Link<A>)
-        ensures { self.new ≡ self.old ++ place.now ∷ [] }
-    {
-        let before = height(&self.later);
-        self.least = self.least.min(place.deadline);
-        append(&mut self.later, place, spare);
-        let is_even = height(&self.later) == before;
-        self.settle(is_even);
-    }
-
-    // Makes it anew where the side that has changed is not as it was: no higher, no lower, ending no earlier or later.
-    fn settle(&mut self, is_even: bool)
-        ensures { self.new ≡ self.old }
-    {
-        if !is_even {
-            let (place, earlier, later) = self.take_apart();
-            *self = balanced(place, earlier, later);
-        }
-    }
-
     /// Its place, and its sides taken out of it.
     fn take_apart(&mut self) -> (Place, Option<Link<A>>, Option<Link<A>>)
-        ensures { all_of result.0 result.1 result.2 ≡ self.old }
+        ensures parts { branch result.0 result.1 result.2 ≡ self.old }
+        ensures earlier { height_of result.1 ≤ height_of result.2 + 1 }
+        ensures later { height_of result.2 ≤ height_of result.1 + 1 }
+        ensures few { length (places_of result.1) + length (places_of result.2) + 1 < 2 ^ 64 }
     {
+        self.height = 1;
+        self.least = self.place.deadline;
         (self.place, self.earlier.take(), self.later.take())
     }
 }
 
-fn height<A: Allocator>(link: &Option<Link<A>>) -> u8 {
+fn height<A: Allocator>(link: &Option<Link<A>>) -> u8
+    ensures value { result ≡ height_of link.now }
+    ensures low { IsLow (height_of link.now) (length (places_of link.now)) }
+{
     match link {
         Some(node) => node.height,
         None => 0,
     }
 }
 
-// A moment before which nothing ends that the link leads to.
+// When the first item ends that the link leads to.
 fn least<A: Allocator>(link: &Option<Link<A>>) -> u64
-    ensures { NoneBefore result (places_of link.now) }
+    ensures { result ≡ soonest (places_of link.now) }
 {
     match link {
         Some(node) => node.least,
@@ -126,81 +117,96 @@ fn least<A: Allocator>(link: &Option<Link<A>>) -> u64
     }
 }
 
-// What a node's own height and moment hang on.
-fn measure<A: Allocator>(link: &Option<Link<A>>) -> (u8, u64) {
-    (height(link), least(link))
+// The parts of a node with its later side no lower than its earlier one: where it is, the earlier side's node comes up.
+fn leaning_later<A: Allocator>(node: &mut Node<A>) -> (Place, Option<Link<A>>, Option<Link<A>>)
+    ensures places { all_of result.0 result.1 result.2 ≡ node.old.places }
+    ensures later { height_of result.2 + 1 ≡ node.old.height }
+    ensures earlier { height_of result.1 < node.old.height }
+    ensures even { node.old.height ≤ height_of result.1 + 3 }
+{
+    let (place, earlier, later) = node.take_apart();
+    if height(&earlier) <= height(&later) {
+        return (place, earlier, later);
+    }
+    let Some(mut up) = earlier else {
+        return (place, None, later);
+    };
+    let (next, first, between) = up.take_apart();
+    *up = Node::of(place, between, later);
+    (next, first, Some(up))
 }
 
-// The node of the later side comes up.
+// The same with the earlier side no lower than the later one.
+fn leaning_earlier<A: Allocator>(node: &mut Node<A>) -> (Place, Option<Link<A>>, Option<Link<A>>)
+    ensures places { all_of result.0 result.1 result.2 ≡ node.old.places }
+    ensures earlier { height_of result.1 + 1 ≡ node.old.height }
+    ensures later { height_of result.2 < node.old.height }
+    ensures even { node.old.height ≤ height_of result.2 + 3 }
+{
+    let (place, earlier, later) = node.take_apart();
+    if height(&later) <= height(&earlier) {
+        return (place, earlier, later);
+    }
+    let Some(mut up) = later else {
+        return (place, earlier, None);
+    };
+    let (next, between, last) = up.take_apart();
+    *up = Node::of(place, earlier, between);
+    (next, Some(up), last)
+}
+
+// The later side is two levels higher, and its node comes up.
 fn turn_earlier<A: Allocator>(
     place: Place,
     earlier: Option<Link<A>>,
     later: Option<Link<A>>,
 ) -> Node<A>
-    ensures { result ≡ all_of place earlier later }
+    requires higher { height_of later ≡ height_of earlier + 2 }
+    requires few { length (places_of earlier) + length (places_of later) + 1 < 2 ^ 64 }
+    ensures places { result.places ≡ all_of place earlier later }
+    ensures low { height_of later ≤ result.height }
+    ensures high { result.height ≤ height_of later + 1 }
 {
     let Some(mut up) = later else {
         return Node::of(place, earlier, None);
     };
-    let (next, between, last) = up.take_apart();
+    let (next, between, last) = leaning_later(&mut up);
     *up = Node::of(place, earlier, between);
     Node::of(next, Some(up), last)
 }
 
-// The node of the earlier side comes up.
+// The earlier side is two levels higher, and its node comes up.
 fn turn_later<A: Allocator>(
     place: Place,
     earlier: Option<Link<A>>,
     later: Option<Link<A>>,
 ) -> Node<A>
-    ensures { result ≡ all_of place earlier later }
+    requires higher { height_of earlier ≡ height_of later + 2 }
+    requires few { length (places_of earlier) + length (places_of later) + 1 < 2 ^ 64 }
+    ensures places { result.places ≡ all_of place earlier later }
+    ensures low { height_of earlier ≤ result.height }
+    ensures high { result.height ≤ height_of earlier + 1 }
 {
     let Some(mut up) = earlier else {
         return Node::of(place, None, later);
     };
-    let (next, first, between) = up.take_apart();
+    let (next, first, between) = leaning_earlier(&mut up);
     *up = Node::of(place, between, later);
     Node::of(next, first, Some(up))
 }
 
-// The link's node is no higher on its earlier side than on its later one.
-fn lean_later<A: Allocator>(link: &mut Option<Link<A>>)
-    ensures { places_of link.new ≡ places_of link.old }
-{
-    let Some(node) = link else { return };
-    let (place, earlier, later) = node.take_apart();
-    **node = if height(&earlier) > height(&later) {
-        turn_later(place, earlier, later)
-    } else {
-        Node::of(place, earlier, later)
-    };
-}
-
-// The link's node is no higher on its later side than on its earlier one.
-fn lean_earlier<A: Allocator>(link: &mut Option<Link<A>>)
-    ensures { places_of link.new ≡ places_of link.old }
-{
-    let Some(node) = link else { return };
-    let (place, earlier, later) = node.take_apart();
-    **node = if height(&later) > height(&earlier) {
-        turn_earlier(place, earlier, later)
-    } else {
-        Node::of(place, earlier, later)
-    };
-}
-
 // A node with these sides, of which one may be two levels higher than the other.
 fn balanced<A: Allocator>(place: Place, earlier: Option<Link<A>>, later: Option<Link<A>>) -> Node<A>
-    ensures { result ≡ all_of place earlier later }
+    requires earlier { height_of earlier ≤ height_of later + 2 }
+    requires later { height_of later ≤ height_of earlier + 2 }
+    requires few { length (places_of earlier) + length (places_of later) + 1 < 2 ^ 64 }
+    ensures places { result.places ≡ all_of place earlier later }
+    ensures height { IsBalanced (height_of earlier) (height_of later) result.height }
 {
-    let mut earlier = earlier;
-    let mut later = later;
     if height(&later) > height(&earlier).saturating_add(1) {
-        lean_later(&mut later);
         return turn_earlier(place, earlier, later);
     }
     if height(&earlier) > height(&later).saturating_add(1) {
-        lean_earlier(&mut earlier);
         return turn_later(place, earlier, later);
     }
     Node::of(place, earlier, later)
@@ -209,22 +215,30 @@ fn balanced<A: Allocator>(place: Place, earlier: Option<Link<A>>, later: Option<
 /// Puts the place at the end, in this box.
 #[cycle(append)]
 pub(crate) fn append<A: Allocator>(link: &mut Option<Link<A>>, place: &Place, spare: Link<A>)
-    ensures { places_of link.new ≡ places_of link.old ++ place.now ∷ [] }
+    requires few { length (places_of link.old) + 1 < 2 ^ 64 }
+    ensures places { places_of link.new ≡ places_of link.old ++ place.now ∷ [] }
+    ensures grows { height_of link.old ≤ height_of link.new }
+    ensures little { height_of link.new ≤ height_of link.old + 1 }
 {
-    match link {
-        Some(node) => node.append(place, spare),
-        None => {
-            let mut spare = spare;
-            *spare = Node::of(*place, None, None);
-            *link = Some(spare);
-        }
-    }
+    let Some(mut node) = link.take() else {
+        let mut spare = spare;
+        *spare = Node::of(*place, None, None);
+        *link = Some(spare);
+        return;
+    };
+    let (own, earlier, mut later) = node.take_apart();
+    append(&mut later, place, spare);
+    *node = balanced(own, earlier, later);
+    *link = Some(node);
 }
 
 /// Takes the first place away, with a box that held a node.
 #[cycle(pop_first)]
 fn pop_first<A: Allocator>(link: &mut Option<Link<A>>) -> Option<(Place, Link<A>)>
-    ensures { IsFirstOf (places_of link.old) (places_of link.new) (option_map (λ r. r.0) result) }
+    ensures places { IsFirstOf (places_of link.old) (places_of link.new) (option_map (λ r. r.0) result) }
+    ensures none { IfNone result (height_of link.old ≡ 0) }
+    ensures shrinks { height_of link.new ≤ height_of link.old }
+    ensures little { height_of link.old ≤ height_of link.new + 1 }
 {
     let Some(mut node) = link.take() else {
         return None;
@@ -247,7 +261,10 @@ fn pop_first<A: Allocator>(link: &mut Option<Link<A>>) -> Option<(Place, Link<A>
 #[cycle(pop_last)]
 pub(crate) fn pop_last<A: Allocator>(link: &mut Option<Link<A>>) -> Option<Place>
     ensures places { IsLastOf (places_of link.old) (places_of link.new) result }
+    ensures none { IfNone result (height_of link.old ≡ 0) }
     ensures count { length (places_of link.new) + (if is_some result then 1 else 0) ≡ length (places_of link.old) }
+    ensures shrinks { height_of link.new ≤ height_of link.old }
+    ensures little { height_of link.old ≤ height_of link.new + 1 }
 {
     let Some(mut node) = link.take() else {
         return None;
@@ -268,7 +285,12 @@ pub(crate) fn pop_last<A: Allocator>(link: &mut Option<Link<A>>) -> Option<Place
 
 // Two sides as one.
 fn join<A: Allocator>(earlier: Option<Link<A>>, later: Option<Link<A>>) -> Option<Link<A>>
-    ensures { places_of result ≡ places_of earlier ++ places_of later }
+    requires earlier { height_of earlier ≤ height_of later + 1 }
+    requires later { height_of later ≤ height_of earlier + 1 }
+    requires few { length (places_of earlier) + length (places_of later) + 1 < 2 ^ 64 }
+    ensures places { places_of result ≡ places_of earlier ++ places_of later }
+    ensures low { max (height_of earlier) (height_of later) ≤ height_of result }
+    ensures high { height_of result ≤ max (height_of earlier) (height_of later) + 1 }
 {
     let mut later = later;
     match pop_first(&mut later) {
@@ -287,31 +309,22 @@ pub(crate) fn remove<A: Allocator>(link: &mut Option<Link<A>>, place: &Place) ->
     ensures places { places_of link.new ≡ filter (λ other. not (same_place place.now other)) (places_of link.old) }
     ensures there { list_any (same_place place.now) (places_of link.old) ≡ true → IsSome result }
     ensures count { length (places_of link.new) + (if is_some result then 1 else 0) ≡ length (places_of link.old) }
+    ensures shrinks { height_of link.new ≤ height_of link.old }
+    ensures little { height_of link.old ≤ height_of link.new + 1 }
 {
     let Some(mut node) = link.take() else {
         return None;
     };
-    let own: &mut Node<A> = &mut node;
-    let spare = match place.cmp(&own.place) {
-        Ordering::Less => {
-            let before = measure(&own.earlier);
-            let spare = remove(&mut own.earlier, place);
-            let is_even = measure(&own.earlier) == before;
-            own.settle(is_even);
-            spare
-        }
-        Ordering::Greater => {
-            let before = measure(&own.later);
-            let spare = remove(&mut own.later, place);
-            let is_even = measure(&own.later) == before;
-            own.settle(is_even);
-            spare
-        }
+    let (own, mut earlier, mut later) = node.take_apart();
+    let spare = match place.cmp(&own) {
+        Ordering::Less => remove(&mut earlier, place),
+        Ordering::Greater => remove(&mut later, place),
         Ordering::Equal => {
-            *link = join(own.earlier.take(), own.later.take());
+            *link = join(earlier, later);
             return Some(node);
         }
     };
+    *node = balanced(own, earlier, later);
     *link = Some(node);
     spare
 }
@@ -380,7 +393,8 @@ pub(crate) fn copied<A: Allocator + Clone>(
     link: &Option<Link<A>>,
     alloc: &A,
 ) -> Result<Option<Link<A>>, AllocError>
-    ensures { IfOk result (λ copy. places_of copy ≡ places_of link.now) }
+    ensures places { IfOk result (λ copy. places_of copy ≡ places_of link.now) }
+    ensures height { IfOk result (λ copy. height_of copy ≡ height_of link.now) }
 {
     let Some(node) = link else {
         return Ok(None);

@@ -1,7 +1,6 @@
 -- The places of all items as a tree keeps them: a node's place, those before it on one side, those after it on the other.
-use Rattle.std.specs.Prelude.{◌≡◌, ◌≤◌, nat_le, Bool, List, [], ◌∷◌, ◌++◌, Option, Some, None}
-use Rattle.std.specs.Coded.{Coded, coded_list}
-use Rattle.std.specs.List.{All}
+use Rattle.std.specs.Prelude.{◌≡◌, ℕ, ◌+◌, ◌<◌, ◌≤◌, ◌/◌, ◌^◌, min, max, nat_le, Bool, List, [], ◌∷◌, ◌++◌, length, Option, Some, None, refl}
+use Rattle.std.specs.Coded.{Coded, code_by, coded×, coded_list, coded_ℕ}
 use Rattle.std.specs.Ordering.{is_eq}
 use Rattle.std.specs.declared.boxed.Box.{Box}
 use Rattle.std.specs.declared.cmp.Ordering.{Ordering}
@@ -32,18 +31,59 @@ InOrder places = AreRising named_cmp name_of places
 abbrev pub is_due : Moment → Place → Bool
 is_due moment p = nat_le p.deadline moment
 
--- no item ends before this moment
-abbrev pub NoneBefore : Moment → List Place → Type 0
-NoneBefore moment places = All (λ p. moment ≤ p.deadline) places
+-- the moment at which the first of the items ends; where there are none, the last number of 64 bits
+abbrev pub soonest : List Place → Moment
+soonest [] = 18446744073709551615
+soonest (p ∷ places) = min p.deadline (soonest places)
+
+-- ---- nodes
+
+-- what contracts see of a node: the places at and below it, and its height, the number of nodes on the longest way down from it
+pub record Branch : Type 0 where
+  pub places : List Place
+  pub height : ℕ
+
+-- how it is stored, for proofs
+abbrev pub coded_branch : Coded Branch
+coded_branch = code_by (List Place × ℕ) (coded× coded_places coded_ℕ) (λ b. (b.places, b.height)) (λ p. record { places = p.0; height = p.1 }) (λ _. refl)
 
 -- the places at and below what a link leads to
-abbrev pub places_of : {A : Type 0} → Option (Box (List Place) A) → List Place
+abbrev pub places_of : {A : Type 0} → Option (Box Branch A) → List Place
 places_of None = []
-places_of (Some b) = b.value
+places_of (Some b) = b.value.places
+
+-- the height of what a link leads to
+abbrev pub height_of : {A : Type 0} → Option (Box Branch A) → ℕ
+height_of None = 0
+height_of (Some b) = b.value.height
 
 -- those before a place, the place, those after it
-abbrev pub all_of : {A : Type 0} → Place → Option (Box (List Place) A) → Option (Box (List Place) A) → List Place
+abbrev pub all_of : {A : Type 0} → Place → Option (Box Branch A) → Option (Box Branch A) → List Place
 all_of p earlier later = places_of earlier ++ p ∷ places_of later
+
+-- the node of a place with these sides
+abbrev pub branch : {A : Type 0} → Place → Option (Box Branch A) → Option (Box Branch A) → Branch
+branch p earlier later = record { places = all_of p earlier later; height = max (height_of earlier) (height_of later) + 1 }
+
+-- a tree of so many places is no higher than twice the logarithm of their number and one, to base 2
+abbrev pub IsLow : ℕ → ℕ → Type 0
+IsLow height count = 2 ^ (height / 2) ≤ count + 1
+
+-- how high a node is whose sides are so high, once it is balanced: of sides that differ by two levels it may be one lower
+pub record IsBalanced (earlier later height : ℕ) : Type 0 where
+  pub low : max earlier later ≤ height
+  pub high : height ≤ max earlier later + 1
+  pub even : earlier ≤ later + 1 → later ≤ earlier + 1 → height ≡ max earlier later + 1
+
+-- What holds of a node: its height and the moment of its first end are those of its places, neither side is more than a level
+-- higher than the other, it is low, and its places can be counted by 64 bits.
+pub record IsNode {A : Type 0} (height : ℕ) (least : Moment) (p : Place) (earlier later : Option (Box Branch A)) : Type 0 where
+  pub tall : height ≡ max (height_of earlier) (height_of later) + 1
+  pub soon : least ≡ soonest (all_of p earlier later)
+  pub even_earlier : height_of earlier ≤ height_of later + 1
+  pub even_later : height_of later ≤ height_of earlier + 1
+  pub low : IsLow (max (height_of earlier) (height_of later) + 1) (length (all_of p earlier later))
+  pub few : length (all_of p earlier later) < 2 ^ 64
 
 -- the first place and the others, if there are any
 abbrev pub IsFirstOf : List Place → List Place → Option Place → Type 0
