@@ -10,6 +10,8 @@ OPEN, CLOSED, JUNK = b'\1'.ljust(SECTOR, b'\xa5'), b'\0'.ljust(SECTOR, b'\xa5'),
 NUMBERS = {'layout': 1, 'rules': 16, 'radios': 16, 'mail': 256, 'stations': 4, 'journal': 39}
 SECTORS, SLOT, OTHER_SLOT, GATE, OTHER_GATE = 667, 3, 296, 589, 628
 NONE = 0, 0, 0, 0
+# A copy of a message to a group that is told to be a report, with the PDU of a report: item 5 for 234-14-2002
+COPY_OF_A_REPORT = '15 0000000000000005 0000000000000e74 3a800e0007d2 3a800e0007d1 05 01 3a800e0003e8 0020 82100005'
 
 
 def label(name=b'TETRALOC', **others):
@@ -72,6 +74,7 @@ def images():
     yield image({SLOT: header_row(3, 1, (2, 0, 0, 0)), 4: rule, 5: rule, GATE: OPEN}), Damaged(5)
     yield image({SLOT: header_row(3, 1, (1, 0, 0, 1)), 4: rule, 5: rule}), Damaged(5)
     yield image({SLOT: header_row(3, 1, (1, 0, 0, 0)), 4: JUNK}), Damaged(4)
+    yield image({SLOT: header_row(3, 5, (0, 0, 1, 0)), 4: bytes.fromhex(COPY_OF_A_REPORT).ljust(SECTOR, b'\0')}), Damaged(4)
 
 
 def records():

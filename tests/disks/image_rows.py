@@ -231,8 +231,8 @@ def mail_values():
         yield image_of(mail_row(key, reading.Item(count, 5, message(3), group)))
     for deadline, group in itertools.product((0, 2 ** 32, LATEST - 1, LATEST, LATEST + 1, 2 ** 63, 2 ** 64 - 1), (None, identity(7))):
         yield image_of(mail_row(key, reading.Item(1, deadline, message(3), group)))
-    for kind in (0, 1, 2, 109, 114, 255):
-        row = mail_row(key, reading.Item(1, 1, message(3), None))
+    for kind, told, group in itertools.product((0, 1, 2, 109, 114, 255), (message(3), report(3)), (None, identity(7))):
+        row = mail_row(key, reading.Item(1, 1, told, group))
         yield image_of(row[:30] + number(kind, 1) + row[31:])
 
 

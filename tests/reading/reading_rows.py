@@ -103,6 +103,7 @@ def mail_in(fields, is_copy=False):
     number, deadline = fields.number(8), fields.number(8, most=LATEST)
     destination, source, reference = fields.identity(), fields.identity(), fields.number(1)
     kind, told = mail_kind_in(fields)
+    want(told is Message or not is_copy)
     group = fields.identity() if is_copy else None
     try:
         pdu = read_sds(fields.string())

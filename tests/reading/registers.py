@@ -49,7 +49,7 @@ def some_item(chance, count):
     """An item, under its key."""
     kind, told = chance.choice([(b'm', message), (b'r', report)])
     reference, most = some_number(chance, 0, 255), chance.choice([40, 40, 40, 2015])
-    group = some_identity(chance) if chance.random() < 0.3 else None
+    group = some_identity(chance) if told is message and chance.random() < 0.3 else None
     kept = reading.Item(some_number(chance, 1, count), some_number(chance, 0, LATEST), told(reference, some_bits(chance, most)), group)
     return (some_identity(chance), some_identity(chance), reference, kind), kept
 

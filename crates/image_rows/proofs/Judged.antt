@@ -11,10 +11,9 @@ use Rattle.std.proofs.lemmas.Bool.{ltb-true, ltb-false, lt-ltb, le-ltb}
 use Rattle.std.proofs.lemmas.List.{length-append}
 use Rattle.std.proofs.lemmas.List.Elements.{All-head, All-tail, All-nil, All-cons}
 use Rattle.std.proofs.lemmas.List.Sums.{sum_by_push}
-use Rattle.sds_tl.specs.Reading.{heading}
 use Rattle.mailbox.specs.declared.fault.MailFault.TheVariants.{ReferenceBusy}
 use Rattle.mailbox.specs.Values.{Item, Mailed}
-use Rattle.mailbox.specs.Sound.{is_head_of}
+use Rattle.mailbox.specs.Sound.{is_as_named}
 use Rattle.mailbox.specs.Mail.{holds, with_item}
 use Rattle.mailbox.specs.Order.{ComesLast, named, named_cmp}
 use Rattle.mailbox.specs.Refusals.{most_for_one, crowd_refusal, full_refusal, restore_refusal}
@@ -81,7 +80,7 @@ and_true : (b : Bool) → b ≡ (b && true)
 and_true true = refl
 and_true false = refl
 
-pub may_by_place : (h : Header) (s : State) (w : Item) (free : Bool) → before_place h s w ≡ true → is_head_of w.key.kind w.key.reference (heading w.pdu) ≡ true → free ≡ (not (holds s.mail w.key) && nat_lt (count_by (is_to w.key.destination) s.mail.items) most_for_one) → free ≡ mail_may h s w
+pub may_by_place : (h : Header) (s : State) (w : Item) (free : Bool) → before_place h s w ≡ true → is_as_named w ≡ true → free ≡ (not (holds s.mail w.key) && nat_lt (count_by (is_to w.key.destination) s.mail.items) most_for_one) → free ≡ mail_may h s w
 may_by_place h s w free before head is =
     let few = nat_lt (count_by (is_to w.key.destination) s.mail.items) most_for_one in
     is ∙ and_true (not (holds s.mail w.key) && few) ∙ (λ i. ((sym before i && not (holds s.mail w.key)) && few) && sym head i)
@@ -89,7 +88,7 @@ may_by_place h s w free before head is =
 pub may_not : (h : Header) (s : State) (w : Item) → before_place h s w ≡ false → false ≡ mail_may h s w
 may_not h s w before =
     let few = nat_lt (count_by (is_to w.key.destination) s.mail.items) most_for_one in
-    λ i. ((sym before i && not (holds s.mail w.key)) && few) && is_head_of w.key.kind w.key.reference (heading w.pdu)
+    λ i. ((sym before i && not (holds s.mail w.key)) && few) && is_as_named w
 
 pub few_yet : (h : Header) (s : State) (w : Item) → IsHeld h s → before_place h s w ≡ true → length s.mail.items < s.mail.room
 few_yet h s w held before =

@@ -16,9 +16,8 @@ use Rattle.registration.specs.declared.radio.Radio.{Radio}
 use Rattle.group_attach.specs.Attached.{Pair}
 use Rattle.group_attach.specs.Applied.{most_of_radio}
 use Rattle.group_attach.specs.Allowed.{AreAllowed}
-use Rattle.sds_tl.specs.Reading.{heading}
 use Rattle.mailbox.specs.Values.{Item}
-use Rattle.mailbox.specs.Sound.{IsMail, IsSpelt, is_head_of, IsNumbered as IsNumberedItem}
+use Rattle.mailbox.specs.Sound.{IsMail, IsSpelt, is_as_named, IsNumbered as IsNumberedItem}
 use Rattle.mailbox.specs.Mail.{holds}
 use Rattle.mailbox.specs.Order.{IsBefore, named, named_cmp}
 use Rattle.mailbox.specs.Refusals.{most_for_one}
@@ -213,7 +212,7 @@ mail_only h s w sound range may =
     let four = left _ _ five in
     let three = left _ _ four in
     let two = left _ _ three in
-    let head : is_head_of w.key.kind w.key.reference (heading w.pdu) ≡ true = right (radios_done h s && nat_lt (length old) h.mail && is_numbered s.count w.number && comes_last && not (holds s.mail w.key) && nat_lt (count_by (is_to w.key.destination) old) most_for_one) _ may in
+    let head : is_as_named w ≡ true = right (radios_done h s && nat_lt (length old) h.mail && is_numbered s.count w.number && comes_last && not (holds s.mail w.key) && nat_lt (count_by (is_to w.key.destination) old) most_for_one) _ may in
     let few : count_by (is_to w.key.destination) old < most_for_one = ltb-true _ _ (right (radios_done h s && nat_lt (length old) h.mail && is_numbered s.count w.number && comes_last && not (holds s.mail w.key)) _ six) in
     let free : holds s.mail w.key ≡ false = false_if (holds s.mail w.key) (right (radios_done h s && nat_lt (length old) h.mail && is_numbered s.count w.number && comes_last) _ five) in
     let last : comes_last ≡ true = right (radios_done h s && nat_lt (length old) h.mail && is_numbered s.count w.number) _ four in

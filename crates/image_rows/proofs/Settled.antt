@@ -8,7 +8,8 @@ use Rattle.sds_tl.proofs.Spelling.{value_takes}
 use Rattle.sds_tl.proofs.Cleared.{cleared_is_canon, cleared_spells, heading-cleared}
 use Rattle.mailbox.specs.declared.key.Kind.{Kind}
 use Rattle.mailbox.specs.declared.key.Kind.TheVariants.{Message, Report}
-use Rattle.mailbox.specs.Sound.{is_head_of}
+use Rattle.mailbox.specs.Values.{Item}
+use Rattle.mailbox.specs.Sound.{is_head_of, may_have_group, is_as_named}
 use Rattle.identity.specs.Packed.{AreBytes}
 use Rattle.command_bytes.specs.Fields.{◌>>=◌, number_at}
 use Rattle.command_bytes.proofs.Steps.{bind_some, some_is, some_where, last_again}
@@ -16,6 +17,8 @@ use Rattle.image_rows.specs.Rows.{Row, HeaderRow, RuleRow, RadioRow, MailRow, Se
 use Rattle.image_rows.specs.RowText.{row_bytes}
 use Rattle.image_rows.specs.RowReading.{row_at, fields_at, fields_in, row_in, is_known, written, settled, IsRow, RowAsRead, Spells as SpellsRow}
 use Rattle.image_rows.proofs.RowLaws.{row_takes, row_again}
+use Rattle.image_rows.proofs.Order.{both}
+use Rattle.identity.proofs.NumberText.{and_left as left, and_right as right}
 
 -- ---- PDUs
 
@@ -42,9 +45,19 @@ cleared_again bits none =
       room = after.room;
     }
 
--- what a PDU is written as is of the same kind and reference
-pub still_known : (kind : Kind) (n : ℕ) (bits : List Bool) → is_head_of kind n (heading bits) ≡ true → is_head_of kind n (heading (cleared bits)) ≡ true
-still_known kind n bits known = ap (is_head_of kind n) (cleared_again bits (faultless kind n (fault bits) (head_value bits) known)).head ∙ known
+-- what is as its key says has a PDU of its kind and reference
+pub headed : (w : Item) → is_as_named w ≡ true → is_head_of w.key.kind w.key.reference (heading w.pdu) ≡ true
+headed w known = right (may_have_group w.key.kind w.group) _ known
+
+-- such a PDU is written as one without fault
+cleared_of : (w : Item) → is_as_named w ≡ true → IsCleared w.pdu
+cleared_of w known = cleared_again w.pdu (faultless w.key.kind w.key.reference (fault w.pdu) (head_value w.pdu) (headed w known))
+
+-- what is as its key says still is, once its PDU is written
+pub still_known : (w : Item) → is_as_named w ≡ true → is_as_named (record w { pdu = cleared w.pdu }) ≡ true
+still_known w known =
+    both (may_have_group w.key.kind w.group) _ (left (may_have_group w.key.kind w.group) _ known)
+    (ap (is_head_of w.key.kind w.key.reference) (cleared_of w known).head ∙ headed w known)
 
 -- ---- what is read is a row
 
@@ -53,14 +66,14 @@ is_row (HeaderRow h) fits known = record { range = fits; known = refl }
 is_row (RuleRow prefix rule) fits known = record { range = fits; known = refl }
 is_row (RadioRow itsi radio groups) fits known = record { range = fits; known = refl }
 is_row (MailRow w) fits known =
-    let so = cleared_again w.pdu (faultless w.key.kind w.key.reference (fault w.pdu) (head_value w.pdu) known) in
+    let so = cleared_of w known in
     record {
       range = record {
         item = record { key = fits.key; deadline = fits.deadline; pdu = so.room; group = fits.group };
         number = fits.number;
         written = so.again;
       };
-      known = ap (is_head_of w.key.kind w.key.reference) so.head ∙ known;
+      known = still_known w known;
     }
 is_row (ServedRow station last) fits known = record { range = fits; known = refl }
 

@@ -12,13 +12,12 @@ use Rattle.registration.specs.declared.limits.Limits.{Limits}
 use Rattle.registration.specs.declared.rule.Rule.{Rule}
 use Rattle.registration.specs.declared.radio.Radio.{Radio}
 use Rattle.registration.specs.Registered.{with_rule}
-use Rattle.sds_tl.specs.Reading.{heading}
 use Rattle.group_attach.specs.declared.attachment.Attachment.{Attachment}
 use Rattle.group_attach.specs.Applied.{most_of_radio}
 use Rattle.group_attach.specs.Attached.{Attached, all_attached}
 use Rattle.mailbox.specs.Numbers.{Number, Count}
 use Rattle.mailbox.specs.Values.{Item}
-use Rattle.mailbox.specs.Sound.{is_head_of}
+use Rattle.mailbox.specs.Sound.{is_as_named}
 use Rattle.mailbox.specs.Mail.{holds, with_item}
 use Rattle.mailbox.specs.Order.{named, named_cmp}
 use Rattle.mailbox.specs.Refusals.{most_for_one}
@@ -119,11 +118,11 @@ before_place h s w = radios_done h s && nat_lt (length s.mail.items) h.mail && i
 abbrev pub has_room_for : List Item → Itsi → Bool
 has_room_for items destination = nat_lt (count_by (is_to destination) items) most_for_one
 
--- it comes after all that wait, under a key of its own, there is room for it, and its PDU is what its key says
+-- it comes after all that wait, under a key of its own, there is room for it, and it is what its key says
 abbrev pub mail_may : Header → State → Item → Bool
 mail_may h s w =
     before_place h s w && not (holds s.mail w.key) && has_room_for s.mail.items w.key.destination
-    && is_head_of w.key.kind w.key.reference (heading w.pdu)
+    && is_as_named w
 
 -- the state with the item, as the last
 abbrev pub taken_mail : State → Item → State

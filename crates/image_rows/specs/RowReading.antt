@@ -2,10 +2,10 @@
 use Rattle.std.specs.Prelude.{◌≡◌, ℕ, zero, suc, ◌^◌, ◌<◌, ◌≤◌, ◌==◌, ◌/◌, ◌%◌, Bool, true, false, ◌&&◌, List, [], ◌∷◌, ◌++◌, length, Option, Some, None, IfSome, nat_le, nat_lt, if◌then◌else◌}
 use Rattle.identity.specs.Numbers.{Gtsi, Byte}
 use Rattle.mm_pdus.specs.Values.{lifetime_of}
-use Rattle.sds_tl.specs.Reading.{heading, cleared}
+use Rattle.sds_tl.specs.Reading.{cleared}
 use Rattle.group_attach.specs.Attached.{Usage}
 use Rattle.mailbox.specs.Numbers.{Number}
-use Rattle.mailbox.specs.Sound.{is_head_of}
+use Rattle.mailbox.specs.Sound.{is_as_named}
 use Rattle.mailbox.specs.Values.{Item, KeyInRange, latest_deadline}
 use Rattle.identity.specs.BitsText.{most_bits}
 use Rattle.centre_core.specs.StateRanges.{RuleEntryInRange}
@@ -117,12 +117,12 @@ fields_at tag bytes =
 unfoldable pub row_at : List Byte → Read Row
 row_at bytes = number_at 1 bytes >>= λ tag. fields_at tag.0 tag.1
 
--- what waits is what its key says: a message an SDS-TRANSFER of its reference, a report an SDS-REPORT
+-- what waits is what its key says: a message an SDS-TRANSFER of its reference, a report an SDS-REPORT; a copy is a message
 abbrev pub is_known : Row → Bool
 is_known (HeaderRow h) = true
 is_known (RuleRow prefix rule) = true
 is_known (RadioRow itsi radio groups) = true
-is_known (MailRow w) = is_head_of w.key.kind w.key.reference (heading w.pdu)
+is_known (MailRow w) = is_as_named w
 is_known (ServedRow station last) = true
 
 -- a row with its PDU as it is written, the reserved bits 0

@@ -1,7 +1,6 @@
 // What waits, as it is read.
 ghost use Rattle.std.specs.Prelude.{◌≡◌, ◌≤◌, IfOk, option_map, true};
-ghost use Rattle.sds_tl.specs.Reading.{heading};
-ghost use Rattle.mailbox.specs.Sound.{is_head_of};
+ghost use Rattle.mailbox.specs.Sound.{is_as_named, may_have_group};
 ghost use Rattle.mailbox.specs.Values.{latest_deadline};
 ghost use Rattle.image_rows.specs.Rows.{MailRow};
 ghost use Rattle.image_rows.specs.RowReading.{settled};
@@ -23,9 +22,9 @@ pub struct ReadItem<'a> {
 
 impl<'a> Model for ReadItem<'a> {
     ghost use Rattle.std.specs.Prelude.{◌≡◌, ◌≤◌, true};
-    ghost use Rattle.sds_tl.specs.Reading.{heading, cleared};
+    ghost use Rattle.sds_tl.specs.Reading.{cleared};
     ghost use Rattle.mailbox.specs.Values.{Item, coded_item, latest_deadline};
-    ghost use Rattle.mailbox.specs.Sound.{is_head_of};
+    ghost use Rattle.mailbox.specs.Sound.{is_as_named};
     ghost use Rattle.image_rows.specs.ItemViews.{seen_item};
 
     ghost Value = { Item };
@@ -34,15 +33,25 @@ impl<'a> Model for ReadItem<'a> {
 
     ghost view = { λ i. record (seen_item i.seen) { pdu = cleared i.seen.pdu } };
 
-    ghost invariant = { λ i. (is_head_of i.seen.key.kind i.seen.key.reference (heading i.seen.pdu) ≡ true) × (i.seen.deadline ≤ latest_deadline) };
+    ghost invariant = { λ i. (is_as_named (seen_item i.seen) ≡ true) × (i.seen.deadline ≤ latest_deadline) };
 }
 
-/// What waits, where its PDU is what its key says.
+// Whether an item of this kind may have the group: only a message is sent to one.
+fn may_have_group(kind: Kind, group: &Option<Gtsi>) -> bool
+    ensures { result ≡ may_have_group kind group.now }
+{
+    match group {
+        None => true,
+        Some(_) => kind == Kind::Message,
+    }
+}
+
+/// What waits, where it is what its key says: its PDU is of its kind and reference, and a copy is a message.
 pub fn known(seen: SeenItem<'_>) -> Option<ReadItem<'_>>
     requires { seen.deadline ≤ latest_deadline }
     ensures { option_map (λ i. MailRow i) result ≡ settled (MailRow (seen_item seen.entry)) }
 {
-    if !is_of_key(&seen.pdu, &seen.key) {
+    if !may_have_group(seen.key.kind, &seen.group) || !is_of_key(&seen.pdu, &seen.key) {
         return None;
     }
     Some(ReadItem { seen })
@@ -80,7 +89,7 @@ impl<'a> ReadItem<'a> {
 
     // What its fields keep, as a clause.
     pub(crate) fn hold_known(&self)
-        ensures { is_head_of self.now.key.kind self.now.key.reference (heading self.now.pdu) ≡ true }
+        ensures { is_as_named self.now ≡ true }
     {
         let _seen = self.seen.number;
     }

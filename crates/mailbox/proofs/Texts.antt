@@ -1,5 +1,6 @@
 -- An item's PDU is a text of its layer.
 use Rattle.std.proofs.Common.{◌≡◌, ℕ, true, refl, sym, ◌∙◌, Option, Some, None}
+use Rattle.identity.proofs.NumberText.{and_right as right}
 use mathlib.Core.Bool.{false≢true}
 use Rattle.sds_tl.specs.declared.fault.SdsFault.{SdsFault}
 use Rattle.sds_tl.specs.declared.pdu.Head.{Head}
@@ -9,7 +10,7 @@ use Rattle.sds_tl.proofs.Spelling.{value_takes}
 use Rattle.sds_tl.proofs.Cleared.{cleared_is_canon}
 use Rattle.mailbox.specs.declared.key.Kind.{Kind}
 use Rattle.mailbox.specs.declared.key.Kind.TheVariants.{Message, Report}
-use Rattle.mailbox.specs.Sound.{is_head_of}
+use Rattle.mailbox.specs.Sound.{is_head_of, may_have_group}
 use Rattle.mailbox.specs.Laws.{ItemsAreTexts}
 
 headed : (kind : Kind) (reference : ℕ) (none : Option SdsFault) (head : Head) → is_head_of kind reference (unless none head) ≡ true → none ≡ None
@@ -19,5 +20,5 @@ headed Report reference (Some fault) head h = absurd (false≢true h)
 
 pub items_are_texts : (A : Type 0) → ItemsAreTexts A
 items_are_texts A w spelt =
-    let spells : Spells {A = A} (value w.pdu) w.pdu = value_takes A w.pdu (headed w.key.kind w.key.reference (fault w.pdu) (head_value w.pdu) spelt.head) in
+    let spells : Spells {A = A} (value w.pdu) w.pdu = value_takes A w.pdu (headed w.key.kind w.key.reference (fault w.pdu) (head_value w.pdu) (right (may_have_group w.key.kind w.group) _ spelt.head)) in
     (spells, sym spelt.written ∙ cleared_is_canon A (value w.pdu) w.pdu spells)

@@ -1,7 +1,7 @@
 -- What holds of the mail after any commands.
-use Rattle.std.specs.Prelude.{◌≡◌, ◌<◌, ◌≤◌, ◌==◌, Bool, true, false, length, count_by, Result, Ok, Err}
+use Rattle.std.specs.Prelude.{◌≡◌, ◌<◌, ◌≤◌, ◌==◌, ◌&&◌, Bool, true, false, length, count_by, Option, Some, None, Result, Ok, Err}
 use Rattle.std.specs.List.{All, AllPairs}
-use Rattle.identity.specs.Numbers.{Itsi}
+use Rattle.identity.specs.Numbers.{Itsi, Gtsi}
 use Rattle.sds_tl.specs.declared.fault.SdsFault.{SdsFault}
 use Rattle.sds_tl.specs.declared.pdu.Head.{Head}
 use Rattle.sds_tl.specs.declared.pdu.Head.TheVariants as heads
@@ -10,7 +10,7 @@ use Rattle.mailbox.specs.Numbers.{Number, Count}
 use Rattle.mailbox.specs.declared.key.Kind.{Kind}
 use Rattle.mailbox.specs.declared.key.Kind.TheVariants.{Message, Report}
 use Rattle.mailbox.specs.Values.{Item, Mailed}
-use Rattle.mailbox.specs.Item.{same_key, is_to}
+use Rattle.mailbox.specs.Item.{same_key, is_to, is_message_kind}
 use Rattle.mailbox.specs.Order.{IsBefore}
 use Rattle.mailbox.specs.Refusals.{most_for_one}
 
@@ -24,9 +24,18 @@ is_head_of Report number (Ok (heads.Report acknowledge status reference)) = refe
 is_head_of Report number (Ok (heads.Ack status reference)) = false
 is_head_of kind number (Err fault) = false
 
--- its PDU is of its kind and reference, and in its written form: the reserved bits are 0
+-- only a message is sent to a group
+abbrev pub may_have_group : Kind → Option Gtsi → Bool
+may_have_group kind None = true
+may_have_group kind (Some group) = is_message_kind kind
+
+-- the item is what its key says: it is a message if it has a group, and its PDU is of its kind and reference
+abbrev pub is_as_named : Item → Bool
+is_as_named w = may_have_group w.key.kind w.group && is_head_of w.key.kind w.key.reference (heading w.pdu)
+
+-- it is what its key says, and its PDU is in its written form: the reserved bits are 0
 pub record IsSpelt (w : Item) : Type 0 where
-  pub head : is_head_of w.key.kind w.key.reference (heading w.pdu) ≡ true
+  pub head : is_as_named w ≡ true
   pub written : cleared w.pdu ≡ w.pdu
 
 -- the item is of one of the commands that were accepted
@@ -34,7 +43,7 @@ abbrev pub IsNumbered : Count → Item → Type 0
 IsNumbered count w = (0 < w.number) × (w.number ≤ count)
 
 -- Of the mail after so many accepted commands: each item is of one of them, they are in order, no two have one key, there are
--- no more than may be, in all and for one destination, and each item's PDU is what its key says.
+-- no more than may be, in all and for one destination, and each item is what its key says.
 pub record IsMail (count : Count) (m : Mailed) : Type 0 where
   pub numbered : All (IsNumbered count) m.items
   pub ordered : AllPairs IsBefore m.items
