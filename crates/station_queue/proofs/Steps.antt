@@ -12,7 +12,6 @@ use Rattle.crossbeam_queue.specs.Fifo.{Pushes, Pops, Forks, Merges, Learns}
 use Rattle.crossbeam_queue.proofs.Lists.{at_set}
 use Rattle.station_queue.specs.declared.entry.Entry.{Entry}
 use Rattle.station_queue.specs.declared.rule.View.{View}
-use Rattle.station_queue.specs.declared.rule.Settled.{Settled}
 use Rattle.station_queue.specs.Entries.{station_of, entries_of}
 use Rattle.station_queue.specs.Order.{taker, sender, settled, nobody, Fits, FitsSettled, IsInOrder, AreAllSent}
 

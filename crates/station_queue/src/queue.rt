@@ -18,6 +18,7 @@ pub fn open_queue(alloc: Global, count: u16) -> Result<(Taker, Vec<Sender>), All
     requires { count ≤ 64 }
     ensures taker { IfOk result (λ r. r.0 ≡ taking r.0.queue count [] [] r.0.empty) }
     ensures senders { IfOk result (λ r. (length r.1.items ≡ count) × ((k : ℕ) → k < count → slice_get r.1.items k ≡ Some (sending r.0.queue (k + 1) []))) }
+    ensures queue { IfOk result (λ r. All (λ s. s.queue ≡ r.0.queue) r.1.items) }
 {
     let mut senders = Vec::with_capacity(alloc, usize::from(count))?;
     let (queue, pass) = Queue::ruled(alloc, PLACES)?;

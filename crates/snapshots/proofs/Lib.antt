@@ -1,0 +1,5 @@
+pub mod Adding
+pub mod CommandLists
+pub mod Folding
+pub mod Keeping
+pub mod Prefixes

@@ -1,0 +1,4 @@
+pub mod Changes
+pub mod Log
+pub mod Publishing
+pub mod Views

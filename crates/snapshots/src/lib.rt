@@ -1,0 +1,24 @@
+//! Snapshots of the register for readers that never wait: two copies of it, of which viewers read one without a lock.
+//! The publisher changes the other and then swaps the two.
+//!
+//! The commands that the published copy was made by are a list that exists in proofs alone. A viewer reads the register
+//! after a list that begins with all that the viewer saw before, and with every list that it was told of.
+#![tactic(auto)]
+
+mod appending;
+mod log;
+mod making;
+mod published;
+mod publisher;
+mod publishing;
+mod rule;
+mod snapshot;
+mod viewer;
+mod visit;
+
+pub use log::{Centre, NewLog};
+pub use making::{MakeFault, PENDING, make};
+pub use published::Published;
+pub use publisher::Publisher;
+pub use viewer::{ReadFault, Viewer};
+pub use visit::Visit;

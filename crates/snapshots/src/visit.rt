@@ -1,0 +1,109 @@
+//! A viewer inside the published copy.
+ghost use Rattle.std.specs.Prelude.{◌≡◌, length, IfOk, OnErr, MatchResult};
+ghost use mathlib.Core.List.{IsPrefix};
+ghost use Rattle.centre_core.specs.History.{after};
+ghost use Rattle.centre_core.specs.Tell.{AsksForList, tell};
+ghost use Rattle.snapshots.specs.Views.{IsSnapshot};
+
+use crate::log::Centre;
+use crate::published::Published;
+use crate::rule::{Inside, Sees};
+use crate::viewer::Viewer;
+use centre_core::{Query, Told};
+use std::alloc::{AllocError, Allocator};
+use std::marker::{Model, PhantomData};
+
+/// A viewer inside the published copy, which stays as it is until the viewer leaves: so several queries are answered from
+/// one state. Contracts see the list that the copy was made by. It is not `Drop`: end it by `leave`, since the second
+/// publication from now on waits for that.
+pub struct Visit<J: Centre> {
+    inside: Inside<J>,
+    list: Published<J>,
+    base: u64,
+}
+
+impl<J: Centre> Model for Visit<J> {
+    ghost use Rattle.std.specs.Prelude.{◌≡◌, List};
+    ghost use Rattle.std.specs.declared.alloc.Global.{Global};
+    ghost use Rattle.centre_core.specs.Asked.{Asked};
+    ghost use Rattle.centre_core.specs.History.{after};
+
+    ghost Value = { List (Asked Global) };
+
+    ghost view = { λ v. v.list };
+
+    ghost invariant = { λ v. (v.base ≡ J.base.count) × (v.inside.part.value.register ≡ after J.base v.list) };
+}
+
+impl<J: Centre> Visit<J> {
+    /// The answer to a query, kept under `alloc`. Only a list takes memory.
+    pub fn query<C: Allocator + Copy>(&self, alloc: C, query: &Query) -> Result<Told<C>, AllocError>
+        ensures told { IfOk result (λ told. told ≡ tell (after J.base self.now) query.now) }
+        ensures memory { OnErr result (AsksForList query.now) }
+    {
+        self.inside.get().register.query(alloc, query)
+    }
+
+    /// After how many commands the copy is.
+    pub fn count(&self) -> u64
+        ensures { result ≡ length self.now }
+    {
+        self.list.count()
+    }
+
+    /// The viewer has seen the list of this copy.
+    pub fn leave(self) -> Viewer<J>
+        ensures { result ≡ self }
+    {
+        let Visit { inside, list, base } = self;
+        Viewer {
+            reader: inside.leave(),
+            known: list,
+            base,
+        }
+    }
+}
+
+// The list of the copy that is entered.
+fn list_of<J: Centre>(inside: &Inside<J>, base: u64) -> Published<J>
+    requires base { base ≡ J.base.count }
+    requires snapshot { IsSnapshot J.base J.book inside.now.part.value }
+    ensures { result ≡ inside.now.part.value.list.log }
+{
+    let shown = inside.get();
+    Published {
+        count: shown.register.count() - base,
+        list: shown.list.again(),
+        of: PhantomData,
+    }
+}
+
+// Enters the copy that is published now, whose list begins with all that the viewer has seen or was told of. It never
+// waits. If the copy can't be entered, the viewer comes back as it was.
+pub fn entered<J: Centre>(viewer: Viewer<J>) -> Result<Visit<J>, Viewer<J>>
+    ensures { MatchResult result (λ visit. IsPrefix viewer visit) (λ same. same ≡ viewer) }
+{
+    let Viewer {
+        reader,
+        known,
+        base,
+    } = viewer;
+    match reader.enter_as::<Sees<J>>() {
+        Ok(inside) => {
+            let list = list_of(&inside, base);
+            if !known.is_prefix_of(&list) {
+                return Err(Viewer {
+                    reader: inside.leave(),
+                    known,
+                    base,
+                });
+            }
+            Ok(Visit { inside, list, base })
+        }
+        Err(reader) => Err(Viewer {
+            reader,
+            known,
+            base,
+        }),
+    }
+}
