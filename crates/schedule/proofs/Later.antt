@@ -5,10 +5,11 @@ use Rattle.std.proofs.lemmas.List.{take-append-le, take_at, append-nil, take-app
 use Rattle.centre_core.specs.declared.command.Command.{Command}
 use Rattle.centre_core.specs.State.{State}
 use Rattle.centre_core.specs.History.{after}
+use Rattle.centre_core.specs.Batches.{taken}
 use Rattle.schedule.specs.declared.event.Event.{Event}
 use Rattle.schedule.specs.declared.event.Event.TheVariants.{Submit, Seal, CommitBegin, CommitEnd, Publish, Answer, Read, CheckpointBegin, CheckpointEnd, Crash, Reopen}
 use Rattle.schedule.specs.World.{World, Entry}
-use Rattle.schedule.specs.Next.{all_of, taken, records_of, first_of, answered, effect, Next, Run}
+use Rattle.schedule.specs.Next.{all_of, records_of, first_of, answered, effect, Next, Run}
 use Rattle.schedule.specs.Clauses.{IsBeginning, IsShortenedByCrashAlone, is_crash}
 use Rattle.schedule.proofs.Lists.{opposed}
 use Rattle.schedule.proofs.Soundness.{Sound, next_is_sound, crash_front}

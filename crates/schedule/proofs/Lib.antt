@@ -5,6 +5,7 @@ pub mod Later
 pub mod Sealing
 pub mod Running
 pub mod Rounding
+pub mod Following
 pub mod Messages
 pub mod Placing
 pub mod Judging

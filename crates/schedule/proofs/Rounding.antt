@@ -1,5 +1,5 @@
 -- A round goes by a run.
-use Rattle.std.specs.Prelude.{Some, None, not, nat_lt, nat_le, is_none, ◌==◌}
+use Rattle.std.specs.Prelude.{Some, None, not, nat_lt, nat_le, is_none, get_or, set, take, ◌==◌}
 use Rattle.std.specs.List.{AllByRecursion}
 use Rattle.std.proofs.lemmas.Bool.Decides.{nat_tests}
 use Rattle.std.proofs.Common.{◌≡◌, ℕ, zero, suc, ◌+◌, ◌<◌, ◌≤◌, Bool, true, false, cond, ◌&&◌, List, [], ◌∷◌, ◌++◌, length, drop, refl, ap, sym, ◌∙◌, subst, arith, append_assoc, length-append}
@@ -7,11 +7,13 @@ use Rattle.std.proofs.lemmas.List.{append-nil, length-set, set-set, set-get_or}
 use Rattle.centre_core.specs.declared.command.Command.{Command}
 use Rattle.centre_core.specs.State.{State}
 use Rattle.centre_core.specs.History.{next, after}
+use Rattle.centre_core.specs.Batches.{with_replies, taken}
 use Rattle.schedule.specs.declared.event.Event.{Event}
-use Rattle.schedule.specs.declared.event.Event.TheVariants.{Seal, CommitBegin, CommitEnd, Answer}
+use Rattle.schedule.specs.declared.event.Event.TheVariants.{Seal, CommitBegin, CommitEnd, Answer, CheckpointBegin, Crash}
 use Rattle.schedule.specs.World.{World, Line, line, line_of, with_line, Entry}
-use Rattle.schedule.specs.Next.{is_still, replies, taken, is_empty, front, first_of, without_first, answered, seen_after, Next, Run}
-use Rattle.schedule.specs.Rounds.{Round, at, fed, AreOf, Goes, IsIdle, seals, answers_to, checkpoint_if, publish_if, events_of, after_round, after_idle_round, RoundsRun, IdleRoundsRun}
+use Rattle.schedule.specs.Next.{is_still, is_empty, front, first_of, without_first, answered, seen_after, cut, emptied, Next, Run}
+use Rattle.schedule.specs.Rounds.{Round, at, fed, queues, AreOf, Goes, GoesDown, IsIdle, seals, answers_to, room_if, move_if, give_up, under_way, left_under_way, publish_if, events_of, accepted_after, after_commit, after_round, after_idle_round, records_after, after_stop, stopped_commit, stopped_checkpoint, RoundsRun, IdleRoundsRun, CrashedRoundsRun, CrashedCheckpointsRun}
+use Rattle.schedule.specs.RoundParts.{batched, owing, answering, tellings, AreEntriesOf, SealsRun, AnswersRun}
 use Rattle.schedule.proofs.Lists.{and_both, line_same}
 
 less_test : (a b : ℕ) → a < b → nat_lt a b ≡ true
@@ -19,6 +21,9 @@ less_test a b h = grind (arith, nat_tests)
 
 same_test : (a b : ℕ) → a ≡ b → (a == b) ≡ true
 same_test a b h = grind (arith, nat_tests)
+
+le_test : (a b : ℕ) → a ≤ b → nat_le a b ≡ true
+le_test a b h = grind (arith, nat_tests)
 
 module _ {A : Type 0} where
   pub run-append : (base : State) (es fs : List (Event A)) (w m w' : World A) → Run base w es m → Run base m fs w' → Run base w (es ++ fs) w'
@@ -37,12 +42,19 @@ module _ {A : Type 0} where
   with_same xs zero = refl
   with_same xs (suc k) = set-get_or xs k (line [] 0)
 
-  length-fed : (ps : List (Command A)) (xs : List (Line A)) → length (fed ps xs) ≡ length xs
+  kept_at : (xs : List (Line A)) (k v : ℕ) → queues (set xs k (line (get_or xs k (line [] 0)).queue v)) ≡ queues xs
+  kept_at [] k v = refl
+  kept_at (x ∷ xs) zero v = refl
+  kept_at (x ∷ xs) (suc k) v = ap (λ q. x.queue ∷ q) (kept_at xs k v)
+
+  -- what waits does not change where a station sees more
+  kept_queues : (xs : List (Line A)) (s v : ℕ) → queues (with_line xs s (line (line_of xs s).queue v)) ≡ queues xs
+  kept_queues xs zero v = refl
+  kept_queues xs (suc k) v = kept_at xs k v
+
+  pub length-fed : (ps : List (Command A)) (xs : List (Line A)) → length (fed ps xs) ≡ length xs
   length-fed [] xs = refl
   length-fed (c ∷ cs) xs = length-with (fed cs xs) c.station (line (c ∷ (line_of (fed cs xs) c.station).queue) (line_of (fed cs xs) c.station).seen) ∙ length-fed cs xs
-
-  abbrev batched : World A → List (Command A) → World A
-  batched f ps = record f { batch = f.batch ++ ps }
 
   seal_one : (base : State) (f : World A) (c : Command A) (ys : List (Line A)) → (nat_lt 0 c.station && nat_le c.station (length ys)) ≡ true → f.down ≡ false → f.flying ≡ None → f.owed ≡ [] → length f.batch < 64
       → Next base (at f (with_line ys c.station (line (c ∷ (line_of ys c.station).queue) (line_of ys c.station).seen))) (Seal c.station) (at (batched f (c ∷ [])) ys)
@@ -64,8 +76,7 @@ module _ {A : Type 0} where
             ),
       )
 
-  seals_run : (base : State) (ps : List (Command A)) (f : World A) (xs : List (Line A)) → AreOf xs ps → f.down ≡ false → f.flying ≡ None → f.owed ≡ [] → length f.batch + length ps ≤ 64
-      → Run base (at f (fed ps xs)) (seals ps) (at (batched f ps) xs)
+  pub seals_run : SealsRun A
   seals_run base [] f xs h up none paid small = ap (λ b. let r : World A = record f { lines = xs; batch = b } in r) (append-nil f.batch)
   seals_run base (c ∷ cs) f xs h up none paid small =
       let g = batched f (c ∷ []) in
@@ -75,35 +86,25 @@ module _ {A : Type 0} where
       let end : at (batched g cs) xs ≡ at (batched f (c ∷ cs)) xs = ap (λ b. let r : World A = record f { lines = xs; batch = b } in r) (append_assoc f.batch (c ∷ []) cs) in
       (at g (fed cs xs), seal_one base f c (fed cs xs) here up none paid (omega arith), subst (λ (x : World A). Run base (at g (fed cs xs)) (seals cs) x) end rest)
 
-  abbrev tellings : List (Entry A) → List (Event A)
-  tellings [] = []
-  tellings (v ∷ vs) = Answer v.0.station ∷ tellings vs
-
-  same_tellings : (t : State) (ps : List (Command A)) → tellings (replies t ps) ≡ answers_to ps
+  same_tellings : (t : State) (ps : List (Command A)) → tellings (with_replies A t ps) ≡ answers_to ps
   same_tellings t [] = refl
   same_tellings t (c ∷ cs) = ap (λ es. Answer c.station ∷ es) (same_tellings (next t c) cs)
 
-  abbrev owing : World A → List (Entry A) → World A
-  owing f vs = record f { owed = vs }
-
-  abbrev IsOfAll : ℕ → List (Entry A) → Type 0
-  IsOfAll n vs = AllByRecursion (λ (v : Entry A). (nat_lt 0 v.0.station && nat_le v.0.station n) ≡ true) vs
-
-  answers_run : (base : State) (vs : List (Entry A)) (f : World A) (xs : List (Line A)) → f.down ≡ false → IsOfAll (length xs) vs
-      → (later : List (Line A)) × Run base (at (owing f vs) xs) (tellings vs) (at (record f { owed = []; answers = f.answers ++ answered (f.published == f.durable) vs }) later)
-  answers_run base [] f xs up h = (xs, ap (λ a. let r : World A = record f { lines = xs; owed = []; answers = a } in r) (append-nil f.answers))
+  pub answers_run : AnswersRun A
+  answers_run base [] f xs up h = (xs, refl, ap (λ a. let r : World A = record f { lines = xs; owed = []; answers = a } in r) (append-nil f.answers))
   answers_run base (v ∷ vs) f xs up h =
       let s = v.0.station in
       let all = f.published == f.durable in
       let same = same_test s s refl in
       let one = answered all (v ∷ []) in
-      let ys = with_line xs s (line (line_of xs s).queue (seen_after (line_of xs s).seen f.published one)) in
+      let sight = seen_after (line_of xs s).seen f.published one in
+      let ys = with_line xs s (line (line_of xs s).queue sight) in
       let g : World A = record f { answers = f.answers ++ one } in
-      let inside : IsOfAll (length ys) vs = subst (λ n. IsOfAll n vs) (sym (length-with xs s (line (line_of xs s).queue (seen_after (line_of xs s).seen f.published one)))) h.1 in
+      let inside : AreEntriesOf ys vs = subst (λ n. AllByRecursion (λ (x : Entry A). (nat_lt 0 x.0.station && nat_le x.0.station n) ≡ true) vs) (sym (length-with xs s (line (line_of xs s).queue sight))) h.1 in
       let rest = answers_run base vs g ys up inside in
-      let end : at (record g { owed = []; answers = (f.answers ++ one) ++ answered all vs }) rest.0 ≡ at (record f { owed = []; answers = f.answers ++ answered all (v ∷ vs) }) rest.0 =
-      ap (λ a. let r : World A = record f { lines = rest.0; owed = []; answers = a } in r) (append_assoc f.answers one (answered all vs)) in (
+      let end : at (answering g vs) rest.0 ≡ at (answering f (v ∷ vs)) rest.0 = ap (λ a. let r : World A = record f { lines = rest.0; owed = []; answers = a } in r) (append_assoc f.answers one (answered all vs)) in (
         rest.0,
+        rest.1 ∙ kept_queues xs s sight,
         (
           at (owing g vs) ys,
           (
@@ -114,66 +115,133 @@ module _ {A : Type 0} where
               answers = f.answers ++ answered all (cond b (v ∷ []) (first_of s vs));
             } in r) same),
           ),
-          subst (λ (x : World A). Run base (at (owing g vs) ys) (tellings vs) x) end rest.1,
+          subst (λ (x : World A). Run base (at (owing g vs) ys) (tellings vs) x) end rest.2,
         ),
       )
 
-  of_replies : (xs : List (Line A)) (ps : List (Command A)) (t : State) → AreOf xs ps → IsOfAll (length xs) (replies t ps)
+  of_replies : (xs : List (Line A)) (ps : List (Command A)) (t : State) → AreOf xs ps → AreEntriesOf xs (with_replies A t ps)
   of_replies xs [] t h = tt
   of_replies xs (c ∷ cs) t h = (h.0, of_replies xs cs (next t c) h.1)
 
-  checkpoint_run : (base : State) (made : Bool) (w : World A) → is_still w ≡ true → w.checking ≡ false → Run base w (checkpoint_if made) w
-  checkpoint_run base true w still free =
+  -- a checkpoint before the commit
+  room_run : (base : State) (checking made : Bool) (w : World A) → is_still w ≡ true → w.checking ≡ checking → Run base w (room_if checking made) (record w { checking = cond made false checking })
+  room_run base checking false w still is = λ i. record w { checking = sym is i }
+  room_run base false true w still is =
       let begun : World A = record w { checking = true } in
-      (begun, (and_both _ _ still (ap (λ b. not b) free), refl), (record w { checking = false }, (refl, refl), λ i. record w { checking = free i }))
-  checkpoint_run base false w still free = refl
+      (begun, (and_both _ _ still (ap (λ b. not b) is), refl), (record w { checking = false }, (refl, refl), refl))
+  room_run base true true w still is =
+      let given_up : World A = record w { checking = false } in
+      let begun : World A = record w { checking = true } in
+      (given_up, (is, refl), (begun, (and_both _ _ still refl, refl), (given_up, (refl, refl), refl)))
+
+  -- one that begins or ends after the commit
+  move_run : (base : State) (checking moved : Bool) (w : World A) → is_still w ≡ true → w.checking ≡ checking → Run base w (move_if checking moved) (record w { checking = under_way checking moved })
+  move_run base checking false w still is = λ i. record w { checking = sym is i }
+  move_run base false true w still is = (record w { checking = true }, (and_both _ _ still (ap (λ b. not b) is), refl), refl)
+  move_run base true true w still is = (record w { checking = false }, (is, refl), refl)
 
   publish_run : (base : State) (shown : Bool) (w : World A) → is_still w ≡ true → Run base w (publish_if shown) (record w { published = cond shown w.durable w.published })
   publish_run base true w still = (record w { published = w.durable }, (still, refl), refl)
   publish_run base false w still = refl
 
   abbrev resting : World A → World A
-  resting f = record f { down = false; flying = None; checking = false; batch = []; owed = [] }
+  resting f = record f { down = false; flying = None; batch = []; owed = [] }
 
   -- from the begin of its commit to the end, with what was popped in the batch
-  commit_run : (base : State) (f : World A) (how : Round) (c : Command A) (cs : List (Command A)) (xs : List (Line A)) → AreOf xs (c ∷ cs) → let r : World A = record (resting f) { published = f.durable } in (later : List (Line A))
-      × Run base (at (batched r (c ∷ cs)) xs) (CommitBegin ∷ CommitEnd ∷ checkpoint_if how.tidied ++ (publish_if how.shown ++ answers_to (c ∷ cs))) (at (after_round base r (c ∷ cs) how.shown) later)
+  commit_run : (base : State) (f : World A) (how : Round) (c : Command A) (cs : List (Command A)) (xs : List (Line A)) → AreOf xs (c ∷ cs) → let r : World A = record (resting f) { published = f.durable } in (later : List (Line A)) × (queues later ≡ queues xs)
+      × Run base (at (batched r (c ∷ cs)) xs) (CommitBegin ∷ CommitEnd ∷ move_if f.checking how.moved ++ (publish_if how.shown ++ answers_to (c ∷ cs))) (at (after_commit base r (c ∷ cs) how) later)
   commit_run base f how c cs xs h =
       let ps = c ∷ cs in
       let s = after base f.accepted in
       let r : World A = record (resting f) { published = f.durable } in
-      let vs = replies s ps in
+      let vs = with_replies A s ps in
       let log = f.accepted ++ taken s ps in
       let begun : World A = record r { batch = ps; accepted = log; flying = Some vs } in
       let ended : World A = record r { accepted = log; durable = length log; owed = vs } in
-      let open' : World A = record r { accepted = log; durable = length log; published = cond how.shown (length log) f.durable } in
+      let went : World A = record ended { checking = under_way f.checking how.moved } in
+      let open' : World A = record r { accepted = log; durable = length log; published = cond how.shown (length log) f.durable; checking = under_way f.checking how.moved } in
       let last = answers_run base vs open' xs refl (of_replies xs ps s h) in
-      let told : Run base (at (owing open' vs) xs) (answers_to ps) (at (after_round base r ps how.shown) last.0) = subst (λ es. Run base (at (owing open' vs) xs) es (at (after_round base r ps how.shown) last.0)) (same_tellings s ps) last.1 in
-      let shown = run-append base (publish_if how.shown) (answers_to ps) (at ended xs) (at (owing open' vs) xs) _ (publish_run base how.shown (at ended xs) refl) told in
-      let tidied = run-append base (checkpoint_if how.tidied) (publish_if how.shown ++ answers_to ps) (at ended xs) (at ended xs) _ (checkpoint_run base how.tidied (at ended xs) refl refl) shown in
-      (last.0, (at begun xs, (same_test f.durable f.durable refl, refl), (at ended xs, (refl, refl), tidied)))
+      let told : Run base (at (owing open' vs) xs) (answers_to ps) (at (after_commit base r ps how) last.0) = subst (λ es. Run base (at (owing open' vs) xs) es (at (after_commit base r ps how) last.0)) (same_tellings s ps) last.2 in
+      let shown = run-append base (publish_if how.shown) (answers_to ps) (at went xs) (at (owing open' vs) xs) _ (publish_run base how.shown (at went xs) refl) told in
+      let moved = run-append base (move_if f.checking how.moved) (publish_if how.shown ++ answers_to ps) (at ended xs) (at went xs) _ (move_run base f.checking how.moved (at ended xs) refl refl) shown in
+      (last.0, last.1, (at begun xs, (same_test f.durable f.durable refl, refl), (at ended xs, (refl, refl), moved)))
 
-  round_goes : (base : State) (f : World A) (how : Round) (c : Command A) (cs : List (Command A)) → length (c ∷ cs) ≤ 64 → Goes base (c ∷ cs) (events_of how (c ∷ cs)) (resting f) (after_round base (resting f) (c ∷ cs) how.shown)
+  round_goes : (base : State) (f : World A) (how : Round) (c : Command A) (cs : List (Command A)) → length (c ∷ cs) ≤ 64 → Goes base (c ∷ cs) (events_of f.checking how (c ∷ cs)) (resting f) (after_round base (resting f) (c ∷ cs) how)
   round_goes base f how c cs small xs h =
       let ps = c ∷ cs in
+      let fits : 0 + length ps ≤ 64 = omega arith in
       let r : World A = record (resting f) { published = f.durable } in
-      let commit = commit_run base f how c cs xs h in
-      let room = run-append base (checkpoint_if how.made_room) _ (at (batched r ps) xs) (at (batched r ps) xs) _ (checkpoint_run base how.made_room (at (batched r ps) xs) refl refl) commit.1 in
-      let sealed = run-append base (seals ps) _ (at r (fed ps xs)) (at (batched r ps) xs) _ (seals_run base ps r xs h refl refl refl (omega arith)) room in
-      (commit.0, (at r (fed ps xs), (refl, refl), sealed))
-
-  idle_goes : (base : State) (f : World A) (how : Round) → Goes base [] (publish_if how.shown ++ checkpoint_if how.tidied) (resting f) (after_idle_round (resting f) how.shown)
-  idle_goes base f how xs h =
-      let r = resting f in
-      let after : World A = after_idle_round r how.shown in
-      (xs, run-append base (publish_if how.shown) (checkpoint_if how.tidied) (at r xs) (at after xs) (at after xs) (publish_run base how.shown (at r xs) refl) (checkpoint_run base how.tidied (at after xs) refl refl))
+      let left : World A = record r { checking = left_under_way f.checking how } in
+      let commit = commit_run base (record f { checking = left_under_way f.checking how }) how c cs xs h in
+      let room = run-append base (room_if f.checking how.made_room) _ (at (batched r ps) xs) (at (batched left ps) xs) _ (room_run base f.checking how.made_room (at (batched r ps) xs) refl refl) commit.2 in
+      let sealed = run-append base (seals ps) _ (at r (fed ps xs)) (at (batched r ps) xs) _ (seals_run base ps r xs h refl refl refl fits) room in
+      (commit.0, commit.1, (at r (fed ps xs), (refl, refl), sealed))
 
   is_resting : (f : World A) → IsIdle f → resting f ≡ f
-  is_resting f h = λ i. record f { down = sym h.up i; flying = sym h.none_flying i; checking = sym h.none_checking i; batch = sym h.none_sealed i; owed = sym h.none_owed i }
+  is_resting f h = λ i. record f { down = sym h.up i; flying = sym h.none_flying i; batch = sym h.none_sealed i; owed = sym h.none_owed i }
 
   pub rounds_run : RoundsRun A
   rounds_run base f how c cs h small =
-      subst (λ (g : World A). Goes base (c ∷ cs) (events_of how (c ∷ cs)) g (after_round base g (c ∷ cs) how.shown)) (is_resting f h) (round_goes base f how c cs small)
+      subst (λ (g : World A). Goes base (c ∷ cs) (events_of g.checking how (c ∷ cs)) g (after_round base g (c ∷ cs) how)) (is_resting f h) (round_goes base f how c cs small)
+
+  idle_goes : (base : State) (f : World A) (shown : Bool) → Goes base [] (publish_if shown) (resting f) (after_idle_round (resting f) shown)
+  idle_goes base f shown xs h = (xs, refl, publish_run base shown (at (resting f) xs) refl)
 
   pub idle_rounds_run : IdleRoundsRun A
-  idle_rounds_run base f how h = subst (λ (g : World A). Goes base [] (publish_if how.shown ++ checkpoint_if how.tidied) g (after_idle_round g how.shown)) (is_resting f h) (idle_goes base f how)
+  idle_rounds_run base f shown h = subst (λ (g : World A). Goes base [] (publish_if shown) g (after_idle_round g shown)) (is_resting f h) (idle_goes base f shown)
+
+  -- a commit that stops, with what was popped in the batch
+  stop_run : (base : State) (f : World A) (c : Command A) (cs : List (Command A)) (xs : List (Line A)) (count : ℕ) → count ≤ length (records_after base f (c ∷ cs))
+      → let r : World A = record (resting f) { published = f.durable } in
+      Run base (at (batched r (c ∷ cs)) xs) (CommitBegin ∷ Crash count ∷ []) (at (after_stop r (accepted_after base f (c ∷ cs)) (take count (records_after base f (c ∷ cs)))) (emptied xs))
+  stop_run base f c cs xs count few =
+      let ps = c ∷ cs in
+      let s = after base f.accepted in
+      let r : World A = record (resting f) { published = f.durable } in
+      let begun : World A = record r { batch = ps; accepted = f.accepted ++ taken s ps; flying = Some (with_replies A s ps) } in
+      let stopped = after_stop r (accepted_after base f ps) (take count (records_after base f ps)) in
+      (at begun xs, (same_test f.durable f.durable refl, refl), (at stopped (emptied xs), (le_test count (length (cut (taken s ps))) few, refl), refl))
+
+  crash_goes : (base : State) (f : World A) (made_room : Bool) (c : Command A) (cs : List (Command A)) (count : ℕ) → length (c ∷ cs) ≤ 64 → count ≤ length (records_after base f (c ∷ cs))
+      → GoesDown base (c ∷ cs) (stopped_commit f.checking made_room (c ∷ cs) count) (resting f) (after_stop (resting f) (accepted_after base f (c ∷ cs)) (take count (records_after base f (c ∷ cs))))
+  crash_goes base f made_room c cs count small few xs h =
+      let ps = c ∷ cs in
+      let fits : 0 + length ps ≤ 64 = omega arith in
+      let r : World A = record (resting f) { published = f.durable } in
+      let left : World A = record f { checking = cond made_room false f.checking } in
+      let left_r : World A = record r { checking = cond made_room false f.checking } in
+      let stop = stop_run base left c cs xs count few in
+      let room = run-append base (room_if f.checking made_room) _ (at (batched r ps) xs) (at (batched left_r ps) xs) _ (room_run base f.checking made_room (at (batched r ps) xs) refl refl) stop in
+      let sealed = run-append base (seals ps) _ (at r (fed ps xs)) (at (batched r ps) xs) _ (seals_run base ps r xs h refl refl refl fits) room in
+      (emptied xs, refl, (at r (fed ps xs), (refl, refl), sealed))
+
+  pub crashed_rounds_run : CrashedRoundsRun A
+  crashed_rounds_run base f made_room c cs count h small few =
+      subst (λ (g : World A). GoesDown base (c ∷ cs) (stopped_commit g.checking made_room (c ∷ cs) count) g (after_stop g (accepted_after base g (c ∷ cs)) (take count (records_after base g (c ∷ cs))))) (is_resting f h)
+      (crash_goes base f made_room c cs count small few)
+
+  -- a checkpoint that is under way is given up, and another one stops
+  abbrev stopped : World A → World A
+  stopped w = record w { lines = emptied w.lines; batch = []; accepted = take w.durable w.accepted ++ []; flying = None; owed = []; checking = false; down = true }
+
+  abbrev calm : World A → Bool → World A
+  calm w checking = record w { down = false; flying = None; checking = checking }
+
+  new_stop_run : (base : State) (w : World A) → Run base (calm w false) (CheckpointBegin ∷ Crash 0 ∷ []) (stopped w)
+  new_stop_run base w = (calm w true, (refl, refl), (stopped w, (refl, refl), refl))
+
+  checkpoint_stop_run : (base : State) (checking : Bool) (w : World A) → Run base (calm w checking) (give_up checking ++ (CheckpointBegin ∷ Crash 0 ∷ [])) (stopped w)
+  checkpoint_stop_run base false w = new_stop_run base w
+  checkpoint_stop_run base true w = (calm w false, (refl, refl), new_stop_run base w)
+
+  checkpoint_goes : (base : State) (f : World A) (ps : List (Command A)) → length ps ≤ 64 → GoesDown base ps (stopped_checkpoint f.checking ps) (resting f) (after_stop (resting f) f.accepted [])
+  checkpoint_goes base f ps small xs h =
+      let fits : 0 + length ps ≤ 64 = omega arith in
+      let r : World A = record (resting f) { published = f.durable } in
+      let stop = checkpoint_stop_run base f.checking (at (batched r ps) xs) in
+      let sealed = run-append base (seals ps) _ (at r (fed ps xs)) (at (batched r ps) xs) _ (seals_run base ps r xs h refl refl refl fits) stop in
+      (emptied xs, refl, (at r (fed ps xs), (refl, refl), sealed))
+
+  pub crashed_checkpoints_run : CrashedCheckpointsRun A
+  crashed_checkpoints_run base f ps h small =
+      subst (λ (g : World A). GoesDown base ps (stopped_checkpoint g.checking ps) g (after_stop g g.accepted [])) (is_resting f h) (checkpoint_goes base f ps small)

@@ -7,36 +7,27 @@ use Rattle.centre_core.specs.declared.reply.Reply.{Reply}
 use Rattle.centre_core.specs.State.{State}
 use Rattle.centre_core.specs.History.{is_acceptance, next, after}
 use Rattle.centre_core.specs.InTurn.{reply_to}
+use Rattle.centre_core.specs.Batches.{with_replies, taken, accepted_of}
 use Rattle.centre_core.proofs.InTurnLaws.{after-append}
+use Rattle.centre_core.proofs.JoinedLaws.{after_taken}
 use Rattle.schedule.specs.declared.event.Event.TheVariants.{Answer}
 use Rattle.schedule.specs.World.{World, Line, line, line_of, with_line, ground, Entry}
-use Rattle.schedule.specs.Next.{all_of, replies, taken, accepted_of, cut, records_of, first_of, without_first, told, answered, seen_after, effect, IsFlown}
-use Rattle.schedule.proofs.Stepping.{not_accepted}
+use Rattle.schedule.specs.Next.{all_of, cut, records_of, first_of, without_first, told, answered, seen_after, effect, IsFlown}
 
 module _ {A : Type 0} where
-  taken_by : (b : Bool) (cs : List (Command A)) (s : State) (c : Command A) → is_acceptance (reply_to s c) ≡ b → after (next s c) (taken (next s c) cs) ≡ after (next s c) cs
-      → after s (cond b (c ∷ taken (next s c) cs) (taken (next s c) cs)) ≡ after (next s c) cs
-  taken_by true cs s c is h = h
-  taken_by false cs s c is h = ap (λ t. after t (taken (next s c) cs)) (sym (not_accepted s c is)) ∙ h
-
-  -- the commands that are not accepted change nothing
-  pub after-taken : (cs : List (Command A)) (s : State) → after s (taken s cs) ≡ after s cs
-  after-taken [] s = refl
-  after-taken (c ∷ cs) s = taken_by (is_acceptance (reply_to s c)) cs s c refl (after-taken cs (next s c))
-
   pub idle : (down : Bool) (d : ℕ) (acc : List (Command A)) (f : Option (List (Entry A))) → IsFlown down d acc f → is_none f ≡ true → down ≡ false → d ≡ length acc
   idle down d acc None h e up = h up
   idle down d acc (Some x) h e up = absurd (true≢false (sym e))
 
   -- what is kept beside the record stays so where a commit begins
   pub begun : (acc acc' batch news : List (Command A)) (d : ℕ) (down : Bool) (f : Option (List (Entry A))) (r r' : State) (reps : List (Entry A))
-      → is_none f ≡ true → down ≡ false → r ≡ after ground acc → d ≤ length acc → IsFlown down d acc f → acc' ≡ acc ++ news → r' ≡ after r batch → news ≡ taken r batch → reps ≡ replies r batch
+      → is_none f ≡ true → down ≡ false → r ≡ after ground acc → d ≤ length acc → IsFlown down d acc f → acc' ≡ acc ++ news → r' ≡ after r batch → news ≡ taken r batch → reps ≡ with_replies A r batch
       → (r' ≡ after ground acc') × (d ≤ length acc') × ((acc' ≡ take d acc' ++ accepted_of reps) × (down ≡ false))
   begun acc acc' batch news d down f r r' reps none up reg le flown whole goes new told =
       let all = idle down d acc f flown none up in
       let front : take d acc' ≡ acc = ap (λ t. take d t) whole ∙ take_at acc news d (sym all) in
       let same : accepted_of reps ≡ news = ap (λ t. accepted_of t) told ∙ sym new in (
-        goes ∙ (sym (after-taken batch r) ∙ (ap (λ t. after t (taken r batch)) reg ∙ (sym (after-append ground acc (taken r batch)) ∙ ap (λ t. after ground t) (ap (λ t. acc ++ t) (sym new) ∙ sym whole)))),
+        goes ∙ (sym (after_taken r batch) ∙ (ap (λ t. after t (taken r batch)) reg ∙ (sym (after-append ground acc (taken r batch)) ∙ ap (λ t. after ground t) (ap (λ t. acc ++ t) (sym new) ∙ sym whole)))),
         omega (arith, ap length whole, length-append acc news),
         (whole ∙ (ap (λ t. t ++ news) (sym front) ∙ ap (λ t. take d acc' ++ t) (sym same)), up),
       )

@@ -9,12 +9,14 @@ use Rattle.centre_core.specs.declared.reply.Reply.TheVariants.{Accepted, Kept, R
 use Rattle.centre_core.specs.State.{State}
 use Rattle.centre_core.specs.History.{is_acceptance, after}
 use Rattle.centre_core.specs.Histories.{IsHistory}
+use Rattle.centre_core.specs.Batches.{taken, accepted_of}
 use Rattle.centre_core.proofs.InTurnLaws.{history-front, get_within}
 use Rattle.schedule.specs.declared.event.Event.{Event}
 use Rattle.schedule.specs.declared.event.Event.TheVariants.{Submit, Seal, CommitBegin, CommitEnd, Publish, Answer, Read, CheckpointBegin, CheckpointEnd, Crash, Reopen}
 use Rattle.schedule.specs.World.{World, Line, line, line_of, with_line, queue_of, seen_of, Entry, opening}
-use Rattle.schedule.specs.Next.{all_of, taken, cut, accepted_of, records_of, replies_of, is_empty, first_of, without_first, told, answered, seen_after, is_station, is_still, may, effect, Next, Run}
+use Rattle.schedule.specs.Next.{all_of, cut, records_of, replies_of, is_empty, first_of, without_first, told, answered, seen_after, is_station, is_still, may, effect, Next, Run}
 use Rattle.schedule.specs.Clauses.{IsBeginning, IsBorneOut, IsWithin}
+use Rattle.schedule.specs.RoundParts.{ToldAreBorneOut, AnsweredAreBorneOut}
 use Rattle.schedule.proofs.Stepping.{borne_more, batch_well}
 use Rattle.schedule.proofs.Lists.{both, not_true, opposed, line_put, emptied_queue, emptied_seen, unread_line, all_of-cut, all_of-append, all-append, all_by}
 
@@ -104,7 +106,7 @@ module _ {A : Type 0} where
   begins base w h ok =
       let s = after base w.accepted in
       let new = taken s w.batch in
-      let up = still w (both (is_still w) (not w.checking && (not (is_empty w.batch) && (w.published == w.durable))) ok).0 in
+      let up = still w (both (is_still w) (not (is_empty w.batch) && (w.published == w.durable)) ok).0 in
       let all : w.durable ≡ length w.accepted = grounded base w.down w.durable w.accepted w.flying up.1 up.0 h.aloft in
       let same : take w.durable (w.accepted ++ new) ≡ take w.durable w.accepted = take-append-le w.durable w.accepted new h.stored in
       let whole : take w.durable (w.accepted ++ new) ≡ w.accepted = take_at w.accepted new w.durable (sym all) in
@@ -150,13 +152,13 @@ module _ {A : Type 0} where
   }
 
   -- an answer says no more than its entry
-  told_borne : (base : State) (l : List (Command A)) (all : Bool) (x : Entry A) → IsBorneOut base l x → IsBorneOut base l (x.0, told all x.1)
+  pub told_borne : ToldAreBorneOut A
   told_borne base l true (c, Accepted n p) h = h
   told_borne base l false (c, Accepted n p) h = inl (record { first = c; of_station = refl; of_sequence = refl; lands = h })
   told_borne base l all (c, Kept n p) h = h
   told_borne base l all (c, Refused r) h = h
 
-  all_told : (base : State) (l : List (Command A)) (all : Bool) (xs : List (Entry A)) → AllByRecursion (IsBorneOut base l) xs → AllByRecursion (IsBorneOut base l) (answered all xs)
+  pub all_told : AnsweredAreBorneOut A
   all_told base l all [] h = tt
   all_told base l all (x ∷ xs) h = (told_borne base l all x h.0, all_told base l all xs h.1)
 

@@ -11,16 +11,17 @@ use Rattle.centre_core.specs.Step.{last_at}
 use Rattle.centre_core.specs.History.{is_acceptance, next, after}
 use Rattle.centre_core.specs.Histories.{IsHistory}
 use Rattle.centre_core.specs.InTurn.{reply_to, last_of, Replied}
+use Rattle.centre_core.specs.Batches.{with_replies, taken}
 use Rattle.centre_core.proofs.RepliesSay.{replies_say}
 use Rattle.centre_core.proofs.HistoryLaws.{counted}
 use Rattle.centre_core.proofs.InTurnLaws.{after-append, history-append, kept_stands, lands_more, left_more}
 use Rattle.schedule.specs.World.{Entry}
-use Rattle.schedule.specs.Next.{replies, taken}
 use Rattle.schedule.specs.Clauses.{IsBorneOut}
+use Rattle.schedule.specs.RoundParts.{BorneOutByLonger, BatchesAreBorneOut}
 use Rattle.schedule.proofs.Lists.{get_last}
 
 module _ {A : Type 0} where
-  pub borne_more : (base : State) (l m : List (Command A)) (x : Entry A) → IsBorneOut base l x → IsBorneOut base (l ++ m) x
+  pub borne_more : BorneOutByLonger A
   borne_more base l m (c, Accepted n p) h = lands_more base l m c n p h
   borne_more base l m (c, Kept n p) h = elim h [ inl q ↦ inl (left_more base l m c.station (last_of c n p) q) | inr q ↦ inr q ]
   borne_more base l m (c, Refused r) h = (
@@ -74,8 +75,8 @@ module _ {A : Type 0} where
   IsWell base m xs = IsHistory base m × AllByRecursion (IsBorneOut base m) xs
 
   batch_by : (b : Bool) (cs : List (Command A)) (base s : State) (l m : List (Command A)) (c : Command A) → is_acceptance (reply_to s c) ≡ b
-      → ((s' : State) (l' : List (Command A)) → IsHistory base l' → s' ≡ after base l' → m ≡ l' ++ taken s' cs → IsWell base m (replies s' cs))
-      → IsHistory base l → s ≡ after base l → m ≡ l ++ cond b (c ∷ taken (next s c) cs) (taken (next s c) cs) → IsWell base m ((c, reply_to s c) ∷ replies (next s c) cs)
+      → ((s' : State) (l' : List (Command A)) → IsHistory base l' → s' ≡ after base l' → m ≡ l' ++ taken s' cs → IsWell base m (with_replies A s' cs))
+      → IsHistory base l → s ≡ after base l → m ≡ l ++ cond b (c ∷ taken (next s c) cs) (taken (next s c) cs) → IsWell base m ((c, reply_to s c) ∷ with_replies A (next s c) cs)
   batch_by true cs base s l m c is more a at split =
       let l' = l ++ c ∷ [] in
       let took : IsHistory base l' = history-append base l (c ∷ []) a (subst (λ t. is_acceptance (reply_to t c) ≡ true) at is, tt) in
@@ -90,7 +91,10 @@ module _ {A : Type 0} where
       let here = borne_more base l (taken (next s c) cs) (c, reply_to s c) (reply_alone base s l c a at (reply_to s c) refl (replies_say A s c) is) in
       (rest.0, (subst (λ t. IsBorneOut base t (c, reply_to s c)) (sym parts) here, rest.1))
 
-  pub batch_well : (cs : List (Command A)) (base s : State) (l m : List (Command A)) → IsHistory base l → s ≡ after base l → m ≡ l ++ taken s cs → IsWell base m (replies s cs)
+  pub batch_well : (cs : List (Command A)) (base s : State) (l m : List (Command A)) → IsHistory base l → s ≡ after base l → m ≡ l ++ taken s cs → IsWell base m (with_replies A s cs)
   batch_well [] base s l m a at split = (subst (λ t. IsHistory base t) (sym (split ∙ append-nil l)) a, tt)
   batch_well (c ∷ cs) base s l m a at split =
       batch_by (is_acceptance (reply_to s c)) cs base s l m c refl (λ s' l' a' at' split'. batch_well cs base s' l' m a' at' split') a at split
+
+  pub batches_borne : BatchesAreBorneOut A
+  batches_borne base l cs a = batch_well cs base (after base l) l (l ++ taken (after base l) cs) a refl refl

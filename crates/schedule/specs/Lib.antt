@@ -3,3 +3,4 @@ pub mod Next
 pub mod Clauses
 pub mod Laws
 pub mod Rounds
+pub mod RoundParts

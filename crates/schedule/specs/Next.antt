@@ -6,8 +6,8 @@ use Rattle.centre_core.specs.declared.command.Command.{Command}
 use Rattle.centre_core.specs.declared.reply.Reply.{Reply}
 use Rattle.centre_core.specs.declared.reply.Reply.TheVariants.{Accepted, Kept, Refused}
 use Rattle.centre_core.specs.State.{State}
-use Rattle.centre_core.specs.History.{is_acceptance, next, after}
-use Rattle.centre_core.specs.InTurn.{reply_to}
+use Rattle.centre_core.specs.History.{is_acceptance, after}
+use Rattle.centre_core.specs.Batches.{with_replies, accepted_of, taken}
 use Rattle.schedule.specs.declared.event.Event.{Event}
 use Rattle.schedule.specs.declared.event.Event.TheVariants.{Submit, Seal, CommitBegin, CommitEnd, Publish, Answer, Read, CheckpointBegin, CheckpointEnd, Crash, Reopen}
 use Rattle.schedule.specs.declared.fault.StepFault.{StepFault}
@@ -29,20 +29,6 @@ abbrev pub is_place : {A : Type 0} → List (Line A) → Station → Bool
 is_place lines s = nat_lt 0 s && nat_le s (length lines)
 
 module _ {A : Type 0} where
-  -- a batch in turn, each command with its reply
-  abbrev pub replies : State → List (Command A) → List (Entry A)
-  replies s [] = []
-  replies s (c ∷ cs) = (c, reply_to s c) ∷ replies (next s c) cs
-
-  -- the commands that are accepted
-  abbrev pub accepted_of : List (Entry A) → List (Command A)
-  accepted_of [] = []
-  accepted_of (x ∷ xs) = cond (is_acceptance x.1) (x.0 ∷ accepted_of xs) (accepted_of xs)
-
-  -- those of a batch that are accepted in turn
-  abbrev pub taken : State → List (Command A) → List (Command A)
-  taken s cs = accepted_of (replies s cs)
-
   -- the accepted commands of a commit as records: one of them all, and none where nothing was accepted
   abbrev pub cut : List (Command A) → List (List (Command A))
   cut [] = []
@@ -121,7 +107,7 @@ module _ {A : Type 0} where
   abbrev pub may : World A → Event A → Bool
   may w (Submit s c) = is_station w s && (not w.down && (c.station == s))
   may w (Seal s) = is_station w s && (is_still w && can_seal w s)
-  may w CommitBegin = is_still w && (not w.checking && can_commit w)
+  may w CommitBegin = is_still w && can_commit w
   may w CommitEnd = is_some w.flying
   may w Publish = is_still w
   may w (Answer s) = is_station w s && (not w.down && not (is_empty (first_of s w.owed)))
@@ -144,7 +130,7 @@ module _ {A : Type 0} where
   }
   effect base w CommitBegin = record w {
     accepted = w.accepted ++ taken (after base w.accepted) w.batch;
-    flying = Some (replies (after base w.accepted) w.batch);
+    flying = Some (with_replies A (after base w.accepted) w.batch);
   }
   effect base w CommitEnd = record w { durable = length w.accepted; flying = None; owed = replies_of w.flying; batch = [] }
   effect base w Publish = record w { published = w.durable }

@@ -41,7 +41,7 @@ pub record Line (A : Type 0) : Type 0 where
   pub queue : List (Command A)
   pub seen : Count
 
--- the lines of the stations from 1 on, the batch that is sealed, and the commands accepted since the base; how many of these are durable and how many are published; the batch of a commit at work with its replies, if one is; what is to be answered, and all that was answered; whether a checkpoint is at work, and whether the centre is down
+-- the lines of the stations from 1 on, the batch that is sealed, and the commands accepted since the base; how many of these are durable and how many are published; the batch of a commit at work with its replies, if one is; what is to be answered, and all that was answered; whether a checkpoint is under way, and whether the centre is down
 pub record World (A : Type 0) : Type 0 where
   pub lines : List (Line A)
   pub batch : List (Command A)

@@ -4,8 +4,9 @@ ghost use Rattle.std.specs.Prelude.{◌≡◌, ◌==◌, ◌++◌, ◌∷◌, []
 ghost use Rattle.std.specs.Option.{option_copied};
 ghost use Rattle.centre_core.specs.History.{next, after};
 ghost use Rattle.centre_core.specs.InTurn.{reply_to};
+ghost use Rattle.centre_core.specs.Batches.{with_replies, accepted_of, taken};
 ghost use Rattle.schedule.specs.World.{Entry, ground};
-ghost use Rattle.schedule.specs.Next.{told, last_answer, replies, accepted_of, taken};
+ghost use Rattle.schedule.specs.Next.{told, last_answer};
 
 use centre_core::{Command, Register, Reply};
 use prefix_tree::TryCopy;
@@ -59,7 +60,7 @@ fn judge<A: Allocator + Copy>(
     register: &mut Register<A>,
     batch: &[Command<A>],
 ) -> Result<(Vec<(Command<A>, Reply<A>), A>, Vec<Command<A>, A>), AllocError>
-    ensures { IfOk result (λ r. (r.0.items ≡ replies register.old batch.now) × (r.1.items ≡ taken register.old batch.now) × (register.new ≡ after register.old batch.now)) }
+    ensures { IfOk result (λ r. (r.0.items ≡ with_replies A register.old batch.now) × (r.1.items ≡ taken register.old batch.now) × (register.new ≡ after register.old batch.now)) }
 {
     let mut replies = Vec::new(alloc);
     let mut news = Vec::new(alloc);
@@ -82,7 +83,7 @@ pub(crate) fn judged<A: Allocator + Copy>(
     ),
     AllocError,
 >
-    ensures { IfOk result (λ r. (r.0 ≡ after register.now batch.now) × (r.1.items ≡ replies register.now batch.now) × (r.2.items ≡ taken register.now batch.now)) }
+    ensures { IfOk result (λ r. (r.0 ≡ after register.now batch.now) × (r.1.items ≡ with_replies A register.now batch.now) × (r.2.items ≡ taken register.now batch.now)) }
 {
     let mut next = register.try_copy()?;
     match judge(alloc, &mut next, batch) {

@@ -1,8 +1,9 @@
 //! Commands with their replies.
 
 ghost use Rattle.std.specs.Prelude.{◌≡◌, ◌<◌, ◌+◌, ◌++◌, ◌∷◌, [], position, slice_index_or, MatchOption, take, drop, length, not, true, false, ◌==◌};
+ghost use Rattle.centre_core.specs.Batches.{accepted_of};
 ghost use Rattle.schedule.specs.World.{Entry};
-ghost use Rattle.schedule.specs.Next.{is_empty, accepted_of, cut, first_of, without_first, replies_of};
+ghost use Rattle.schedule.specs.Next.{is_empty, cut, first_of, without_first, replies_of};
 
 use centre_core::{Command, Reply};
 use registration::Station;

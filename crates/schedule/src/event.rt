@@ -11,7 +11,8 @@ pub enum Event<A: Allocator> {
     /// down, while a commit is at work, or while an entry of the last batch is owed.
     Seal(Station),
     /// A commit begins: what the register accepts of the batch, in turn, is accepted. Not while down, while
-    /// a commit or a checkpoint is at work, or while something durable is not published.
+    /// another commit is at work, while nothing is sealed, or while something durable is not published. A
+    /// checkpoint may be under way.
     CommitBegin,
     /// It ends: all that is accepted is durable, and the batch is to be answered.
     CommitEnd,
@@ -21,9 +22,10 @@ pub enum Event<A: Allocator> {
     Answer(Station),
     /// A station reads what is published. It may do so while down.
     Read(Station),
-    /// A checkpoint begins. Not while down, or while a commit or another checkpoint is at work.
+    /// A checkpoint begins; the one of a commit begins after the commit's end. Not while down, while a commit is
+    /// at work, or while another checkpoint is under way.
     CheckpointBegin,
-    /// It ends.
+    /// It ends, or is given up.
     CheckpointEnd,
     /// All stops. Of the commit at work so many records come through: it has one, of all that it accepted,
     /// or none where it accepted nothing. Not while down.

@@ -100,10 +100,7 @@ impl<A: Allocator + Copy> World<A> {
     fn may_commit(&self) -> bool
         ensures { result ≡ may self.now Event.CommitBegin }
     {
-        self.is_still()
-            && !self.checking
-            && !self.batch.is_empty()
-            && self.published == self.durable
+        self.is_still() && !self.batch.is_empty() && self.published == self.durable
     }
 
     fn may_answer(&self, station: Station) -> bool

@@ -2,6 +2,8 @@
 #![tactic(auto)]
 
 #[cfg(test)]
+mod checkpoints;
+#[cfg(test)]
 mod commands;
 #[cfg(test)]
 mod plain;
@@ -11,3 +13,5 @@ mod random;
 mod row;
 #[cfg(test)]
 mod small_heap;
+#[cfg(test)]
+mod steps;

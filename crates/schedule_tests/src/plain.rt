@@ -91,7 +91,9 @@ impl Plain {
     /// The event; whether it came.
     pub fn step(&mut self, made: Made) -> Result<bool, AllocError> {
         match made {
-            Made::Submit(station, sequence) => self.submit(station, sequence),
+            Made::Submit(station, sequence) | Made::SubmitRule(station, sequence) => {
+                self.submit(station, sequence)
+            }
             Made::Seal(station) => self.seal(station),
             Made::CommitBegin => self.begin(),
             Made::CommitEnd => self.end(),
@@ -127,8 +129,7 @@ impl Plain {
     }
 
     fn begin(&mut self) -> Result<bool, AllocError> {
-        let waits = self.checking || self.batch.is_empty() || self.published != self.durable;
-        if !self.is_still() || waits {
+        if !self.is_still() || self.batch.is_empty() || self.published != self.durable {
             return Ok(false);
         }
         for sent in &self.batch {

@@ -1,5 +1,5 @@
 use Rattle.std.proofs.Common.{◌≡◌, drop}
-use Rattle.schedule.specs.Next.{accepted_of}
+use Rattle.centre_core.specs.Batches.{accepted_of}
 use Rattle.schedule.proofs.entries.any_accepted.Given as goal
 
 abbrev pub invariant-loop-entry : goal.invariant-loop-entry
