@@ -1,9 +1,10 @@
 -- How high a tree is for its places, and when the first item of them ends.
-use Rattle.std.proofs.Common.{◌≡◌, ℕ, zero, suc, ◌+◌, ◌<◌, ◌≤◌, ◌^◌, List, [], ◌∷◌, ◌++◌, length, sym, subst, arith, Option}
-use Rattle.std.specs.Prelude.{◌*◌, ◌/◌, min, max}
+use Rattle.std.proofs.Common.{◌≡◌, ℕ, zero, suc, ◌+◌, ◌<◌, ◌≤◌, ◌^◌, Bool, true, false, cond, refl, List, [], ◌∷◌, ◌++◌, length, sym, subst, arith, Option}
+use Rattle.std.specs.Prelude.{◌*◌, ◌/◌, min, max, nat_lt}
 use Rattle.std.specs.declared.boxed.Box.{Box}
 use Rattle.std.proofs.Math.Nat.{pow-suc, max-le}
 use Rattle.std.proofs.Math.Pow.{pow_mono}
+use Rattle.std.proofs.lemmas.Bool.{ltb-true, ltb-false}
 use Rattle.std.proofs.lemmas.List.{length-append}
 use Rattle.mailbox.specs.declared.place.Place.{Place}
 use Rattle.mailbox.specs.Inside.Places.{Branch, soonest, places_of, height_of, all_of, branch, IsLow, IsNode}
@@ -22,6 +23,22 @@ deeper a b m n first second low_a low_b =
     let near_a : max a b ≤ a + 1 = max-le (omega arith) second in
     let near_b : max a b ≤ b + 1 = max-le first (omega arith) in
     step ((max a b + 1) / 2) a b m n (omega (arith, near_a)) (omega (arith, near_b)) low_a low_b
+
+-- a low tree is no higher than what is above all of so many places
+pub lower : (height count above : ℕ) → IsLow height count → count + 1 < 2 ^ (above / 2) → height ≤ above
+lower height count above low high =
+    elim (nat_lt above height) as (λ b. nat_lt above height ≡ b → height ≤ above) [
+      | true ↦ λ e.
+          let less = ltb-true above height e in
+          let much : 2 ^ (above / 2) ≤ 2 ^ (height / 2) = pow_mono {i = above / 2} {j = height / 2} (omega (arith, less)) in
+          absurd (omega (arith, much, low, high))
+      | false ↦ λ e. let most = ltb-false above height e in omega (arith, most)
+    ] refl
+
+-- what a search costs, by a height that is no lower
+pub found_cost : (b : Bool) (new old height above : ℕ) → height ≤ above → new ≤ old + cond b (2 * height) 1 → new ≤ old + cond b (2 * above) 1
+found_cost true new old height above most cost = omega (arith, most, cost)
+found_cost false new old height above most cost = cost
 
 -- no moment comes after the last number of 64 bits
 most : (places : List Place) → soonest places ≤ 18446744073709551615

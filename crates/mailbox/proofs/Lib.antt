@@ -16,4 +16,5 @@ pub mod NextItem
 pub mod Sides
 pub mod Heights
 pub mod Expiry
+pub mod Cost
 pub mod Pushed

@@ -1,7 +1,8 @@
 -- The places at and below a node: those of its one side, its own, those of the other.
-use Rattle.std.proofs.Common.{◌≡◌, ℕ, zero, suc, ◌<◌, ◌≤◌, Bool, true, false, cond, List, [], ◌∷◌, ◌++◌, length, refl, ap, sym, ◌∙◌, subst, arith, Option, Some, None}
-use Rattle.std.specs.Prelude.{min, nat_le, nat_lt, not, ◌||◌}
+use Rattle.std.proofs.Common.{◌≡◌, ℕ, zero, suc, ◌+◌, ◌<◌, ◌≤◌, Bool, true, false, cond, List, [], ◌∷◌, ◌++◌, length, refl, ap, sym, ◌∙◌, subst, arith, Option, Some, None, Bor}
+use Rattle.std.specs.Prelude.{◌*◌, min, max, is_some, nat_le, nat_lt, not, ◌||◌}
 use Rattle.std.specs.List.{All, AllPairs, filter, find, list_any}
+use Rattle.std.specs.Option.{option_copied}
 use Rattle.std.specs.Ordering.{is_eq, is_lt, ordering_reverse}
 use Rattle.std.specs.Cmp.{IsTotalOrder, on_total}
 use Rattle.std.specs.declared.cmp.Ordering.{Ordering}
@@ -9,8 +10,9 @@ use Rattle.std.specs.declared.cmp.Ordering.TheVariants.{Less, Equal, Greater}
 use Rattle.std.specs.declared.boxed.Box.{Box}
 use Rattle.std.proofs.lemmas.Bool.Decides.{nat_tests}
 use mathlib.Core.List.{append_assoc}
+use Rattle.std.proofs.Math.Nat.{le-max_right}
 use Rattle.std.proofs.lemmas.List.{length-append}
-use Rattle.std.proofs.lemmas.Bool.{false≢true, false_from_ne_true, ltb-true}
+use Rattle.std.proofs.lemmas.Bool.{false≢true, false_from_ne_true, ltb-true, lt-ltb}
 use Rattle.std.proofs.lemmas.Cmp.{nat_list_cmp_total}
 use Rattle.std.proofs.lemmas.List.Elements.{All-nil, All-cons, All-head, All-tail, All-weaker, All-append, All-filter, filter-append}
 use Rattle.std.proofs.lemmas.List.Folds.{list_any-append}
@@ -19,7 +21,7 @@ use Rattle.mailbox.specs.declared.key.Key.{Key}
 use Rattle.mailbox.specs.declared.place.Place.{Place}
 use Rattle.mailbox.specs.Order.{place_at, named_cmp}
 use Rattle.mailbox.specs.Inside.Boxes.{name_of}
-use Rattle.mailbox.specs.Inside.Places.{place_cmp, same_place, InOrder, Branch, soonest, is_due, places_of, all_of, branch, EndsWith}
+use Rattle.mailbox.specs.Inside.Places.{place_cmp, same_place, InOrder, Branch, soonest, is_due, places_of, height_of, all_of, branch, EndsWith}
 use Rattle.mailbox.proofs.Lists.{pairs_head, pairs_tail, filter_all, any_of_none}
 
 module _ {X : Type 0} where
@@ -86,6 +88,24 @@ none_due moment (p ∷ ps) before =
 -- so too of the places that a link leads to
 pub not_due : {A : Type 0} (o : Option (Box Branch A)) (b : Box Branch A) (v : Branch) (is : o ≡ Some b) (at : v ≡ b.value) (moment : ℕ) → nat_lt moment (soonest v.places) ≡ true → None ≡ find (is_due moment) (places_of o)
 not_due o b v is at moment later = sym (ap (find (is_due moment)) (ap places_of is ∙ ap (λ (w : Branch). w.places) (sym at)) ∙ none_due moment v.places (ltb-true _ _ later))
+
+-- something is due where the first has ended
+pub some_due : (moment : ℕ) (places : List Place) → moment < 18446744073709551615 → nat_lt moment (soonest places) ≡ false → is_some (find (is_due moment) places) ≡ true
+some_due moment [] before ended = absurd (false≢true (sym ended ∙ lt-ltb moment 18446744073709551615 before))
+some_due moment (p ∷ ps) before ended =
+    elim (is_due moment p) as (λ b. is_due moment p ≡ b → is_some (cond b (Some p) (find (is_due moment) ps)) ≡ true) [
+      | true ↦ λ e. refl
+      | false ↦ λ e. some_due moment ps before (grind (arith, nat_tests, ended, e))
+    ] refl
+
+-- so too of the places that a link leads to
+pub some_left : {A : Type 0} (o : Option (Box Branch A)) (b : Box Branch A) (v : Branch) (is : o ≡ Some b) (at : v ≡ b.value) (moment : ℕ) → moment < 18446744073709551615 → nat_lt moment (soonest v.places) ≡ false → is_some (find (is_due moment) (places_of o)) ≡ true
+some_left o b v is at moment before ended = ap (λ ps. is_some (find (is_due moment) ps)) (ap places_of is ∙ ap (λ (w : Branch). w.places) (sym at)) ∙ some_due moment v.places before ended
+
+-- what is borrowed of something is something
+pub copied_some : {T : Type 0} (r : Option (Bor T)) (o : Option T) → option_copied r ≡ o → is_some o ≡ true → is_some r ≡ true
+copied_some None o is some = ap is_some is ∙ some
+copied_some (Some x) o is some = refl
 
 place_total : IsTotalOrder place_cmp
 place_total = on_total (λ (p : Place). place_at p.number p.key) nat_list_cmp_total
@@ -189,6 +209,14 @@ module _ (es : List Place) (own : Place) (ls : List Place) (order : InOrder (es 
 module _ {A : Type 0} (o : Option (Box Branch A)) (b : Box Branch A) (v : Branch) (is : o ≡ Some b) (at : v ≡ b.value) (p : Place) (e l : Option (Box Branch A)) (parts : branch p e l ≡ v) where
   pub there : places_of o ≡ all_of p e l
   there = ap places_of is ∙ ap (λ (w : Branch). w.places) (sym (parts ∙ at))
+
+  pub high : height_of o ≡ max (height_of e) (height_of l) + 1
+  high = ap height_of is ∙ ap (λ (w : Branch). w.height) (sym (parts ∙ at))
+
+  -- what a search costs that finds nothing before the later side, and something there
+  pub later_cost : (r : Bool) (old own earlier later : ℕ) → r ≡ true → own ≡ old + 1 → earlier ≤ own + 1 → later ≤ earlier + cond r (2 * height_of l) 1 → later ≤ old + cond r (2 * height_of o) 1
+  later_cost true old own earlier later found one two three = let up = le-max_right (height_of e) (height_of l) in omega (arith, one, two, three, up, high)
+  later_cost false old own earlier later found one two three = absurd (false≢true found)
 
   -- what is found at the node
   found_there : (test : Place → Bool) → find test (places_of o) ≡ or_found (find test (places_of e)) (cond (test p) (Some p) (find test (places_of l)))

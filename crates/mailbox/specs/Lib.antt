@@ -3,6 +3,7 @@ pub mod Values
 pub mod Item
 pub mod Order
 pub mod Mail
+pub mod Cost
 pub mod Refusals
 pub mod GroupPost
 pub mod Sound

@@ -1,6 +1,6 @@
 //! The mail, and the calls that change it.
 
-ghost use Rattle.std.specs.Prelude.{◌≡◌, ◌↔◌, IsTrue, ◌<◌, ◌≤◌, ◌-◌, length, count_by, true, false, map, None, OnOk, OnErr, IfOk, IfErr, unwrap_or};
+ghost use Rattle.std.specs.Prelude.{◌≡◌, ◌↔◌, IsTrue, ℕ, ◌+◌, ◌*◌, ◌<◌, ◌≤◌, ◌-◌, is_some, if◌then◌else◌, length, count_by, true, false, map, None, OnOk, OnErr, IfOk, IfErr, unwrap_or};
 ghost use Rattle.std.specs.List.{AllPairs, find, list_any};
 ghost use Rattle.std.specs.Option.{option_copied, option_map};
 ghost use Rattle.mailbox.specs.declared.fault.MailFault.TheVariants.{NoMemory};
@@ -9,6 +9,7 @@ ghost use Rattle.mailbox.specs.Values.{empty_mailed, latest_deadline};
 ghost use Rattle.mailbox.specs.Item.{same_key, key_of, answered, is_to, is_at, is_reported, is_expired};
 ghost use Rattle.mailbox.specs.Order.{IsBefore, ComesLast, next_item, place_of};
 ghost use Rattle.mailbox.specs.Mail.{holds, without, with_item, deadline_by, item_for, posted, reported, acknowledged, confirmed, expired, deleted, waiting};
+ghost use Rattle.mailbox.specs.Cost.{IsAboveAll, expiry_steps};
 ghost use Rattle.mailbox.specs.GroupPost.{shortened};
 ghost use Rattle.mailbox.specs.Judged.{none_waits, waits_alone, item_in, report_opening, MayPost, MayReport};
 ghost use Rattle.mailbox.specs.Refusals.{restore_refusal, post_refusal, report_refusal, ack_refusal, sent_refusal, delete_refusal};
@@ -19,11 +20,12 @@ use crate::order::Order;
 use crate::place::Place;
 use crate::{Envelope, Item, Key, Kind, MailFault, Moment, Opening, ReportOpening, Stamp};
 use identity::{Bits, Itsi};
-use prefix_tree::TryCopy;
+use prefix_tree::{Steps, TryCopy};
 use registration::{Limits, Registry, Rule};
 use sds_tl::DeliveryStatus;
 use std::alloc::{AllocError, Allocator};
-use std::marker::Model;
+use std::marker::{Brand, Model};
+use std::sync::ledger::{Blank, Ledger};
 
 /// All that waits: by destination, and beside it the order of the commands that made it.
 #[derive(Drop)]
@@ -133,17 +135,27 @@ impl<A: Allocator> Mail<A> {
     pub fn expire(&mut self, moment: Moment)
         ensures { self.new ≡ expired self.old moment }
     {
-        while let Some(place) = self.first_due(moment) {
-            self.remove_at(&place.key, false);
+        expire_from::<A, Brand>(self, moment, Blank::new(1));
+    }
+
+    /// The same. Each node of the tree of places that is visited is a step: where each tree of as many places is lower
+    /// than a height, at most three times that height for each item that goes, and one more.
+    pub fn expire_counted<L: Ledger>(&mut self, moment: Moment, steps: &mut Steps<L>)
+        ensures items { self.new ≡ expired self.old moment }
+        ensures cost { (height : ℕ) → IsAboveAll height self.old → steps.new ≤ steps.old + expiry_steps height (length self.old.items - length self.new.items) }
+    {
+        while let Some(place) = self.first_due(moment, steps) {
+            self.remove_counted(&place.key, false, steps);
         }
     }
 
-    /// The place of the first item that has expired.
-    fn first_due(&self, moment: Moment) -> Option<Place>
+    /// The place of the first item that has expired. Each node that is visited is a step.
+    fn first_due<L: Ledger>(&self, moment: Moment, steps: &mut Steps<L>) -> Option<Place>
         ensures first { result ≡ option_map place_of (find (is_expired moment) self.now.items) }
         ensures apart { AllPairs (λ a b. same_key b.key a.key ≡ false) self.now.items }
+        ensures cost { (height : ℕ) → IsAboveAll height self.now → steps.new ≤ steps.old + (if is_some result then 2 * height else 1) }
     {
-        self.order.first_due(moment).copied()
+        self.order.first_due(moment, steps).copied()
     }
 
     /// Removes an item; `NoSuchMessage` where there is none at the key, and then nothing changes. It
@@ -163,9 +175,18 @@ impl<A: Allocator> Mail<A> {
         requires { is_alone ≡ true → waits_alone self.old key.now ≡ true }
         ensures { self.new ≡ deleted self.old key.now }
     {
+        remove_from::<A, Brand>(self, key, is_alone, Blank::new(1));
+    }
+
+    /// The same. Each node of the tree of places that is visited is a step.
+    fn remove_counted<L: Ledger>(&mut self, key: &Key, is_alone: bool, steps: &mut Steps<L>)
+        requires { is_alone ≡ true → waits_alone self.old key.now ≡ true }
+        ensures items { self.new ≡ deleted self.old key.now }
+        ensures cost { (height : ℕ) → IsAboveAll height self.old → steps.new ≤ steps.old + height }
+    {
         let _whole = key.destination.number();
         if let Some(place) = self.boxes.remove_at(key, is_alone) {
-            self.order.remove(&place);
+            self.order.remove_counted(&place, steps);
         }
     }
 
@@ -450,4 +471,27 @@ fn item_in<A: Allocator>(opening: &Opening, stamp: Stamp, pdu: Bits<A>) -> Item<
 {
     let deadline = u64::from(stamp.moment.number()) + u64::from(opening.keep);
     Item::new(opening.key, stamp.number, deadline, pdu, None)
+}
+
+// As `remove_counted`, counted by this ledger.
+fn remove_from<A: Allocator, L: Ledger>(mail: &mut Mail<A>, key: &Key, is_alone: bool, blank: Blank)
+    requires name { blank.name ≡ L.name }
+    requires parts { blank.parts ≡ L.parts }
+    requires some { 0 < blank.parts }
+    requires alone { is_alone ≡ true → waits_alone mail.old key.now ≡ true }
+    ensures { mail.new ≡ deleted mail.old key.now }
+{
+    let mut steps = Steps::<L>::new(blank);
+    mail.remove_counted(key, is_alone, &mut steps);
+}
+
+// As `expire_counted`, counted by this ledger.
+fn expire_from<A: Allocator, L: Ledger>(mail: &mut Mail<A>, moment: Moment, blank: Blank)
+    requires name { blank.name ≡ L.name }
+    requires parts { blank.parts ≡ L.parts }
+    requires some { 0 < blank.parts }
+    ensures { mail.new ≡ expired mail.old moment }
+{
+    let mut steps = Steps::<L>::new(blank);
+    mail.expire_counted(moment, &mut steps);
 }

@@ -1,7 +1,7 @@
 //! The nodes of the tree of places. Of each node's two sides none stays more than a level higher than the other, so
 //! that a way down visits about as many nodes as the number of places has digits in base 2, half as many again at most.
 
-ghost use Rattle.std.specs.Prelude.{◌≡◌, ◌+◌, ◌<◌, ◌≤◌, ◌^◌, ◌++◌, ◌∷◌, [], not, true, length, max, nat_lt, is_some, IsSome, IfNone, IfOk, if◌then◌else◌};
+ghost use Rattle.std.specs.Prelude.{◌≡◌, ◌+◌, ◌*◌, ◌<◌, ◌≤◌, ◌^◌, ◌++◌, ◌∷◌, [], not, true, length, max, nat_lt, is_some, IsSome, IfNone, IfOk, if◌then◌else◌};
 ghost use Rattle.std.specs.List.{filter, find, list_any};
 ghost use Rattle.std.specs.Option.{option_copied, option_map};
 ghost use Rattle.prefix_tree.specs.Following.{next_of};
@@ -11,9 +11,11 @@ ghost use Rattle.mailbox.specs.Inside.Places.{same_place, InOrder, soonest, is_d
 
 use crate::Key;
 use crate::place::Place;
+use prefix_tree::Steps;
 use std::alloc::{AllocError, Allocator};
 use std::cmp::Ordering;
 use std::marker::Model;
+use std::sync::ledger::Ledger;
 
 /// A node in a box of its own.
 pub(crate) type Link<A> = Box<Node<A>, A>;
@@ -97,7 +99,7 @@ impl<A: Allocator> Node<A> {
     }
 }
 
-fn height<A: Allocator>(link: &Option<Link<A>>) -> u8
+pub(crate) fn height<A: Allocator>(link: &Option<Link<A>>) -> u8
     ensures value { result ≡ height_of link.now }
     ensures low { IsLow (height_of link.now) (length (places_of link.now)) }
 {
@@ -232,9 +234,13 @@ pub(crate) fn append<A: Allocator>(link: &mut Option<Link<A>>, place: &Place, sp
     *link = Some(node);
 }
 
-/// Takes the first place away, with a box that held a node.
+/// Takes the first place away, with a box that held a node. Each node that is visited is a step.
 #[cycle(pop_first)]
-fn pop_first<A: Allocator>(link: &mut Option<Link<A>>) -> Option<(Place, Link<A>)>
+fn pop_first<A: Allocator, L: Ledger>(
+    link: &mut Option<Link<A>>,
+    steps: &mut Steps<L>,
+) -> Option<(Place, Link<A>)>
+    ensures cost { steps.new ≤ steps.old + height_of link.old }
     ensures places { IsFirstOf (places_of link.old) (places_of link.new) (option_map (λ r. r.0) result) }
     ensures none { IfNone result (height_of link.old ≡ 0) }
     ensures shrinks { height_of link.new ≤ height_of link.old }
@@ -243,8 +249,9 @@ fn pop_first<A: Allocator>(link: &mut Option<Link<A>>) -> Option<(Place, Link<A>
     let Some(mut node) = link.take() else {
         return None;
     };
+    steps.tick();
     let (own, mut earlier, later) = node.take_apart();
-    match pop_first(&mut earlier) {
+    match pop_first(&mut earlier, steps) {
         Some(first) => {
             *node = balanced(own, earlier, later);
             *link = Some(node);
@@ -283,17 +290,22 @@ pub(crate) fn pop_last<A: Allocator>(link: &mut Option<Link<A>>) -> Option<Place
     }
 }
 
-// Two sides as one.
-fn join<A: Allocator>(earlier: Option<Link<A>>, later: Option<Link<A>>) -> Option<Link<A>>
+// Two sides as one. Each node that is visited is a step.
+fn join<A: Allocator, L: Ledger>(
+    earlier: Option<Link<A>>,
+    later: Option<Link<A>>,
+    steps: &mut Steps<L>,
+) -> Option<Link<A>>
     requires earlier { height_of earlier ≤ height_of later + 1 }
     requires later { height_of later ≤ height_of earlier + 1 }
     requires few { length (places_of earlier) + length (places_of later) + 1 < 2 ^ 64 }
     ensures places { places_of result ≡ places_of earlier ++ places_of later }
     ensures low { max (height_of earlier) (height_of later) ≤ height_of result }
     ensures high { height_of result ≤ max (height_of earlier) (height_of later) + 1 }
+    ensures cost { steps.new ≤ steps.old + height_of later }
 {
     let mut later = later;
-    match pop_first(&mut later) {
+    match pop_first(&mut later, steps) {
         Some((first, mut top)) => {
             *top = balanced(first, earlier, later);
             Some(top)
@@ -302,25 +314,31 @@ fn join<A: Allocator>(earlier: Option<Link<A>>, later: Option<Link<A>>) -> Optio
     }
 }
 
-/// Takes the place away, and gives a box back that held a node, if it was there.
-#[cycle(remove)]
-pub(crate) fn remove<A: Allocator>(link: &mut Option<Link<A>>, place: &Place) -> Option<Link<A>>
+/// Takes the place away, and gives a box back that held a node, if it was there. Each node that is visited is a step.
+#[cycle(remove_counted)]
+pub(crate) fn remove_counted<A: Allocator, L: Ledger>(
+    link: &mut Option<Link<A>>,
+    place: &Place,
+    steps: &mut Steps<L>,
+) -> Option<Link<A>>
     requires { InOrder (places_of link.old) }
     ensures places { places_of link.new ≡ filter (λ other. not (same_place place.now other)) (places_of link.old) }
     ensures there { list_any (same_place place.now) (places_of link.old) ≡ true → IsSome result }
     ensures count { length (places_of link.new) + (if is_some result then 1 else 0) ≡ length (places_of link.old) }
     ensures shrinks { height_of link.new ≤ height_of link.old }
     ensures little { height_of link.old ≤ height_of link.new + 1 }
+    ensures cost { steps.new ≤ steps.old + height_of link.old }
 {
     let Some(mut node) = link.take() else {
         return None;
     };
+    steps.tick();
     let (own, mut earlier, mut later) = node.take_apart();
     let spare = match place.cmp(&own) {
-        Ordering::Less => remove(&mut earlier, place),
-        Ordering::Greater => remove(&mut later, place),
+        Ordering::Less => remove_counted(&mut earlier, place, steps),
+        Ordering::Greater => remove_counted(&mut later, place, steps),
         Ordering::Equal => {
-            *link = join(earlier, later);
+            *link = join(earlier, later, steps);
             return Some(node);
         }
     };
@@ -366,25 +384,32 @@ pub(crate) fn first_after<'n, A: Allocator>(
     }
 }
 
-/// The first place whose item has ended by the moment.
+/// The first place whose item has ended by the moment. Each node that is visited is a step.
 #[cycle(first_due)]
-pub(crate) fn first_due<A: Allocator>(link: &Option<Link<A>>, moment: u64) -> Option<&Place>
-    ensures { option_copied result ≡ find (is_due moment) (places_of link.now) }
+pub(crate) fn first_due<'n, A: Allocator, L: Ledger>(
+    link: &'n Option<Link<A>>,
+    moment: u64,
+    steps: &mut Steps<L>,
+) -> Option<&'n Place>
+    requires { moment < 18446744073709551615 }
+    ensures first { option_copied result ≡ find (is_due moment) (places_of link.now) }
+    ensures cost { steps.new ≤ steps.old + (if is_some result then 2 * height_of link.now else 1) }
 {
     let Some(node) = link else {
         return None;
     };
+    steps.tick();
     if node.is_later_than(moment) {
         return None;
     }
     let (place, earlier, later) = node.parts();
-    if let Some(first) = first_due(earlier, moment) {
+    if let Some(first) = first_due(earlier, moment, steps) {
         return Some(first);
     }
     if place.deadline <= moment {
         return Some(place);
     }
-    first_due(later, moment)
+    first_due(later, moment, steps)
 }
 
 /// The same nodes again, in boxes of their own.

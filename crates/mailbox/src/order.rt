@@ -1,19 +1,20 @@
 //! The places of all items, in order.
 
-ghost use Rattle.std.specs.Prelude.{◌≡◌, ◌+◌, ◌<◌, ◌^◌, ◌++◌, ◌∷◌, [], not, true, length, OnOk};
+ghost use Rattle.std.specs.Prelude.{◌≡◌, ℕ, ◌+◌, ◌*◌, ◌<◌, ◌≤◌, ◌^◌, ◌++◌, ◌∷◌, [], not, true, length, is_some, if◌then◌else◌, OnOk};
 ghost use Rattle.std.specs.List.{filter, find, list_any};
 ghost use Rattle.std.specs.Option.{option_copied};
 ghost use Rattle.prefix_tree.specs.Following.{next_of};
 ghost use Rattle.mailbox.specs.Order.{named_cmp};
 ghost use Rattle.mailbox.specs.Inside.Boxes.{name_of};
-ghost use Rattle.mailbox.specs.Inside.Places.{same_place, InOrder, is_due, places_of, IsLastOf, EndsWith};
+ghost use Rattle.mailbox.specs.Inside.Places.{same_place, InOrder, is_due, places_of, IsAbove, IsLastOf, EndsWith};
 
 use crate::node::{self, Link, Node};
 use crate::place::Place;
 use crate::{Key, Moment};
-use prefix_tree::TryCopy;
+use prefix_tree::{Steps, TryCopy};
 use std::alloc::{AllocError, Allocator};
-use std::marker::Model;
+use std::marker::{Brand, Model};
+use std::sync::ledger::{Blank, Ledger};
 
 /// The places of all items, in order of number, then of key: a tree with a node for each.
 #[derive(Drop)]
@@ -81,11 +82,17 @@ impl<A: Allocator> Order<A> {
         node::first_after(&self.root, after)
     }
 
-    /// The first place whose item has ended by the moment.
-    pub(crate) fn first_due(&self, moment: Moment) -> Option<&Place>
-        ensures { option_copied result ≡ find (is_due moment) self.now }
+    /// The first place whose item has ended by the moment. Each node that is visited is a step.
+    pub(crate) fn first_due<L: Ledger>(
+        &self,
+        moment: Moment,
+        steps: &mut Steps<L>,
+    ) -> Option<&Place>
+        ensures first { option_copied result ≡ find (is_due moment) self.now }
+        ensures cost { (height : ℕ) → IsAbove height self.now → steps.new ≤ steps.old + (if is_some result then 2 * height else 1) }
     {
-        node::first_due(&self.root, u64::from(moment.number()))
+        let _low = node::height(&self.root);
+        node::first_due(&self.root, u64::from(moment.number()), steps)
     }
 
     /// Puts the place at the end, in this box.
@@ -97,12 +104,14 @@ impl<A: Allocator> Order<A> {
         node::append(&mut self.root, place, spare);
     }
 
-    /// Takes the place away.
-    pub(crate) fn remove(&mut self, place: &Place)
+    /// Takes the place away. Each node that is visited is a step.
+    pub(crate) fn remove_counted<L: Ledger>(&mut self, place: &Place, steps: &mut Steps<L>)
         requires { InOrder self.old }
-        ensures { self.new ≡ filter (λ other. not (same_place place.now other)) self.old }
+        ensures places { self.new ≡ filter (λ other. not (same_place place.now other)) self.old }
+        ensures cost { (height : ℕ) → IsAbove height self.old → steps.new ≤ steps.old + height }
     {
-        if node::remove(&mut self.root, place).is_some() {
+        let _low = node::height(&self.root);
+        if node::remove_counted(&mut self.root, place, steps).is_some() {
             self.count -= 1;
         }
     }
@@ -113,9 +122,7 @@ impl<A: Allocator> Order<A> {
         requires there { list_any (same_place old.now) self.old ≡ true }
         ensures { self.new ≡ filter (λ other. not (same_place old.now other)) self.old ++ place.now ∷ [] }
     {
-        if let Some(spare) = node::remove(&mut self.root, old) {
-            node::append(&mut self.root, place, spare);
-        }
+        renew_from::<A, Brand>(self, old, place, Blank::new(1));
     }
 
     /// Takes the last place away.
@@ -147,5 +154,25 @@ impl<A: Allocator + Clone> TryCopy for Order<A> {
             count: self.count,
             root: node::copied(&self.root, &self.alloc)?,
         })
+    }
+}
+
+// As `renew`, counted by this ledger.
+fn renew_from<A: Allocator, L: Ledger>(
+    order: &mut Order<A>,
+    old: &Place,
+    place: &Place,
+    blank: Blank,
+)
+    requires name { blank.name ≡ L.name }
+    requires parts { blank.parts ≡ L.parts }
+    requires some { 0 < blank.parts }
+    requires order { InOrder order.old }
+    requires there { list_any (same_place old.now) order.old ≡ true }
+    ensures { order.new ≡ filter (λ other. not (same_place old.now other)) order.old ++ place.now ∷ [] }
+{
+    let mut steps = Steps::<L>::new(blank);
+    if let Some(spare) = node::remove_counted(&mut order.root, old, &mut steps) {
+        node::append(&mut order.root, place, spare);
     }
 }

@@ -69,6 +69,10 @@ branch p earlier later = record { places = all_of p earlier later; height = max 
 abbrev pub IsLow : ℕ → ℕ → Type 0
 IsLow height count = 2 ^ (height / 2) ≤ count + 1
 
+-- no tree of these places is as high
+abbrev pub IsAbove : ℕ → List Place → Type 0
+IsAbove height places = length places + 1 < 2 ^ (height / 2)
+
 -- how high a node is whose sides are so high, once it is balanced: of sides that differ by two levels it may be one lower
 pub record IsBalanced (earlier later height : ℕ) : Type 0 where
   pub low : max earlier later ≤ height
