@@ -4,7 +4,7 @@ messages of 2,047 bits, up to 128 of them for one radio. It is listed, opened ag
 of the journal is so small that it fills several times meanwhile, and each time the whole register is written to the other side of the
 disk. Every answer is compared with what this script computes. The disk is a sparse file in a folder of its own, which goes at the end.
 Prints a line for each part, and last 'N passed, M failed'.
-Usage: greatest.py PROGRAM"""
+Usage: tests/run greatest_register PROGRAM"""
 import functools
 import mmap
 import subprocess
