@@ -1,12 +1,11 @@
 -- What the running world keeps.
 use Rattle.std.specs.Prelude.{Option, Some, None, is_none, cond, ◌==◌}
-use Rattle.std.proofs.Common.{◌≡◌, ℕ, zero, suc, ◌<◌, ◌≤◌, Bool, true, false, List, [], ◌∷◌, ◌++◌, length, take, refl, ap, sym, ◌∙◌, arith, true≢false, length-append}
+use Rattle.std.proofs.Common.{◌≡◌, ℕ, zero, suc, ◌<◌, ◌≤◌, Bool, true, false, List, [], ◌∷◌, ◌++◌, length, take, ap, sym, ◌∙◌, arith, true≢false, length-append}
 use Rattle.std.proofs.lemmas.List.{take_at, take_all, append-nil}
 use Rattle.centre_core.specs.declared.command.Command.{Command}
 use Rattle.centre_core.specs.declared.reply.Reply.{Reply}
 use Rattle.centre_core.specs.State.{State}
-use Rattle.centre_core.specs.History.{is_acceptance, next, after}
-use Rattle.centre_core.specs.InTurn.{reply_to}
+use Rattle.centre_core.specs.History.{is_acceptance, after}
 use Rattle.centre_core.specs.Batches.{with_replies, taken, accepted_of}
 use Rattle.centre_core.proofs.InTurnLaws.{after-append}
 use Rattle.centre_core.proofs.JoinedLaws.{after_taken}
