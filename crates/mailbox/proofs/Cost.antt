@@ -1,6 +1,6 @@
 -- What the removal of expired items costs.
 use Rattle.std.proofs.Common.{◌≡◌, ℕ, suc, ◌+◌, ◌-◌, ◌<◌, ◌≤◌, ◌^◌, List, length, ap, sym, ◌∙◌, subst, arith, Option, Some, None, Bor}
-use Rattle.std.specs.Prelude.{◌*◌, ◌/◌, map, is_some}
+use Rattle.std.specs.Prelude.{◌*◌, ◌/◌, is_some}
 use Rattle.std.specs.Option.{option_copied}
 use Rattle.std.proofs.Math.Nat.{mul-le-mul_left, mul-suc}
 use Rattle.std.proofs.lemmas.List.{length-map}

@@ -7,7 +7,7 @@ use Rattle.std.proofs.Math.Pow.{pow_mono}
 use Rattle.std.proofs.lemmas.Bool.{ltb-true, ltb-false}
 use Rattle.std.proofs.lemmas.List.{length-append}
 use Rattle.mailbox.specs.declared.place.Place.{Place}
-use Rattle.mailbox.specs.Inside.Places.{Branch, soonest, places_of, height_of, all_of, branch, IsLow, IsNode}
+use Rattle.mailbox.specs.Inside.Places.{Branch, soonest, places_of, height_of, all_of, IsLow, IsNode}
 
 step : (k a b m n : ℕ) → k ≤ a / 2 + 1 → k ≤ b / 2 + 1 → IsLow a m → IsLow b n → 2 ^ k ≤ (m + suc n) + 1
 step zero a b m n first second low_a low_b = omega arith

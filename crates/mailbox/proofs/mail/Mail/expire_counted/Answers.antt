@@ -1,4 +1,4 @@
-use Rattle.std.proofs.Common.{◌<◌, ◌≤◌, length, ap, sym, subst, ◌∙◌, arith}
+use Rattle.std.proofs.Common.{◌<◌, length, ap, sym, subst, ◌∙◌, arith}
 use Rattle.mailbox.specs.Values.{Mailed}
 use Rattle.mailbox.specs.Mail.{expired}
 use Rattle.mailbox.proofs.Expiry.{none_expired, same_left, fewer_wait}
