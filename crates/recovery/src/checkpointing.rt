@@ -30,7 +30,7 @@ fn write_side<A: Allocator + Clone, D: Disk>(
     requires room { disk_size layout.now ≤ (D.view disk.old).sectors }
     requires limits { register.now.registered.limits ≡ layout.now.limits }
     ensures any_moment { (base : Base) (held : Held A) → base.0 ≡ epoch → (D.view disk.old).honest → InEach (D.view disk.old) (Stands layout.now current base held)
-        → LeavesOnly (D.view disk.old) (D.view disk.new) (IsEither layout.now current base (epoch + 1, register.now) held) }
+        → LeavesOnly (D.view disk.old) (D.view disk.new) (IsEither layout.now current base (epoch + 1, register.now) held (fresh layout.now (other_of current))) }
     ensures switched { OnOk result ((base : Base) (held : Held A) → base.0 ≡ epoch → (D.view disk.old).honest → InEach (D.view disk.old) (Stands layout.now current base held)
         → InEach (D.view disk.new) (Stands {A = A} layout.now (other_of current) (epoch + 1, register.now) (fresh layout.now (other_of current)))) }
     ensures calls { OnOk result ((D.view disk.old).honest → (D.view disk.new).calls ≡ (D.view disk.old).calls ++ checkpoint_calls layout.now current epoch register.now (D.view disk.old).reads) }
