@@ -1,5 +1,5 @@
 -- The calls that were made.
-use Rattle.std.proofs.Common.{◌≡◌, eqb, true, false, List, [], ◌∷◌, ◌++◌, slice_index, Result, refl, sym, ap, ◌∙◌, append_assoc, arith}
+use Rattle.std.proofs.Common.{◌≡◌, eqb, Bool, true, false, List, [], ◌∷◌, ◌++◌, slice_index, Result, refl, sym, ap, ◌∙◌, append_assoc, arith}
 use Rattle.std.proofs.lemmas.List.{append-nil}
 use Rattle.std.proofs.lemmas.Bool.Decides.{nat_tests}
 use Rattle.sector_disk.specs.Disk.{View, IsCalled, sector}
@@ -12,7 +12,7 @@ use Rattle.gated_journal.specs.Half.{IsClosed, IsOpen}
 use Rattle.gated_journal.specs.Calls.{closed_gate}
 use Rattle.checkpoint.specs.declared.side.Side.{Side}
 use Rattle.checkpoint.specs.Layout.{root_at}
-use Rattle.checkpoint.specs.Calls.{root_calls}
+use Rattle.checkpoint.specs.Calls.{root_calls, root_calls_by}
 
 -- ---- the root is read, and closed where it is open
 
@@ -41,6 +41,32 @@ module _ (side : Side) (old : View) where
 
     pub calls_at_root : (new : View) → new.calls ≡ mid.calls ++ Write (root_at side) closed_gate ∷ [] → new.calls ≡ old.calls ++ root_calls side old.reads
     calls_at_root new is = rw (where_open opened) (all_made old.calls mid.calls new.calls looks (Write (root_at side) closed_gate) were is)
+
+-- ---- whatever the root reads as
+
+module _ (side : Side) (old : View) where
+  -- with the root's write, or without it
+  abbrev pub MayMakeRoot : View → Type 0
+  MayMakeRoot new = (was_open : Bool) × HasMade old new (root_calls_by side was_open)
+
+  abbrev pub MakesRoot : View → Type 0
+  MakesRoot new = (was_open : Bool) × (new.calls ≡ old.calls ++ root_calls_by side was_open)
+
+  pub root_unread : (new : View) (result : Result Unit DiskError) → IsCalled old new (Read (root_at side)) result → MayMakeRoot new
+  root_unread new result called = (false, made_on old old new [] [] (Read (root_at side)) result (sym (append-nil old.calls)) called)
+
+  pub root_left : (new : View) → new.calls ≡ old.calls ++ Read (root_at side) ∷ [] → MakesRoot new
+  root_left new is = (false, is)
+
+  pub root_left_made : (new : View) → new.calls ≡ old.calls ++ Read (root_at side) ∷ [] → MayMakeRoot new
+  root_left_made new is = (false, record { made = Read (root_at side) ∷ []; left = []; front = refl; now = is })
+
+  module _ (mid : View) (were : mid.calls ≡ old.calls ++ Read (root_at side) ∷ []) where
+    pub root_written : (new : View) (result : Result Unit DiskError) → IsCalled mid new (Write (root_at side) closed_gate) result → MayMakeRoot new
+    root_written new result called = (true, made_on old mid new (Read (root_at side) ∷ []) [] (Write (root_at side) closed_gate) result were called)
+
+    pub root_shut : (new : View) → new.calls ≡ mid.calls ++ Write (root_at side) closed_gate ∷ [] → MakesRoot new
+    root_shut new is = (true, all_made old.calls mid.calls new.calls (Read (root_at side) ∷ []) (Write (root_at side) closed_gate) were is)
 
 -- ---- a call, and a sync behind it
 

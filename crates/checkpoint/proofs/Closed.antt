@@ -9,8 +9,7 @@ use Rattle.gated_journal.specs.Calls.{closed_gate}
 use Rattle.checkpoint.specs.declared.layout.Layout.{Layout}
 use Rattle.checkpoint.specs.declared.side.Side.{Side}
 use Rattle.checkpoint.specs.Layout.{disk_size, half_at, other_of, root_at, slot_at}
-use Rattle.checkpoint.specs.Inside.Closed.{IsShut}
-use Rattle.checkpoint.specs.Standing.{Base, Held, InEach, Stands}
+use Rattle.checkpoint.specs.Standing.{Base, Held, InEach, IsShut, Stands}
 use Rattle.checkpoint.proofs.Apart.{lies}
 use Rattle.checkpoint.proofs.Spared.{below_older, below_same, closed_as, gate_torn, left_each, older_each, root_torn, stands_on}
 

@@ -16,10 +16,10 @@ use Rattle.image_rows.proofs.Groups.{length_each}
 use Rattle.image_rows.proofs.Images.{written_is_image}
 use Rattle.checkpoint.specs.declared.layout.Layout.{Layout}
 use Rattle.checkpoint.specs.declared.side.Side.{Side}
-use Rattle.checkpoint.specs.Layout.{half_at, other_of, root_at, slot_at, slot_size}
+use Rattle.checkpoint.specs.Layout.{half_at, half_end, other_of, root_at, slot_at, slot_size}
 use Rattle.checkpoint.specs.Calls.{row_sector}
-use Rattle.checkpoint.specs.Inside.Closed.{IsShut}
-use Rattle.checkpoint.specs.Standing.{Base, Held, InEach, IsReady, Stands, sectors_from}
+use Rattle.checkpoint.specs.Standing.{Base, Held, InEach, IsReady, IsShut, Stands, fresh, sectors_from}
+use Rattle.gated_journal.proofs.Chain.{last_gate}
 use Rattle.checkpoint.proofs.Apart.{lies}
 use Rattle.checkpoint.proofs.Spared.{closed_as, left_each, slot_torn, stands_on}
 
@@ -49,7 +49,7 @@ sectors_are image at (x ∷ xs) are =
     rw (first, rest) refl
 
 -- sectors that were written are the image
-written_slot : (layout : Layout) (at epoch : ℕ) (state : State) (image : List (List ℕ)) → IsState state → StateInRange state → state.registered.limits ≡ layout.limits → 0 < epoch → epoch ≤ last_epoch
+pub written_slot : (layout : Layout) (at epoch : ℕ) (state : State) (image : List (List ℕ)) → IsState state → StateInRange state → state.registered.limits ≡ layout.limits → 0 < epoch → epoch ≤ last_epoch
     → ((k : ℕ) → k < length (rows_of epoch state) → sector image (at + k) ≡ row_sector (epoch, state) k) → slot_of layout.limits (sectors_from image at (slot_size layout)) ≡ Ok (epoch, state)
 written_slot layout at epoch state image is ranges limits some most are =
     let n = length (rows_of epoch state) in
@@ -87,8 +87,8 @@ module _ (layout : Layout) (s : Side) (old mid : View) (shut : IsShut layout (ot
     in_last last result filled syncs = sync_on old new last P result (in_rows (Ok tt) filled) syncs (λ image is. at_slot image (filled.now image is))
 
 -- the image is on the disk
-pub is_ready : (layout : Layout) (side : Side) (epoch : ℕ) (state : State) (mid new last : View) → IsShut layout side mid → IsState state → StateInRange state → state.registered.limits ≡ layout.limits → 0 < epoch → epoch ≤ last_epoch
-    → HasFilled mid new (slot_at layout side) (length (rows_of epoch state)) (row_sector (epoch, state)) (Ok tt) → HasSynced new last (Ok tt) → InEach last (IsReady layout side (epoch, state))
+pub is_ready : {A : Type 0} (layout : Layout) (side : Side) (epoch : ℕ) (state : State) (mid new last : View) → IsShut layout side mid → IsState state → StateInRange state → state.registered.limits ≡ layout.limits → 0 < epoch → epoch ≤ last_epoch
+    → HasFilled mid new (slot_at layout side) (length (rows_of epoch state)) (row_sector (epoch, state)) (Ok tt) → HasSynced new last (Ok tt) → InEach last (IsReady {A = A} layout side (epoch, state) (fresh layout side))
 is_ready layout side epoch state mid new last shut is ranges limits some most filled syncs image left =
     let places = lies layout side in
     let fit = rows_have_room layout epoch state is limits in
@@ -98,5 +98,6 @@ is_ready layout side epoch state mid new last shut is ranges limits some most fi
       root = closed_as (sector mid.reads (root_at side)) (sector image (root_at side)) (same (root_at side) (inl places.root)) shut.root;
       slot = written_slot layout (slot_at layout side) epoch state image is ranges limits some most
           (λ k lt. durable_image last syncs.durable image left (slot_at layout side + k) ∙ ap (λ (l : List (List ℕ)). sector l (slot_at layout side + k)) syncs.reads ∙ filled.written k lt);
-      gate = closed_as (sector mid.reads (half_at layout side)) (sector image (half_at layout side)) (same (half_at layout side) (inr (omega (arith, fit, places.slot)))) shut.gate;
+      half = last_gate (half_end layout side - half_at layout side) image (half_at layout side) (half_end layout side) (closed_as (sector mid.reads (half_at layout side)) (sector image (half_at layout side)) (same (half_at layout side) (inr (omega (arith, fit, places.slot)))) shut.gate);
+      gate = let some = layout.in_range.fewest in omega (arith, some);
     }

@@ -10,3 +10,4 @@ pub mod Walked
 pub mod Worked
 pub mod Readback
 pub mod Looks
+pub mod NextRows

@@ -137,6 +137,13 @@ module _ (layout : Layout) (side : Side) (first size : ℕ) (f : first ≡ slot_
       let ends : slot_at layout side + slot_size layout ≤ disk_size layout = omega (arith, places.slot, places.half) in
       rw (f, s) ends
 
+  pub slot_before : first + size < disk_size layout
+  slot_before =
+      let places = lies layout side in
+      let some = layout.in_range.fewest in
+      let ends : slot_at layout side + slot_size layout < disk_size layout = omega (arith, places.slot, places.half, some) in
+      rw (f, s) ends
+
   pub slot_fits : first + size < 2 ^ 64
   slot_fits = let places = lies layout side in let within = slot_within in omega (arith, within, places.short)
 

@@ -6,29 +6,29 @@ use Rattle.sector_disk.specs.Run.{IsTorn, IsTornImage, LeavesOnly}
 use Rattle.sector_disk.specs.declared.disk.DiskError.{DiskError}
 use Rattle.sector_disk.proofs.Moments.{durable_image, started, sync_on, synced_images, torn_by, write_on}
 use Rattle.gated_journal.specs.Half.{IsOpen}
-use Rattle.gated_journal.proofs.Chain.{last_gate}
+use Rattle.gated_journal.proofs.Chain.{same_half}
 use Rattle.image_rows.specs.RowReading.{row_in}
 use Rattle.image_rows.specs.Image.{slot_of}
 use Rattle.checkpoint.specs.declared.layout.Layout.{Layout}
 use Rattle.checkpoint.specs.declared.side.Side.{Side}
 use Rattle.checkpoint.specs.Label.{label_size}
 use Rattle.checkpoint.specs.Layout.{disk_size, half_at, half_end, label_at, other_of, root_at, slot_at, slot_size}
-use Rattle.checkpoint.specs.Standing.{Base, Held, InEach, IsBelow, IsEither, IsReady, Stands, epoch_of, fresh}
+use Rattle.checkpoint.specs.Standing.{Base, Held, InEach, IsBelow, IsEither, IsReady, Stands, epoch_of}
 use Rattle.checkpoint.proofs.Apart.{label_elsewhere, lies, other_twice, slot_elsewhere}
 use Rattle.checkpoint.proofs.Epochs.{slot_tells}
-use Rattle.checkpoint.proofs.Spared.{closed_as, root_torn, sectors_same, stands_on}
+use Rattle.checkpoint.proofs.Spared.{root_torn, sectors_same, stands_on}
 
-module _ {A : Type 0} (layout : Layout) (s : Side) (base next : Base) (held : Held A) (newer : base.0 < next.0) where
+module _ {A : Type 0} (layout : Layout) (s : Side) (base next : Base) (held more : Held A) (newer : base.0 < next.0) where
   abbrev o : Side
   o = other_of s
 
   abbrev Either : List (List ℕ) → Type 0
-  Either = IsEither layout s base next held
+  Either = IsEither layout s base next held more
 
   abbrev Other : List (List ℕ) → Type 0
-  Other = Stands {A = A} layout o next (fresh layout o)
+  Other = Stands layout o next more
 
-  module _ (was image : List (List ℕ)) (torn : IsTorn (root_at o) 1 was image) (stands : Stands layout s base held was) (ready : IsReady layout o next was) where
+  module _ (was image : List (List ℕ)) (torn : IsTorn (root_at o) 1 was image) (stands : Stands layout s base held was) (ready : IsReady layout o next more was) where
     -- all behind the roots is the same
     behind : (k : ℕ) → root_at o < k → sector image k ≡ sector was k
     behind k lt = torn.others k (inr (omega (arith, lt)))
@@ -43,15 +43,14 @@ module _ {A : Type 0} (layout : Layout) (s : Side) (base next : Base) (held : He
     opened_stands : IsOpen (sector image (root_at o)) → Other image
     opened_stands opened =
         let places = lies layout o in
-        let some = layout.in_range.fewest in
         record {
           room = rw torn.count stands.room;
           label = ap (λ (bytes : List ℕ). take label_size bytes) ((root_torn layout o was image torn).others label_at (label_elsewhere layout s)) ∙ stands.label;
           root = opened;
           below = rw (other_twice s) below;
           slot = ap (slot_of layout.limits) (sectors_same was image (slot_at layout o) (slot_size layout) (λ k low high. behind k (omega (arith, low, places.root)))) ∙ ready.slot;
-          half = last_gate (half_end layout o - half_at layout o) image (half_at layout o) (half_end layout o) (closed_as (sector was (half_at layout o)) (sector image (half_at layout o)) (behind (half_at layout o) (omega (arith, places.root, places.slot))) ready.gate);
-          gate = omega (arith, some);
+          half = same_half was image (half_at layout o) (half_end layout o) more.0 more.1 ready.half (λ k low high. behind k (omega (arith, low, places.root, places.slot)));
+          gate = ready.gate;
         }
 
     stands_either : Either image
@@ -60,7 +59,7 @@ module _ {A : Type 0} (layout : Layout) (s : Side) (base next : Base) (held : He
       | inr shut ↦ inl (stands_on layout s base held was image stands (root_torn layout o was image torn) (inl shut))
     ]
 
-  module _ (old mid : View) (sound : IsSound old) (room : disk_size layout ≤ old.sectors) (each : InEach old (Stands layout s base held)) (ready : InEach old (IsReady layout o next)) where
+  module _ (old mid : View) (sound : IsSound old) (room : disk_size layout ≤ old.sectors) (each : InEach old (Stands layout s base held)) (ready : InEach old (IsReady layout o next more)) where
     at_root : (image : List (List ℕ)) → IsTornImage old (root_at o) 1 image → Either image
     at_root image torn = stands_either torn.0 image torn.2 (each torn.0 torn.1) (ready torn.0 torn.1)
 

@@ -1,7 +1,9 @@
 -- The rows of an image, one after another.
-use Rattle.std.proofs.Common.{◌≡◌, ℕ, zero, suc, ◌+◌, ◌-◌, ◌<◌, ◌≤◌, List, [], ◌∷◌, drop, length, Option, Some, None, refl, sym, ap, ◌∙◌, arith}
+use Rattle.std.proofs.Common.{◌≡◌, Bool, true, false, ℕ, zero, suc, ◌+◌, ◌-◌, ◌<◌, ◌≤◌, List, [], ◌∷◌, drop, length, Option, Some, None, refl, sym, ap, ◌∙◌, arith}
 use Rattle.std.specs.Prelude.{map as each}
-use Rattle.std.specs.Option.{option_map}
+use Rattle.std.specs.Option.{is_none, is_some, option_map}
+use Rattle.std.specs.Prelude.{nat_eq, not}
+use Rattle.std.proofs.lemmas.Bool.Decides.{nat_tests}
 use Rattle.sector_disk.specs.Disk.{sector}
 use Rattle.prefix_tree.specs.Following.{one_by_one, then_on}
 use Rattle.centre_core.specs.State.{State, IsState}
@@ -13,6 +15,15 @@ use Rattle.image_rows.specs.InTurn.{told_row}
 use Rattle.image_rows.specs.Walking.{place_of, row_after}
 use Rattle.image_rows.proofs.Walking.{rows_walk}
 use Rattle.checkpoint.specs.Calls.{row_sector}
+use Rattle.checkpoint.specs.Progress.{IsProgress}
+use Rattle.checkpoint.specs.declared.progress.Progress.{Progress}
+
+-- what `is_none` answers
+pub told_none : {T : Type 0} (o : Option T) (r : Bool) → is_some o ≡ not r → r ≡ is_none o
+told_none None true e = refl
+told_none None false e = absurd cc
+told_none (Some x) true e = absurd cc
+told_none (Some x) false e = refl
 
 -- what stands at a place of a list
 record At (rows : List Row) (k : ℕ) (row : Row) (rest : List Row) : Type 0 where
@@ -90,3 +101,52 @@ module _ (epoch : ℕ) (state : State) where
   -- the row that comes next
   pub walk_here : (told : Option (RowPlace × List ℕ)) (k : ℕ) (next : RowPlace × List ℕ) → Walk told k → told ≡ Some next → Goes k next.1 (option_map told_row (row_after epoch state (Some next.0)))
   walk_here told k next walk e = walk_on told (option_map told_row (row_after epoch state (Some next.0))) k next.0 next.1 walk e refl
+
+  -- ---- a few rows at a time
+
+  pub as_walk : (progress : Progress) → IsProgress epoch state progress → (told : Option (RowPlace × List ℕ)) → told ≡ option_map told_row (row_after epoch state progress.last) → Walk told progress.written
+  as_walk progress is told e = record { after = progress.last; is = e; few = is.few; on = is.on }
+
+  -- the next row is written
+  pub progress_on : (progress : Progress) → IsProgress epoch state progress → (place : RowPlace) (bytes : List ℕ) → Some (place, bytes) ≡ option_map told_row (row_after epoch state progress.last)
+      → (progress.written < length (rows_of epoch state)) × (bytes ≡ row_sector (epoch, state) progress.written) × IsProgress epoch state (record progress { written = progress.written + 1; last = Some place })
+  progress_on progress is place bytes e =
+      let on = rw (counted progress.written is.few) at is.on in
+      elim (row_after epoch state progress.last) as (λ o. Some (place, bytes) ≡ option_map told_row o → then_on (λ x. one_by_one (row_after epoch state) place_of (length (rows_of epoch state) - progress.written) (Some (place_of x))) o ≡ drop progress.written (rows_of epoch state) → (progress.written < length (rows_of epoch state)) × (bytes ≡ row_sector (epoch, state) progress.written) × IsProgress epoch state (record progress { written = progress.written + 1; last = Some place })) [
+        | None ↦ λ none is. absurd cc
+        | Some row ↦ λ some rest. one_written progress.written place bytes row some is.few rest
+      ] e on
+    where
+      one_written : (k : ℕ) (place : RowPlace) (bytes : List ℕ) (row : Row) → Some (place, bytes) ≡ Some (told_row row) → k ≤ length (rows_of epoch state) → row ∷ one_by_one (row_after epoch state) place_of (length (rows_of epoch state) - k) (Some (place_of row)) ≡ drop k (rows_of epoch state)
+          → (k < length (rows_of epoch state)) × (bytes ≡ row_sector (epoch, state) k) × IsProgress epoch state (record progress { written = k + 1; last = Some place })
+      one_written k place bytes row e few on =
+          let pair : (place, bytes) ≡ told_row row = cc in
+          let here : place ≡ place_of row = ap (λ (x : RowPlace × List ℕ). x.0) pair in
+          let text : bytes ≡ sector_of row = ap (λ (x : RowPlace × List ℕ). x.1) pair in
+          let next : k + 1 ≡ suc k = omega arith in
+          let left : length (rows_of epoch state) + 1 - suc k ≡ length (rows_of epoch state) - k = omega arith in
+          let at = at_drop (rows_of epoch state) k row (one_by_one (row_after epoch state) place_of (length (rows_of epoch state) - k) (Some (place_of row))) (sym on) in (
+            at.lt,
+            text ∙ sym at.is,
+            record { few = omega (arith, at.lt); on = rw (next, left, here) (sym at.more) },
+          )
+
+  -- no row is left
+  pub progress_done : (progress : Progress) → IsProgress epoch state progress → None ≡ option_map told_row (row_after epoch state progress.last) → progress.written ≡ length (rows_of epoch state)
+  progress_done progress is e = walk_done None progress.written (as_walk progress is None e) refl
+
+  -- one is left
+  pub progress_left : (progress : Progress) → IsProgress epoch state progress → (next : RowPlace × List ℕ) → Some next ≡ option_map told_row (row_after epoch state progress.last) → progress.written < length (rows_of epoch state)
+  progress_left progress is next e = (progress_on progress is next.0 next.1 e).0
+
+  -- whether none is left
+  pub whole_where_none : (progress : Progress) → IsProgress epoch state progress → is_none (option_map told_row (row_after epoch state progress.last)) ≡ nat_eq progress.written (length (rows_of epoch state))
+  whole_where_none progress is = elim (option_map told_row (row_after epoch state progress.last)) as (λ o. o ≡ option_map told_row (row_after epoch state progress.last) → is_none o ≡ nat_eq progress.written (length (rows_of epoch state))) [
+    | None ↦ λ e. let done = progress_done progress is e in grind (arith, nat_tests)
+    | Some next ↦ λ e. let left = progress_left progress is next e in grind (arith, nat_tests)
+  ] refl
+
+pub progress_begun : (epoch : ℕ) (state : State) → IsState state → StateInRange state → (progress : Progress) → progress.written ≡ 0 → progress.last ≡ None → IsProgress epoch state progress
+progress_begun epoch state is ranges progress written last =
+    let all : length (rows_of epoch state) + 1 - 0 ≡ length (rows_of epoch state) + 1 = omega arith in
+    record { few = omega (arith, written); on = rw (written, last, all) (rows_walk epoch state (length (rows_of epoch state) + 1) is ranges (omega arith)) }

@@ -4,5 +4,5 @@ pub mod Label
 pub mod Standing
 pub mod Worked
 pub mod Calls
+pub mod Progress
 pub mod Reading
-pub mod Inside

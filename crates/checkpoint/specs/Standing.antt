@@ -1,5 +1,5 @@
 -- What the image of a disk stands for: the side that counts, the register in its slot, and the records in its half.
-use Rattle.std.specs.Prelude.{◌≡◌, ◌⊎◌, zero, suc, ◌+◌, ◌<◌, ◌≤◌, List, [], ◌∷◌, length, Option, Some, None, Ok, Result}
+use Rattle.std.specs.Prelude.{◌≡◌, ◌⊎◌, zero, suc, ◌+◌, ◌<◌, ◌≤◌, false, List, [], ◌∷◌, length, Option, Some, None, Ok, Result}
 use Rattle.identity.specs.Numbers.{Byte}
 use Rattle.sector_disk.specs.Numbers.{Sector, Sectors}
 use Rattle.sector_disk.specs.Disk.{View, IsImageOf, sector}
@@ -56,6 +56,12 @@ IsBelow layout side epoch image = IsClosed (sector image (root_at side)) ⊎ Tel
 abbrev pub InEach : View → (List (List Byte) → Type 0) → Type 0
 InEach disk P = (image : List (List Byte)) → IsImageOf disk image → P image
 
+-- Nothing is pending, and the side's root and the first gate of its half are closed.
+pub record IsShut (layout : Layout) (side : Side) (disk : View) : Type 0 where
+  pub durable : (k : Sector) → disk.pending k ≡ false
+  pub root : IsClosed (sector disk.reads (root_at side))
+  pub gate : IsClosed (sector disk.reads (half_at layout side))
+
 -- the records of a half, and its first closed gate
 abbrev pub Held : Type 0 → Type 0
 Held A = List (Entry A) × Sector
@@ -80,16 +86,13 @@ module _ {A : Type 0} where
     pub half : IsInHalf layout side held image
     pub gate : held.1 < half_end layout side
 
--- Nothing but the side's root is missing: its slot begins with this image of a register, and its half holds no record.
-pub record IsReady (layout : Layout) (side : Side) (base : Base) (image : List (List Byte)) : Type 0 where
-  pub root : IsClosed (sector image (root_at side))
-  pub slot : IsInSlot layout side base image
-  pub gate : IsClosed (sector image (half_at layout side))
+  -- Nothing but the side's root is missing: its slot begins with this image of a register, and its half holds these records.
+  pub record IsReady (layout : Layout) (side : Side) (base : Base) (held : Held A) (image : List (List Byte)) : Type 0 where
+    pub root : IsClosed (sector image (root_at side))
+    pub slot : IsInSlot layout side base image
+    pub half : IsInHalf layout side held image
+    pub gate : held.1 < half_end layout side
 
--- the image stands by this side, with this image of a register and no record
-abbrev pub StandsFresh : Type 0 → Layout → Side → Base → List (List Byte) → Type 0
-StandsFresh A layout side base image = Stands {A = A} layout side base (fresh layout side) image
-
--- the image stands by the current side as before, or by the other one, with its own image and no record
-abbrev pub IsEither : {A : Type 0} → Layout → Side → Base → Base → Held A → List (List Byte) → Type 0
-IsEither {A} layout current base next held image = Stands layout current base held image ⊎ StandsFresh A layout (other_of current) next image
+  -- the image stands by the current side as before, or by the other one, with its own image and records
+  abbrev pub IsEither : Layout → Side → Base → Base → Held A → Held A → List (List Byte) → Type 0
+  IsEither layout current base next held more image = Stands layout current base held image ⊎ Stands layout (other_of current) next more image

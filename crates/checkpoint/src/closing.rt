@@ -1,13 +1,12 @@
-// The other side of a disk closed, before an image is written there.
-ghost use Rattle.std.specs.Prelude.{◌≡◌, ◌≤◌, ◌++◌, IsErrOf, OnOk};
+//! The other side of a disk, closed before an image is written there.
+ghost use Rattle.std.specs.Prelude.{◌≡◌, ◌≤◌, ◌++◌, Bool, IsErrOf, OnOk};
 ghost use Rattle.sector_disk.specs.Disk.{HasCause, sector};
 ghost use Rattle.sector_disk.specs.Run.{HasMade, LeavesOnly};
 ghost use Rattle.sector_disk.specs.declared.disk.DiskError.TheVariants.{OutOfRange};
 ghost use Rattle.gated_journal.specs.Half.{IsClosed};
 ghost use Rattle.checkpoint.specs.Layout.{disk_size, other_of, root_at};
-ghost use Rattle.checkpoint.specs.Standing.{Base, Held, InEach, Stands};
-ghost use Rattle.checkpoint.specs.Calls.{close_calls, root_calls};
-ghost use Rattle.checkpoint.specs.Inside.Closed.{IsShut};
+ghost use Rattle.checkpoint.specs.Standing.{Base, Held, InEach, IsShut, Stands};
+ghost use Rattle.checkpoint.specs.Calls.{close_calls, close_calls_by, root_calls, root_calls_by};
 
 use crate::{Layout, Side};
 use sector_disk::{Disk, DiskError};
@@ -25,6 +24,8 @@ fn close_root<A: Allocator, D: Disk>(
     ensures closed { OnOk result ((D.view disk.old).honest → IsClosed (sector (D.view disk.new).reads (root_at (other_of current)))) }
     ensures calls { OnOk result ((D.view disk.old).honest → (D.view disk.new).calls ≡ (D.view disk.old).calls ++ root_calls (other_of current) (D.view disk.old).reads) }
     ensures some_calls { (D.view disk.old).honest → HasMade (D.view disk.old) (D.view disk.new) (root_calls (other_of current) (D.view disk.old).reads) }
+    ensures calls_on_any_disk { OnOk result ((was_open : Bool) × ((D.view disk.new).calls ≡ (D.view disk.old).calls ++ root_calls_by (other_of current) was_open)) }
+    ensures some_calls_on_any_disk { (was_open : Bool) × HasMade (D.view disk.old) (D.view disk.new) (root_calls_by (other_of current) was_open) }
     ensures cause { HasCause (D.view disk.old) (D.view disk.new) result }
     ensures in_range { IsErrOf result OutOfRange → ⊥ }
     ensures honest { (D.view disk.old).honest → (D.view disk.new).honest }
@@ -39,18 +40,31 @@ fn close_root<A: Allocator, D: Disk>(
     Ok(())
 }
 
-// Closes the other side's root and the first gate of its half, and makes both last.
-pub(crate) fn close<A: Allocator, D: Disk>(
+/// Begins a checkpoint: closes the root of the side that is not current, and the first gate of its half. Takes no memory.
+///
+/// At `Ok` nothing is pending, and rows and records can be written to that side. A stop at any moment, also after a
+/// `DiskFault`, leaves what the current side stood for.
+pub fn begin<A: Allocator, D: Disk>(
     disk: &mut D,
     layout: &Layout,
     current: Side,
 ) -> Result<(), DiskError>
     requires room { disk_size layout.now ≤ (D.view disk.old).sectors }
+
+    // A stop at any moment of the call leaves the disk standing by the current side for what it stood for.
     ensures any_moment { (base : Base) (held : Held A) → (D.view disk.old).honest → InEach (D.view disk.old) (Stands layout.now current base held)
         → LeavesOnly (D.view disk.old) (D.view disk.new) (Stands layout.now current base held) }
     ensures shut { OnOk result ((D.view disk.old).honest → IsShut layout.now (other_of current) (D.view disk.new)) }
+
+    // The root is read, and written only where it reads open; then the gate is closed. A call that fails is the last.
     ensures calls { OnOk result ((D.view disk.old).honest → (D.view disk.new).calls ≡ (D.view disk.old).calls ++ close_calls layout.now (other_of current) (D.view disk.old).reads) }
     ensures some_calls { (D.view disk.old).honest → HasMade (D.view disk.old) (D.view disk.new) (close_calls layout.now (other_of current) (D.view disk.old).reads) }
+
+    // So too on a disk that is not honest, with the root's write or without it.
+    ensures calls_on_any_disk { OnOk result ((was_open : Bool) × ((D.view disk.new).calls ≡ (D.view disk.old).calls ++ close_calls_by layout.now (other_of current) was_open)) }
+    ensures some_calls_on_any_disk { (was_open : Bool) × HasMade (D.view disk.old) (D.view disk.new) (close_calls_by layout.now (other_of current) was_open) }
+
+    // It does not give up by itself.
     ensures cause { HasCause (D.view disk.old) (D.view disk.new) result }
     ensures in_range { IsErrOf result OutOfRange → ⊥ }
     ensures honest { (D.view disk.old).honest → (D.view disk.new).honest }

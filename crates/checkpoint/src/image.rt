@@ -1,5 +1,5 @@
 // The image of a register written to the other side of a disk.
-ghost use Rattle.std.specs.Prelude.{◌≡◌, ◌≤◌, ◌<◌, ◌+◌, ◌^◌, ◌++◌, Err, IsErr, IsErrOf, OnOk, length};
+ghost use Rattle.std.specs.Prelude.{◌≡◌, ◌≤◌, ◌<◌, ◌+◌, ◌^◌, ◌++◌, Bool, Err, IsErr, IsErrOf, OnOk, length};
 ghost use Rattle.sector_disk.specs.Disk.{HasFailed};
 ghost use Rattle.sector_disk.specs.Run.{HasMade, LeavesOnly};
 ghost use Rattle.sector_disk.specs.Inside.Filling.{HasFilled};
@@ -7,11 +7,10 @@ ghost use Rattle.sector_disk.specs.declared.disk.DiskError.TheVariants.{OutOfRan
 ghost use Rattle.image_rows.specs.Rows.{last_epoch, rows_of};
 ghost use Rattle.checkpoint.specs.declared.fault.CheckpointError.TheVariants.{DiskFault, EpochsUsedUp};
 ghost use Rattle.checkpoint.specs.Layout.{disk_size, other_of};
-ghost use Rattle.checkpoint.specs.Standing.{Base, Held, InEach, IsReady, Stands};
-ghost use Rattle.checkpoint.specs.Calls.{image_calls, row_calls, row_sector};
+ghost use Rattle.checkpoint.specs.Standing.{Base, Held, InEach, IsReady, Stands, fresh};
+ghost use Rattle.checkpoint.specs.Calls.{image_calls, image_calls_by, row_calls, row_sector};
 
-use crate::closing::close;
-use crate::{CheckpointError, Layout, Side};
+use crate::{CheckpointError, Layout, Side, begin};
 use centre_core::Register;
 use image_rows::{LAST_EPOCH, row_after};
 use sector_disk::{Disk, DiskError};
@@ -65,12 +64,16 @@ pub fn write_image<A: Allocator + Clone, D: Disk>(
         → LeavesOnly (D.view disk.old) (D.view disk.new) (Stands layout.now current base held) }
 
     // At `Ok` each stop leaves the image in the other side's slot, with the next epoch, and only its root is missing.
-    ensures ready { OnOk result ((D.view disk.old).honest → InEach (D.view disk.new) (IsReady layout.now (other_of current) (epoch + 1, register.now))) }
+    ensures ready { OnOk result ((D.view disk.old).honest → InEach (D.view disk.new) (IsReady {A = A} layout.now (other_of current) (epoch + 1, register.now) (fresh layout.now (other_of current)))) }
 
     // The other side's root is read, and written only where it reads open; its first gate is closed; then each row is
     // written once. A call that fails is the last.
     ensures calls { OnOk result ((D.view disk.old).honest → (D.view disk.new).calls ≡ (D.view disk.old).calls ++ image_calls layout.now (other_of current) (D.view disk.old).reads (epoch + 1, register.now)) }
     ensures some_calls { (D.view disk.old).honest → HasMade (D.view disk.old) (D.view disk.new) (image_calls layout.now (other_of current) (D.view disk.old).reads (epoch + 1, register.now)) }
+
+    // So too on a disk that is not honest, with the root's write or without it.
+    ensures calls_on_any_disk { OnOk result ((was_open : Bool) × ((D.view disk.new).calls ≡ (D.view disk.old).calls ++ image_calls_by layout.now (other_of current) was_open (epoch + 1, register.now))) }
+    ensures some_calls_on_any_disk { (was_open : Bool) × HasMade (D.view disk.old) (D.view disk.new) (image_calls_by layout.now (other_of current) was_open (epoch + 1, register.now)) }
 
     // It does not give up by itself.
     ensures fault { IsErrOf result DiskFault → HasFailed (D.view disk.old) (D.view disk.new) }
@@ -84,7 +87,7 @@ pub fn write_image<A: Allocator + Clone, D: Disk>(
         return Err(CheckpointError::EpochsUsedUp);
     }
     centre_core::laws::registers(register);
-    close::<A, D>(disk, layout, current)?;
+    begin::<A, D>(disk, layout, current)?;
     write_rows(disk, layout.slot(current.other()), epoch + 1, register)?;
     disk.sync()?;
     Ok(())

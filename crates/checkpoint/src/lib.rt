@@ -6,14 +6,17 @@ mod fault;
 mod image;
 pub mod laws;
 mod layout;
+mod progress;
 mod read_fault;
 mod reading;
 mod side;
 mod switching;
 
+pub use closing::begin;
 pub use fault::CheckpointError;
 pub use image::write_image;
 pub use layout::Layout;
+pub use progress::{Progress, write_next_rows};
 pub use read_fault::ReadFault;
 pub use reading::read_image;
 pub use side::Side;

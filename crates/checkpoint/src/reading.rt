@@ -57,6 +57,7 @@ fn take_rows<A: Allocator + Clone, D: Disk>(
     ensures whole { OnOk result (IsSome (finished loader.new)) }
     ensures exact { OnOk result ((D.view disk.old).honest → IfSome (finished loader.new) (λ image. IsInSlot layout.now side image (D.view disk.old).reads)) }
     ensures damaged { (at : ℕ) → IsErrOf result (Damaged at) → (D.view disk.old).honest → IsBadSector layout.now side at (D.view disk.old).reads }
+    ensures on_disk { (at : ℕ) → IsErrOf result (Damaged at) → at < (D.view disk.old).sectors }
     ensures memory { IsErrOf result NoMemory → (D.view disk.old).honest → IsGoodSoFar layout.now side (D.view disk.old) (D.view disk.new) }
     ensures looked { (D.view disk.old).honest → HasLooked (D.view disk.old) (D.view disk.new) }
     ensures only_reads { before_reads (D.view disk.new).calls ≡ before_reads (D.view disk.old).calls }
@@ -96,6 +97,7 @@ pub fn read_image<A: Allocator + Clone, D: Disk>(
     // What is answered is the image in the slot, and the sector that is told is its first bad one.
     ensures exact { IfOk result (λ image. (D.view disk.old).honest → IsInSlot layout.now side image (D.view disk.old).reads) }
     ensures damaged { (at : ℕ) → IsErrOf result (Damaged at) → (D.view disk.old).honest → IsBadSector layout.now side at (D.view disk.old).reads }
+    ensures on_disk { (at : ℕ) → IsErrOf result (Damaged at) → at < (D.view disk.old).sectors }
     ensures limits { IfOk result (λ image. image.1.registered.limits ≡ layout.now.limits) }
 
     // Want of memory hides no damage: all that was read is good.
@@ -104,6 +106,7 @@ pub fn read_image<A: Allocator + Clone, D: Disk>(
     // It only reads, the sectors of the slot from the first on, each once; at `Ok` just those of the image.
     ensures looked { (D.view disk.old).honest → HasLooked (D.view disk.old) (D.view disk.new) }
     ensures only_reads { before_reads (D.view disk.new).calls ≡ before_reads (D.view disk.old).calls }
+    ensures honest { (D.view disk.old).honest → (D.view disk.new).honest }
     ensures calls { IfOk result (λ image. (D.view disk.old).honest → (D.view disk.new).calls ≡ (D.view disk.old).calls ++ image_looks (slot_at layout.now side) image) }
     ensures some_calls { HasMade (D.view disk.old) (D.view disk.new) (looks (slot_at layout.now side) (slot_size layout.now)) }
 

@@ -4,7 +4,7 @@ ghost use Rattle.sector_disk.specs.Disk.{HasFailed};
 ghost use Rattle.sector_disk.specs.Run.{HasMade, LeavesOnly};
 ghost use Rattle.checkpoint.specs.declared.fault.CheckpointError.TheVariants.{DiskFault, EpochsUsedUp};
 ghost use Rattle.checkpoint.specs.Layout.{disk_size, other_of};
-ghost use Rattle.checkpoint.specs.Standing.{Base, Held, InEach, IsEither, IsReady, Stands, fresh};
+ghost use Rattle.checkpoint.specs.Standing.{Base, Held, InEach, IsEither, IsReady, Stands};
 ghost use Rattle.checkpoint.specs.Calls.{switch_calls};
 
 use crate::{CheckpointError, Layout, Side};
@@ -15,7 +15,7 @@ use std::alloc::Allocator;
 /// memory.
 ///
 /// A stop at any moment, also after a `DiskFault`, leaves what stood there before, or the image that was written with
-/// no record behind it; at `Ok` each stop leaves the latter.
+/// the records behind it; at `Ok` each stop leaves the latter.
 pub fn switch<A: Allocator, D: Disk>(
     disk: &mut D,
     layout: &Layout,
@@ -24,12 +24,12 @@ pub fn switch<A: Allocator, D: Disk>(
     requires room { disk_size layout.now ≤ (D.view disk.old).sectors }
 
     // A stop at any moment of the call leaves the disk standing by the one side or by the other.
-    ensures any_moment { (base next : Base) (held : Held A) → base.0 < next.0 → (D.view disk.old).honest → InEach (D.view disk.old) (Stands layout.now current base held) → InEach (D.view disk.old) (IsReady layout.now (other_of current) next)
-        → LeavesOnly (D.view disk.old) (D.view disk.new) (IsEither layout.now current base next held) }
+    ensures any_moment { (base next : Base) (held more : Held A) → base.0 < next.0 → (D.view disk.old).honest → InEach (D.view disk.old) (Stands layout.now current base held) → InEach (D.view disk.old) (IsReady layout.now (other_of current) next more)
+        → LeavesOnly (D.view disk.old) (D.view disk.new) (IsEither layout.now current base next held more) }
 
-    // At `Ok` each stop leaves it standing by the other, with no record.
-    ensures switched { OnOk result ((base next : Base) (held : Held A) → base.0 < next.0 → (D.view disk.old).honest → InEach (D.view disk.old) (Stands layout.now current base held) → InEach (D.view disk.old) (IsReady layout.now (other_of current) next)
-        → InEach (D.view disk.new) (Stands {A = A} layout.now (other_of current) next (fresh layout.now (other_of current)))) }
+    // At `Ok` each stop leaves it standing by the other, with the records there.
+    ensures switched { OnOk result ((base next : Base) (held more : Held A) → base.0 < next.0 → (D.view disk.old).honest → InEach (D.view disk.old) (Stands layout.now current base held) → InEach (D.view disk.old) (IsReady layout.now (other_of current) next more)
+        → InEach (D.view disk.new) (Stands layout.now (other_of current) next more)) }
 
     // The other side's root is opened, and that is made to last. A call that fails is the last.
     ensures calls { OnOk result ((D.view disk.new).calls ≡ (D.view disk.old).calls ++ switch_calls (other_of current)) }

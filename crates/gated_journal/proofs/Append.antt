@@ -13,6 +13,7 @@ use Rattle.gated_journal.specs.Record.{IsRecord, data_sector, data_size, record_
 use Rattle.gated_journal.specs.Settled.{IsSettled, IsWithOrWithout, Leaves}
 use Rattle.gated_journal.specs.declared.place.Place.{Place}
 use Rattle.gated_journal.proofs.Chain.{half_up, same_half, still_shut, half_more, closed_behind}
+use Rattle.gated_journal.proofs.OneHalf.{beyond_half}
 use Rattle.gated_journal.proofs.Written.{record_written}
 
 -- a run of writes, synced
@@ -141,3 +142,9 @@ module _ {A : Type 0} (place : Place) (entries : List (Entry A)) (commands : Lis
           within = omega (arith, room, next, end);
           half = λ image is. rw (first, end, next) (more image is);
         }
+
+-- all outside the half reads as before
+pub reads_elsewhere : (place : Place) (text : List ℕ) → place.first ≤ place.next → place.next + data_size text + 2 ≤ place.end → (old synced new : View) (bytes gate : ℕ → List ℕ) (first result : Result Unit DiskError)
+    → HasFilled old synced (place.next + 1) (data_size text + 1) bytes first → HasFilled synced new place.next 1 gate result → (k : ℕ) → (k < place.first) ⊎ (place.end ≤ k) → sector new.reads k ≡ sector old.reads k
+reads_elsewhere place text up room old synced new bytes gate first result has wrote k out =
+    wrote.others k (beyond_half place place.next 1 up (omega (arith, room)) k out) ∙ has.others k (beyond_half place (place.next + 1) (data_size text + 1) (omega (arith, up)) (omega (arith, room)) k out)

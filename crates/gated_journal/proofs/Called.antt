@@ -13,7 +13,7 @@ use Rattle.gated_journal.specs.Record.{data_sector, data_size}
 use Rattle.gated_journal.specs.Calls.{append_calls, closed_gate, open_gate, settled_calls}
 
 -- behind a text stands a closed gate
-closed_gate_behind : (text : List ℕ) → closed_gate ≡ data_sector text (data_size text)
+pub closed_gate_behind : (text : List ℕ) → closed_gate ≡ data_sector text (data_size text)
 unfolding data_sector
 closed_gate_behind text =
     fill_by_all (λ (i : ℕ). slice_index text (512 * data_size text + i)) (replicate 512 0) 512 0 (length-replicate {A = ℕ} 512 0)

@@ -1,13 +1,17 @@
 pub mod Append
 pub mod Began
+pub mod BothCalls
 pub mod Called
 pub mod Chain
 pub mod Cut
+pub mod FilledTwice
 pub mod Given
 pub mod Halves
 pub mod Judged
 pub mod Listed
+pub mod OneHalf
 pub mod Packed
 pub mod Steps
 pub mod Taken
+pub mod TwoHalves
 pub mod Written

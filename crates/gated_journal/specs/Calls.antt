@@ -23,3 +23,15 @@ settled_calls at n text = writes at n (data_sector text) ++ Sync ∷ []
 abbrev pub append_calls : Sector → List Byte → List Call
 append_calls gate text =
     writes (gate + 1) (data_size text) (data_sector text) ++ Write (gate + 1 + data_size text) closed_gate ∷ Sync ∷ Write gate open_gate ∷ Sync ∷ []
+
+-- each data sector of a text is written, and the next gate closed
+abbrev pub text_calls : Sector → List Byte → List Call
+text_calls gate text = writes (gate + 1) (data_size text) (data_sector text) ++ Write (gate + 1 + data_size text) closed_gate ∷ []
+
+-- Both texts are written, and the gates behind them closed, and all that synced; then both gates opened, and synced. Nothing is read.
+abbrev pub append_both_calls : Sector → List Byte → Sector → List Byte → List Call
+append_both_calls gate text also other = text_calls gate text ++ (text_calls also other ++ Sync ∷ Write gate open_gate ∷ Write also open_gate ∷ Sync ∷ [])
+
+-- So many sectors of two texts are written, and synced.
+abbrev pub settled_both_calls : Sector → Sectors → List Byte → Sector → Sectors → List Byte → List Call
+settled_both_calls at n text to m other = writes at n (data_sector text) ++ (writes to m (data_sector other) ++ Sync ∷ [])

@@ -3,3 +3,5 @@ pub mod Half
 pub mod Reading
 pub mod Record
 pub mod Settled
+pub mod Twice
+pub mod Inside

@@ -4,6 +4,7 @@ use Rattle.identity.specs.Numbers.{Byte}
 use Rattle.sector_disk.specs.Numbers.{Sector, Sectors}
 use Rattle.sector_disk.specs.Disk.{View, IsImageOf}
 use Rattle.sector_disk.specs.Run.{IsTornImage}
+use Rattle.gated_journal.specs.Twice.{IsTornTwiceImage}
 use Rattle.gated_journal.specs.Half.{Entry, half_of}
 use Rattle.gated_journal.specs.declared.place.Place.{Place}
 
@@ -30,3 +31,9 @@ module _ {A : Type 0} where
     pub begins : place.first < place.end
     pub within : place.next < place.end
     pub half : (image : List (List Byte)) → IsImageOf disk image → half_of image place.first place.end ≡ Ok (entries, place.next)
+
+  -- an image of the disk before, but for two halves; each of them reads as its records, with one more or without it
+  pub record LeavesBoth (old : View) (x y : Place) (entries others : List (Entry A)) (last other : Entry A) (image : List (List Byte)) : Type 0 where
+    pub elsewhere : IsTornTwiceImage old x.first (x.end - x.first) y.first (y.end - y.first) image
+    pub half : IsWithOrWithout x.first x.end entries last image
+    pub other_half : IsWithOrWithout y.first y.end others other image

@@ -1,19 +1,20 @@
 // A journal: a place on a disk, and a buffer for the records' bytes.
-ghost use Rattle.std.specs.Prelude.{◌≡◌, ◌⊎◌, ◌<◌, ◌≤◌, ◌+◌, ◌*◌, ◌^◌, ◌-◌, ℕ, List, [], ◌∷◌, ◌++◌, Err, IfErr, IfNone, IfOk, IfSome, IsErrOf, OnErr, OnOk, length, map, nat_le, vec_capacity, vec_len};
+ghost use Rattle.std.specs.Prelude.{◌≡◌, ◌⊎◌, ◌<◌, ◌≤◌, ◌+◌, ◌*◌, ◌^◌, ◌-◌, ℕ, List, [], ◌∷◌, ◌++◌, Err, IfErr, IfNone, IfOk, IfSome, IsErrOf, OnErr, OnOk, length, false, map, nat_le, vec_capacity, vec_len};
 ghost use Rattle.std.specs.List.{All, flat_map};
 ghost use Rattle.command_bytes.specs.Fields.{big};
 ghost use Rattle.command_bytes.specs.Text.{IsCommand, command_text, longest};
-ghost use Rattle.sector_disk.specs.Disk.{HasFailed, IsImageOf};
+ghost use Rattle.sector_disk.specs.Disk.{HasFailed, IsImageOf, sector};
 ghost use Rattle.sector_disk.specs.Reading.{before_reads};
 ghost use Rattle.sector_disk.specs.Run.{HasLooked, HasMade, LeavesOnly};
 ghost use Rattle.gated_journal.specs.declared.fault.JournalError.TheVariants.{DiskFault, Damaged, JournalFull, NoMemory};
 ghost use Rattle.gated_journal.specs.declared.place.Place.{Place};
-ghost use Rattle.gated_journal.specs.Calls.{append_calls};
+ghost use Rattle.gated_journal.specs.Calls.{append_both_calls, append_calls};
 ghost use Rattle.gated_journal.specs.Half.{Entry, half_of, record_at};
 ghost use Rattle.gated_journal.specs.Reading.{Answers, AreJudged, HasRecord, HasRecords, entries_view, next_view};
 ghost use Rattle.gated_journal.specs.Record.{IsRecord, data_size, given, most_commands, most_sectors, record_text};
-ghost use Rattle.gated_journal.specs.Settled.{IsSettled, Leaves, room_of};
+ghost use Rattle.gated_journal.specs.Settled.{IsSettled, Leaves, LeavesBoth, room_of};
 
+use crate::both::append_texts;
 use crate::reading::{MOST_SECTORS, judge_half, read_or_judge, read_record};
 use crate::{JournalError, Place};
 use centre_core::Command;
@@ -34,8 +35,8 @@ impl<A: Allocator> Model for Journal<A> {
 
     ghost view = { λ journal. journal.place };
 
-    // there is room for the greatest record
-    ghost invariant = { λ journal. 512 * most_sectors ≤ vec_capacity journal.text };
+    // there is room for the greatest record, and the next gate does not lie before the half
+    ghost invariant = { λ journal. (512 * most_sectors ≤ vec_capacity journal.text) × (journal.place.first ≤ journal.place.next) };
 }
 
 impl<A: Allocator> Journal<A> {
@@ -102,9 +103,11 @@ impl<A: Allocator> Journal<A> {
         ensures any_moment { (entries : List (Entry A)) → (D.view disk.old).honest → IsSettled (D.view disk.old) self.old entries
             → LeavesOnly (D.view disk.old) (D.view disk.new) (Leaves (D.view disk.old) self.old entries (self.old.next + 1, given A commands.now)) }
 
-        // At `Ok` each stop leaves it.
+        // At `Ok` each stop leaves it, nothing is pending, and all outside the half reads as it did.
         ensures acknowledged { OnOk result ((entries : List (Entry A)) → (D.view disk.old).honest → IsSettled (D.view disk.old) self.old entries
             → IsSettled (D.view disk.new) self.new (entries ++ (self.old.next + 1, given A commands.now) ∷ [])) }
+        ensures durable { (D.view disk.old).honest → OnOk result ((k : ℕ) → (D.view disk.new).pending k ≡ false) }
+        ensures elsewhere { (D.view disk.old).honest → OnOk result ((k : ℕ) → (k < self.old.first) ⊎ (self.old.end ≤ k) → sector (D.view disk.new).reads k ≡ sector (D.view disk.old).reads k) }
         ensures next { OnOk result (self.new ≡ record { first = self.old.first; end = self.old.end; next = self.old.next + data_size (record_text (given A commands.now)) + 1 }) }
 
         // Each data sector and each gate is written once, with two syncs, and nothing is read; a call that fails is the last.
@@ -129,6 +132,62 @@ impl<A: Allocator> Journal<A> {
 }
 
 impl<A: Allocator> Journal<A> {
+    /// Adds these commands, 1 to 64, as one record to this journal and to another one, in the same two syncs. Takes no
+    /// memory. The two halves share no sector, and the record fits both.
+    ///
+    /// At `Ok` each stop leaves it in both. At `DiskFault`, the only refusal, read both halves again.
+    pub fn append_both<D: Disk, B: Allocator>(
+        &mut self,
+        disk: &mut D,
+        other: &mut Journal<A>,
+        commands: &[&Command<B>],
+    ) -> Result<(), JournalError>
+        requires within { self.old.end ≤ (D.view disk.old).sectors }
+        requires other_within { other.old.end ≤ (D.view disk.old).sectors }
+        requires apart { (self.old.end ≤ other.old.first) ⊎ (other.old.end ≤ self.old.first) }
+        requires some { 1 ≤ length commands.now }
+        requires few { length commands.now ≤ most_commands }
+        requires fits { data_size (record_text (given A commands.now)) ≤ room_of self.old }
+        requires other_fits { data_size (record_text (given A commands.now)) ≤ room_of other.old }
+
+        // A stop at any moment of the call leaves, in each of the two halves, the records from before it, with the new one
+        // whole or without it, and all other sectors as they were.
+        ensures any_moment { (entries others : List (Entry A)) → (D.view disk.old).honest → IsSettled (D.view disk.old) self.old entries → IsSettled (D.view disk.old) other.old others
+            → LeavesOnly (D.view disk.old) (D.view disk.new) (LeavesBoth (D.view disk.old) self.old other.old entries others (self.old.next + 1, given A commands.now) (other.old.next + 1, given A commands.now)) }
+
+        // At `Ok` each stop leaves it in both, nothing is pending, and all outside the two halves reads as it did.
+        ensures acknowledged { OnOk result ((entries others : List (Entry A)) → (D.view disk.old).honest → IsSettled (D.view disk.old) self.old entries → IsSettled (D.view disk.old) other.old others
+            → IsSettled (D.view disk.new) self.new (entries ++ (self.old.next + 1, given A commands.now) ∷ []) × IsSettled (D.view disk.new) other.new (others ++ (other.old.next + 1, given A commands.now) ∷ [])) }
+        ensures durable { (D.view disk.old).honest → OnOk result ((k : ℕ) → (D.view disk.new).pending k ≡ false) }
+        ensures elsewhere { (D.view disk.old).honest → OnOk result ((k : ℕ) → (k < self.old.first) ⊎ (self.old.end ≤ k) → (k < other.old.first) ⊎ (other.old.end ≤ k) → sector (D.view disk.new).reads k ≡ sector (D.view disk.old).reads k) }
+        ensures next { OnOk result (self.new ≡ record { first = self.old.first; end = self.old.end; next = self.old.next + data_size (record_text (given A commands.now)) + 1 }) }
+        ensures other_next { OnOk result (other.new ≡ record { first = other.old.first; end = other.old.end; next = other.old.next + data_size (record_text (given A commands.now)) + 1 }) }
+
+        // Each data sector and each gate is written once, with two syncs, and nothing is read; a call that fails is the last.
+        ensures calls { OnOk result ((D.view disk.new).calls ≡ (D.view disk.old).calls ++ append_both_calls self.old.next (record_text (given A commands.now)) other.old.next (record_text (given A commands.now))) }
+        ensures some_calls { HasMade (D.view disk.old) (D.view disk.new) (append_both_calls self.old.next (record_text (given A commands.now)) other.old.next (record_text (given A commands.now))) }
+
+        // It does not give up by itself.
+        ensures fault { IfErr result (λ e. (e ≡ JournalError.DiskFault) × HasFailed (D.view disk.old) (D.view disk.new)) }
+        ensures same { OnErr result ((self.new ≡ self.old) × (other.new ≡ other.old)) }
+        ensures sectors { (D.view disk.new).sectors ≡ (D.view disk.old).sectors }
+        ensures later { (D.view disk.old).failures ≤ (D.view disk.new).failures }
+        ensures honest { (D.view disk.old).honest → (D.view disk.new).honest }
+    {
+        put_record(&mut self.text, commands);
+        put_record(&mut other.text, commands);
+        append_texts::<A, D>(
+            disk,
+            &mut self.place,
+            &mut other.place,
+            &self.text,
+            &other.text,
+        )?;
+        Ok(())
+    }
+}
+
+impl<A: Allocator> Journal<A> {
     /// Judges the records from the next gate on, and stays there. Takes no memory, and only reads.
     ///
     /// `Damaged` names the first sector at fault.
@@ -139,6 +198,7 @@ impl<A: Allocator> Journal<A> {
         ensures same { self.new ≡ self.old }
         ensures looked { (D.view disk.old).honest → HasLooked (D.view disk.old) (D.view disk.new) }
         ensures only_reads { before_reads (D.view disk.new).calls ≡ before_reads (D.view disk.old).calls }
+        ensures honest { (D.view disk.old).honest → (D.view disk.new).honest }
         ensures sectors { (D.view disk.new).sectors ≡ (D.view disk.old).sectors }
         ensures later { (D.view disk.old).failures ≤ (D.view disk.new).failures }
         ensures fault { IsErrOf result JournalError.DiskFault → HasFailed (D.view disk.old) (D.view disk.new) }
@@ -166,6 +226,7 @@ impl<A: Allocator + Clone> Journal<A> {
         ensures memory { IsErrOf result JournalError.NoMemory → (D.view disk.old).honest → HasRecord A (D.view disk.old).reads self.old.next self.old.end }
         ensures looked { (D.view disk.old).honest → HasLooked (D.view disk.old) (D.view disk.new) }
         ensures only_reads { before_reads (D.view disk.new).calls ≡ before_reads (D.view disk.old).calls }
+        ensures honest { (D.view disk.old).honest → (D.view disk.new).honest }
         ensures at { IfOk result (λ found. IfSome found (λ x. (x.0 ≡ self.old.next + 1) × (x.0 < self.new.next))) }
         ensures first { self.new.first ≡ self.old.first }
         ensures end { self.new.end ≡ self.old.end }
@@ -205,6 +266,7 @@ impl<A: Allocator + Clone> Journal<A> {
         ensures memory { IsErrOf result JournalError.NoMemory → (D.view disk.old).honest → ((D.view disk.new).calls ≡ (D.view disk.old).calls) ⊎ HasRecords A (D.view disk.old).reads first (first + sectors) }
         ensures looked { (D.view disk.old).honest → HasLooked (D.view disk.old) (D.view disk.new) }
         ensures only_reads { before_reads (D.view disk.new).calls ≡ before_reads (D.view disk.old).calls }
+        ensures honest { (D.view disk.old).honest → (D.view disk.new).honest }
         ensures place { IfOk result (λ x. (x.0.first ≡ first) × (x.0.end ≡ first + sectors) × (x.0.next < first + sectors)) }
         ensures sectors { (D.view disk.new).sectors ≡ (D.view disk.old).sectors }
         ensures later { (D.view disk.old).failures ≤ (D.view disk.new).failures }

@@ -1,6 +1,7 @@
 //! A journal of records on a disk of sectors: each counts once its gate, one byte, is open on the disk.
 #![tactic(auto)]
 
+mod both;
 mod fault;
 mod journal;
 pub mod laws;

@@ -1,6 +1,6 @@
 // Where a journal stands on its disk, and how a record is written there.
 ghost use Rattle.std.specs.Prelude.{◌≡◌, ◌⊎◌, ◌+◌, ◌-◌, ◌*◌, ◌<◌, ◌≤◌, ◌^◌, ℕ, List, [], ◌∷◌, ◌++◌, Err, drop, length, replicate, false, IsErr, IsErrOf, OnOk, OnErr};
-ghost use Rattle.sector_disk.specs.Disk.{HasFailed};
+ghost use Rattle.sector_disk.specs.Disk.{HasFailed, sector};
 ghost use Rattle.sector_disk.specs.Run.{HasMade, LeavesOnly, writes};
 ghost use Rattle.sector_disk.specs.Inside.Filling.{HasFilled};
 ghost use Rattle.sector_disk.specs.declared.disk.DiskError.TheVariants.{OutOfRange};
@@ -41,6 +41,7 @@ impl Place {
         text: &[u8],
     ) -> Result<(), JournalError>
         requires within { self.old.end ≤ (D.view disk.old).sectors }
+        requires up { self.old.first ≤ self.old.next }
         requires some { 0 < length text.now }
         requires small { length text.now < 2 ^ 32 }
 
@@ -51,6 +52,8 @@ impl Place {
         // At `Ok` each stop leaves it.
         ensures acknowledged { OnOk result ((entries : List (Entry A)) (commands : List (Asked A)) → IsRecord commands → text.now ≡ record_text commands → (D.view disk.old).honest → IsSettled (D.view disk.old) self.old entries
             → IsSettled (D.view disk.new) self.new (entries ++ (self.old.next + 1, commands) ∷ [])) }
+        ensures durable { (D.view disk.old).honest → OnOk result ((k : ℕ) → (D.view disk.new).pending k ≡ false) }
+        ensures elsewhere { (D.view disk.old).honest → OnOk result ((k : ℕ) → (k < self.old.first) ⊎ (self.old.end ≤ k) → sector (D.view disk.new).reads k ≡ sector (D.view disk.old).reads k) }
         ensures next { OnOk result (self.new ≡ record (self.old) { next = self.old.next + data_size text.now + 1 }) }
 
         // Each data sector and each gate is written once, with two syncs, and nothing is read; a call that fails is the last.
@@ -108,7 +111,7 @@ fn sector_of(text: &[u8], k: usize) -> [u8; 512]
 }
 
 // Writes the first n sectors of a text from a sector on.
-fn fill<D: Disk>(disk: &mut D, at: u64, n: u64, text: &[u8]) -> Result<(), DiskError>
+pub(crate) fn fill<D: Disk>(disk: &mut D, at: u64, n: u64, text: &[u8]) -> Result<(), DiskError>
     requires room { at + n ≤ (D.view disk.old).sectors }
     requires fits { at + n < 2 ^ 64 }
     requires small { n < 2 ^ 32 }

@@ -170,7 +170,7 @@ fn read_half<A: Allocator + Clone, D: Disk>(
     ensures exact { (D.view disk.old).honest → Answers (λ x. (entries_view x.0.items, x.1)) result (half_of (D.view disk.old).reads first end) }
     ensures looked { (D.view disk.old).honest → HasLooked (D.view disk.old) (D.view disk.new) }
     ensures only_reads { before_reads (D.view disk.new).calls ≡ before_reads (D.view disk.old).calls }
-    ensures gate { IfOk result (λ x. x.1 < end) }
+    ensures gate { IfOk result (λ x. (first ≤ x.1) × (x.1 < end)) }
     ensures sectors { (D.view disk.new).sectors ≡ (D.view disk.old).sectors }
     ensures later { (D.view disk.old).failures ≤ (D.view disk.new).failures }
     ensures fault { IsErrOf result JournalError.DiskFault → HasFailed (D.view disk.old) (D.view disk.new) }
@@ -230,7 +230,7 @@ pub(crate) fn read_or_judge<A: Allocator + Clone, D: Disk>(
     ensures memory { IsErrOf result JournalError.NoMemory → (D.view disk.old).honest → HasRecords A (D.view disk.old).reads first end }
     ensures looked { (D.view disk.old).honest → HasLooked (D.view disk.old) (D.view disk.new) }
     ensures only_reads { before_reads (D.view disk.new).calls ≡ before_reads (D.view disk.old).calls }
-    ensures gate { IfOk result (λ x. x.1 < end) }
+    ensures gate { IfOk result (λ x. (first ≤ x.1) × (x.1 < end)) }
     ensures sectors { (D.view disk.new).sectors ≡ (D.view disk.old).sectors }
     ensures later { (D.view disk.old).failures ≤ (D.view disk.new).failures }
     ensures fault { IsErrOf result JournalError.DiskFault → HasFailed (D.view disk.old) (D.view disk.new) }

@@ -3,7 +3,7 @@ use Rattle.sector_disk.specs.Disk.{View, sector}
 use Rattle.gated_journal.specs.Half.{IsOpen}
 use Rattle.checkpoint.specs.Layout.{other_of, root_at}
 use Rattle.checkpoint.proofs.Apart.{root_inside}
-use Rattle.checkpoint.proofs.Called.{calls_at_root, calls_in_root}
+use Rattle.checkpoint.proofs.Called.{calls_at_root, calls_in_root, root_left, root_left_made, root_shut, root_unread, root_written}
 use Rattle.checkpoint.proofs.Closed.{in_read, in_root}
 use Rattle.checkpoint.proofs.closing.close_root.Goals as goal
 
@@ -75,3 +75,33 @@ returns-clause-some_calls g c honest =
     let has = rw place at (c.in_ok-read.ensures.effect inside honest) in
     let opened : IsOpen (sector old.reads (root_at (other_of c.args.current))) = ap (λ (bytes : List ℕ). slice_index bytes 0) (sym has.given) ∙ c.if-bytes-ne1.false in
     calls_in_root (other_of c.args.current) old (g.D.Disk.view c.read.new.self) opened (rw place at c.in_ok-read.ensures.called.made) _ c.write.result (rw place at c.write.ensures.called)
+
+pub returns-in_err-read-clause-some_calls_on_any_disk : goal.returns-in_err-read-clause-some_calls_on_any_disk
+returns-in_err-read-clause-some_calls_on_any_disk g c =
+    let place : c.root-root.result ≡ root_at (other_of c.args.current) = c.root-root.ensures ∙ ap root_at c.other.ensures in
+    root_unread (other_of c.args.current) (g.D.Disk.view c.args.disk.now) (g.D.Disk.view c.read.new.self) c.read.result (rw place at c.read.ensures.called)
+
+pub returns-then-bytes-ne1-clause-calls_on_any_disk : goal.returns-then-bytes-ne1-clause-calls_on_any_disk
+returns-then-bytes-ne1-clause-calls_on_any_disk g c =
+    let place : c.root-root.result ≡ root_at (other_of c.args.current) = c.root-root.ensures ∙ ap root_at c.other.ensures in
+    root_left (other_of c.args.current) (g.D.Disk.view c.args.disk.now) (g.D.Disk.view c.read.new.self) (rw place at c.in_ok-read.ensures.called.made)
+
+pub returns-then-bytes-ne1-clause-some_calls_on_any_disk : goal.returns-then-bytes-ne1-clause-some_calls_on_any_disk
+returns-then-bytes-ne1-clause-some_calls_on_any_disk g c =
+    let place : c.root-root.result ≡ root_at (other_of c.args.current) = c.root-root.ensures ∙ ap root_at c.other.ensures in
+    root_left_made (other_of c.args.current) (g.D.Disk.view c.args.disk.now) (g.D.Disk.view c.read.new.self) (rw place at c.in_ok-read.ensures.called.made)
+
+pub returns-in_err-write-clause-some_calls_on_any_disk : goal.returns-in_err-write-clause-some_calls_on_any_disk
+returns-in_err-write-clause-some_calls_on_any_disk g c =
+    let place : c.root-root.result ≡ root_at (other_of c.args.current) = c.root-root.ensures ∙ ap root_at c.other.ensures in
+    root_written (other_of c.args.current) (g.D.Disk.view c.args.disk.now) (g.D.Disk.view c.read.new.self) (rw place at c.in_ok-read.ensures.called.made) (g.D.Disk.view c.write.new.self) c.write.result (rw place at c.write.ensures.called)
+
+pub returns-clause-calls_on_any_disk : goal.returns-clause-calls_on_any_disk
+returns-clause-calls_on_any_disk g c =
+    let place : c.root-root.result ≡ root_at (other_of c.args.current) = c.root-root.ensures ∙ ap root_at c.other.ensures in
+    root_shut (other_of c.args.current) (g.D.Disk.view c.args.disk.now) (g.D.Disk.view c.read.new.self) (rw place at c.in_ok-read.ensures.called.made) (g.D.Disk.view c.write.new.self) (rw place at c.in_ok-write.ensures.called.made)
+
+pub returns-clause-some_calls_on_any_disk : goal.returns-clause-some_calls_on_any_disk
+returns-clause-some_calls_on_any_disk g c =
+    let place : c.root-root.result ≡ root_at (other_of c.args.current) = c.root-root.ensures ∙ ap root_at c.other.ensures in
+    root_written (other_of c.args.current) (g.D.Disk.view c.args.disk.now) (g.D.Disk.view c.read.new.self) (rw place at c.in_ok-read.ensures.called.made) (g.D.Disk.view c.write.new.self) c.write.result (rw place at c.write.ensures.called)

@@ -4,7 +4,7 @@ use Rattle.sector_disk.specs.Disk.{View, IsSector, sector}
 use Rattle.sector_disk.proofs.Looked.{looked_on, not_looked}
 use Rattle.image_rows.specs.Loading.{Loading, finished}
 use Rattle.checkpoint.proofs.Looks.{calls_at, look_made, made_at, no_look_yet, one_look_more, some_looks}
-use Rattle.checkpoint.proofs.Readback.{all_came, bad_behind, damaged_is, none_whole, one_taken, rest_bad, rest_begun, rest_ended, rest_next, rest_whole, slot_fits, slot_is, slot_within, some_whole, taken_begun}
+use Rattle.checkpoint.proofs.Readback.{all_came, bad_behind, damaged_is, none_whole, one_taken, rest_bad, rest_begun, rest_ended, rest_next, rest_whole, slot_before, slot_fits, slot_is, slot_within, some_whole, taken_begun}
 use Rattle.checkpoint.proofs.reading.take_rows.Goals as goal
 
 pub loop-first-init : goal.loop-first-init
@@ -214,3 +214,27 @@ returns-clause-some_calls g c =
 
 pub returns-in_err-take_row-clause-limits : goal.returns-in_err-take_row-clause-limits
 returns-in_err-take_row-clause-limits g c = c.take_row.ensures.limits ∙ c.loop-first.invariant.limits
+
+pub returns-then-read-sectors-clause-on_disk : goal.returns-then-read-sectors-clause-on_disk
+returns-then-read-sectors-clause-on_disk g c at e =
+    let layout = c.args.layout.now in
+    let first = c.slot-first.result in
+    let k = c.loop-first.read in
+    let before = slot_before layout c.args.side first c.slot_len-sectors.result c.slot-first.ensures c.slot_len-sectors.ensures.value in
+    let here : first + k ≡ at = damaged_is (first + k) at e in
+    let few = c.loop-first.invariant.few in
+    let room = c.requires.room in
+    omega (arith, here, few, before, room)
+
+pub returns-in_err-take_row-clause-on_disk : goal.returns-in_err-take_row-clause-on_disk
+returns-in_err-take_row-clause-on_disk g c at e =
+    let layout = c.args.layout.now in
+    let k = c.loop-first.read in
+    let before = slot_before layout c.args.side c.slot-first.result c.slot_len-sectors.result c.slot-first.ensures c.slot_len-sectors.ensures.value in
+    let p = err_from_is_err_and c.from_residual.result c.from_residual.ensures.1 in
+    let failed = rw (p.1, p.2) at e in
+    let told = c.in_err-take_row.ensures.damaged at failed in
+    let here = told.0 in
+    let few = c.loop-first.invariant.few in
+    let room = c.requires.room in
+    omega (arith, here, few, before, room)

@@ -22,6 +22,7 @@ loop-entries-preserved g c =
     let mid : View = g.D.Disk.view c.loop-entries.disk in
     let on = rw c.in-Some.is at c.in_ok-commands.ensures.on in
     record {
+      up = omega (arith, on.0, c.loop-entries.invariant.up);
       within = on.1;
       sectors = c.in_ok-commands.ensures.sectors ∙ c.loop-entries.invariant.sectors;
       capacity = omega (arith, c.in_ok-commands.ensures.capacity, c.loop-entries.invariant.capacity);

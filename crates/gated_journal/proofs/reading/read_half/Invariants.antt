@@ -11,6 +11,7 @@ invariant-loop-entries g l =
     let old : View = g.D.Disk.view l.initial.disk in
     let now : View = g.D.Disk.view l.disk in
     record {
+      up : l.first ≤ l.next;
       within : l.next < l.end;
       sectors : now.sectors ≡ old.sectors;
       capacity : vec_capacity l.initial.buffer ≤ vec_capacity l.buffer;

@@ -1,6 +1,6 @@
-use Rattle.std.proofs.Common.{◌+◌, ◌≤◌, arith, refl, ap, sym, slice_index}
-use Rattle.gated_journal.specs.Record.{data_size}
-use Rattle.gated_journal.proofs.Append.{in_fill, in_gate, at_end}
+use Rattle.std.proofs.Common.{◌+◌, ◌≤◌, [], ◌∷◌, arith, refl, ap, sym, slice_index}
+use Rattle.gated_journal.specs.Record.{data_sector, data_size}
+use Rattle.gated_journal.proofs.Append.{in_fill, in_gate, at_end, reads_elsewhere}
 use Rattle.gated_journal.proofs.Called.{calls_in_text, calls_in_gate, calls_at_end, open_gate_is}
 use Rattle.gated_journal.proofs.place.Place.append_text.Goals as goal
 
@@ -34,6 +34,16 @@ returns-clause-acknowledged g c entries commands record_is text_is honest settle
     let has = c.in_ok-settle.ensures.effect honest in
     at_end place entries commands record_is c.args.text.now text_is room _ _ whole settled has (c.in_ok-settle.ensures.durable honest) _ _ _ (c.in_ok-settle-2.ensures.effect has.honest) (c.in_ok-settle-2.ensures.durable has.honest)
     (ap (λ bytes. slice_index bytes 0) (sym open_gate_is)) refl refl refl
+
+pub returns-clause-durable : goal.returns-clause-durable
+returns-clause-durable g c honest = let has = c.in_ok-settle.ensures.effect honest in c.in_ok-settle-2.ensures.durable has.honest
+
+pub returns-clause-elsewhere : goal.returns-clause-elsewhere
+returns-clause-elsewhere g c honest =
+    let place = c.args.self.now in
+    let room : place.next + data_size c.args.text.now + 2 ≤ place.end = omega arith in
+    let has = c.in_ok-settle.ensures.effect honest in
+    reads_elsewhere place c.args.text.now c.requires.up room (g.D.Disk.view c.args.disk.now) (g.D.Disk.view c.settle.new.disk) (g.D.Disk.view c.settle-2.new.disk) (data_sector c.args.text.now) (data_sector (1 ∷ [])) _ _ has (c.in_ok-settle-2.ensures.effect has.honest)
 
 pub returns-in_err-settle-clause-some_calls : goal.returns-in_err-settle-clause-some_calls
 returns-in_err-settle-clause-some_calls g c = calls_in_text c.args.self.now.next c.args.text.now (g.D.Disk.view c.args.disk.now) (g.D.Disk.view c.settle.new.disk) c.settle.ensures.some_calls

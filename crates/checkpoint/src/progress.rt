@@ -1,0 +1,139 @@
+//! The image of a register, written a few rows at a time.
+ghost use Rattle.std.specs.Prelude.{◌≡◌, ◌≤◌, ◌<◌, ◌+◌, ◌-◌, ◌^◌, ◌++◌, IsErr, IsErrOf, OnOk, length, nat_eq};
+ghost use Rattle.sector_disk.specs.Disk.{HasFailed};
+ghost use Rattle.sector_disk.specs.Run.{HasMade, writes};
+ghost use Rattle.sector_disk.specs.Inside.Filling.{HasFilled};
+ghost use Rattle.sector_disk.specs.declared.disk.DiskError.TheVariants.{OutOfRange};
+ghost use Rattle.image_rows.specs.Rows.{rows_of};
+ghost use Rattle.checkpoint.specs.Progress.{IsProgress, next_calls, next_row, next_rows, written_after};
+ghost use Rattle.checkpoint.specs.Layout.{disk_size, other_of, slot_at};
+
+use crate::{Layout, Side};
+use centre_core::Register;
+use image_rows::{RowPlace, row_after};
+use sector_disk::{Disk, DiskError};
+use std::alloc::Allocator;
+
+/// The most rows that one call writes.
+const MOST_ROWS: u64 = 8;
+
+/// How far the image of a register is written: its epoch, how many of its rows, and the place of the last one.
+#[derive(Clone, Copy, Debug, Drop)]
+pub struct Progress {
+    pub(crate) epoch: u64,
+    pub(crate) written: u64,
+    pub(crate) last: Option<RowPlace>,
+}
+
+impl Progress {
+    /// No row of the register's image with this epoch is written yet.
+    pub fn begun<A: Allocator + Clone>(epoch: u64, register: &Register<A>) -> Progress
+        ensures epoch { result.epoch ≡ epoch }
+        ensures none { result.written ≡ 0 }
+        ensures begun { IsProgress epoch register.now result }
+    {
+        centre_core::laws::registers(register);
+        Progress {
+            epoch,
+            written: 0,
+            last: None,
+        }
+    }
+
+    /// How many rows are written.
+    pub fn written(&self) -> u64
+        ensures { result ≡ self.now.written }
+    {
+        self.written
+    }
+
+    /// Whether all rows of the register's image are written.
+    pub fn is_whole<A: Allocator + Clone>(&self, register: &Register<A>) -> bool
+        requires begun { IsProgress self.now.epoch register.now self.now }
+        ensures { result ≡ nat_eq self.now.written (length (rows_of self.now.epoch register.now)) }
+    {
+        row_after(register, self.epoch, self.last).is_none()
+    }
+}
+
+// Writes the next rows to the slot that begins with this sector, behind those that are written.
+fn put_rows<A: Allocator + Clone, D: Disk>(
+    disk: &mut D,
+    at: u64,
+    epoch: u64,
+    register: &Register<A>,
+    progress: &mut Progress,
+) -> Result<(), DiskError>
+    requires room { at + length (rows_of epoch register.now) ≤ (D.view disk.old).sectors }
+    requires fits { at + length (rows_of epoch register.now) < 2 ^ 64 }
+    requires begun { IsProgress epoch register.now progress.old }
+    ensures effect { (D.view disk.old).honest → HasFilled (D.view disk.old) (D.view disk.new) (at + progress.old.written) (next_rows epoch register.now progress.old.written) (next_row (epoch, register.now) progress.old.written) result }
+    ensures written { OnOk result (progress.new.written ≡ written_after epoch register.now progress.old.written) }
+    ensures progress { IsProgress epoch register.now progress.new }
+    ensures epoch { progress.new.epoch ≡ progress.old.epoch }
+    ensures calls { OnOk result ((D.view disk.new).calls ≡ (D.view disk.old).calls ++ writes (at + progress.old.written) (next_rows epoch register.now progress.old.written) (next_row (epoch, register.now) progress.old.written)) }
+    ensures some_calls { HasMade (D.view disk.old) (D.view disk.new) (writes (at + progress.old.written) (next_rows epoch register.now progress.old.written) (next_row (epoch, register.now) progress.old.written)) }
+    ensures sectors { (D.view disk.new).sectors ≡ (D.view disk.old).sectors }
+    ensures later { (D.view disk.old).failures ≤ (D.view disk.new).failures }
+    ensures fault { IsErr result → HasFailed (D.view disk.old) (D.view disk.new) }
+    ensures in_range { IsErrOf result OutOfRange → ⊥ }
+{
+    centre_core::laws::registers(register);
+    let mut left = MOST_ROWS;
+    while left > 0 {
+        let told = row_after(register, epoch, progress.last);
+        let Some(next) = &told else {
+            return Ok(());
+        };
+        disk.write(at + progress.written, &next.1)?;
+        progress.written += 1;
+        progress.last = Some(next.0);
+        left -= 1;
+    }
+    Ok(())
+}
+
+/// Writes the next rows of a register's image, at most 8, one a sector, to the side that is not current, from where
+/// `progress` is. Takes no memory, reads nothing, and syncs nothing: a stop may tear these rows until the next sync.
+///
+/// The register has the layout's limits, and is the one that `progress` was begun with.
+pub fn write_next_rows<A: Allocator + Clone, D: Disk>(
+    disk: &mut D,
+    layout: &Layout,
+    current: Side,
+    register: &Register<A>,
+    progress: &mut Progress,
+) -> Result<(), DiskError>
+    requires room { disk_size layout.now ≤ (D.view disk.old).sectors }
+    requires limits { register.now.registered.limits ≡ layout.now.limits }
+    requires begun { IsProgress progress.old.epoch register.now progress.old }
+
+    // A stop at any moment of the call leaves all but these rows' sectors as they were. At `Ok` these read as the rows.
+    ensures effect { (D.view disk.old).honest → HasFilled (D.view disk.old) (D.view disk.new) (slot_at layout.now (other_of current) + progress.old.written) (next_rows progress.old.epoch register.now progress.old.written) (next_row (progress.old.epoch, register.now) progress.old.written) result }
+
+    // Eight more are written, or all that were left.
+    ensures written { OnOk result (progress.new.written ≡ written_after progress.old.epoch register.now progress.old.written) }
+    ensures progress { IsProgress progress.new.epoch register.now progress.new }
+    ensures epoch { progress.new.epoch ≡ progress.old.epoch }
+
+    // Each of these rows is written once, in order. A call that fails is the last.
+    ensures calls { OnOk result ((D.view disk.new).calls ≡ (D.view disk.old).calls ++ next_calls layout.now (other_of current) (progress.old.epoch, register.now) progress.old.written) }
+    ensures some_calls { HasMade (D.view disk.old) (D.view disk.new) (next_calls layout.now (other_of current) (progress.old.epoch, register.now) progress.old.written) }
+
+    // It does not give up by itself.
+    ensures fault { IsErr result → HasFailed (D.view disk.old) (D.view disk.new) }
+    ensures in_range { IsErrOf result OutOfRange → ⊥ }
+    ensures sectors { (D.view disk.new).sectors ≡ (D.view disk.old).sectors }
+    ensures later { (D.view disk.old).failures ≤ (D.view disk.new).failures }
+    ensures honest { (D.view disk.old).honest → (D.view disk.new).honest }
+{
+    centre_core::laws::registers(register);
+    let epoch = progress.epoch;
+    put_rows(
+        disk,
+        layout.slot(current.other()),
+        epoch,
+        register,
+        progress,
+    )
+}
