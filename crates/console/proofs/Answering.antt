@@ -1,5 +1,5 @@
 -- Answers and the room that their texts take.
-use Rattle.std.proofs.Common.{◌≡◌, ℕ, true, false, List, Result, IfErr, IsErrOf, refl, sym, ap, subst, ◌∙◌, inl, inr}
+use Rattle.std.proofs.Common.{◌≡◌, ℕ, Bool, true, false, List, Result, IfErr, IsErrOf, refl, sym, ap, subst, ◌∙◌, inl, inr}
 use Rattle.std.proofs.lemmas.Bool.{true≢false}
 use Rattle.centre_core.specs.declared.query.Told.{Told}
 use Rattle.centre_core.specs.declared.query.Told.TheVariants as told
@@ -12,10 +12,9 @@ use Rattle.console.specs.declared.running.RunFault.TheVariants.{Read, Write, NoM
 use Rattle.desk.specs.declared.service.Service.TheVariants.{Memory}
 use Rattle.console.specs.Answer.{is_list, tells_list, IsOneLine, IsLine, HasNoLongPdu}
 use Rattle.console.specs.Reading.{reading}
-use Rattle.console.specs.Inside.Feed.{LeavesUnsent}
 use Rattle.console.specs.Inside.Hand.{StandsIn}
 use Rattle.desk.specs.Rules.{Rules}
-use Rattle.console.specs.Dialogue.{AnswersReading, Answers, Stops, GivesLongPdu}
+use Rattle.console.specs.Dialogue.{AnswersReading, Answers}
 
 one_line : {B : Type 0} (t : Told B) → is_list t ≡ false → IsOneLine t
 one_line (told.Whereabouts itsi radio) other = tt
@@ -25,14 +24,19 @@ one_line (told.Members gtsi members) other = absurd (true≢false other)
 one_line (told.Waiting itsi items) other = absurd (true≢false other)
 one_line (told.Total count) other = tt
 
--- what is no line and no list is a reply with a long PDU
-pub long_reply : {B : Type 0} (a : Answer B) → tells_list a ≡ false → (IsLine a → ⊥) → HasNoLongPdu a → ⊥
-long_reply answer.Quiet other long short = long tt
-long_reply (answer.Bad line fault) other long short = long tt
-long_reply (answer.Replied sequence reply) other long short = long short
-long_reply (answer.Unreplied sequence word) other long short = long tt
-long_reply (answer.Told told) other long short = long (one_line told other)
-long_reply (answer.Untold line word) other long short = long tt
+-- what is told is one line, or a list
+line_or_list : {B : Type 0} (b : Bool) (t : Told B) → is_list t ≡ b → (IsOneLine t → ⊥) → is_list t ≡ true
+line_or_list true t is long = is
+line_or_list false t is long = absurd (long (one_line t is))
+
+-- an answer without a long PDU that is no line is a list
+pub only_lists_are_long : {B : Type 0} (a : Answer B) → HasNoLongPdu a → (IsLine a → ⊥) → tells_list a ≡ true
+only_lists_are_long answer.Quiet short long = absurd (long tt)
+only_lists_are_long (answer.Bad line fault) short long = absurd (long tt)
+only_lists_are_long (answer.Replied sequence reply) short long = absurd (long short)
+only_lists_are_long (answer.Unreplied sequence word) short long = absurd (long tt)
+only_lists_are_long (answer.Told told) short long = line_or_list (is_list told) told refl long
+only_lists_are_long (answer.Untold line word) short long = absurd (long tt)
 
 module _ {A W : Type 0} where
   untold : (rules : Rules W) (n : ℕ) (s t : W) (line : Line A) (a : Answer A) → tells_list a ≡ true → AnswersReading rules n s line a t → AnswersReading rules n s line (answer.Untold n Memory) t
@@ -58,15 +62,17 @@ module _ {A W : Type 0} where
     | inr list ↦ subst (λ (b : Answer A). Answers rules station n s line b t) (sym list.1) (untold rules n s t (reading station line) a list.0 answers)
   ]
 
--- why an answer that a desk gave is not written is why the run stops
-pub stops_unsent : {A W : Type 0} (rules : Rules W) (a : Answer A) (e : RunFault) → ((HasNoLongPdu a → ⊥) → GivesLongPdu A rules) → LeavesUnsent a e → Stops A rules e
-stops_unsent rules a Write long left = tt
-stops_unsent rules a NoMemory long left = long left
-stops_unsent rules a Read long left = left
+-- a run stops for the writer alone while it answers
+pub only_write : {T : Type 0} (r : Result T RunFault) (e : RunFault) → IfErr r (λ f. f ≡ Write) → IsErrOf r e → e ≡ Write
+only_write {T = T} r e stops failed = subst (λ (q : Result T RunFault). IfErr q (λ f. f ≡ Write)) failed stops
 
--- a run never stops for the reader while it answers, and for want of memory only at a long reply
-pub never_read : {T W : Type 0} (A : Type 0) (rules : Rules W) (r : Result T RunFault) → IfErr r (λ e. Stops A rules e) → IsErrOf r Read → ⊥
-never_read {T = T} A rules r stops failed = subst (λ (q : Result T RunFault). IfErr q (λ e. Stops A rules e)) failed stops
+abbrev is_write : RunFault → Bool
+is_write Read = false
+is_write Write = true
+is_write NoMemory = false
 
-pub only_long : {T W : Type 0} (A : Type 0) (rules : Rules W) (r : Result T RunFault) → IfErr r (λ e. Stops A rules e) → IsErrOf r NoMemory → GivesLongPdu A rules
-only_long {T = T} A rules r stops failed = subst (λ (q : Result T RunFault). IfErr q (λ e. Stops A rules e)) failed stops
+pub never_read : {T : Type 0} (r : Result T RunFault) → IfErr r (λ f. f ≡ Write) → IsErrOf r Read → ⊥
+never_read r stops failed = true≢false (sym (ap is_write (only_write r Read stops failed)))
+
+pub never_memory : {T : Type 0} (r : Result T RunFault) → IfErr r (λ f. f ≡ Write) → IsErrOf r NoMemory → ⊥
+never_memory r stops failed = true≢false (sym (ap is_write (only_write r NoMemory stops failed)))

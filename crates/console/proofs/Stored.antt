@@ -7,7 +7,7 @@ use Rattle.std.specs.List.{list_any}
 use Rattle.centre_core.specs.declared.command.Command.{Command}
 use Rattle.centre_core.specs.declared.query.Query.{Query}
 use Rattle.desk.specs.declared.service.Service.{Service}
-use Rattle.desk.specs.declared.service.Service.TheVariants.{Memory, Device, Broken, Epochs}
+use Rattle.desk.specs.declared.service.Service.TheVariants.{Memory, Device, Broken, Epochs, Closed}
 use Rattle.desk.specs.OfRegister.{of_register}
 use Rattle.desk.specs.OfStore.{Stored, Refuses, StoreApplies, StoreTells, of_store}
 use Rattle.console.specs.declared.line.Line.{Line}
@@ -17,7 +17,7 @@ use Rattle.console.specs.declared.answer.Answer.TheVariants as answer
 use Rattle.console.specs.Answer.{is_service}
 use Rattle.console.specs.Reading.{reading}
 use Rattle.console.specs.Dialogue.{AnswersReading, AnswersCommand, AnswersQuery, Dialogue, LacksPdu}
-use Rattle.console.specs.Stored.{SaysBroken, BrokenBehindDevice, StoredAsRegister}
+use Rattle.console.specs.Stored.{SaysBroken, BrokenBehindDevice, RegisterAtDevice, StoredAsRegister}
 use Rattle.console.proofs.Wholes.{or_left, or_right}
 
 -- what is broken is not sound
@@ -30,21 +30,24 @@ is_device Memory = false
 is_device Device = true
 is_device Broken = false
 is_device Epochs = false
+is_device Closed = false
 
 device_no_memory : Device ≡ Memory → ⊥
 device_no_memory same = true≢false (ap is_device same)
 
-refused : (s t : Stored) (word : Service) → s.broken ≡ true → Refuses s word t → (word ≡ Broken) × (t ≡ s)
-refused s t Memory broken says = not_both s broken says.0
-refused s t Device broken says = not_both s broken says.0
-refused s t Broken broken says = (refl, says.1)
-refused s t Epochs broken says = not_both s broken says.0
+refused : {A : Type 0} (s t : Stored) (c : Command A) (word : Service) → s.broken ≡ true → Refuses s c word t → (word ≡ Broken) × (t ≡ s)
+refused s t c Memory broken says = not_both s broken says.0
+refused s t c Device broken says = not_both s broken says.0
+refused s t c Broken broken says = (refl, says.1)
+refused s t c Epochs broken says = not_both s broken says.0
+refused s t c Closed broken says = absurd says
 
 untold : (B : Type 0) (s t : Stored) (q : Query) (word : Service) → s.broken ≡ true → StoreTells {B = B} s q (Err word) t → (word ≡ Broken) × (t ≡ s)
 untold B s t q Memory broken says = not_both s broken says.0
 untold B s t q Device broken says = absurd says
 untold B s t q Broken broken says = (refl, says.1)
 untold B s t q Epochs broken says = absurd says
+untold B s t q Closed broken says = absurd says
 
 module _ {A : Type 0} where
   -- what a broken desk answers, and that it stays as it is
@@ -53,7 +56,7 @@ module _ {A : Type 0} where
 
   unreplied : (s t : Stored) (c : Command A) (sequence : ℕ) (word : Service) → s.broken ≡ true → StoreApplies {A = A} {B = A} s c (Err word) t ⊎ LacksPdu s c word t → Stays (answer.Unreplied sequence word) s t
   unreplied s t c sequence word broken why = elim why [
-    | inl says ↦ let b = refused s t word broken says in (inl b.0, b.1)
+    | inl says ↦ let b = refused s t c word broken says in (inl b.0, b.1)
     | inr lacks ↦ (inr lacks.1, lacks.2)
   ]
 
@@ -91,12 +94,21 @@ module _ {A : Type 0} where
       let first : Stays a s each.0 = on_reading (n + 1) s each.0 (reading station line) a broken each.1 in
       All-cons SaysBroken a answers first.0 (stays_broken station (n + 1) each.0 t given answers (ap (λ (w : Stored). w.broken) first.1 ∙ broken) each.2)
 
-  -- the word device leaves it broken
-  device_breaks : (n sequence : ℕ) (s t : Stored) (line : Line A) → AnswersReading of_store n s line (answer.Unreplied sequence Device) t → t.broken ≡ true
+  -- and it stays the same
+  stays_same : (station n : ℕ) (s t : Stored) (given : List (List ℕ)) (answers : List (Answer A)) → s.broken ≡ true → Dialogue of_store station n s given answers t → t ≡ s
+  stays_same station n s t [] [] broken each = each
+  stays_same station n s t [] (a ∷ answers) broken each = absurd each
+  stays_same station n s t (line ∷ given) [] broken each = absurd each
+  stays_same station n s t (line ∷ given) (a ∷ answers) broken each =
+      let first : Stays a s each.0 = on_reading (n + 1) s each.0 (reading station line) a broken each.1 in
+      stays_same station (n + 1) each.0 t given answers (ap (λ (w : Stored). w.broken) first.1 ∙ broken) each.2 ∙ first.1
+
+  -- the word device leaves it broken, and its register as it is
+  device_breaks : (n sequence : ℕ) (s t : Stored) (line : Line A) → AnswersReading of_store n s line (answer.Unreplied sequence Device) t → (t.broken ≡ true) × (t.register ≡ s.register)
   device_breaks n sequence s t Silent given = absurd (true≢false (ap is_service given.0))
   device_breaks n sequence s t (Bad fault) given = absurd (true≢false (ap is_service given.0))
   device_breaks n sequence s t (Apply c) given = elim given.1 [
-    | inl says ↦ says.1
+    | inl says ↦ (says.1, says.2)
     | inr lacks ↦ absurd (device_no_memory lacks.1)
   ]
   device_breaks n sequence s t (Ask q) given = absurd given
@@ -105,10 +117,20 @@ module _ {A : Type 0} where
   broken_behind station n sequence s t [] [] behind each = absurd each
   broken_behind station n sequence s t [] (a ∷ before) behind each = absurd each
   broken_behind station n sequence s t (line ∷ given) [] behind each =
-      stays_broken station (n + 1) each.0 t given behind (device_breaks (n + 1) sequence s each.0 (reading station line) each.1) each.2
+      stays_broken station (n + 1) each.0 t given behind (device_breaks (n + 1) sequence s each.0 (reading station line) each.1).0 each.2
   broken_behind station n sequence s t (line ∷ given) (a ∷ before) behind each = broken_behind station (n + 1) sequence each.0 t given before behind each.2
 
-  -- a line that gets no word of the service
+  pub at_device : RegisterAtDevice A
+  at_device station n sequence s t [] [] behind each = absurd each
+  at_device station n sequence s t [] (a ∷ before) behind each = absurd each
+  at_device station n sequence s t (line ∷ given) [] behind each =
+      let broke = device_breaks (n + 1) sequence s each.0 (reading station line) each.1 in
+      ([], line ∷ given, s, refl, refl, ap (λ (w : Stored). w.register) (stays_same station (n + 1) each.0 t given behind broke.0 each.2) ∙ broke.1)
+  at_device station n sequence s t (line ∷ given) (a ∷ before) behind each =
+      let rest = at_device station (n + 1) sequence each.0 t given before behind each.2 in
+      (line ∷ rest.0, rest.1, rest.2, ap (λ (lines : List (List ℕ)). line ∷ lines) rest.3, (each.0, each.1, rest.4), rest.5)
+
+  -- a line that gets no outage word
   as_command : (s t : Stored) (c : Command A) (a : Answer A) → AnswersCommand of_store s c a t → is_service a ≡ false → AnswersCommand of_register s.register c a t.register
   as_command s t c (answer.Replied sequence reply) given calm = (given.0, given.1.2)
   as_command s t c (answer.Unreplied sequence word) given calm = absurd (true≢false calm)

@@ -1,5 +1,5 @@
 -- Each line has an answer, and without words of the service one answer.
-use Rattle.std.proofs.Common.{◌≡◌, ℕ, ◌+◌, Bool, true, false, List, [], ◌∷◌, ◌++◌, ◌||◌, length, refl, sym, ◌∙◌, ap, subst, arith, append_assoc}
+use Rattle.std.proofs.Common.{◌≡◌, ℕ, ◌+◌, Bool, true, false, List, [], ◌∷◌, ◌++◌, ◌||◌, length, refl, sym, ◌∙◌, ap, subst, arith, append_assoc, inl}
 use Rattle.std.proofs.lemmas.Bool.{true≢false}
 use Rattle.std.proofs.lemmas.List.Concat.{flat_map-append}
 use Rattle.std.specs.List.{list_any}
@@ -16,7 +16,10 @@ use Rattle.console.specs.declared.answer.Answer.{Answer}
 use Rattle.console.specs.declared.answer.Answer.TheVariants as answer
 use Rattle.console.specs.Answer.{text, texts, is_trouble, is_service}
 use Rattle.console.specs.Reading.{reading}
+use Rattle.desk.specs.Rules.{Rules}
 use Rattle.desk.specs.OfRegister.{of_register}
+use Rattle.desk.specs.OfStore.{Stored, of_store}
+use Rattle.desk.specs.declared.service.Service.TheVariants.{Broken}
 use Rattle.console.specs.Dialogue.{AnswersReading, AnswersCommand, AnswersQuery, Answers, Dialogue, CutOffIsFront, OneText}
 
 pub or_left : (a b : Bool) → (a || b) ≡ false → a ≡ false
@@ -28,52 +31,71 @@ or_right true b h = absurd (true≢false h)
 or_right false b h = h
 
 module _ {A : Type 0} where
-  abbrev pub HasAnswer : ℕ → State → Line A → Type 0
-  HasAnswer n s line = (a : Answer A) × (t : State) × AnswersReading of_register n s line a t
+  -- a line has an answer
+  abbrev pub HasAnswer : {W : Type 0} → Rules W → ℕ → W → Line A → Type 0
+  HasAnswer {W = W} rules n s line = (a : Answer A) × (t : W) × AnswersReading rules n s line a t
 
-  pub has_answer : (n : ℕ) (s : State) (line : Line A) → HasAnswer n s line
-  has_answer n s Silent = (answer.Quiet, s, (refl, refl))
-  has_answer n s (Bad fault) = (answer.Bad n fault, s, (refl, refl))
-  has_answer n s (Apply c) = (answer.Replied c.sequence (step s c).1, (step s c).0, (refl, refl))
-  has_answer n s (Ask q) = (answer.Told (tell s q), s, (refl, refl))
+  -- at a desk in memory
+  pub in_memory : (n : ℕ) (s : State) (line : Line A) → HasAnswer of_register n s line
+  in_memory n s Silent = (answer.Quiet, s, (refl, refl))
+  in_memory n s (Bad fault) = (answer.Bad n fault, s, (refl, refl))
+  in_memory n s (Apply c) = (answer.Replied c.sequence (step s c).1, (step s c).0, (refl, refl))
+  in_memory n s (Ask q) = (answer.Told (tell s q), s, (refl, refl))
 
-  pub has_dialogue : (station n : ℕ) (s : State) (given : List (List ℕ)) → (answers : List (Answer A)) × (t : State) × Dialogue of_register station n s given answers t
-  has_dialogue station n s [] = ([], s, refl)
-  has_dialogue station n s (line ∷ given) =
-      let first = has_answer (n + 1) s (reading station line) in
-      let rest = has_dialogue station (n + 1) first.1 given in
-      (first.0 ∷ rest.0, rest.1, (first.1, first.2, rest.2))
+  -- at a desk over a disk, be it broken or not
+  command_on_disk : (n : ℕ) (s : Stored) (c : Command A) (broken : Bool) → s.broken ≡ broken → HasAnswer of_store n s (Apply c)
+  command_on_disk n s c true is = (answer.Unreplied c.sequence Broken, s, (refl, inl (is, refl)))
+  command_on_disk n s c false is = (answer.Replied c.sequence (step s.register c).1, record s { register = (step {B = A} s.register c).0 }, (refl, (is, is, refl)))
 
-  pub dialogue_append : (station n k : ℕ) (s mid t : State) (done left : List (List ℕ)) (xs ys : List (Answer A)) → k ≡ n + length done →
-      Dialogue of_register station n s done xs mid → Dialogue of_register station k mid left ys t → Dialogue of_register station n s (done ++ left) (xs ++ ys) t
-  dialogue_append station n k s mid t [] left [] ys at front back =
-      let here : k ≡ n = omega (arith, at) in
-      subst (λ (m : State). Dialogue of_register station n m left ys t) front (subst (λ (i : ℕ). Dialogue of_register station i mid left ys t) here back)
-  dialogue_append station n k s mid t [] left (x ∷ xs) ys at front back = absurd front
-  dialogue_append station n k s mid t (line ∷ done) left [] ys at front back = absurd front
-  dialogue_append station n k s mid t (line ∷ done) left (x ∷ xs) ys at front back =
-      (front.0, front.1, dialogue_append station (n + 1) k front.0 mid t done left xs ys (omega (arith, at)) front.2 back)
+  query_on_disk : (n : ℕ) (s : Stored) (q : Query) (broken : Bool) → s.broken ≡ broken → HasAnswer of_store n s (Ask q)
+  query_on_disk n s q true is = (answer.Untold n Broken, s, (refl, inl (is, refl)))
+  query_on_disk n s q false is = (answer.Told (tell s.register q), s, (is, refl, refl))
 
-  pub cut_off : CutOffIsFront A
-  cut_off station s t given out cut =
-      let rest = has_dialogue station (length cut.done) t cut.left in
-      record {
-        missing = cut.missing ++ texts rest.0;
-        troubled = list_any is_trouble ((cut.answered ++ cut.last) ++ rest.0);
-        after = rest.1;
-        dialogue = record {
-          answers = (cut.answered ++ cut.last) ++ rest.0;
-          each = subst (λ (all : List (List ℕ)). Dialogue of_register station 0 s all ((cut.answered ++ cut.last) ++ rest.0) rest.1) (sym cut.all)
-              (dialogue_append station 0 (length cut.done) s t rest.1 cut.done cut.left (cut.answered ++ cut.last) rest.0 (omega arith) cut.each rest.2);
-          written = ap (λ xs. xs ++ (cut.missing ++ texts rest.0)) cut.written
-              ∙ append_assoc (texts cut.answered) cut.part (cut.missing ++ texts rest.0)
-              ∙ ap (λ xs. texts cut.answered ++ xs) (sym (append_assoc cut.part cut.missing (texts rest.0)) ∙ ap (λ xs. xs ++ texts rest.0) (sym cut.front))
-              ∙ sym (append_assoc (texts cut.answered) (texts cut.last) (texts rest.0))
-              ∙ ap (λ xs. xs ++ texts rest.0) (sym (flat_map-append text cut.answered cut.last))
-              ∙ sym (flat_map-append text (cut.answered ++ cut.last) rest.0);
-          trouble = refl;
-        };
-      }
+  pub on_disk : (n : ℕ) (s : Stored) (line : Line A) → HasAnswer of_store n s line
+  on_disk n s Silent = (answer.Quiet, s, (refl, refl))
+  on_disk n s (Bad fault) = (answer.Bad n fault, s, (refl, refl))
+  on_disk n s (Apply c) = command_on_disk n s c s.broken refl
+  on_disk n s (Ask q) = query_on_disk n s q s.broken refl
+
+  -- where each line has an answer at a desk of this kind
+  module _ {W : Type 0} (rules : Rules W) (has_answer : (n : ℕ) (s : W) (line : Line A) → HasAnswer rules n s line) where
+    has_dialogue : (station n : ℕ) (s : W) (given : List (List ℕ)) → (answers : List (Answer A)) × (t : W) × Dialogue rules station n s given answers t
+    has_dialogue station n s [] = ([], s, refl)
+    has_dialogue station n s (line ∷ given) =
+        let first = has_answer (n + 1) s (reading station line) in
+        let rest = has_dialogue station (n + 1) first.1 given in
+        (first.0 ∷ rest.0, rest.1, (first.1, first.2, rest.2))
+
+    dialogue_append : (station n k : ℕ) (s mid t : W) (done left : List (List ℕ)) (xs ys : List (Answer A)) → k ≡ n + length done →
+        Dialogue rules station n s done xs mid → Dialogue rules station k mid left ys t → Dialogue rules station n s (done ++ left) (xs ++ ys) t
+    dialogue_append station n k s mid t [] left [] ys at front back =
+        let here : k ≡ n = omega (arith, at) in
+        subst (λ (m : W). Dialogue rules station n m left ys t) front (subst (λ (i : ℕ). Dialogue rules station i mid left ys t) here back)
+    dialogue_append station n k s mid t [] left (x ∷ xs) ys at front back = absurd front
+    dialogue_append station n k s mid t (line ∷ done) left [] ys at front back = absurd front
+    dialogue_append station n k s mid t (line ∷ done) left (x ∷ xs) ys at front back =
+        (front.0, front.1, dialogue_append station (n + 1) k front.0 mid t done left xs ys (omega (arith, at)) front.2 back)
+
+    pub cut_off : CutOffIsFront A rules
+    cut_off station s t given out cut =
+        let rest = has_dialogue station (length cut.done) t cut.left in
+        record {
+          missing = cut.missing ++ texts rest.0;
+          troubled = list_any is_trouble ((cut.answered ++ cut.last) ++ rest.0);
+          after = rest.1;
+          dialogue = record {
+            answers = (cut.answered ++ cut.last) ++ rest.0;
+            each = subst (λ (all : List (List ℕ)). Dialogue rules station 0 s all ((cut.answered ++ cut.last) ++ rest.0) rest.1) (sym cut.all)
+                (dialogue_append station 0 (length cut.done) s t rest.1 cut.done cut.left (cut.answered ++ cut.last) rest.0 (omega arith) cut.each rest.2);
+            written = ap (λ xs. xs ++ (cut.missing ++ texts rest.0)) cut.written
+                ∙ append_assoc (texts cut.answered) cut.part (cut.missing ++ texts rest.0)
+                ∙ ap (λ xs. texts cut.answered ++ xs) (sym (append_assoc cut.part cut.missing (texts rest.0)) ∙ ap (λ xs. xs ++ texts rest.0) (sym cut.front))
+                ∙ sym (append_assoc (texts cut.answered) (texts cut.last) (texts rest.0))
+                ∙ ap (λ xs. xs ++ texts rest.0) (sym (flat_map-append text cut.answered cut.last))
+                ∙ sym (flat_map-append text (cut.answered ++ cut.last) rest.0);
+            trouble = refl;
+          };
+        }
 
   abbrev pub Same : Answer A → Answer A → State → State → Type 0
   Same a b t u = (a ≡ b) × (t ≡ u)

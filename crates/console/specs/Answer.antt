@@ -1,9 +1,9 @@
 -- How an answer is written. B is the allocator that the bits in it lie under: nothing depends on it.
-use Rattle.std.specs.Prelude.{ℕ, ◌≤◌, Bool, true, false, List, [], ◌++◌, length, Option, Some, None, codes, decimal}
+use Rattle.std.specs.Prelude.{ℕ, Bool, true, false, List, [], ◌++◌, length, Option, Some, None, codes, decimal}
 use Rattle.std.specs.List.{flat_map}
 use Rattle.identity.specs.Numbers.{Gtsi, Byte}
 use Rattle.identity.specs.IdentityText.{identity_text, prefix_text}
-use Rattle.identity.specs.BitsText.{bits_text, most_bits}
+use Rattle.identity.specs.BitsText.{bits_text}
 use Rattle.identity.specs.Path.{Path}
 use Rattle.mm_pdus.specs.Values.{lifetime_number}
 use Rattle.group_attach.specs.declared.attachment.Attachment.{Attachment}
@@ -19,8 +19,8 @@ use Rattle.centre_core.specs.declared.query.Told.{Told}
 use Rattle.centre_core.specs.declared.query.Told.TheVariants as told
 use Rattle.console.specs.declared.answer.Answer.{Answer}
 use Rattle.console.specs.declared.answer.Answer.TheVariants as answer
-use Rattle.centre_core.specs.Ranges.{IsShort}
 use Rattle.desk.specs.Words.{service_word}
+use Rattle.desk.specs.Replies.{HasShortPdu}
 use Rattle.console.specs.Words.{line_word, mm_word, registration_word, group_word, sds_word, mail_word, kind_word}
 
 -- the PDU for the radio, if there is one
@@ -127,17 +127,6 @@ module _ {B : Type 0} where
   is_list (told.Members gtsi members) = true
   is_list (told.Waiting itsi items) = true
   is_list other = false
-
-  -- the PDU that rejects a location update has at most 2,048 bits
-  abbrev pub HasShortReject : Refusal B → Type 0
-  HasShortReject (refusal.Location fault reject) = length reject ≤ most_bits
-  HasShortReject other = Unit {0}
-
-  -- a reply with a PDU of at most 2,048 bits, or with none
-  abbrev pub HasShortPdu : Reply B → Type 0
-  HasShortPdu (reply.Accepted number pdu) = IsShort pdu
-  HasShortPdu (reply.Kept number pdu) = IsShort pdu
-  HasShortPdu (reply.Refused refusal) = HasShortReject refusal
 
   -- no reply with a longer PDU
   abbrev pub HasNoLongPdu : Answer B → Type 0

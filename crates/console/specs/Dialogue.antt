@@ -13,28 +13,16 @@ use Rattle.desk.specs.declared.service.Service.{Service}
 use Rattle.desk.specs.declared.service.Service.TheVariants.{Memory}
 use Rattle.desk.specs.Rules.{Rules}
 use Rattle.desk.specs.OfRegister.{of_register}
-use Rattle.console.specs.declared.running.RunFault.{RunFault}
-use Rattle.console.specs.declared.running.RunFault.TheVariants.{Read, Write, NoMemory}
 use Rattle.console.specs.declared.line.Line.{Line}
 use Rattle.console.specs.declared.line.Line.TheVariants as line
 use Rattle.console.specs.declared.answer.Answer.{Answer}
 use Rattle.console.specs.declared.answer.Answer.TheVariants as answer
 use Rattle.console.specs.Reading.{reading, HasPdu}
-use Rattle.console.specs.Answer.{texts, is_trouble, is_service, is_list, HasShortPdu}
+use Rattle.console.specs.Answer.{texts, is_trouble, is_service, is_list}
 
 -- for the text of a list that the desk told there is no memory
 abbrev pub LacksText : (A : Type 0) {W : Type 0} → Rules W → W → Query → Service → W → Type 0
 LacksText A rules s q word t = (word ≡ Memory) × ((told : Told A) × (is_list told ≡ true) × rules.tells s q (Ok told) t)
-
--- the desk gives a reply with a PDU of more than 2,048 bits
-abbrev pub GivesLongPdu : (A : Type 0) {W : Type 0} → Rules W → Type 0
-GivesLongPdu A {W = W} rules = (s : W) × (c : Command A) × (reply : Reply A) × (t : W) × rules.applies s c (Ok reply) t × (HasShortPdu reply → ⊥)
-
--- why a run stops while it answers: the writer failed; or there is no memory for a reply with so long a PDU
-abbrev pub Stops : (A : Type 0) {W : Type 0} → Rules W → RunFault → Type 0
-Stops A rules Write = Unit {0}
-Stops A rules NoMemory = GivesLongPdu A rules
-Stops A rules Read = ⊥
 
 module _ {A W : Type 0} where
   -- for the PDU in a command there is no memory, and the desk does nothing
@@ -79,8 +67,7 @@ pub record IsDialogue (A : Type 0) {W : Type 0} (rules : Rules W) (station : Sta
   pub written : out ≡ texts answers
   pub trouble : troubled ≡ list_any is_trouble answers
 
--- cut off: some lines were done, their answers were written but perhaps that of the last of them, of
--- which a front was written
+-- cut off: some lines were done, and their answers were written, but of the last of them perhaps only a prefix
 pub record IsCutOff (A : Type 0) {W : Type 0} (rules : Rules W) (station : Station) (s : W) (given : List (List Byte)) (out : List Byte) (t : W) : Type 0 where
   pub done : List (List Byte)
   pub left : List (List Byte)
@@ -94,17 +81,17 @@ pub record IsCutOff (A : Type 0) {W : Type 0} (rules : Rules W) (station : Stati
   pub front : texts last ≡ part ++ missing
   pub written : out ≡ texts answered ++ part
 
--- the text goes on to one that may be written for the lines
+-- the text is a prefix of one that may be written for the lines
 pub record IsFront (A : Type 0) {W : Type 0} (rules : Rules W) (station : Station) (s : W) (given : List (List Byte)) (out : List Byte) : Type 0 where
   pub missing : List Byte
   pub troubled : Bool
   pub after : W
   pub dialogue : IsDialogue A rules station s given (out ++ missing) troubled after
 
--- what was cut off is the front of a text that may be written
-abbrev pub CutOffIsFront : Type 0 → Type 0
-CutOffIsFront A = (station : Station) (s t : State) (given : List (List Byte)) (out : List Byte) →
-    IsCutOff A of_register station s given out t → IsFront A of_register station s given out
+-- at a desk of this kind, what was cut off is a prefix of a text that may be written
+abbrev pub CutOffIsFront : (A : Type 0) {W : Type 0} → Rules W → Type 0
+CutOffIsFront A {W = W} rules = (station : Station) (s t : W) (given : List (List Byte)) (out : List Byte) →
+    IsCutOff A rules station s given out t → IsFront A rules station s given out
 
 -- without words of the service the lines settle the answers, and what the register holds
 abbrev pub OneText : Type 0 → Type 0

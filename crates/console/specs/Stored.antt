@@ -25,7 +25,13 @@ abbrev pub BrokenBehindDevice : Type 0 → Type 0
 BrokenBehindDevice A = (station : Station) (n : ℕ) (sequence : Sequence) (s t : Stored) (given : List (List Byte)) (before behind : List (Answer A)) →
     Dialogue of_store station n s given (before ++ answer.Unreplied sequence Device ∷ behind) t → All SaysBroken behind
 
--- without words of the service it is a dialogue with the register
+-- the lines before the word device made the register, and from it on the register stays as it is
+abbrev pub RegisterAtDevice : Type 0 → Type 0
+RegisterAtDevice A = (station : Station) (n : ℕ) (sequence : Sequence) (s t : Stored) (given : List (List Byte)) (before behind : List (Answer A)) →
+    Dialogue of_store station n s given (before ++ answer.Unreplied sequence Device ∷ behind) t →
+    (done : List (List Byte)) × (left : List (List Byte)) × (made : Stored) × (given ≡ done ++ left) × Dialogue of_store station n s done before made × (t.register ≡ made.register)
+
+-- without outage words it is a dialogue with the register
 abbrev pub StoredAsRegister : Type 0 → Type 0
 StoredAsRegister A = (station : Station) (n : ℕ) (s t : Stored) (given : List (List Byte)) (answers : List (Answer A)) →
     Dialogue of_store station n s given answers t → list_any is_service answers ≡ false →

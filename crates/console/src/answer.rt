@@ -1,5 +1,5 @@
 ghost use Rattle.std.specs.Prelude.{◌≡◌, ◌≤◌, ◌<◌, ◌+◌, ◌++◌, OnOk, OnErr, length, vec_len, vec_capacity};
-ghost use Rattle.console.specs.Answer.{text, is_trouble, is_list, tells_list, IsLine, answer_room};
+ghost use Rattle.console.specs.Answer.{text, is_trouble, IsLine, answer_room};
 
 use crate::answer_text::put_answer;
 use crate::line::LineFault;
@@ -26,7 +26,7 @@ pub enum Answer<B: Allocator> {
 }
 
 impl<B: Allocator> Answer<B> {
-    /// Whether it tells of a bad line, or is a word of the service.
+    /// Whether it tells of a bad line, or is an outage word.
     pub fn is_trouble(&self) -> bool
         ensures { result ≡ is_trouble self.now }
     {
@@ -35,25 +35,6 @@ impl<B: Allocator> Answer<B> {
             Answer::Bad(..) | Answer::Unreplied(..) | Answer::Untold(..)
         )
     }
-
-    /// Whether it tells a list, whose text may be of any length.
-    pub(crate) fn tells_list(&self) -> bool
-        ensures { result ≡ tells_list self.now }
-    {
-        match self {
-            Answer::Told(told) => is_list(told),
-            _ => false,
-        }
-    }
-}
-
-fn is_list<B: Allocator>(told: &Told<B>) -> bool
-    ensures { result ≡ is_list told.now }
-{
-    matches!(
-        told,
-        Told::Groups { .. } | Told::Members { .. } | Told::Waiting { .. }
-    )
 }
 
 /// Adds the text of an answer: a line with its end, and nothing for [`Answer::Quiet`]. Where there is no

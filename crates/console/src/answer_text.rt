@@ -4,8 +4,9 @@ ghost use Rattle.std.specs.List.{flat_map};
 ghost use Rattle.identity.specs.NumberText.{IsFrontOf};
 ghost use Rattle.identity.specs.IdentityText.{identity_text};
 ghost use Rattle.centre_core.specs.Ranges.{IsShort};
+ghost use Rattle.desk.specs.Replies.{HasShortPdu, HasShortReject};
 ghost use Rattle.console.specs.Inside.Parts.{part_text, part_room, pdu_room};
-ghost use Rattle.console.specs.Answer.{text, pdu_text, reply_text, refusal_text, told_text, group_text, member_text, item_text, item_end, key_text, whereabouts_text, rule_text, presence_text, HasShortPdu, HasShortReject, IsOneLine, IsLine, answer_room};
+ghost use Rattle.console.specs.Answer.{text, pdu_text, reply_text, refusal_text, told_text, group_text, member_text, item_text, item_end, key_text, whereabouts_text, rule_text, presence_text, IsOneLine, IsLine, answer_room};
 
 use crate::answer::Answer;
 use crate::text_part::{Part, pdu_part, put_parts};

@@ -3,16 +3,20 @@
 
 ghost use Rattle.console.specs.Dialogue.{CutOffIsFront, OneText};
 ghost use Rattle.console.specs.Spelling.{OnlyCommands, OnlyQueries, AllCommands, AllQueries, BadLines};
-ghost use Rattle.console.specs.Stored.{BrokenBehindDevice, StoredAsRegister};
+ghost use Rattle.desk.specs.OfRegister.{of_register};
+ghost use Rattle.desk.specs.OfStore.{of_store};
+ghost use Rattle.console.specs.Stored.{BrokenBehindDevice, RegisterAtDevice, StoredAsRegister};
 
 use std::alloc::Allocator;
 
-/// What stands written after a fault is the front of a text that may be written for the lines.
+/// What was written before a fault is a prefix of a text that may be written for the lines, over a register in memory and
+/// over one on a disk.
 pub fn cut_off_is_front<A: Allocator>()
-    ensures { CutOffIsFront A }
+    ensures register { CutOffIsFront A of_register }
+    ensures store { CutOffIsFront A of_store }
 {}
 
-/// Without words of the service there is one text for the lines.
+/// Without outage words there is one text for the lines.
 pub fn one_text<A: Allocator>()
     ensures { OneText A }
 {}
@@ -22,7 +26,12 @@ pub fn broken_behind_device<A: Allocator>()
     ensures { BrokenBehindDevice A }
 {}
 
-/// Without words of the service a register on a disk answers as it would in memory.
+/// Once it has said `device`, the register that it stands for is the one that the lines before made.
+pub fn register_at_device<A: Allocator>()
+    ensures { RegisterAtDevice A }
+{}
+
+/// Without outage words a register on a disk answers as it would in memory.
 pub fn stored_as_register<A: Allocator>()
     ensures { StoredAsRegister A }
 {}

@@ -1,5 +1,5 @@
 //! How far a run has come.
-ghost use Rattle.std.specs.Prelude.{◌≡◌, ◌++◌, ◌≤◌, [], List, ℕ, MatchBool, option_map, length, ◌<◌, IfOk, IfErr, false, vec_capacity};
+ghost use Rattle.std.specs.Prelude.{◌≡◌, ◌++◌, ◌≤◌, [], List, ℕ, MatchBool, option_map, length, ◌<◌, false, vec_capacity};
 ghost use Rattle.console.specs.declared.progress.TheConstants.{ANSWER, ROOM};
 ghost use Rattle.console.specs.Answer.{text, answer_room, HasNoLongPdu};
 ghost use Rattle.std.specs.Str.Lines.{strip_carriage_return};
@@ -7,7 +7,7 @@ ghost use Rattle.console.specs.Inside.Hand.{Holds, HoldsWith, line_at_end, Stand
 
 use crate::answer::{Answer, print_answer};
 use crate::line::LONGEST;
-use crate::running::{Ran, RunFault};
+use crate::running::Ran;
 use desk::Service;
 use std::alloc::{AllocError, Allocator};
 
@@ -131,27 +131,21 @@ impl<A: Allocator> AnswerText<A> {
         })
     }
 
-    /// Makes the text of the answer to the line of this number, and tells which answer that is: a list for
-    /// whose text there is no memory gives way to want of memory.
+    /// Makes the text of the answer to the line of this number, and returns that answer: `memory` in place of a list
+    /// for whose text there is no memory.
     #[inline(always)]
-    pub(crate) fn hold<B: Allocator + Drop>(
-        &mut self,
-        number: u64,
-        answer: Answer<B>,
-    ) -> Result<Answer<B>, RunFault>
-        ensures ok { IfOk result (λ held. StandsIn number answer held × (self.new.bytes.items ≡ text held)) }
-        ensures err { IfErr result (λ e. (e ≡ RunFault.NoMemory) × (HasNoLongPdu answer → ⊥)) }
+    pub(crate) fn hold<B: Allocator + Drop>(&mut self, number: u64, answer: Answer<B>) -> Answer<B>
+        requires { HasNoLongPdu answer }
+        ensures held { StandsIn number answer result }
+        ensures text { self.new.bytes.items ≡ text result }
     {
         self.bytes.clear();
         if print_answer(&mut self.bytes, &answer).is_ok() {
-            return Ok(answer);
-        }
-        if !answer.tells_list() {
-            return Err(RunFault::NoMemory);
+            return answer;
         }
         let untold = Answer::Untold(number, Service::Memory);
         print_answer(&mut self.bytes, &untold).unwrap();
-        Ok(untold)
+        untold
     }
 
     pub(crate) fn as_slice(&self) -> &[u8]

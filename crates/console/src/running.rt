@@ -1,6 +1,5 @@
 //! Reading a text in pieces, to its end.
 ghost use Rattle.std.specs.Prelude.{◌≡◌, ◌⊎◌, IsErrOf, ◌≤◌, ◌<◌, ◌+◌};
-ghost use Rattle.console.specs.Dialogue.{GivesLongPdu};
 ghost use Rattle.console.specs.Failures.{failures_told};
 ghost use Rattle.console.specs.Runs.{IsRun};
 
@@ -36,8 +35,7 @@ pub enum RunFault {
     /// The writer failed.
     #[error("the answers can't be written")]
     Write,
-    /// There is no memory for a line and its answer: this is told before the first call of the reader; or
-    /// for a reply with a PDU of more than 2,048 bits.
+    /// There is no memory for a line and its answer: reported before the first call of the reader, and never later.
     #[error("no memory")]
     NoMemory,
 }
@@ -83,7 +81,7 @@ pub fn run_counted<
     ensures calls { input.new.steps.now ≤ input.old.steps.now + terms.turns }
     ensures read { IsErrOf result RunFault.Read → (input.new.steps.now ≡ input.old.steps.now + terms.turns) ⊎ (input.old.faults.now < input.new.faults.now) }
     ensures write { output.new.failures.now ≡ output.old.failures.now + failures_told result }
-    ensures memory { IsErrOf result RunFault.NoMemory → (input.new.steps.now ≡ input.old.steps.now) ⊎ GivesLongPdu A D.rules }
+    ensures memory { IsErrOf result RunFault.NoMemory → (input.new.steps.now ≡ input.old.steps.now) × (desk.new ≡ desk.old) }
     ensures reader { input.new.reader.ghost_name ≡ input.old.reader.ghost_name }
     ensures steps { input.new.steps.ghost_name ≡ input.old.steps.ghost_name }
     ensures faults { input.new.faults.ghost_name ≡ input.old.faults.ghost_name }

@@ -1,11 +1,11 @@
 //! Answering lines as their bytes come.
 ghost use Rattle.std.specs.Prelude.{◌≡◌, ◌⊎◌, IsErrOf, ◌≤◌, ◌<◌, ◌+◌, ◌-◌, ◌^◌, ◌++◌, ◌∷◌, [], List, ℕ, length, take, drop, slice_get, MatchOption, option_map, IfErr, OnOk, OnErr, Some};
 ghost use Rattle.console.specs.Answer.{HasNoLongPdu};
-ghost use Rattle.console.specs.Inside.Feed.{Sends, SendsFront, LeavesUnsent, GoesOn, StopsWithin, EndsSo, IsSameRun, stand_of, start_at, outcome_at};
+ghost use Rattle.console.specs.Inside.Feed.{Sends, SendsFront, GoesOn, StopsWithin, EndsSo, IsSameRun, stand_of, start_at, outcome_at};
 ghost use Rattle.console.specs.Failures.{failures_told};
 ghost use Rattle.console.specs.Inside.Hand.{HasNoEnd, StandsFor};
 ghost use Rattle.console.specs.Runs.{IsRun};
-ghost use Rattle.console.specs.Dialogue.{Answers, GivesLongPdu, Stops};
+ghost use Rattle.console.specs.Dialogue.{Answers};
 ghost use Rattle.console.specs.declared.answer.Answer.{Answer};
 
 use crate::answer::Answer;
@@ -38,7 +38,7 @@ fn answer_line<A: Allocator + Copy, D: Desk>(
     desk: &mut D,
 ) -> Answer<A>
     ensures answers { (whole : List ℕ) → StandsFor (option_map (λ l. l.now) asked.entry.line) whole → Answers D.rules terms.now.station asked.entry.number (D.world desk.old) whole result (D.world desk.new) }
-    ensures long { (HasNoLongPdu result → ⊥) → GivesLongPdu A D.rules }
+    ensures short { HasNoLongPdu result }
 {
     let Some(line) = asked.line else {
         return Answer::Bad(asked.number, LineFault::TooLong);
@@ -65,17 +65,18 @@ fn send_answer<A: Allocator + Copy + Drop, W: Write, G: Ledger>(
     answer: Answer<A>,
     output: &mut Output<W, G>,
 ) -> Result<(), RunFault>
-    requires { progress.old.lines + 1 < 2 ^ 64 }
+    requires room { progress.old.lines + 1 < 2 ^ 64 }
+    requires short { HasNoLongPdu answer }
     ensures ok { OnOk result (Sends progress.old (W.contents output.old.writer.now) answer progress.new (W.contents output.new.writer.now)) }
     ensures err { OnErr result (SendsFront progress.old.lines (W.contents output.old.writer.now) answer (W.contents output.new.writer.now)) }
     ensures lines { progress.new.lines ≤ progress.old.lines + 1 }
-    ensures stops { IfErr result (λ e. LeavesUnsent answer e) }
+    ensures stops { IfErr result (λ e. e ≡ RunFault.Write) }
     ensures writer { output.new.writer.ghost_name ≡ output.old.writer.ghost_name }
     ensures failures { output.new.failures.ghost_name ≡ output.old.failures.ghost_name }
     ensures ledger { output.new.failures.now ≡ output.old.failures.now + failures_told result }
 {
     let number = progress.lines + 1;
-    let held = progress.out.hold(number, answer)?;
+    let held = progress.out.hold(number, answer);
     output.send(progress.out.as_slice())?;
     progress.lines = number;
     progress.troubled = progress.troubled | held.is_trouble();
@@ -122,7 +123,7 @@ impl<'t, 'p, 'o, 'd, 'w, 'f, A: Allocator + Copy + Drop, W: Write, G: Ledger, D:
         ensures ok { OnOk result (GoesOn D.rules (stand_of D.world W.contents self.old) (run.now ++ 10 ∷ []) (stand_of D.world W.contents self.new)) }
         ensures err { IfErr result (λ e. StopsWithin D.rules (stand_of D.world W.contents self.old) (run.now ++ 10 ∷ []) e (stand_of D.world W.contents self.new)) }
         ensures lines { self.new.progress.now.lines ≤ self.old.progress.now.lines + 1 }
-        ensures stops { IfErr result (λ e. Stops A D.rules e) }
+        ensures stops { IfErr result (λ e. e ≡ RunFault.Write) }
         ensures same { IsSameRun self.old self.new }
         ensures ledger { self.new.output.now.failures.now ≡ self.old.output.now.failures.now + failures_told result }
     {
@@ -142,7 +143,7 @@ impl<'t, 'p, 'o, 'd, 'w, 'f, A: Allocator + Copy + Drop, W: Write, G: Ledger, D:
         ensures ok { OnOk result (GoesOn D.rules (stand_of D.world W.contents self.old) piece.now (stand_of D.world W.contents self.new)) }
         ensures err { IfErr result (λ e. StopsWithin D.rules (stand_of D.world W.contents self.old) piece.now e (stand_of D.world W.contents self.new)) }
         ensures lines { self.new.progress.now.lines ≤ self.old.progress.now.lines + length piece.now }
-        ensures stops { IfErr result (λ e. Stops A D.rules e) }
+        ensures stops { IfErr result (λ e. e ≡ RunFault.Write) }
         ensures same { IsSameRun self.old self.new }
         ensures ledger { self.new.output.now.failures.now ≡ self.old.output.now.failures.now + failures_told result }
     {
@@ -159,7 +160,7 @@ impl<'t, 'p, 'o, 'd, 'w, 'f, A: Allocator + Copy + Drop, W: Write, G: Ledger, D:
     fn finish(&mut self) -> Result<Ran, RunFault>
         requires { self.old.progress.now.lines + 1 < 2 ^ 64 }
         ensures ends { EndsSo D.rules (stand_of D.world W.contents self.old) (outcome_at (stand_of D.world W.contents self.new) result) }
-        ensures stops { IfErr result (λ e. Stops A D.rules e) }
+        ensures stops { IfErr result (λ e. e ≡ RunFault.Write) }
         ensures same { IsSameRun self.old self.new }
         ensures ledger { self.new.output.now.failures.now ≡ self.old.output.now.failures.now + failures_told result }
     {
@@ -186,7 +187,7 @@ impl<'t, 'p, 'o, 'd, 'w, 'f, A: Allocator + Copy + Drop, W: Write, G: Ledger, D:
         ensures calls { input.new.steps.now ≤ input.old.steps.now + self.old.terms.now.turns }
         ensures read { IsErrOf result RunFault.Read → (input.new.steps.now ≡ input.old.steps.now + self.old.terms.now.turns) ⊎ (input.old.faults.now < input.new.faults.now) }
         ensures ledger { self.new.output.now.failures.now ≡ self.old.output.now.failures.now + failures_told result }
-        ensures memory { IsErrOf result RunFault.NoMemory → GivesLongPdu A D.rules }
+        ensures memory { IsErrOf result RunFault.NoMemory → ⊥ }
         ensures reader { input.new.reader.ghost_name ≡ input.old.reader.ghost_name }
         ensures steps { input.new.steps.ghost_name ≡ input.old.steps.ghost_name }
         ensures faults { input.new.faults.ghost_name ≡ input.old.faults.ghost_name }

@@ -1,4 +1,5 @@
 pub mod Words
+pub mod Replies
 pub mod Rules
 pub mod OfRegister
 pub mod OfStore

@@ -1,4 +1,6 @@
 //! What a desk is.
+ghost use Rattle.std.specs.Prelude.{IfOk};
+ghost use Rattle.desk.specs.Replies.{HasShortPdu};
 ghost use Rattle.desk.specs.Rules.{Rules};
 
 use crate::service::Service;
@@ -15,13 +17,14 @@ pub trait Desk {
     // What they may do and say.
     ghost rules: { Rules World };
 
-    /// Carries out a command; the reply's bits lie under `alloc`.
+    /// Carries out a command. The reply's bits lie under `alloc`, and are at most 2,048.
     fn apply<B: Allocator, C: Allocator + Copy>(
         &mut self,
         alloc: C,
         command: &Command<B>,
     ) -> Result<Reply<C>, Service>
-        ensures { rules.applies (world self.old) command.now result (world self.new) };
+        ensures applies { rules.applies (world self.old) command.now result (world self.new) }
+        ensures short { IfOk result HasShortPdu };
 
     /// Answers a query; a list in the answer lies under `alloc`.
     fn query<C: Allocator + Copy>(&mut self, alloc: C, query: &Query) -> Result<Told<C>, Service>

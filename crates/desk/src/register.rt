@@ -4,6 +4,7 @@ ghost use Rattle.desk.specs.OfRegister.{of_register};
 
 use crate::desk::Desk;
 use crate::service::Service;
+use centre_core::laws::registers;
 use centre_core::{Command, Query, Register, Reply, Told};
 use std::alloc::Allocator;
 
@@ -19,6 +20,7 @@ impl<A: Allocator + Clone> Desk for Register<A> {
         alloc: C,
         command: &Command<B>,
     ) -> Result<Reply<C>, Service> {
+        registers(self);
         match Register::apply(self, alloc, command) {
             Ok(reply) => Ok(reply),
             Err(_) => Err(Service::Memory),

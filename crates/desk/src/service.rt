@@ -1,4 +1,4 @@
-//! The words that a desk says in place of a reply.
+//! The outage words, which a desk answers in place of a reply.
 ghost use Rattle.std.specs.Prelude.{◌≡◌, ◌≤◌, length};
 ghost use Rattle.desk.specs.Words.{service_word};
 
@@ -7,12 +7,14 @@ ghost use Rattle.desk.specs.Words.{service_word};
 pub enum Service {
     /// An allocation was refused.
     Memory,
-    /// The disk under it has failed. What was asked may be done on the disk: it is to be opened again.
+    /// The disk under it has failed. What was asked may be done on the disk, which shows when it is opened again.
     Device,
     /// The disk has failed in an earlier call.
     Broken,
     /// The disk has no room for a further command, and its last epoch is reached.
     Epochs,
+    /// What serves the desk has ended. No register answers this by itself, in memory or on a disk.
+    Closed,
 }
 
 impl Service {
@@ -26,6 +28,7 @@ impl Service {
             Service::Device => "device",
             Service::Broken => "broken",
             Service::Epochs => "epochs",
+            Service::Closed => "closed",
         }
     }
 }

@@ -1,73 +1,120 @@
 -- A commit of one command.
-use Rattle.std.proofs.Common.{◌≡◌, ◌⊎◌, inl, inr, ⊎_elim, subst, IsTrue, ℕ, zero, suc, Bool, true, false, refl, Result, Ok, Err, ◌-◌, ◌≤◌, List, [], ◌∷◌, ◌++◌, length, map, take, replicate, ap, ap₂, ◌∙◌, sym, arith}
+use Rattle.std.proofs.Common.{◌≡◌, ◌⊎◌, inl, inr, subst, IsTrue, ℕ, ◌<◌, ◌-◌, ◌^◌, ◌≤◌, Bool, true, false, refl, Result, Ok, Err, List, [], ◌∷◌, length, ap, ◌∙◌, sym, arith}
+use Rattle.std.specs.Prelude.{if◌then◌else◌, nat_le, IfErr, IsErrOf, OnErr, OnOk}
+use Rattle.std.specs.Borrow.{Bor}
+use Rattle.std.proofs.lemmas.Bool.Decides.{nat_tests}
 use Rattle.centre_core.specs.Asked.{Asked}
 use Rattle.centre_core.specs.declared.reply.Reply.{Reply}
 use Rattle.centre_core.specs.State.{State}
 use Rattle.centre_core.specs.Step.{step}
-use Rattle.centre_core.specs.History.{accepts, after, next}
+use Rattle.centre_core.specs.Memory.{needs_memory}
+use Rattle.centre_core.specs.History.{accepts, is_acceptance, next}
 use Rattle.centre_core.proofs.StateLaws.{step_is_next}
-use Rattle.recovery.specs.declared.outcome.Outcome.{Outcome}
-use Rattle.recovery.specs.declared.outcome.Outcome.TheVariants.{NoMemory, Replied}
+use Rattle.image_rows.specs.Rows.{last_epoch}
+use Rattle.gated_journal.specs.Record.{most_commands}
+use Rattle.desk.specs.declared.service.Service.{Service}
+use Rattle.desk.specs.OfStore.{Refuses, StoreApplies, Stored}
+use Rattle.recovery.specs.declared.outcome.Outcome.TheVariants.{Replied}
 use Rattle.recovery.specs.declared.fault.StoreFault.{StoreFault}
 use Rattle.recovery.specs.declared.fault.StoreFault.TheVariants as fault
-use Rattle.recovery.specs.Outcomes.{IsAfterBatch, IsAnswered, replies}
-use Rattle.recovery.specs.Refusals.{IsOfCommit}
-use Rattle.recovery.specs.Serving.{IsAfterOne}
-use Rattle.recovery.proofs.Batches.{idle}
-use Rattle.desk.specs.declared.service.Service.{Service}
-use Rattle.desk.specs.declared.service.Service.TheVariants.{Memory}
-use Rattle.desk.specs.OfStore.{StoreApplies, Stored}
+use Rattle.recovery.specs.Outcomes.{asked}
+use Rattle.recovery.specs.Refusals.{IsOfCheckpoint, IsOfCommit}
+use Rattle.recovery.specs.Serving.{IsAfterOne, IsWordFor, stored_of}
+use Rattle.recovery.proofs.Batches.{Ends, idle, same_verdict}
 
--- it is answered by its reply, and done; or by want of memory, and not done
-abbrev pub OneIsAnswered : {B C : Type 0} → State → Asked B → State → List (Outcome C) → Type 0
-OneIsAnswered {B} {C} s c t outcomes = ((reply : Reply C) × (outcomes ≡ Replied reply ∷ []) × ((t, reply) ≡ step s c)) ⊎ ((outcomes ≡ NoMemory ∷ []) × (t ≡ s))
+-- ---- the command is done
 
-module _ {B C : Type 0} (s : State) (c : Asked B) (t : State) (outcomes : List (Outcome C)) where
-  by_count : (applied : ℕ) → applied ≤ 1 → t ≡ after s (take applied (c ∷ [])) → outcomes ≡ map Replied (replies C s (take applied (c ∷ []))) ++ replicate (1 - applied) NoMemory → OneIsAnswered s c t outcomes
-  by_count zero few state are = inr (are, state)
-  by_count (suc zero) few state are = inl ((step {B = C} s c).1, are, ap (λ u. (u, (step {B = C} s c).1)) (state ∙ sym (step_is_next C s c)))
-  by_count (suc (suc n)) few state are = absurd (omega arith)
+module _ {B : Type 0} where
+  asked_if : (b : Bool) (entry : Bor (Asked B)) → asked (if b then entry ∷ [] else []) ≡ (if b then entry.now ∷ [] else [])
+  asked_if true entry = refl
+  asked_if false entry = refl
 
-  pub one_answered : IsAnswered s (c ∷ []) t outcomes → OneIsAnswered s c t outcomes
-  one_answered is = by_count is.applied is.end.most is.state is.outcomes_are
+  few_if : (b : Bool) (entry : Bor (Asked B)) → length (if b then entry ∷ [] else []) ≤ most_commands
+  few_if true entry = omega arith
+  few_if false entry = omega arith
 
--- so it is what a desk that is kept on a disk may say
-pub by_rule : {B C : Type 0} (old new : Stored) (c : Asked B) (said : Result (Reply C) Service) (outcomes : List (Outcome C)) → old.broken ≡ false → new.broken ≡ false → OneIsAnswered old.register c new.register outcomes
-    → ((reply : Reply C) → outcomes ≡ Replied reply ∷ [] → said ≡ Ok reply) → (outcomes ≡ NoMemory ∷ [] → said ≡ Err Memory) → StoreApplies old c said new
-by_rule old new c said outcomes was is (inl (reply, are, done)) ok err = rw (ok reply are) (was, is, done)
-by_rule old new c said outcomes was is (inr (are, same)) ok err = rw (err are) (was, is, same)
+  pub few_kept : (b : Bool) (entry : Bor (Asked B)) (kept : List (Bor (Asked B))) → kept ≡ (if b then entry ∷ [] else []) → length kept ≤ most_commands
+  few_kept b entry kept are = subst (λ (l : List (Bor (Asked B))). length l ≤ most_commands) (sym are) (few_if b entry)
 
-clash : {X E : Type 0} (x : X) (e : E) → Ok x ≡ Err e → ⊥
-clash x e is = absurd cc
+  by_verdict : (s : State) (c : Asked B) (b : Bool) → accepts s c ≡ b → IsAfterOne s c (next s c)
+  by_verdict s c true is = inr (is, refl)
+  by_verdict s c false is = inl (idle s c is)
 
--- a call that answers Ok was not one on a broken store
-pub was_sound : {X E : Type 0} (broken : Bool) (x : X) (e : E) → (broken ≡ true → Ok x ≡ Err e) → broken ≡ false
-was_sound true x e is = absurd (clash x e (is refl))
-was_sound false x e is = refl
+  module _ {C : Type 0} (m t : State) (reply : Reply C) (c : Asked B) (done : (t, reply) ≡ step m c) where
+    verdict : is_acceptance reply ≡ accepts m c
+    verdict = ap (λ (r : State × Reply C). is_acceptance r.1) done ∙ same_verdict C m c
 
-module _ {B : Type 0} (s : State) (c : Asked B) where
-  by_verdict : (b : Bool) → accepts s c ≡ b → IsAfterOne s c (next s c)
-  by_verdict true is = inr (is, refl)
-  by_verdict false is = inl (idle s c is)
+    state_is : t ≡ next m c
+    state_is = ap (λ (r : State × Reply C). r.0) done ∙ step_is_next C m c
 
-  by_applied : (t : State) (applied : ℕ) → applied ≤ 1 → t ≡ after s (take applied (c ∷ [])) → IsAfterOne s c t
-  by_applied t zero few is = inl is
-  by_applied t (suc zero) few is = subst (λ u. IsAfterOne s c u) (sym is) (by_verdict (accepts s c) refl)
-  by_applied t (suc (suc n)) few is = absurd (omega arith)
+    -- it changes nothing, or is accepted
+    pub after_one : (s u : State) → m ≡ s → u ≡ t → IsAfterOne s c u
+    after_one s u same last = subst (λ (x : State). IsAfterOne x c u) same (subst (λ (x : State). IsAfterOne m c x) (sym (last ∙ state_is)) (by_verdict m c (accepts m c) refl))
 
-  -- a batch of one command is that command done, where it is accepted
-  pub after_answered : {C : Type 0} (t : State) (outcomes : List (Outcome C)) → IsAnswered s (c ∷ []) t outcomes → IsAfterOne s c t
-  after_answered t outcomes is = by_applied t is.applied is.end.most is.state
+    -- it is a batch of one command that is applied to its end
+    pub one_ends : (entry : Bor (Asked B)) (kept : List (Bor (Asked B))) → entry.now ≡ c → kept ≡ (if is_acceptance reply then entry ∷ [] else []) → Ends m (c ∷ []) t (Replied reply ∷ []) (asked kept)
+    one_ends entry kept here are = record {
+      applied = 1;
+      are = record {
+        state = state_is;
+        replied = ap (λ (r : State × Reply C). Replied r.1 ∷ []) done;
+        taken = ap asked are ∙ asked_if (is_acceptance reply) entry ∙ ap (λ (b : Bool). if b then entry.now ∷ [] else []) verdict ∙ ap (λ (d : Asked B). if accepts m c then d ∷ [] else []) here;
+      };
+      end = record { most = omega arith; wants = λ d at. absurd cc };
+    }
 
-  pub after_refused : (t : State) → (t ≡ s) ⊎ IsAfterBatch s (c ∷ []) t → IsAfterOne s c t
-  after_refused t is = ⊎_elim inl (λ batch. by_applied t batch.0 batch.2.most batch.1) is
+-- ---- what a desk says of it
 
--- what holds after each fault of a commit but a failed device
-pub by_each_fault : (e : StoreFault) (P : Type 0) → IsOfCommit e → (e ≡ fault.Broken → P) → (e ≡ fault.NoMemory → P) → (e ≡ fault.EpochsUsedUp → P) → (e ≡ fault.DiskFault → P) → P
-by_each_fault fault.Unformatted P is broken memory epochs device = absurd is
-by_each_fault fault.BadGeometry P is broken memory epochs device = absurd is
-by_each_fault (fault.Damaged at) P is broken memory epochs device = absurd is
-by_each_fault fault.DiskFault P is broken memory epochs device = device refl
-by_each_fault fault.Broken P is broken memory epochs device = broken refl
-by_each_fault fault.NoMemory P is broken memory epochs device = memory refl
-by_each_fault fault.EpochsUsedUp P is broken memory epochs device = epochs refl
+last_is : (epoch : ℕ) → last_epoch ≤ epoch → nat_le last_epoch epoch ≡ true
+last_is epoch le = grind (arith, nat_tests)
+
+module _ (failures later epoch now : ℕ) (was is : Bool) (before later_before s t : State) where
+  abbrev pub old : Stored
+  old = stored_of failures epoch was before s
+
+  abbrev pub new : Stored
+  new = stored_of later now is later_before t
+
+  -- a reply is the register's
+  pub by_reply : {A B : Type 0} (c : Asked A) (reply : Reply B) → was ≡ false → is ≡ false → (t, reply) ≡ step s c → StoreApplies old c (Ok reply) new
+  by_reply c reply sound still done = (sound, still, rw (sound, still) done)
+
+  abbrev pub Says : {A : Type 0} → Asked A → Service → Type 0
+  Says c word = Refuses old c word new
+
+  -- a fault is told by its word
+  pub by_fault : {A : Type 0} (c : Asked A) (e : StoreFault) (word : Service) → IsOfCommit e → IsWordFor e word
+      → (e ≡ fault.Broken → (was ≡ true) × (new ≡ old))
+      → (e ≡ fault.NoMemory → (was ≡ false) × (is ≡ false) × (t ≡ s) × IsTrue (needs_memory s c))
+      → (e ≡ fault.EpochsUsedUp → (was ≡ false) × (is ≡ false) × (last_epoch ≤ epoch) × (now ≡ epoch) × (later ≡ failures) × (t ≡ s))
+      → (e ≡ fault.DiskFault → (was ≡ false) × (is ≡ true) × (later_before ≡ s) × ((failures < later) ⊎ (later ≡ 2 ^ 64 - 1)))
+      → Says c word
+  by_fault c fault.Unformatted word of told broken memory epochs device = absurd of
+  by_fault c fault.BadGeometry word of told broken memory epochs device = absurd of
+  by_fault c (fault.Damaged at) word of told broken memory epochs device = absurd of
+  by_fault c fault.Broken word of told broken memory epochs device = subst (Says c) (sym told) (broken refl)
+  by_fault c fault.NoMemory word of told broken memory epochs device =
+      let m = memory refl in
+      subst (Says c) (sym told) (m.0, m.1, rw (m.0, m.1) m.2, rw m.0 m.3)
+  by_fault c fault.EpochsUsedUp word of told broken memory epochs device =
+      let e = epochs refl in
+      subst (Says c) (sym told) (e.0, last_is epoch e.2, rw (e.0, e.1, e.3, e.4, e.5) refl)
+  by_fault c fault.DiskFault word of told broken memory epochs device =
+      let d = device refl in
+      subst (Says c) (sym told) (d.0, d.1, rw (d.0, d.1) d.2, d.3)
+
+-- ---- after a checkpoint that was to make room
+
+-- what follows from each result follows
+pub by_room : {T P : Type 0} (r : Result T StoreFault) → OnOk r P → IfErr r IsOfCheckpoint → (IsErrOf r fault.Broken → P) → (IsErrOf r fault.EpochsUsedUp → P) → (IsErrOf r fault.DiskFault → P) → P
+by_room (Ok t) ok of broken epochs device = ok
+by_room (Err fault.Unformatted) ok of broken epochs device = absurd of
+by_room (Err fault.BadGeometry) ok of broken epochs device = absurd of
+by_room (Err (fault.Damaged at)) ok of broken epochs device = absurd of
+by_room (Err fault.NoMemory) ok of broken epochs device = absurd of
+by_room (Err fault.Broken) ok of broken epochs device = broken refl
+by_room (Err fault.EpochsUsedUp) ok of broken epochs device = epochs refl
+by_room (Err fault.DiskFault) ok of broken epochs device = device refl
+
+pub err_part : {T E P : Type 0} {r : Result T E} {e : E} → r ≡ Err e → OnErr r P → P
+err_part {P = P} is p = subst (λ r. OnErr r P) is p

@@ -1,5 +1,5 @@
 -- What a store is as a desk.
-use Rattle.std.specs.Prelude.{◌≡◌, ◌⊎◌, ℕ, Bool, IsTrue, nat_le}
+use Rattle.std.specs.Prelude.{◌≡◌, ◌⊎◌, ℕ, Bool, true, false, IsTrue, nat_le}
 use Rattle.centre_core.specs.Asked.{Asked}
 use Rattle.centre_core.specs.State.{State}
 use Rattle.centre_core.specs.History.{accepts, next}
@@ -21,9 +21,14 @@ IsWordFor Unformatted word = ⊥
 IsWordFor BadGeometry word = ⊥
 IsWordFor (Damaged at) word = ⊥
 
--- what a store stands for, by the failures of its disk, its epoch, whether it is broken, and its register
-abbrev pub stored_of : ℕ → Epoch → Bool → State → Stored
-stored_of failures epoch broken state = record { register = state; broken = broken; failures = failures; last = nat_le last_epoch epoch }
+-- the register that a store shows: its own, and once it is broken the one from before the call that broke it
+abbrev pub shown : Bool → State → State → State
+shown true before register = before
+shown false before register = register
+
+-- what a store stands for, by the failures of its disk, its epoch, whether it is broken, its register before the call at hand, and its register
+abbrev pub stored_of : ℕ → Epoch → Bool → State → State → Stored
+stored_of failures epoch broken before register = record { register = shown broken before register; broken = broken; failures = failures; last = nat_le last_epoch epoch }
 
 -- nothing was done, or the command was accepted
 abbrev pub IsAfterOne : {B : Type 0} → State → Asked B → State → Type 0

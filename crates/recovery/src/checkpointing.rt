@@ -14,6 +14,7 @@ ghost use Rattle.recovery.specs.Refusals.{IsOfCheckpoint};
 ghost use Rattle.recovery.specs.Standing.{StandsFor};
 ghost use Rattle.recovery.specs.Lives.{IsCall, Open, Unanswered, view_of};
 
+use crate::before::Before;
 use crate::{Store, StoreFault};
 use centre_core::Register;
 use checkpoint::{CheckpointError, Layout, Side, switch, write_image};
@@ -79,6 +80,7 @@ impl<A: Allocator + Clone, D: Disk> Store<A, D> {
         ensures used_up { self.old.broken ≡ false → last_epoch ≤ self.old.epoch → result ≡ Err EpochsUsedUp }
         ensures epochs { IsErrOf result EpochsUsedUp → (last_epoch ≤ self.old.epoch) × (self.new.disk ≡ self.old.disk) × (self.new.broken ≡ false) }
         ensures fault { IsErrOf result DiskFault → HasFailed (D.view self.old.disk) (D.view self.new.disk) × (self.new.broken ≡ true) }
+        ensures shown { IsErrOf result DiskFault → self.new.before.value ≡ self.old.register }
         ensures kinds { IfErr result IsOfCheckpoint }
         ensures sound { OnOk result (self.new.broken ≡ false) }
         ensures later { (D.view self.old.disk).failures ≤ (D.view self.new.disk).failures }
@@ -90,6 +92,7 @@ impl<A: Allocator + Clone, D: Disk> Store<A, D> {
         if self.broken {
             return Err(StoreFault::Broken);
         }
+        self.before = Before::of(&self.register);
         let (side, epoch) = (self.side, self.epoch);
         match write_side(&mut self.disk, &self.layout, side, epoch, &self.register) {
             Ok(()) => {

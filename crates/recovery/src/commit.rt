@@ -21,6 +21,7 @@ ghost use Rattle.recovery.specs.Standing.{StandsFor};
 ghost use Rattle.recovery.specs.Lives.{IsAnsweredCall, IsCall, IsUnansweredCall, Open, Unanswered, view_of};
 
 use crate::batch::apply_all;
+use crate::before::Before;
 use crate::{Outcome, Store, StoreFault};
 use centre_core::Command;
 use sector_disk::Disk;
@@ -28,7 +29,10 @@ use std::alloc::Allocator;
 
 impl<A: Allocator + Clone, D: Disk> Store<A, D> {
     // A checkpoint where a record of these commands would not fit.
-    fn make_room<B: Allocator>(&mut self, commands: &[&Command<B>]) -> Result<(), StoreFault>
+    pub(crate) fn make_room<B: Allocator>(
+        &mut self,
+        commands: &[&Command<B>],
+    ) -> Result<(), StoreFault>
         requires { length commands.now ≤ most_commands }
         ensures any_moment { (D.view self.old.disk).honest → IsStored A self.old.layout self.old.side self.old.epoch self.old.journal.next self.old.register (D.view self.old.disk)
             → LeavesOnly (D.view self.old.disk) (D.view self.new.disk) (StandsFor A self.old.register) }
@@ -46,6 +50,7 @@ impl<A: Allocator + Clone, D: Disk> Store<A, D> {
         ensures memory { IsErrOf result NoMemory → ⊥ }
         ensures epochs { IsErrOf result EpochsUsedUp → (last_epoch ≤ self.old.epoch) × (room_of self.old.journal < data_size (record_text (given A commands.now))) × (self.new.disk ≡ self.old.disk) × (self.new.broken ≡ false) }
         ensures fault { IsErrOf result DiskFault → HasFailed (D.view self.old.disk) (D.view self.new.disk) × (self.new.broken ≡ true) }
+        ensures shown { IsErrOf result DiskFault → self.new.before.value ≡ self.old.register }
         ensures kinds { IfErr result IsOfCheckpoint }
         ensures sound { OnOk result (self.old.broken ≡ false → self.new.broken ≡ false) }
         ensures later { (D.view self.old.disk).failures ≤ (D.view self.new.disk).failures }
@@ -59,7 +64,10 @@ impl<A: Allocator + Clone, D: Disk> Store<A, D> {
     }
 
     // Adds a record of these commands to the journal, of none nothing. The register has them already.
-    fn add_record<B: Allocator>(&mut self, accepted: &[&Command<B>]) -> Result<(), StoreFault>
+    pub(crate) fn add_record<B: Allocator>(
+        &mut self,
+        accepted: &[&Command<B>],
+    ) -> Result<(), StoreFault>
         requires few { length accepted.now ≤ most_commands }
         requires fits { data_size (record_text (given A accepted.now)) ≤ room_of self.old.journal }
         ensures any_moment { (state : State) → IsHistory state (asked accepted.now) → (D.view self.old.disk).honest → IsStored A self.old.layout self.old.side self.old.epoch self.old.journal.next state (D.view self.old.disk)
@@ -70,6 +78,7 @@ impl<A: Allocator + Clone, D: Disk> Store<A, D> {
         ensures calls { OnOk result ((D.view self.new.disk).calls ≡ (D.view self.old.disk).calls ++ record_calls self.old.journal.next (given A accepted.now)) }
         ensures some_calls { HasMade (D.view self.old.disk) (D.view self.new.disk) (record_calls self.old.journal.next (given A accepted.now)) }
         ensures same { (self.new.layout ≡ self.old.layout) × (self.new.side ≡ self.old.side) × (self.new.epoch ≡ self.old.epoch) × (self.new.register ≡ self.old.register) }
+        ensures shown { self.new.before ≡ self.old.before }
         ensures fault { IfErr result (λ fault. (fault ≡ DiskFault) × HasFailed (D.view self.old.disk) (D.view self.new.disk) × (self.new.broken ≡ true)) }
         ensures sound { OnOk result (self.new.broken ≡ self.old.broken) }
         ensures later { (D.view self.old.disk).failures ≤ (D.view self.new.disk).failures }
@@ -135,6 +144,7 @@ impl<A: Allocator + Clone, D: Disk> Store<A, D> {
         ensures epochs { IsErrOf result EpochsUsedUp → (last_epoch ≤ self.old.epoch) × (room_of self.old.journal < data_size (record_text (given A commands.now))) × (self.new.disk ≡ self.old.disk) × (self.new.broken ≡ false) }
         ensures unmoved { IsErrOf result EpochsUsedUp → (self.new.side ≡ self.old.side) × (self.new.epoch ≡ self.old.epoch) × (self.new.journal ≡ self.old.journal) × (self.new.register ≡ self.old.register) }
         ensures fault { IsErrOf result DiskFault → HasFailed (D.view self.old.disk) (D.view self.new.disk) × (self.new.broken ≡ true) }
+        ensures shown { IsErrOf result DiskFault → self.new.before.value ≡ self.old.register }
         ensures kinds { IfErr result IsOfCommit }
         ensures sound { OnOk result (self.new.broken ≡ false) }
         ensures later { (D.view self.old.disk).failures ≤ (D.view self.new.disk).failures }
@@ -153,6 +163,7 @@ impl<A: Allocator + Clone, D: Disk> Store<A, D> {
         let mut outcomes = Vec::with_capacity(alloc, commands.len())?;
         let mut accepted = Vec::with_capacity(alloc, commands.len())?;
         self.make_room(commands)?;
+        self.before = Before::of(&self.register);
         apply_all(
             &mut self.register,
             alloc,

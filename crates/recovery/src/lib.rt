@@ -3,6 +3,7 @@
 #![tactic(auto)]
 
 mod batch;
+mod before;
 mod checkpointing;
 mod commit;
 mod fault;
@@ -15,6 +16,7 @@ mod outcome;
 mod records;
 mod serving;
 mod sides;
+mod single;
 mod store;
 
 pub use fault::StoreFault;

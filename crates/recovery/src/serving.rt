@@ -1,21 +1,19 @@
 //! A register that is kept on a disk as a desk: a command is a commit of one.
-ghost use Rattle.std.specs.Prelude.{◌≡◌, ◌≤◌, ◌++◌, ◌∷◌, [], Err, List, Ok, OnOk, true, false};
+ghost use Rattle.std.specs.Prelude.{◌≡◌, ◌≤◌, ◌++◌, ◌∷◌, [], IfOk, List, OnOk, true, false};
 ghost use Rattle.sector_disk.specs.Run.{HasMade, LeavesOnly};
 ghost use Rattle.centre_core.specs.Asked.{Asked};
 ghost use Rattle.gated_journal.specs.Record.{data_size, given, record_text};
 ghost use Rattle.gated_journal.specs.Settled.{room_of};
 ghost use Rattle.desk.specs.OfStore.{Stored, of_store};
-ghost use Rattle.desk.specs.declared.service.Service.TheVariants as service;
-ghost use Rattle.centre_core.specs.declared.reply.Reply.{Reply};
-ghost use Rattle.recovery.specs.declared.outcome.Outcome.TheVariants as outcome;
-ghost use Rattle.recovery.specs.declared.outcome.Outcome.TheVariants.{Replied};
+ghost use Rattle.desk.specs.Replies.{HasShortPdu};
 ghost use Rattle.recovery.specs.Calls.{commit_calls, fits_in};
 ghost use Rattle.recovery.specs.Stored.{IsStored};
 ghost use Rattle.recovery.specs.Outcomes.{AreRecorded, StandsForEither};
 ghost use Rattle.recovery.specs.Refusals.{IsOfCommit};
 ghost use Rattle.recovery.specs.Serving.{IsAfterOne, IsWordFor, stored_of};
 
-use crate::{Outcome, Store, StoreFault};
+use crate::{Store, StoreFault};
+use centre_core::laws::registers;
 use centre_core::{Command, Query, Reply, Told};
 use desk::{Desk, Service};
 use sector_disk::Disk;
@@ -24,7 +22,7 @@ use std::alloc::Allocator;
 impl<A: Allocator + Clone, D: Disk> Desk for Store<A, D> {
     ghost World = { Stored };
 
-    ghost world = { λ store. stored_of (D.view store.disk).failures store.epoch store.broken store.register };
+    ghost world = { λ store. stored_of (D.view store.disk).failures store.epoch store.broken store.before.value store.register };
 
     ghost rules = { of_store };
 
@@ -33,8 +31,9 @@ impl<A: Allocator + Clone, D: Disk> Desk for Store<A, D> {
         alloc: C,
         command: &Command<B>,
     ) -> Result<Reply<C>, Service>
-        ensures applies { of_store.applies (stored_of (D.view self.old.disk).failures self.old.epoch self.old.broken self.old.register) command.now result
-            (stored_of (D.view self.new.disk).failures self.new.epoch self.new.broken self.new.register) }
+        ensures applies { of_store.applies (stored_of (D.view self.old.disk).failures self.old.epoch self.old.broken self.old.before.value self.old.register) command.now result
+            (stored_of (D.view self.new.disk).failures self.new.epoch self.new.broken self.new.before.value self.new.register) }
+        ensures short { IfOk result HasShortPdu }
 
         // The register is as before, or the command was accepted; each stop leaves the disk standing for one of the two, and,
         // where the disk has not failed, for the register after the call.
@@ -55,15 +54,16 @@ impl<A: Allocator + Clone, D: Disk> Desk for Store<A, D> {
         ensures some_calls { (D.view self.old.disk).honest → (recorded : List (Asked A)) × AreRecorded A self.old.register (command.now ∷ []) self.new.register recorded
             × HasMade (D.view self.old.disk) (D.view self.new.disk) (commit_calls self.old.layout self.old.side self.old.epoch self.old.register (D.view self.old.disk).reads (fits_in A self.old.journal (command.entry ∷ [])) self.old.journal.next recorded) }
     {
-        match self.commit(alloc, &[command]) {
-            Ok(outcomes) => reply_of(outcomes),
+        registers(&self.register);
+        match self.commit_one(alloc, command) {
+            Ok(reply) => Ok(reply),
             Err(fault) => Err(service_of(fault)),
         }
     }
 
     fn query<C: Allocator + Copy>(&mut self, alloc: C, query: &Query) -> Result<Told<C>, Service>
-        ensures tells { of_store.tells (stored_of (D.view self.old.disk).failures self.old.epoch self.old.broken self.old.register) query.now result
-            (stored_of (D.view self.new.disk).failures self.new.epoch self.new.broken self.new.register) }
+        ensures tells { of_store.tells (stored_of (D.view self.old.disk).failures self.old.epoch self.old.broken self.old.before.value self.old.register) query.now result
+            (stored_of (D.view self.new.disk).failures self.new.epoch self.new.broken self.new.before.value self.new.register) }
 
         // Neither the store nor its disk is touched.
         ensures same { self.new ≡ self.old }
@@ -75,18 +75,6 @@ impl<A: Allocator + Clone, D: Disk> Desk for Store<A, D> {
             Ok(told) => Ok(told),
             Err(_) => Err(Service::Memory),
         }
-    }
-}
-
-// The reply to the last command of a commit.
-fn reply_of<C: Allocator>(outcomes: Vec<Outcome<C>, C>) -> Result<Reply<C>, Service>
-    ensures replied { (reply : Reply C) → outcomes.items ≡ Replied reply ∷ [] → result ≡ Ok reply }
-    ensures wanting { outcomes.items ≡ outcome.NoMemory ∷ [] → result ≡ Err service.Memory }
-{
-    let mut outcomes = outcomes;
-    match outcomes.pop() {
-        Some(Outcome::Replied(reply)) => Ok(reply),
-        _ => Err(Service::Memory),
     }
 }
 

@@ -12,6 +12,7 @@ ghost use Rattle.recovery.specs.Opens.{opening, opens};
 ghost use Rattle.recovery.specs.Opening.{Fails, HasNoFaultYet, IsOfOpening};
 
 use crate::StoreFault;
+use crate::before::Before;
 use crate::opening::{Opened, read_all};
 use centre_core::Register;
 use checkpoint::{Layout, Side};
@@ -28,6 +29,8 @@ pub struct Store<A: Allocator, D: Disk> {
     pub(crate) epoch: u64,
     pub(crate) journal: Journal<A>,
     pub(crate) register: Register<A>,
+    // The register as it was when the call at hand began: what a store shows that this call has broken.
+    pub(crate) before: Before<Register<A>>,
     pub(crate) broken: bool,
     ghost room: { disk_size layout ≤ (D.view disk).sectors },
     ghost limits: { register.registered.limits ≡ layout.limits },
@@ -85,6 +88,7 @@ impl<A: Allocator + Copy, D: Disk> Store<A, D> {
                     journal,
                     register,
                 } = opened;
+                let before = Before::of(&register);
                 Ok(Store {
                     disk,
                     layout,
@@ -92,6 +96,7 @@ impl<A: Allocator + Copy, D: Disk> Store<A, D> {
                     epoch,
                     journal,
                     register,
+                    before,
                     broken: false,
                 })
             }

@@ -9,10 +9,9 @@ use Rattle.console.specs.declared.serving.Run.{Run}
 use Rattle.console.specs.declared.running.Ran.{Ran}
 use Rattle.console.specs.declared.running.Piece.{Piece}
 use Rattle.console.specs.declared.running.RunFault.{RunFault}
-use Rattle.console.specs.declared.running.RunFault.TheVariants.{Read, Write, NoMemory}
 use Rattle.console.specs.declared.running.Piece.TheVariants.{End, Bytes}
 use Rattle.console.specs.declared.answer.Answer.{Answer}
-use Rattle.console.specs.Answer.{text, texts, is_trouble, HasNoLongPdu}
+use Rattle.console.specs.Answer.{text, texts, is_trouble}
 use Rattle.desk.specs.Rules.{Rules}
 use Rattle.console.specs.Dialogue.{Dialogue}
 use Rattle.console.specs.Runs.{Start, Outcome, HasRun}
@@ -90,12 +89,6 @@ module _ {A : Type 0} where
   abbrev pub SendsFront : ℕ → Option (List ℕ) → Answer A → Option (List Byte) → Type 0
   SendsFront count held answer now = (before : List ℕ) → held ≡ Some before →
       (given : Answer A) × (part : List ℕ) × (missing : List ℕ) × StandsIn (count + 1) answer given × (text given ≡ part ++ missing) × (now ≡ Some (before ++ part))
-
-  -- why an answer is not written: the writer failed; or there is no memory for it, and it has so long a PDU
-  abbrev pub LeavesUnsent : Answer A → RunFault → Type 0
-  LeavesUnsent answer Write = Unit {0}
-  LeavesUnsent answer NoMemory = HasNoLongPdu answer → ⊥
-  LeavesUnsent answer Read = ⊥
 
 -- what a call of the reader gave, of the bytes that it had left
 abbrev pub FitsPiece : Piece → ℕ → Type 0

@@ -4,7 +4,7 @@ use Rattle.std.proofs.lemmas.Result.{err_from_is_err_and}
 use Rattle.console.specs.declared.running.Piece.{Piece}
 use Rattle.console.specs.declared.running.RunFault.TheVariants.{Read}
 use Rattle.console.specs.Inside.Feed.{IsPiece, FitsPiece, stand_of, start_at}
-use Rattle.console.proofs.Answering.{never_read, only_long}
+use Rattle.console.proofs.Answering.{never_read, never_memory}
 use Rattle.console.proofs.Writing.{at_the_end, passed_on}
 use Rattle.console.proofs.Going.{going_start, short_between, run_same, still_same}
 use Rattle.console.proofs.serving.Run.take_all.Goals as goal
@@ -78,7 +78,7 @@ returns-clause-answers g c = λ input before known held.
     run_same g.row.A.Denot g.D.Desk.rules start before _ input (Err Read) _ (g.D.Desk.world c.loop.self.desk.now) _ (sym so.3) refl (short_between g.D.Desk.rules start before so.0 so.1 _ Read so.4)
 
 pub returns-in-End-clause-read : goal.returns-in-End-clause-read
-returns-in-End-clause-read g c = λ failed. absurd (never_read g.row.A.Denot g.D.Desk.rules c.finish.result c.finish.ensures.stops failed)
+returns-in-End-clause-read g c = λ failed. absurd (never_read c.finish.result c.finish.ensures.stops failed)
 
 pub returns-in-End-clause-memory : goal.returns-in-End-clause-memory
-returns-in-End-clause-memory g c = only_long g.row.A.Denot g.D.Desk.rules c.finish.result c.finish.ensures.stops
+returns-in-End-clause-memory g c = never_memory c.finish.result c.finish.ensures.stops

@@ -1,8 +1,5 @@
 use Rattle.std.proofs.Common.{refl}
 use Rattle.std.proofs.lemmas.Result.{on_ok_weaker, IfErr-weaker}
-use Rattle.console.specs.Dialogue.{Stops}
-use Rattle.console.specs.Inside.Feed.{LeavesUnsent}
-use Rattle.console.proofs.Answering.{stops_unsent}
 use Rattle.console.proofs.Going.{goes_on, stops_within}
 use Rattle.console.proofs.serving.Run.take_line.Goals as goal
 
@@ -17,8 +14,3 @@ returns-clause-err g c = IfErr-weaker c.send_answer.result _ _ (λ fault sends. 
     stops_within g.D.Desk.rules start before taken rest _ fault _ _ c.args.run.now c.answer_line-answer.result c.requires.plain sends
     (λ line holds. c.answer_line-answer.ensures.answers _ (c.ended.ensures line (c.join.ensures line holds))) i)
     c.send_answer.ensures.err
-
-pub returns-clause-stops : goal.returns-clause-stops
-returns-clause-stops g c = IfErr-weaker c.send_answer.result (λ e. LeavesUnsent c.answer_line-answer.result e) (λ e. Stops g.row.A.Denot g.D.Desk.rules e)
-    (λ e. stops_unsent g.D.Desk.rules c.answer_line-answer.result e c.answer_line-answer.ensures.long)
-    c.send_answer.ensures.stops

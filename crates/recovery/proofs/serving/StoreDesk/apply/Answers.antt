@@ -1,32 +1,24 @@
-use Rattle.std.proofs.Common.{rules, ◌≡◌, Err, ap, arith, false, sym, ◌∙◌}
-use Rattle.std.proofs.lemmas.Bool.{true≢false}
-use Rattle.mailbox.proofs.Results.{known_ok}
-use Rattle.recovery.proofs.OneCommand.{after_answered, after_refused, by_rule, by_each_fault, one_answered, was_sound}
+use Rattle.std.proofs.Common.{rules, ◌≡◌, Err, ap}
+use Rattle.desk.proofs.ShortReplies.{replied_short}
+use Rattle.recovery.specs.Serving.{stored_of}
+use Rattle.recovery.proofs.OneCommand.{by_fault, by_reply}
 use Rattle.recovery.proofs.serving.StoreDesk.apply.Goals as goal
 
 pub returns-in-Ok-clause-applies : goal.returns-in-Ok-clause-applies
 returns-in-Ok-clause-applies g c =
-    let was : c.args.self.now.broken ≡ false = was_sound c.args.self.now.broken c.in-Ok.outcomes _ c.in-Ok.ensures.broken in
-    let is : c.commit.new.self.broken ≡ false = search rules in
-    by_rule _ _ c.args.command.now c.reply_of.result c.in-Ok.outcomes.items was is (one_answered c.args.self.now.register c.args.command.now c.commit.new.self.register c.in-Ok.outcomes.items c.in-Ok.ensures.outcomes) c.reply_of.ensures.replied c.reply_of.ensures.wanting
+    let old = c.args.self.now in let new = c.commit_one.new.self in
+    by_reply (g.D.Disk.view old.disk).failures (g.D.Disk.view new.disk).failures old.epoch new.epoch old.broken new.broken old.before.value new.before.value old.register new.register c.args.command.now c.in-Ok.reply
+    c.in-Ok.ensures.sound.0 c.in-Ok.ensures.sound.1 c.in-Ok.ensures.replied
 
-pub returns-in-Ok-clause-register : goal.returns-in-Ok-clause-register
-returns-in-Ok-clause-register g c = after_answered c.args.self.now.register c.args.command.now c.commit.new.self.register c.in-Ok.outcomes.items c.in-Ok.ensures.outcomes
+pub returns-in-Ok-clause-short : goal.returns-in-Ok-clause-short
+returns-in-Ok-clause-short g c = replied_short g.row.C.Denot c.args.self.now.register c.args.command.now c.commit_one.new.self.register c.in-Ok.reply c.in-Ok.ensures.replied c.registers.ensures.ranges
 
-pub returns-in-Ok-clause-broken : goal.returns-in-Ok-clause-broken
-returns-in-Ok-clause-broken g c was = absurd (true≢false (sym was ∙ was_sound c.args.self.now.broken c.in-Ok.outcomes _ c.in-Ok.ensures.broken))
-
-pub returns-in-Ok-clause-calls : goal.returns-in-Ok-clause-calls
-returns-in-Ok-clause-calls g c = known_ok c.reply_of.result (λ honest. c.in-Ok.ensures.calls (omega arith) honest)
-
-pub returns-in-Err-clause-register : goal.returns-in-Err-clause-register
-returns-in-Err-clause-register g c = after_refused c.args.self.now.register c.args.command.now c.commit.new.self.register c.in-Err.ensures.register
-
-pub returns-in-Err-clause-kept : goal.returns-in-Err-clause-kept
-returns-in-Err-clause-kept g c sound honest stored =
-    let stays = c.in-Err.ensures.unmoved in
-    by_each_fault c.in-Err.fault _ c.in-Err.ensures.kinds
-    (λ is. rw (c.in-Err.ensures.only_broken (ap Err is)).1 stored)
-    (λ is. rw (c.in-Err.ensures.memory (ap Err is)) stored)
-    (λ is. rw (c.in-Err.ensures.layout, (stays (ap Err is)).0, (stays (ap Err is)).1, (stays (ap Err is)).2, (stays (ap Err is)).3, (c.in-Err.ensures.epochs (ap Err is)).2) stored)
-    (λ is. absurd (true≢false (sym (c.in-Err.ensures.fault (ap Err is)).1 ∙ sound)))
+pub returns-in-Err-clause-applies : goal.returns-in-Err-clause-applies
+returns-in-Err-clause-applies g c =
+    let old = c.args.self.now in let new = c.commit_one.new.self in
+    by_fault (g.D.Disk.view old.disk).failures (g.D.Disk.view new.disk).failures old.epoch new.epoch old.broken new.broken old.before.value new.before.value old.register new.register c.args.command.now c.in-Err.fault
+    c.service_of.result c.in-Err.ensures.kinds c.service_of.ensures
+    (λ is. ((c.in-Err.ensures.only_broken (ap Err is)).0, ap (λ self. stored_of (g.D.Disk.view self.disk).failures self.epoch self.broken self.before.value self.register) (c.in-Err.ensures.only_broken (ap Err is)).1))
+    (λ is. c.in-Err.ensures.memory (ap Err is))
+    (λ is. let e = c.in-Err.ensures.epochs (ap Err is) in (e.0, e.1, e.2, e.3, ap (λ disk. (g.D.Disk.view disk).failures) e.4, e.5))
+    (λ is. c.in-Err.ensures.fault (ap Err is))
