@@ -51,7 +51,7 @@ module _ {B : Type 0} where
 
   -- ---- the accepted ones of a list, by whether its first is one
 
-  abbrev first_or : Bool → Asked B → List (Asked B) → List (Asked B)
+  abbrev pub first_or : Bool → Asked B → List (Asked B) → List (Asked B)
   first_or b c cs = if b then c ∷ cs else cs
 
   history_by : (s : State) (c : Asked B) (rest : List (Asked B)) (b : Bool) → accepts s c ≡ b → IsHistory (next s c) rest → IsHistory s (first_or b c rest)

@@ -16,3 +16,5 @@ mod Replayed
 mod Stood
 mod Synced
 mod Ranged
+mod Lived
+mod Events

@@ -9,4 +9,5 @@ pub mod Outcomes
 pub mod Refusals
 pub mod Serving
 pub mod Lasting
+pub mod Lives
 pub mod Inside

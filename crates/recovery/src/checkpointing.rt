@@ -1,6 +1,6 @@
 //! A checkpoint of a register that is kept on a disk.
 
-ghost use Rattle.std.specs.Prelude.{◌≡◌, ◌+◌, ◌<◌, ◌≤◌, ◌++◌, Err, IfErr, IsErrOf, OnErr, OnOk, true, false};
+ghost use Rattle.std.specs.Prelude.{◌≡◌, ◌+◌, ◌<◌, ◌≤◌, ◌++◌, [], Err, IfErr, IsErrOf, OnErr, OnOk, true, false};
 ghost use Rattle.sector_disk.specs.Disk.{HasFailed};
 ghost use Rattle.sector_disk.specs.Run.{HasMade, LeavesOnly};
 ghost use Rattle.image_rows.specs.Rows.{last_epoch};
@@ -12,6 +12,7 @@ ghost use Rattle.recovery.specs.Calls.{checkpoint_calls};
 ghost use Rattle.recovery.specs.Stored.{IsStored};
 ghost use Rattle.recovery.specs.Refusals.{IsOfCheckpoint};
 ghost use Rattle.recovery.specs.Standing.{StandsFor};
+ghost use Rattle.recovery.specs.Lives.{IsCall, Open, Unanswered, view_of};
 
 use crate::before::Before;
 use crate::{Store, StoreFault};
@@ -84,6 +85,9 @@ impl<A: Allocator + Clone, D: Disk> Store<A, D> {
         ensures sound { OnOk result (self.new.broken ≡ false) }
         ensures later { (D.view self.old.disk).failures ≤ (D.view self.new.disk).failures }
         ensures honest { (D.view self.old.disk).honest → (D.view self.new.disk).honest }
+
+        // In the life of the disk it is a call that accepts nothing.
+        ensures call { (D.view self.old.disk).honest → IsCall A D.view (Open (view_of self.old)) (Unanswered []) (Open (view_of self.new)) }
     {
         if self.broken {
             return Err(StoreFault::Broken);

@@ -18,6 +18,7 @@ ghost use Rattle.recovery.specs.Stored.{IsStored};
 ghost use Rattle.recovery.specs.Outcomes.{AreRecorded, IsAfterBatch, IsAnswered, StandsForEither, accepted_of, asked};
 ghost use Rattle.recovery.specs.Refusals.{IsOfCheckpoint, IsOfCommit};
 ghost use Rattle.recovery.specs.Standing.{StandsFor};
+ghost use Rattle.recovery.specs.Lives.{IsAnsweredCall, IsCall, IsUnansweredCall, Open, Unanswered, view_of};
 
 use crate::batch::apply_all;
 use crate::before::Before;
@@ -54,6 +55,7 @@ impl<A: Allocator + Clone, D: Disk> Store<A, D> {
         ensures sound { OnOk result (self.old.broken ≡ false → self.new.broken ≡ false) }
         ensures later { (D.view self.old.disk).failures ≤ (D.view self.new.disk).failures }
         ensures honest { (D.view self.old.disk).honest → (D.view self.new.disk).honest }
+        ensures call { (D.view self.old.disk).honest → IsCall A D.view (Open (view_of self.old)) (Unanswered []) (Open (view_of self.new)) }
     {
         if self.journal.has_room(commands) {
             return Ok(());
@@ -147,6 +149,10 @@ impl<A: Allocator + Clone, D: Disk> Store<A, D> {
         ensures sound { OnOk result (self.new.broken ≡ false) }
         ensures later { (D.view self.old.disk).failures ≤ (D.view self.new.disk).failures }
         ensures honest { (D.view self.old.disk).honest → (D.view self.new.disk).honest }
+
+        // In the life of the disk it is a call that is answered with these outcomes, or one that is not.
+        ensures answered { IfOk result (λ outcomes. (D.view self.old.disk).honest → IsAnsweredCall A D.view (view_of self.old) (asked commands.now) outcomes.items (view_of self.new)) }
+        ensures unanswered { OnErr result ((D.view self.old.disk).honest → IsUnansweredCall A D.view (view_of self.old) (asked commands.now) (view_of self.new)) }
     {
         if self.broken {
             return Err(StoreFault::Broken);

@@ -1,5 +1,5 @@
 //! A disk made ready for an empty register.
-ghost use Rattle.std.specs.Prelude.{◌≡◌, ◌≤◌, ◌<◌, ◌++◌, Err, IfErr, IsErrOf, List, Ok, OnOk};
+ghost use Rattle.std.specs.Prelude.{◌≡◌, ◌≤◌, ◌<◌, ◌++◌, [], Err, IfErr, IsErrOf, List, Ok, OnOk};
 ghost use Rattle.sector_disk.specs.Disk.{HasCause, HasFailed};
 ghost use Rattle.sector_disk.specs.Run.{HasMade};
 ghost use Rattle.sector_disk.specs.declared.disk.DiskError.TheVariants.{OutOfRange};
@@ -12,6 +12,7 @@ ghost use Rattle.recovery.specs.Calls.{first_header, format_calls, label_sector,
 ghost use Rattle.recovery.specs.Opens.{opening, opens};
 ghost use Rattle.recovery.specs.Inside.Sides.{AreReady};
 ghost use Rattle.recovery.specs.Standing.{first_base};
+ghost use Rattle.recovery.specs.Lives.{Closed, IsLife};
 
 use crate::StoreFault;
 use checkpoint::{Layout, Side};
@@ -96,6 +97,9 @@ pub fn format<A: Allocator, D: Disk>(disk: &mut D, layout: &Layout) -> Result<()
     ensures sectors { (D.view disk.new).sectors ≡ (D.view disk.old).sectors }
     ensures later { (D.view disk.old).failures ≤ (D.view disk.new).failures }
     ensures honest { (D.view disk.old).honest → (D.view disk.new).honest }
+
+    // The life of the disk begins.
+    ensures begins { OnOk result ((D.view disk.old).honest → IsLife A D.view layout.now.limits [] (Closed disk.new)) }
 {
     if disk.sectors() < layout.sectors() {
         return Err(StoreFault::BadGeometry);

@@ -1,10 +1,10 @@
 // The label of a disk, read.
-ghost use Rattle.std.specs.Prelude.{◌≡◌, ◌⊎◌, ◌≤◌, IfErr, IfOk, IsErrOf, length};
+ghost use Rattle.std.specs.Prelude.{◌≡◌, ◌⊎◌, ◌≤◌, ℕ, IfErr, IfOk, IsErrOf, length};
 ghost use Rattle.sector_disk.specs.Disk.{HasFailed};
 ghost use Rattle.sector_disk.specs.Reading.{before_reads};
 ghost use Rattle.sector_disk.specs.Run.{HasLooked};
 ghost use Rattle.checkpoint.specs.Layout.{disk_size};
-ghost use Rattle.recovery.specs.declared.fault.StoreFault.TheVariants.{BadGeometry, DiskFault, Unformatted};
+ghost use Rattle.recovery.specs.declared.fault.StoreFault.TheVariants.{BadGeometry, Damaged, DiskFault, Unformatted};
 ghost use Rattle.recovery.specs.Label.{fitting, layout_at, layout_behind, layout_in, layout_told, told_at};
 ghost use Rattle.recovery.specs.Opening.{Gives, IsOfDisk};
 
@@ -102,6 +102,7 @@ pub(crate) fn read_layout<D: Disk>(disk: &mut D) -> Result<Layout, StoreFault>
     ensures exact { (D.view disk.old).honest → Gives (λ layout. layout) result (layout_in (D.view disk.old).reads) }
     ensures room { IfOk result (λ layout. disk_size layout ≤ (D.view disk.old).sectors) }
     ensures kinds { IfErr result IsOfDisk }
+    ensures on_disk { (at : ℕ) → IsErrOf result (Damaged at) → ⊥ }
     ensures looked { (D.view disk.old).honest → HasLooked (D.view disk.old) (D.view disk.new) }
     ensures only_reads { before_reads (D.view disk.new).calls ≡ before_reads (D.view disk.old).calls }
     ensures fault { IsErrOf result DiskFault → HasFailed (D.view disk.old) (D.view disk.new) }

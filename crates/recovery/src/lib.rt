@@ -10,6 +10,7 @@ mod fault;
 mod formatting;
 mod label;
 pub mod laws;
+pub mod lives;
 mod opening;
 mod outcome;
 mod records;

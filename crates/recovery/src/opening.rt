@@ -1,11 +1,11 @@
 // A disk, read from its label to its last record.
-ghost use Rattle.std.specs.Prelude.{◌≡◌, ◌⊎◌, ◌<◌, ◌≤◌, IfErr, IfOk, IsErrOf, OnOk};
+ghost use Rattle.std.specs.Prelude.{◌≡◌, ◌⊎◌, ◌<◌, ◌≤◌, ℕ, IfErr, IfOk, IsErrOf, OnOk};
 ghost use Rattle.sector_disk.specs.Disk.{HasFailed};
 ghost use Rattle.sector_disk.specs.Reading.{before_reads};
 ghost use Rattle.sector_disk.specs.Run.{HasLooked};
 ghost use Rattle.gated_journal.specs.Reading.{HasRecords};
 ghost use Rattle.checkpoint.specs.Layout.{disk_size, half_at, half_end};
-ghost use Rattle.recovery.specs.declared.fault.StoreFault.TheVariants.{DiskFault, NoMemory};
+ghost use Rattle.recovery.specs.declared.fault.StoreFault.TheVariants.{Damaged, DiskFault, NoMemory};
 ghost use Rattle.recovery.specs.Opens.{opens, opens_by, played_by};
 ghost use Rattle.recovery.specs.Opening.{AreGoodSoFar, EndsAt, Gives, HasNoFaultYet, IsOfOpening};
 ghost use Rattle.recovery.specs.Inside.Opened.{IsWhole, opened_view};

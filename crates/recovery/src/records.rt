@@ -8,7 +8,7 @@ ghost use Rattle.gated_journal.specs.Reading.{HasRecords};
 ghost use Rattle.centre_core.specs.State.{State};
 ghost use Rattle.checkpoint.specs.Layout.{disk_size, slot_at};
 ghost use Rattle.checkpoint.specs.Reading.{IsGoodSoFar, image_looks};
-ghost use Rattle.recovery.specs.declared.fault.StoreFault.TheVariants.{DiskFault, NoMemory};
+ghost use Rattle.recovery.specs.declared.fault.StoreFault.TheVariants.{Damaged, DiskFault, NoMemory};
 ghost use Rattle.recovery.specs.Opens.{base_in, held_by, played_from, run, taken};
 ghost use Rattle.recovery.specs.Opening.{BeginsWith, EndsAt, Fails, Gives, IsOfOpening, PlaysOn, PlaysTo, Stops, StopsAt};
 
@@ -57,6 +57,7 @@ fn play_record<A: Allocator + Copy>(
     ensures exact { PlaysTo result register.new (taken at (run register.old commands.now)) }
     ensures limits { register.new.registered.limits ≡ register.old.registered.limits }
     ensures kinds { IfErr result IsOfOpening }
+    ensures here { (s : ℕ) → IsErrOf result (Damaged s) → s ≡ at }
     ensures device { IsErrOf result DiskFault → ⊥ }
 {
     for command in commands {
@@ -86,6 +87,7 @@ fn play_next<A: Allocator + Copy, D: Disk>(
     ensures next { journal.new.next < journal.old.end }
     ensures on { IfOk result (λ more. more ≡ true → journal.old.next < journal.new.next) }
     ensures kinds { IfErr result IsOfOpening }
+    ensures damaged { (at : ℕ) → IsErrOf result (Damaged at) → at < journal.old.end }
     ensures looked { (D.view disk.old).honest → HasLooked (D.view disk.old) (D.view disk.new) }
     ensures only_reads { before_reads (D.view disk.new).calls ≡ before_reads (D.view disk.old).calls }
     ensures fault { IsErrOf result DiskFault → HasFailed (D.view disk.old) (D.view disk.new) }
@@ -116,6 +118,7 @@ fn play_on<A: Allocator + Copy, D: Disk>(
     ensures end { journal.new.end ≡ journal.old.end }
     ensures next { journal.new.next < journal.old.end }
     ensures kinds { IfErr result IsOfOpening }
+    ensures damaged { (at : ℕ) → IsErrOf result (Damaged at) → at < journal.old.end }
     ensures looked { (D.view disk.old).honest → HasLooked (D.view disk.old) (D.view disk.new) }
     ensures only_reads { before_reads (D.view disk.new).calls ≡ before_reads (D.view disk.old).calls }
     ensures fault { IsErrOf result DiskFault → HasFailed (D.view disk.old) (D.view disk.new) }
@@ -138,6 +141,7 @@ fn first_fault<A: Allocator, D: Disk>(
     ensures memory { result ≡ NoMemory → (D.view disk.old).honest → HasRecords A (D.view disk.old).reads journal.old.next journal.old.end }
     ensures same { journal.new ≡ journal.old }
     ensures kinds { IsOfOpening fault → IsOfOpening result }
+    ensures damaged { (at : ℕ) → result ≡ Damaged at → (fault ≡ Damaged at) ⊎ (at < journal.old.end) }
     ensures looked { (D.view disk.old).honest → HasLooked (D.view disk.old) (D.view disk.new) }
     ensures only_reads { before_reads (D.view disk.new).calls ≡ before_reads (D.view disk.old).calls }
     ensures device { result ≡ DiskFault → (fault ≡ DiskFault) ⊎ HasFailed (D.view disk.old) (D.view disk.new) }
@@ -170,6 +174,7 @@ pub(crate) fn play<A: Allocator + Copy, D: Disk>(
     ensures end { journal.new.end ≡ journal.old.end }
     ensures next { journal.new.next < journal.old.end }
     ensures kinds { IfErr result IsOfOpening }
+    ensures damaged { (at : ℕ) → IsErrOf result (Damaged at) → at < journal.old.end }
     ensures looked { (D.view disk.old).honest → HasLooked (D.view disk.old) (D.view disk.new) }
     ensures only_reads { before_reads (D.view disk.new).calls ≡ before_reads (D.view disk.old).calls }
     ensures fault { IsErrOf result DiskFault → HasFailed (D.view disk.old) (D.view disk.new) }

@@ -1,5 +1,5 @@
 // The sides of a disk, and which of them counts.
-ghost use Rattle.std.specs.Prelude.{◌≡◌, ◌⊎◌, ◌≤◌, ℕ, IfErr, IsErrOf};
+ghost use Rattle.std.specs.Prelude.{◌≡◌, ◌⊎◌, ◌<◌, ◌≤◌, ℕ, IfErr, IsErrOf};
 ghost use Rattle.sector_disk.specs.Disk.{HasFailed};
 ghost use Rattle.sector_disk.specs.Reading.{before_reads};
 ghost use Rattle.sector_disk.specs.Run.{HasLooked};
@@ -31,6 +31,7 @@ fn read_epoch<D: Disk>(disk: &mut D, layout: &Layout, side: Side) -> Result<Opti
     requires room { disk_size layout.now ≤ (D.view disk.old).sectors }
     ensures exact { (D.view disk.old).honest → Gives (λ epoch. epoch) result (side_at layout.now side (D.view disk.old).reads) }
     ensures kinds { IfErr result IsOfDisk }
+    ensures on_disk { (at : ℕ) → IsErrOf result (Damaged at) → at < (D.view disk.old).sectors }
     ensures looked { (D.view disk.old).honest → HasLooked (D.view disk.old) (D.view disk.new) }
     ensures only_reads { before_reads (D.view disk.new).calls ≡ before_reads (D.view disk.old).calls }
     ensures fault { IsErrOf result DiskFault → HasFailed (D.view disk.old) (D.view disk.new) }
@@ -54,6 +55,7 @@ fn read_epoch<D: Disk>(disk: &mut D, layout: &Layout, side: Side) -> Result<Opti
 fn chosen(a: Option<u64>, b: Option<u64>) -> Result<Side, StoreFault>
     ensures value { result ≡ chosen a b }
     ensures kinds { IfErr result IsOfDisk }
+    ensures roots { (at : ℕ) → IsErrOf result (Damaged at) → at < 3 }
     ensures fault { IsErrOf result DiskFault → ⊥ }
 {
     match (a, b) {
@@ -77,6 +79,7 @@ pub(crate) fn read_side<D: Disk>(disk: &mut D, layout: &Layout) -> Result<Side, 
     requires room { disk_size layout.now ≤ (D.view disk.old).sectors }
     ensures exact { (D.view disk.old).honest → Gives (λ side. side) result (side_in layout.now (D.view disk.old).reads) }
     ensures kinds { IfErr result IsOfDisk }
+    ensures on_disk { (at : ℕ) → IsErrOf result (Damaged at) → at < (D.view disk.old).sectors }
     ensures looked { (D.view disk.old).honest → HasLooked (D.view disk.old) (D.view disk.new) }
     ensures only_reads { before_reads (D.view disk.new).calls ≡ before_reads (D.view disk.old).calls }
     ensures fault { IsErrOf result DiskFault → HasFailed (D.view disk.old) (D.view disk.new) }

@@ -1,12 +1,12 @@
 //! A register that is kept on a disk.
-ghost use Rattle.std.specs.Prelude.{◌≡◌, ◌⊎◌, ◌≤◌, ◌<◌, ◌++◌, ◌∷◌, [], IfErr, IfOk, Ok, true, false, Some, None, option_map};
+ghost use Rattle.std.specs.Prelude.{◌≡◌, ◌⊎◌, ◌≤◌, ◌<◌, ◌++◌, ◌∷◌, ℕ, [], IfErr, IfOk, Ok, true, false, Some, None, option_map};
 ghost use Rattle.sector_disk.specs.Disk.{HasFailed, IsImageOf};
 ghost use Rattle.sector_disk.specs.Reading.{before_reads};
 ghost use Rattle.sector_disk.specs.Run.{LeavesOnly};
 ghost use Rattle.sector_disk.specs.declared.record.Call.TheVariants.{Sync};
 ghost use Rattle.checkpoint.specs.Layout.{disk_size, half_at, half_end};
 ghost use Rattle.checkpoint.specs.Standing.{InEach};
-ghost use Rattle.recovery.specs.declared.fault.StoreFault.TheVariants.{DiskFault, NoMemory};
+ghost use Rattle.recovery.specs.declared.fault.StoreFault.TheVariants.{Damaged, DiskFault, NoMemory};
 ghost use Rattle.recovery.specs.Stored.{IsStored};
 ghost use Rattle.recovery.specs.Opens.{opening, opens};
 ghost use Rattle.recovery.specs.Opening.{Fails, HasNoFaultYet, IsOfOpening};
@@ -40,6 +40,8 @@ pub struct Store<A: Allocator, D: Disk> {
 }
 
 impl<A: Allocator + Copy, D: Disk> Store<A, D> {
+    ghost use Rattle.recovery.specs.Lives.{Answered, Closed, IsCall, Open, view_of};
+
     /// Opens the register that is kept on a disk, under `alloc`; a fault gives the disk back. The disk is synced first,
     /// and then only read.
     ///
@@ -66,6 +68,12 @@ impl<A: Allocator + Copy, D: Disk> Store<A, D> {
         // It does not give up by itself.
         ensures fault { IfErr result (λ e. e.0 ≡ DiskFault → HasFailed (D.view disk) (D.view e.1)) }
         ensures kinds { IfErr result (λ e. IsOfOpening e.0) }
+        ensures honest { IfOk result (λ store. (D.view disk).honest → (D.view store.disk).honest) }
+        ensures honest_by { IfErr result (λ e. (D.view disk).honest → (D.view e.1).honest) }
+
+        // In the life of the disk it is a call that accepts nothing: a store is opened, or the disk is given back.
+        ensures call { IfOk result (λ store. (D.view disk).honest → IsCall A D.view (Closed disk) (Answered []) (Open (view_of store))) }
+        ensures call_by { IfErr result (λ e. (D.view disk).honest → IsCall A D.view (Closed disk) (Answered []) (Closed e.1)) }
     {
         let mut disk = disk;
         let Ok(()) = disk.sync() else {
@@ -98,6 +106,8 @@ impl<A: Allocator + Copy, D: Disk> Store<A, D> {
 }
 
 impl<A: Allocator, D: Disk> Store<A, D> {
+    ghost use Rattle.recovery.specs.Lives.{Answered, Closed, IsCall, Open, view_of};
+
     /// The register; `None` once the device has failed in a call.
     pub fn register(&self) -> Option<&Register<A>>
         ensures broken { self.now.broken ≡ true → result ≡ None }
@@ -111,7 +121,8 @@ impl<A: Allocator, D: Disk> Store<A, D> {
 
     /// Gives the disk back.
     pub fn into_disk(self) -> D
-        ensures { result ≡ self.disk }
+        ensures disk { result ≡ self.disk }
+        ensures call { IsCall A D.view (Open (view_of self)) (Answered []) (Closed result) }
     {
         self.disk
     }

@@ -10,6 +10,8 @@ mod formats;
 #[cfg(test)]
 mod greatest;
 #[cfg(test)]
+mod group_message;
+#[cfg(test)]
 mod made;
 #[cfg(test)]
 mod opens;

@@ -2,7 +2,7 @@
 
 use centre_core::{Body, Command, Sequence};
 use checkpoint::Layout;
-use identity::{BitWriter, Bits, Itsi, Prefix};
+use identity::{BitWriter, Bits, Gtsi, Itsi, Prefix};
 use mailbox::Moment;
 use mm_pdus::Lifetime;
 use recovery::format;
@@ -60,8 +60,19 @@ pub fn receiver() -> Option<Itsi> {
     Itsi::from_number(0x3a80_0e00_07d2)
 }
 
+/// The radio 234-14-2003.
+pub fn outsider() -> Option<Itsi> {
+    Itsi::from_number(0x3a80_0e00_07d3)
+}
+
+/// The group 234-14-1000.
+pub fn group() -> Option<Gtsi> {
+    Gtsi::from_number(0x3a80_0e00_03e8)
+}
+
 /// The ITSI attach of a radio, with this sequence of station 1: 23 bytes.
-fn attach_of(alloc: Global, sequence: u32, itsi: Itsi) -> Option<Command<Global>> {
+pub fn attach_of(alloc: Global, sequence: u32, itsi: Option<Itsi>) -> Option<Command<Global>> {
+    let itsi = itsi?;
     let area = LocationArea::new(7)?;
     let mut writer = BitWriter::new(alloc);
     writer.put(0x98, 10).ok()?;
@@ -71,12 +82,12 @@ fn attach_of(alloc: Global, sequence: u32, itsi: Itsi) -> Option<Command<Global>
 
 /// The ITSI attach of 234-14-2001, sequence 2 of station 1: 23 bytes.
 pub fn attach(alloc: Global) -> Option<Command<Global>> {
-    attach_of(alloc, 2, sender()?)
+    attach_of(alloc, 2, sender())
 }
 
 /// The ITSI attach of 234-14-2002, sequence 3 of station 1: 23 bytes.
 pub fn second_attach(alloc: Global) -> Option<Command<Global>> {
-    attach_of(alloc, 3, receiver()?)
+    attach_of(alloc, 3, receiver())
 }
 
 /// An SDS-TRANSFER of text messaging that asks for no report, with this reference: its user data are so many times 48
@@ -103,6 +114,31 @@ pub fn message(alloc: Global, sequence: u32, reference: u8, times: u32) -> Optio
         pdu,
     };
     made(1, sequence, Moment::new(20), body)
+}
+
+/// The attachment of a radio to that group, with this sequence of station 1: the PDU `60:7380480A00007D0`.
+pub fn attach_to_group(
+    alloc: Global,
+    sequence: u32,
+    itsi: Option<Itsi>,
+) -> Option<Command<Global>> {
+    let itsi = itsi?;
+    let area = LocationArea::new(7)?;
+    let mut writer = BitWriter::new(alloc);
+    writer.put(0x73_8048, 24).ok()?;
+    writer.put(0x0_a000_07d0, 36).ok()?;
+    let pdu = writer.finish();
+    made(1, sequence, Moment::new(20), Body::Mm { itsi, area, pdu })
+}
+
+/// The message `48:820406014849` from 234-14-2003 to that group at moment 120, with this sequence of station 1.
+pub fn group_message(alloc: Global, sequence: u32) -> Option<Command<Global>> {
+    let (source, group) = (outsider()?, group()?);
+    let mut writer = BitWriter::new(alloc);
+    writer.put(0x8204_0601_4849, 48).ok()?;
+    let pdu = writer.finish();
+    let body = Body::GroupSds { source, group, pdu };
+    made(1, sequence, Moment::new(120), body)
 }
 
 /// An expiry of station 2 with this sequence: 11 bytes.

@@ -1,9 +1,13 @@
-use Rattle.std.proofs.Common.{◌≤◌, ◌∷◌, [], arith}
+use Rattle.std.proofs.Common.{◌≤◌, ◌∷◌, [], arith, refl}
 use Rattle.sector_disk.specs.Disk.{View}
 use Rattle.sector_disk.specs.declared.record.Call.TheVariants.{Sync, Write}
 use Rattle.sector_disk.proofs.Made.{made_of_more}
-use Rattle.checkpoint.specs.Layout.{disk_size, label_at}
+use Rattle.centre_core.specs.State.{empty}
+use Rattle.checkpoint.specs.declared.side.Side.TheVariants as side
+use Rattle.checkpoint.specs.Layout.{disk_size, half_at, label_at}
 use Rattle.recovery.specs.Calls.{label_sector, side_calls}
+use Rattle.recovery.specs.Lives.{begins}
+use Rattle.recovery.specs.Opens.{opening}
 use Rattle.recovery.proofs.Called.{calls_in_last}
 use Rattle.recovery.proofs.Formatted.{opens_so, stands_so, within}
 use Rattle.recovery.proofs.formatting.format.Goals as goal
@@ -45,3 +49,12 @@ returns-clause-opens g c honest =
     let wrote = rw c.label_sector.ensures at (c.in_ok-write.ensures.effect (within layout sides.sectors at_sides).label (c.write_sides.ensures.honest honest)) in
     let syncs = c.in_ok-sync.ensures.effect wrote.honest in
     opens_so g.row.A.Denot layout sides labelled last (c.in_ok-write_sides.ensures.ready honest) wrote syncs (g.met.D.Disk.sound c.sync.new.self syncs.honest) at_last
+
+pub returns-clause-begins : goal.returns-clause-begins
+returns-clause-begins g c honest =
+    let layout = c.args.layout.now in
+    let sides : View = g.D.Disk.view c.write_sides.new.disk in
+    let at_sides : disk_size layout ≤ sides.sectors = omega (arith, c.if-sectors.false, c.sectors.ensures, c.sectors-2.ensures, c.write_sides.ensures.cause.sectors) in
+    let wrote = rw c.label_sector.ensures at (c.in_ok-write.ensures.effect (within layout sides.sectors at_sides).label (c.write_sides.ensures.honest honest)) in
+    let syncs = c.in_ok-sync.ensures.effect wrote.honest in
+    begins _ syncs.honest (λ image here. record { opening = opening layout side.A 1 (half_at layout side.A) (empty layout.limits); opens = returns-clause-opens g c honest image here; same = refl })

@@ -1,7 +1,10 @@
-use Rattle.std.proofs.Common.{◌≡◌, ◌+◌, refl, rules}
+use Rattle.std.proofs.Common.{◌≡◌, ◌+◌, [], refl, rules}
+use Rattle.std.proofs.lemmas.Bool.{true≢false}
 use Rattle.checkpoint.specs.Layout.{half_at, other_of}
 use Rattle.sector_disk.proofs.Made.{made_none}
 use Rattle.recovery.proofs.Stored.{in_checkpoint, stored_fresh, nothing_done}
+use Rattle.recovery.specs.Lives.{fails, view_of}
+use Rattle.recovery.proofs.Events.{none_accepted, nothing_accepted}
 use Rattle.recovery.proofs.store.Store.checkpoint.Goals as goal
 
 pub returns-then-self-clause-any_moment : goal.returns-then-self-clause-any_moment
@@ -34,3 +37,19 @@ returns-in-Ok-clause-kept g c = λ honest stored.
 
 pub returns-then-self-clause-some_calls : goal.returns-then-self-clause-some_calls
 returns-then-self-clause-some_calls g c = λ honest. made_none (g.D.Disk.view c.args.self.now.disk) _
+
+pub returns-then-self-clause-call : goal.returns-then-self-clause-call
+returns-then-self-clause-call g c = λ honest. fails _ _ [] (nothing_accepted g.row.A.Denot g.D.Disk.view (view_of c.args.self.now) honest (g.met.D.Disk.sound c.args.self.now.disk honest))
+
+pub returns-in-Ok-clause-call : goal.returns-in-Ok-clause-call
+returns-in-Ok-clause-call g c = λ honest.
+    fails _ _ [] (none_accepted g.row.A.Denot g.D.Disk.view (view_of c.args.self.now) _ (c.write_side.ensures.honest honest) refl (returns-in-Ok-clause-any_moment g c honest) (λ whole. returns-in-Ok-clause-kept g c honest) c.if-self.false)
+
+pub returns-in-Err-EpochsUsedUp-clause-call : goal.returns-in-Err-EpochsUsedUp-clause-call
+returns-in-Err-EpochsUsedUp-clause-call g c = λ honest.
+    let same : c.write_side.new.disk ≡ c.args.self.now.disk = search rules in
+    fails _ _ [] (none_accepted g.row.A.Denot g.D.Disk.view (view_of c.args.self.now) _ (c.write_side.ensures.honest honest) refl (returns-in-Err-EpochsUsedUp-clause-any_moment g c honest) (λ whole stored. rw same stored) c.if-self.false)
+
+pub returns-in-Err-DiskFault-clause-call : goal.returns-in-Err-DiskFault-clause-call
+returns-in-Err-DiskFault-clause-call g c = λ honest.
+    fails _ _ [] (none_accepted g.row.A.Denot g.D.Disk.view (view_of c.args.self.now) _ (c.write_side.ensures.honest honest) refl (returns-in-Err-DiskFault-clause-any_moment g c honest) (λ whole stored. absurd (true≢false whole)) c.if-self.false)

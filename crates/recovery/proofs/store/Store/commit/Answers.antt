@@ -1,4 +1,5 @@
 use Rattle.std.proofs.Common.{rules, sym, refl, ◌≡◌, [], inr, length, ◌∙◌, arith}
+use Rattle.std.proofs.lemmas.Bool.{true≢false}
 use Rattle.std.proofs.lemmas.List.{nil_from_length}
 use Rattle.mailbox.proofs.Results.{known_err}
 use Rattle.recovery.proofs.Stored.{batch_done, commit_history, stored_commit, commit_leaves, fewer_fit, stored_stands, no_length, none_answered, nothing_done, only_before}
@@ -8,6 +9,8 @@ use Rattle.recovery.specs.Calls.{fits_in, gate_then, record_calls, room_calls}
 use Rattle.recovery.proofs.Batches.{recorded_behind, none_recorded}
 use Rattle.recovery.proofs.Called.{made_both, made_in_second}
 use Rattle.recovery.specs.Outcomes.{asked}
+use Rattle.recovery.specs.Lives.{IsUnansweredCall, view_of}
+use Rattle.recovery.proofs.Events.{accepts_nothing, answered_later, is_answered, is_unanswered, nothing_accepted, unanswered_idle}
 use Rattle.recovery.proofs.store.Store.commit.Goals as goal
 
 pub returns-then-self-clause-any_moment : goal.returns-then-self-clause-any_moment
@@ -136,3 +139,48 @@ returns-clause-calls g c = λ some honest.
       recorded_behind g.row.A.Denot self.register c.make_room.new.self.register c.apply_all.new.register c.add_record.new.self.register (asked c.args.commands.now) c.deref.result.now c.apply_all.new.accepted.items c.make_room.ensures.same.1 c.deref.ensures.value c.add_record.ensures.same.3 c.apply_all.ensures.recorded,
       made_both old mid (g.D.Disk.view c.add_record.new.self.disk) (room_calls self.layout self.side self.epoch self.register old.reads fits) (record_calls (gate_then self.layout self.side fits self.journal.next) these) (c.in_ok-make_room.ensures.calls honest) (rw c.in_ok-make_room.ensures.gate at c.in_ok-add_record.ensures.calls),
     )
+
+-- ---- the life of the disk
+
+pub returns-then-self-clause-unanswered : goal.returns-then-self-clause-unanswered
+returns-then-self-clause-unanswered g c = λ honest.
+    unanswered_idle g.row.A.Denot g.D.Disk.view (view_of c.args.self.now) _ (asked c.args.commands.now) (nothing_accepted g.row.A.Denot g.D.Disk.view (view_of c.args.self.now) honest (g.met.D.Disk.sound c.args.self.now.disk honest))
+
+pub returns-in_err-outcomes-clause-unanswered : goal.returns-in_err-outcomes-clause-unanswered
+returns-in_err-outcomes-clause-unanswered g c =
+    let call : (g.D.Disk.view c.args.self.now.disk).honest → IsUnansweredCall g.row.A.Denot g.D.Disk.view (view_of c.args.self.now) (asked c.args.commands.now) (view_of c.args.self.now) = λ honest.
+    unanswered_idle g.row.A.Denot g.D.Disk.view (view_of c.args.self.now) (view_of c.args.self.now) (asked c.args.commands.now) (nothing_accepted g.row.A.Denot g.D.Disk.view (view_of c.args.self.now) honest (g.met.D.Disk.sound c.args.self.now.disk honest)) in
+    known_err _ call
+
+pub returns-in_err-accepted-clause-unanswered : goal.returns-in_err-accepted-clause-unanswered
+returns-in_err-accepted-clause-unanswered g c =
+    let call : (g.D.Disk.view c.args.self.now.disk).honest → IsUnansweredCall g.row.A.Denot g.D.Disk.view (view_of c.args.self.now) (asked c.args.commands.now) (view_of c.args.self.now) = λ honest.
+    unanswered_idle g.row.A.Denot g.D.Disk.view (view_of c.args.self.now) (view_of c.args.self.now) (asked c.args.commands.now) (nothing_accepted g.row.A.Denot g.D.Disk.view (view_of c.args.self.now) honest (g.met.D.Disk.sound c.args.self.now.disk honest)) in
+    known_err _ call
+
+pub returns-in_err-make_room-clause-unanswered : goal.returns-in_err-make_room-clause-unanswered
+returns-in_err-make_room-clause-unanswered g c =
+    let call : (g.D.Disk.view c.args.self.now.disk).honest → IsUnansweredCall g.row.A.Denot g.D.Disk.view (view_of c.args.self.now) (asked c.args.commands.now) (view_of c.make_room.new.self) = λ honest.
+    unanswered_idle g.row.A.Denot g.D.Disk.view (view_of c.args.self.now) (view_of c.make_room.new.self) (asked c.args.commands.now)
+    (accepts_nothing g.row.A.Denot g.D.Disk.view (view_of c.args.self.now) (view_of c.make_room.new.self) (c.make_room.ensures.call honest)) in
+    known_err _ call
+
+pub returns-in_err-add_record-clause-unanswered : goal.returns-in_err-add_record-clause-unanswered
+returns-in_err-add_record-clause-unanswered g c =
+    let call : (g.D.Disk.view c.args.self.now.disk).honest → IsUnansweredCall g.row.A.Denot g.D.Disk.view (view_of c.args.self.now) (asked c.args.commands.now) (view_of c.add_record.new.self) = λ honest.
+    is_unanswered g.row.A.Denot g.D.Disk.view (view_of c.args.self.now) (view_of c.add_record.new.self) (asked c.args.commands.now) (c.add_record.ensures.honest (c.make_room.ensures.honest honest))
+    (returns-in_err-add_record-clause-any_moment g c honest) (λ whole stored. absurd (true≢false (sym c.in_err-add_record.ensures.fault.2 ∙ whole))) c.if-self.false
+    (returns-in_err-add_record-clause-some_calls g c honest).0 (returns-in_err-add_record-clause-some_calls g c honest).1 in
+    known_err _ call
+
+pub returns-then-is_empty-clause-answered : goal.returns-then-is_empty-clause-answered
+returns-then-is_empty-clause-answered g c = λ honest.
+    is_answered g.row.A.Denot g.D.Disk.view (view_of c.args.self.now) (view_of c.args.self.now) (asked c.args.commands.now) honest (returns-then-is_empty-clause-any_moment g c honest) (λ whole stored. stored) c.if-self.false
+    c.new.result.items (returns-then-is_empty-clause-outcomes g c) c.if-self.false
+
+pub returns-clause-answered : goal.returns-clause-answered
+returns-clause-answered g c = λ honest.
+    is_answered g.row.A.Denot g.D.Disk.view (view_of c.args.self.now) (view_of c.add_record.new.self) (asked c.args.commands.now) (c.add_record.ensures.honest (c.make_room.ensures.honest honest))
+    (returns-clause-any_moment g c honest) (λ whole. returns-clause-kept g c honest) c.if-self.false
+    c.apply_all.new.outcomes.items (answered_later c.args.self.now.register c.make_room.new.self.register c.apply_all.new.register c.add_record.new.self.register (asked c.args.commands.now) c.apply_all.new.outcomes.items c.make_room.ensures.same.1 c.add_record.ensures.same.3 c.apply_all.ensures.answered)
+    (returns-clause-sound g c)

@@ -1,9 +1,11 @@
-use Rattle.std.proofs.Common.{◌≡◌, true, false, refl, sym, ◌∙◌}
+use Rattle.std.proofs.Common.{◌≡◌, [], true, false, refl, sym, ◌∙◌}
 use Rattle.std.proofs.lemmas.List.{append-nil}
 use Rattle.sector_disk.proofs.Made.{made_none}
 use Rattle.recovery.specs.Calls.{fits_in}
 use Rattle.recovery.proofs.Called.{gate_behind}
 use Rattle.recovery.proofs.Stored.{nothing_done}
+use Rattle.recovery.specs.Lives.{fails, view_of}
+use Rattle.recovery.proofs.Events.{nothing_accepted}
 use Rattle.recovery.proofs.store.Store.make_room.Goals as goal
 
 pub returns-then-has_room-clause-any_moment : goal.returns-then-has_room-clause-any_moment
@@ -36,3 +38,6 @@ pub returns-clause-gate : goal.returns-clause-gate
 returns-clause-gate g c =
     let fits : fits_in g.row.A.Denot c.args.self.now.journal c.args.commands.now ≡ false = sym c.has_room.ensures.exact ∙ c.if-has_room.false in
     rw fits (gate_behind c.checkpoint.result c.args.self.now.layout c.checkpoint.new.self.layout c.args.self.now.side c.checkpoint.new.self.side c.args.self.now.epoch c.checkpoint.new.self.epoch c.checkpoint.new.self.journal.next c.checkpoint.ensures.same.0 c.checkpoint.ensures.sides c.checkpoint.ensures.no_record)
+
+pub returns-then-has_room-clause-call : goal.returns-then-has_room-clause-call
+returns-then-has_room-clause-call g c = λ honest. fails _ _ [] (nothing_accepted g.row.A.Denot g.D.Disk.view (view_of c.args.self.now) honest (g.met.D.Disk.sound c.args.self.now.disk honest))

@@ -1,12 +1,13 @@
-use Rattle.std.proofs.Common.{◌≡◌, ◌<◌, ◌≤◌, length, Ok, ap, ◌∙◌, arith, inl, inr, refl}
+use Rattle.std.proofs.Common.{◌≡◌, ◌<◌, ◌≤◌, length, Ok, ap, sym, ◌∙◌, arith, inl, inr, refl}
 use Rattle.sector_disk.specs.Disk.{View}
 use Rattle.sector_disk.specs.Reading.{before_reads}
 use Rattle.sector_disk.proofs.Reading.{one_sync}
 use Rattle.checkpoint.specs.Layout.{disk_size}
 use Rattle.recovery.specs.Inside.Opened.{opened_view}
 use Rattle.recovery.specs.Opens.{Opening, opens}
+use Rattle.recovery.specs.Lives.{opens_not, opens_to}
 use Rattle.recovery.proofs.Stood.{stored_so}
-use Rattle.recovery.proofs.Synced.{no_image_arises, one_image}
+use Rattle.recovery.proofs.Synced.{after_sync, no_image_arises, one_image}
 use Rattle.recovery.proofs.store.Store.open.Goals as goal
 
 pub returns-in-Ok-read_all-clause-kept : goal.returns-in-Ok-read_all-clause-kept
@@ -59,3 +60,28 @@ returns-in_default-clause-some_calls g c =
       | inl none ↦ inr (refl, none)
       | inr one ↦ inl (ap before_reads one ∙ one_sync given.calls)
     ]
+
+pub returns-in-Ok-read_all-clause-call : goal.returns-in-Ok-read_all-clause-call
+returns-in-Ok-read_all-clause-call g c honest =
+    let syncs = c.in-Ok.ensures.effect honest in
+    let looked = c.in-Ok-read_all.ensures.looked syncs.honest in
+    opens_to _ _ (record {
+      honest = looked.honest;
+      opened = ap (opens g.row.A.Denot) (sym syncs.reads) ∙ c.in-Ok-read_all.ensures.exact syncs.honest;
+      kept = returns-in-Ok-read_all-clause-kept g c honest;
+      left = returns-in-Ok-read_all-clause-left g c honest;
+    })
+
+pub returns-in-Err-clause-call_by : goal.returns-in-Err-clause-call_by
+returns-in-Err-clause-call_by g c honest =
+    let given : View = g.D.Disk.view c.args.disk in
+    let synced : View = g.D.Disk.view c.sync.new.self in
+    let now : View = g.D.Disk.view c.read_all.new.disk in
+    let syncs = c.in-Ok.ensures.effect honest in
+    let looked = c.read_all.ensures.looked syncs.honest in
+    opens_not _ _ (record { honest = looked.honest; left = no_image_arises given synced now (Ok tt) (g.met.D.Disk.sound c.args.disk honest) syncs looked })
+
+pub returns-in_default-clause-call_by : goal.returns-in_default-clause-call_by
+returns-in_default-clause-call_by g c honest =
+    let syncs = c.in_default.ensures.effect honest in
+    opens_not _ _ (record { honest = syncs.honest; left = after_sync (g.D.Disk.view c.args.disk) (g.D.Disk.view c.sync.new.self) (g.D.Disk.view c.sync.new.self) _ (g.met.D.Disk.sound c.args.disk honest) syncs })

@@ -1,0 +1,256 @@
+-- What a disk keeps over its whole life.
+use Rattle.std.proofs.Common.{◌≡◌, inl, inr, ℕ, ◌≤◌, Bool, true, false, List, [], ◌∷◌, ◌++◌, Ok, refl, sym, ap, subst, ◌∙◌, arith}
+use Rattle.std.specs.Prelude.{◌⊎◌, Result}
+use Rattle.std.proofs.lemmas.List.{append-nil}
+use mathlib.Core.Bool.{false≢true}
+use Rattle.registration.specs.declared.limits.Limits.{Limits}
+use Rattle.sector_disk.specs.Disk.{View, IsImageOf, IsSound}
+use Rattle.sector_disk.specs.Run.{LeavesOnly}
+use Rattle.sector_disk.specs.Memory.{IsRestarted, memory_view}
+use Rattle.sector_disk.specs.Inside.Past.{memory_sound}
+use Rattle.sector_disk.specs.declared.memory.MemoryDisk.{MemoryDisk}
+use Rattle.sector_disk.proofs.Moments.{only_image}
+use Rattle.centre_core.specs.Asked.{Asked}
+use Rattle.centre_core.specs.State.{State, empty}
+use Rattle.centre_core.specs.History.{after}
+use Rattle.centre_core.specs.Histories.{IsHistory}
+use Rattle.centre_core.proofs.InTurnLaws.{after-append, history-append, history-rest}
+use Rattle.centre_core.proofs.StateLaws.{empty_is_state}
+use Rattle.checkpoint.specs.Standing.{InEach}
+use Rattle.recovery.specs.Opens.{Opening, opening, opens}
+use Rattle.recovery.specs.Standing.{StandsFor}
+use Rattle.recovery.specs.Outcomes.{StandsForEither}
+use Rattle.recovery.proofs.Lasting.{none_lost_made_on_disk}
+use Rattle.recovery.proofs.Stored.{stored_stands}
+use Rattle.recovery.specs.declared.fault.StoreFault.{StoreFault}
+use Rattle.recovery.specs.Lives.{Closed, Answered, Event, IsCall, HasAccepted, HasNotOpened, HasOpened, Holds, ComesBack, IsStoredIn, StoreView, Lasts, LosesNoMessage, IsLife, Open, Phase, Unanswered, answers, begins, stopped, disk_of, fails, closes, goes_on, opens_not, opens_to, stops, nothing}
+
+either : (b : Bool) → (b ≡ true) ⊎ (b ≡ false)
+either true = inl refl
+either false = inr refl
+
+not_both : (b : Bool) → b ≡ true → b ≡ false → ⊥
+not_both b t f = false≢true (sym f ∙ t)
+
+module _ {A : Type 0} (limits : Limits) (events : List (Event A)) where
+  -- ---- what is kept of one event more
+
+  with_nothing : (image : List (List ℕ)) → Lasts A limits events image → Lasts A limits (Answered [] ∷ events) image
+  with_nothing image is = record { kept = is.kept; are = (is.kept, is.are, sym (append-nil is.kept)); history = is.history; stands = is.stands }
+
+  without : (cs : List (Asked A)) (image : List (List ℕ)) → Lasts A limits events image → Lasts A limits (Unanswered cs ∷ events) image
+  without cs image is = record { kept = is.kept; are = inl is.are; history = is.history; stands = is.stands }
+
+  module _ {D : Type 0} (old new : StoreView D) (cs : List (Asked A)) (holds : Holds A limits events old) (history : IsHistory old.register cs) (made : new.register ≡ after old.register cs) where
+    more_history : IsHistory (empty limits) (holds.kept ++ cs)
+    more_history = history-append (empty limits) holds.kept cs holds.history (subst (λ (s : State). IsHistory s cs) holds.made history)
+
+    more_made : new.register ≡ after (empty limits) (holds.kept ++ cs)
+    more_made = made ∙ ap (λ (s : State). after s cs) holds.made ∙ sym (after-append (empty limits) holds.kept cs)
+
+    answered : Holds A limits (Answered cs ∷ events) new
+    answered = record { kept = holds.kept ++ cs; are = (holds.kept, holds.are, refl); history = more_history; made = more_made }
+
+    unanswered : Holds A limits (Unanswered cs ∷ events) new
+    unanswered = record { kept = holds.kept ++ cs; are = inr (holds.kept, holds.are, refl); history = more_history; made = more_made }
+
+-- an image that stands for the store's register
+stands_so : {A D : Type 0} (limits : Limits) (events : List (Event A)) (store : StoreView D) (image : List (List ℕ)) → Holds A limits events store → StandsFor A store.register image → Lasts A limits events image
+stands_so {A} limits events store image holds stands = record { kept = holds.kept; are = holds.are; history = holds.history; stands = subst (λ (s : State). StandsFor A s image) holds.made stands }
+
+ok_is : (x y : Opening) → ◌≡◌ {A = Result Opening StoreFault} (Ok x) (Ok y) → x ≡ y
+ok_is x y e = cc
+
+module _ {D : Type 0} (view : D → View) (sound : (disk : D) → (view disk).honest → IsSound (view disk)) where
+  -- the images of now are of those since
+  since_now : (old new : D) (P : List (List ℕ) → Type 0) → (view new).honest → LeavesOnly (view old) (view new) P → InEach (view new) P
+  since_now old new P honest leaves image is = leaves.each image ((sound new honest).counts_now (view old).moment image leaves.later is)
+
+  -- the images since now are those of now
+  now_alone : (disk : D) (P : List (List ℕ) → Type 0) → (view disk).honest → InEach (view disk) P → (image : List (List ℕ)) → (view disk).since (view disk).moment image → P image
+  now_alone disk P honest each image left = each image ((sound disk honest).only_now image left)
+
+module _ {A D : Type 0} (view : D → View) (sound : (disk : D) → (view disk).honest → IsSound (view disk)) (limits : Limits) where
+  -- what holds of a phase in a life
+  record Here (events : List (Event A)) (phase : Phase D) : Type 0 where
+    honest : (view (disk_of phase)).honest
+    each : InEach (view (disk_of phase)) (Lasts A limits events)
+
+  -- and of a store
+  abbrev Sound : List (Event A) → Phase D → Type 0
+  Sound events (Closed disk) = Unit {0}
+  Sound events (Open store) = store.broken ≡ false → IsStoredIn A view store × Holds A limits events store
+
+  record Invariant (events : List (Event A)) (phase : Phase D) : Type 0 where
+    here : Here events phase
+    store : Sound events phase
+
+  -- what a stop within a call leaves
+  abbrev Within : List (Event A) → D → D → Type 0
+  Within events old new = (image : List (List ℕ)) → (view new).since (view old).moment image → Lasts A limits events image
+
+  -- ---- a call of a store
+
+  module _ (events : List (Event A)) (old new : StoreView D) (cs : List (Asked A)) (is : Invariant events (Open old)) (done : HasAccepted A view old new cs) where
+    -- a broken store does nothing
+    nothing_within : old.broken ≡ true → Within (Unanswered cs ∷ events) old.disk new.disk
+    nothing_within broken = subst (λ (k : StoreView D). Within (Unanswered cs ∷ events) old.disk k.disk) (sym (done.broken broken)) (now_alone view sound old.disk (Lasts A limits (Unanswered cs ∷ events)) is.here.honest (λ image here. without limits events cs image (is.here.each image here)))
+
+    nothing_after : old.broken ≡ true → InEach (view new.disk) (Lasts A limits (Unanswered cs ∷ events))
+    nothing_after broken = subst (λ (k : StoreView D). InEach (view k.disk) (Lasts A limits (Unanswered cs ∷ events))) (sym (done.broken broken)) (λ image here. without limits events cs image (is.here.each image here))
+
+    module _ (whole : old.broken ≡ false) where
+      stored : IsStoredIn A view old
+      stored = (is.store whole).0
+
+      holds : Holds A limits events old
+      holds = (is.store whole).1
+
+      leaves : LeavesOnly (view old.disk) (view new.disk) (StandsForEither A old.register new.register)
+      leaves = done.any_moment stored
+
+      one_of : (image : List (List ℕ)) → StandsForEither A old.register new.register image → Lasts A limits (Unanswered cs ∷ events) image
+      one_of image (inl before) = without limits events cs image (stands_so limits events old image holds before)
+      one_of image (inr later) = stands_so limits (Unanswered cs ∷ events) new image (unanswered limits events old new cs holds done.history done.made) later
+
+      done_within : Within (Unanswered cs ∷ events) old.disk new.disk
+      done_within image left = one_of image (leaves.each image left)
+
+      done_after : InEach (view new.disk) (Lasts A limits (Unanswered cs ∷ events))
+      done_after = since_now view sound old.disk new.disk (Lasts A limits (Unanswered cs ∷ events)) done.honest (record { later = leaves.later; each = done_within; before = λ t image le left. before_by image (leaves.before t image le left) })
+        where
+          before_by : {P : Type 0} (image : List (List ℕ)) → P ⊎ StandsForEither A old.register new.register image → P ⊎ Lasts A limits (Unanswered cs ∷ events) image
+          before_by image (inl was) = inl was
+          before_by image (inr now) = inr (one_of image now)
+
+    call_within : Within (Unanswered cs ∷ events) old.disk new.disk
+    call_within = elim (either old.broken) [ inl broken ↦ nothing_within broken | inr whole ↦ done_within whole ]
+
+    call_after : InEach (view new.disk) (Lasts A limits (Unanswered cs ∷ events))
+    call_after = elim (either old.broken) [ inl broken ↦ nothing_after broken | inr whole ↦ done_after whole ]
+
+    -- a store that is not broken was not so before
+    was_whole : new.broken ≡ false → old.broken ≡ false
+    was_whole now = elim (either old.broken) [ inl broken ↦ absurd (not_both old.broken broken (sym (ap (λ (k : StoreView D). k.broken) (done.broken broken)) ∙ now)) | inr whole ↦ whole ]
+
+    failed : Invariant (Unanswered cs ∷ events) (Open new)
+    failed = record {
+      here = record { honest = done.honest; each = call_after };
+      store = λ now. let whole = was_whole now in (done.kept now (stored whole), unanswered limits events old new cs (holds whole) done.history done.made);
+    }
+
+    acknowledged : new.broken ≡ false → Invariant (Answered cs ∷ events) (Open new)
+    acknowledged now =
+        let whole = was_whole now in
+        let kept = done.kept now (stored whole) in
+        let held = answered limits events old new cs (holds whole) done.history done.made in
+        record {
+          here = record {
+            honest = done.honest;
+            each = λ image here. stands_so limits (Answered cs ∷ events) new image held (stored_stands A new.layout new.side new.epoch new.next new.register (view new.disk) kept image here);
+          };
+          store = λ _. (kept, held);
+        }
+
+  -- ---- an opening
+
+  module _ (events : List (Event A)) (old : D) (is : Invariant events (Closed old)) where
+    left_within : (new : D) → LeavesOnly (view old) (view new) (IsImageOf (view old)) → Within (Unanswered [] ∷ events) old new
+    left_within new leaves image left = without limits events [] image (is.here.each image (leaves.each image left))
+
+    left_after : (new : D) → (view new).honest → LeavesOnly (view old) (view new) (IsImageOf (view old)) → InEach (view new) (Lasts A limits (Answered [] ∷ events))
+    left_after new honest leaves image here = with_nothing limits events image (is.here.each image (since_now view sound old new (IsImageOf (view old)) honest leaves image here))
+
+    opened_holds : (new : StoreView D) → HasOpened A view old new → Holds A limits (Answered [] ∷ events) new
+    opened_holds new has =
+        let lasts = is.here.each (view old).reads (sound old is.here.honest).reads_left in
+        let same = ok_is (lasts.stands.opening) (opening new.layout new.side new.epoch new.next new.register) (sym lasts.stands.opens ∙ has.opened) in
+        record {
+          kept = lasts.kept;
+          are = (lasts.kept, lasts.are, sym (append-nil lasts.kept));
+          history = lasts.history;
+          made = sym (ap (λ (o : Opening). o.state) same) ∙ lasts.stands.same;
+        }
+
+  -- ---- any call
+
+  -- nothing is done
+  idle : (events : List (Event A)) (phase : Phase D) → Here events phase → Here (Answered [] ∷ events) phase
+  idle events phase is = record { honest = is.honest; each = λ image here. with_nothing limits events image (is.each image here) }
+
+  idle_within : (events : List (Event A)) (phase : Phase D) → Here events phase → Within (Unanswered [] ∷ events) (disk_of phase) (disk_of phase)
+  idle_within events phase is = now_alone view sound (disk_of phase) (Lasts A limits (Unanswered [] ∷ events)) is.honest (λ image here. without limits events [] image (is.each image here))
+
+  idle_store : (events : List (Event A)) (phase : Phase D) → Sound events phase → Sound (Answered [] ∷ events) phase
+  idle_store events (Closed disk) is = tt
+  idle_store events (Open store) is = λ whole.
+      let now = is whole in
+      (now.0, record { kept = now.1.kept; are = (now.1.kept, now.1.are, sym (append-nil now.1.kept)); history = now.1.history; made = now.1.made })
+
+  after_call : (events : List (Event A)) (old new : Phase D) (event : Event A) → Invariant events old → IsCall A view old event new → Invariant (event ∷ events) new
+  after_call events old new event is (nothing phase) = record { here = idle events phase is.here; store = idle_store events phase is.store }
+  after_call events old new event is (opens_to disk store has) =
+      record { here = record { honest = has.honest; each = left_after events disk is store.disk has.honest has.left }; store = λ _. (has.kept, opened_holds events disk is store has) }
+  after_call events old new event is (opens_not disk then has) = record { here = record { honest = has.honest; each = left_after events disk is then has.honest has.left }; store = tt }
+  after_call events old new event is (closes store) = record { here = record { honest = is.here.honest; each = (idle events (Open store) is.here).each }; store = tt }
+  after_call events old new event is (answers was now cs done whole) = acknowledged events was now cs is done whole
+  after_call events old new event is (fails was now cs done) = failed events was now cs is done
+
+  within_call : (events : List (Event A)) (old new : Phase D) (event : Event A) → Invariant events old → IsCall A view old event new → Within (stopped event ∷ events) (disk_of old) (disk_of new)
+  within_call events old new event is (nothing phase) = idle_within events phase is.here
+  within_call events old new event is (opens_to disk store has) = left_within events disk is store.disk has.left
+  within_call events old new event is (opens_not disk then has) = left_within events disk is then has.left
+  within_call events old new event is (closes store) = idle_within events (Open store) is.here
+  within_call events old new event is (answers was now cs done whole) = call_within events was now cs is done
+  within_call events old new event is (fails was now cs done) = call_within events was now cs is done
+
+  -- ---- the life
+
+  back : (events : List (Event A)) (image : List (List ℕ)) (disk : D) → ComesBack A view image disk → Lasts A limits events image → Invariant events (Closed disk)
+  back events image disk is lasts = record {
+    here = record { honest = is.honest; each = λ other here. subst (Lasts A limits events) (sym (only_image (view disk) is.durable other here ∙ is.reads)) lasts };
+    store = tt;
+  }
+
+  lived : (events : List (Event A)) (phase : Phase D) → IsLife A view limits events phase → Invariant events phase
+  lived events phase (begins disk honest each) = record { here = record { honest = honest; each = λ image here. record { kept = []; are = refl; history = tt; stands = each image here } }; store = tt }
+  lived events phase (goes_on before old new event life goes) = after_call before old new event (lived before old life) goes
+  lived events phase (stops before old new event image disk life goes left is) = back (stopped event ∷ before) image disk is (within_call before old new event (lived before old life) goes image left)
+
+  pub life_lasts : (events : List (Event A)) (phase : Phase D) → IsLife A view limits events phase → InEach (view (disk_of phase)) (Lasts A limits events)
+  life_lasts events phase life = (lived events phase life).here.each
+
+  pub life_holds : (events : List (Event A)) (store : StoreView D) → IsLife A view limits events (Open store) → store.broken ≡ false → Holds A limits events store
+  life_holds events store life whole = ((lived events (Open store) life).store whole).1
+
+-- ---- the last place is honest
+
+honest_then : {A D : Type 0} (view : D → View) (old new : Phase D) (event : Event A) → (view (disk_of old)).honest → IsCall A view old event new → (view (disk_of new)).honest
+honest_then view old new event honest (nothing phase) = honest
+honest_then view old new event honest (opens_to disk store has) = has.honest
+honest_then view old new event honest (opens_not disk then has) = has.honest
+honest_then view old new event honest (closes store) = honest
+honest_then view old new event honest (answers was now cs done whole) = done.honest
+honest_then view old new event honest (fails was now cs done) = done.honest
+
+life_honest : {A D : Type 0} (view : D → View) (limits : Limits) (events : List (Event A)) (phase : Phase D) → IsLife A view limits events phase → (view (disk_of phase)).honest
+life_honest view limits events phase (begins disk honest each) = honest
+life_honest view limits events phase (goes_on before old new event life call) = honest_then view old new event (life_honest view limits before old life) call
+life_honest view limits events phase (stops before old new event image disk life call left is) = is.honest
+
+-- ---- messages
+
+pub none_lost : {A : Type 0} (limits : Limits) (events : List (Event A)) (image : List (List ℕ)) (is : Lasts A limits events image) → LosesNoMessage A limits is.kept image
+none_lost {A} limits events image is bs c cs m same makes =
+    let history : IsHistory (empty limits) (bs ++ c ∷ cs) = subst (λ (l : List (Asked A)). IsHistory (empty limits) l) same is.history in
+    none_lost_made_on_disk (empty limits) (empty_is_state limits) bs c cs m image (history-rest (empty limits) bs (c ∷ cs) history).0 makes
+    (subst (λ (l : List (Asked A)). StandsFor A (after (empty limits) l) image) same is.stands)
+
+-- ---- a disk in memory that stops
+
+pub crashed : {A M : Type 0} (limits : Limits) (events : List (Event A)) (old new : MemoryDisk M) → ((memory_view old).honest → IsImageOf (memory_view old) (memory_view new).reads) → IsRestarted old new
+    → IsLife A memory_view limits events (Closed old) → IsLife A memory_view limits (Unanswered [] ∷ events) (Closed new)
+crashed limits events old new image restarted life =
+    let honest = life_honest memory_view limits events (Closed old) life in
+    stops events (Closed old) (Closed old) (Answered []) (memory_view new).reads new life (nothing (Closed old))
+    ((memory_sound old honest).counts_now (memory_view old).moment (memory_view new).reads (omega arith) (image honest)) (record { honest = restarted.honest honest; reads = refl; durable = restarted.durable })

@@ -1,0 +1,166 @@
+-- The life of a disk: it is formatted, a store is opened on it, and calls of the store follow each other. At any moment,
+-- between two calls or within one, the disk may stop; it then comes back as an image that the stop left.
+use Rattle.std.specs.Prelude.{◌≡◌, ◌⊎◌, Bool, true, false, List, [], ◌∷◌, ◌++◌, Ok, map, if◌then◌else◌}
+use Rattle.identity.specs.Numbers.{Byte}
+use Rattle.registration.specs.declared.limits.Limits.{Limits}
+use Rattle.sector_disk.specs.Numbers.{Sector}
+use Rattle.sector_disk.specs.Disk.{View, IsImageOf}
+use Rattle.sector_disk.specs.Run.{LeavesOnly}
+use Rattle.sector_disk.specs.declared.disk.Disk.{Ghosts}
+use Rattle.std.specs.List.{Contains}
+use Rattle.mailbox.specs.Values.{Item}
+use Rattle.centre_core.specs.Asked.{Asked}
+use Rattle.centre_core.specs.State.{State, empty}
+use Rattle.centre_core.specs.History.{after, is_acceptance, made, next}
+use Rattle.centre_core.specs.Same.{under}
+use Rattle.centre_core.specs.Histories.{IsHistory}
+use Rattle.image_rows.specs.Numbers.{Epoch}
+use Rattle.checkpoint.specs.declared.layout.Layout.{Layout}
+use Rattle.checkpoint.specs.declared.side.Side.{Side}
+use Rattle.checkpoint.specs.Standing.{InEach}
+use Rattle.recovery.specs.Opens.{opening, opens}
+use Rattle.recovery.specs.Standing.{StandsFor}
+use Rattle.recovery.specs.Stored.{IsStored}
+use Rattle.recovery.specs.Lasting.{LacksWhereEnded}
+use Rattle.recovery.specs.Outcomes.{AreRecorded, StandsForEither}
+use Rattle.recovery.specs.declared.store.Store.{Store}
+use Rattle.recovery.specs.declared.outcome.Outcome.{Outcome}
+use Rattle.recovery.specs.declared.outcome.Outcome.TheVariants.{NoMemory, Replied}
+
+-- ---- where the disk is
+
+-- a store as contracts see it, with its disk
+pub record StoreView (D : Type 0) : Type 0 where
+  pub layout : Layout
+  pub side : Side
+  pub epoch : Epoch
+  pub next : Sector
+  pub register : State
+  pub broken : Bool
+  pub disk : D
+
+-- a disk on which no store is open, or a store with its disk
+pub data Phase (D : Type 0) : Type 0 where
+  Closed : D → Phase D
+  Open : StoreView D → Phase D
+
+-- the disk
+abbrev pub disk_of : {D : Type 0} → Phase D → D
+disk_of (Closed disk) = disk
+disk_of (Open store) = store.disk
+
+-- a store, as contracts see it
+abbrev pub view_of : {A D : Type 0} {g : Ghosts D} → Store A D g → StoreView D
+view_of store = record { layout = store.layout; side = store.side; epoch = store.epoch; next = store.journal.next; register = store.register; broken = store.broken; disk = store.disk }
+
+-- ---- calls
+
+-- a call of the program, with the commands that it accepted: it was answered, or it failed or a stop came first
+pub data Event (A : Type 0) : Type 0 where
+  Answered : List (Asked A) → Event A
+  Unanswered : List (Asked A) → Event A
+
+-- those of the commands whose outcome is an acceptance
+abbrev pub acknowledged_of : {B C : Type 0} → List (Asked B) → List (Outcome C) → List (Asked B)
+acknowledged_of [] outcomes = []
+acknowledged_of (c ∷ cs) [] = []
+acknowledged_of (c ∷ cs) (Replied reply ∷ outcomes) = if is_acceptance reply then c ∷ acknowledged_of cs outcomes else acknowledged_of cs outcomes
+acknowledged_of (c ∷ cs) (NoMemory ∷ outcomes) = acknowledged_of cs outcomes
+
+-- a batch was answered with these outcomes; the disk keeps its commands under the allocator A
+abbrev pub answered : {B C : Type 0} (A : Type 0) → List (Asked B) → List (Outcome C) → Event A
+answered A commands outcomes = Answered (map (under A) (acknowledged_of commands outcomes))
+
+module _ {A : Type 0} where
+  -- a stop came before the answer
+  abbrev pub stopped : Event A → Event A
+  stopped (Answered cs) = Unanswered cs
+  stopped (Unanswered cs) = Unanswered cs
+
+  -- Of these events, the last one first, the disk keeps these commands: all of each call that was answered, and of each
+  -- other call all or none.
+  abbrev pub AreKept : List (Event A) → List (Asked A) → Type 0
+  AreKept [] kept = kept ≡ []
+  AreKept (Answered cs ∷ events) kept = (before : List (Asked A)) × AreKept events before × (kept ≡ before ++ cs)
+  AreKept (Unanswered cs ∷ events) kept = AreKept events kept ⊎ ((before : List (Asked A)) × AreKept events before × (kept ≡ before ++ cs))
+
+module _ {D : Type 0} (A : Type 0) (view : D → View) where
+  -- the store's register is on its disk
+  abbrev pub IsStoredIn : StoreView D → Type 0
+  IsStoredIn store = IsStored A store.layout store.side store.epoch store.next store.register (view store.disk)
+
+  -- a store is opened on the disk
+  pub record HasOpened (old : D) (new : StoreView D) : Type 0 where
+    pub honest : (view new.disk).honest
+    pub opened : opens A (view old).reads ≡ Ok (opening new.layout new.side new.epoch new.next new.register)
+    pub kept : IsStoredIn new
+    pub left : LeavesOnly (view old) (view new.disk) (IsImageOf (view old))
+
+  -- an opening fails, and gives the disk back
+  pub record HasNotOpened (old new : D) : Type 0 where
+    pub honest : (view new).honest
+    pub left : LeavesOnly (view old) (view new) (IsImageOf (view old))
+
+  -- a call of a store accepts these commands; a broken store does nothing
+  pub record HasAccepted (old new : StoreView D) (accepted : List (Asked A)) : Type 0 where
+    pub honest : (view new.disk).honest
+    pub history : IsHistory old.register accepted
+    pub made : new.register ≡ after old.register accepted
+    pub any_moment : IsStoredIn old → LeavesOnly (view old.disk) (view new.disk) (StandsForEither A old.register new.register)
+    pub kept : new.broken ≡ false → IsStoredIn old → IsStoredIn new
+    pub broken : old.broken ≡ true → new ≡ old
+
+  -- one call: where the disk was, what happened, and where it is then
+  pub data IsCall : Phase D → Event A → Phase D → Type 0 where
+    nothing : (phase : Phase D) → IsCall phase (Answered []) phase
+    opens_to : (old : D) (new : StoreView D) → HasOpened old new → IsCall (Closed old) (Answered []) (Open new)
+    opens_not : (old new : D) → HasNotOpened old new → IsCall (Closed old) (Answered []) (Closed new)
+    closes : (store : StoreView D) → IsCall (Open store) (Answered []) (Closed store.disk)
+    answers : (old new : StoreView D) (accepted : List (Asked A)) → HasAccepted old new accepted → new.broken ≡ false → IsCall (Open old) (Answered accepted) (Open new)
+    fails : (old new : StoreView D) (accepted : List (Asked A)) → HasAccepted old new accepted → IsCall (Open old) (Unanswered accepted) (Open new)
+
+  -- a call for these commands is answered, with these outcomes
+  abbrev pub IsAnsweredCall : {B C : Type 0} → StoreView D → List (Asked B) → List (Outcome C) → StoreView D → Type 0
+  IsAnsweredCall old commands outcomes new = IsCall (Open old) (answered A commands outcomes) (Open new)
+
+  -- it is not: of those that were accepted all or none are kept
+  abbrev pub IsUnansweredCall : {B : Type 0} → StoreView D → List (Asked B) → StoreView D → Type 0
+  IsUnansweredCall old commands new = (recorded : List (Asked A)) × AreRecorded A old.register commands new.register recorded × IsCall (Open old) (Unanswered recorded) (Open new)
+
+  -- ---- the life
+
+  -- the disk comes back after a stop as this image, and nothing is pending
+  pub record ComesBack (image : List (List Byte)) (disk : D) : Type 0 where
+    pub honest : (view disk).honest
+    pub reads : (view disk).reads ≡ image
+    pub durable : (k : Sector) → (view disk).pending k ≡ false
+
+  -- The events of a life so far, the last one first, and where the disk is. It begins with a disk made ready for an empty
+  -- register. Then each event is a call, or a call in which a stop comes: it leaves an image of some moment of the call.
+  pub data IsLife (limits : Limits) : List (Event A) → Phase D → Type 0 where
+    begins : (disk : D) → (view disk).honest → InEach (view disk) (StandsFor A (empty limits)) → IsLife limits [] (Closed disk)
+    goes_on : (events : List (Event A)) (old new : Phase D) (event : Event A) → IsLife limits events old → IsCall old event new → IsLife limits (event ∷ events) new
+    stops : (events : List (Event A)) (old new : Phase D) (event : Event A) (image : List (List Byte)) (disk : D) → IsLife limits events old → IsCall old event new
+        → (view (disk_of new)).since (view (disk_of old)).moment image → ComesBack image disk → IsLife limits (stopped event ∷ events) (Closed disk)
+
+-- ---- what lasts
+
+module _ (A : Type 0) (limits : Limits) where
+  -- each message that one of these commands makes is missing in the image exactly where a later one of them ends it
+  abbrev pub LosesNoMessage : List (Asked A) → List (List Byte) → Type 0
+  LosesNoMessage kept image =
+      (bs : List (Asked A)) (c : Asked A) (cs : List (Asked A)) (m : Item) → kept ≡ bs ++ c ∷ cs → Contains (made (after (empty limits) bs) c) m → LacksWhereEnded A image m (next (after (empty limits) bs) c) cs
+
+  -- The image opens to what the kept commands of these events made of an empty register, each accepted in its turn.
+  pub record Lasts (events : List (Event A)) (image : List (List Byte)) : Type 0 where
+    pub kept : List (Asked A)
+    pub are : AreKept events kept
+    pub history : IsHistory (empty limits) kept
+    pub stands : StandsFor A (after (empty limits) kept) image
+
+  -- so does the register of a store
+  pub record Holds {D : Type 0} (events : List (Event A)) (store : StoreView D) : Type 0 where
+    pub kept : List (Asked A)
+    pub are : AreKept events kept
+    pub history : IsHistory (empty limits) kept
+    pub made : store.register ≡ after (empty limits) kept
