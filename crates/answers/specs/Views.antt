@@ -6,6 +6,7 @@ use Rattle.crossbeam_channel.specs.Claims.{Pass, view}
 use Rattle.answers.specs.declared.rule.View.{View}
 
 module _ {T : Type 0} where
+  -- a view with these parts
   abbrev pub view_of : Bool → Bool → List T → List T → View T
   view_of sends receives sent received = record { sends = sends; receives = receives; sent = sent; received = received }
 
@@ -13,6 +14,7 @@ module _ {T : Type 0} where
   abbrev pub Fits : ℕ → ℕ → List T → List T → ℕ → View T → Type 0
   Fits writer reader sent received pass v = (v.sends ≡ true → (pass ≡ writer) × (v.sent ≡ sent)) × (v.receives ≡ true → (pass ≡ reader) × (v.received ≡ received))
 
+  -- one pass writes, one reads, and what was sent is what was received with what the channel holds after it
   abbrev pub IsInOrder : List T → List (View T) → Type 0
   IsInOrder items views = (writer : ℕ) × (reader : ℕ) × (sent : List T) × (received : List T) × (sent ≡ received ++ items)
       × ((pass : ℕ) (v : View T) → get_elem? views pass ≡ some v → Fits writer reader sent received pass v)

@@ -2,7 +2,7 @@
 use Rattle.std.proofs.Common.{◌≡◌, ◌⊎◌, inl, inr, ℕ, zero, suc, ◌+◌, ◌-◌, ◌<◌, ◌≤◌, List, [], ◌∷◌, ◌++◌, length, Result, Ok, refl, sym, ap, ◌∙◌, arith}
 use Rattle.sector_disk.specs.Disk.{IsSound, View, HasSynced, sector}
 use Rattle.sector_disk.specs.Run.{IsTornImage, LeavesOnly}
-use Rattle.sector_disk.specs.Inside.Filling.{HasFilled}
+use Rattle.sector_disk.specs.Filling.{HasFilled}
 use Rattle.sector_disk.specs.declared.disk.DiskError.{DiskError}
 use Rattle.sector_disk.proofs.Moments.{durable_image, run_on, sync_on}
 use Rattle.registration.specs.declared.limits.Limits.{Limits}

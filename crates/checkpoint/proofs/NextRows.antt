@@ -4,7 +4,7 @@ use Rattle.std.specs.Result.{IsErr}
 use Rattle.std.proofs.lemmas.List.{append-nil}
 use Rattle.sector_disk.specs.Disk.{HasWritten, IsCalled, IsSound, View}
 use Rattle.sector_disk.specs.Run.{HasMade, writes}
-use Rattle.sector_disk.specs.Inside.Filling.{HasFilled}
+use Rattle.sector_disk.specs.Filling.{HasFilled}
 use Rattle.sector_disk.specs.declared.disk.DiskError.{DiskError}
 use Rattle.sector_disk.specs.declared.record.Call.{Call}
 use Rattle.sector_disk.specs.declared.record.Call.TheVariants.{Write}

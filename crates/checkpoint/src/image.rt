@@ -2,7 +2,7 @@
 ghost use Rattle.std.specs.Prelude.{◌≡◌, ◌≤◌, ◌<◌, ◌+◌, ◌^◌, ◌++◌, Bool, Err, IsErr, IsErrOf, OnOk, length};
 ghost use Rattle.sector_disk.specs.Disk.{HasFailed};
 ghost use Rattle.sector_disk.specs.Run.{HasMade, LeavesOnly};
-ghost use Rattle.sector_disk.specs.Inside.Filling.{HasFilled};
+ghost use Rattle.sector_disk.specs.Filling.{HasFilled};
 ghost use Rattle.sector_disk.specs.declared.disk.DiskError.TheVariants.{OutOfRange};
 ghost use Rattle.image_rows.specs.Rows.{last_epoch, rows_of};
 ghost use Rattle.checkpoint.specs.declared.fault.CheckpointError.TheVariants.{DiskFault, EpochsUsedUp};

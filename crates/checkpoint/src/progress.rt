@@ -2,7 +2,7 @@
 ghost use Rattle.std.specs.Prelude.{◌≡◌, ◌≤◌, ◌<◌, ◌+◌, ◌-◌, ◌^◌, ◌++◌, IsErr, IsErrOf, OnOk, length, nat_eq};
 ghost use Rattle.sector_disk.specs.Disk.{HasFailed};
 ghost use Rattle.sector_disk.specs.Run.{HasMade, writes};
-ghost use Rattle.sector_disk.specs.Inside.Filling.{HasFilled};
+ghost use Rattle.sector_disk.specs.Filling.{HasFilled};
 ghost use Rattle.sector_disk.specs.declared.disk.DiskError.TheVariants.{OutOfRange};
 ghost use Rattle.image_rows.specs.Rows.{rows_of};
 ghost use Rattle.checkpoint.specs.Progress.{IsProgress, next_calls, next_row, next_rows, written_after};

@@ -3,7 +3,7 @@ use Rattle.std.proofs.Common.{◌≡◌, ℕ, ◌+◌, ◌<◌, List, Result, Ok
 use Rattle.sector_disk.specs.Disk.{View, HasSynced, HasWritten, IsSound, sector}
 use Rattle.sector_disk.specs.declared.disk.DiskError.{DiskError}
 use Rattle.sector_disk.proofs.Filled.{fill_more}
-use Rattle.sector_disk.specs.Inside.Filling.{HasFilled}
+use Rattle.sector_disk.specs.Filling.{HasFilled}
 use Rattle.file_disk.specs.Disk.{IsBlank, file_view}
 use Rattle.file_disk.specs.declared.disk.FileDisk.{FileDisk}
 

@@ -1,7 +1,7 @@
 // Zeros on a disk over a file.
 ghost use Rattle.std.specs.Prelude.{◌≡◌, ◌≤◌, ◌<◌, ◌+◌, ◌^◌, ◌++◌, OnOk, replicate};
 ghost use Rattle.sector_disk.specs.Run.{writes};
-ghost use Rattle.sector_disk.specs.Inside.Filling.{HasFilled};
+ghost use Rattle.sector_disk.specs.Filling.{HasFilled};
 ghost use Rattle.file_disk.specs.Disk.{calls_of, file_view};
 
 use crate::{FileDisk, SectorFile};

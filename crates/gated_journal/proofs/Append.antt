@@ -4,7 +4,7 @@ use Rattle.std.proofs.lemmas.Bool.{cases_eq, cases_lt}
 use Rattle.std.specs.Result.{OnOk}
 use Rattle.sector_disk.specs.Disk.{View, IsImageOf, HasSynced, sector}
 use Rattle.sector_disk.specs.Run.{LeavesOnly, IsTornImage}
-use Rattle.sector_disk.specs.Inside.Filling.{HasFilled}
+use Rattle.sector_disk.specs.Filling.{HasFilled}
 use Rattle.sector_disk.specs.declared.disk.DiskError.{DiskError}
 use Rattle.sector_disk.proofs.Moments.{goes_on, run_on, weaker, synced_images, durable_image}
 use Rattle.gated_journal.specs.Half.{Entry, IsOpen, IsClosed, half_of}

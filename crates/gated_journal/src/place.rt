@@ -2,7 +2,7 @@
 ghost use Rattle.std.specs.Prelude.{◌≡◌, ◌⊎◌, ◌+◌, ◌-◌, ◌*◌, ◌<◌, ◌≤◌, ◌^◌, ℕ, List, [], ◌∷◌, ◌++◌, Err, drop, length, replicate, false, IsErr, IsErrOf, OnOk, OnErr};
 ghost use Rattle.sector_disk.specs.Disk.{HasFailed, sector};
 ghost use Rattle.sector_disk.specs.Run.{HasMade, LeavesOnly, writes};
-ghost use Rattle.sector_disk.specs.Inside.Filling.{HasFilled};
+ghost use Rattle.sector_disk.specs.Filling.{HasFilled};
 ghost use Rattle.sector_disk.specs.declared.disk.DiskError.TheVariants.{OutOfRange};
 ghost use Rattle.gated_journal.specs.declared.fault.JournalError.TheVariants.{DiskFault, Damaged, JournalFull, NoMemory};
 ghost use Rattle.gated_journal.specs.Calls.{append_calls, settled_calls};

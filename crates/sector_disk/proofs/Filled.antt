@@ -5,7 +5,7 @@ use Rattle.std.proofs.lemmas.Result.{IfOk-from_err}
 use Rattle.std.proofs.lemmas.Bool.{cases_lt}
 use Rattle.sector_disk.specs.Disk.{View, IsImageOf, IsSound, HasWritten, sector}
 use Rattle.sector_disk.specs.Run.{IsTornImage}
-use Rattle.sector_disk.specs.Inside.Filling.{HasFilled}
+use Rattle.sector_disk.specs.Filling.{HasFilled}
 use Rattle.sector_disk.specs.declared.disk.DiskError.{DiskError}
 use Rattle.sector_disk.proofs.Moments.{started, goes_on, torn_by, torn_on, torn_wider, not_torn, weaker}
 

@@ -7,3 +7,4 @@ pub mod Memory
 pub mod Reading
 pub mod Run
 pub mod Inside
+pub mod Filling

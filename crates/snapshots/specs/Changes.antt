@@ -12,6 +12,7 @@ pub record Lists : Type 0 where
   pub published : List (Asked Global)
   pub appended : List (Asked Global)
 
+-- the two lists of a publisher
 abbrev pub lists : List (Asked Global) → List (Asked Global) → Lists
 lists published appended = record { published = published; appended = appended }
 

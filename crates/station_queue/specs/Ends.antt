@@ -11,6 +11,7 @@ pub record Sending : Type 0 where
   pub station : Station
   pub sent : List Entry
 
+-- a sender with these parts
 abbrev pub sending : TableId → Station → List Entry → Sending
 sending queue station sent = record { queue = queue; station = station; sent = sent }
 
@@ -22,5 +23,6 @@ pub record Taking : Type 0 where
   pub settled : List Settled
   pub empty : Bool
 
+-- a taker with these parts
 abbrev pub taking : TableId → ℕ → List Entry → List Settled → Bool → Taking
 taking queue made taken settled empty = record { queue = queue; made = made; taken = taken; settled = settled; empty = empty }

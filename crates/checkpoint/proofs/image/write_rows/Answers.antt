@@ -2,7 +2,7 @@ use Rattle.std.proofs.Common.{◌≡◌, ◌+◌, ◌<◌, ◌++◌, ◌∙◌, 
 use Rattle.std.proofs.lemmas.List.{append-nil}
 use Rattle.sector_disk.specs.Disk.{View}
 use Rattle.sector_disk.specs.Run.{writes}
-use Rattle.sector_disk.specs.Inside.Filling.{HasFilled}
+use Rattle.sector_disk.specs.Filling.{HasFilled}
 use Rattle.sector_disk.proofs.Filled.{fill_more, fill_none, fill_wider}
 use Rattle.sector_disk.proofs.Made.{no_write_yet, one_made, write_made}
 use Rattle.image_rows.specs.Rows.{rows_of}

@@ -1,7 +1,7 @@
 use Rattle.std.proofs.Common.{◌≡◌, ◌≤◌, ◌++◌, ◌-◌, Ok, length}
 use Rattle.sector_disk.specs.Disk.{View}
 use Rattle.sector_disk.specs.Run.{writes}
-use Rattle.sector_disk.specs.Inside.Filling.{HasFilled}
+use Rattle.sector_disk.specs.Filling.{HasFilled}
 use Rattle.image_rows.specs.Rows.{rows_of}
 use Rattle.checkpoint.specs.Calls.{row_sector}
 use Rattle.checkpoint.proofs.Walked.{Walk}

@@ -1,7 +1,7 @@
 use Rattle.std.proofs.Common.{◌≡◌, ◌≤◌, ◌++◌, Ok}
 use Rattle.sector_disk.specs.Disk.{View}
 use Rattle.sector_disk.specs.Run.{writes}
-use Rattle.sector_disk.specs.Inside.Filling.{HasFilled}
+use Rattle.sector_disk.specs.Filling.{HasFilled}
 use Rattle.gated_journal.specs.Record.{data_sector}
 use Rattle.gated_journal.proofs.place.fill.Given as goal
 
