@@ -19,7 +19,7 @@ word_of b = record { tracked = true; key = 0; book = b }
 abbrev pub Extends : Step (Asked Global) → View (Asked Global) ℕ → ℕ → View (Asked Global) ℕ → Type 0
 Extends s v found w = MatchBool (found == s.old) (w.0 ≡ v.0 ++ s.ask ∷ []) (length w.0 ≡ found)
 
--- A state and a book, in place of which each caller that makes a centre names its own.
+-- the least limits
 abbrev pub some_limits : Limits
 some_limits = record {
   rules = 1;
@@ -38,8 +38,10 @@ some_limits = record {
   };
 }
 
+-- a state and a book: each caller that makes a centre names its own in their place
 abbrev pub some_base : State
 some_base = empty some_limits
 
+-- a book with no names
 abbrev pub some_book : Book
 some_book = record { number = 0; log_name = 0; cells_name = 0 }

@@ -30,6 +30,7 @@ AreAllSent taken items stations = All (λ s. entries_of s.station (taken ++ item
 
 -- What the rule says of one pass. reader: the taker's pass; seat: the pass of each station's sender; made: how many senders there are; all: what was taken, followed by what the queue holds.
 module _ (reader : ℕ) (seat : Station → Option ℕ) (made : ℕ) (taken all : List Entry) where
+  -- a pass that takes is the taker's, and knows what was taken and how many senders there are
   abbrev pub FitsTaker : ℕ → View → Type 0
   FitsTaker pass v = v.takes ≡ true → (pass ≡ reader) × (v.taken ≡ taken) × (v.made ≡ made)
 
@@ -37,9 +38,11 @@ module _ (reader : ℕ) (seat : Station → Option ℕ) (made : ℕ) (taken all 
   abbrev pub FitsSettled : Settled → Type 0
   FitsSettled s = (seat s.station ≡ None) × (s.station ≤ made) × (entries_of s.station all ≡ s.sent)
 
+  -- a pass that sends is its station's, and knows what that station sent
   abbrev pub FitsSender : ℕ → View → Type 0
   FitsSender pass v = v.sends ≡ true → (seat v.station ≡ Some pass) × (v.station ≤ made) × (entries_of v.station all ≡ v.sent) × (0 < v.station)
 
+  -- all three
   abbrev pub Fits : ℕ → View → Type 0
   Fits pass v = FitsTaker pass v × All FitsSettled v.settled × FitsSender pass v
 
