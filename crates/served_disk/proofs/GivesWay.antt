@@ -1,5 +1,5 @@
 -- Want of memory told in the place of a list.
-use Rattle.std.proofs.Common.{◌≡◌, ℕ, ◌+◌, ◌≤◌, ◌<◌, ◌∙◌, ap, arith, Result, Ok, Err, OnOk, OnErr, IsTrue, is_ok, length, [], ◌++◌, true, false, Bool, List, refl, sym, subst, inl, inr, ⊎_elim}
+use Rattle.std.proofs.Common.{◌≡◌, ℕ, ◌+◌, ◌≤◌, ◌<◌, ◌∙◌, ap, arith, Result, Ok, Err, OnOk, OnErr, is_ok, [], ◌++◌, true, false, Bool, List, refl, sym, subst, inl, inr}
 use Rattle.std.proofs.lemmas.Bool.{true≢false}
 use mathlib.Core.Bool.{false≢true}
 use Rattle.centre_core.specs.State.{State}

@@ -1,2 +1,3 @@
 mod GivesWay
 mod Lacking
+mod Lent

@@ -1,5 +1,5 @@
 -- What is shown for a line that is to be a query.
-use Rattle.std.specs.Prelude.{◌≡◌, ◌⊎◌, Bool, true, List}
+use Rattle.std.specs.Prelude.{◌≡◌, ◌⊎◌, Bool, true, List, Ok}
 use Rattle.centre_core.specs.State.{State}
 use Rattle.desk.specs.declared.service.Service.TheVariants.{Memory}
 use Rattle.desk.specs.OfRegister.{of_register}
@@ -12,6 +12,7 @@ use Rattle.console.specs.Answer.{text, is_trouble, IsLine}
 use Rattle.console.specs.Dialogue.{AnswersQuery}
 use Rattle.console.specs.Reading.{reading}
 use Rattle.sector_disk.specs.Numbers.{Byte}
+use Rattle.recovery.specs.Opens.{Opening, opens}
 
 module _ {A : Type 0} where
   -- The answer to what the only line says, where nothing may change: a query is answered as a station's, and a command is no query.
@@ -42,3 +43,15 @@ pub record IsShown (A : Type 0) (s : State) (whole : List Byte) (out : List Byte
   pub answers : ShowsReading s (reading 1 whole) given
   pub written : out ≡ text given
   pub trouble : troubled ≡ is_trouble given
+
+-- the same out of an image: the state is the one that the image opens to
+pub record IsShownOf (A : Type 0) (image : List (List Byte)) (s : State) : Type 0 where
+  pub opened : Opening
+  pub opens_to : opens A image ≡ Ok opened
+  pub state : s ≡ opened.state
+
+-- the text of the answer of a register to a line; where the disk keeps what is said of it, the register is the one that its image opens to
+pub record IsShownBy (A : Type 0) (honest : Type 0) (image : List (List Byte)) (whole : List Byte) (out : List Byte) (troubled : Bool) : Type 0 where
+  pub register : State
+  pub kept : honest → IsShownOf A image register
+  pub shown : IsShown A register whole out troubled

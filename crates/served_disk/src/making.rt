@@ -1,14 +1,15 @@
 //! A disk made for an empty register.
 ghost use Rattle.std.specs.Prelude.{◌≡◌, ◌↔◌, IfErr, IfOk, IfSome, IsSome};
+ghost use Rattle.file_disk.specs.Disk.{calls_of};
 ghost use Rattle.checkpoint.specs.Layout.{disk_size};
+ghost use Rattle.served_disk.specs.Calls.{IsPartlyMade, making_calls};
 ghost use Rattle.served_disk.specs.Making.{AreInRange, AsksFor, AsksForNone, IsFor, IsOfMaking};
 
-use crate::Fault;
+use crate::{Fault, Refused};
 use checkpoint::Layout;
 use file_disk::{FileDisk, HostFile};
 use recovery::format;
 use registration::Limits;
-use sector_disk::Disk;
 use settings::{Settings, read_settings};
 use std::alloc::Global;
 use std::fs::{File, Files};
@@ -41,7 +42,8 @@ pub fn layout_of<'a>(alloc: Global, text: &[u8]) -> Result<Layout, Fault<'a>>
     }
 }
 
-/// Makes a disk in a new file of this name, for an empty register, and tells how many sectors it has.
+/// Makes a disk in a new file of this name, for an empty register. Zeros are written into each sector, and synced; then the
+/// disk is made ready. Nothing is written after the last sync.
 ///
 /// # Errors
 /// `File` where the file can't be made or exists already, `Device` and `Memory`. A file that could not be finished is left.
@@ -49,16 +51,18 @@ pub fn format_disk<'a, R: Files<File = File>>(
     rt: &R,
     layout: &Layout,
     name: &'a str,
-) -> Result<u64, Fault<'a>>
-    ensures sectors { IfOk result (λ sectors. sectors ≡ disk_size layout.now) }
-    ensures kinds { IfErr result (IsOfMaking name.now) }
+) -> Result<FileDisk<HostFile>, Refused<'a>>
+    ensures sectors { IfOk result (λ disk. disk.sectors ≡ disk_size layout.now) }
+    ensures calls { IfOk result (λ disk. calls_of disk ≡ making_calls layout.now) }
+    ensures some_calls { IfErr result (λ e. IfSome e.disk (λ disk. IsPartlyMade layout.now (calls_of disk))) }
+    ensures kinds { IfErr result (λ e. IsOfMaking name.now e.fault) }
 {
     let mut disk = match FileDisk::<HostFile>::create(rt, name, layout.sectors()) {
         Ok(disk) => disk,
-        Err(fault) => return Err(Fault::of_file(fault, name)),
+        Err(fault) => return Err(Refused::of_file(fault, name)),
     };
     match format::<Global, FileDisk<HostFile>>(&mut disk, layout) {
-        Ok(()) => Ok(disk.sectors()),
-        Err(fault) => Err(Fault::of_store(fault)),
+        Ok(()) => Ok(disk),
+        Err(fault) => Err(Refused::of_store(fault, disk)),
     }
 }

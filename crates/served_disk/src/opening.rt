@@ -1,14 +1,33 @@
 //! The register on a disk in a file.
-ghost use Rattle.std.specs.Prelude.{◌≡◌, IfErr, IfOk, false};
-ghost use Rattle.served_disk.specs.Making.{IsOfOpening};
+ghost use Rattle.std.specs.Prelude.{◌≡◌, IfErr, IfOk, IfSome, None, false};
+ghost use Rattle.file_disk.specs.Disk.{IsNew, calls_of};
+ghost use Rattle.served_disk.specs.Calls.{IsOnlyRead, IsReadAtMost};
+ghost use Rattle.served_disk.specs.Making.{IsOfMaking, IsOfOpening};
 
-use crate::Fault;
+use crate::Refused;
 use file_disk::{FileDisk, HostFile};
 use recovery::Store;
 use std::alloc::Global;
 use std::fs::{File, Files};
 
-/// Opens the register that is kept on the disk in the file of this name, and keeps that file locked.
+/// The disk in the file of this name, which is kept locked. It has had no call.
+pub(crate) fn adopt_disk<'a, R: Files<File = File>>(
+    rt: &R,
+    name: &'a str,
+) -> Result<FileDisk<HostFile>, Refused<'a>>
+    ensures new { IfOk result IsNew }
+    ensures kinds { IfErr result (λ e. IsOfOpening name.now e.fault) }
+    ensures of_file { IfErr result (λ e. IsOfMaking name.now e.fault) }
+    ensures none { IfErr result (λ e. e.disk ≡ None) }
+{
+    match FileDisk::<HostFile>::adopt(rt, name) {
+        Ok(disk) => Ok(disk),
+        Err(fault) => Err(Refused::of_file(fault, name)),
+    }
+}
+
+/// Opens the register that is kept on the disk in the file of this name, and keeps that file locked. The disk is synced once,
+/// and then only read; with a fault it is given back.
 ///
 /// # Errors
 /// `File` where the file can't be opened or another process holds it; what stands on the disk; `Device` and `Memory`.
@@ -16,16 +35,18 @@ pub fn open_disk<'a, R: Files<File = File>>(
     rt: &R,
     alloc: Global,
     name: &'a str,
-) -> Result<Store<Global, FileDisk<HostFile>>, Fault<'a>>
+) -> Result<Store<Global, FileDisk<HostFile>>, Refused<'a>>
     ensures sound { IfOk result (λ store. store.broken ≡ false) }
-    ensures kinds { IfErr result (IsOfOpening name.now) }
+    ensures calls { IfOk result (λ store. IsOnlyRead (calls_of store.disk)) }
+    ensures some_calls { IfErr result (λ e. IfSome e.disk (λ disk. IsReadAtMost e.fault (calls_of disk))) }
+    ensures kinds { IfErr result (λ e. IsOfOpening name.now e.fault) }
+
+    // Without a disk it is a fault of a file that was not opened.
+    ensures none { IfErr result (λ e. e.disk ≡ None → IsOfMaking name.now e.fault) }
 {
-    let disk = match FileDisk::<HostFile>::adopt(rt, name) {
-        Ok(disk) => disk,
-        Err(fault) => return Err(Fault::of_file(fault, name)),
-    };
+    let disk = adopt_disk(rt, name)?;
     match Store::open(alloc, disk) {
         Ok(store) => Ok(store),
-        Err((fault, _disk)) => Err(Fault::of_store(fault)),
+        Err((fault, disk)) => Err(Refused::of_store(fault, disk)),
     }
 }

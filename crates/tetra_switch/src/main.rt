@@ -5,14 +5,12 @@
 use centre_core::Register;
 use command_line::{Refusal, Request, read_command_line};
 use console::{Desk, RunFault, run};
-use recovery::Store;
 use registration::{Limits, Station};
 use sector_disk::Disk;
 use served_disk::{
     Fault, Progress, TURNS, WatchedDesk, WatchedReader, format_disk, layout_of, open_disk, serve,
-    show, tell_formatted, tell_station,
+    show_disk, tell_formatted, tell_station,
 };
-use std::alloc::Global;
 use std::fs::File;
 use std::io::{ErrorKind, IsTerminal, Write};
 use std::process::ExitCode;
@@ -121,8 +119,8 @@ fn make_disk<'a>(rt: &HostRuntime, settings: &'a str, disk: &'a str) -> Result<b
         Err(error) => return Err(not_read(error, settings)),
     };
     let layout = layout_of(rt.alloc(), &text)?;
-    let sectors = format_disk(rt, &layout, disk)?;
-    printed(tell_formatted(&mut io::writer(rt), sectors), false)
+    let made = format_disk(rt, &layout, disk)?;
+    printed(tell_formatted(&mut io::writer(rt), made.sectors()), false)
 }
 
 /// What has come of a request whose answer was printed.
@@ -167,26 +165,9 @@ fn serve_file<'a, D: Desk>(
 
 /// Prints the answer to the query that the words are, of the register on a disk.
 fn show_words<'a>(rt: &HostRuntime, disk: &'a str, words: &[&str]) -> Result<bool, Fault<'a>> {
-    let store = open_disk(rt, rt.alloc(), disk)?;
-    let shown = show_query(rt, &store, words);
-    drop(store);
-    shown
-}
-
-/// Prints the answer to the query that the words are.
-fn show_query<'a, D: Disk>(
-    rt: &HostRuntime,
-    store: &Store<Global, D>,
-    words: &[&str],
-) -> Result<bool, Fault<'a>> {
-    let Some(register) = store.register() else {
-        return Err(Fault::Device);
-    };
     let Ok(line) = words.join(rt.alloc(), " ") else {
         return Err(Fault::Memory);
     };
-    let Ok(shown) = show(rt.alloc(), register, line.as_bytes()) else {
-        return Err(Fault::Memory);
-    };
+    let (shown, _disk) = show_disk(rt, rt.alloc(), disk, line.as_bytes())?;
     printed(io::writer(rt).write_all(&shown.text), shown.troubled)
 }

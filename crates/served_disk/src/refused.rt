@@ -1,0 +1,48 @@
+//! Why a disk in a file is not made, opened or shown.
+ghost use Rattle.std.specs.Prelude.{◌≡◌, Some, None};
+ghost use Rattle.served_disk.specs.Faults.{IsOfFile, of_store};
+
+use crate::Fault;
+use file_disk::{FileDisk, FileFault, HostFile};
+use recovery::StoreFault;
+
+/// Why the disk in a file is not made, opened or shown, and the disk, where its file was opened.
+#[derive(Drop)]
+pub struct Refused<'a> {
+    /// Why.
+    pub fault: Fault<'a>,
+    /// The disk, as the calls left it.
+    pub disk: Option<FileDisk<HostFile>>,
+}
+
+impl<'a> Refused<'a> {
+    /// The file of this name is no disk.
+    pub(crate) fn of_file(fault: FileFault, name: &'a str) -> Refused<'a>
+        ensures fault { IsOfFile fault name.now result.fault }
+        ensures disk { result.disk ≡ None }
+    {
+        Refused {
+            fault: Fault::of_file(fault, name),
+            disk: None,
+        }
+    }
+
+    /// The disk gives no register, or is not made ready for one.
+    pub(crate) fn of_store(fault: StoreFault, disk: FileDisk<HostFile>) -> Refused<'a>
+        ensures fault { result.fault ≡ of_store fault }
+        ensures disk { result.disk ≡ Some disk }
+    {
+        Refused {
+            fault: Fault::of_store(fault),
+            disk: Some(disk),
+        }
+    }
+}
+
+impl<'a> From<Refused<'a>> for Fault<'a> {
+    ghost from_gives = { λ refused fault. fault ≡ refused.fault };
+
+    fn from(refused: Refused<'a>) -> Self {
+        refused.fault
+    }
+}

@@ -1,0 +1,69 @@
+//! A query answered out of the register on a disk.
+ghost use Rattle.std.specs.Prelude.{◌≡◌, ◌⊎◌, ◌++◌, ◌∷◌, [], IfErr, IfOk, IfSome, None};
+ghost use Rattle.sector_disk.specs.Reading.{before_reads};
+ghost use Rattle.sector_disk.specs.declared.record.Call.TheVariants.{Sync};
+ghost use Rattle.file_disk.specs.Disk.{calls_of};
+ghost use Rattle.centre_core.specs.State.{State};
+ghost use Rattle.recovery.specs.declared.fault.StoreFault.TheVariants.{DiskFault};
+ghost use Rattle.recovery.specs.Opens.{opens};
+ghost use Rattle.recovery.specs.Opening.{Fails, IsOfOpening as IsOfStoreOpening};
+ghost use Rattle.served_disk.specs.Calls.{IsOnlyRead, IsReadAtMost};
+ghost use Rattle.served_disk.specs.Making.{IsOfMaking, IsOfOpening};
+ghost use Rattle.served_disk.specs.Showing.{IsShown, IsShownBy};
+
+use crate::opening::adopt_disk;
+use crate::{Refused, Shown, show};
+use file_disk::{FileDisk, HostFile};
+use recovery::{Store, StoreFault};
+use sector_disk::Disk;
+use std::alloc::{Allocator, Global};
+use std::fs::{File, Files};
+
+/// Answers a line that is to be a query of the register that is kept on a disk, as the only line of a station. The disk is
+/// synced once, and then only read; it is given back, also with a fault.
+///
+/// # Errors
+/// What stands on the disk, a failing device, and want of memory.
+pub fn show_on<A: Allocator + Copy + Drop, D: Disk>(
+    alloc: A,
+    disk: D,
+    line: &[u8],
+) -> Result<(Shown<A>, D), (StoreFault, D)>
+    ensures shown { IfOk result (λ r. IsShownBy A (D.view disk).honest (D.view disk).reads line.now r.0.text.items r.0.troubled) }
+    ensures refused { IfErr result (λ e. (D.view disk).honest → Fails e.0 (opens A (D.view disk).reads)) }
+    ensures calls { IfOk result (λ r. before_reads (D.view r.1).calls ≡ (D.view disk).calls ++ Sync ∷ []) }
+    ensures some_calls { IfErr result (λ e. (before_reads (D.view e.1).calls ≡ (D.view disk).calls ++ Sync ∷ []) ⊎ ((e.0 ≡ DiskFault) × ((D.view e.1).calls ≡ (D.view disk).calls))) }
+    ensures kinds { IfErr result (λ e. IsOfStoreOpening e.0) }
+{
+    let store = Store::open(alloc, disk)?;
+    let shown = show(alloc, store.register().unwrap(), line);
+    let disk = store.into_disk();
+    match shown {
+        Ok(shown) => Ok((shown, disk)),
+        Err(_) => Err((StoreFault::NoMemory, disk)),
+    }
+}
+
+/// Answers a line that is to be a query of the register on the disk in the file of this name. The disk is synced once, and then
+/// only read; it is given back.
+///
+/// # Errors
+/// As `open_disk`; `Memory` also where there is none for a text of 1,024 bytes.
+pub fn show_disk<'a, R: Files<File = File>>(
+    rt: &R,
+    alloc: Global,
+    name: &'a str,
+    line: &[u8],
+) -> Result<(Shown<Global>, FileDisk<HostFile>), Refused<'a>>
+    ensures shown { IfOk result (λ r. (register : State) × IsShown Global register line.now r.0.text.items r.0.troubled) }
+    ensures calls { IfOk result (λ r. IsOnlyRead (calls_of r.1)) }
+    ensures some_calls { IfErr result (λ e. IfSome e.disk (λ disk. IsReadAtMost e.fault (calls_of disk))) }
+    ensures kinds { IfErr result (λ e. IsOfOpening name.now e.fault) }
+    ensures none { IfErr result (λ e. e.disk ≡ None → IsOfMaking name.now e.fault) }
+{
+    let disk = adopt_disk(rt, name)?;
+    match show_on(alloc, disk, line) {
+        Ok(shown) => Ok(shown),
+        Err((fault, disk)) => Err(Refused::of_store(fault, disk)),
+    }
+}
