@@ -4,6 +4,8 @@
 #[cfg(test)]
 mod failing;
 #[cfg(test)]
+mod in_turn;
+#[cfg(test)]
 mod made;
 #[cfg(test)]
 mod places;

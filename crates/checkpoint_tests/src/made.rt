@@ -78,6 +78,29 @@ pub fn register(alloc: Global, limits: Limits) -> Option<Register<Global>> {
     Some(register)
 }
 
+/// A rule for the radios of the network of this number after the first one's.
+fn rule_after(number: u32) -> Option<Command<Global>> {
+    let prefix = Prefix::new(0x3a80_0e00_0000 + (u64::from(number) << 24), 24)?;
+    let low = LocationArea::new(1)?;
+    let high = LocationArea::new(99)?;
+    let rule = Rule::new(low, high, Lifetime::NextItsiAttach, 3_600)?;
+    made(number + 1, Moment::new(0), Body::RuleSet { prefix, rule })
+}
+
+/// A register with 16 rules: its image has 18 rows.
+pub fn sixteen_rules(alloc: Global, limits: Limits) -> Option<Register<Global>> {
+    let mut register = Register::new(alloc, limits).ok()?;
+    for number in 0..16 {
+        apply(alloc, &mut register, rule_after(number));
+    }
+    Some(register)
+}
+
+/// A command without a reply's PDU.
+pub fn expiry(sequence: u32) -> Option<Command<Global>> {
+    made(sequence, Moment::new(11), Body::Expire)
+}
+
 /// A sector that begins with these bytes, with zeros behind them.
 pub fn sector(front: &[u8]) -> [u8; 512] {
     let mut bytes = [0; 512];
@@ -97,7 +120,12 @@ fn format<D: Disk>(disk: &mut D) -> Result<(), DiskError> {
 
 /// The worked disk, after it was formatted.
 pub fn formatted(alloc: Global) -> Option<MemoryDisk<Global>> {
-    let mut disk = MemoryDisk::new(alloc, 667, 99).ok()?;
+    formatted_for(alloc, 99)
+}
+
+/// The worked disk, after it was formatted, which records so many calls.
+pub fn formatted_for(alloc: Global, calls: u32) -> Option<MemoryDisk<Global>> {
+    let mut disk = MemoryDisk::new(alloc, 667, calls as usize).ok()?;
     let formatted = format(&mut disk).is_ok();
     formatted.then_some(disk)
 }

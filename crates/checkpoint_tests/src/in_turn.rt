@@ -1,0 +1,195 @@
+//! An image written a few rows at a time beside a record, and the switch to it.
+ghost use Rattle.checkpoint.specs.Progress.{IsProgress};
+
+use crate::made::{expiry, formatted_for, layout, sixteen_rules, standing, turn, write};
+use centre_core::{Command, Register};
+use checkpoint::{Layout, Progress, Side, begin, write_next_rows};
+use gated_journal::Journal;
+use sector_disk::{Disk, DiskError, Failing, FailingDisk, MemoryDisk};
+use std::alloc::{AllocError, Global};
+
+/// Writes the next rows to side B; how many are written then.
+fn next<D: Disk>(
+    disk: &mut D,
+    layout: &Layout,
+    register: &Register<Global>,
+    progress: &mut Progress,
+) -> Option<u64>
+    requires { IsProgress progress.old.epoch register.now progress.old }
+    ensures { IsProgress progress.new.epoch register.now progress.new }
+{
+    let layout = Layout::new(register.limits(), layout.journal())?;
+    if disk.sectors() < layout.sectors() {
+        return None;
+    }
+    write_next_rows(disk, &layout, Side::A, register, progress).ok()?;
+    Some(progress.written())
+}
+
+/// Writes the image with epoch 2 to side B in three calls, and syncs it; how many rows are written after each.
+fn in_three_calls<D: Disk>(
+    disk: &mut D,
+    layout: &Layout,
+    register: &Register<Global>,
+) -> Option<[u64; 3]> {
+    let mut progress = Progress::begun(2, register);
+    let first = next(disk, layout, register, &mut progress)?;
+    let second = next(disk, layout, register, &mut progress)?;
+    let before = progress.is_whole(register);
+    let third = next(disk, layout, register, &mut progress)?;
+    disk.sync().ok()?;
+    let whole = !before && progress.is_whole(register);
+    whole.then_some([first, second, third])
+}
+
+fn begun<D: Disk>(disk: &mut D, layout: &Layout) -> bool {
+    disk.sectors() >= layout.sectors() && begin::<Global, D>(disk, layout, Side::A).is_ok()
+}
+
+/// Whether two disks read the same, sector for sector.
+fn are_same<D: Disk>(one: &mut D, other: &mut D) -> Result<bool, DiskError> {
+    for at in 0..667 {
+        let mut first = [7; 512];
+        let mut second = [8; 512];
+        one.read(at, &mut first)?;
+        other.read(at, &mut second)?;
+        if first != second {
+            return Ok(false);
+        }
+    }
+    Ok(true)
+}
+
+/// Whether three calls leave what one call of `write_image` leaves.
+fn are_equal(alloc: Global, layout: &Layout, register: &Register<Global>) -> Option<bool> {
+    let mut whole = formatted_for(alloc, 999)?;
+    let mut parts = formatted_for(alloc, 999)?;
+    let written = write(&mut whole, layout, Side::A, 1, register).is_none();
+    let calls = if begun(&mut parts, layout) {
+        in_three_calls(&mut parts, layout, register)
+    } else {
+        None
+    };
+    let same = are_same(&mut whole, &mut parts) == Ok(true);
+    Some(written && same && calls == Some([8, 16, 18]))
+}
+
+fn is_written_in_turn(alloc: Global) -> Option<bool> {
+    let layout = layout()?;
+    let register = sixteen_rules(alloc, layout.limits())?;
+    let equal = are_equal(alloc, &layout, &register);
+    drop(register);
+    equal
+}
+
+#[test]
+fn eight_rows_a_call_are_the_whole_image(rt: HostRuntime) {
+    assert!(rt; is_written_in_turn(rt.alloc()) == Some(true));
+}
+
+/// Adds one record to both halves, each still empty.
+fn add<D: Disk>(alloc: Global, disk: &mut D, command: &Command<Global>) -> Option<bool> {
+    let mut first = Journal::start(alloc, 589, 39).ok()?;
+    let mut second = Journal::start(alloc, 628, 39).ok()?;
+    let commands = [command];
+    let fits = first.has_room(&commands) && second.has_room(&commands);
+    if !fits || disk.sectors() < 667 {
+        return None;
+    }
+    Some(first.append_both(disk, &mut second, &commands).is_ok())
+}
+
+/// A checkpoint beside one record: begun (3 calls), the record added to both halves (8), the rows written and synced
+/// (19), and switched to (2).
+fn beside<D: Disk>(
+    alloc: Global,
+    disk: &mut D,
+    layout: &Layout,
+    register: &Register<Global>,
+    command: &Command<Global>,
+) -> bool {
+    begun(disk, layout)
+        && add(alloc, disk, command) == Some(true)
+        && in_three_calls(disk, layout, register).is_some()
+        && turn(disk, layout, Side::A).is_none()
+}
+
+/// How many records a half of 39 sectors has.
+fn records<D: Disk>(alloc: Global, disk: &mut D, first: u32) -> Option<usize> {
+    let first = u64::from(first);
+    if disk.sectors() < first + 39 {
+        return None;
+    }
+    let (_, records) = Journal::replay(alloc, disk, first, 39).ok()?;
+    Some(records.len())
+}
+
+/// Fills each pending sector with a byte.
+fn stopped(
+    alloc: Global,
+    disk: MemoryDisk<Global>,
+    byte: u8,
+) -> Result<MemoryDisk<Global>, AllocError> {
+    let mut fill = Vec::new(alloc);
+    for at in disk.pending(alloc)? {
+        fill.push((at, [byte; 512]))?;
+    }
+    Ok(disk.crash(&fill))
+}
+
+/// The epoch of the side that counts after a stop behind the failing call, and how many records its half has.
+fn left(
+    alloc: Global,
+    layout: &Layout,
+    register: &Register<Global>,
+    call: u64,
+    byte: u8,
+) -> Option<(u8, usize)> {
+    let command = expiry(17)?;
+    let mut disk = FailingDisk::new(formatted_for(alloc, 199)?, call, Failing::Once);
+    let done = beside(alloc, &mut disk, layout, register, &command);
+    drop(command);
+    let mut left = stopped(alloc, disk.into_inner(), byte).ok()?;
+    let epoch = standing(&mut left).unwrap_or(0);
+    let held = records(alloc, &mut left, if epoch == 2 { 628 } else { 589 });
+    drop(left);
+    let held = held?;
+    (done == (call > 32)).then_some((epoch, held))
+}
+
+/// What is left there: the second image once its root is open, and the record once the current side's gate is.
+fn wanted(call: u64, byte: u8) -> (u8, usize) {
+    let epoch = if call > 32 || (call == 32 && byte == 1) {
+        2
+    } else {
+        1
+    };
+    let held = call > 11 || (call > 9 && byte == 1);
+    (epoch, usize::from(held))
+}
+
+const BYTES: [u8; 3] = [0, 1, 77];
+
+fn are_all_safe(alloc: Global, layout: &Layout, register: &Register<Global>) -> Option<bool> {
+    for call in 1..34 {
+        for byte in BYTES {
+            if left(alloc, layout, register, call, byte)? != wanted(call, byte) {
+                return Some(false);
+            }
+        }
+    }
+    Some(true)
+}
+
+fn is_safe(alloc: Global) -> Option<bool> {
+    let layout = layout()?;
+    let register = sixteen_rules(alloc, layout.limits())?;
+    let safe = are_all_safe(alloc, &layout, &register);
+    drop(register);
+    safe
+}
+
+#[test]
+fn a_checkpoint_beside_a_record(rt: HostRuntime) {
+    assert!(rt; is_safe(rt.alloc()) == Some(true));
+}
