@@ -47,6 +47,7 @@ fn laws_are_stated() {
     laws::cut_off_is_front::<Global>();
     laws::one_text::<Global>();
     laws::broken_behind_device::<Global>();
+    laws::register_at_device::<Global>();
     laws::stored_as_register::<Global>();
     laws::only_what_is_spelled::<Global>();
     laws::all_that_is_spelled::<Global>();

@@ -272,7 +272,7 @@ fn a_line_is_answered_before_the_next(rt: HostRuntime) -> Result<(), Fail> {
     Ok(())
 }
 
-/// Gives the rule, then half of the next line, and then fails.
+/// Gives these pieces, and then fails.
 #[derive(Drop)]
 struct Broken<'a> {
     parts: &'a [&'a str],
@@ -295,11 +295,15 @@ impl<'a> Read for Broken<'a> {
 /// Whether what was read is answered, and kept.
 fn fails_when_broken(alloc: Global) -> Result<bool, Fail> {
     let mut reader = Broken {
-        parts: &["1 0 rule 234-14-0/24 1 99 1 3600\n", "2 10 mm 234-14"],
+        parts: &[
+            "1 0 rule 234-14-0/24 1 99 1 3600\n2 0 expire\n",
+            "count\n3 10 mm 234-14",
+        ],
     };
     let mut out = Vec::new(alloc);
     let (ran, count) = over(alloc, 9, &mut reader, &mut out)?;
-    Ok(ran == Err(RunFault::Read) && out.as_slice() == b"1 ok 1 -\n".as_slice() && count == 1)
+    let answers = b"1 ok 1 -\n2 ok 2 -\ncount 2\n".as_slice();
+    Ok(ran == Err(RunFault::Read) && out.as_slice() == answers && count == 2)
 }
 
 #[test]

@@ -1,5 +1,5 @@
-//! Lines served at a desk that says every word of the service: a register whose disk has room for so many commands at its
-//! last epoch, and fails at one of them.
+//! Lines served at a desk that answers every outage word of a store: a register whose disk has room for so many commands at
+//! its last epoch, and fails at one of them.
 ghost use Rattle.std.specs.Prelude.{true};
 ghost use Rattle.desk.specs.OfStore.{Stored, of_store};
 
@@ -44,12 +44,14 @@ impl<A: Allocator + Clone> Desk for FailingDesk<A> {
             self.failures = self.failures.saturating_add(1);
             return Err(Service::Device);
         }
-        let Ok(reply) = self.register.apply(alloc, command) else {
-            return Err(Service::Memory);
-        };
-        self.room -= 1;
-        self.sound -= 1;
-        Ok(reply)
+        match Desk::apply(&mut self.register, alloc, command) {
+            Ok(reply) => {
+                self.room -= 1;
+                self.sound -= 1;
+                Ok(reply)
+            }
+            Err(_) => Err(Service::Memory),
+        }
     }
 
     fn query<C: Allocator + Copy>(&mut self, alloc: C, query: &Query) -> Result<Told<C>, Service> {
@@ -114,11 +116,12 @@ fn behind_a_failure_the_desk_is_broken(rt: HostRuntime) -> Result<(), Fail> {
     Ok(())
 }
 
-const WORDS: [(Service, &str); 4] = [
+const WORDS: [(Service, &str); 5] = [
     (Service::Memory, "7 no memory\n"),
     (Service::Device, "7 no device\n"),
     (Service::Broken, "7 no broken\n"),
     (Service::Epochs, "7 no epochs\n"),
+    (Service::Closed, "7 no closed\n"),
 ];
 
 fn are_printed(alloc: Global) -> Result<bool, Fail> {

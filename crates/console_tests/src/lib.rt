@@ -20,6 +20,8 @@ mod group_copies;
 #[cfg(test)]
 mod limits;
 #[cfg(test)]
+mod long_runs;
+#[cfg(test)]
 mod parts;
 #[cfg(test)]
 mod same;
