@@ -1,0 +1,134 @@
+#!/usr/bin/env python3
+"""Counts what a line costs the program on a small register and on a full one: its instructions, where valgrind is installed, and its
+allocations (count.c, preloaded). No line's cost may grow with the whole of a table, so a full table may cost a line a few times as much
+and not hundreds of times. A checkpoint may make no allocation for each entry of the register. Every figure is the difference of two runs,
+so that starting and opening the disk cost nothing. Prints the figures, the cases that fail, and last 'N passed, M failed'.
+Usage: tests/run costs PROGRAM (the program itself, not a script that starts it)"""
+import pathlib
+import re
+import shutil
+import subprocess
+
+import preloading
+from disk_files import DISK, LINES, MEMORY, place, settings
+from running import Differs, compare
+from testing import Count, options
+
+COUNTER = pathlib.Path(__file__).resolve().parent / 'count.c'
+# The tables of a small register and of a full one. A half of the journal has room for every record of a case.
+SMALL, FULL, HALF = 16, 4096, 16_384
+MOST_TIMES, MOST_PER_CHECKPOINT, LINES_EACH = 4, 64, 512
+RADIO, ATTACH = '234-14-{}', '10:260'
+
+
+def settings_of(size, journal=HALF):
+    return settings(rules=min(size, 4096), radios=size, mail=size, journal=journal).encode()
+
+
+def filling(size):
+    """Commands that fill rules, radios and items: each radio has a rule of its own, is attached, and has one message."""
+    for radio in range(size):
+        name = RADIO.format(radio + 1)
+        yield f'rule {name}/48 0 16383 1 999999999'
+        yield f'mm {name} 7 {ATTACH}'
+    for radio in range(size - 1):
+        yield f'sds {RADIO.format(radio + 1)} {RADIO.format(size - radio)} 40:8200{radio % 256:02X}04AA'
+
+
+def attaches(size, count):
+    return (f'mm {RADIO.format(k * 7 % size + 1)} 8 {ATTACH}' for k in range(count))
+
+
+def messages(size, count):
+    """A message and its deletion, from one radio after the other."""
+    for k in range(count // 2):
+        source, target = RADIO.format(k * 7 % size + 1), RADIO.format(k * 11 % size + 1)
+        yield f'sds {source} {target} 40:8200FF04AA'
+        yield f'delete {source} {target} 255 m'
+
+
+def expiries(size, count):
+    return ('expire' for _ in range(count))
+
+
+def rules(size, count):
+    return (f'rule {RADIO.format(k * 7 % size + 1)}/48 0 16383 1 999999999' for k in range(count))
+
+
+def commands(bodies, first=1):
+    return ''.join(f'{first + k} 1 {body}\n' for k, body in enumerate(bodies)).encode()
+
+
+class Costs:
+    """The program on disks of one size, whose instructions and allocations are counted."""
+
+    def __init__(self, there, made, size, journal=HALF):
+        self.there, self.made, self.size = there, made, size
+        there.write('s.toml', settings_of(size, journal))
+        there.path(DISK).unlink(missing_ok=True)
+        self.run(['format', 's.toml', DISK])
+        self.serve(filling(size))
+        there.copy(DISK, 'full.img')
+
+    def run(self, words, tool=()):
+        ran = subprocess.run([*tool, *self.there.command, *words], cwd=self.there.folder, capture_output=True, text=True, timeout=120,
+                             env=preloading.environment(self.made, COUNTED='allocations') if not tool else None)
+        if ran.returncode not in (0, 1):
+            raise Differs(f'{words} ended with status {ran.returncode}: {ran.stderr[:200]}')
+        return ran
+
+    def serve(self, bodies, tool=()):
+        """Serves these commands of station 1, all of which have to be accepted, and returns what the tool said."""
+        self.there.write(LINES, commands(bodies, self.next_sequence()))
+        ran = self.run(['run', DISK, LINES], tool)
+        refused = [line for line in ran.stdout.split('\n')[1:-1] if ' ok ' not in line]
+        compare('lines that were not accepted', refused[:3], [])
+        return ran.stderr
+
+    def next_sequence(self):
+        return int(self.run(['show', DISK, 'count']).stdout.split()[1]) + 1
+
+    def counted(self, kind, count, tool):
+        self.there.copy('full.img', DISK)
+        said = self.serve(kind(self.size, count), tool)
+        if tool:
+            return int(re.search(r'Collected : (\d+)', said)[1])
+        return int(self.there.path('allocations').read_text())
+
+    def a_line(self, kind, tool=()):
+        """What one line of the kind costs."""
+        few, many = (self.counted(kind, count, tool) for count in (LINES_EACH, 3 * LINES_EACH))
+        return (many - few) / (2 * LINES_EACH)
+
+
+def a_line_over_full_tables(small, full, kind, what, tool):
+    costs = [of.a_line(kind, tool) for of in (small, full)]
+    print(f'{kind.__name__}: {costs[0]:,.1f} and {costs[1]:,.1f} {what} a line', flush=True)
+    if costs[1] > MOST_TIMES * max(costs[0], 1):
+        raise Differs(f'a line costs {costs[1]:,.1f} {what} on a full register, {costs[0]:,.1f} on a small one')
+
+
+def a_checkpoint(there, made, full):
+    """Lines on a full register, with a half that is full after each 18 of them, and with one that has room for all."""
+    small_half = Costs(there, made, FULL, 38)
+    each = (small_half.a_line(expiries) - full.a_line(expiries)) * 18
+    print(f'a checkpoint: {each:,.1f} allocations', flush=True)
+    if each > MOST_PER_CHECKPOINT:
+        raise Differs(f'a checkpoint makes {each:,.1f} allocations')
+
+
+def main():
+    words, count = options(__doc__), Count()
+    tools = [('allocations', ())]
+    if shutil.which('valgrind'):
+        tools.append(('instructions', ('valgrind', '--tool=callgrind', '--callgrind-out-file=/dev/null')))
+    with preloading.library(COUNTER) as made, place(words.program, MEMORY) as one, place(words.program, MEMORY) as other:
+        small, full = Costs(one, made, SMALL), Costs(other, made, FULL)
+        for what, tool in tools:
+            for kind in (rules, attaches, messages, expiries):
+                count.case(f'{kind.__name__}, {what}', a_line_over_full_tables, small, full, kind, what, tool)
+        count.case('a checkpoint', a_checkpoint, one, made, full)
+    count.end()
+
+
+main()
