@@ -44,7 +44,7 @@ def messages(size, count):
     for k in range(count // 2):
         source, target = RADIO.format(k * 7 % size + 1), RADIO.format(k * 11 % size + 1)
         yield f'sds {source} {target} 40:8200FF04AA'
-        yield f'delete {source} {target} 255 m'
+        yield f'delete {target} {source} 255 m'
 
 
 def expiries(size, count):
