@@ -1,0 +1,7 @@
+//! Tests of the public calls of `station_queue` and `answers`, with real threads and in one.
+#![tactic(auto)]
+
+#[cfg(test)]
+mod channels;
+#[cfg(test)]
+mod queued;
