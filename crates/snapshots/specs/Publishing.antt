@@ -19,4 +19,4 @@ IsNextSnapshot base book x changes =
 abbrev pub HasPublished : {T E : Type 0} → Snapshot → List Change → Snapshot → List Change → Result T E → Type 0
 HasPublished x changes y left result =
     MatchResult result (λ _. ((y.register, y.list) ≡ fold (after_change (λ (c : Change). c.list)) (x.register, x.list) changes) × (left ≡ []))
-        (λ _. (y ≡ x) × (left ≡ changes))
+    (λ _. (y ≡ x) × (left ≡ changes))

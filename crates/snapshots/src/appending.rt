@@ -28,12 +28,6 @@ pub fn added_to_log(
         Adds,
     >(command);
     let mut pen = list.no_pen();
-    let found = word.compare_exchange::<Adds, NoGain>(
-        count,
-        count + 1,
-        list,
-        &mut offer,
-        &mut pen,
-    );
+    let found = word.compare_exchange::<Adds, NoGain>(count, count + 1, list, &mut offer, &mut pen);
     found == count
 }

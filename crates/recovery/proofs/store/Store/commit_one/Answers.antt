@@ -35,8 +35,8 @@ returns-in_err-make_room-clause-kept g c = λ sound.
     by_room c.make_room.result c.make_room.ensures.kept c.make_room.ensures.kinds
     (λ is honest stored. rw (c.make_room.ensures.only_broken is).1 stored)
     (λ is honest stored.
-        let stays = err_part is c.make_room.ensures.unmoved in
-        rw (c.make_room.ensures.same.0, c.make_room.ensures.same.1, stays.0, stays.1, stays.2, (c.make_room.ensures.epochs is).2) stored)
+    let stays = err_part is c.make_room.ensures.unmoved in
+    rw (c.make_room.ensures.same.0, c.make_room.ensures.same.1, stays.0, stays.1, stays.2, (c.make_room.ensures.epochs is).2) stored)
     (λ is honest stored. absurd (true≢false (sym (c.make_room.ensures.fault is).1 ∙ sound)))
 
 pub returns-in_err-make_room-clause-some_calls : goal.returns-in_err-make_room-clause-some_calls
