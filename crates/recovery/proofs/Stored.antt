@@ -57,7 +57,7 @@ module _ (A : Type 0) (layout : Layout) (side : Side) (epoch next : ℕ) (s : St
 
   -- the image stands by the old side, or by the other one with no record
   abbrev Either : List (List ℕ) → Type 0
-  Either = IsEither layout side (epoch, stored.base) (epoch + 1, s) (stored.entries, next)
+  Either = IsEither layout side (epoch, stored.base) (epoch + 1, s) (stored.entries, next) (fresh layout (other_of side))
 
   either_stands : (image : List (List ℕ)) → Either image → StandsFor A s image
   either_stands image (inl old) = stands_for A layout side (epoch, stored.base) (stored.entries, next) s image old stored.accepted stored.made
@@ -67,12 +67,12 @@ module _ (A : Type 0) (layout : Layout) (side : Side) (epoch next : ℕ) (s : St
   in_checkpoint new leaves = weaker disk new Either (StandsFor A s) leaves either_stands
 
 -- the image is written, and then the side switched to
-module _ {A : Type 0} (layout : Layout) (current : Side) (base next : Base) (held : Held A) (old mid : View) (written : LeavesOnly old mid (Stands layout current base held)) where
-  pub not_switched : LeavesOnly old mid (IsEither layout current base next held)
-  not_switched = weaker old mid (Stands layout current base held) (IsEither layout current base next held) written (λ image is. inl is)
+module _ {A : Type 0} (layout : Layout) (current : Side) (base next : Base) (held more : Held A) (old mid : View) (written : LeavesOnly old mid (Stands layout current base held)) where
+  pub not_switched : LeavesOnly old mid (IsEither layout current base next held more)
+  not_switched = weaker old mid (Stands layout current base held) (IsEither layout current base next held more) written (λ image is. inl is)
 
-  pub then_switched : (new : View) → LeavesOnly mid new (IsEither layout current base next held) → LeavesOnly old new (IsEither layout current base next held)
-  then_switched new switched = run_on old mid new (IsEither layout current base next held) (IsEither layout current base next held) not_switched switched (λ image is. is)
+  pub then_switched : (new : View) → LeavesOnly mid new (IsEither layout current base next held more) → LeavesOnly old new (IsEither layout current base next held more)
+  then_switched new switched = run_on old mid new (IsEither layout current base next held more) (IsEither layout current base next held more) not_switched switched (λ image is. is)
 
 -- where all images stand by a side with no record, the register is stored there
 pub stored_fresh : (A : Type 0) (layout : Layout) (side : Side) (epoch : ℕ) (s : State) (disk : View) → InEach disk (Stands {A = A} layout side (epoch, s) (fresh layout side)) → IsStored A layout side epoch (half_at layout side) s disk
