@@ -1,18 +1,22 @@
 -- The calls of a store as events of the life of its disk.
-use Rattle.std.proofs.Common.{◌≡◌, ◌⊎◌, inl, inr, ℕ, zero, suc, Bool, true, false, List, [], ◌∷◌, ◌++◌, ◌-◌, length, map, take, replicate, Result, Ok, Err, refl, sym, ap, subst, ◌∙◌}
+use Rattle.std.proofs.Common.{◌≡◌, ◌⊎◌, inl, inr, ℕ, zero, suc, Bool, true, false, List, [], ◌∷◌, ◌++◌, ◌-◌, length, map, take, replicate, Result, Ok, Err, refl, sym, ap, subst, ◌∙◌, ◌≤◌, arith}
 use Rattle.std.specs.Prelude.{if◌then◌else◌}
 use mathlib.Core.Bool.{false≢true}
 use Rattle.sector_disk.specs.Disk.{IsSound, View}
 use Rattle.sector_disk.specs.Run.{LeavesOnly}
 use Rattle.centre_core.specs.Asked.{Asked}
+use Rattle.centre_core.specs.declared.reply.Reply.{Reply}
 use Rattle.centre_core.specs.State.{State}
+use Rattle.centre_core.specs.Step.{step}
 use Rattle.centre_core.specs.Same.{under}
 use Rattle.centre_core.specs.History.{accepts, after, is_acceptance, next}
 use Rattle.centre_core.specs.Histories.{IsHistory}
 use Rattle.centre_core.proofs.SameLaws.{after_is_same, histories_are_same}
+use Rattle.centre_core.proofs.StateLaws.{step_is_next}
 use Rattle.recovery.specs.declared.outcome.Outcome.{Outcome}
 use Rattle.recovery.specs.declared.outcome.Outcome.TheVariants as outcome
 use Rattle.recovery.specs.Outcomes.{AreRecorded, IsAnswered, IsEnd, StandsForEither, accepted_of, replies}
+use Rattle.recovery.specs.Serving.{IsAfterOne}
 use Rattle.recovery.specs.Standing.{StandsFor}
 use Rattle.recovery.specs.Lives.{Answered, HasAccepted, IsAnsweredCall, IsCall, IsStoredIn, IsUnansweredCall, Open, StoreView, Unanswered, acknowledged_of, answers, fails}
 use Rattle.recovery.proofs.Batches.{accepted_after, accepted_history, first_or, none_recorded, same_verdict}
@@ -105,3 +109,26 @@ module _ (A : Type 0) {D : Type 0} (view : D → View) where
       is_answered outcomes is now =
           let cs = map (under A) (acknowledged_of commands outcomes) in
           answers old new cs (accepted cs (answered_accepted A old.register new.register commands outcomes is)) now
+
+  -- ---- one command
+
+  module _ {B : Type 0} (old new : StoreView D) (c : Asked B) (honest : (view new.disk).honest) (leaves : IsStoredIn A view old → LeavesOnly (view old.disk) (view new.disk) (StandsForEither A old.register new.register))
+      (kept : new.broken ≡ false → IsStoredIn A view old → IsStoredIn A view new) (broken : old.broken ≡ true → new ≡ old) where
+    one_accepted : (cs : List (Asked A)) → IsHistory old.register cs × (new.register ≡ after old.register cs) → HasAccepted A view old new cs
+    one_accepted cs is = record { honest = honest; history = is.0; made = is.1; any_moment = leaves; kept = kept; broken = broken }
+
+    one_recorded : (recorded : List (Asked A)) → AreRecorded A old.register (c ∷ []) new.register recorded → IsUnansweredCall A view old (c ∷ []) new
+    one_recorded recorded are = (recorded, are, fails old new recorded (one_accepted recorded (recorded_accepted A old.register new.register (c ∷ []) recorded are)))
+
+    pub one_unanswered : IsAfterOne old.register c new.register → IsUnansweredCall A view old (c ∷ []) new
+    one_unanswered (inl same) = one_recorded [] (none_recorded A old.register new.register (c ∷ []) same)
+    one_unanswered (inr done) = one_recorded (map (under A) (accepted_of old.register (c ∷ []))) (record { applied = 1; state = done.1; these = refl })
+
+-- a reply to one command answers a batch of it
+pub one_is_answered : {B C : Type 0} (s t : State) (c : Asked B) (reply : Reply C) → (t, reply) ≡ step s c → IsAnswered s (c ∷ []) t (outcome.Replied reply ∷ [])
+one_is_answered {B} {C} s t c reply done = record {
+  applied = 1;
+  end = record { most = omega arith; wants = λ d at. absurd cc };
+  state = ap (λ (r : State × Reply C). r.0) done ∙ step_is_next C s c;
+  outcomes_are = ap (λ (r : State × Reply C). outcome.Replied r.1 ∷ []) done;
+}

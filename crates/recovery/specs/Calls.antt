@@ -15,7 +15,7 @@ use Rattle.gated_journal.specs.declared.place.Place.{Place}
 use Rattle.gated_journal.specs.Calls.{append_calls, closed_gate, open_gate}
 use Rattle.gated_journal.specs.Record.{data_size, given, record_text}
 use Rattle.gated_journal.specs.Settled.{room_of}
-use Rattle.checkpoint.specs.Calls.{image_calls, switch_calls}
+use Rattle.checkpoint.specs.Calls.{image_calls_by, is_root_open, switch_calls}
 use Rattle.checkpoint.specs.declared.layout.Layout.{Layout}
 use Rattle.checkpoint.specs.declared.side.Side.{Side}
 use Rattle.checkpoint.specs.declared.side.Side.TheVariants as side
@@ -62,16 +62,28 @@ module _ (layout : Layout) (side : Side) where
   gate_then true gate = gate
   gate_then false gate = half_at layout (other_of side)
 
-  module _ (epoch : Epoch) (state : State) (reads : List (List Byte)) where
-    -- the register's image is written to the other side, with the next epoch, and that side is made to count
-    abbrev pub checkpoint_calls : List Call
-    checkpoint_calls = image_calls layout (other_of side) reads (epoch + 1, state) ++ switch_calls (other_of side)
+  module _ (epoch : Epoch) (state : State) where
+    -- the register's image is written to the other side, whose root was read as open or closed, with the next epoch, and
+    -- that side is made to count
+    abbrev pub checkpoint_calls_by : Bool → List Call
+    checkpoint_calls_by was_open = image_calls_by layout (other_of side) was_open (epoch + 1, state) ++ switch_calls (other_of side)
 
     -- where the record fits none, else those of a checkpoint
-    abbrev pub room_calls : Bool → List Call
-    room_calls true = []
-    room_calls false = checkpoint_calls
+    abbrev pub room_calls_by : Bool → Bool → List Call
+    room_calls_by was_open true = []
+    room_calls_by was_open false = checkpoint_calls_by was_open
 
     -- room is made where the record does not fit, and then the accepted commands are kept
-    abbrev pub commit_calls : {A : Type 0} → Bool → Sector → List (Asked A) → List Call
-    commit_calls fits gate accepted = room_calls fits ++ record_calls (gate_then fits gate) accepted
+    abbrev pub commit_calls_by : {A : Type 0} → Bool → Bool → Sector → List (Asked A) → List Call
+    commit_calls_by was_open fits gate accepted = room_calls_by was_open fits ++ record_calls (gate_then fits gate) accepted
+
+    -- the same, by what the other side's root reads as
+    module _ (reads : List (List Byte)) where
+      abbrev pub checkpoint_calls : List Call
+      checkpoint_calls = checkpoint_calls_by (is_root_open (other_of side) reads)
+
+      abbrev pub room_calls : Bool → List Call
+      room_calls fits = room_calls_by (is_root_open (other_of side) reads) fits
+
+      abbrev pub commit_calls : {A : Type 0} → Bool → Sector → List (Asked A) → List Call
+      commit_calls fits gate accepted = commit_calls_by (is_root_open (other_of side) reads) fits gate accepted

@@ -1,6 +1,6 @@
 //! A checkpoint of a register that is kept on a disk.
 
-ghost use Rattle.std.specs.Prelude.{◌≡◌, ◌+◌, ◌<◌, ◌≤◌, ◌++◌, [], Err, IfErr, IsErrOf, OnErr, OnOk, true, false};
+ghost use Rattle.std.specs.Prelude.{◌≡◌, ◌+◌, ◌<◌, ◌≤◌, ◌++◌, Bool, [], Err, IfErr, IsErrOf, OnErr, OnOk, true, false};
 ghost use Rattle.sector_disk.specs.Disk.{HasFailed};
 ghost use Rattle.sector_disk.specs.Run.{HasMade, LeavesOnly};
 ghost use Rattle.image_rows.specs.Rows.{last_epoch};
@@ -8,7 +8,7 @@ ghost use Rattle.checkpoint.specs.declared.fault.CheckpointError.TheVariants as 
 ghost use Rattle.checkpoint.specs.Layout.{disk_size, half_at, half_end, other_of};
 ghost use Rattle.checkpoint.specs.Standing.{Base, Held, InEach, IsEither, Stands, fresh};
 ghost use Rattle.recovery.specs.declared.fault.StoreFault.TheVariants.{Broken, DiskFault, EpochsUsedUp};
-ghost use Rattle.recovery.specs.Calls.{checkpoint_calls};
+ghost use Rattle.recovery.specs.Calls.{checkpoint_calls, checkpoint_calls_by};
 ghost use Rattle.recovery.specs.Stored.{IsStored};
 ghost use Rattle.recovery.specs.Refusals.{IsOfCheckpoint};
 ghost use Rattle.recovery.specs.Standing.{StandsFor};
@@ -37,6 +37,8 @@ fn write_side<A: Allocator + Clone, D: Disk>(
         → InEach (D.view disk.new) (Stands {A = A} layout.now (other_of current) (epoch + 1, register.now) (fresh layout.now (other_of current)))) }
     ensures calls { OnOk result ((D.view disk.old).honest → (D.view disk.new).calls ≡ (D.view disk.old).calls ++ checkpoint_calls layout.now current epoch register.now (D.view disk.old).reads) }
     ensures some_calls { (D.view disk.old).honest → HasMade (D.view disk.old) (D.view disk.new) (checkpoint_calls layout.now current epoch register.now (D.view disk.old).reads) }
+    ensures calls_on_any_disk { OnOk result ((was_open : Bool) × ((D.view disk.new).calls ≡ (D.view disk.old).calls ++ checkpoint_calls_by layout.now current epoch register.now was_open)) }
+    ensures some_calls_on_any_disk { (was_open : Bool) × HasMade (D.view disk.old) (D.view disk.new) (checkpoint_calls_by layout.now current epoch register.now was_open) }
     ensures fault { IsErrOf result checkpoint.DiskFault → HasFailed (D.view disk.old) (D.view disk.new) }
     ensures epochs { IsErrOf result checkpoint.EpochsUsedUp → (last_epoch ≤ epoch) × (disk.new ≡ disk.old) }
     ensures used_up { last_epoch ≤ epoch → result ≡ Err checkpoint.EpochsUsedUp }
@@ -73,6 +75,10 @@ impl<A: Allocator + Clone, D: Disk> Store<A, D> {
         // written once, and the root opened. A call that fails is the last.
         ensures calls { OnOk result ((D.view self.old.disk).honest → (D.view self.new.disk).calls ≡ (D.view self.old.disk).calls ++ checkpoint_calls self.old.layout self.old.side self.old.epoch self.old.register (D.view self.old.disk).reads) }
         ensures some_calls { (D.view self.old.disk).honest → HasMade (D.view self.old.disk) (D.view self.new.disk) (checkpoint_calls self.old.layout self.old.side self.old.epoch self.old.register (D.view self.old.disk).reads) }
+
+        // So too on a disk that is not honest, with the root's write or without it.
+        ensures calls_on_any_disk { OnOk result ((was_open : Bool) × ((D.view self.new.disk).calls ≡ (D.view self.old.disk).calls ++ checkpoint_calls_by self.old.layout self.old.side self.old.epoch self.old.register was_open)) }
+        ensures some_calls_on_any_disk { (was_open : Bool) × HasMade (D.view self.old.disk) (D.view self.new.disk) (checkpoint_calls_by self.old.layout self.old.side self.old.epoch self.old.register was_open) }
 
         // It does not give up by itself.
         ensures broken { self.old.broken ≡ true → result ≡ Err Broken }

@@ -1,6 +1,6 @@
 //! A batch of commands kept on a disk.
 
-ghost use Rattle.std.specs.Prelude.{◌≡◌, ◌⊎◌, ◌+◌, ◌<◌, ◌≤◌, ◌++◌, [], Err, IfErr, IfOk, IsErrOf, IsOk, List, Ok, OnErr, OnOk, length, true, false};
+ghost use Rattle.std.specs.Prelude.{◌≡◌, ◌⊎◌, ◌+◌, ◌<◌, ◌≤◌, ◌++◌, Bool, [], Err, IfErr, IfOk, IsErrOf, IsOk, List, Ok, OnErr, OnOk, length, true, false};
 ghost use Rattle.sector_disk.specs.Disk.{HasFailed};
 ghost use Rattle.sector_disk.specs.Run.{HasMade, LeavesOnly};
 ghost use Rattle.centre_core.specs.Asked.{Asked};
@@ -13,7 +13,7 @@ ghost use Rattle.gated_journal.specs.Settled.{room_of};
 ghost use Rattle.checkpoint.specs.Layout.{other_of};
 ghost use Rattle.checkpoint.specs.Standing.{InEach};
 ghost use Rattle.recovery.specs.declared.fault.StoreFault.TheVariants.{Broken, DiskFault, EpochsUsedUp, NoMemory};
-ghost use Rattle.recovery.specs.Calls.{commit_calls, fits_in, gate_then, record_calls, room_calls};
+ghost use Rattle.recovery.specs.Calls.{commit_calls, commit_calls_by, fits_in, gate_then, record_calls, room_calls, room_calls_by};
 ghost use Rattle.recovery.specs.Stored.{IsStored};
 ghost use Rattle.recovery.specs.Outcomes.{AreRecorded, IsAfterBatch, IsAnswered, StandsForEither, accepted_of, asked};
 ghost use Rattle.recovery.specs.Refusals.{IsOfCheckpoint, IsOfCommit};
@@ -43,6 +43,8 @@ impl<A: Allocator + Clone, D: Disk> Store<A, D> {
         ensures moves { OnOk result (room_of self.old.journal < data_size (record_text (given A commands.now)) → (self.new.side ≡ other_of self.old.side) × (self.new.epoch ≡ self.old.epoch + 1)) }
         ensures calls { OnOk result ((D.view self.old.disk).honest → (D.view self.new.disk).calls ≡ (D.view self.old.disk).calls ++ room_calls self.old.layout self.old.side self.old.epoch self.old.register (D.view self.old.disk).reads (fits_in A self.old.journal commands.now)) }
         ensures some_calls { (D.view self.old.disk).honest → HasMade (D.view self.old.disk) (D.view self.new.disk) (room_calls self.old.layout self.old.side self.old.epoch self.old.register (D.view self.old.disk).reads (fits_in A self.old.journal commands.now)) }
+        ensures calls_on_any_disk { OnOk result ((was_open : Bool) × ((D.view self.new.disk).calls ≡ (D.view self.old.disk).calls ++ room_calls_by self.old.layout self.old.side self.old.epoch self.old.register was_open (fits_in A self.old.journal commands.now))) }
+        ensures some_calls_on_any_disk { (was_open : Bool) × HasMade (D.view self.old.disk) (D.view self.new.disk) (room_calls_by self.old.layout self.old.side self.old.epoch self.old.register was_open (fits_in A self.old.journal commands.now)) }
         ensures gate { OnOk result (self.new.journal.next ≡ gate_then self.old.layout self.old.side (fits_in A self.old.journal commands.now) self.old.journal.next) }
         ensures same { (self.new.layout ≡ self.old.layout) × (self.new.register ≡ self.old.register) }
         ensures unmoved { OnErr result ((self.new.side ≡ self.old.side) × (self.new.epoch ≡ self.old.epoch) × (self.new.journal ≡ self.old.journal)) }
@@ -136,6 +138,12 @@ impl<A: Allocator + Clone, D: Disk> Store<A, D> {
             × ((D.view self.new.disk).calls ≡ (D.view self.old.disk).calls ++ commit_calls self.old.layout self.old.side self.old.epoch self.old.register (D.view self.old.disk).reads (fits_in A self.old.journal commands.now) self.old.journal.next recorded)) }
         ensures some_calls { (D.view self.old.disk).honest → (recorded : List (Asked A)) × AreRecorded A self.old.register (asked commands.now) self.new.register recorded
             × HasMade (D.view self.old.disk) (D.view self.new.disk) (commit_calls self.old.layout self.old.side self.old.epoch self.old.register (D.view self.old.disk).reads (fits_in A self.old.journal commands.now) self.old.journal.next recorded) }
+
+        // So too on a disk that is not honest, with the write of the other side's root or without it.
+        ensures calls_on_any_disk { OnOk result (1 ≤ length commands.now → (was_open : Bool) × (recorded : List (Asked A)) × AreRecorded A self.old.register (asked commands.now) self.new.register recorded
+            × ((D.view self.new.disk).calls ≡ (D.view self.old.disk).calls ++ commit_calls_by self.old.layout self.old.side self.old.epoch self.old.register was_open (fits_in A self.old.journal commands.now) self.old.journal.next recorded)) }
+        ensures some_calls_on_any_disk { (was_open : Bool) × (recorded : List (Asked A)) × AreRecorded A self.old.register (asked commands.now) self.new.register recorded
+            × HasMade (D.view self.old.disk) (D.view self.new.disk) (commit_calls_by self.old.layout self.old.side self.old.epoch self.old.register was_open (fits_in A self.old.journal commands.now) self.old.journal.next recorded) }
 
         // It does not give up by itself.
         ensures broken { self.old.broken ≡ true → result ≡ Err Broken }

@@ -47,6 +47,7 @@ fn read_half<A: Allocator + Copy, D: Disk>(
     ensures end { IfOk result (λ journal. journal.end ≡ half_end layout.now side) }
     ensures next { IfOk result (λ journal. journal.next < half_end layout.now side) }
     ensures kinds { IfErr result IsOfOpening }
+    ensures on_disk { (at : ℕ) → IsErrOf result (Damaged at) → at < (D.view disk.old).sectors }
     ensures looked { (D.view disk.old).honest → HasLooked (D.view disk.old) (D.view disk.new) }
     ensures only_reads { before_reads (D.view disk.new).calls ≡ before_reads (D.view disk.old).calls }
     ensures fault { IsErrOf result DiskFault → HasFailed (D.view disk.old) (D.view disk.new) }
@@ -72,6 +73,7 @@ fn read_by<A: Allocator + Copy, D: Disk>(
     ensures whole { IfOk result IsWhole }
     ensures layout { IfOk result (λ opened. opened.layout ≡ layout) }
     ensures kinds { IfErr result IsOfOpening }
+    ensures on_disk { (at : ℕ) → IsErrOf result (Damaged at) → at < (D.view disk.old).sectors }
     ensures looked { (D.view disk.old).honest → HasLooked (D.view disk.old) (D.view disk.new) }
     ensures only_reads { before_reads (D.view disk.new).calls ≡ before_reads (D.view disk.old).calls }
     ensures fault { IsErrOf result DiskFault → HasFailed (D.view disk.old) (D.view disk.new) }
@@ -105,6 +107,7 @@ pub(crate) fn read_all<A: Allocator + Copy, D: Disk>(
     ensures whole { IfOk result IsWhole }
     ensures room { IfOk result (λ opened. disk_size opened.layout ≤ (D.view disk.old).sectors) }
     ensures kinds { IfErr result IsOfOpening }
+    ensures on_disk { (at : ℕ) → IsErrOf result (Damaged at) → at < (D.view disk.old).sectors }
     ensures looked { (D.view disk.old).honest → HasLooked (D.view disk.old) (D.view disk.new) }
     ensures only_reads { before_reads (D.view disk.new).calls ≡ before_reads (D.view disk.old).calls }
     ensures fault { IsErrOf result DiskFault → HasFailed (D.view disk.old) (D.view disk.new) }

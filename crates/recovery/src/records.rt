@@ -33,6 +33,7 @@ pub(crate) fn read_base<A: Allocator + Copy, D: Disk>(
     ensures memory { IsErrOf result NoMemory → (D.view disk.old).honest → IsGoodSoFar layout.now side (D.view disk.old) (D.view disk.new) }
     ensures calls { IfOk result (λ base. (D.view disk.old).honest → (D.view disk.new).calls ≡ (D.view disk.old).calls ++ image_looks (slot_at layout.now side) base) }
     ensures kinds { IfErr result IsOfOpening }
+    ensures on_disk { (at : ℕ) → IsErrOf result (Damaged at) → at < (D.view disk.old).sectors }
     ensures looked { (D.view disk.old).honest → HasLooked (D.view disk.old) (D.view disk.new) }
     ensures only_reads { before_reads (D.view disk.new).calls ≡ before_reads (D.view disk.old).calls }
     ensures fault { IsErrOf result DiskFault → HasFailed (D.view disk.old) (D.view disk.new) }

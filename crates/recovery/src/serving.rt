@@ -1,16 +1,18 @@
 //! A register that is kept on a disk as a desk: a command is a commit of one.
-ghost use Rattle.std.specs.Prelude.{◌≡◌, ◌≤◌, ◌++◌, ◌∷◌, [], IfOk, List, OnOk, true, false};
+ghost use Rattle.std.specs.Prelude.{◌≡◌, ◌≤◌, ◌++◌, ◌∷◌, Bool, [], IfOk, List, OnErr, OnOk, true, false};
 ghost use Rattle.sector_disk.specs.Run.{HasMade, LeavesOnly};
 ghost use Rattle.centre_core.specs.Asked.{Asked};
 ghost use Rattle.gated_journal.specs.Record.{data_size, given, record_text};
 ghost use Rattle.gated_journal.specs.Settled.{room_of};
 ghost use Rattle.desk.specs.OfStore.{Stored, of_store};
 ghost use Rattle.desk.specs.Replies.{HasShortPdu};
-ghost use Rattle.recovery.specs.Calls.{commit_calls, fits_in};
+ghost use Rattle.recovery.specs.Calls.{commit_calls, commit_calls_by, fits_in};
 ghost use Rattle.recovery.specs.Stored.{IsStored};
 ghost use Rattle.recovery.specs.Outcomes.{AreRecorded, StandsForEither};
 ghost use Rattle.recovery.specs.Refusals.{IsOfCommit};
 ghost use Rattle.recovery.specs.Serving.{IsAfterOne, IsWordFor, stored_of};
+ghost use Rattle.recovery.specs.Lives.{IsAnsweredCall, IsUnansweredCall, view_of};
+ghost use Rattle.recovery.specs.declared.outcome.Outcome.TheVariants.{Replied};
 
 use crate::{Store, StoreFault};
 use centre_core::laws::registers;
@@ -53,6 +55,16 @@ impl<A: Allocator + Clone, D: Disk> Desk for Store<A, D> {
             × ((D.view self.new.disk).calls ≡ (D.view self.old.disk).calls ++ commit_calls self.old.layout self.old.side self.old.epoch self.old.register (D.view self.old.disk).reads (fits_in A self.old.journal (command.entry ∷ [])) self.old.journal.next recorded)) }
         ensures some_calls { (D.view self.old.disk).honest → (recorded : List (Asked A)) × AreRecorded A self.old.register (command.now ∷ []) self.new.register recorded
             × HasMade (D.view self.old.disk) (D.view self.new.disk) (commit_calls self.old.layout self.old.side self.old.epoch self.old.register (D.view self.old.disk).reads (fits_in A self.old.journal (command.entry ∷ [])) self.old.journal.next recorded) }
+
+        // So too on a disk that is not honest, with the write of the other side's root or without it.
+        ensures calls_on_any_disk { OnOk result ((was_open : Bool) × (recorded : List (Asked A)) × AreRecorded A self.old.register (command.now ∷ []) self.new.register recorded
+            × ((D.view self.new.disk).calls ≡ (D.view self.old.disk).calls ++ commit_calls_by self.old.layout self.old.side self.old.epoch self.old.register was_open (fits_in A self.old.journal (command.entry ∷ [])) self.old.journal.next recorded)) }
+        ensures some_calls_on_any_disk { (was_open : Bool) × (recorded : List (Asked A)) × AreRecorded A self.old.register (command.now ∷ []) self.new.register recorded
+            × HasMade (D.view self.old.disk) (D.view self.new.disk) (commit_calls_by self.old.layout self.old.side self.old.epoch self.old.register was_open (fits_in A self.old.journal (command.entry ∷ [])) self.old.journal.next recorded) }
+
+        // In the life of the disk it is a call that is answered with this reply, or one that is not.
+        ensures answered { IfOk result (λ reply. (D.view self.old.disk).honest → IsAnsweredCall A D.view (view_of self.old) (command.now ∷ []) (Replied reply ∷ []) (view_of self.new)) }
+        ensures unanswered { OnErr result ((D.view self.old.disk).honest → IsUnansweredCall A D.view (view_of self.old) (command.now ∷ []) (view_of self.new)) }
     {
         registers(&self.register);
         match self.commit_one(alloc, command) {

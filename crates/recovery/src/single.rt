@@ -1,5 +1,5 @@
 // One command kept on a disk.
-ghost use Rattle.std.specs.Prelude.{◌≡◌, ◌≤◌, ◌++◌, ◌∷◌, [], Err, IfErr, IfOk, IsErrOf, IsTrue, List, OnOk, true, false, if◌then◌else◌};
+ghost use Rattle.std.specs.Prelude.{◌≡◌, ◌≤◌, ◌++◌, ◌∷◌, Bool, [], Err, IfErr, IfOk, IsErrOf, IsTrue, List, OnOk, true, false, if◌then◌else◌};
 ghost use Rattle.sector_disk.specs.Disk.{HasFailed};
 ghost use Rattle.sector_disk.specs.Run.{HasMade, LeavesOnly};
 ghost use Rattle.centre_core.specs.Asked.{Asked};
@@ -10,7 +10,7 @@ ghost use Rattle.image_rows.specs.Rows.{last_epoch};
 ghost use Rattle.gated_journal.specs.Record.{data_size, given, record_text};
 ghost use Rattle.gated_journal.specs.Settled.{room_of};
 ghost use Rattle.recovery.specs.declared.fault.StoreFault.TheVariants.{Broken, DiskFault, EpochsUsedUp, NoMemory};
-ghost use Rattle.recovery.specs.Calls.{commit_calls, fits_in};
+ghost use Rattle.recovery.specs.Calls.{commit_calls, commit_calls_by, fits_in};
 ghost use Rattle.recovery.specs.Stored.{IsStored};
 ghost use Rattle.recovery.specs.Outcomes.{AreRecorded, StandsForEither};
 ghost use Rattle.recovery.specs.Refusals.{IsOfCommit};
@@ -54,6 +54,10 @@ impl<A: Allocator + Clone, D: Disk> Store<A, D> {
             × ((D.view self.new.disk).calls ≡ (D.view self.old.disk).calls ++ commit_calls self.old.layout self.old.side self.old.epoch self.old.register (D.view self.old.disk).reads (fits_in A self.old.journal (command.entry ∷ [])) self.old.journal.next recorded)) }
         ensures some_calls { (D.view self.old.disk).honest → (recorded : List (Asked A)) × AreRecorded A self.old.register (command.now ∷ []) self.new.register recorded
             × HasMade (D.view self.old.disk) (D.view self.new.disk) (commit_calls self.old.layout self.old.side self.old.epoch self.old.register (D.view self.old.disk).reads (fits_in A self.old.journal (command.entry ∷ [])) self.old.journal.next recorded) }
+        ensures calls_on_any_disk { OnOk result ((was_open : Bool) × (recorded : List (Asked A)) × AreRecorded A self.old.register (command.now ∷ []) self.new.register recorded
+            × ((D.view self.new.disk).calls ≡ (D.view self.old.disk).calls ++ commit_calls_by self.old.layout self.old.side self.old.epoch self.old.register was_open (fits_in A self.old.journal (command.entry ∷ [])) self.old.journal.next recorded)) }
+        ensures some_calls_on_any_disk { (was_open : Bool) × (recorded : List (Asked A)) × AreRecorded A self.old.register (command.now ∷ []) self.new.register recorded
+            × HasMade (D.view self.old.disk) (D.view self.new.disk) (commit_calls_by self.old.layout self.old.side self.old.epoch self.old.register was_open (fits_in A self.old.journal (command.entry ∷ [])) self.old.journal.next recorded) }
 
         // It does not give up by itself, and a fault of the disk shows the register before the call.
         ensures broken { self.old.broken ≡ true → (result ≡ Err Broken) × (self.new ≡ self.old) }

@@ -62,6 +62,9 @@ impl<A: Allocator + Copy, D: Disk> Store<A, D> {
         ensures calls { IfOk result (λ store. before_reads (D.view store.disk).calls ≡ (D.view disk).calls ++ Sync ∷ []) }
         ensures some_calls { IfErr result (λ e. (before_reads (D.view e.1).calls ≡ (D.view disk).calls ++ Sync ∷ []) ⊎ ((e.0 ≡ DiskFault) × ((D.view e.1).calls ≡ (D.view disk).calls))) }
 
+        // The sector that it names is one of the disk, also of a disk that is not honest.
+        ensures on_disk { IfErr result (λ e. (at : ℕ) → e.0 ≡ Damaged at → at < (D.view disk).sectors) }
+
         // Want of memory hides no fault of what was read: behind the rows, all records are judged before it is told.
         ensures memory { IfErr result (λ e. e.0 ≡ NoMemory → (D.view disk).honest → HasNoFaultYet A (D.view disk).reads (D.view e.1).calls) }
 

@@ -1,7 +1,7 @@
 use Rattle.std.proofs.Common.{◌+◌, ◌<◌, arith}
 use Rattle.std.proofs.lemmas.Result.{on_ok_weaker}
 use Rattle.checkpoint.specs.Standing.{Base, Held, Stands, fresh}
-use Rattle.checkpoint.specs.Calls.{image_calls, switch_calls}
+use Rattle.checkpoint.specs.Calls.{image_calls, image_calls_by, switch_calls}
 use Rattle.checkpoint.specs.Layout.{other_of}
 use Rattle.checkpoint.proofs.Spared.{left_each}
 use Rattle.sector_disk.proofs.Made.{made_of_more}
@@ -51,3 +51,24 @@ pub returns-clause-some_calls : goal.returns-clause-some_calls
 returns-clause-some_calls g c honest =
     let old = g.D.Disk.view c.args.disk.now in
     made_in_second old (g.D.Disk.view c.write_image.new.disk) (g.D.Disk.view c.switch.new.disk) (image_calls c.args.layout.now (other_of c.args.current) old.reads (c.args.epoch + 1, c.args.register.now)) (switch_calls (other_of c.args.current)) (c.in_ok-write_image.ensures.calls honest) c.switch.ensures.some_calls
+
+pub returns-in_err-write_image-clause-some_calls_on_any_disk : goal.returns-in_err-write_image-clause-some_calls_on_any_disk
+returns-in_err-write_image-clause-some_calls_on_any_disk g c =
+    let some = c.write_image.ensures.some_calls_on_any_disk in (
+      some.0,
+      made_of_more (g.D.Disk.view c.args.disk.now) (g.D.Disk.view c.write_image.new.disk) (image_calls_by c.args.layout.now (other_of c.args.current) some.0 (c.args.epoch + 1, c.args.register.now)) (switch_calls (other_of c.args.current)) some.1,
+    )
+
+pub returns-clause-calls_on_any_disk : goal.returns-clause-calls_on_any_disk
+returns-clause-calls_on_any_disk g c = on_ok_weaker c.switch.result (λ made.
+    let all = c.in_ok-write_image.ensures.calls_on_any_disk in (
+      all.0,
+      made_both (g.D.Disk.view c.args.disk.now) (g.D.Disk.view c.write_image.new.disk) (g.D.Disk.view c.switch.new.disk) (image_calls_by c.args.layout.now (other_of c.args.current) all.0 (c.args.epoch + 1, c.args.register.now)) (switch_calls (other_of c.args.current)) all.1 made,
+    )) c.switch.ensures.calls
+
+pub returns-clause-some_calls_on_any_disk : goal.returns-clause-some_calls_on_any_disk
+returns-clause-some_calls_on_any_disk g c =
+    let all = c.in_ok-write_image.ensures.calls_on_any_disk in (
+      all.0,
+      made_in_second (g.D.Disk.view c.args.disk.now) (g.D.Disk.view c.write_image.new.disk) (g.D.Disk.view c.switch.new.disk) (image_calls_by c.args.layout.now (other_of c.args.current) all.0 (c.args.epoch + 1, c.args.register.now)) (switch_calls (other_of c.args.current)) all.1 c.switch.ensures.some_calls,
+    )

@@ -1,4 +1,4 @@
-use Rattle.std.proofs.Common.{◌≡◌, ◌+◌, [], refl, rules}
+use Rattle.std.proofs.Common.{◌≡◌, ◌+◌, [], false, refl, rules}
 use Rattle.std.proofs.lemmas.Bool.{true≢false}
 use Rattle.checkpoint.specs.Layout.{half_at, other_of}
 use Rattle.sector_disk.proofs.Made.{made_none}
@@ -53,3 +53,6 @@ returns-in-Err-EpochsUsedUp-clause-call g c = λ honest.
 pub returns-in-Err-DiskFault-clause-call : goal.returns-in-Err-DiskFault-clause-call
 returns-in-Err-DiskFault-clause-call g c = λ honest.
     fails _ _ [] (none_accepted g.row.A.Denot g.D.Disk.view (view_of c.args.self.now) _ (c.write_side.ensures.honest honest) refl (returns-in-Err-DiskFault-clause-any_moment g c honest) (λ whole stored. absurd (true≢false whole)) c.if-self.false)
+
+pub returns-then-self-clause-some_calls_on_any_disk : goal.returns-then-self-clause-some_calls_on_any_disk
+returns-then-self-clause-some_calls_on_any_disk g c = (false, made_none (g.D.Disk.view c.args.self.now.disk) _)

@@ -1,11 +1,11 @@
-use Rattle.std.proofs.Common.{rules, sym, refl, ◌≡◌, [], inr, length, ◌∙◌, arith}
+use Rattle.std.proofs.Common.{rules, sym, refl, ◌≡◌, [], false, inr, length, ◌∙◌, arith}
 use Rattle.std.proofs.lemmas.Bool.{true≢false}
 use Rattle.std.proofs.lemmas.List.{nil_from_length}
 use Rattle.mailbox.proofs.Results.{known_err}
 use Rattle.recovery.proofs.Stored.{batch_done, commit_history, stored_commit, commit_leaves, fewer_fit, stored_stands, no_length, none_answered, nothing_done, only_before}
 use Rattle.sector_disk.proofs.Made.{made_none, made_of_more}
 use Rattle.gated_journal.specs.Record.{given}
-use Rattle.recovery.specs.Calls.{fits_in, gate_then, record_calls, room_calls}
+use Rattle.recovery.specs.Calls.{fits_in, gate_then, record_calls, room_calls, room_calls_by}
 use Rattle.recovery.proofs.Batches.{recorded_behind, none_recorded}
 use Rattle.recovery.proofs.Called.{made_both, made_in_second}
 use Rattle.recovery.specs.Outcomes.{asked}
@@ -184,3 +184,67 @@ returns-clause-answered g c = λ honest.
     (returns-clause-any_moment g c honest) (λ whole. returns-clause-kept g c honest) c.if-self.false
     c.apply_all.new.outcomes.items (answered_later c.args.self.now.register c.make_room.new.self.register c.apply_all.new.register c.add_record.new.self.register (asked c.args.commands.now) c.apply_all.new.outcomes.items c.make_room.ensures.same.1 c.add_record.ensures.same.3 c.apply_all.ensures.answered)
     (returns-clause-sound g c)
+
+pub returns-then-self-clause-some_calls_on_any_disk : goal.returns-then-self-clause-some_calls_on_any_disk
+returns-then-self-clause-some_calls_on_any_disk g c = (false, [], none_recorded g.row.A.Denot c.args.self.now.register c.args.self.now.register (asked c.args.commands.now) refl, made_none (g.D.Disk.view c.args.self.now.disk) _)
+
+pub returns-in_err-outcomes-clause-some_calls_on_any_disk : goal.returns-in_err-outcomes-clause-some_calls_on_any_disk
+returns-in_err-outcomes-clause-some_calls_on_any_disk g c = (false, [], none_recorded g.row.A.Denot c.args.self.now.register c.args.self.now.register (asked c.args.commands.now) refl, made_none (g.D.Disk.view c.args.self.now.disk) _)
+
+pub returns-then-is_empty-clause-some_calls_on_any_disk : goal.returns-then-is_empty-clause-some_calls_on_any_disk
+returns-then-is_empty-clause-some_calls_on_any_disk g c = (false, [], none_recorded g.row.A.Denot c.args.self.now.register c.args.self.now.register (asked c.args.commands.now) refl, made_none (g.D.Disk.view c.args.self.now.disk) _)
+
+pub returns-in_err-accepted-clause-some_calls_on_any_disk : goal.returns-in_err-accepted-clause-some_calls_on_any_disk
+returns-in_err-accepted-clause-some_calls_on_any_disk g c = (false, [], none_recorded g.row.A.Denot c.args.self.now.register c.args.self.now.register (asked c.args.commands.now) refl, made_none (g.D.Disk.view c.args.self.now.disk) _)
+
+pub returns-then-is_empty-clause-calls_on_any_disk : goal.returns-then-is_empty-clause-calls_on_any_disk
+returns-then-is_empty-clause-calls_on_any_disk g c = λ some.
+    let nothing : length c.args.commands.now ≡ 0 = no_length (length c.args.commands.now) (sym c.is_empty.ensures ∙ c.if-is_empty.true) in
+    absurd (omega (arith, some, nothing))
+
+pub returns-in_err-make_room-clause-some_calls_on_any_disk : goal.returns-in_err-make_room-clause-some_calls_on_any_disk
+returns-in_err-make_room-clause-some_calls_on_any_disk g c =
+    let self = c.args.self.now in
+    let fits = fits_in g.row.A.Denot self.journal c.args.commands.now in
+    let some = c.make_room.ensures.some_calls_on_any_disk in (
+      some.0,
+      [],
+      none_recorded g.row.A.Denot self.register c.make_room.new.self.register (asked c.args.commands.now) c.make_room.ensures.same.1,
+      made_of_more (g.D.Disk.view self.disk) (g.D.Disk.view c.make_room.new.self.disk) (room_calls_by self.layout self.side self.epoch self.register some.0 fits) [] some.1,
+    )
+
+pub returns-in_err-add_record-clause-some_calls_on_any_disk : goal.returns-in_err-add_record-clause-some_calls_on_any_disk
+returns-in_err-add_record-clause-some_calls_on_any_disk g c =
+    let self = c.args.self.now in
+    let fits = fits_in g.row.A.Denot self.journal c.args.commands.now in
+    let all = c.in_ok-make_room.ensures.calls_on_any_disk in
+    let these = given g.row.A.Denot c.deref.result.now in (
+      all.0,
+      these,
+      recorded_behind g.row.A.Denot self.register c.make_room.new.self.register c.apply_all.new.register c.add_record.new.self.register (asked c.args.commands.now) c.deref.result.now c.apply_all.new.accepted.items c.make_room.ensures.same.1 c.deref.ensures.value c.add_record.ensures.same.3 c.apply_all.ensures.recorded,
+      made_in_second (g.D.Disk.view self.disk) (g.D.Disk.view c.make_room.new.self.disk) (g.D.Disk.view c.add_record.new.self.disk) (room_calls_by self.layout self.side self.epoch self.register all.0 fits) (record_calls (gate_then self.layout self.side fits self.journal.next) these) all.1 (rw c.in_ok-make_room.ensures.gate at c.add_record.ensures.some_calls),
+    )
+
+pub returns-clause-some_calls_on_any_disk : goal.returns-clause-some_calls_on_any_disk
+returns-clause-some_calls_on_any_disk g c =
+    let self = c.args.self.now in
+    let fits = fits_in g.row.A.Denot self.journal c.args.commands.now in
+    let all = c.in_ok-make_room.ensures.calls_on_any_disk in
+    let these = given g.row.A.Denot c.deref.result.now in (
+      all.0,
+      these,
+      recorded_behind g.row.A.Denot self.register c.make_room.new.self.register c.apply_all.new.register c.add_record.new.self.register (asked c.args.commands.now) c.deref.result.now c.apply_all.new.accepted.items c.make_room.ensures.same.1 c.deref.ensures.value c.add_record.ensures.same.3 c.apply_all.ensures.recorded,
+      made_in_second (g.D.Disk.view self.disk) (g.D.Disk.view c.make_room.new.self.disk) (g.D.Disk.view c.add_record.new.self.disk) (room_calls_by self.layout self.side self.epoch self.register all.0 fits) (record_calls (gate_then self.layout self.side fits self.journal.next) these) all.1 (rw c.in_ok-make_room.ensures.gate at c.add_record.ensures.some_calls),
+    )
+
+pub returns-clause-calls_on_any_disk : goal.returns-clause-calls_on_any_disk
+returns-clause-calls_on_any_disk g c = λ some.
+    let self = c.args.self.now in
+    let fits = fits_in g.row.A.Denot self.journal c.args.commands.now in
+    let all = c.in_ok-make_room.ensures.calls_on_any_disk in
+    let these = given g.row.A.Denot c.deref.result.now in (
+      all.0,
+      these,
+      recorded_behind g.row.A.Denot self.register c.make_room.new.self.register c.apply_all.new.register c.add_record.new.self.register (asked c.args.commands.now) c.deref.result.now c.apply_all.new.accepted.items c.make_room.ensures.same.1 c.deref.ensures.value c.add_record.ensures.same.3 c.apply_all.ensures.recorded,
+      made_both (g.D.Disk.view self.disk) (g.D.Disk.view c.make_room.new.self.disk) (g.D.Disk.view c.add_record.new.self.disk) (room_calls_by self.layout self.side self.epoch self.register all.0 fits) (record_calls (gate_then self.layout self.side fits self.journal.next) these) all.1 (rw c.in_ok-make_room.ensures.gate at c.in_ok-add_record.ensures.calls),
+    )

@@ -1,11 +1,11 @@
-use Rattle.std.proofs.Common.{rules, ◌≡◌, ◌∷◌, [], Err, Bor, List, ℕ, inl, refl, subst, sym, ap, ◌∙◌}
+use Rattle.std.proofs.Common.{rules, ◌≡◌, ◌∷◌, [], Err, Bor, List, ℕ, false, inl, refl, subst, sym, ap, ◌∙◌}
 use Rattle.std.proofs.lemmas.Bool.{true≢false}
 use Rattle.sector_disk.proofs.Made.{made_none, made_of_more}
 use Rattle.centre_core.specs.Asked.{Asked}
 use Rattle.centre_core.specs.History.{is_acceptance}
 use Rattle.gated_journal.specs.Record.{given}
 use Rattle.recovery.specs.declared.outcome.Outcome.TheVariants.{Replied}
-use Rattle.recovery.specs.Calls.{fits_in, gate_then, record_calls, room_calls}
+use Rattle.recovery.specs.Calls.{fits_in, gate_then, record_calls, room_calls, room_calls_by}
 use Rattle.recovery.proofs.Batches.{ends_history, ends_recorded, ends_size, ends_state, none_recorded, recorded_behind}
 use Rattle.recovery.proofs.Called.{made_both, made_in_second}
 use Rattle.recovery.proofs.Limited.{result_limits}
@@ -193,3 +193,90 @@ returns-clause-calls g c = λ honest.
 
 pub returns-clause-sound : goal.returns-clause-sound
 returns-clause-sound g c = (c.if-self.false, c.in_ok-add_record.ensures.sound ∙ c.in_ok-make_room.ensures.sound c.if-self.false)
+
+pub returns-then-self-clause-some_calls_on_any_disk : goal.returns-then-self-clause-some_calls_on_any_disk
+returns-then-self-clause-some_calls_on_any_disk g c = (false, [], none_recorded g.row.A.Denot c.args.self.now.register c.args.self.now.register (c.args.command.now ∷ []) refl, made_none (g.D.Disk.view c.args.self.now.disk) _)
+
+pub returns-in_err-make_room-clause-some_calls_on_any_disk : goal.returns-in_err-make_room-clause-some_calls_on_any_disk
+returns-in_err-make_room-clause-some_calls_on_any_disk g c =
+    let self = c.args.self.now in
+    let fits = fits_in g.row.A.Denot self.journal (c.args.command ∷ []) in
+    let old = g.D.Disk.view self.disk in
+    let all = c.make_room.ensures.some_calls_on_any_disk in (
+      all.0,
+      [],
+      none_recorded g.row.A.Denot self.register c.make_room.new.self.register (c.args.command.now ∷ []) c.make_room.ensures.same.1,
+      made_of_more old (g.D.Disk.view c.make_room.new.self.disk) (room_calls_by self.layout self.side self.epoch self.register all.0 fits) [] all.1,
+    )
+
+pub returns-in_err-reply-clause-some_calls_on_any_disk : goal.returns-in_err-reply-clause-some_calls_on_any_disk
+returns-in_err-reply-clause-some_calls_on_any_disk g c =
+    let self = c.args.self.now in
+    let fits = fits_in g.row.A.Denot self.journal (c.args.command ∷ []) in
+    let old = g.D.Disk.view self.disk in
+    let all = c.make_room.ensures.some_calls_on_any_disk in (
+      all.0,
+      [],
+      none_recorded g.row.A.Denot self.register c.apply.new.self (c.args.command.now ∷ []) (c.in_err-reply.ensures.err ∙ c.make_room.ensures.same.1),
+      made_of_more old (g.D.Disk.view c.make_room.new.self.disk) (room_calls_by self.layout self.side self.epoch self.register all.0 fits) [] all.1,
+    )
+
+pub returns-in_err-add_record-clause-some_calls_on_any_disk : goal.returns-in_err-add_record-clause-some_calls_on_any_disk
+returns-in_err-add_record-clause-some_calls_on_any_disk g c =
+    let self = c.args.self.now in
+    let m = c.make_room.new.self.register in
+    let t = c.apply.new.self in
+    let u = c.add_record.new.self.register in
+    let kept = c.if_accepted.result.now in
+    let one = Replied c.in_ok-reply.reply ∷ [] in
+    let ends = one_ends m t c.in_ok-reply.reply c.args.command.now c.in_ok-reply.ensures.ok c.args.command kept refl c.if_accepted.ensures in
+    let fits = fits_in g.row.A.Denot self.journal (c.args.command ∷ []) in
+    let old = g.D.Disk.view self.disk in
+    let mid = g.D.Disk.view c.make_room.new.self.disk in
+    let all = c.in_ok-make_room.ensures.calls_on_any_disk in
+    let these = given g.row.A.Denot kept in (
+      all.0,
+      these,
+      recorded_behind g.row.A.Denot self.register m t u (c.args.command.now ∷ []) kept kept c.make_room.ensures.same.1 refl c.add_record.ensures.same.3 (ends_recorded m t (c.args.command ∷ []) kept one ends g.row.A.Denot),
+      made_in_second old mid (g.D.Disk.view c.add_record.new.self.disk) (room_calls_by self.layout self.side self.epoch self.register all.0 fits) (record_calls (gate_then self.layout self.side fits self.journal.next) these) all.1 (rw c.in_ok-make_room.ensures.gate at c.add_record.ensures.some_calls),
+    )
+
+pub returns-clause-some_calls_on_any_disk : goal.returns-clause-some_calls_on_any_disk
+returns-clause-some_calls_on_any_disk g c =
+    let self = c.args.self.now in
+    let m = c.make_room.new.self.register in
+    let t = c.apply.new.self in
+    let u = c.add_record.new.self.register in
+    let kept = c.if_accepted.result.now in
+    let one = Replied c.in_ok-reply.reply ∷ [] in
+    let ends = one_ends m t c.in_ok-reply.reply c.args.command.now c.in_ok-reply.ensures.ok c.args.command kept refl c.if_accepted.ensures in
+    let fits = fits_in g.row.A.Denot self.journal (c.args.command ∷ []) in
+    let old = g.D.Disk.view self.disk in
+    let mid = g.D.Disk.view c.make_room.new.self.disk in
+    let all = c.in_ok-make_room.ensures.calls_on_any_disk in
+    let these = given g.row.A.Denot kept in (
+      all.0,
+      these,
+      recorded_behind g.row.A.Denot self.register m t u (c.args.command.now ∷ []) kept kept c.make_room.ensures.same.1 refl c.add_record.ensures.same.3 (ends_recorded m t (c.args.command ∷ []) kept one ends g.row.A.Denot),
+      made_in_second old mid (g.D.Disk.view c.add_record.new.self.disk) (room_calls_by self.layout self.side self.epoch self.register all.0 fits) (record_calls (gate_then self.layout self.side fits self.journal.next) these) all.1 (rw c.in_ok-make_room.ensures.gate at c.add_record.ensures.some_calls),
+    )
+
+pub returns-clause-calls_on_any_disk : goal.returns-clause-calls_on_any_disk
+returns-clause-calls_on_any_disk g c =
+    let self = c.args.self.now in
+    let m = c.make_room.new.self.register in
+    let t = c.apply.new.self in
+    let u = c.add_record.new.self.register in
+    let kept = c.if_accepted.result.now in
+    let one = Replied c.in_ok-reply.reply ∷ [] in
+    let ends = one_ends m t c.in_ok-reply.reply c.args.command.now c.in_ok-reply.ensures.ok c.args.command kept refl c.if_accepted.ensures in
+    let fits = fits_in g.row.A.Denot self.journal (c.args.command ∷ []) in
+    let old = g.D.Disk.view self.disk in
+    let mid = g.D.Disk.view c.make_room.new.self.disk in
+    let all = c.in_ok-make_room.ensures.calls_on_any_disk in
+    let these = given g.row.A.Denot kept in (
+      all.0,
+      these,
+      recorded_behind g.row.A.Denot self.register m t u (c.args.command.now ∷ []) kept kept c.make_room.ensures.same.1 refl c.add_record.ensures.same.3 (ends_recorded m t (c.args.command ∷ []) kept one ends g.row.A.Denot),
+      made_both old mid (g.D.Disk.view c.add_record.new.self.disk) (room_calls_by self.layout self.side self.epoch self.register all.0 fits) (record_calls (gate_then self.layout self.side fits self.journal.next) these) all.1 (rw c.in_ok-make_room.ensures.gate at c.in_ok-add_record.ensures.calls),
+    )

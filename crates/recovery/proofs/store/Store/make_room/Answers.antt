@@ -41,3 +41,21 @@ returns-clause-gate g c =
 
 pub returns-then-has_room-clause-call : goal.returns-then-has_room-clause-call
 returns-then-has_room-clause-call g c = λ honest. fails _ _ [] (nothing_accepted g.row.A.Denot g.D.Disk.view (view_of c.args.self.now) honest (g.met.D.Disk.sound c.args.self.now.disk honest))
+
+pub returns-then-has_room-clause-calls_on_any_disk : goal.returns-then-has_room-clause-calls_on_any_disk
+returns-then-has_room-clause-calls_on_any_disk g c =
+    let fits : fits_in g.row.A.Denot c.args.self.now.journal c.args.commands.now ≡ true = sym c.has_room.ensures.exact ∙ c.if-has_room.true in
+    (false, rw fits (sym (append-nil (g.D.Disk.view c.args.self.now.disk).calls)))
+
+pub returns-then-has_room-clause-some_calls_on_any_disk : goal.returns-then-has_room-clause-some_calls_on_any_disk
+returns-then-has_room-clause-some_calls_on_any_disk g c = (false, made_none (g.D.Disk.view c.args.self.now.disk) _)
+
+pub returns-clause-calls_on_any_disk : goal.returns-clause-calls_on_any_disk
+returns-clause-calls_on_any_disk g c =
+    let fits : fits_in g.row.A.Denot c.args.self.now.journal c.args.commands.now ≡ false = sym c.has_room.ensures.exact ∙ c.if-has_room.false in
+    rw fits c.checkpoint.ensures.calls_on_any_disk
+
+pub returns-clause-some_calls_on_any_disk : goal.returns-clause-some_calls_on_any_disk
+returns-clause-some_calls_on_any_disk g c =
+    let fits : fits_in g.row.A.Denot c.args.self.now.journal c.args.commands.now ≡ false = sym c.has_room.ensures.exact ∙ c.if-has_room.false in
+    rw fits c.checkpoint.ensures.some_calls_on_any_disk
