@@ -77,13 +77,15 @@ module _ (layout : Layout) (side : Side) where
     abbrev pub commit_calls_by : {A : Type 0} → Bool → Bool → Sector → List (Asked A) → List Call
     commit_calls_by was_open fits gate accepted = room_calls_by was_open fits ++ record_calls (gate_then fits gate) accepted
 
-    -- the same, by what the other side's root reads as
     module _ (reads : List (List Byte)) where
+      -- those of a checkpoint, by what the other side's root reads as
       abbrev pub checkpoint_calls : List Call
       checkpoint_calls = checkpoint_calls_by (is_root_open (other_of side) reads)
 
+      -- those that make room, by that root
       abbrev pub room_calls : Bool → List Call
       room_calls fits = room_calls_by (is_root_open (other_of side) reads) fits
 
+      -- those of a commit, by that root
       abbrev pub commit_calls : {A : Type 0} → Bool → Sector → List (Asked A) → List Call
       commit_calls fits gate accepted = commit_calls_by (is_root_open (other_of side) reads) fits gate accepted
