@@ -27,3 +27,5 @@ mod parts;
 mod same;
 #[cfg(test)]
 mod small_heaps;
+#[cfg(test)]
+mod told_lists;
