@@ -12,7 +12,8 @@ module _ {T : Type 0} where
 
   -- a pass that sends is the writer's, and knows what was sent; one that receives is the reader's, and knows what was received
   abbrev pub Fits : ℕ → ℕ → List T → List T → ℕ → View T → Type 0
-  Fits writer reader sent received pass v = (v.sends ≡ true → (pass ≡ writer) × (v.sent ≡ sent)) × (v.receives ≡ true → (pass ≡ reader) × (v.received ≡ received))
+  Fits writer reader sent received pass v = (v.sends ≡ true → (pass ≡ writer) × (v.sent ≡ sent))
+      × (v.receives ≡ true → (pass ≡ reader) × (v.received ≡ received))
 
   -- one pass writes, one reads, and what was sent is what was received with what the channel holds after it
   abbrev pub IsInOrder : List T → List (View T) → Type 0

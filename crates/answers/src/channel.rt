@@ -57,7 +57,8 @@ pub fn open_channels<T: Drop>(
     count: usize,
 ) -> Result<Vec<(AnswerSender<T>, AnswerReceiver<T>)>, AllocError>
     ensures count { IfOk result (λ v. length v.items ≡ count) }
-    ensures ends { IfOk result (λ v. All (λ r. AreEnds (sends_on r.0.channel) (receives_on r.1.channel) (sent_of r.0.pass) (received_of r.1.pass) r.0.gone) v.items) }
+    ensures ends { IfOk result (λ v. All (λ r.
+        AreEnds (sends_on r.0.channel) (receives_on r.1.channel) (sent_of r.0.pass) (received_of r.1.pass) r.0.gone) v.items) }
 {
     let mut channels = Vec::with_capacity(alloc, count)?;
     for _ in 0..count {

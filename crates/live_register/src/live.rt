@@ -55,7 +55,8 @@ pub fn make_live<J: Centre, R: Wait>(
 
 // Applies the command; whether it was accepted. `None` without memory for it.
 fn judge(register: &mut Register<Global>, alloc: Global, command: &Command<Global>) -> Option<bool>
-    ensures accepted { MatchOption result (register.new ≡ register.old) (λ r. (r ≡ accepts register.old command.now) × (register.new ≡ next register.old command.now)) }
+    ensures accepted { MatchOption result (register.new ≡ register.old)
+        (λ r. (r ≡ accepts register.old command.now) × (register.new ≡ next register.old command.now)) }
 {
     match register.apply(alloc, command) {
         Ok(Reply::Accepted { .. }) => Some(true),
@@ -73,7 +74,8 @@ fn applied<J: Centre>(
     command: Arc<Command<Global>, Global>,
 ) -> Option<bool>
     requires { register.old ≡ after J.base publisher.old.appended }
-    ensures { MatchOption result (register.new ≡ after J.base publisher.new.appended) (λ done. done ≡ true → register.new ≡ after J.base publisher.new.appended) }
+    ensures { MatchOption result (register.new ≡ after J.base publisher.new.appended)
+        (λ done. done ≡ true → register.new ≡ after J.base publisher.new.appended) }
 {
     let Some(is_accepted) = judge(register, alloc, &command) else {
         return None;

@@ -27,14 +27,15 @@ pub struct Publisher<J: Centre> {
 }
 
 impl<J: Centre> Model for Publisher<J> {
-    ghost use Rattle.std.specs.Prelude.{◌≡◌, ◌≤◌, ◌++◌, length, drop, fold};
+    ghost use Rattle.std.specs.Prelude.{◌≡◌, ◌≤◌, ◌++◌, length, drop};
     ghost use Rattle.std.specs.VecDeque.{deque_capacity};
     ghost use mathlib.Core.List.{IsPrefix};
     ghost use Rattle.centre_core.specs.History.{after};
     ghost use Rattle.centre_core.specs.Histories.{IsHistory};
     ghost use Rattle.snapshots.specs.Log.{word_of};
     ghost use Rattle.snapshots.specs.Views.{IsSnapshot};
-    ghost use Rattle.snapshots.specs.Changes.{Lists, lists, after_change};
+    ghost use Rattle.snapshots.specs.Changes.{Lists, lists};
+    ghost use Rattle.snapshots.specs.Publishing.{after_changes};
 
     ghost Value = { Lists };
 
@@ -42,7 +43,7 @@ impl<J: Centre> Model for Publisher<J> {
 
     ghost invariant = { λ p. (p.word ≡ word_of J.book) × (p.appended.book ≡ J.book) × (p.base ≡ J.base.count) × (p.count ≡ length p.appended.log)
         × IsHistory J.base p.appended.log × IsSnapshot J.base J.book p.writer.desk.shown.value × IsPrefix p.writer.desk.shown.value.list.log p.appended.log
-        × (fold (after_change (λ c. c.list)) (p.writer.desk.shown.value.register, p.writer.desk.shown.value.list) (drop p.writer.behind p.writer.log.items ++ p.pending.items) ≡ (after J.base p.appended.log, p.appended))
+        × (after_changes p.writer.desk.shown.value (drop p.writer.behind p.writer.log.items ++ p.pending.items) ≡ (after J.base p.appended.log, p.appended))
         × (64 ≤ deque_capacity p.pending) };
 }
 
@@ -55,7 +56,9 @@ impl<J: Centre> Publisher<J> {
     ) -> Result<(), Arc<Command<Global>, Global>>
         requires next { IsTrue (accepts (after J.base self.old.appended) (arc_value command)) }
         ensures legal { IsHistory J.base self.new.appended }
-        ensures appended { MatchResult result (λ _. (self.new.appended ≡ self.old.appended ++ arc_value command ∷ []) × (self.new.published ≡ self.old.published)) (λ c. (c ≡ command) × (self.new ≡ self.old)) }
+        ensures appended { MatchResult result
+            (λ _. (self.new.appended ≡ self.old.appended ++ arc_value command ∷ []) × (self.new.published ≡ self.old.published))
+            (λ c. (c ≡ command) × (self.new ≡ self.old)) }
     {
         if self.pending.reserve(1).is_err() {
             return Err(command);

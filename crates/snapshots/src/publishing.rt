@@ -35,7 +35,8 @@ fn publish_writer<J: Centre, R: Wait>(
 ) -> (SnapshotWriter<J>, Result<(), AllocError>)
     requires now { IsSnapshot J.base J.book writer.desk.shown.value }
     requires next { IsNextSnapshot J.base J.book writer.desk.shown.value (drop writer.behind writer.log.items) }
-    ensures { HasPublished writer.desk.shown.value (drop writer.behind writer.log.items) result.0.desk.shown.value (drop result.0.behind result.0.log.items) result.1 }
+    ensures { HasPublished writer.desk.shown.value (drop writer.behind writer.log.items)
+        result.0.desk.shown.value (drop result.0.behind result.0.log.items) result.1 }
 {
     writer.publish_as::<Sees<J>, R>(rt)
 }
@@ -47,7 +48,8 @@ pub fn publish_now<J: Centre, R: Wait>(
 ) -> Result<(), AllocError>
     requires now { IsSnapshot J.base J.book writer.old.desk.shown.value }
     requires next { IsNextSnapshot J.base J.book writer.old.desk.shown.value (drop writer.old.behind writer.old.log.items) }
-    ensures { HasPublished writer.old.desk.shown.value (drop writer.old.behind writer.old.log.items) writer.new.desk.shown.value (drop writer.new.behind writer.new.log.items) result }
+    ensures { HasPublished writer.old.desk.shown.value (drop writer.old.behind writer.old.log.items)
+        writer.new.desk.shown.value (drop writer.new.behind writer.new.log.items) result }
 {
     replace_with(writer, rt, |writer, rt| publish_writer(rt, writer))
 }

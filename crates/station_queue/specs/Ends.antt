@@ -1,5 +1,5 @@
 -- What contracts see of the two ends.
-use Rattle.std.specs.Prelude.{ℕ, Bool, List}
+use Rattle.std.specs.Prelude.{ℕ, Bool, List, ◌++◌}
 use Rattle.atomic_table.specs.Seated.{TableId}
 use Rattle.registration.specs.Numbers.{Station}
 use Rattle.station_queue.specs.declared.entry.Entry.{Entry}
@@ -26,3 +26,7 @@ pub record Taking : Type 0 where
 -- a taker with these parts
 abbrev pub taking : TableId → ℕ → List Entry → List Settled → Bool → Taking
 taking queue made taken settled empty = record { queue = queue; made = made; taken = taken; settled = settled; empty = empty }
+
+-- the same taker, once these senders came back too
+abbrev pub with_settled : Taking → List Settled → Taking
+with_settled t more = taking t.queue t.made t.taken (t.settled ++ more) t.empty

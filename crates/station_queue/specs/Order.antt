@@ -28,7 +28,8 @@ nobody = record { takes = false; made = 0; taken = []; settled = []; sends = fal
 abbrev pub AreAllSent : List Entry → List Entry → List Settled → Type 0
 AreAllSent taken items stations = All (λ s. entries_of s.station (taken ++ items) ≡ s.sent) stations
 
--- What the rule says of one pass. reader: the taker's pass; seat: the pass of each station's sender; made: how many senders there are; all: what was taken, followed by what the queue holds.
+-- What the rule says of one pass. reader: the taker's pass; seat: the pass of each station's sender;
+-- made: how many senders there are; all: what was taken, followed by what the queue holds.
 module _ (reader : ℕ) (seat : Station → Option ℕ) (made : ℕ) (taken all : List Entry) where
   -- a pass that takes is the taker's, and knows what was taken and how many senders there are
   abbrev pub FitsTaker : ℕ → View → Type 0

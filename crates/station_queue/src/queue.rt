@@ -1,7 +1,7 @@
 ghost use Rattle.std.specs.Prelude.{◌≡◌, [], ◌++◌, ◌+◌, ◌<◌, ◌≤◌, ℕ, List, All, length, map, slice_get, Some, IfOk};
 ghost use Rattle.station_queue.specs.declared.entry.Entry.{Entry};
 ghost use Rattle.station_queue.specs.Order.{AreAllSent, settled};
-ghost use Rattle.station_queue.specs.Ends.{sending, taking};
+ghost use Rattle.station_queue.specs.Ends.{sending, taking, with_settled};
 
 use crate::rule::Queue;
 use crate::sender::Sender;
@@ -41,7 +41,7 @@ pub fn open_queue(alloc: Global, count: u16) -> Result<(Taker, Vec<Sender>), All
 /// taken of a station, followed by what that list has of it, is what the station sent.
 pub fn settle_all(taker: &mut Taker, senders: Vec<Sender>)
     requires { All (λ s. s.queue ≡ taker.old.queue) senders.items }
-    ensures settled { taker.new ≡ taking taker.old.queue taker.old.made taker.old.taken (taker.old.settled ++ map (λ s. settled s.station s.sent) senders.items) taker.old.empty }
+    ensures settled { taker.new ≡ with_settled taker.old (map (λ s. settled s.station s.sent) senders.items) }
     ensures total { (items : List Entry) × AreAllSent taker.new.taken items taker.new.settled }
 {
     for sender in senders {

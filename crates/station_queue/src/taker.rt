@@ -1,7 +1,7 @@
 ghost use Rattle.std.specs.Prelude.{◌≡◌, [], ◌∷◌, ◌++◌, ◌+◌, ◌<◌, ◌≤◌, true, false, List, MatchOption, IfOk, IfSome, OnOk};
 ghost use Rattle.station_queue.specs.Entries.{station_of};
 ghost use Rattle.station_queue.specs.Order.{AreAllSent, settled};
-ghost use Rattle.station_queue.specs.Ends.{sending, taking};
+ghost use Rattle.station_queue.specs.Ends.{sending, taking, with_settled};
 
 use crate::entry::Entry;
 use crate::rule::{NewSender, Queue, QueuePass, SenderBack, Takes, Total};
@@ -51,7 +51,8 @@ impl Taker {
     /// Takes the oldest entry. `None` only where the queue was empty at one moment of the call.
     pub fn take<R: Wait>(&mut self, rt: &R) -> Option<Entry>
         ensures same { (self.new.queue ≡ self.old.queue) × (self.new.made ≡ self.old.made) × (self.new.settled ≡ self.old.settled) }
-        ensures taken { MatchOption result ((self.new.taken ≡ self.old.taken) × (self.new.empty ≡ true)) (λ x. (self.new.taken ≡ self.old.taken ++ x ∷ []) × (self.new.empty ≡ false)) }
+        ensures taken { MatchOption result ((self.new.taken ≡ self.old.taken) × (self.new.empty ≡ true))
+            (λ x. (self.new.taken ≡ self.old.taken ++ x ∷ []) × (self.new.empty ≡ false)) }
         ensures station { IfSome result (λ x. (0 < station_of x) × (station_of x ≤ self.old.made)) }
     {
         let found = self.queue.pop_as::<Takes, R>(rt, &mut self.pass);
@@ -62,7 +63,7 @@ impl Taker {
     /// Takes a sender of this queue back.
     pub fn settle(&mut self, sender: Sender)
         requires { sender.queue ≡ self.old.queue }
-        ensures { self.new ≡ taking self.old.queue self.old.made self.old.taken (self.old.settled ++ settled sender.station sender.sent ∷ []) self.old.empty }
+        ensures { self.new ≡ with_settled self.old (settled sender.station sender.sent ∷ []) }
     {
         let Sender {
             queue: _,
