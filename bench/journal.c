@@ -6,7 +6,7 @@
 #include <string.h>
 #include <time.h>
 
-enum { SECTORS = 39, ROUNDS = 2000, MOST = 64 };
+enum { SECTORS = 39, ROUNDS = 2000, MOST = 64, HEAD = 14 };
 
 struct command {
     uint16_t station;
@@ -33,9 +33,9 @@ static uint64_t get(const unsigned char **at, int width)
     return number;
 }
 
-static size_t encode(struct command *const *commands, int count)
+static size_t encode(uint64_t before, struct command *const *commands, int count)
 {
-    unsigned char *at = text + 6;
+    unsigned char *at = text + HEAD;
     for (int k = 0; k < count; k++) {
         const struct command *c = commands[k];
         at = put(put(put(put(at, c->station, 2), c->sequence, 4), c->moment, 4), 3, 1);
@@ -43,14 +43,14 @@ static size_t encode(struct command *const *commands, int count)
         memcpy(at, c->pdu, (c->bits + 7) / 8);
         at += (c->bits + 7) / 8;
     }
-    put(put(text, count, 2), at - text - 6, 4);
+    put(put(put(text, count, 2), before + 1, 8), at - text - HEAD, 4);
     return at - text;
 }
 
 /* The next gate, or 0 where there is no room. */
-static int append(int gate, struct command *const *commands, int count)
+static int append(int gate, uint64_t before, struct command *const *commands, int count)
 {
-    size_t length = encode(commands, count);
+    size_t length = encode(before, commands, count);
     int size = (length + 511) / 512;
     if (gate + size + 2 > SECTORS)
         return 0;
@@ -86,25 +86,29 @@ struct record { int sector, count; struct command *commands; };
 static int replay(struct record *records)
 {
     int gate = 0, found = 0;
+    uint64_t before = 0;
     while (gate + 1 < SECTORS && disk[gate][0] == 1) {
         const unsigned char *at = disk[gate + 1];
-        unsigned count = get(&at, 2), length = get(&at, 4), size = (length + 517) / 512;
-        if (count < 1 || count > MOST || length > 281 * count || gate + 1 + size >= SECTORS)
+        unsigned count = get(&at, 2);
+        uint64_t first = get(&at, 8);
+        unsigned length = get(&at, 4), size = (length + HEAD + 511) / 512;
+        if (first != before + 1 || count < 1 || count > MOST || length > 281 * count || gate + 1 + size >= SECTORS)
             return -1;
         memcpy(text, disk[gate + 1], 512 * size);
-        const unsigned char *end = text + 6 + length;
+        const unsigned char *end = text + HEAD + length;
         for (const unsigned char *zero = end; zero < text + 512 * size; zero++)
             if (*zero)
                 return -1;
         struct record *r = &records[found++];
         r->sector = gate + 1, r->count = count, r->commands = malloc(count * sizeof *r->commands);
-        at = text + 6;
+        at = text + HEAD;
         for (unsigned k = 0; k < count; k++)
             if (!r->commands || !decode(&at, end, &r->commands[k]))
                 return -1;
         if (at != end)
             return -1;
         gate += size + 1;
+        before += count;
     }
     return found;
 }
@@ -138,7 +142,7 @@ static void timed(int count)
         int written = 0;
         memset(disk[0], 0, 512);
         long long start = now();
-        for (int gate = 0, next; (next = append(gate, commands, count)); gate = next)
+        for (int gate = 0, next; (next = append(gate, (uint64_t)written * count, commands, count)); gate = next)
             written++;
         appended += now() - start;
         start = now();

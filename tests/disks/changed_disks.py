@@ -1,6 +1,7 @@
 """Images of disks that differ from a good one in what tells how the rest is read: a byte of the label, a root, a row at the head of
 a slot, a gate or the head of a record; or in whole sectors."""
 import faulty_disks
+from made_disks import FORMS
 from reading_disks import LABEL, RECORD_HEAD, ROOTS, data_sectors, is_open, layout_in, opens
 from reading_rows import SECTOR
 
@@ -17,25 +18,25 @@ def with_byte(sector, place, byte):
     return sector[:place] + bytes([byte]) + sector[place + 1:]
 
 
-def gates(image, layout, side):
-    """The gates of a half, up to the first closed one, and the first data sector of each record."""
-    at = layout.half(side)
+def gates(image, layout, opening):
+    """The gates of the current half, up to the first closed one, and the first data sector of each record."""
+    at = layout.half(opening.side)
     while is_open(image[at]):
         yield at, at + 1
-        at += 1 + data_sectors(image[at + 1])
+        at += 1 + data_sectors(image[at + 1], opening.form)
     yield at, None
 
 
 def telling(image):
     """The sectors that tell how others are read, each with how many of its bytes do. The disk has two open sides."""
-    layout = layout_in(image[LABEL], len(image))
+    layout, opening = layout_in(image[LABEL], len(image)), opens(image)
     yield LABEL, LABEL_BYTES
     yield from ((root, ROOT_BYTES) for root in ROOTS)
     yield from ((layout.slot(side), HEADER_BYTES) for side in (0, 1))
-    for gate, record in gates(image, layout, opens(image).side):
+    for gate, record in gates(image, layout, opening):
         yield gate, GATE_BYTES
         if record:
-            yield record, RECORD_HEAD
+            yield record, RECORD_HEAD[opening.form]
 
 
 def other_bytes(byte):
@@ -71,12 +72,25 @@ def sectors_changed(image, dice, count):
         yield changed
 
 
+def headers_changed(image):
+    """The header of each slot with each other tag, and both with the tag of the other layout."""
+    layout = layout_in(image[LABEL], len(image))
+    slots = [layout.slot(side) for side in (0, 1)]
+    for at in slots:
+        yield from (with_sector(image, at, with_byte(image[at], 0, tag)) for tag in range(24) if tag != image[at][0])
+    for tag in FORMS:
+        changed = image
+        for at in slots:
+            changed = with_sector(changed, at, with_byte(image[at], 0, tag))
+        yield changed
+
+
 def put_together():
     """Images that were put together by hand."""
     return (image for image, _ in faulty_disks.cases())
 
 
 def kinds(image, dice):
-    """All of these images, by their kind."""
+    """The images that differ from this one, by their kind."""
     return {'bytes changed': bytes_changed(image), 'other bytes changed': tails_changed(image, dice),
-            'sectors changed': sectors_changed(image, dice, 100), 'put together': put_together()}
+            'headers changed': headers_changed(image), 'sectors changed': sectors_changed(image, dice, 100)}

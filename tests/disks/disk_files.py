@@ -7,7 +7,8 @@ import subprocess
 import tempfile
 
 import reading
-from reading_disks import BadGeometry, Damaged, Unformatted, opens
+from made_disks import zeroed
+from reading_disks import NUMBERED, BadGeometry, Damaged, Unformatted, opens
 from reading_rows import SECTOR
 from running import Differs, compare, gives
 from testing import Count, options
@@ -38,6 +39,14 @@ class Place:
         """The whole sectors of a file; a rest is ignored."""
         data = self.path(name).read_bytes()
         return [data[at:at + SECTOR] for at in range(0, len(data) - SECTOR + 1, SECTOR)]
+
+    def begins(self, form, name=DISK):
+        """A disk with an empty register: of layout 2 the program's own, and of layout 1 as it is made in Python."""
+        self.path(name).unlink(missing_ok=True)
+        if form == NUMBERED:
+            self.format(name)
+        else:
+            self.put(zeroed(form=form), name)
 
     def copy(self, name, other):
         shutil.copyfile(self.path(name), self.path(other))

@@ -11,6 +11,8 @@ import time
 
 import reading
 from disk_files import DISK, LINES, SECTORS, file_fault, register_of, settings, text, untouched
+from made_disks import FORMS
+from reading_disks import NUMBERED
 from reading_rows import SECTOR
 from running import SECONDS, Differs, compare, ends, started
 from streams import RULE
@@ -24,9 +26,9 @@ HEAD = text([f'station 1 {LINES}'])
 GATE = 589
 
 
-def ready(place):
+def ready(place, form=NUMBERED):
     """A disk made ready, and a command file."""
-    place.format()
+    place.begins(form)
     place.write(LINES, text([RULE, ATTACH]))
 
 
@@ -299,9 +301,8 @@ def with_holes(place, image, name):
             pass
 
 
-def run_past_a_limit(place):
-    """The first record is within the limit, and the second one's data begin before it and end behind."""
-    ready(place)
+def a_run_past_a_limit(place, form):
+    ready(place, form)
     given = [RULE, 'count', ATTACH, 'count', '# a remark', '3 20 expire', 'where 234-14-2001', 'no such']
     told = ['1 ok 1 -', 'count 1', '2 no device', 'line 4 no broken', '3 no broken', 'line 7 no broken', 'line 8 bad syntax']
     place.write(LINES, text(given))
@@ -310,6 +311,12 @@ def run_past_a_limit(place):
     place.gives(COUNT, 0, b'count 1\n')
     again = ['1 kept 1 -', 'count 1', ATTACHED, 'count 2', '3 ok 3 -', 'where 234-14-2001 station 1 la 7 present', 'line 8 bad syntax']
     place.gives(RUN, 1, HEAD + text(again))
+
+
+def run_past_a_limit(place):
+    """The first record is within the limit, and the second one's data begin before it and end behind."""
+    for form in FORMS:
+        a_run_past_a_limit(place, form)
 
 
 CASES = [

@@ -2,15 +2,15 @@
 """Runs the program over a disk of the greatest limits, 196 MiB in a file with holes. `format` makes one. Then the first side, and
 after it the second, counts on a disk whose tables are full and whose half has room for one record: a line writes the last sector of
 the half, the next line makes a checkpoint, which writes the other slot from its first sector to its last, the other root, and the
-beginning of the other half. Each sector that the program may not write is as it was. Prints the cases that fail, and last 'N
-passed, M failed'.
+beginning of the other half. The first side is of layout 1, and the second of layout 2. Each sector that the program may not write is
+as it was. Prints the cases that fail, and last 'N passed, M failed'.
 Usage: tests/run greatest_disk PROGRAM"""
 import mmap
 
 import reading
 from disk_files import DISK, LINES, MEMORY, place, settings
-from faulty_disks import CLOSED, OPEN, expire, label, record
-from reading_disks import LABEL, MOST, MOST_COMMANDS, MOST_SECTORS, ROOTS, Layout, is_open
+from made_disks import CLOSED, OPEN, expire, label, record, records, text_of
+from reading_disks import LABEL, MOST, MOST_COMMANDS, MOST_SECTORS, NUMBERED, PLAIN, ROOTS, Layout, is_open
 from reading_rows import LATEST, SECTOR, header_row, rows
 from registers import LAST_AREA, identity, message
 from running import compare
@@ -60,20 +60,24 @@ def changed(place, sectors):
         return {at: data for at, data in whole if data != sectors.get(at, ZEROS)}
 
 
-def half(side):
+def text(form, *sequences):
+    """The bytes of a record of these commands."""
+    return text_of(form, [expire(k) for k in sequences], COUNT + sequences[0] - 1)
+
+
+def half(side, form):
     """The records of a half that has room for one more, its last sector, and the sequence of the last command."""
-    at, sequence = LAYOUT.half(side), 1 + MOST_COMMANDS
-    sectors = record(at, *(expire(k) for k in range(2, sequence + 1)))
-    for gate in range(at + 3, at + 3 + 2 * RECORDS, 2):
-        sequence += 1
-        sectors.update(record(gate, expire(sequence)))
-    return {**sectors, LAYOUT.half(side + 1) - 1: OPEN}, sequence
+    at, first = LAYOUT.half(side), 1 + MOST_COMMANDS
+    sectors, last = record(at, text(form, *range(2, first + 1))), first + RECORDS
+    more, _ = records(at + 3, form, [expire(k) for k in range(first + 1, last + 1)], COUNT + MOST_COMMANDS)
+    return {**sectors, **more, LAYOUT.half(side + 1) - 1: OPEN}, last
 
 
-def disk(side, register):
+def disk(side, form, register):
     """A disk on which this side counts, and the sequence of the last command."""
-    sectors, sequence = half(side)
-    return {LABEL: WHOLE_LABEL, ROOTS[side]: OPEN, **dict(enumerate(rows(EPOCH, register), LAYOUT.slot(side))), **sectors}, sequence
+    sectors, sequence = half(side, form)
+    image = dict(enumerate(rows(EPOCH, register, form), LAYOUT.slot(side)))
+    return {LABEL: WHOLE_LABEL, ROOTS[side]: OPEN, **image, **sectors}, sequence
 
 
 # What the program does
@@ -83,17 +87,17 @@ def serves(place, sequence):
     place.gives(['run', DISK, LINES], 0, f'station 1 {LINES}\n{sequence} ok {COUNT + sequence - 1} -\n'.encode())
 
 
-def is_record(sectors, gate, sequence):
+def is_record(sectors, gate, form, sequence):
     """The record of this command, and a closed gate behind it."""
     compare('the gate, and the one behind', (sectors[gate][0], sectors[gate + 2][0]), (OPEN[0], CLOSED[0]))
-    compare('the record', sectors[gate + 1], record(gate, expire(sequence))[gate + 1])
+    compare('the record', sectors[gate + 1], text(form, sequence).ljust(SECTOR, b'\0'))
 
 
-def the_last_record(place, sectors, side, sequence):
+def the_last_record(place, sectors, side, form, sequence):
     serves(place, sequence)
     now, end = changed(place, sectors), LAYOUT.half(side + 1)
     compare('the sectors that are written', sorted(now), [end - 3, end - 2, end - 1])
-    is_record(now, end - 3, sequence)
+    is_record(now, end - 3, form, sequence)
     sectors.update(now)
 
 
@@ -108,24 +112,24 @@ def the_checkpoint(place, sectors, side, register, sequence):
     others = [at for at in sorted(now) if at not in image and at not in (*ROOTS, gate + 2)]
     compare('the other sectors that are written', others, [gate, gate + 1])
     compare('the root', is_open(now[ROOTS[other]]), True)
-    is_record({gate + 2: ZEROS, **now}, gate, sequence)
+    is_record({gate + 2: ZEROS, **now}, gate, NUMBERED, sequence)
 
 
-def a_side(place, side):
+def a_side(place, side, form):
     register = full()
-    sectors, last = disk(side, register)
+    sectors, last = disk(side, form, register)
     put(place, sectors)
-    the_last_record(place, sectors, side, last + 1)
+    the_last_record(place, sectors, side, form, last + 1)
     the_checkpoint(place, sectors, side, register, last + 2)
     place.gives(['show', DISK, 'count'], 0, f'count {COUNT + last + 1}\n'.encode())
 
 
 def the_first_side(place):
-    a_side(place, 0)
+    a_side(place, 0, PLAIN)
 
 
 def the_second_side(place):
-    a_side(place, 1)
+    a_side(place, 1, NUMBERED)
 
 
 def a_disk_made(place):

@@ -1,18 +1,20 @@
 #!/usr/bin/env python3
-"""Gives the program disks that stand for nothing, files that are no disks, and command files and settings that can't be read
-(file_cases.py). It has to tell the fault that the independent reading beside this file finds, or that the case names, with its
-status, and `show` has to write nothing. Prints the seed, a line for each part, the first cases that fail, and last 'N passed, M
-failed'.
+"""Gives the program disks of both layouts that stand for nothing, files that are no disks, and command files and settings that
+can't be read (file_cases.py). It has to tell the fault that the independent reading beside this file finds, or that the case names,
+with its status, and `show` has to write nothing. Prints the seed, a line for each part, the first cases that fail, and last
+'N passed, M failed'.
 Usage: tests/run hostile_disks PROGRAM [--seed N]"""
 import random
 
 import file_cases
 import reading
-from changed_disks import kinds
+from changed_disks import kinds, put_together
 from disk_files import DISK, LINES, MEMORY, fault_line, place, text, untouched
-from reading_disks import BadGeometry, Damaged, Unformatted, opens
+from images import are_same
+from made_disks import FORMS, as_plain
+from reading_disks import NUMBERED, PLAIN, BadGeometry, Damaged, Unformatted, opens
 from reading_rows import SECTOR
-from running import Differs
+from running import Differs, compare
 from station_lines import Serving, data_of, lines
 from testing import Count, options
 
@@ -49,9 +51,10 @@ def an_image(place, image, is_run):
     return shown(place)
 
 
-def the_images(place, dice, count):
+def the_images(place, disks, dice, count):
     """All are shown, and one in ten is served too."""
-    for name, images in kinds(place.image(READY), dice).items():
+    all_kinds = {f'{FORMS[form]}, {name}': images for form, image in disks.items() for name, images in kinds(image, dice).items()}
+    for name, images in {**all_kinds, 'put together': put_together()}.items():
         told = [count.case(f'{name}, image {k}', an_image, place, image, k % 10 == 0) for k, image in enumerate(images)]
         print(f'{name}: {len(told)} images, {sum(bool(fault) for fault in told)} of them faulty', flush=True)
 
@@ -69,9 +72,10 @@ def a_length(place, data):
     shown(place)
 
 
-def the_lengths(place, count):
-    for data in lengths(place.path(READY).read_bytes()):
-        count.case(f'a file of {len(data)} bytes', a_length, place, data)
+def the_lengths(place, disks, count):
+    for form, image in disks.items():
+        for data in lengths(b''.join(image)):
+            count.case(f'{FORMS[form]}, a file of {len(data)} bytes', a_length, place, data)
 
 
 def the_files(command, count):
@@ -81,14 +85,19 @@ def the_files(command, count):
 
 
 def made(place, dice):
-    """A disk whose two sides are open, with a record or more behind the image: that of the last command at least."""
+    """A disk of each layout whose two sides are open, with a record or more after the image: that of the last command at least."""
     serving = Serving(reading.Register(), lines(dice, COMMANDS))
     place.format(READY)
     place.write(LINES, data_of(serving.lines))
     place.gives(['run', READY, LINES], int(serving.troubled), serving.text())
-    opening = opens(place.image(READY))
-    if opening.epoch == 1 or opening.register.count != serving.registers[-1].count:
-        raise Differs(f'a disk of epoch {opening.epoch} and {opening.register.count} commands')
+    numbered = place.image(READY)
+    disks = {NUMBERED: numbered, PLAIN: as_plain(numbered)}
+    for form, image in disks.items():
+        opening = opens(image)
+        if opening.epoch == 1 or not are_same(opening.register, serving.registers[-1]):
+            raise Differs(f'a disk of epoch {opening.epoch} and {opening.register.count} commands')
+        compare('the layout of the current side', opening.form, form)
+    return disks
 
 
 def main():
@@ -96,11 +105,11 @@ def main():
     print(f'seed {words.seed}', flush=True)
     dice, count = random.Random(words.seed), Count()
     with place(words.program, MEMORY) as folder:
-        count.case('a disk made', made, folder, dice)
-        if not count.failed:
+        disks = count.case('disks made', made, folder, dice)
+        if disks:
             folder.write(LINES, b'')
-            the_images(folder, dice, count)
-            the_lengths(folder, count)
+            the_images(folder, disks, dice, count)
+            the_lengths(folder, disks, count)
     the_files(words.program, count)
     count.end()
 

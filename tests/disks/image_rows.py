@@ -10,8 +10,8 @@ import sys
 
 import reading
 import registers
-from reading_rows import (COPY, LAST_EPOCH, LATEST, MAIL, RADIO, RULE, SECTOR, SERVED, BadSector, header_row, mail_row, number,
-                          radio_row, read_image, row_in, rows, rule_row, sector, served_row)
+from reading_rows import (COPY, LAST_EPOCH, LATEST, MAIL, PLAIN_HEADER, RADIO, RULE, SECTOR, SERVED, BadSector, header_row, mail_row,
+                          number, radio_row, read_image, row_in, rows, rule_row, sector, served_row)
 from registers import LAST_AREA, LAST_IDENTITY, LAST_NUMBER, identity, message, report
 
 GREATEST = {'rules': 4096, 'radios': 65_536, 'mail': 65_536, 'stations': 64}
@@ -20,7 +20,7 @@ SMALL = registers.SMALL
 # Images with each kind of row, put together from the table by hand: one in which the orders of all kinds show, the greatest
 # values, and the image of a new register
 WORKED = """
-10 0000000000000001 000000000000000a 00000003 00000003 00000004 00000002
+16 0000000000000001 000000000000000a 00000003 00000003 00000004 00000002
 11 00 000000000000 0000 3fff 03 ffffffff
 11 18 3a800e000000 0001 0063 01 00000e10
 11 30 3a800e0007d1 0007 0007 00 00000000
@@ -35,14 +35,14 @@ WORKED = """
 14 0003 ffffffff 000000000000000a 0000
 """
 LAST = """
-10 4000000000000000 4000000000000000 00000001 00000001 00000001 00000001
+16 4000000000000000 4000000000000000 00000001 00000001 00000001 00000001
 11 30 ffffffffffff 3fff 3fff 03 ffffffff
 12 ffffffffffff 0040 3fff 01 01 ffffffffffff 1f
 13 4000000000000000 00000001fffffffe ffffffffffff ffffffffffff ff 01 0020 ff18ffff
 14 0040 ffffffff 4000000000000000 0001 80
 """
 NEW = """
-10 0000000000000001 0000000000000000 00000000 00000000 00000000 00000000
+16 0000000000000001 0000000000000000 00000000 00000000 00000000 00000000
 """
 
 
@@ -78,6 +78,11 @@ def with_numbers(sectors, place, step):
     return with_at(sectors, 0, header_row(header.epoch, header.count, numbers))
 
 
+def plain(sectors):
+    """The sectors with a header of layout 1."""
+    return with_byte(sectors, 0, 0, PLAIN_HEADER)
+
+
 # Cases: of each kind pairs of limits and sectors
 
 def whole():
@@ -86,6 +91,11 @@ def whole():
         yield register.limits, rows(7, register)
     for _, epoch, register in registers.by_chance(200):
         yield SMALL, rows(epoch, register)
+
+
+def plain_headers():
+    for limits, sectors in whole():
+        yield limits, plain(sectors)
 
 
 def other_values(byte):
@@ -103,6 +113,7 @@ def changed(limits, sectors, values):
 def changed_bytes():
     for limits, sectors in BY_HAND:
         yield from changed(limits, sectors, other_values)
+        yield from changed(limits, plain(sectors)[:1], other_values)
     for register in registers.longest():
         yield from changed(register.limits, rows(7, register), lambda byte: {byte ^ 1, byte ^ 128})
 
@@ -119,7 +130,7 @@ def changed_by_chance():
 def other_tags():
     sectors = sectors_of(WORKED)
     for place in range(len(sectors)):
-        for tag in range(24):
+        for tag in (*range(32), 255):
             yield SMALL, with_byte(sectors, place, 0, tag)
 
 
@@ -158,7 +169,7 @@ def behind_the_image():
 def headers():
     """Each number of a header one more or less, and far off."""
     for limits, sectors in BY_HAND:
-        epoch, count, numbers = row_in(sectors[0])
+        epoch, count, numbers, _ = row_in(sectors[0])
         for other in {0, 1, 2, epoch - 1, epoch + 1, LAST_EPOCH, LAST_EPOCH + 1, 2 ** 63, 2 ** 64 - 1} - {-1}:
             yield limits, with_at(sectors, 0, header_row(other, count, numbers))
         for other in {0, 1, 9, max(count, 1) - 1, count + 1, LAST_NUMBER, LAST_NUMBER + 1, 2 ** 63, 2 ** 64 - 1}:
@@ -286,8 +297,8 @@ def served_values():
         yield image_of(*(served_row(station, (1, 4, '1')) for station in pair))
 
 
-KINDS = [whole, changed_bytes, changed_by_chance, other_tags, behind_the_end, orders, behind_the_image, headers, limits, rule_values,
-         rule_orders, radio_values, radio_orders, mail_values, mail_orders, short_data, fills, served_values]
+KINDS = [whole, plain_headers, changed_bytes, changed_by_chance, other_tags, behind_the_end, orders, behind_the_image, headers, limits,
+         rule_values, rule_orders, radio_values, radio_orders, mail_values, mail_orders, short_data, fills, served_values]
 
 
 # The program
@@ -320,8 +331,11 @@ def answers(command, cases):
 
 
 def tells_images():
-    """Whether the reading takes images for images, and writes them as they stand, those by hand too."""
-    return all(wanted(*case).split('\n')[1:] == list(map(digits, case[1])) for case in whole())
+    """Whether the reading takes images for images, and writes them as they stand, those by hand too; and takes a header of layout 1
+    for the same, though it tells the other tag."""
+    return (all(wanted(*case).split('\n')[1:] == list(map(digits, case[1])) for case in whole())
+            and all(wanted(limits, plain(sectors)) == wanted(limits, sectors) for limits, sectors in whole())
+            and all(row_in(sectors[0]).tag != row_in(plain(sectors)[0]).tag for _, sectors in BY_HAND))
 
 
 def main():

@@ -8,15 +8,18 @@ each write of the disk's parts and some of the zeros, and each allocation gets n
 station's file fails after some lines, whose answers are printed first; and a file is read in 4,500 pieces. Prints the seed, the
 first cases that fail, and last 'N passed, M failed'.
 Usage: tests/run making PROGRAM [--seed N]"""
+import itertools
 import os
 import random
 import subprocess
 
 import faulty_disks
+import made_disks
 import reading
 import refusing
 from disk_files import DISK, LINES, MEMORY, SECTORS, SETTINGS, fault_line, file_fault, place, settings
 from images import fault_of
+from made_disks import FORMS
 from pending import Disk, choices
 from reading_disks import MOST, BadGeometry, Damaged, Layout, Unformatted, opens
 from reading_rows import SECTOR
@@ -28,6 +31,8 @@ from testing import Count, options
 WORDS, FORMATTED = ['format', 's.toml'], f'formatted {SECTORS} sectors\n'.encode()
 ON_DEVICE, ON_MEMORY = b'fault: device\n', b'fault: memory\n'
 LAYOUT, ZEROS = Layout(tuple(SETTINGS[name] for name in MOST), SETTINGS['journal']), bytes(SECTOR)
+# The header of an empty register of epoch 1, of layout 2
+HEADER = bytes.fromhex('16 0000000000000001') + bytes(24)
 # The length and its sync, the zeros and theirs, the folder; then the five sectors of the sides, and the label
 KINDS = f'ta{"w" * SECTORS}sdwwwwwsws'
 PARTS = len('wwwwwsws')
@@ -59,6 +64,8 @@ def is_made(record):
     compare('the sectors of zeros', (at[:SECTORS], set(zeros)), (list(range(SECTORS)), {ZEROS}))
     sides = [1, 2, LAYOUT.slot(0), LAYOUT.half(0), LAYOUT.half(1)]
     compare('the sectors of the sides, and the label', (sorted(at[SECTORS:-1]), at[-1]), (sides, 0))
+    header = [done.bytes for done in record if done.kind == 'w'][SECTORS + at[SECTORS:].index(LAYOUT.slot(0))]
+    compare('the header', header, HEADER.ljust(SECTOR, b'\0'))
 
 
 def making(made, disk=DISK):
@@ -160,16 +167,16 @@ def the_sync_fails(made):
 
 # The station's file
 
-def a_read_fails(made, serving, asked):
+def a_read_fails(made, form, serving, asked):
     """The read after so many lines: their answers are printed, and their commands kept."""
-    made.place.put(faulty_disks.image())
+    made.place.put(made_disks.image(form=form))
     out, err = printed(serving.answers[:asked]), file_fault(LINES)
     made.does(['run', DISK, LINES], 4, out, err, breaks=asked)
     compare('the disk stands for', fault_of(made.place.image(), [serving.registers[serving.counts[asked - 1]]]), None)
 
 
 def many_pieces(made):
-    made.place.put(faulty_disks.image())
+    made.place.put(made_disks.image())
     made.place.write(LINES, b'count\n' * PIECES)
     record = made.does(['run', DISK, LINES], 0, printed([['count 0']] * PIECES))
     compare('reads of the file', kinds(record).count('r') > PIECES, True)
@@ -179,15 +186,16 @@ def many_pieces(made):
 
 def all_opened(made, count):
     made.place.write(LINES, b'')
-    for number, image in enumerate([faulty_disks.image(), *(image for image, _ in faulty_disks.cases())]):
+    good = [made_disks.image(form=form) for form in FORMS]
+    for number, image in enumerate([*good, *(image for image, _ in faulty_disks.cases())]):
         count.case(f'image {number}', opened, made, image)
 
 
 def all_served(made, dice, count):
     serving = Serving(empty(), lines(dice, 60))
     made.place.write(LINES, data_of(serving.lines))
-    for asked in (1, 2, 30, 59, 60):
-        count.case(f'a read fails after {asked} lines', a_read_fails, made, serving, asked)
+    for form, asked in itertools.product(FORMS, (1, 2, 30, 59, 60)):
+        count.case(f'{FORMS[form]}, a read fails after {asked} lines', a_read_fails, made, form, serving, asked)
     count.case('many pieces', many_pieces, made)
 
 

@@ -1,10 +1,11 @@
 #!/usr/bin/env python3
 """Writes down each read, write and sync of the disk file while the program serves a station's file, with two checkpoints or more
-(record.c, compiled and preloaded), and takes the moments between these calls, drawn anew each time. At each one the writes since
-the last sync are done, left out or torn in 20 ways: the independent reading beside this file opens each image to what a front of
-the accepted commands made, all that were answered by then among them, and for one of the ways the program's `show` tells the same.
-On some of the images the file is served again, and that run stopped in turn. Bugs planted in the record have to be found, and some
-of the calls fail (failing_calls.py). Prints the seed, what was done, and last 'N passed, M failed'.
+(record.c, compiled and preloaded), on a disk that began in either layout; and takes the moments between these calls, drawn anew each
+time. At each one the writes since the last sync are done, left out or torn in 20 ways: the independent reading beside this file
+opens each image to what a front of the accepted commands made, all that were answered by then among them, and for one of the ways
+the program's `show` tells the same. On some of the images the file is served again, and that run stopped in turn. Bugs planted in
+the record have to be found, and some of the calls fail (failing_calls.py). Prints the seed, what was done, and last 'N passed,
+M failed'.
 Usage: tests/run recording PROGRAM [--seconds N] [--lines N] [--seed N]"""
 import collections
 import random
@@ -14,8 +15,9 @@ import failing_calls
 import reading
 from disk_files import LINES, MEMORY, place, queries, register_of
 from images import fault_of
+from made_disks import FORMS
 from pending import Disk, choices
-from reading_disks import opens
+from reading_disks import NUMBERED, opens
 from recorder import follow, recorder
 from running import Differs, compare
 from station_lines import Serving, data_of, lines
@@ -99,9 +101,11 @@ def the_end(place, last, serving):
 
 
 def checkpoints(image):
-    """There were enough."""
-    if opens(image).epoch <= CHECKPOINTS:
-        raise Differs(f'{opens(image).epoch - 1} checkpoints')
+    """There were enough, so that the disk is of layout 2."""
+    opening = opens(image)
+    if opening.epoch <= CHECKPOINTS:
+        raise Differs(f'{opening.epoch - 1} checkpoints')
+    compare('the layout of the current side', opening.form, NUMBERED)
 
 
 # Bugs planted in the record, in what is done for each line
@@ -156,9 +160,9 @@ def taken(place, all_moments, dice, count, seconds):
     print(f'{len(tried)} of {len(all_moments)} moments, {sum(tried)} images')
 
 
-def ready(place, serving):
-    """The image of a disk made ready, beside the station's file."""
-    place.format()
+def ready(place, serving, form):
+    """The image of a disk made ready in that layout, beside the station's file."""
+    place.begins(form)
     place.write(LINES, data_of(serving.lines))
     return place.image()
 
@@ -169,15 +173,16 @@ def taken_twice(made, all_moments, serving, dice, count):
     print(f'{TWICE} runs on what a stop left, {sum(images or 0 for images in told)} images')
 
 
-def the_run(made, serving, count):
+def the_run(made, serving, form, count):
     """The image that a run begins with, its record, and the serving; nothing where it fails."""
-    image = count.case('a disk made ready', ready, made.place, serving)
+    image = count.case('a disk made ready', ready, made.place, serving, form)
     record = image and count.case('the run', made.run, int(serving.troubled), serving.text())
     return record and (image, record, serving)
 
 
-def recording(made, dice, count, words):
-    whole = the_run(made, Serving(reading.Register(), lines(dice, words.lines)), count)
+def recording(made, form, dice, count, words):
+    print(f'a disk that begins in {FORMS[form]}', flush=True)
+    whole = the_run(made, Serving(reading.Register(), lines(dice, words.lines)), form, count)
     if not whole:
         return
     all_moments = list(moments(*whole))
@@ -191,11 +196,12 @@ def recording(made, dice, count, words):
 
 
 def main():
-    words = options(__doc__, seconds=30, lines=110)
+    words = options(__doc__, seconds=20, lines=110)
     print(f'seed {words.seed}', flush=True)
-    count = Count()
-    with place(words.program, MEMORY) as folder, recorder(folder) as made:
-        recording(made, random.Random(words.seed), count, words)
+    dice, count = random.Random(words.seed), Count()
+    for form in FORMS:
+        with place(words.program, MEMORY) as folder, recorder(folder) as made:
+            recording(made, form, dice, count, words)
     count.end()
 
 

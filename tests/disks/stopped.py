@@ -1,9 +1,9 @@
 #!/usr/bin/env python3
-"""Stops the program (kill -9) at random moments while it serves a station's file on a disk. Each time the disk has to stand for
-what a front of the file's accepted commands made, by the independent reading beside this file, and `show` has to tell the same of
-every radio, group, item and rule. The same run again has to answer `kept` or `old-sequence` to the commands of that front and
-the rest as a run that nothing stopped; then the disk stands for all commands. Prints the seed, what was found, and last 'N passed,
-M failed'.
+"""Stops the program (kill -9) at random moments while it serves a station's file on a disk, which began in either layout. Each
+time the disk has to stand for what a front of the file's accepted commands made, by the independent reading beside this file, and
+`show` has to tell the same of every radio, group, item and rule. The same run again has to answer `kept` or `old-sequence` to the
+commands of that front and the rest as a run that nothing stopped; then the disk stands for all commands. Prints the seed, what was
+found, and last 'N passed, M failed'.
 Usage: tests/run stopped PROGRAM [--moments N] [--lines N] [--seed N]"""
 import random
 import subprocess
@@ -12,6 +12,8 @@ import time
 import reading
 from disk_files import DISK, LINES, place, register_of, shows_all
 from images import are_same
+from made_disks import FORMS
+from reading_disks import NUMBERED, opens
 from running import Differs, compare
 from station_lines import Serving, data_of, lines
 from testing import Count, options
@@ -97,12 +99,13 @@ def whole_run(place, script):
     took = time.monotonic() - start
     register = front_on(place, script)
     compare('the number of commands', register.count, script.total)
+    compare('the layout of the side that a checkpoint left', opens(place.image()).form, NUMBERED)
     shows_all(place, register)
     return took
 
 
-def ready(place, script):
-    place.format(READY)
+def ready(place, script, form):
+    place.begins(form, READY)
     place.write(LINES, data_of(script.lines))
 
 
@@ -123,8 +126,9 @@ def stops_in(place, script, dice, count, moments):
     return told
 
 
-def stopped(place, script, dice, count, moments):
-    count.case('a disk made ready', ready, place, script)
+def stopped(place, script, form, dice, count, moments):
+    print(f'a disk that begins in {FORMS[form]}', flush=True)
+    count.case('a disk made ready', ready, place, script, form)
     told = stops_in(place, script, dice, count, moments)
     count.case('the moments', falls_within, told, script.total)
     kept = sorted(number for number, _ in told)
@@ -137,8 +141,9 @@ def main():
     print(f'seed {words.seed}', flush=True)
     dice, count = random.Random(words.seed), Count()
     script = Script(dice, words.lines)
-    with place(words.program) as folder:
-        stopped(folder, script, dice, count, words.moments)
+    for form in FORMS:
+        with place(words.program) as folder:
+            stopped(folder, script, form, dice, count, words.moments)
     count.end()
 
 

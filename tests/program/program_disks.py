@@ -12,6 +12,7 @@ import tempfile
 
 import refusing
 from disk_files import DISK, SECTORS, file_fault, run_cases, settings, untouched
+from made_disks import FORMS
 from program import TOP
 from running import SECONDS, Differs, compare
 
@@ -45,12 +46,13 @@ def refuses(place, words, status, err, name=DISK):
 # What it does
 
 def the_sample(place):
-    place.format()
-    compare('length of the disk', len(place.path().read_bytes()), 667 * 512)
     place.write('a.txt', LINES)
-    place.gives(['run', 'd.img', 'a.txt'], 0, b'station 1 a.txt\n' + FIRST)
-    place.gives(['run', 'd.img', 'a.txt'], 0, b'station 1 a.txt\n' + AGAIN)
-    place.gives(['show', 'd.img', 'where', '234-14-2001'], 0, WHERE)
+    for form in FORMS:
+        place.begins(form)
+        compare('length of the disk', len(place.path().read_bytes()), 667 * 512)
+        place.gives(['run', 'd.img', 'a.txt'], 0, b'station 1 a.txt\n' + FIRST)
+        place.gives(['run', 'd.img', 'a.txt'], 0, b'station 1 a.txt\n' + AGAIN)
+        place.gives(['show', 'd.img', 'where', '234-14-2001'], 0, WHERE)
 
 
 def the_readme(place):
@@ -149,10 +151,8 @@ def help_and_version(place):
         for flag in '--help', '-h':
             text = told(place, *words, flag)
             compare(f'parts of the help of {words}', [part for part in [b'Usage: ', *parts, b'\nExit status: 0 '] if part not in text], [])
-    place.format()
-    layout = int.from_bytes(place.path().read_bytes()[8:10], 'big')
     for flag in '--version', '-V':
-        compare('version', told(place, flag), f'tetra-switch 0.1.0 (disk layout {layout})\n'.encode())
+        compare('version', told(place, flag), b'tetra-switch 0.1.0 (disk layouts 1 and 2)\n')
     with open('/dev/full', 'wb') as full:
         for words in ['--help'], ['run', '--help'], ['--version']:
             place.gives(words, 4, err=file_fault('-'), stdout=full)
@@ -217,9 +217,8 @@ def disks_that_can_not_be_opened(place):
             place.gives(words, 4, err=file_fault(name))
 
 
-def hostile_disks(place):
-    place.format()
-    place.write('a.txt', LINES)
+def hostile_disk(place, form):
+    place.begins(form)
     place.gives(['run', 'd.img', 'a.txt'], 0, b'station 1 a.txt\n' + FIRST)
     good = place.path().read_bytes()
 
@@ -234,6 +233,12 @@ def hostile_disks(place):
             refuses(place, words, 5, fault(err), 'e.img')
     place.write('e.img', good + b'rest')
     place.gives(['show', 'e.img', 'count'], 0, b'count 2\n')
+
+
+def hostile_disks(place):
+    place.write('a.txt', LINES)
+    for form in FORMS:
+        hostile_disk(place, form)
 
 
 # Faults of files
@@ -278,11 +283,8 @@ def said_before(out):
     return re.sub(rb'^[^\n]* no memory\n.*', b'', out, flags=re.M | re.S)
 
 
-def memory_that_ends_between(place):
-    """Each allocation in turn is refused: that is a fault, or the answer to a line; then all is answered as if nothing had been."""
-    place.write('a.txt', LINES + b'where 234-14-2001\n')
-    place.format()
-    place.copy('d.img', 'new.img')
+def memory_that_ends(place, form):
+    place.begins(form, 'new.img')
     good, statuses = b'station 1 a.txt\n' + FIRST + WHERE, []
     with refusing.library() as made:
         while statuses[-1:] != [0]:
@@ -296,6 +298,13 @@ def memory_that_ends_between(place):
             compare('status of the next run', again.returncode, 0)
             place.gives(['show', 'd.img', 'where', '234-14-2001'], 0, WHERE)
     compare('statuses', sorted(set(statuses)), [0, 1, 5])
+
+
+def memory_that_ends_between(place):
+    """Each allocation in turn is refused: that is a fault, or the answer to a line; then all is answered as if nothing had been."""
+    place.write('a.txt', LINES + b'where 234-14-2001\n')
+    for form in FORMS:
+        memory_that_ends(place, form)
 
 
 CASES = [

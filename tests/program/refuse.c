@@ -1,27 +1,90 @@
 /* Preloaded into a program by refusing.py: its allocation of the number REFUSED, counted from 1, gets no
-   memory, and every other one what the C library gives. */
+   memory, nor do the next ones up to REFUSALS in all, where that is set; every other one gets what the C
+   library gives. At the end it writes how many blocks were not given back into the file named by HELD. */
+#include <fcntl.h>
 #include <stddef.h>
+#include <stdio.h>
 #include <stdlib.h>
+#include <sys/syscall.h>
+#include <unistd.h>
 
 void *__libc_malloc(size_t size);
+void *__libc_calloc(size_t count, size_t size);
 void *__libc_realloc(void *block, size_t size);
+void __libc_free(void *block);
+
+static long held;
+
+static long number_of(const char *name, long otherwise)
+{
+    const char *number = getenv(name);
+    return number ? atol(number) : otherwise;
+}
 
 static int is_refused(void)
 {
-    static long left = -1;
+    static long left = -1, refusals;
     if (left < 0) {
-        const char *number = getenv("REFUSED");
-        left = number ? atol(number) : 0;
+        left = number_of("REFUSED", 0);
+        refusals = number_of("REFUSALS", 1);
     }
-    return left > 0 && --left == 0;
+    if (left != 1)
+        return left > 1 && --left == 0;
+    if (--refusals == 0)
+        left = 0;
+    return 1;
+}
+
+static void *counted(void *block)
+{
+    if (block)
+        __atomic_fetch_add(&held, 1, __ATOMIC_SEQ_CST);
+    return block;
 }
 
 void *malloc(size_t size)
 {
-    return is_refused() ? NULL : __libc_malloc(size);
+    return is_refused() ? NULL : counted(__libc_malloc(size));
+}
+
+void *calloc(size_t count, size_t size)
+{
+    return counted(__libc_calloc(count, size));
 }
 
 void *realloc(void *block, size_t size)
 {
-    return is_refused() ? NULL : __libc_realloc(block, size);
+    if (is_refused())
+        return NULL;
+    return block ? __libc_realloc(block, size) : counted(__libc_realloc(block, size));
+}
+
+void free(void *block)
+{
+    if (block)
+        __atomic_fetch_sub(&held, 1, __ATOMIC_SEQ_CST);
+    __libc_free(block);
+}
+
+static void report(void)
+{
+    const char *file = getenv("HELD");
+    int out = file ? open(file, O_WRONLY | O_CREAT | O_TRUNC, 0600) : -1;
+    if (out >= 0) {
+        dprintf(out, "%ld\n", held);
+        close(out);
+    }
+}
+
+/* A program with threads ends by this call, which runs no destructor. */
+void _exit(int status)
+{
+    report();
+    for (;;)
+        syscall(SYS_exit_group, status);
+}
+
+__attribute__((destructor)) static void report_at_end(void)
+{
+    report();
 }

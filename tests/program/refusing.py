@@ -13,9 +13,11 @@ def library():
     return preloading.library(SOURCE)
 
 
-def environment(made, number):
-    """The environment in which a program's allocation of that number, counted from 1, gets no memory."""
-    return preloading.environment(made, REFUSED=str(number))
+def environment(made, number, refusals=1, held=''):
+    """The environment in which a program's allocation of that number, counted from 1, gets no memory, nor do those
+    behind it, so many in all. At its end the program writes into the file `held` how many blocks it did not give back."""
+    named = {'HELD': held} if held else {}
+    return preloading.environment(made, REFUSED=number, REFUSALS=refusals, **named)
 
 
 def is_script(command):

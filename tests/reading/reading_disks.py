@@ -5,18 +5,24 @@ import functools
 
 import reading
 from reading_pdus import Refused
-from reading_rows import LAST_AREA, SECTOR, BadSector, Fields, Header, NoRow, mail_kind_in, read_image, row_in, rule_in, want
+from reading_rows import (HEADER, LAST_AREA, PLAIN_HEADER, SECTOR, BadSector, Fields, Header, NoRow, mail_kind_in, read_image, row_in,
+                          rule_in, want)
 
 NAME, LAYOUT = b'TETRALOC', 1
 MOST = {'rules': 4096, 'radios': 65_536, 'mail': 65_536, 'stations': 64}
 FEWEST_SECTORS, MOST_SECTORS = 38, 65_536
-MOST_COMMANDS, LONGEST, RECORD_HEAD = 64, 281, 6
+MOST_COMMANDS, LONGEST = 64, 281
 LABEL, ROOTS, SLOTS = 0, (1, 2), 3
+# The form of a side's records is the tag of the header in its slot: plain ones are of layout 1. A numbered record, of layout 2,
+# has the number of its first command. How many bytes of a record come before its commands
+PLAIN, NUMBERED = PLAIN_HEADER, HEADER
+RECORD_HEAD = {PLAIN: 6, NUMBERED: 14}
 
-# A record, by its first data sector and its data. What an image stands for: by which side (0 for A, 1 for B), of which epoch,
-# behind how many records (the first closed gate), and the register
-Record = collections.namedtuple('Record', 'at data')
-Opening = collections.namedtuple('Opening', 'side epoch gate register')
+# A record, by its first data sector, its form and its data; and what its data say. What an image stands for: by which side (0 for
+# A, 1 for B), in which form, of which epoch, behind how many records (the first closed gate), and the register
+Record = collections.namedtuple('Record', 'at form data')
+Told = collections.namedtuple('Told', 'first commands')
+Opening = collections.namedtuple('Opening', 'side form epoch gate register')
 Command = collections.namedtuple('Command', 'station sequence moment body')
 
 
@@ -82,6 +88,11 @@ def epoch_of(image, layout, side):
     if not isinstance(row, Header):
         raise Damaged(layout.slot(side))
     return row.epoch
+
+
+def form_of(image, layout, side):
+    """The form of a side's records; its slot begins with a header."""
+    return image[layout.slot(side)][0]
 
 
 def side_in(image, layout):
@@ -164,47 +175,49 @@ def command_in(fields):
 
 # Records
 
-def head_in(fields):
-    """How many commands a record has, and how many bytes they take."""
+def head_in(fields, form):
+    """How many commands a record has, the number of the first, which only a numbered one has, and how many bytes they take."""
     count = fields.number(2, 1, MOST_COMMANDS)
-    return count, fields.number(4, most=LONGEST * count)
+    first = fields.number(8) if form == NUMBERED else None
+    return count, first, fields.number(4, most=LONGEST * count)
 
 
-def data_sectors(first):
+def data_sectors(first, form):
     """How many there are, by the first of them."""
-    _, size = head_in(Fields(first))
-    return -(-(RECORD_HEAD + size) // SECTOR)
+    *_, size = head_in(Fields(first), form)
+    return -(-(RECORD_HEAD[form] + size) // SECTOR)
 
 
 @functools.lru_cache(maxsize=1024)
-def commands_in(data):
-    """The commands of a record, by its data."""
-    fields = Fields(data)
-    count, size = head_in(fields)
+def told_in(record):
+    """The number of the first command, and the commands of a record."""
+    fields = Fields(record.data)
+    count, first, size = head_in(fields, record.form)
     commands = [command_in(fields) for _ in range(count)]
-    want(fields.at == RECORD_HEAD + size and not any(data[fields.at:]))
-    return commands
+    want(fields.at == RECORD_HEAD[record.form] + size and not any(record.data[fields.at:]))
+    return Told(first, commands)
 
 
-def record_at(image, at, end):
-    """The record whose data begin here, in a half that ends there, and the next gate."""
+def record_at(image, at, end, form, before):
+    """The record whose data begin here, after so many accepted commands, in a half that ends there; and the next gate."""
     try:
-        count = data_sectors(image[at])
+        count = data_sectors(image[at], form)
         want(at + count < end)
-        record = Record(at, b''.join(image[at:at + count]))
-        commands_in(record.data)
+        record = Record(at, form, b''.join(image[at:at + count]))
+        want(told_in(record).first in (None, before + 1))
     except NoRow:
         raise Damaged(at)
     return record, at + count
 
 
-def records_in(image, gate, end):
-    """The records of a half that begins with this gate, and the first closed gate."""
+def records_in(image, gate, end, form, before):
+    """The records of a half that begins with this gate, after so many accepted commands; and the first closed gate."""
     records = []
     while is_open(image[gate]):
         if gate + 1 == end:
             raise Damaged(gate)
-        record, gate = record_at(image, gate + 1, end)
+        record, gate = record_at(image, gate + 1, end, form, before)
+        before += len(told_in(record).commands)
         records.append(record)
     return records, gate
 
@@ -228,7 +241,7 @@ def accepts(register, command):
 def after(register, record):
     """The register after the commands of a record."""
     register = copied(register)
-    if not all(accepts(register, command) for command in commands_in(record.data)):
+    if not all(accepts(register, command) for command in told_in(record).commands):
         raise Damaged(record.at)
     return register
 
@@ -242,7 +255,8 @@ def opens(image):
     layout = layout_in(image[LABEL], len(image))
     side = side_in(image, layout)
     epoch, register = base_of(image, layout, side)
-    records, gate = records_in(image, layout.half(side), layout.half(side + 1))
+    form = form_of(image, layout, side)
+    records, gate = records_in(image, layout.half(side), layout.half(side + 1), form, register.count)
     for record in records:
         register = after(register, record)
-    return Opening(side, epoch, gate, register)
+    return Opening(side, form, epoch, gate, register)

@@ -7,14 +7,17 @@ from reading import LAST_NUMBER, MOST_GROUPS, MOST_ITEMS, Item, Register
 from reading_pdus import Message, Refused, Report, read_sds
 
 SECTOR = 512
-HEADER, RULE, RADIO, MAIL, SERVED, COPY = 16, 17, 18, 19, 20, 21
+HEADER, RULE, RADIO, MAIL, SERVED, COPY = 22, 17, 18, 19, 20, 21
+# The tag of a header of layout 1, which is read too
+PLAIN_HEADER = 16
 LAST_EPOCH, LATEST, LAST_AREA, LAST_SEQUENCE = 2 ** 62, 8_589_934_590, 16_383, 2 ** 32 - 1
 MOST_BITS = 2048
 # The kinds of what waits: how each is told in bytes, and as what PDU
 KINDS = {0: (b'm', Message), 1: (b'r', Report)}
 
-# Rows as values: what a register keeps, under its key. A radio's groups are pairs, in the order in which they stand.
-Header = collections.namedtuple('Header', 'epoch count numbers')
+# Rows as values: what a register keeps, under its key. A radio's groups are pairs, in the order in which they stand; of a header the
+# tag is told with which it was read.
+Header = collections.namedtuple('Header', 'epoch count numbers tag')
 Rule = collections.namedtuple('Rule', 'prefix kept')
 Radio = collections.namedtuple('Radio', 'itsi kept groups')
 Mail = collections.namedtuple('Mail', 'key kept')
@@ -73,9 +76,13 @@ class Fields:
         return self.bits(length, (length + 7) // 8)
 
 
-def header_in(fields):
+def header_in(fields, tag=HEADER):
     epoch, count = fields.number(8, 1, LAST_EPOCH), fields.number(8)
-    return Header(epoch, count, tuple(fields.number(4) for _ in range(4)))
+    return Header(epoch, count, tuple(fields.number(4) for _ in range(4)), tag)
+
+
+def plain_header_in(fields):
+    return header_in(fields, PLAIN_HEADER)
 
 
 def rule_in(fields):
@@ -122,7 +129,8 @@ def served_in(fields):
     return Served(station, (sequence, number, fields.string() or None))
 
 
-FORMS = {HEADER: header_in, RULE: rule_in, RADIO: radio_in, MAIL: mail_in, SERVED: served_in, COPY: copy_in}
+FORMS = {HEADER: header_in, PLAIN_HEADER: plain_header_in, RULE: rule_in, RADIO: radio_in, MAIL: mail_in, SERVED: served_in,
+         COPY: copy_in}
 
 
 @functools.lru_cache(maxsize=4096)
@@ -224,8 +232,8 @@ def sector(tag, *fields):
     return (number(tag, 1) + b''.join(fields)).ljust(SECTOR, b'\0')
 
 
-def header_row(epoch, count, numbers):
-    return sector(HEADER, number(epoch, 8), number(count, 8), *(number(rows, 4) for rows in numbers))
+def header_row(epoch, count, numbers, tag=HEADER):
+    return sector(tag, number(epoch, 8), number(count, 8), *(number(rows, 4) for rows in numbers))
 
 
 def rule_row(prefix, kept):
@@ -253,11 +261,11 @@ def served_row(station, kept):
     return sector(SERVED, number(station, 2), number(sequence, 4), number(count, 8), string(pdu or ''))
 
 
-def rows(epoch, register):
-    """The sectors of a register's image."""
+def rows(epoch, register, tag=HEADER):
+    """The sectors of a register's image, whose header has this tag."""
     mail = sorted(register.mail.items(), key=lambda it: (it[1].number, it[0]))
     tables = [[rule_row(prefix, kept) for prefix, kept in sorted(register.rules.items())],
               [radio_row(itsi, kept, sorted(register.groups_of(itsi).items())) for itsi, kept in sorted(register.radios.items())],
               [mail_row(key, kept) for key, kept in mail],
               [served_row(station, kept) for station, kept in sorted(register.served.items())]]
-    return [header_row(epoch, register.count, map(len, tables))] + sum(tables, [])
+    return [header_row(epoch, register.count, map(len, tables), tag)] + sum(tables, [])

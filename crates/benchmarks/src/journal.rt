@@ -3,7 +3,7 @@ ghost use Rattle.std.specs.Prelude.{◌≡◌, ◌≤◌, length};
 ghost use Rattle.gated_journal.specs.Record.{most_commands};
 
 use centre_core::{Body, Command, Sequence};
-use gated_journal::Journal;
+use gated_journal::{Form, Journal, Place};
 use identity::{BitWriter, Itsi};
 use mailbox::Moment;
 use registration::{LocationArea, Station};
@@ -41,6 +41,7 @@ fn update(alloc: Global) -> Option<Command<Global>> {
 // Adds records of these commands while there is room. How many they were.
 fn fill<D: Disk>(journal: &mut Journal<Global>, disk: &mut D, commands: &[&Command<Global>]) -> u64
     requires end { journal.old.end ≡ 39 }
+    requires count { journal.old.count ≡ 0 }
     requires some { 1 ≤ length commands.now }
     requires few { length commands.now ≤ most_commands }
     ensures { journal.new.end ≡ 39 }
@@ -65,7 +66,14 @@ fn read<D: Disk>(alloc: Global, disk: &mut D) -> u64 {
     if disk.sectors() < 39 {
         return 0;
     }
-    match Journal::replay(alloc, disk, 0, 39) {
+    let place = Place {
+        first: 0,
+        end: 39,
+        next: 0,
+        form: Form::Numbered,
+        count: 0,
+    };
+    match Journal::replay(alloc, disk, place) {
         Ok((_, records)) => records.len() as u64,
         Err(_) => 0,
     }
@@ -79,6 +87,7 @@ fn round<D: Disk>(
     commands: &[&Command<Global>],
 ) -> Option<Timed>
     requires end { journal.old.end ≡ 39 }
+    requires count { journal.old.count ≡ 0 }
     requires some { 1 ≤ length commands.now }
     requires few { length commands.now ≤ most_commands }
 {
@@ -114,13 +123,13 @@ fn measured(rt: &HostRuntime, commands: &[&Command<Global>]) -> Option<Timed>
         appended: Duration::from_nanos(0),
         read: Duration::from_nanos(0),
     };
-    let mut journal = Journal::start(rt.alloc(), 0, 39).ok()?;
+    let mut journal = Journal::start(rt.alloc(), 0, 39, Form::Numbered, 0).ok()?;
     for _ in 0..ROUNDS {
         disk = disk.crash(&[]);
         if !is_empty(&mut disk) {
             return None;
         }
-        journal.restart(0, 39);
+        journal.restart(0, 39, Form::Numbered, 0);
         all = more(all, round(rt, &mut journal, &mut disk, commands)?)?;
     }
     Some(all)

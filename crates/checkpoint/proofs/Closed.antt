@@ -4,6 +4,7 @@ use Rattle.sector_disk.specs.Disk.{IsSound, View, HasRead, HasWritten, HasSynced
 use Rattle.sector_disk.specs.Run.{IsTornImage, LeavesOnly}
 use Rattle.sector_disk.specs.declared.disk.DiskError.{DiskError}
 use Rattle.sector_disk.proofs.Moments.{read_images, read_on, started, sync_on, torn_by, write_on}
+use Rattle.gated_journal.specs.declared.form.Form.{Form}
 use Rattle.gated_journal.specs.Half.{IsClosed, IsOpen}
 use Rattle.gated_journal.specs.Calls.{closed_gate}
 use Rattle.checkpoint.specs.declared.layout.Layout.{Layout}
@@ -16,9 +17,9 @@ use Rattle.checkpoint.proofs.Spared.{below_older, below_same, closed_as, gate_to
 closed_zeros : IsClosed closed_gate
 closed_zeros is = cc
 
-module _ {A : Type 0} (layout : Layout) (s : Side) (base : Base) (held : Held A) where
+module _ {A : Type 0} (layout : Layout) (s : Side) (form : Form) (base : Base) (held : Held A) where
   abbrev P : List (List ℕ) → Type 0
-  P = Stands layout s base held
+  P = Stands layout s form base held
 
   abbrev o : Side
   o = other_of s
@@ -34,10 +35,10 @@ module _ {A : Type 0} (layout : Layout) (s : Side) (base : Base) (held : Held A)
         let each_mid : InEach mid P = λ image is. each image (read_images old mid (root_at o) bytes (Ok tt) has image is) in
         let places = lies layout o in
         let opened_mid : IsOpen (sector mid.reads (root_at o)) = ap (λ (b : List ℕ). slice_index b 0) (ap (λ (l : List (List ℕ)). sector l (root_at o)) has.reads ∙ sym has.given) ∙ opened in
-        let older = older_each layout s base held mid sound_mid (omega (arith, room, same)) each_mid opened_mid in
+        let older = older_each layout s form base held mid sound_mid (omega (arith, room, same)) each_mid opened_mid in
         write_on old mid new P (root_at o) one result (in_read (Ok tt) has) sound_mid (omega (arith, room, same, places.root_in)) wrote (λ image torn.
         let slot : sector image (slot_at layout o) ≡ sector torn.0 (slot_at layout o) = torn.2.others (slot_at layout o) (inr (omega (arith, places.root))) in
-        stands_on layout s base held torn.0 image (each_mid torn.0 torn.1) (root_torn layout o torn.0 image torn.2) (below_older layout o base.0 torn.0 image slot (older torn.0 torn.1)))
+        stands_on layout s form base held torn.0 image (each_mid torn.0 torn.1) (root_torn layout o torn.0 image torn.2) (below_older layout o base.0 torn.0 image slot (older torn.0 torn.1)))
 
   -- ---- the gate
 
@@ -48,7 +49,7 @@ module _ {A : Type 0} (layout : Layout) (s : Side) (base : Base) (held : Held A)
         let was = left_each old mid P before sound torn.0 torn.1 in
         let root : sector image (root_at o) ≡ sector torn.0 (root_at o) = torn.2.others (root_at o) (inl (omega (arith, places.root, places.slot))) in
         let slot : sector image (slot_at layout o) ≡ sector torn.0 (slot_at layout o) = torn.2.others (slot_at layout o) (inl (omega (arith, places.slot, places.some))) in
-        stands_on layout s base held torn.0 image was (gate_torn layout o torn.0 image torn.2) (below_same layout o base.0 torn.0 image root slot was.below)
+        stands_on layout s form base held torn.0 image was (gate_torn layout o torn.0 image torn.2) (below_same layout o base.0 torn.0 image root slot was.below)
 
     inside : half_at layout o < mid.sectors
     inside = let places = lies layout o in let some = layout.in_range.fewest in omega (arith, places.half, room, some)

@@ -4,6 +4,7 @@ use Rattle.std.proofs.Math.ListN.{length-set}
 use Rattle.std.proofs.lemmas.Bool.{cases_eq, cases_lt}
 use Rattle.sector_disk.specs.Disk.{IsImageOf, IsSound, View, sector}
 use Rattle.sector_disk.specs.Run.{IsTorn, LeavesOnly}
+use Rattle.gated_journal.specs.declared.form.Form.{Form}
 use Rattle.gated_journal.specs.Half.{IsClosed, IsOpen}
 use Rattle.gated_journal.proofs.Chain.{same_half}
 use Rattle.image_rows.specs.RowReading.{row_in}
@@ -12,7 +13,7 @@ use Rattle.checkpoint.specs.declared.layout.Layout.{Layout}
 use Rattle.checkpoint.specs.declared.side.Side.{Side}
 use Rattle.checkpoint.specs.Layout.{disk_size, half_at, half_end, label_at, other_of, root_at, slot_at, slot_size}
 use Rattle.checkpoint.specs.Label.{label_size}
-use Rattle.checkpoint.specs.Standing.{Base, Held, InEach, IsBelow, Stands, epoch_of, sectors_from, slot_epoch}
+use Rattle.checkpoint.specs.Standing.{Base, Held, InEach, IsBelow, Stands, epoch_of, form_told, sectors_from, slot_epoch}
 use Rattle.checkpoint.proofs.Apart.{IsElsewhere, half_elsewhere, label_elsewhere, lies, root_elsewhere, slot_elsewhere}
 
 pub sectors_same : (old new : List (List ℕ)) (at n : ℕ) → ((k : ℕ) → at ≤ k → k < at + n → sector new k ≡ sector old k) → sectors_from new at n ≡ sectors_from old at n
@@ -58,15 +59,16 @@ pub below_same : (layout : Layout) (s : Side) (epoch : ℕ) (old new : List (Lis
 below_same layout s epoch old new root slot (inl closed) = inl (closed_as (sector old (root_at s)) (sector new (root_at s)) root closed)
 below_same layout s epoch old new root slot (inr (e, tells, lt)) = inr (e, ap (λ (bytes : List ℕ). epoch_of (row_in bytes)) slot ∙ tells, lt)
 
-module _ {A : Type 0} (layout : Layout) (s : Side) where
-  pub stands_on : (base : Base) (held : Held A) (old new : List (List ℕ)) → Stands layout s base held old → Spares layout (other_of s) old new → IsBelow layout (other_of s) base.0 new → Stands layout s base held new
+module _ {A : Type 0} (layout : Layout) (s : Side) (form : Form) where
+  pub stands_on : (base : Base) (held : Held A) (old new : List (List ℕ)) → Stands layout s form base held old → Spares layout (other_of s) old new → IsBelow layout (other_of s) base.0 new → Stands layout s form base held new
   stands_on base held old new was spares below = record {
     room = rw spares.count was.room;
     label = ap (λ (bytes : List ℕ). take label_size bytes) (spares.others label_at (label_elsewhere layout s)) ∙ was.label;
     root = ap (λ (bytes : List ℕ). slice_index bytes 0) (spares.others (root_at s) (root_elsewhere layout s)) ∙ was.root;
     below = below;
     slot = ap (slot_of layout.limits) (sectors_same old new (slot_at layout s) (slot_size layout) (λ k low high. spares.others k (slot_elsewhere layout s k low high))) ∙ was.slot;
-    half = same_half old new (half_at layout s) (half_end layout s) held.0 held.1 was.half (λ k low high. let gate = was.gate in spares.others k (half_elsewhere layout s k low (omega (arith, high, gate))));
+    form_is = ap form_told (spares.others (slot_at layout s) (slot_elsewhere layout s (slot_at layout s) (omega arith) (let places = lies layout s in omega (arith, places.some)))) ∙ was.form_is;
+    half = same_half form base.1.count old new (half_at layout s) (half_end layout s) held.0 held.1 was.half (λ k low high. let gate = was.gate in spares.others k (half_elsewhere layout s k low (omega (arith, high, gate))));
     gate = was.gate;
   }
 
@@ -103,9 +105,9 @@ older_or : (layout : Layout) (s : Side) (epoch : ℕ) (image : List (List ℕ)) 
 older_or layout s epoch image opened (inl closed) = absurd (closed opened)
 older_or layout s epoch image opened (inr (e, tells, lt)) = record { told = e; tells = tells; less = lt }
 
-pub older_each : {A : Type 0} (layout : Layout) (s : Side) (base : Base) (held : Held A) (disk : View) → IsSound disk → disk_size layout ≤ disk.sectors → InEach disk (Stands layout s base held)
+pub older_each : {A : Type 0} (layout : Layout) (s : Side) (form : Form) (base : Base) (held : Held A) (disk : View) → IsSound disk → disk_size layout ≤ disk.sectors → InEach disk (Stands layout s form base held)
     → IsOpen (sector disk.reads (root_at (other_of s))) → InEach disk (IsOlder layout (other_of s) base.0)
-older_each layout s base held disk sound room each opened image is =
+older_each layout s form base held disk sound room each opened image is =
     let o = other_of s in
     let places = lies layout o in
     let within : root_at o < disk.sectors = omega (arith, places.root_in, room) in

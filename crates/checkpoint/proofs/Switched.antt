@@ -1,10 +1,11 @@
 -- The other side's root is opened.
-use Rattle.std.proofs.Common.{take, ◌≡◌, inl, inr, ℕ, ◌-◌, ◌<◌, ◌≤◌, List, slice_index, Result, Ok, ap, ◌∙◌, arith}
+use Rattle.std.proofs.Common.{take, ◌≡◌, inl, inr, ℕ, ◌<◌, ◌≤◌, List, slice_index, Result, Ok, ap, ◌∙◌, arith}
 use Rattle.std.proofs.lemmas.Bool.{cases_eq}
 use Rattle.sector_disk.specs.Disk.{IsSound, View, HasWritten, HasSynced, sector}
 use Rattle.sector_disk.specs.Run.{IsTorn, IsTornImage, LeavesOnly}
 use Rattle.sector_disk.specs.declared.disk.DiskError.{DiskError}
 use Rattle.sector_disk.proofs.Moments.{durable_image, started, sync_on, synced_images, torn_by, write_on}
+use Rattle.gated_journal.specs.declared.form.Form.{Form}
 use Rattle.gated_journal.specs.Half.{IsOpen}
 use Rattle.gated_journal.proofs.Chain.{same_half}
 use Rattle.image_rows.specs.RowReading.{row_in}
@@ -13,22 +14,22 @@ use Rattle.checkpoint.specs.declared.layout.Layout.{Layout}
 use Rattle.checkpoint.specs.declared.side.Side.{Side}
 use Rattle.checkpoint.specs.Label.{label_size}
 use Rattle.checkpoint.specs.Layout.{disk_size, half_at, half_end, label_at, other_of, root_at, slot_at, slot_size}
-use Rattle.checkpoint.specs.Standing.{Base, Held, InEach, IsBelow, IsEither, IsReady, Stands, epoch_of}
+use Rattle.checkpoint.specs.Standing.{Base, Held, InEach, IsBelow, IsEither, IsReady, Stands, epoch_of, form_told}
 use Rattle.checkpoint.proofs.Apart.{label_elsewhere, lies, other_twice, slot_elsewhere}
 use Rattle.checkpoint.proofs.Epochs.{slot_tells}
 use Rattle.checkpoint.proofs.Spared.{root_torn, sectors_same, stands_on}
 
-module _ {A : Type 0} (layout : Layout) (s : Side) (base next : Base) (held more : Held A) (newer : base.0 < next.0) where
+module _ {A : Type 0} (layout : Layout) (s : Side) (form also : Form) (base next : Base) (held more : Held A) (newer : base.0 < next.0) where
   abbrev o : Side
   o = other_of s
 
   abbrev Either : List (List ℕ) → Type 0
-  Either = IsEither layout s base next held more
+  Either = IsEither layout s form also base next held more
 
   abbrev Other : List (List ℕ) → Type 0
-  Other = Stands layout o next more
+  Other = Stands layout o also next more
 
-  module _ (was image : List (List ℕ)) (torn : IsTorn (root_at o) 1 was image) (stands : Stands layout s base held was) (ready : IsReady layout o next more was) where
+  module _ (was image : List (List ℕ)) (torn : IsTorn (root_at o) 1 was image) (stands : Stands layout s form base held was) (ready : IsReady layout o also next more was) where
     -- all behind the roots is the same
     behind : (k : ℕ) → root_at o < k → sector image k ≡ sector was k
     behind k lt = torn.others k (inr (omega (arith, lt)))
@@ -49,17 +50,18 @@ module _ {A : Type 0} (layout : Layout) (s : Side) (base next : Base) (held more
           root = opened;
           below = rw (other_twice s) below;
           slot = ap (slot_of layout.limits) (sectors_same was image (slot_at layout o) (slot_size layout) (λ k low high. behind k (omega (arith, low, places.root)))) ∙ ready.slot;
-          half = same_half was image (half_at layout o) (half_end layout o) more.0 more.1 ready.half (λ k low high. behind k (omega (arith, low, places.root, places.slot)));
+          form_is = ap form_told (behind (slot_at layout o) (omega (arith, places.root))) ∙ ready.form_is;
+          half = same_half also next.1.count was image (half_at layout o) (half_end layout o) more.0 more.1 ready.half (λ k low high. behind k (omega (arith, low, places.root, places.slot)));
           gate = ready.gate;
         }
 
     stands_either : Either image
     stands_either = elim (cases_eq (slice_index (sector image (root_at o)) 0) 1) [
       | inl opened ↦ inr (opened_stands opened)
-      | inr shut ↦ inl (stands_on layout s base held was image stands (root_torn layout o was image torn) (inl shut))
+      | inr shut ↦ inl (stands_on layout s form base held was image stands (root_torn layout o was image torn) (inl shut))
     ]
 
-  module _ (old mid : View) (sound : IsSound old) (room : disk_size layout ≤ old.sectors) (each : InEach old (Stands layout s base held)) (ready : InEach old (IsReady layout o next more)) where
+  module _ (old mid : View) (sound : IsSound old) (room : disk_size layout ≤ old.sectors) (each : InEach old (Stands layout s form base held)) (ready : InEach old (IsReady layout o also next more)) where
     at_root : (image : List (List ℕ)) → IsTornImage old (root_at o) 1 image → Either image
     at_root image torn = stands_either torn.0 image torn.2 (each torn.0 torn.1) (ready torn.0 torn.1)
 

@@ -1,5 +1,5 @@
 -- What the image of a disk stands for: the side that counts, the register in its slot, and the records in its half.
-use Rattle.std.specs.Prelude.{◌≡◌, ◌⊎◌, zero, suc, ◌+◌, ◌<◌, ◌≤◌, false, List, [], ◌∷◌, length, Option, Some, None, Ok, Result}
+use Rattle.std.specs.Prelude.{◌≡◌, ◌⊎◌, zero, suc, ◌+◌, ◌<◌, ◌≤◌, ◌==◌, false, List, [], ◌∷◌, length, slice_index, Option, Some, None, Ok, Result, if◌then◌else◌}
 use Rattle.identity.specs.Numbers.{Byte}
 use Rattle.sector_disk.specs.Numbers.{Sector, Sectors}
 use Rattle.sector_disk.specs.Disk.{View, IsImageOf, sector}
@@ -8,6 +8,9 @@ use Rattle.image_rows.specs.Numbers.{Epoch}
 use Rattle.image_rows.specs.Rows.{Row, HeaderRow, RuleRow, RadioRow, MailRow, ServedRow}
 use Rattle.image_rows.specs.RowReading.{row_in}
 use Rattle.image_rows.specs.Image.{slot_of}
+use Rattle.image_rows.specs.RowText.{header_tag}
+use Rattle.gated_journal.specs.declared.form.Form.{Form}
+use Rattle.gated_journal.specs.declared.form.Form.TheVariants.{Numbered, Plain}
 use Rattle.gated_journal.specs.Half.{Entry, IsClosed, IsOpen, half_of}
 use Rattle.checkpoint.specs.declared.layout.Layout.{Layout}
 use Rattle.checkpoint.specs.declared.side.Side.{Side}
@@ -62,37 +65,48 @@ pub record IsShut (layout : Layout) (side : Side) (disk : View) : Type 0 where
   pub root : IsClosed (sector disk.reads (root_at side))
   pub gate : IsClosed (sector disk.reads (half_at layout side))
 
+-- The form of the records behind an image, as its first sector tells it: a header of layout 2 stands before numbered ones.
+abbrev pub form_told : List Byte → Form
+form_told bytes = if slice_index bytes 0 == header_tag then Numbered else Plain
+
+-- the form of the records in a side's half, by the first sector of its slot
+abbrev pub slot_form : Layout → Side → List (List Byte) → Form
+slot_form layout side image = form_told (sector image (slot_at layout side))
+
 -- the records of a half, and its first closed gate
 abbrev pub Held : Type 0 → Type 0
 Held A = List (Entry A) × Sector
 
 module _ {A : Type 0} where
-  -- the records that a side's half holds, and its first closed gate
-  abbrev pub IsInHalf : Layout → Side → Held A → List (List Byte) → Type 0
-  IsInHalf layout side held image = half_of image (half_at layout side) (half_end layout side) ≡ Ok held
+  -- the records of this form that a side's half holds, behind the commands of its image, and its first closed gate
+  abbrev pub IsInHalf : Layout → Side → Form → Base → Held A → List (List Byte) → Type 0
+  IsInHalf layout side form base held image = half_of form base.1.count image (half_at layout side) (half_end layout side) ≡ Ok held
 
   -- no record
   abbrev pub fresh : Layout → Side → Held A
   fresh layout side = ([], half_at layout side)
 
   -- The image stands by this side: the disk is labelled, the side's root is open, the other side counts for nothing beside it,
-  -- its slot begins with this image of a register, and its half holds these records.
-  pub record Stands (layout : Layout) (side : Side) (base : Base) (held : Held A) (image : List (List Byte)) : Type 0 where
+  -- its slot begins with this image of a register, and its half holds these records, of the form that the slot tells.
+  pub record Stands (layout : Layout) (side : Side) (form : Form) (base : Base) (held : Held A) (image : List (List Byte)) : Type 0 where
     pub room : disk_size layout ≤ length image
     pub label : IsLabel layout (sector image label_at)
     pub root : IsOpen (sector image (root_at side))
     pub below : IsBelow layout (other_of side) base.0 image
     pub slot : IsInSlot layout side base image
-    pub half : IsInHalf layout side held image
+    pub form_is : slot_form layout side image ≡ form
+    pub half : IsInHalf layout side form base held image
     pub gate : held.1 < half_end layout side
 
-  -- Nothing but the side's root is missing: its slot begins with this image of a register, and its half holds these records.
-  pub record IsReady (layout : Layout) (side : Side) (base : Base) (held : Held A) (image : List (List Byte)) : Type 0 where
+  -- Nothing but the side's root is missing: its slot begins with this image of a register, and its half holds these records, of
+  -- the form that the slot tells.
+  pub record IsReady (layout : Layout) (side : Side) (form : Form) (base : Base) (held : Held A) (image : List (List Byte)) : Type 0 where
     pub root : IsClosed (sector image (root_at side))
     pub slot : IsInSlot layout side base image
-    pub half : IsInHalf layout side held image
+    pub form_is : slot_form layout side image ≡ form
+    pub half : IsInHalf layout side form base held image
     pub gate : held.1 < half_end layout side
 
   -- the image stands by the current side as before, or by the other one, with its own image and records
-  abbrev pub IsEither : Layout → Side → Base → Base → Held A → Held A → List (List Byte) → Type 0
-  IsEither layout current base next held more image = Stands layout current base held image ⊎ Stands layout (other_of current) next more image
+  abbrev pub IsEither : Layout → Side → Form → Form → Base → Base → Held A → Held A → List (List Byte) → Type 0
+  IsEither layout current form also base next held more image = Stands layout current form base held image ⊎ Stands layout (other_of current) also next more image

@@ -3,6 +3,7 @@ ghost use Rattle.std.specs.Prelude.{◌≡◌, ◌≤◌, ◌++◌, Bool, IsErrO
 ghost use Rattle.sector_disk.specs.Disk.{HasCause, sector};
 ghost use Rattle.sector_disk.specs.Run.{HasMade, LeavesOnly};
 ghost use Rattle.sector_disk.specs.declared.disk.DiskError.TheVariants.{OutOfRange};
+ghost use Rattle.gated_journal.specs.declared.form.Form.{Form};
 ghost use Rattle.gated_journal.specs.Half.{IsClosed};
 ghost use Rattle.checkpoint.specs.Layout.{disk_size, other_of, root_at};
 ghost use Rattle.checkpoint.specs.Standing.{Base, Held, InEach, IsShut, Stands};
@@ -19,8 +20,8 @@ fn close_root<A: Allocator, D: Disk>(
     current: Side,
 ) -> Result<(), DiskError>
     requires room { disk_size layout.now ≤ (D.view disk.old).sectors }
-    ensures any_moment { (base : Base) (held : Held A) → (D.view disk.old).honest → InEach (D.view disk.old) (Stands layout.now current base held)
-        → LeavesOnly (D.view disk.old) (D.view disk.new) (Stands layout.now current base held) }
+    ensures any_moment { (form : Form) (base : Base) (held : Held A) → (D.view disk.old).honest → InEach (D.view disk.old) (Stands layout.now current form base held)
+        → LeavesOnly (D.view disk.old) (D.view disk.new) (Stands layout.now current form base held) }
     ensures closed { OnOk result ((D.view disk.old).honest → IsClosed (sector (D.view disk.new).reads (root_at (other_of current)))) }
     ensures calls { OnOk result ((D.view disk.old).honest → (D.view disk.new).calls ≡ (D.view disk.old).calls ++ root_calls (other_of current) (D.view disk.old).reads) }
     ensures some_calls { (D.view disk.old).honest → HasMade (D.view disk.old) (D.view disk.new) (root_calls (other_of current) (D.view disk.old).reads) }
@@ -52,8 +53,8 @@ pub fn begin<A: Allocator, D: Disk>(
     requires room { disk_size layout.now ≤ (D.view disk.old).sectors }
 
     // A stop at any moment of the call leaves the disk standing by the current side for what it stood for.
-    ensures any_moment { (base : Base) (held : Held A) → (D.view disk.old).honest → InEach (D.view disk.old) (Stands layout.now current base held)
-        → LeavesOnly (D.view disk.old) (D.view disk.new) (Stands layout.now current base held) }
+    ensures any_moment { (form : Form) (base : Base) (held : Held A) → (D.view disk.old).honest → InEach (D.view disk.old) (Stands layout.now current form base held)
+        → LeavesOnly (D.view disk.old) (D.view disk.new) (Stands layout.now current form base held) }
     ensures shut { OnOk result ((D.view disk.old).honest → IsShut layout.now (other_of current) (D.view disk.new)) }
 
     // The root is read, and written only where it reads open; then the gate is closed. A call that fails is the last.

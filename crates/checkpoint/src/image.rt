@@ -4,6 +4,8 @@ ghost use Rattle.sector_disk.specs.Disk.{HasFailed};
 ghost use Rattle.sector_disk.specs.Run.{HasMade, LeavesOnly};
 ghost use Rattle.sector_disk.specs.Filling.{HasFilled};
 ghost use Rattle.sector_disk.specs.declared.disk.DiskError.TheVariants.{OutOfRange};
+ghost use Rattle.gated_journal.specs.declared.form.Form.{Form};
+ghost use Rattle.gated_journal.specs.declared.form.Form.TheVariants.{Numbered};
 ghost use Rattle.image_rows.specs.Rows.{last_epoch, rows_of};
 ghost use Rattle.checkpoint.specs.declared.fault.CheckpointError.TheVariants.{DiskFault, EpochsUsedUp};
 ghost use Rattle.checkpoint.specs.Layout.{disk_size, other_of};
@@ -44,8 +46,8 @@ fn write_rows<A: Allocator + Clone, D: Disk>(
     Ok(())
 }
 
-/// Writes the image of the register, with the epoch after this one, to the other side of the disk: the side that is
-/// current, whose image has the epoch, stays so until `switch`. Takes no memory.
+/// Writes the image of the register, with the epoch after this one, to the other side of the disk, in layout 2: the
+/// side that is current, whose image has the epoch, stays so until `switch`. Takes no memory.
 ///
 /// The register has the layout's limits. A stop at any moment, also after a `DiskFault`, leaves what stood there
 /// before. `EpochsUsedUp` comes where the epoch is the last one, 2 to the 62nd.
@@ -60,11 +62,11 @@ pub fn write_image<A: Allocator + Clone, D: Disk>(
     requires limits { register.now.registered.limits ≡ layout.now.limits }
 
     // A stop at any moment of the call leaves the disk standing by the current side for what it stood for.
-    ensures any_moment { (base : Base) (held : Held A) → (D.view disk.old).honest → InEach (D.view disk.old) (Stands layout.now current base held)
-        → LeavesOnly (D.view disk.old) (D.view disk.new) (Stands layout.now current base held) }
+    ensures any_moment { (form : Form) (base : Base) (held : Held A) → (D.view disk.old).honest → InEach (D.view disk.old) (Stands layout.now current form base held)
+        → LeavesOnly (D.view disk.old) (D.view disk.new) (Stands layout.now current form base held) }
 
     // At `Ok` each stop leaves the image in the other side's slot, with the next epoch, and only its root is missing.
-    ensures ready { OnOk result ((D.view disk.old).honest → InEach (D.view disk.new) (IsReady {A = A} layout.now (other_of current) (epoch + 1, register.now) (fresh layout.now (other_of current)))) }
+    ensures ready { OnOk result ((D.view disk.old).honest → InEach (D.view disk.new) (IsReady {A = A} layout.now (other_of current) Numbered (epoch + 1, register.now) (fresh layout.now (other_of current)))) }
 
     // The other side's root is read, and written only where it reads open; its first gate is closed; then each row is
     // written once. A call that fails is the last.

@@ -4,6 +4,8 @@
 ghost use Rattle.std.specs.Prelude.{◌≡◌, ◌<◌, ℕ, List, false};
 ghost use Rattle.sector_disk.specs.Disk.{IsImageOf};
 ghost use Rattle.sector_disk.specs.Run.{IsTornImage};
+ghost use Rattle.gated_journal.specs.declared.form.Form.{Form};
+ghost use Rattle.gated_journal.specs.Half.{counted};
 ghost use Rattle.gated_journal.specs.Settled.{IsSettled};
 ghost use Rattle.checkpoint.specs.declared.layout.Layout.{Layout as LayoutValue};
 ghost use Rattle.checkpoint.specs.declared.side.Side.{Side as SideValue};
@@ -32,8 +34,8 @@ pub fn settled<D: Disk>()
 /// Where every image stands by a side, its half can be added to, as `Journal::append` takes it; and an image that has
 /// changed nowhere but in that half stands by the side as before, for what the half then holds.
 pub fn records_added<A: Allocator, D: Disk>()
-    ensures before { (disk : D) (layout : LayoutValue) (side : SideValue) (base : Base) (held : Held A) → InEach (D.view disk) (Stands layout side base held)
-        → held.1 < half_end layout side → IsSettled (D.view disk) (record { first = half_at layout side; end = half_end layout side; next = held.1 }) held.0 }
-    ensures after { (disk : D) (layout : LayoutValue) (side : SideValue) (base : Base) (held more : Held A) (image : List (List ℕ)) → InEach (D.view disk) (Stands layout side base held)
-        → IsTornImage (D.view disk) (half_at layout side) layout.journal image → IsInHalf layout side more image → more.1 < half_end layout side → Stands layout side base more image }
+    ensures before { (disk : D) (layout : LayoutValue) (side : SideValue) (form : Form) (base : Base) (held : Held A) → InEach (D.view disk) (Stands layout side form base held)
+        → held.1 < half_end layout side → IsSettled (D.view disk) (record { first = half_at layout side; end = half_end layout side; next = held.1; form = form; count = counted base.1.count held.0 }) base.1.count held.0 }
+    ensures after { (disk : D) (layout : LayoutValue) (side : SideValue) (form : Form) (base : Base) (held more : Held A) (image : List (List ℕ)) → InEach (D.view disk) (Stands layout side form base held)
+        → IsTornImage (D.view disk) (half_at layout side) layout.journal image → IsInHalf layout side form base more image → more.1 < half_end layout side → Stands layout side form base more image }
 {}

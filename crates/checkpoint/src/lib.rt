@@ -3,6 +3,7 @@
 
 mod closing;
 mod fault;
+mod form;
 mod image;
 pub mod laws;
 mod layout;
@@ -14,6 +15,7 @@ mod switching;
 
 pub use closing::begin;
 pub use fault::CheckpointError;
+pub use form::form_told;
 pub use image::write_image;
 pub use layout::Layout;
 pub use progress::{Progress, write_next_rows};

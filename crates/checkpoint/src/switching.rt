@@ -2,6 +2,7 @@
 ghost use Rattle.std.specs.Prelude.{◌≡◌, ◌⊎◌, ◌≤◌, ◌<◌, ◌++◌, IsErrOf, OnOk};
 ghost use Rattle.sector_disk.specs.Disk.{HasFailed};
 ghost use Rattle.sector_disk.specs.Run.{HasMade, LeavesOnly};
+ghost use Rattle.gated_journal.specs.declared.form.Form.{Form};
 ghost use Rattle.checkpoint.specs.declared.fault.CheckpointError.TheVariants.{DiskFault, EpochsUsedUp};
 ghost use Rattle.checkpoint.specs.Layout.{disk_size, other_of};
 ghost use Rattle.checkpoint.specs.Standing.{Base, Held, InEach, IsEither, IsReady, Stands};
@@ -24,12 +25,12 @@ pub fn switch<A: Allocator, D: Disk>(
     requires room { disk_size layout.now ≤ (D.view disk.old).sectors }
 
     // A stop at any moment of the call leaves the disk standing by the one side or by the other.
-    ensures any_moment { (base next : Base) (held more : Held A) → base.0 < next.0 → (D.view disk.old).honest → InEach (D.view disk.old) (Stands layout.now current base held) → InEach (D.view disk.old) (IsReady layout.now (other_of current) next more)
-        → LeavesOnly (D.view disk.old) (D.view disk.new) (IsEither layout.now current base next held more) }
+    ensures any_moment { (form also : Form) (base next : Base) (held more : Held A) → base.0 < next.0 → (D.view disk.old).honest → InEach (D.view disk.old) (Stands layout.now current form base held) → InEach (D.view disk.old) (IsReady layout.now (other_of current) also next more)
+        → LeavesOnly (D.view disk.old) (D.view disk.new) (IsEither layout.now current form also base next held more) }
 
     // At `Ok` each stop leaves it standing by the other, with the records there.
-    ensures switched { OnOk result ((base next : Base) (held more : Held A) → base.0 < next.0 → (D.view disk.old).honest → InEach (D.view disk.old) (Stands layout.now current base held) → InEach (D.view disk.old) (IsReady layout.now (other_of current) next more)
-        → InEach (D.view disk.new) (Stands layout.now (other_of current) next more)) }
+    ensures switched { OnOk result ((form also : Form) (base next : Base) (held more : Held A) → base.0 < next.0 → (D.view disk.old).honest → InEach (D.view disk.old) (Stands layout.now current form base held) → InEach (D.view disk.old) (IsReady layout.now (other_of current) also next more)
+        → InEach (D.view disk.new) (Stands layout.now (other_of current) also next more)) }
 
     // The other side's root is opened, and that is made to last. A call that fails is the last.
     ensures calls { OnOk result ((D.view disk.new).calls ≡ (D.view disk.old).calls ++ switch_calls (other_of current)) }

@@ -31,7 +31,7 @@ fn stands<D: Disk>(disk: &mut D, second: bool) -> Result<bool, DiskError> {
         let image = is_image(disk, 296, 2)? && begins(disk, 628, &[0])?;
         return Ok(standing(disk)? == 2 && image);
     }
-    Ok(standing(disk)? == 1 && begins(disk, 3, &[16, 0, 0, 0, 0, 0, 0, 0, 1])?)
+    Ok(standing(disk)? == 1 && begins(disk, 3, &[22, 0, 0, 0, 0, 0, 0, 0, 1])?)
 }
 
 /// Whether a stop behind the failing call number leaves one of the two images.

@@ -1,10 +1,11 @@
 //! An image written a few rows at a time beside a record, and the switch to it.
+ghost use Rattle.std.specs.Prelude.{◌≡◌};
 ghost use Rattle.checkpoint.specs.Progress.{IsProgress};
 
-use crate::made::{expiry, formatted_for, layout, sixteen_rules, standing, turn, write};
+use crate::made::{begun, expiry, formatted_for, layout, sixteen_rules, standing, turn, write};
 use centre_core::{Command, Register};
-use checkpoint::{Layout, Progress, Side, begin, write_next_rows};
-use gated_journal::Journal;
+use checkpoint::{Layout, Progress, Side, write_next_rows};
+use gated_journal::{Form, Journal, Place};
 use sector_disk::{Disk, DiskError, Failing, FailingDisk, MemoryDisk};
 use std::alloc::{AllocError, Global};
 
@@ -40,10 +41,6 @@ fn in_three_calls<D: Disk>(
     disk.sync().ok()?;
     let whole = !before && progress.is_whole(register);
     whole.then_some([first, second, third])
-}
-
-fn begun<D: Disk>(disk: &mut D, layout: &Layout) -> bool {
-    disk.sectors() >= layout.sectors() && begin::<Global, D>(disk, layout, Side::A).is_ok()
 }
 
 /// Whether two disks read the same, sector for sector.
@@ -87,16 +84,31 @@ fn eight_rows_a_call_are_the_whole_image(rt: HostRuntime) {
     assert!(rt; is_written_in_turn(rt.alloc()) == Some(true));
 }
 
-/// Adds one record to both halves, each still empty.
-fn add<D: Disk>(alloc: Global, disk: &mut D, command: &Command<Global>) -> Option<bool> {
-    let mut first = Journal::start(alloc, 589, 39).ok()?;
-    let mut second = Journal::start(alloc, 628, 39).ok()?;
+/// Adds one record to two halves of the disk, where it fits both.
+fn add_to<D: Disk>(
+    disk: &mut D,
+    first: &mut Journal<Global>,
+    second: &mut Journal<Global>,
+    command: &Command<Global>,
+) -> Option<bool>
+    requires end { first.old.end ≡ 628 }
+    requires none { first.old.count ≡ 0 }
+    requires behind { second.old.first ≡ 628 }
+    requires other_end { second.old.end ≡ 667 }
+    requires sixteen { second.old.count ≡ 16 }
+{
     let commands = [command];
-    let fits = first.has_room(&commands) && second.has_room(&commands);
-    if !fits || disk.sectors() < 667 {
+    if disk.sectors() < 667 || !first.has_room(&commands) || !second.has_room(&commands) {
         return None;
     }
-    Some(first.append_both(disk, &mut second, &commands).is_ok())
+    Some(first.append_both(disk, second, &commands).is_ok())
+}
+
+/// Adds one record to both halves, each still empty: one behind no command, the other behind the register's 16.
+fn add<D: Disk>(alloc: Global, disk: &mut D, command: &Command<Global>) -> Option<bool> {
+    let mut first = Journal::start(alloc, 589, 39, Form::Numbered, 0).ok()?;
+    let mut second = Journal::start(alloc, 628, 39, Form::Numbered, 16).ok()?;
+    add_to(disk, &mut first, &mut second, command)
 }
 
 /// A checkpoint beside one record: begun (3 calls), the record added to both halves (8), the rows written and synced
@@ -114,13 +126,20 @@ fn beside<D: Disk>(
         && turn(disk, layout, Side::A).is_none()
 }
 
-/// How many records a half of 39 sectors has.
-fn records<D: Disk>(alloc: Global, disk: &mut D, first: u32) -> Option<usize> {
+/// How many records a half of 39 sectors has behind so many commands.
+fn records<D: Disk>(alloc: Global, disk: &mut D, first: u32, before: u32) -> Option<usize> {
     let first = u64::from(first);
     if disk.sectors() < first + 39 {
         return None;
     }
-    let (_, records) = Journal::replay(alloc, disk, first, 39).ok()?;
+    let place = Place {
+        first,
+        end: first + 39,
+        next: first,
+        form: Form::Numbered,
+        count: u64::from(before),
+    };
+    let (_, records) = Journal::replay(alloc, disk, place).ok()?;
     Some(records.len())
 }
 
@@ -151,7 +170,8 @@ fn left(
     drop(command);
     let mut left = stopped(alloc, disk.into_inner(), byte).ok()?;
     let epoch = standing(&mut left).unwrap_or(0);
-    let held = records(alloc, &mut left, if epoch == 2 { 628 } else { 589 });
+    let (first, before) = if epoch == 2 { (628, 16) } else { (589, 0) };
+    let held = records(alloc, &mut left, first, before);
     drop(left);
     let held = held?;
     (done == (call > 32)).then_some((epoch, held))

@@ -8,6 +8,8 @@ mod in_turn;
 #[cfg(test)]
 mod made;
 #[cfg(test)]
+mod moved;
+#[cfg(test)]
 mod places;
 #[cfg(test)]
 mod read;

@@ -1,6 +1,6 @@
 //! The disk and the register of the tests.
 use centre_core::{Body, Command, Register, Sequence};
-use checkpoint::{CheckpointError, Layout, Side, switch, write_image};
+use checkpoint::{CheckpointError, Layout, Side, begin, switch, write_image};
 use identity::{BitWriter, Itsi, Prefix};
 use mailbox::Moment;
 use mm_pdus::Lifetime;
@@ -14,9 +14,9 @@ const LABEL: [u8; 30] = [
     0, 0, 4, 0, 0, 0, 39,
 ];
 
-/// The first bytes of the header of an empty register with epoch 1.
-pub const FORMATTED: [u8; 33] = [
-    16, 0, 0, 0, 0, 0, 0, 0, 1, 0, 0, 0, 0, 0, 0, 0, 0, 0, 0, 0, 0, 0, 0, 0, 0, 0, 0, 0, 0, 0, 0,
+/// The first bytes of the header of an empty register with epoch 1, in layout 2.
+const FORMATTED: [u8; 33] = [
+    22, 0, 0, 0, 0, 0, 0, 0, 1, 0, 0, 0, 0, 0, 0, 0, 0, 0, 0, 0, 0, 0, 0, 0, 0, 0, 0, 0, 0, 0, 0,
     0, 0,
 ];
 
@@ -130,6 +130,11 @@ pub fn formatted_for(alloc: Global, calls: u32) -> Option<MemoryDisk<Global>> {
     formatted.then_some(disk)
 }
 
+/// Closes side B of a disk that is large enough.
+pub fn begun<D: Disk>(disk: &mut D, layout: &Layout) -> bool {
+    disk.sectors() >= layout.sectors() && begin::<Global, D>(disk, layout, Side::A).is_ok()
+}
+
 /// Writes the image of a register to the other side of a disk that is large enough.
 pub fn write<D: Disk>(
     disk: &mut D,
@@ -163,21 +168,22 @@ pub fn begins<D: Disk>(disk: &mut D, at: u64, head: &[u8]) -> Result<bool, DiskE
 fn is_header<D: Disk>(disk: &mut D, at: u64, epoch: u8) -> Result<bool, DiskError> {
     let mut bytes = [7; 512];
     disk.read(at, &mut bytes)?;
-    Ok(bytes[..9] == [16, 0, 0, 0, 0, 0, 0, 0, epoch] && bytes[9..].starts_with(&HEADER))
+    Ok(bytes[..9] == [22, 0, 0, 0, 0, 0, 0, 0, epoch] && bytes[9..].starts_with(&HEADER))
 }
 
-/// Whether a slot begins with the image of the register, with this epoch.
+/// Whether a slot begins with the image of the register, with this epoch, in layout 2.
 pub fn is_image<D: Disk>(disk: &mut D, at: u32, epoch: u8) -> Result<bool, DiskError> {
     let at = u64::from(at);
     let rows = begins(disk, at + 1, &RULE)? && begins(disk, at + 2, &RADIO)?;
     Ok(is_header(disk, at, epoch)? && rows && begins(disk, at + 3, &SERVED)?)
 }
 
-/// The epoch of the header in a sector; 0 where there is none.
+/// The epoch of the header in a sector, of either layout; 0 where there is none.
 fn epoch_at<D: Disk>(disk: &mut D, at: u64) -> Result<u8, DiskError> {
     let mut bytes = [7; 512];
     disk.read(at, &mut bytes)?;
-    Ok(if bytes[0] == 16 { bytes[8] } else { 0 })
+    let is_header = bytes[0] == 16 || bytes[0] == 22;
+    Ok(if is_header { bytes[8] } else { 0 })
 }
 
 /// The epoch of the side whose root is open, the greater one where both are.

@@ -8,10 +8,11 @@ use mailbox::Moment;
 use sector_disk::{Disk, DiskError, Failing, FailingDisk, MemoryDisk};
 use std::alloc::{Allocator, Global};
 
-/// The image of a register with a rule, two radios and an item, which has accepted six commands. Its epoch is 7.
+/// The image of a register with a rule, two radios and an item, which has accepted six commands. Its epoch is 7, and its
+/// header of layout 2.
 const ROWS: [&[u8]; 6] = [
     &[
-        16, 0, 0, 0, 0, 0, 0, 0, 7, 0, 0, 0, 0, 0, 0, 0, 6, 0, 0, 0, 1, 0, 0, 0, 2, 0, 0, 0, 1, 0,
+        22, 0, 0, 0, 0, 0, 0, 0, 7, 0, 0, 0, 0, 0, 0, 0, 6, 0, 0, 0, 1, 0, 0, 0, 2, 0, 0, 0, 1, 0,
         0, 0, 1,
     ],
     &[
@@ -26,7 +27,7 @@ const ROWS: [&[u8]; 6] = [
     &[20, 0, 1, 0, 0, 0, 6, 0, 0, 0, 0, 0, 0, 0, 6, 0, 0],
 ];
 
-/// The header of an empty register with epoch 1.
+/// The header of an empty register with epoch 1, of layout 1.
 const EMPTY: [u8; 9] = [16, 0, 0, 0, 0, 0, 0, 0, 1];
 
 /// Puts the empty register into the slot of side A and the rows into that of side B, and no row behind either.

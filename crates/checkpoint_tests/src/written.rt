@@ -7,7 +7,7 @@ use std::alloc::Global;
 
 /// Whether side A still stands, with its first image, and side B has one with epoch 2 and no record.
 fn is_ready<D: Disk>(disk: &mut D) -> Result<bool, DiskError> {
-    let old = standing(disk)? == 1 && begins(disk, 3, &[16, 0, 0, 0, 0, 0, 0, 0, 1])?;
+    let old = standing(disk)? == 1 && begins(disk, 3, &[22, 0, 0, 0, 0, 0, 0, 0, 1])?;
     Ok(old && is_image(disk, 296, 2)? && begins(disk, 628, &[0; 512])?)
 }
 

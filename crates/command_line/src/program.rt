@@ -78,7 +78,7 @@ fn some_words<'a>(alloc: Global, name: &'a str, help: &'a str) -> Arg<'a>
     one_word(alloc, name, help).num_args(1..)
 }
 
-const VERSION: &str = "0.1.0 (disk layout 1)";
+const VERSION: &str = "0.1.0 (disk layouts 1 and 2)";
 
 const ABOUT: &str =
     "The location register and message centre of a TETRA switch. Without a command it answers station 1's lines from \

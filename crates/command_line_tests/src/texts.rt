@@ -72,7 +72,7 @@ fn help_of_each_subcommand(rt: HostRuntime) -> Result<(), Fail> {
 #[test]
 fn version(rt: HostRuntime) -> Result<(), Fail> {
     let text = text_of(rt.alloc(), &["tetra-switch", "--version"])?;
-    assert!(rt; text.as_str() == "tetra-switch 0.1.0 (disk layout 1)\n");
+    assert!(rt; text.as_str() == "tetra-switch 0.1.0 (disk layouts 1 and 2)\n");
     Ok(())
 }
 

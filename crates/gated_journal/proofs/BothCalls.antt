@@ -1,5 +1,5 @@
 -- The calls that an append to two halves has made.
-use Rattle.std.proofs.Common.{◌≡◌, ℕ, ◌+◌, List, [], ◌∷◌, ◌++◌, Result, Ok, Err, refl, sym, ap, ◌∙◌, append_assoc, arith}
+use Rattle.std.proofs.Common.{◌≡◌, ℕ, ◌+◌, List, [], ◌∷◌, ◌++◌, Result, Ok, Err, sym, ap, ◌∙◌, append_assoc, arith}
 use Rattle.std.specs.Result.{OnOk}
 use Rattle.sector_disk.specs.Disk.{View, IsCalled}
 use Rattle.sector_disk.specs.Run.{HasMade, writes}

@@ -3,7 +3,7 @@ use Rattle.std.proofs.Common.{◌≡◌, ◌⊎◌, inl, inr, ℕ, ◌+◌, ◌<
 use Rattle.std.specs.Result.{OnOk, IsErr}
 use Rattle.std.proofs.lemmas.Result.{IfOk-from_err}
 use Rattle.sector_disk.specs.Disk.{View, IsImageOf, HasSynced, sector}
-use Rattle.sector_disk.specs.Run.{LeavesOnly, IsTornImage}
+use Rattle.sector_disk.specs.Run.{IsTornImage}
 use Rattle.sector_disk.specs.Filling.{HasFilled}
 use Rattle.sector_disk.specs.declared.disk.DiskError.{DiskError}
 use Rattle.sector_disk.proofs.Moments.{goes_on, run_on, weaker, synced_images}

@@ -13,11 +13,14 @@ use Rattle.centre_core.specs.Same.{body_under, under}
 use Rattle.command_bytes.specs.Fields.{big}
 use Rattle.command_bytes.specs.Text.{IsCommand, body_text, command_text, tag_of}
 use Rattle.command_bytes.proofs.Numbers.{length-big}
-use Rattle.gated_journal.specs.Record.{IsRecord, data_size, given, most_commands, pack, packed_text, record_text}
-use Rattle.gated_journal.proofs.Written.{length-packed}
+use Rattle.gated_journal.specs.Record.{IsRecord, data_size, first_of, first_text, given, head_len, most_commands, packed_text, record_text}
+use Rattle.gated_journal.specs.declared.form.Form.{Form}
+use Rattle.gated_journal.proofs.Packed.{head_bytes}
+use Rattle.gated_journal.proofs.Written.{length-text}
 
-pub head_length : (count size : ℕ) (head : List ℕ) → head ≡ big 2 count ++ big 4 size → length head ≡ 6
-head_length count size head is = ap length is ∙ omega (arith, length-append (big 2 count) (big 4 size), length-big 2 count, length-big 4 size)
+pub head_length : (form : Form) (before count size : ℕ) (head : List ℕ) → head ≡ big 2 count ++ (first_text (first_of form before) ++ big 4 size) → length head ≡ head_len form
+head_length form before count size head is =
+    ap length is ∙ omega (arith, length-append (big 2 count) (first_text (first_of form before) ++ big 4 size), length-append (first_text (first_of form before)) (big 4 size), length-big 2 count, length-big 4 size, head_bytes form before)
 
 -- one of the commands, as a loop meets it
 module _ {B : Type 0} (cs : List (Bor (Asked B))) (i : ℕ) (c : Bor (Asked B)) (lt : i < length cs) (is : c ≡ get_or cs i c) where
@@ -78,21 +81,24 @@ module _ {B : Type 0} (A : Type 0) where
   given_bytes : (cs : List (Bor (Asked B))) → flat_map command_text (given A cs) ≡ flat_map (λ c. command_text c.now) cs
   given_bytes cs = flat_map-map command_text (λ (c : Bor (Asked B)). under A c.now) cs ∙ ap (λ (f : Bor (Asked B) → List ℕ). flat_map f cs) (λ i c. text_under c.now i)
 
-  given_count : (cs : List (Bor (Asked B))) → length (given A cs) ≡ length cs
+  pub given_count : (cs : List (Bor (Asked B))) → length (given A cs) ≡ length cs
   given_count cs = length-map cs (λ (c : Bor (Asked B)). under A c.now)
 
   -- how many sectors its record takes
-  pub given_size : (cs : List (Bor (Asked B))) → data_size (record_text (given A cs)) ≡ (length (flat_map (λ c. command_text c.now) cs) + 517) / 512
-  given_size cs =
+  pub given_size : (form : Form) (before : ℕ) (cs : List (Bor (Asked B))) → data_size (record_text form before (given A cs)) ≡ (head_len form + length (flat_map (λ c. command_text c.now) cs) + 511) / 512
+  given_size form before cs =
       let bytes : length (flat_map command_text (given A cs)) ≡ length (flat_map (λ c. command_text c.now) cs) = ap length (given_bytes cs) in
-      omega (arith, bytes, length-packed (pack (given A cs)))
+      omega (arith, bytes, length-text form before (given A cs))
 
   -- a head and the commands' bytes behind it
-  pub given_text : (cs : List (Bor (Asked B))) (count size : ℕ) (head all : List ℕ) → head ≡ big 2 count ++ big 4 size → count ≡ length cs → size ≡ length (flat_map (λ c. command_text c.now) cs)
-      → all ≡ head ++ flat_map (λ c. command_text c.now) cs → all ≡ record_text (given A cs)
+  pub given_text : (form : Form) (before : ℕ) (cs : List (Bor (Asked B))) (count size : ℕ) (head all : List ℕ) → head ≡ big 2 count ++ (first_text (first_of form before) ++ big 4 size) → count ≡ length cs → size ≡ length (flat_map (λ c. command_text c.now) cs)
+      → all ≡ head ++ flat_map (λ c. command_text c.now) cs → all ≡ record_text form before (given A cs)
   unfolding packed_text
-  given_text cs count size head all head_is count_is size_is e =
-      e ∙ ap (λ (l : List ℕ). l ++ flat_map (λ c. command_text c.now) cs) head_is ∙ append_assoc (big 2 count) (big 4 size) (flat_map (λ c. command_text c.now) cs)
+  given_text form before cs count size head all head_is count_is size_is e =
+      let number : List ℕ = first_text (first_of form before) in
+      let body : List ℕ = flat_map (λ c. command_text c.now) cs in
+      let grouped : (big 2 count ++ (number ++ big 4 size)) ++ body ≡ big 2 count ++ (number ++ (big 4 size ++ body)) = simp append_assoc in
+      e ∙ ap (λ (l : List ℕ). l ++ flat_map (λ c. command_text c.now) cs) head_is ∙ grouped
       ∙ rw (count_is, size_is, given_bytes cs, given_count cs) refl
 
   pub given_record : (cs : List (Bor (Asked B))) → 1 ≤ length cs → length cs ≤ most_commands → All (λ c. IsCommand c.now) cs → IsRecord (given A cs)

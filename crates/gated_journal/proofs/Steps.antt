@@ -1,11 +1,13 @@
 -- Reading commands one after another, as a loop does, and sectors.
-use Rattle.std.proofs.Common.{add-one, append_assoc, option_map, length, suc, ◌∷◌, ◌≢◌, Option, ap, sym, eqb, leb, ltb, slice_index, take, drop, true, false, Bool, ◌⊎◌, Ok, Err, ◌≡◌, ℕ, ◌+◌, ◌≤◌, ◌<◌, List, [], ◌++◌, Some, None, refl, ◌∙◌, arith, inl, inr}
+use Rattle.std.proofs.Common.{add-one, append_assoc, option_map, length, suc, ◌-◌, ◌*◌, ◌∷◌, ◌≢◌, Option, ap, sym, eqb, leb, ltb, slice_index, take, drop, true, false, Bool, ◌⊎◌, Ok, Err, ◌≡◌, ℕ, ◌+◌, ◌≤◌, ◌<◌, List, [], ◌++◌, Some, None, refl, ◌∙◌, arith, inl, inr}
 use Rattle.std.proofs.lemmas.List.{append-nil, get_or-take, get_or-drop}
 use Rattle.std.specs.Prelude.{◌&&◌, ◌==◌}
 use Rattle.std.specs.Option.{is_some}
+use Rattle.std.specs.Int.{w32, from_be_bytes}
 use Rattle.byteorder.specs.Endian.{big_from}
 use Rattle.std.proofs.lemmas.Bool.Decides.{nat_tests}
 use Rattle.sector_disk.specs.Disk.{sector}
+use Rattle.gated_journal.specs.declared.form.Form.{Form}
 use Rattle.gated_journal.specs.Half.{bytes_at, data_from, told_size}
 use Rattle.centre_core.specs.Asked.{Asked}
 use Rattle.command_bytes.specs.Fields.{◌>>=◌}
@@ -38,31 +40,39 @@ not_both : (size next end : ℕ) → (most_sectors < size) ⊎ (end ≤ next) �
 not_both size next end (inl many) = no_and (leb size most_sectors) (ltb next end) (inl (grind (arith, nat_tests)))
 not_both size next end (inr past) = no_and (leb size most_sectors) (ltb next end) (inr (grind (arith, nat_tests)))
 
-pub too_long : (image : List (List ℕ)) (at end size : ℕ) → at + 1 < end → slice_index (sector image at) 0 ≡ 1 → told_size (sector image (at + 1)) ≡ size → (most_sectors < size) ⊎ (end ≤ at + 1 + size) → bytes_at image at end ≡ Err (at + 1)
+pub too_long : (form : Form) (image : List (List ℕ)) (at end size : ℕ) → at + 1 < end → slice_index (sector image at) 0 ≡ 1 → told_size form (sector image (at + 1)) ≡ size → (most_sectors < size) ⊎ (end ≤ at + 1 + size) → bytes_at form image at end ≡ Err (at + 1)
 unfolding bytes_at
-too_long image at end size lt gate told past =
+too_long form image at end size lt gate told past =
     let a : eqb (slice_index (sector image at) 0) 1 ≡ true = grind (arith, nat_tests) in
     let b : eqb (at + 1) end ≡ false = grind (arith, nat_tests) in
     let d : (leb size most_sectors && ltb (at + 1 + size) end) ≡ false = not_both size (at + 1 + size) end past in
     rw (a, b, told, d) refl
 
-pub bytes_found : (image : List (List ℕ)) (at end size : ℕ) → size ≤ most_sectors → at + 1 + size < end → slice_index (sector image at) 0 ≡ 1 → told_size (sector image (at + 1)) ≡ size
-    → bytes_at image at end ≡ Ok (Some (data_from image (at + 1) size, at + 1 + size))
+pub bytes_found : (form : Form) (image : List (List ℕ)) (at end size : ℕ) → size ≤ most_sectors → at + 1 + size < end → slice_index (sector image at) 0 ≡ 1 → told_size form (sector image (at + 1)) ≡ size
+    → bytes_at form image at end ≡ Ok (Some (data_from image (at + 1) size, at + 1 + size))
 unfolding bytes_at
-bytes_found image at end size few lt gate told =
+bytes_found form image at end size few lt gate told =
     let a : eqb (slice_index (sector image at) 0) 1 ≡ true = grind (arith, nat_tests) in
     let b : eqb (at + 1) end ≡ false = grind (arith, nat_tests) in
     let d : (leb size most_sectors && ltb (at + 1 + size) end) ≡ true = both size (at + 1 + size) end few lt in
     rw (a, b, told, d) refl
 
--- four bytes from the third on
-pub told_from : (bytes : List ℕ) (n : ℕ) → 4 ≤ n → big_from 0 4 (take n (drop 2 bytes)) ≡ big_from 2 4 bytes
-told_from bytes n le =
-    let zero = get_or-take n (drop 2 bytes) 0 0 (omega (arith, le)) ∙ get_or-drop 2 bytes 0 0 in
-    let one = get_or-take n (drop 2 bytes) 1 0 (omega (arith, le)) ∙ get_or-drop 2 bytes 1 0 in
-    let two = get_or-take n (drop 2 bytes) 2 0 (omega (arith, le)) ∙ get_or-drop 2 bytes 2 0 in
-    let three = get_or-take n (drop 2 bytes) 3 0 (omega (arith, le)) ∙ get_or-drop 2 bytes 3 0 in
-    rw (zero, one, two, three) refl
+-- a byte of a part of a sector
+byte_in : (at : ℕ) (bytes : List ℕ) (i j : ℕ) → at + 4 ≤ 512 → i < 4 → at + i ≡ j → slice_index (take 4 (take (512 - at) (drop at bytes))) i ≡ slice_index bytes j
+byte_in at bytes i j inside lt e =
+    get_or-take 4 (take (512 - at) (drop at bytes)) i 0 lt ∙ get_or-take (512 - at) (drop at bytes) i 0 (omega (arith, lt, inside)) ∙ get_or-drop at bytes i 0 ∙ ap (λ (k : ℕ). slice_index bytes k) e
+
+-- four bytes from a place on
+pub number_in : (at : ℕ) (bytes : List ℕ) → at + 4 ≤ 512 → from_be_bytes w32 (take 4 (take (512 - at) (drop at bytes))) ≡ big_from at 4 bytes
+number_in at bytes inside =
+    let part : List ℕ = take 4 (take (512 - at) (drop at bytes)) in
+    let zero : slice_index part 0 ≡ slice_index bytes at = byte_in at bytes 0 at inside (omega arith) (omega arith) in
+    let one : slice_index part 1 ≡ slice_index bytes (suc at) = byte_in at bytes 1 (suc at) inside (omega arith) (omega arith) in
+    let two : slice_index part 2 ≡ slice_index bytes (suc (suc at)) = byte_in at bytes 2 (suc (suc at)) inside (omega arith) (omega arith) in
+    let three : slice_index part 3 ≡ slice_index bytes (suc (suc (suc at))) = byte_in at bytes 3 (suc (suc (suc at))) inside (omega arith) (omega arith) in
+    let sum : from_be_bytes w32 part ≡ slice_index part 0 * 16777216 + slice_index part 1 * 65536 + slice_index part 2 * 256 + slice_index part 3 = refl in
+    let from : big_from at 4 bytes ≡ slice_index bytes at * 16777216 + (slice_index bytes (suc at) * 65536 + (slice_index bytes (suc (suc at)) * 256 + (slice_index bytes (suc (suc (suc at))) * 1 + 0))) = refl in
+    omega (arith, sum, from, zero, one, two, three)
 
 -- ---- commands
 

@@ -7,9 +7,11 @@ use Rattle.std.proofs.lemmas.List.{take-append-drop, length-take}
 use Rattle.identity.specs.Packed.{AreBytes}
 use Rattle.command_bytes.specs.Fields.{◌>>=◌, big, number_at}
 use Rattle.command_bytes.specs.Text.{longest}
-use Rattle.gated_journal.specs.Record.{Packed, is_in_range, is_zero, most_commands, packed_of, packed_text}
-use Rattle.command_bytes.proofs.Numbers.{bytes-take, number_takes}
-use Rattle.gated_journal.proofs.Packed.{IsPacked}
+use Rattle.gated_journal.specs.Record.{Packed, first_at, first_text, is_in_range, is_zero, most_commands, packed_of, packed_text}
+use Rattle.gated_journal.specs.declared.form.Form.{Form}
+use Rattle.gated_journal.specs.declared.form.Form.TheVariants.{Numbered, Plain}
+use Rattle.command_bytes.proofs.Numbers.{bytes-take, number_small, number_takes}
+use Rattle.gated_journal.proofs.Packed.{IsFirst, IsPacked}
 
 pub bind_some : {A B : Type 0} (r : Option A) (f : A → Option B) (y : B) → (r >>= f) ≡ Some y → (x : A) × (r ≡ Some x) × (f x ≡ Some y)
 bind_some (Some x) f y e = (x, refl, e)
@@ -38,40 +40,72 @@ all_zeros (b ∷ bytes) e =
     both true false e = absurd cc
     both false b e = absurd cc
 
+-- the number's bytes
+first_taken : (form : Form) (bytes : List ℕ) (x : Option ℕ × List ℕ) → AreBytes bytes → first_at form bytes ≡ Some x → IsFirst form x.0 × (bytes ≡ first_text x.0 ++ x.1) × AreBytes x.1
+unfolding first_at
+first_taken Plain bytes x are e = let same : (let y : Option ℕ × List ℕ = (None, bytes) in y) ≡ x = cc in subst (λ (y : Option ℕ × List ℕ). IsFirst Plain y.0 × (bytes ≡ first_text y.0 ++ y.1) × AreBytes y.1) same (refl, refl, are)
+first_taken Numbered bytes x are e =
+    let a = bind_some (number_at 8 bytes) (λ (number : ℕ × List ℕ). Some (Some number.0, number.1)) x e in
+    let n : ℕ × List ℕ = a.0 in
+    let one = number_takes 8 bytes n are a.1 in
+    let same : (let y : Option ℕ × List ℕ = (Some n.0, n.1) in y) ≡ x = cc in
+    subst (λ (y : Option ℕ × List ℕ). IsFirst Numbered y.0 × (bytes ≡ first_text y.0 ++ y.1) × AreBytes y.1) same ((n.0, refl, number_small 8 bytes n are a.1), one.0, one.1)
+
 -- what a record's bytes are
-pub record IsUnpacked (bytes : List ℕ) (commands : Packed) : Type 0 where
+pub record IsUnpacked (form : Form) (bytes : List ℕ) (commands : Packed) : Type 0 where
   pub fit : IsPacked commands
+  pub first : IsFirst form commands.first
   pub spelt : (z : ℕ) × (bytes ≡ packed_text commands ++ replicate z 0)
   pub are_bytes : AreBytes commands.bytes
 
-judged : ℕ → ℕ × List ℕ → Option Packed
-judged count size = cond (is_in_range count size.0 && leb size.0 (length size.1) && list_all is_zero (drop size.0 size.1)) (Some (record { count = count; bytes = take size.0 size.1 })) None
+judged : ℕ → Option ℕ → ℕ × List ℕ → Option Packed
+judged count first size = cond (is_in_range count size.0 && leb size.0 (length size.1) && list_all is_zero (drop size.0 size.1)) (Some (record { count = count; first = first; bytes = take size.0 size.1 })) None
 
-pub packed_taken : (bytes : List ℕ) (commands : Packed) → AreBytes bytes → packed_of bytes ≡ Some commands → IsUnpacked bytes commands
+pub packed_taken : (form : Form) (bytes : List ℕ) (commands : Packed) → AreBytes bytes → packed_of form bytes ≡ Some commands → IsUnpacked form bytes commands
 unfolding packed_of packed_text judged
-packed_taken bytes commands is e =
-    let a = bind_some (number_at 2 bytes) (λ (count : ℕ × List ℕ). number_at 4 count.1 >>= judged count.0) commands e in
+packed_taken form bytes commands is e =
+    let a = bind_some (number_at 2 bytes) (λ (count : ℕ × List ℕ). first_at form count.1 >>= λ (first : Option ℕ × List ℕ). number_at 4 first.1 >>= judged count.0 first.0) commands e in
     let count : ℕ × List ℕ = a.0 in
-    let b = bind_some (number_at 4 count.1) (judged count.0) commands a.2 in
+    let f = bind_some (first_at form count.1) (λ (first : Option ℕ × List ℕ). number_at 4 first.1 >>= judged count.0 first.0) commands a.2 in
+    let first : Option ℕ × List ℕ = f.0 in
+    let b = bind_some (number_at 4 first.1) (judged count.0 first.0) commands f.2 in
     let size : ℕ × List ℕ = b.0 in
-    let first = number_takes 2 bytes count is a.1 in
-    let second = number_takes 4 count.1 size first.1 b.1 in
-    let last = some_where (is_in_range count.0 size.0 && leb size.0 (length size.1) && list_all is_zero (drop size.0 size.1)) (record { count = count.0; bytes = take size.0 size.1 }) commands b.2 in
+    let one = number_takes 2 bytes count is a.1 in
+    let told = first_taken form count.1 first one.1 f.1 in
+    let second = number_takes 4 first.1 size told.2 b.1 in
+    let last = some_where (is_in_range count.0 size.0 && leb size.0 (length size.1) && list_all is_zero (drop size.0 size.1)) (record { count = count.0; first = first.0; bytes = take size.0 size.1 }) commands b.2 in
     let good = three (is_in_range count.0 size.0) (leb size.0 (length size.1)) (list_all is_zero (drop size.0 size.1)) last.0 in
     let range = three (leb 1 count.0) (leb count.0 most_commands) (leb size.0 (longest * count.0)) good.0 in
     let within : size.0 ≤ length size.1 = leb-true _ _ good.1 in
     let long : length (take size.0 size.1) ≡ size.0 = omega (arith, length-take size.0 size.1, within) in
     let zeros = all_zeros (drop size.0 size.1) good.2 in
-    subst (λ (c : Packed). IsUnpacked bytes c) last.1 (record {
+    subst (λ (c : Packed). IsUnpacked form bytes c) last.1 (record {
       fit = record { some = leb-true _ _ range.0; few = leb-true _ _ range.1; short = rw long (leb-true _ _ range.2) };
-      spelt = (length (drop size.0 size.1), rw long (whole count size first.0 second.0 zeros));
+      first = told.0;
+      spelt = (length (drop size.0 size.1), rw long (whole count first size one.0 told.1 second.0 zeros));
       are_bytes = bytes-take size.0 size.1 second.1;
     })
   where
-    whole : (count size : ℕ × List ℕ) → bytes ≡ big 2 count.0 ++ count.1 → count.1 ≡ big 4 size.0 ++ size.1 → drop size.0 size.1 ≡ replicate (length (drop size.0 size.1)) 0
-        → bytes ≡ (big 2 count.0 ++ (big 4 size.0 ++ take size.0 size.1)) ++ replicate (length (drop size.0 size.1)) 0
-    whole count size first second zeros =
+    whole : (count : ℕ × List ℕ) (first : Option ℕ × List ℕ) (size : ℕ × List ℕ) → bytes ≡ big 2 count.0 ++ count.1 → count.1 ≡ first_text first.0 ++ first.1 → first.1 ≡ big 4 size.0 ++ size.1 → drop size.0 size.1 ≡ replicate (length (drop size.0 size.1)) 0
+        → bytes ≡ (big 2 count.0 ++ (first_text first.0 ++ (big 4 size.0 ++ take size.0 size.1))) ++ replicate (length (drop size.0 size.1)) 0
+    whole count first size one told second zeros =
         let rest : size.1 ≡ take size.0 size.1 ++ replicate (length (drop size.0 size.1)) 0 = sym (take-append-drop size.0 size.1) ∙ ap (λ (l : List ℕ). take size.0 size.1 ++ l) zeros in
-        first ∙ ap (λ (l : List ℕ). big 2 count.0 ++ l) (second ∙ ap (λ (l : List ℕ). big 4 size.0 ++ l) rest)
-        ∙ ap (λ (l : List ℕ). big 2 count.0 ++ l) (sym (append_assoc (big 4 size.0) (take size.0 size.1) (replicate (length (drop size.0 size.1)) 0)))
-        ∙ sym (append_assoc (big 2 count.0) (big 4 size.0 ++ take size.0 size.1) (replicate (length (drop size.0 size.1)) 0))
+        let zs : List ℕ = replicate (length (drop size.0 size.1)) 0 in
+        let body : List ℕ = take size.0 size.1 in
+        let grouped : big 2 count.0 ++ (first_text first.0 ++ (big 4 size.0 ++ (body ++ zs))) ≡ (big 2 count.0 ++ (first_text first.0 ++ (big 4 size.0 ++ body))) ++ zs = simp append_assoc in
+        one ∙ ap (λ (l : List ℕ). big 2 count.0 ++ l) (told ∙ ap (λ (l : List ℕ). first_text first.0 ++ l) (second ∙ ap (λ (l : List ℕ). big 4 size.0 ++ l) rest)) ∙ grouped
+
+-- it has no more commands than a record may have
+pub packed_few : (form : Form) (bytes : List ℕ) (commands : Packed) → packed_of form bytes ≡ Some commands → commands.count ≤ most_commands
+unfolding packed_of judged
+packed_few form bytes commands e =
+    let a = bind_some (number_at 2 bytes) (λ (count : ℕ × List ℕ). first_at form count.1 >>= λ (first : Option ℕ × List ℕ). number_at 4 first.1 >>= judged count.0 first.0) commands e in
+    let count : ℕ × List ℕ = a.0 in
+    let f = bind_some (first_at form count.1) (λ (first : Option ℕ × List ℕ). number_at 4 first.1 >>= judged count.0 first.0) commands a.2 in
+    let first : Option ℕ × List ℕ = f.0 in
+    let b = bind_some (number_at 4 first.1) (judged count.0 first.0) commands f.2 in
+    let size : ℕ × List ℕ = b.0 in
+    let last = some_where (is_in_range count.0 size.0 && leb size.0 (length size.1) && list_all is_zero (drop size.0 size.1)) (record { count = count.0; first = first.0; bytes = take size.0 size.1 }) commands b.2 in
+    let good = three (is_in_range count.0 size.0) (leb size.0 (length size.1)) (list_all is_zero (drop size.0 size.1)) last.0 in
+    let range = three (leb 1 count.0) (leb count.0 most_commands) (leb size.0 (longest * count.0)) good.0 in
+    subst (λ (c : Packed). c.count ≤ most_commands) last.1 (leb-true count.0 most_commands range.1)

@@ -8,13 +8,13 @@ use Rattle.sector_disk.specs.declared.disk.DiskError.{DiskError}
 use Rattle.sector_disk.proofs.Moments.{run_on, weaker, durable_image}
 use Rattle.gated_journal.specs.Inside.Filling.{HasFilledTwice}
 use Rattle.gated_journal.specs.Twice.{IsTornTwiceImage}
-use Rattle.gated_journal.specs.Half.{Entry, IsOpen, half_of}
-use Rattle.gated_journal.specs.Record.{IsRecord, data_sector, data_size, record_text}
-use Rattle.gated_journal.proofs.Written.{record_written}
+use Rattle.gated_journal.specs.Half.{Entry, IsOpen, counted}
+use Rattle.gated_journal.specs.Inside.Next.{IsNext, counting}
+use Rattle.gated_journal.specs.Record.{data_sector, data_size}
 use Rattle.gated_journal.specs.Settled.{IsSettled, LeavesBoth}
 use Rattle.gated_journal.specs.declared.place.Place.{Place}
 use Rattle.gated_journal.proofs.Chain.{half_up, same_half}
-use Rattle.gated_journal.proofs.OneHalf.{IsReadBack, IsStaged, behind, beyond_half, open_or_not, with_record}
+use Rattle.gated_journal.proofs.OneHalf.{IsReadBack, IsStaged, behind, beyond_half, counted_on, next_read, open_or_not, with_record}
 
 -- two halves of one disk
 abbrev AreApart : Place → Place → Type 0
@@ -38,13 +38,13 @@ other_than : (at k : ℕ) → k ≢ at → (k < at) ⊎ (at + 1 ≤ k)
 other_than at k other = elim (cases_lt k at) [ inl below ↦ inl below | inr above ↦ inr (omega (arith, above, other)) ]
 
 -- one of two halves, with what is added to it
-pub record IsAdding {A : Type 0} (place : Place) (entries : List (Entry A)) (commands : List (Asked A)) (text : List ℕ) : Type 0 where
-  pub read : IsReadBack place entries commands text
+pub record IsAdding {A : Type 0} (place : Place) (before : ℕ) (entries : List (Entry A)) (commands : List (Asked A)) (text : List ℕ) : Type 0 where
+  pub read : IsReadBack place before entries commands text
   pub room : place.next + data_size text + 2 ≤ place.end
 
-module _ {A : Type 0} (x y : Place) (entries others : List (Entry A)) (commands : List (Asked A)) (text other : List ℕ) (adds : IsAdding x entries commands text) (adds_other : IsAdding y others commands other) (apart : AreApart x y) where
+module _ {A : Type 0} (x y : Place) (before start : ℕ) (entries others : List (Entry A)) (commands : List (Asked A)) (text other : List ℕ) (adds : IsAdding x before entries commands text) (adds_other : IsAdding y start others commands other) (apart : AreApart x y) where
   abbrev pub Left : View → List (List ℕ) → Type 0
-  Left old = LeavesBoth old x y entries others (x.next + 1, commands) (y.next + 1, commands)
+  Left old = LeavesBoth old x y before start entries others (x.next + 1, commands) (y.next + 1, commands)
 
   -- the texts are being written
   abbrev pub Texts : View → List (List ℕ) → Type 0
@@ -53,12 +53,12 @@ module _ {A : Type 0} (x y : Place) (entries others : List (Entry A)) (commands 
   abbrev pub Gates : View → List (List ℕ) → Type 0
   Gates mid = IsTornTwiceImage mid x.next 1 y.next 1
 
-  module _ (old : View) (whole : IsImageOf old old.reads) (settled : IsSettled old x entries) (also : IsSettled old y others) where
+  module _ (old : View) (whole : IsImageOf old old.reads) (settled : IsSettled old x before entries) (also : IsSettled old y start others) where
     up : x.first ≤ x.next
-    up = half_up old.reads x.first x.end entries x.next (settled.half old.reads whole)
+    up = half_up x.form before old.reads x.first x.end entries x.next (settled.half old.reads whole)
 
     up_also : y.first ≤ y.next
-    up_also = half_up old.reads y.first y.end others y.next (also.half old.reads whole)
+    up_also = half_up y.form start old.reads y.first y.end others y.next (also.half old.reads whole)
 
     in_texts : (image : List (List ℕ)) → Texts old image → Left old image
     in_texts image (was, is, torn) = record {
@@ -70,9 +70,9 @@ module _ {A : Type 0} (x y : Place) (entries others : List (Entry A)) (commands 
           others = λ k out far. torn.others k (beyond x (x.next + 1) (data_size text + 1) settled.begins (omega (arith, up)) (let room = adds.room in omega (arith, room)) k out) (beyond y (y.next + 1) (data_size other + 1) also.begins (omega (arith, up_also)) (let room = adds_other.room in omega (arith, room)) k far);
         },
       );
-      half = behind x entries commands text adds.read adds.room was image (settled.half was is)
+      half = behind x before entries commands text adds.read adds.room was image (settled.half was is)
           (λ k le lt. torn.others k (inl (omega (arith, lt))) (outside x y (y.next + 1) (data_size other + 1) apart (omega (arith, up_also)) (let room = adds_other.room in omega (arith, room)) k le (let within = settled.within in omega (arith, lt, within))));
-      other_half = behind y others commands other adds_other.read adds_other.room was image (also.half was is)
+      other_half = behind y start others commands other adds_other.read adds_other.room was image (also.half was is)
           (λ k le lt. torn.others k (outside y x (x.next + 1) (data_size text + 1) (swapped x y apart) (omega (arith, up)) (let room = adds.room in omega (arith, room)) k le (let within = also.within in omega (arith, lt, within))) (inl (omega (arith, lt))));
     }
 
@@ -80,16 +80,16 @@ module _ {A : Type 0} (x y : Place) (entries others : List (Entry A)) (commands 
     fills new result has = weaker old new (Texts old) (Left old) has.crash in_texts
 
     module _ (synced : View) (has : HasFilledTwice old synced (x.next + 1) (data_size text + 1) (data_sector text) (y.next + 1) (data_size other + 1) (data_sector other) (Ok tt)) (durable : (k : ℕ) → synced.pending k ≡ false) where
-      staged : IsStaged x entries commands text adds.read adds.room synced.reads
+      staged : IsStaged x before entries commands text adds.read adds.room synced.reads
       staged = record {
-        chain = same_half old.reads synced.reads x.first x.end entries x.next (settled.half old.reads whole)
+        chain = same_half x.form before old.reads synced.reads x.first x.end entries x.next (settled.half old.reads whole)
             (λ k le lt. has.others k (inl (omega (arith, lt))) (outside x y (y.next + 1) (data_size other + 1) apart (omega (arith, up_also)) (let room = adds_other.room in omega (arith, room)) k le (let within = settled.within in omega (arith, lt, within))));
         behind_it = has.written;
       }
 
-      staged_also : IsStaged y others commands other adds_other.read adds_other.room synced.reads
+      staged_also : IsStaged y start others commands other adds_other.read adds_other.room synced.reads
       staged_also = record {
-        chain = same_half old.reads synced.reads y.first y.end others y.next (also.half old.reads whole)
+        chain = same_half y.form start old.reads synced.reads y.first y.end others y.next (also.half old.reads whole)
             (λ k le lt. has.others k (outside y x (x.next + 1) (data_size text + 1) (swapped x y apart) (omega (arith, up)) (let room = adds.room in omega (arith, room)) k le (let within = also.within in omega (arith, lt, within))) (inl (omega (arith, lt))));
         behind_it = has.also;
       }
@@ -115,8 +115,8 @@ module _ {A : Type 0} (x y : Place) (entries others : List (Entry A)) (commands 
                     ∙ has.others k (beyond x (x.next + 1) (data_size text + 1) settled.begins (omega (arith, up)) (let room = adds.room in omega (arith, room)) k out) (beyond y (y.next + 1) (data_size other + 1) also.begins (omega (arith, up_also)) (let room = adds_other.room in omega (arith, room)) k far);
               },
             );
-            half = open_or_not x entries commands text adds.read adds.room synced.reads image up staged (same_x image same);
-            other_half = open_or_not y others commands other adds_other.read adds_other.room synced.reads image up_also staged_also (same_y image same);
+            half = open_or_not x before entries commands text adds.read adds.room synced.reads image up staged (same_x image same);
+            other_half = open_or_not y start others commands other adds_other.read adds_other.room synced.reads image up_also staged_also (same_y image same);
           }
 
       -- the gates are being opened
@@ -125,7 +125,7 @@ module _ {A : Type 0} (x y : Place) (entries others : List (Entry A)) (commands 
 
       -- then the record is in both halves
       pub at_end : (new : View) (gate gate_also : ℕ → List ℕ) → HasFilledTwice synced new x.next 1 gate y.next 1 gate_also (Ok tt) → ((k : ℕ) → new.pending k ≡ false) → IsOpen (gate 0) → IsOpen (gate_also 0)
-          → IsSettled new (record x { next = x.next + (data_size text + 1) }) (entries ++ (x.next + 1, commands) ∷ []) × IsSettled new (record y { next = y.next + (data_size other + 1) }) (others ++ (y.next + 1, commands) ∷ [])
+          → IsSettled new (counting (record x { next = x.next + (data_size text + 1) }) commands) before (entries ++ (x.next + 1, commands) ∷ []) × IsSettled new (counting (record y { next = y.next + (data_size other + 1) }) commands) start (others ++ (y.next + 1, commands) ∷ [])
       at_end new gate gate_also wrote rests opened opened_also =
           let each : (image : List (List ℕ)) → IsImageOf new image → (k : ℕ) → sector image k ≡ sector new.reads k = λ image is k. durable_image new rests image is k in
           let same = λ (image : List (List ℕ)) (is : IsImageOf new image) (k : ℕ) (out : (k < x.next) ⊎ (x.next + 1 ≤ k)) (far : (k < y.next) ⊎ (y.next + 1 ≤ k)). each image is k ∙ wrote.others k out far in
@@ -138,12 +138,14 @@ module _ {A : Type 0} (x y : Place) (entries others : List (Entry A)) (commands 
             record {
               begins = settled.begins;
               within = omega (arith, room);
-              half = λ image is. with_record x entries commands text adds.read adds.room synced.reads image up staged (same_x image (same image is)) (ap (λ (bytes : List ℕ). slice_index bytes 0) (each image is x.next ∙ there) ∙ opened);
+              counts = counted_on x before entries commands settled.counts;
+              half = λ image is. with_record x before entries commands text adds.read adds.room synced.reads image up staged (same_x image (same image is)) (ap (λ (bytes : List ℕ). slice_index bytes 0) (each image is x.next ∙ there) ∙ opened);
             },
             record {
               begins = also.begins;
               within = omega (arith, room_also);
-              half = λ image is. with_record y others commands other adds_other.read adds_other.room synced.reads image up_also staged_also (same_y image (same image is)) (ap (λ (bytes : List ℕ). slice_index bytes 0) (each image is y.next ∙ there_also) ∙ opened_also);
+              counts = counted_on y start others commands also.counts;
+              half = λ image is. with_record y start others commands other adds_other.read adds_other.room synced.reads image up_also staged_also (same_y image (same image is)) (ap (λ (bytes : List ℕ). slice_index bytes 0) (each image is y.next ∙ there_also) ∙ opened_also);
             },
           )
 
@@ -156,11 +158,9 @@ module _ (x y : Place) (text other : List ℕ) (apart : (x.end ≤ y.first) ⊎ 
   pub gates_apart : (x.next + 1 ≤ y.next) ⊎ (y.next + 1 ≤ x.next)
   gates_apart = elim apart [ inl a ↦ inl (omega (arith, a, fits, up_also)) | inr a ↦ inr (omega (arith, a, other_fits, up)) ]
 
-pub is_adding : {A : Type 0} (place : Place) (entries : List (Entry A)) (commands : List (Asked A)) (text : List ℕ) → IsRecord commands → text ≡ record_text commands → place.next + data_size text + 2 ≤ place.end → IsAdding place entries commands text
-is_adding place entries commands text is same room = record {
-  read = λ image opened are. record_written image place.next place.end commands is text same opened are (omega (arith, room));
-  room = room;
-}
+pub is_adding : {A : Type 0} (place : Place) (before : ℕ) (entries : List (Entry A)) (commands : List (Asked A)) (text : List ℕ) → IsNext place commands text → counted before entries ≡ place.count → place.next + data_size text + 2 ≤ place.end
+    → IsAdding place before entries commands text
+is_adding place before entries commands text is counts room = record { read = next_read place before entries commands text is counts room; room = room }
 
 module _ (x y : Place) (text other : List ℕ) (up : x.first ≤ x.next) (up_also : y.first ≤ y.next) (fits : x.next + data_size text + 2 ≤ x.end) (other_fits : y.next + data_size other + 2 ≤ y.end) where
   -- all outside both halves reads as before

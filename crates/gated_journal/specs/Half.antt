@@ -1,11 +1,13 @@
 -- What a half of a disk reads as: its records up to the first closed gate, or the first sector at fault.
-use Rattle.std.specs.Prelude.{◌≡◌, ◌≢◌, ℕ, zero, suc, ◌+◌, ◌-◌, ◌/◌, ◌==◌, ◌&&◌, Bool, List, [], ◌∷◌, ◌++◌, slice_index, Option, Some, None, Result, Ok, Err, nat_le, nat_lt, if◌then◌else◌}
+use Rattle.std.specs.Prelude.{◌≡◌, ◌≢◌, ℕ, zero, suc, ◌+◌, ◌-◌, ◌/◌, ◌==◌, ◌&&◌, Bool, List, [], ◌∷◌, ◌++◌, length, slice_index, Option, Some, None, Result, Ok, Err, nat_le, nat_lt, if◌then◌else◌}
 use Rattle.byteorder.specs.Endian.{big_from}
 use Rattle.identity.specs.Numbers.{Byte}
 use Rattle.sector_disk.specs.Numbers.{Sector, Sectors}
 use Rattle.sector_disk.specs.Disk.{sector}
 use Rattle.centre_core.specs.Asked.{Asked}
 use Rattle.gated_journal.specs.Record.{most_sectors, record_of}
+use Rattle.gated_journal.specs.declared.form.Form.{Form}
+use Rattle.gated_journal.specs.declared.form.Form.TheVariants.{Numbered, Plain}
 
 -- a gate is open where its first byte is 1
 abbrev pub IsOpen : List Byte → Type 0
@@ -20,8 +22,9 @@ abbrev pub is_open : List ℕ → Bool
 is_open bytes = slice_index bytes 0 == 1
 
 -- how many data sectors a record takes, as its first data sector tells
-abbrev pub told_size : List Byte → Sectors
-told_size bytes = (big_from 2 4 bytes + 517) / 512
+abbrev pub told_size : Form → List Byte → Sectors
+told_size Plain bytes = (big_from 2 4 bytes + 517) / 512
+told_size Numbered bytes = (big_from 10 4 bytes + 525) / 512
 
 -- the bytes of so many sectors from a place on
 unfoldable pub data_from : List (List Byte) → Sector → Sectors → List Byte
@@ -50,12 +53,12 @@ abbrev pub behind_gate : {X : Type 0} → Sector → Sector → Sectors → (Sec
 behind_gate at end size make = if at + 1 == end then Err at else if fits_behind at end size then make size else Err (at + 1)
 
 -- What stands at a gate: nothing where it is closed, else what stands behind it.
-abbrev pub at_gate : {X : Type 0} → List (List Byte) → Sector → Sector → (Sectors → Result (Option X) Sector) → Result (Option X) Sector
-at_gate image at end make = if is_open (sector image at) then behind_gate at end (told_size (sector image (at + 1))) make else Ok None
+abbrev pub at_gate : {X : Type 0} → Form → List (List Byte) → Sector → Sector → (Sectors → Result (Option X) Sector) → Result (Option X) Sector
+at_gate form image at end make = if is_open (sector image at) then behind_gate at end (told_size form (sector image (at + 1))) make else Ok None
 
 -- Before its bytes are judged: those of a record's data sectors, and the next gate.
-unfoldable pub bytes_at : List (List Byte) → Sector → Sector → Result (Option (List Byte × Sector)) Sector
-bytes_at image at end = at_gate image at end (λ size. Ok (Some (data_from image (at + 1) size, at + 1 + size)))
+unfoldable pub bytes_at : Form → List (List Byte) → Sector → Sector → Result (Option (List Byte × Sector)) Sector
+bytes_at form image at end = at_gate form image at end (λ size. Ok (Some (data_from image (at + 1) size, at + 1 + size)))
 
 module _ {A : Type 0} where
   -- the commands of a record and the place of the next gate, or the sector at fault where they are none
@@ -63,16 +66,16 @@ module _ {A : Type 0} where
   found at next None = Err at
   found at next (Some commands) = Ok (Some (commands, next))
 
-  -- At a gate: nothing where it is closed, else its record and the next gate; all that is wrong with a record is a fault
-  -- of its first data sector.
-  unfoldable pub record_at : List (List Byte) → Sector → Sector → Found A
-  record_at image at end = at_gate image at end (λ size. found (at + 1) (at + 1 + size) (record_of (data_from image (at + 1) size)))
+  -- At a gate, behind so many accepted commands: nothing where it is closed, else its record and the next gate; all that
+  -- is wrong with a record, also a number that does not follow, is a fault of its first data sector.
+  unfoldable pub record_at : Form → ℕ → List (List Byte) → Sector → Sector → Found A
+  record_at form before image at end = at_gate form image at end (λ size. found (at + 1) (at + 1 + size) (record_of form before (data_from image (at + 1) size)))
 
   -- the record that these bytes are; other bytes are a fault of the first data sector
-  abbrev pub judged : Sector → Result (Option (List Byte × Sector)) Sector → Found A
-  judged at (Err s) = Err s
-  judged at (Ok None) = Ok None
-  judged at (Ok (Some bytes_and_next)) = found (at + 1) bytes_and_next.1 (record_of bytes_and_next.0)
+  abbrev pub judged : Form → ℕ → Sector → Result (Option (List Byte × Sector)) Sector → Found A
+  judged form before at (Err s) = Err s
+  judged form before at (Ok None) = Ok None
+  judged form before at (Ok (Some bytes_and_next)) = found (at + 1) bytes_and_next.1 (record_of form before bytes_and_next.0)
 
   -- more records before those of a half
   abbrev pub with_front : List (Entry A) → Half A → Half A
@@ -80,16 +83,22 @@ module _ {A : Type 0} where
   with_front front (Err at) = Err at
 
   -- the records from a gate on: none where it is closed, else the one that stands there and those behind it; or the sector at fault
-  abbrev pub half_on : Sector → Found A → (Sector → Half A) → Half A
+  abbrev pub half_on : Sector → Found A → (List (Asked A) × Sector → Half A) → Half A
   half_on at (Err fault) go = Err fault
   half_on at (Ok None) go = Ok ([], at)
-  half_on at (Ok (Some record_and_next)) go = with_front ((at + 1, record_and_next.0) ∷ []) (go record_and_next.1)
+  half_on at (Ok (Some record_and_next)) go = with_front ((at + 1, record_and_next.0) ∷ []) (go record_and_next)
 
-  -- the records from a gate on, so many at most, and the gate behind them; or the sector at fault
-  unfoldable pub half_from : ℕ → List (List Byte) → Sector → Sector → Half A
-  half_from zero image at end = Ok ([], at)
-  half_from (suc fuel) image at end = half_on at (record_at image at end) (λ next. half_from fuel image next end)
+  -- The records from a gate on, so many at most, and the gate behind them; or the sector at fault. Each stands behind the
+  -- commands accepted before, and behind those of the records in front of it.
+  unfoldable pub half_from : ℕ → Form → ℕ → List (List Byte) → Sector → Sector → Half A
+  half_from zero form before image at end = Ok ([], at)
+  half_from (suc fuel) form before image at end = half_on at (record_at form before image at end) (λ x. half_from fuel form (before + length x.0) image x.1 end)
 
   -- the sectors from first to end: each record takes two at least, so there is always fuel
-  abbrev pub half_of : List (List Byte) → Sector → Sector → Half A
-  half_of image first end = half_from (end - first) image first end
+  abbrev pub half_of : Form → ℕ → List (List Byte) → Sector → Sector → Half A
+  half_of form before image first end = half_from (end - first) form before image first end
+
+  -- how many commands were accepted, those of these records too
+  abbrev pub counted : ℕ → List (Entry A) → ℕ
+  counted before [] = before
+  counted before (entry ∷ entries) = counted (before + length entry.1) entries

@@ -1,1 +1,3 @@
 pub mod Filling
+pub mod Next
+pub mod Room

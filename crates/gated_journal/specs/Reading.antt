@@ -1,9 +1,11 @@
 -- What the calls that read a half answer.
-use Rattle.std.specs.Prelude.{◌≡◌, List, map, option_map, Option, Some, None, Result, Ok, Err, Vec}
+use Rattle.std.specs.Prelude.{◌≡◌, ℕ, List, length, map, option_map, Option, Some, None, Result, Ok, Err, Vec}
 use Rattle.identity.specs.Numbers.{Byte}
 use Rattle.centre_core.specs.Asked.{Asked}
 use Rattle.sector_disk.specs.Numbers.{Sector}
 use Rattle.gated_journal.specs.Half.{Entry, Found, Half, half_of, record_at}
+use Rattle.gated_journal.specs.declared.form.Form.{Form}
+use Rattle.gated_journal.specs.declared.record.Record.{Record}
 use Rattle.gated_journal.specs.declared.fault.JournalError.{JournalError}
 use Rattle.gated_journal.specs.declared.fault.JournalError.TheVariants.{JournalFull, DiskFault, Damaged, NoMemory}
 
@@ -25,6 +27,10 @@ module _ {A : Type 0} where
   found_view None = None
   found_view (Some x) = Some (x.0.items, x.1)
 
+  -- a record as its bytes tell it: the number of its first command, where it tells one, and its commands
+  abbrev pub told_view : Record A → Option ℕ × List (Asked A)
+  told_view told = (told.first, told.commands.items)
+
   -- a record that was read, with its first data sector
   abbrev pub entry_view : Sector × Vec (Asked A) A → Entry A
   entry_view x = (x.0, x.1.items)
@@ -39,10 +45,10 @@ module _ {A : Type 0} where
 
   -- ---- what is judged, and not kept
 
-  -- the record stands there, and so does what is told to be behind it
-  abbrev pub IsJudged : Result (Option Sector) JournalError → Found A → Type 0
+  -- the record stands there, of so many commands, and so does what is told to be behind it
+  abbrev pub IsJudged : Result (Option (ℕ × Sector)) JournalError → Found A → Type 0
   IsJudged (Ok None) is = is ≡ Ok None
-  IsJudged (Ok (Some next)) is = (commands : List (Asked A)) × (is ≡ Ok (Some (commands, next)))
+  IsJudged (Ok (Some count_and_next)) is = (commands : List (Asked A)) × (length commands ≡ count_and_next.0) × (is ≡ Ok (Some (commands, count_and_next.1)))
   IsJudged (Err e) is = Fails e is
 
   -- there are records, up to a closed gate
@@ -52,10 +58,10 @@ module _ {A : Type 0} where
 
 -- ---- where memory may be wanted
 
--- a record stands at the gate
-abbrev pub HasRecord : Type 0 → List (List Byte) → Sector → Sector → Type 0
-HasRecord A image at end = (x : List (Asked A) × Sector) × (record_at image at end ≡ Ok (Some x))
+-- a record stands at the gate, behind so many accepted commands
+abbrev pub HasRecord : Type 0 → Form → ℕ → List (List Byte) → Sector → Sector → Type 0
+HasRecord A form before image at end = (x : List (Asked A) × Sector) × (record_at form before image at end ≡ Ok (Some x))
 
 -- from the gate on there are records alone, up to a closed one
-abbrev pub HasRecords : Type 0 → List (List Byte) → Sector → Sector → Type 0
-HasRecords A image at end = (held : List (Entry A) × Sector) × (half_of image at end ≡ Ok held)
+abbrev pub HasRecords : Type 0 → Form → ℕ → List (List Byte) → Sector → Sector → Type 0
+HasRecords A form before image at end = (held : List (Entry A) × Sector) × (half_of form before image at end ≡ Ok held)

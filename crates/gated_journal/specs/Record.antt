@@ -1,5 +1,5 @@
 -- One record: the commands that it has, and its bytes.
-use Rattle.std.specs.Prelude.{ℕ, zero, suc, ◌+◌, ◌*◌, ◌/◌, ◌==◌, ◌&&◌, ◌≤◌, Bool, List, [], ◌∷◌, ◌++◌, length, map, take, drop, slice_index, Option, Some, None, nat_le, if◌then◌else◌}
+use Rattle.std.specs.Prelude.{ℕ, zero, suc, ◌+◌, ◌*◌, ◌/◌, ◌==◌, ◌&&◌, ◌≤◌, Bool, true, List, [], ◌∷◌, ◌++◌, length, map, take, drop, slice_index, Option, Some, None, nat_le, if◌then◌else◌}
 use Rattle.std.specs.List.{All, range_with_len, list_all, flat_map}
 use Rattle.std.specs.Borrow.{Bor}
 use Rattle.identity.specs.Numbers.{Byte}
@@ -8,7 +8,9 @@ use Rattle.centre_core.specs.Same.{under}
 use Rattle.sector_disk.specs.Numbers.{Sectors, Bytes}
 use Rattle.command_bytes.specs.Fields.{◌>>=◌, big, number_at}
 use Rattle.command_bytes.specs.Text.{IsCommand, command_text, longest}
-use Rattle.command_bytes.specs.Reading.{first_command}
+use Rattle.command_bytes.specs.Reading.{Read, first_command}
+use Rattle.gated_journal.specs.declared.form.Form.{Form}
+use Rattle.gated_journal.specs.declared.form.Form.TheVariants.{Numbered, Plain}
 
 -- how many commands a record may have
 abbrev pub most_commands : ℕ
@@ -18,9 +20,10 @@ most_commands = 64
 abbrev pub most_sectors : Sectors
 most_sectors = 36
 
--- commands as bytes: how many, and their bytes, one after the other
+-- commands as bytes: how many, the number of the first one where the record tells it, and their bytes, one after the other
 pub record Packed : Type 0 where
   pub count : ℕ
+  pub first : Option ℕ
   pub bytes : List Byte
 
 -- ---- writing
@@ -33,22 +36,37 @@ data_size text = (length text + 511) / 512
 unfoldable pub data_sector : List Byte → ℕ → List Byte
 data_sector text k = map (λ i. slice_index text (512 * k + i)) (range_with_len 0 512)
 
--- how many commands, how many bytes they take, and they
+-- the number of the first command, where the record tells it
+abbrev pub first_text : Option ℕ → List Byte
+first_text None = []
+first_text (Some number) = big 8 number
+
+-- how many commands, the number of the first one, how many bytes they take, and they
 unfoldable pub packed_text : Packed → List Byte
-packed_text packed = big 2 packed.count ++ (big 4 (length packed.bytes) ++ packed.bytes)
+packed_text packed = big 2 packed.count ++ (first_text packed.first ++ (big 4 (length packed.bytes) ++ packed.bytes))
+
+-- the number that a record of this form tells, behind so many accepted commands
+abbrev pub first_of : Form → ℕ → Option ℕ
+first_of Plain before = None
+first_of Numbered before = Some (before + 1)
+
+-- how many bytes stand before the commands
+abbrev pub head_len : Form → Bytes
+head_len Plain = 6
+head_len Numbered = 14
 
 -- commands that were given by reference, as a journal under the allocator A holds them
 abbrev pub given : {B : Type 0} (A : Type 0) → List (Bor (Asked B)) → List (Asked A)
 given A commands = map (λ command. under A command.now) commands
 
 module _ {A : Type 0} where
-  -- commands as bytes
-  abbrev pub pack : List (Asked A) → Packed
-  pack commands = record { count = length commands; bytes = flat_map command_text commands }
+  -- commands as bytes, behind so many accepted commands
+  abbrev pub pack : Form → ℕ → List (Asked A) → Packed
+  pack form before commands = record { count = length commands; first = first_of form before; bytes = flat_map command_text commands }
 
-  -- a record's text
-  abbrev pub record_text : List (Asked A) → List Byte
-  record_text commands = packed_text (pack commands)
+  -- a record's text, behind so many accepted commands
+  abbrev pub record_text : Form → ℕ → List (Asked A) → List Byte
+  record_text form before commands = packed_text (pack form before commands)
 
   -- commands that a record may have
   pub record IsRecord (commands : List (Asked A)) : Type 0 where
@@ -66,12 +84,23 @@ is_zero b = b == 0
 abbrev pub is_in_range : ℕ → Bytes → Bool
 is_in_range count size = nat_le 1 count && nat_le count most_commands && nat_le size (longest * count)
 
+-- the number of the first command, where the form has one
+unfoldable pub first_at : Form → List Byte → Read (Option ℕ)
+first_at Plain bytes = Some (None, bytes)
+first_at Numbered bytes = number_at 8 bytes >>= λ number. Some (Some number.0, number.1)
+
 -- what stands in a record's data sectors, all of them: count and length in range, so many bytes, and zeros behind the last
-unfoldable pub packed_of : List Byte → Option Packed
-packed_of bytes = do
+unfoldable pub packed_of : Form → List Byte → Option Packed
+packed_of form bytes = do
   count ← number_at 2 bytes
-  size ← number_at 4 count.1
-  if is_in_range count.0 size.0 && nat_le size.0 (length size.1) && list_all is_zero (drop size.0 size.1) then Some (record { count = count.0; bytes = take size.0 size.1 }) else None
+  first ← first_at form count.1
+  size ← number_at 4 first.1
+  if is_in_range count.0 size.0 && nat_le size.0 (length size.1) && list_all is_zero (drop size.0 size.1) then Some (record { count = count.0; first = first.0; bytes = take size.0 size.1 }) else None
+
+-- a record that tells a number stands behind so many accepted commands; one that tells none stands behind any
+abbrev pub follows : ℕ → Option ℕ → Bool
+follows before None = true
+follows before (Some number) = number == before + 1
 
 module _ {A : Type 0} where
   -- so many commands, one after the other, and no byte behind them
@@ -83,8 +112,15 @@ module _ {A : Type 0} where
     others ← commands_in count first.1
     Some (first.0 ∷ others)
 
-  -- the commands of a record, by its data sectors
-  abbrev pub record_of : List Byte → Option (List (Asked A))
-  record_of bytes = do
-    packed ← packed_of bytes
-    commands_in packed.count packed.bytes
+  -- a record by its data sectors: the number of its first command, where it tells one, and its commands
+  abbrev pub told_of : Form → List Byte → Option (Option ℕ × List (Asked A))
+  told_of form bytes = do
+    packed ← packed_of form bytes
+    commands ← commands_in packed.count packed.bytes
+    Some (packed.first, commands)
+
+  -- the commands of a record behind so many accepted commands
+  abbrev pub record_of : Form → ℕ → List Byte → Option (List (Asked A))
+  record_of form before bytes = do
+    told ← told_of form bytes
+    if follows before told.0 then Some told.1 else None

@@ -7,7 +7,8 @@ ghost use Rattle.centre_core.specs.Asked.{Asked};
 ghost use Rattle.gated_journal.specs.Calls.{append_both_calls, settled_both_calls};
 ghost use Rattle.gated_journal.specs.Half.{Entry};
 ghost use Rattle.gated_journal.specs.Inside.Filling.{HasFilledTwice};
-ghost use Rattle.gated_journal.specs.Record.{IsRecord, data_sector, data_size, record_text};
+ghost use Rattle.gated_journal.specs.Inside.Next.{IsNext, counting};
+ghost use Rattle.gated_journal.specs.Record.{data_sector, data_size};
 ghost use Rattle.gated_journal.specs.Settled.{IsSettled, LeavesBoth};
 
 use crate::Place;
@@ -46,7 +47,7 @@ fn settle_both<D: Disk>(disk: &mut D, first: &Run<'_>, second: &Run<'_>) -> Resu
     disk.sync()
 }
 
-// Adds a record with these texts, of the same commands under the allocator A, to two halves.
+// Adds a record with these texts, of the same commands under the allocator A, to two halves. The caller counts them.
 pub(crate) fn append_texts<A: Allocator, D: Disk>(
     disk: &mut D,
     place: &mut Place,
@@ -63,10 +64,10 @@ pub(crate) fn append_texts<A: Allocator, D: Disk>(
     requires other_small { length other_text.now < 2 ^ 32 }
     requires fits { place.old.next + data_size text.now + 2 ≤ place.old.end }
     requires other_fits { other.old.next + data_size other_text.now + 2 ≤ other.old.end }
-    ensures any_moment { (entries others : List (Entry A)) (commands : List (Asked A)) → IsRecord commands → text.now ≡ record_text commands → other_text.now ≡ record_text commands → (D.view disk.old).honest → IsSettled (D.view disk.old) place.old entries → IsSettled (D.view disk.old) other.old others
-        → LeavesOnly (D.view disk.old) (D.view disk.new) (LeavesBoth (D.view disk.old) place.old other.old entries others (place.old.next + 1, commands) (other.old.next + 1, commands)) }
-    ensures acknowledged { OnOk result ((entries others : List (Entry A)) (commands : List (Asked A)) → IsRecord commands → text.now ≡ record_text commands → other_text.now ≡ record_text commands → (D.view disk.old).honest → IsSettled (D.view disk.old) place.old entries → IsSettled (D.view disk.old) other.old others
-        → IsSettled (D.view disk.new) place.new (entries ++ (place.old.next + 1, commands) ∷ []) × IsSettled (D.view disk.new) other.new (others ++ (other.old.next + 1, commands) ∷ [])) }
+    ensures any_moment { (before start : ℕ) (entries others : List (Entry A)) (commands : List (Asked A)) → IsNext place.old commands text.now → IsNext other.old commands other_text.now → (D.view disk.old).honest → IsSettled (D.view disk.old) place.old before entries → IsSettled (D.view disk.old) other.old start others
+        → LeavesOnly (D.view disk.old) (D.view disk.new) (LeavesBoth (D.view disk.old) place.old other.old before start entries others (place.old.next + 1, commands) (other.old.next + 1, commands)) }
+    ensures acknowledged { OnOk result ((before start : ℕ) (entries others : List (Entry A)) (commands : List (Asked A)) → IsNext place.old commands text.now → IsNext other.old commands other_text.now → (D.view disk.old).honest → IsSettled (D.view disk.old) place.old before entries → IsSettled (D.view disk.old) other.old start others
+        → IsSettled (D.view disk.new) (counting place.new commands) before (entries ++ (place.old.next + 1, commands) ∷ []) × IsSettled (D.view disk.new) (counting other.new commands) start (others ++ (other.old.next + 1, commands) ∷ [])) }
     ensures durable { (D.view disk.old).honest → OnOk result ((k : ℕ) → (D.view disk.new).pending k ≡ false) }
     ensures elsewhere { (D.view disk.old).honest → OnOk result ((k : ℕ) → (k < place.old.first) ⊎ (place.old.end ≤ k) → (k < other.old.first) ⊎ (other.old.end ≤ k) → sector (D.view disk.new).reads k ≡ sector (D.view disk.old).reads k) }
     ensures next { OnOk result (place.new ≡ record (place.old) { next = place.old.next + data_size text.now + 1 }) }

@@ -1,22 +1,27 @@
 // A journal: a place on a disk, and a buffer for the records' bytes.
-ghost use Rattle.std.specs.Prelude.{◌≡◌, ◌⊎◌, ◌<◌, ◌≤◌, ◌+◌, ◌*◌, ◌^◌, ◌-◌, ℕ, List, [], ◌∷◌, ◌++◌, Err, IfErr, IfNone, IfOk, IfSome, IsErrOf, OnErr, OnOk, length, false, map, nat_le, vec_capacity, vec_len};
+ghost use Rattle.std.specs.Prelude.{◌≡◌, ◌⊎◌, ◌<◌, ◌≤◌, ◌+◌, ◌*◌, ◌^◌, ◌-◌, ℕ, List, [], ◌∷◌, ◌++◌, Err, IfErr, IfNone, IfOk, IfSome, IsErrOf, OnErr, OnOk, length, false, map, nat_le};
 ghost use Rattle.std.specs.List.{All, flat_map};
+ghost use Rattle.centre_core.specs.State.{last_number};
 ghost use Rattle.command_bytes.specs.Fields.{big};
 ghost use Rattle.command_bytes.specs.Text.{IsCommand, command_text, longest};
 ghost use Rattle.sector_disk.specs.Disk.{HasFailed, IsImageOf, sector};
 ghost use Rattle.sector_disk.specs.Reading.{before_reads};
 ghost use Rattle.sector_disk.specs.Run.{HasLooked, HasMade, LeavesOnly};
 ghost use Rattle.gated_journal.specs.declared.fault.JournalError.TheVariants.{DiskFault, Damaged, JournalFull, NoMemory};
+ghost use Rattle.gated_journal.specs.declared.form.Form.{Form};
 ghost use Rattle.gated_journal.specs.declared.place.Place.{Place};
 ghost use Rattle.gated_journal.specs.Calls.{append_both_calls, append_calls};
-ghost use Rattle.gated_journal.specs.Half.{Entry, half_of, record_at};
+ghost use Rattle.gated_journal.specs.Half.{Entry, counted, half_of, record_at};
+ghost use Rattle.gated_journal.specs.Inside.Next.{IsNext};
+ghost use Rattle.gated_journal.specs.Inside.Room.{capacity};
 ghost use Rattle.gated_journal.specs.Reading.{Answers, AreJudged, HasRecord, HasRecords, entries_view, next_view};
-ghost use Rattle.gated_journal.specs.Record.{IsRecord, data_size, given, most_commands, most_sectors, record_text};
-ghost use Rattle.gated_journal.specs.Settled.{IsSettled, Leaves, LeavesBoth, room_of};
+ghost use Rattle.gated_journal.specs.Record.{data_size, first_text, given, most_commands, most_sectors, record_text};
+ghost use Rattle.gated_journal.specs.Settled.{IsCounted, IsSettled, Leaves, LeavesBoth, room_of, text_at};
 
 use crate::both::append_texts;
 use crate::reading::{MOST_SECTORS, judge_half, read_or_judge, read_record};
-use crate::{JournalError, Place};
+use crate::record_text::RecordText;
+use crate::{Form, JournalError, Place};
 use centre_core::Command;
 use command_bytes::text_len;
 use sector_disk::Disk;
@@ -27,7 +32,7 @@ use std::marker::Model;
 #[derive(Debug, Drop)]
 pub struct Journal<A: Allocator> {
     place: Place,
-    text: Vec<u8, A>,
+    text: RecordText<A>,
 }
 
 impl<A: Allocator> Model for Journal<A> {
@@ -36,35 +41,48 @@ impl<A: Allocator> Model for Journal<A> {
     ghost view = { λ journal. journal.place };
 
     // there is room for the greatest record, and the next gate does not lie before the half
-    ghost invariant = { λ journal. (512 * most_sectors ≤ vec_capacity journal.text) × (journal.place.first ≤ journal.place.next) };
+    ghost invariant = { λ journal. (512 * most_sectors ≤ capacity journal.text) × (journal.place.first ≤ journal.place.next) };
 }
 
-impl<A: Allocator> Journal<A> {
+impl<A: Allocator + Copy> Journal<A> {
     /// A journal with no record, whose first gate stands closed on the disk.
     ///
-    /// `first` is its half's first sector, `sectors` how many it has. Takes the memory of all later calls of `append`.
-    pub fn start(alloc: A, first: u64, sectors: u64) -> Result<Journal<A>, AllocError>
+    /// `first` is its half's first sector, `sectors` how many it has, and `before` how many commands were accepted before
+    /// its first record. Takes the memory of all later calls of `append`.
+    pub fn start(
+        alloc: A,
+        first: u64,
+        sectors: u64,
+        form: Form,
+        before: u64,
+    ) -> Result<Journal<A>, AllocError>
         requires fits { first + sectors < 2 ^ 64 }
-        ensures { IfOk result (λ journal. journal ≡ record { first = first; end = first + sectors; next = first }) }
+        ensures { IfOk result (λ journal. journal ≡ record { first = first; end = first + sectors; next = first; form = form; count = before }) }
     {
-        let text = Vec::with_capacity(alloc, MOST_SECTORS as usize * 512)?;
+        let text = RecordText::with_room(alloc, MOST_SECTORS as usize * 512)?;
         let place = Place {
             first,
             end: first + sectors,
             next: first,
+            form,
+            count: before,
         };
         Ok(Journal { place, text })
     }
+}
 
+impl<A: Allocator> Journal<A> {
     /// Makes it a journal with no record, as `start` does. Takes no memory.
-    pub fn restart(&mut self, first: u64, sectors: u64)
+    pub fn restart(&mut self, first: u64, sectors: u64, form: Form, before: u64)
         requires fits { first + sectors < 2 ^ 64 }
-        ensures { self.new ≡ record { first = first; end = first + sectors; next = first } }
+        ensures { self.new ≡ record { first = first; end = first + sectors; next = first; form = form; count = before } }
     {
         self.place = Place {
             first,
             end: first + sectors,
             next: first,
+            form,
+            count: before,
         };
     }
 
@@ -78,11 +96,11 @@ impl<A: Allocator> Journal<A> {
     /// Whether a record of these commands, at most 64, has no more data sectors than `room`. Takes no memory.
     pub fn has_room<B: Allocator>(&self, commands: &[&Command<B>]) -> bool
         requires few { length commands.now ≤ most_commands }
-        ensures exact { result ≡ nat_le (data_size (record_text (given A commands.now))) (room_of self.now) }
-        ensures most { data_size (record_text (given A commands.now)) ≤ most_sectors }
+        ensures exact { result ≡ nat_le (data_size (text_at A self.now commands.now)) (room_of self.now) }
+        ensures most { (form : Form) (before : ℕ) → data_size (record_text form before (given A commands.now)) ≤ most_sectors }
     {
-        let size = (size_of(commands) as u64 + 517) / 512;
-        size <= self.place.room()
+        let bytes = self.place.form.head_len() + size_of(commands) as u64;
+        (bytes + 511) / 512 <= self.place.room()
     }
 
     /// Adds these commands, 1 to 64, as one record. Takes no memory.
@@ -97,27 +115,28 @@ impl<A: Allocator> Journal<A> {
         requires within { self.old.end ≤ (D.view disk.old).sectors }
         requires some { 1 ≤ length commands.now }
         requires few { length commands.now ≤ most_commands }
+        requires counts { self.old.count + length commands.now ≤ last_number }
 
         // A stop at any moment of the call leaves the records from before it, with the new one whole or without it, and
         // all other sectors as they were.
-        ensures any_moment { (entries : List (Entry A)) → (D.view disk.old).honest → IsSettled (D.view disk.old) self.old entries
-            → LeavesOnly (D.view disk.old) (D.view disk.new) (Leaves (D.view disk.old) self.old entries (self.old.next + 1, given A commands.now)) }
+        ensures any_moment { (before : ℕ) (entries : List (Entry A)) → (D.view disk.old).honest → IsSettled (D.view disk.old) self.old before entries
+            → LeavesOnly (D.view disk.old) (D.view disk.new) (Leaves (D.view disk.old) self.old before entries (self.old.next + 1, given A commands.now)) }
 
         // At `Ok` each stop leaves it, nothing is pending, and all outside the half reads as it did.
-        ensures acknowledged { OnOk result ((entries : List (Entry A)) → (D.view disk.old).honest → IsSettled (D.view disk.old) self.old entries
-            → IsSettled (D.view disk.new) self.new (entries ++ (self.old.next + 1, given A commands.now) ∷ [])) }
+        ensures acknowledged { OnOk result ((before : ℕ) (entries : List (Entry A)) → (D.view disk.old).honest → IsSettled (D.view disk.old) self.old before entries
+            → IsSettled (D.view disk.new) self.new before (entries ++ (self.old.next + 1, given A commands.now) ∷ [])) }
         ensures durable { (D.view disk.old).honest → OnOk result ((k : ℕ) → (D.view disk.new).pending k ≡ false) }
         ensures elsewhere { (D.view disk.old).honest → OnOk result ((k : ℕ) → (k < self.old.first) ⊎ (self.old.end ≤ k) → sector (D.view disk.new).reads k ≡ sector (D.view disk.old).reads k) }
-        ensures next { OnOk result (self.new ≡ record { first = self.old.first; end = self.old.end; next = self.old.next + data_size (record_text (given A commands.now)) + 1 }) }
+        ensures next { OnOk result (self.new ≡ record { first = self.old.first; end = self.old.end; next = self.old.next + data_size (text_at A self.old commands.now) + 1; form = self.old.form; count = self.old.count + length commands.now }) }
 
         // Each data sector and each gate is written once, with two syncs, and nothing is read; a call that fails is the last.
-        ensures calls { OnOk result ((D.view disk.new).calls ≡ (D.view disk.old).calls ++ append_calls self.old.next (record_text (given A commands.now))) }
-        ensures some_calls { HasMade (D.view disk.old) (D.view disk.new) (append_calls self.old.next (record_text (given A commands.now))) }
+        ensures calls { OnOk result ((D.view disk.new).calls ≡ (D.view disk.old).calls ++ append_calls self.old.next (text_at A self.old commands.now)) }
+        ensures some_calls { HasMade (D.view disk.old) (D.view disk.new) (append_calls self.old.next (text_at A self.old commands.now)) }
 
         // It does not give up by itself.
         ensures fault { IsErrOf result JournalError.DiskFault → HasFailed (D.view disk.old) (D.view disk.new) }
-        ensures full { IsErrOf result JournalError.JournalFull → room_of self.old < data_size (record_text (given A commands.now)) }
-        ensures no_room { room_of self.old < data_size (record_text (given A commands.now))
+        ensures full { IsErrOf result JournalError.JournalFull → room_of self.old < data_size (text_at A self.old commands.now) }
+        ensures no_room { room_of self.old < data_size (text_at A self.old commands.now)
             → (result ≡ Err JournalError.JournalFull) × (disk.new ≡ disk.old) }
         ensures same { OnErr result (self.new ≡ self.old) }
         ensures damaged { (s : ℕ) → IsErrOf result (JournalError.Damaged s) → ⊥ }
@@ -126,8 +145,10 @@ impl<A: Allocator> Journal<A> {
         ensures later { (D.view disk.old).failures ≤ (D.view disk.new).failures }
         ensures honest { (D.view disk.old).honest → (D.view disk.new).honest }
     {
-        put_record(&mut self.text, commands);
-        self.place.append_text::<A, D>(disk, &self.text)
+        put_record(&mut self.text, &self.place, commands);
+        self.place.append_text::<A, D>(disk, self.text.as_slice())?;
+        self.place.count += commands.len() as u64;
+        Ok(())
     }
 }
 
@@ -147,25 +168,27 @@ impl<A: Allocator> Journal<A> {
         requires apart { (self.old.end ≤ other.old.first) ⊎ (other.old.end ≤ self.old.first) }
         requires some { 1 ≤ length commands.now }
         requires few { length commands.now ≤ most_commands }
-        requires fits { data_size (record_text (given A commands.now)) ≤ room_of self.old }
-        requires other_fits { data_size (record_text (given A commands.now)) ≤ room_of other.old }
+        requires fits { data_size (text_at A self.old commands.now) ≤ room_of self.old }
+        requires other_fits { data_size (text_at A other.old commands.now) ≤ room_of other.old }
+        requires counts { self.old.count + length commands.now ≤ last_number }
+        requires other_counts { other.old.count + length commands.now ≤ last_number }
 
         // A stop at any moment of the call leaves, in each of the two halves, the records from before it, with the new one
         // whole or without it, and all other sectors as they were.
-        ensures any_moment { (entries others : List (Entry A)) → (D.view disk.old).honest → IsSettled (D.view disk.old) self.old entries → IsSettled (D.view disk.old) other.old others
-            → LeavesOnly (D.view disk.old) (D.view disk.new) (LeavesBoth (D.view disk.old) self.old other.old entries others (self.old.next + 1, given A commands.now) (other.old.next + 1, given A commands.now)) }
+        ensures any_moment { (before start : ℕ) (entries others : List (Entry A)) → (D.view disk.old).honest → IsSettled (D.view disk.old) self.old before entries → IsSettled (D.view disk.old) other.old start others
+            → LeavesOnly (D.view disk.old) (D.view disk.new) (LeavesBoth (D.view disk.old) self.old other.old before start entries others (self.old.next + 1, given A commands.now) (other.old.next + 1, given A commands.now)) }
 
         // At `Ok` each stop leaves it in both, nothing is pending, and all outside the two halves reads as it did.
-        ensures acknowledged { OnOk result ((entries others : List (Entry A)) → (D.view disk.old).honest → IsSettled (D.view disk.old) self.old entries → IsSettled (D.view disk.old) other.old others
-            → IsSettled (D.view disk.new) self.new (entries ++ (self.old.next + 1, given A commands.now) ∷ []) × IsSettled (D.view disk.new) other.new (others ++ (other.old.next + 1, given A commands.now) ∷ [])) }
+        ensures acknowledged { OnOk result ((before start : ℕ) (entries others : List (Entry A)) → (D.view disk.old).honest → IsSettled (D.view disk.old) self.old before entries → IsSettled (D.view disk.old) other.old start others
+            → IsSettled (D.view disk.new) self.new before (entries ++ (self.old.next + 1, given A commands.now) ∷ []) × IsSettled (D.view disk.new) other.new start (others ++ (other.old.next + 1, given A commands.now) ∷ [])) }
         ensures durable { (D.view disk.old).honest → OnOk result ((k : ℕ) → (D.view disk.new).pending k ≡ false) }
         ensures elsewhere { (D.view disk.old).honest → OnOk result ((k : ℕ) → (k < self.old.first) ⊎ (self.old.end ≤ k) → (k < other.old.first) ⊎ (other.old.end ≤ k) → sector (D.view disk.new).reads k ≡ sector (D.view disk.old).reads k) }
-        ensures next { OnOk result (self.new ≡ record { first = self.old.first; end = self.old.end; next = self.old.next + data_size (record_text (given A commands.now)) + 1 }) }
-        ensures other_next { OnOk result (other.new ≡ record { first = other.old.first; end = other.old.end; next = other.old.next + data_size (record_text (given A commands.now)) + 1 }) }
+        ensures next { OnOk result (self.new ≡ record { first = self.old.first; end = self.old.end; next = self.old.next + data_size (text_at A self.old commands.now) + 1; form = self.old.form; count = self.old.count + length commands.now }) }
+        ensures other_next { OnOk result (other.new ≡ record { first = other.old.first; end = other.old.end; next = other.old.next + data_size (text_at A other.old commands.now) + 1; form = other.old.form; count = other.old.count + length commands.now }) }
 
         // Each data sector and each gate is written once, with two syncs, and nothing is read; a call that fails is the last.
-        ensures calls { OnOk result ((D.view disk.new).calls ≡ (D.view disk.old).calls ++ append_both_calls self.old.next (record_text (given A commands.now)) other.old.next (record_text (given A commands.now))) }
-        ensures some_calls { HasMade (D.view disk.old) (D.view disk.new) (append_both_calls self.old.next (record_text (given A commands.now)) other.old.next (record_text (given A commands.now))) }
+        ensures calls { OnOk result ((D.view disk.new).calls ≡ (D.view disk.old).calls ++ append_both_calls self.old.next (text_at A self.old commands.now) other.old.next (text_at A other.old commands.now)) }
+        ensures some_calls { HasMade (D.view disk.old) (D.view disk.new) (append_both_calls self.old.next (text_at A self.old commands.now) other.old.next (text_at A other.old commands.now)) }
 
         // It does not give up by itself.
         ensures fault { IfErr result (λ e. (e ≡ JournalError.DiskFault) × HasFailed (D.view disk.old) (D.view disk.new)) }
@@ -174,15 +197,17 @@ impl<A: Allocator> Journal<A> {
         ensures later { (D.view disk.old).failures ≤ (D.view disk.new).failures }
         ensures honest { (D.view disk.old).honest → (D.view disk.new).honest }
     {
-        put_record(&mut self.text, commands);
-        put_record(&mut other.text, commands);
+        put_record(&mut self.text, &self.place, commands);
+        put_record(&mut other.text, &other.place, commands);
         append_texts::<A, D>(
             disk,
             &mut self.place,
             &mut other.place,
-            &self.text,
-            &other.text,
+            self.text.as_slice(),
+            other.text.as_slice(),
         )?;
+        self.place.count += commands.len() as u64;
+        other.place.count += commands.len() as u64;
         Ok(())
     }
 }
@@ -194,7 +219,8 @@ impl<A: Allocator> Journal<A> {
     pub fn judge_rest<D: Disk>(&mut self, disk: &mut D) -> Result<(), JournalError>
         requires before { self.old.next < self.old.end }
         requires within { self.old.end ≤ (D.view disk.old).sectors }
-        ensures exact { (D.view disk.old).honest → AreJudged result (half_of {A = A} (D.view disk.old).reads self.old.next self.old.end) }
+        requires counts { IsCounted self.old }
+        ensures exact { (D.view disk.old).honest → AreJudged result (half_of {A = A} self.old.form self.old.count (D.view disk.old).reads self.old.next self.old.end) }
         ensures same { self.new ≡ self.old }
         ensures looked { (D.view disk.old).honest → HasLooked (D.view disk.old) (D.view disk.new) }
         ensures only_reads { before_reads (D.view disk.new).calls ≡ before_reads (D.view disk.old).calls }
@@ -206,7 +232,7 @@ impl<A: Allocator> Journal<A> {
         ensures full { IsErrOf result JournalError.JournalFull → ⊥ }
         ensures memory { IsErrOf result JournalError.NoMemory → ⊥ }
     {
-        judge_half(disk, self.place.next, self.place.end, &mut self.text)
+        judge_half(disk, &self.place, &mut self.text)
     }
 }
 
@@ -222,14 +248,18 @@ impl<A: Allocator + Clone> Journal<A> {
     ) -> Result<Option<(u64, Vec<Command<A>, A>)>, JournalError>
         requires before { self.old.next < self.old.end }
         requires within { self.old.end ≤ (D.view disk.old).sectors }
-        ensures exact { (D.view disk.old).honest → Answers (next_view self.new.next) result (record_at (D.view disk.old).reads self.old.next self.old.end) }
-        ensures memory { IsErrOf result JournalError.NoMemory → (D.view disk.old).honest → HasRecord A (D.view disk.old).reads self.old.next self.old.end }
+        requires counts { IsCounted self.old }
+        ensures exact { (D.view disk.old).honest → Answers (next_view self.new.next) result (record_at self.old.form self.old.count (D.view disk.old).reads self.old.next self.old.end) }
+        ensures memory { IsErrOf result JournalError.NoMemory → (D.view disk.old).honest → HasRecord A self.old.form self.old.count (D.view disk.old).reads self.old.next self.old.end }
         ensures looked { (D.view disk.old).honest → HasLooked (D.view disk.old) (D.view disk.new) }
         ensures only_reads { before_reads (D.view disk.new).calls ≡ before_reads (D.view disk.old).calls }
         ensures honest { (D.view disk.old).honest → (D.view disk.new).honest }
         ensures at { IfOk result (λ found. IfSome found (λ x. (x.0 ≡ self.old.next + 1) × (x.0 < self.new.next))) }
         ensures first { self.new.first ≡ self.old.first }
         ensures end { self.new.end ≡ self.old.end }
+        ensures form { self.new.form ≡ self.old.form }
+        ensures count { IfOk result (λ found. IfSome found (λ x. self.new.count ≡ self.old.count + length x.1.items)) }
+        ensures counted { IsCounted self.new }
         ensures next { self.new.next < self.old.end }
         ensures closed { IfOk result (λ found. IfNone found (self.new ≡ self.old)) }
         ensures same { OnErr result (self.new ≡ self.old) }
@@ -240,56 +270,46 @@ impl<A: Allocator + Clone> Journal<A> {
         ensures full { IsErrOf result JournalError.JournalFull → ⊥ }
     {
         let at = self.place.next;
-        let Some((commands, next)) = read_record(alloc, disk, at, self.place.end, &mut self.text)?
-        else {
+        let Some((commands, next)) = read_record(alloc, disk, &self.place, &mut self.text)? else {
             return Ok(None);
         };
+        self.place.count += commands.len() as u64;
         self.place.next = next;
         Ok(Some((at + 1, commands)))
     }
+}
 
-    /// Reads a half, and gives the journal that goes on behind its records, and these: of each its first data sector,
-    /// and its commands.
+impl<A: Allocator + Copy> Journal<A> {
+    /// Reads the records from the next gate of a place on, and gives the journal that goes on behind them, and these: of
+    /// each its first data sector, and its commands.
     ///
-    /// `first` is the half's first sector, `sectors` how many it has. `Damaged` names the first sector at fault. `NoMemory`
-    /// comes before anything was read, or where no sector is at fault.
+    /// `Damaged` names the first sector at fault. `NoMemory` comes before anything was read, or where no sector is at fault.
     pub fn replay<D: Disk>(
         alloc: A,
         disk: &mut D,
-        first: u64,
-        sectors: u64,
+        place: Place,
     ) -> Result<(Journal<A>, Vec<(u64, Vec<Command<A>, A>), A>), JournalError>
-        requires some { 0 < sectors }
-        requires within { first + sectors ≤ (D.view disk.old).sectors }
-        requires fits { first + sectors < 2 ^ 64 }
-        ensures exact { (D.view disk.old).honest → Answers (λ x. (entries_view x.1.items, x.0.next)) result (half_of (D.view disk.old).reads first (first + sectors)) }
-        ensures memory { IsErrOf result JournalError.NoMemory → (D.view disk.old).honest → ((D.view disk.new).calls ≡ (D.view disk.old).calls) ⊎ HasRecords A (D.view disk.old).reads first (first + sectors) }
+        requires up { place.first ≤ place.next }
+        requires some { place.next < place.end }
+        requires within { place.end ≤ (D.view disk.old).sectors }
+        requires counts { IsCounted place }
+        ensures exact { (D.view disk.old).honest → Answers (λ x. (entries_view x.1.items, x.0.next)) result (half_of place.form place.count (D.view disk.old).reads place.next place.end) }
+        ensures memory { IsErrOf result JournalError.NoMemory → (D.view disk.old).honest → ((D.view disk.new).calls ≡ (D.view disk.old).calls) ⊎ HasRecords A place.form place.count (D.view disk.old).reads place.next place.end }
         ensures looked { (D.view disk.old).honest → HasLooked (D.view disk.old) (D.view disk.new) }
         ensures only_reads { before_reads (D.view disk.new).calls ≡ before_reads (D.view disk.old).calls }
         ensures honest { (D.view disk.old).honest → (D.view disk.new).honest }
-        ensures place { IfOk result (λ x. (x.0.first ≡ first) × (x.0.end ≡ first + sectors) × (x.0.next < first + sectors)) }
+        ensures place { IfOk result (λ x. (x.0.first ≡ place.first) × (x.0.end ≡ place.end) × (x.0.form ≡ place.form) × (x.0.next < place.end)) }
+        ensures count { IfOk result (λ x. x.0.count ≡ counted place.count (entries_view x.1.items)) }
         ensures sectors { (D.view disk.new).sectors ≡ (D.view disk.old).sectors }
         ensures later { (D.view disk.old).failures ≤ (D.view disk.new).failures }
         ensures fault { IsErrOf result JournalError.DiskFault → HasFailed (D.view disk.old) (D.view disk.new) }
-        ensures damaged { (s : ℕ) → IsErrOf result (JournalError.Damaged s) → s < first + sectors }
+        ensures damaged { (s : ℕ) → IsErrOf result (JournalError.Damaged s) → s < place.end }
         ensures full { IsErrOf result JournalError.JournalFull → ⊥ }
     {
-        let mut text = Vec::with_capacity(alloc.clone()?, MOST_SECTORS as usize * 512)?;
-        let end = first + sectors;
-        let (entries, next) = read_or_judge(alloc, disk, first, end, &mut text)?;
-        let place = Place { first, end, next };
+        let mut text = RecordText::with_room(alloc, MOST_SECTORS as usize * 512)?;
+        let (place, entries) = read_or_judge(alloc, disk, &place, &mut text)?;
         Ok((Journal { place, text }, entries))
     }
-}
-
-// Adds bytes for which there is room.
-pub(crate) fn add<A: Allocator>(out: &mut Vec<u8, A>, bytes: &[u8])
-    requires { vec_len out.old + length bytes.now ≤ vec_capacity out.old }
-    ensures items { out.new.items ≡ out.old.items ++ bytes.now }
-    ensures len { vec_len out.new ≡ vec_len out.old + length bytes.now }
-    ensures capacity { vec_capacity out.old ≤ vec_capacity out.new }
-{
-    out.extend_from_slice(bytes).unwrap();
 }
 
 // How many bytes the commands take.
@@ -306,38 +326,48 @@ fn size_of<B: Allocator>(commands: &[&Command<B>]) -> usize
 }
 
 // Adds the commands' bytes, for which there is room.
-fn add_all<A: Allocator, B: Allocator>(out: &mut Vec<u8, A>, commands: &[&Command<B>])
-    requires room { vec_len out.old + length (flat_map (λ command. command_text command.now) commands.now) ≤ vec_capacity out.old }
+fn add_all<A: Allocator, B: Allocator>(out: &mut RecordText<A>, commands: &[&Command<B>])
+    requires room { length out.old.items + length (flat_map (λ command. command_text command.now) commands.now) ≤ capacity out.old }
     ensures items { out.new.items ≡ out.old.items ++ flat_map (λ command. command_text command.now) commands.now }
-    ensures capacity { vec_capacity out.old ≤ vec_capacity out.new }
+    ensures capacity { capacity out.old ≤ capacity out.new }
     ensures are_commands { All (λ command. IsCommand command.now) commands.now }
 {
     for command in commands {
-        command_bytes::append(out, command);
+        out.add_command(command);
     }
 }
 
-// How many commands there are, and how many bytes they take, at the head of a buffer with room for it.
+// How many commands there are, the number of the first one where the record tells it, and how many bytes they take, at the
+// head of a buffer with room for it.
 #[tactic(auto, unfolding(command_bytes::specs::Fields::big))]
-fn put_head<A: Allocator>(out: &mut Vec<u8, A>, count: u16, size: u32)
-    requires { 6 ≤ vec_capacity out.old }
-    ensures items { out.new.items ≡ big 2 count ++ big 4 size }
-    ensures capacity { vec_capacity out.old ≤ vec_capacity out.new }
+fn put_head<A: Allocator>(out: &mut RecordText<A>, count: u16, first: Option<u64>, size: u32)
+    requires { 14 ≤ capacity out.old }
+    ensures items { out.new.items ≡ big 2 count ++ (first_text first ++ big 4 size) }
+    ensures capacity { capacity out.old ≤ capacity out.new }
 {
     out.clear();
-    add(out, &count.to_be_bytes());
-    add(out, &size.to_be_bytes());
+    out.add(&count.to_be_bytes());
+    if let Some(number) = first {
+        out.add(&number.to_be_bytes());
+    }
+    out.add(&size.to_be_bytes());
 }
 
-// The text of a record, in a buffer with room for it.
-fn put_record<A: Allocator, B: Allocator>(out: &mut Vec<u8, A>, commands: &[&Command<B>])
-    requires room { 512 * most_sectors ≤ vec_capacity out.old }
+// The text of the next record of a place, in a buffer with room for it.
+fn put_record<A: Allocator, B: Allocator>(
+    out: &mut RecordText<A>,
+    place: &Place,
+    commands: &[&Command<B>],
+)
+    requires room { 512 * most_sectors ≤ capacity out.old }
+    requires number { place.now.count < last_number }
     requires some { 1 ≤ length commands.now }
     requires few { length commands.now ≤ most_commands }
-    ensures items { out.new.items ≡ record_text (given A commands.now) }
-    ensures fit { IsRecord (given A commands.now) }
-    ensures capacity { 512 * most_sectors ≤ vec_capacity out.new }
+    ensures items { out.new.items ≡ text_at A place.now commands.now }
+    ensures next { IsNext place.now (given A commands.now) out.new.items }
+    ensures capacity { 512 * most_sectors ≤ capacity out.new }
 {
-    put_head(out, commands.len() as u16, size_of(commands) as u32);
+    let first = place.form.first_of(place.count);
+    put_head(out, commands.len() as u16, first, size_of(commands) as u32);
     add_all(out, commands);
 }

@@ -3,13 +3,16 @@
 
 mod both;
 mod fault;
+mod form;
 mod journal;
 pub mod laws;
 mod place;
 mod reading;
 mod record;
+mod record_text;
 
 pub use fault::JournalError;
+pub use form::Form;
 pub use journal::Journal;
 pub use place::Place;
-pub use record::decode_record;
+pub use record::{Record, decode_record};

@@ -7,11 +7,12 @@ ghost use Rattle.sector_disk.specs.declared.disk.DiskError.TheVariants.{OutOfRan
 ghost use Rattle.gated_journal.specs.declared.fault.JournalError.TheVariants.{DiskFault, Damaged, JournalFull, NoMemory};
 ghost use Rattle.gated_journal.specs.Calls.{append_calls, settled_calls};
 ghost use Rattle.gated_journal.specs.Half.{Entry};
+ghost use Rattle.gated_journal.specs.Inside.Next.{IsNext, counting};
 ghost use Rattle.centre_core.specs.Asked.{Asked};
-ghost use Rattle.gated_journal.specs.Record.{IsRecord, data_sector, data_size, record_text};
+ghost use Rattle.gated_journal.specs.Record.{data_sector, data_size};
 ghost use Rattle.gated_journal.specs.Settled.{IsSettled, Leaves, room_of};
 
-use crate::JournalError;
+use crate::{Form, JournalError};
 use sector_disk::{Disk, DiskError};
 use std::alloc::Allocator;
 
@@ -24,6 +25,10 @@ pub struct Place {
     pub end: u64,
     /// The next record's gate.
     pub next: u64,
+    /// The form of the half's records.
+    pub form: Form,
+    /// How many commands were accepted before the next record's.
+    pub count: u64,
 }
 
 impl Place {
@@ -34,7 +39,7 @@ impl Place {
         self.end.saturating_sub(self.next).saturating_sub(2)
     }
 
-    // Adds a record with this text, of commands under the allocator A.
+    // Adds a record with this text, of commands under the allocator A. The caller counts them.
     pub(crate) fn append_text<A: Allocator, D: Disk>(
         &mut self,
         disk: &mut D,
@@ -46,12 +51,12 @@ impl Place {
         requires small { length text.now < 2 ^ 32 }
 
         // A stop at any moment of the call leaves the records from before it, with the new one or without.
-        ensures any_moment { (entries : List (Entry A)) (commands : List (Asked A)) → IsRecord commands → text.now ≡ record_text commands → (D.view disk.old).honest → IsSettled (D.view disk.old) self.old entries
-            → LeavesOnly (D.view disk.old) (D.view disk.new) (Leaves (D.view disk.old) self.old entries (self.old.next + 1, commands)) }
+        ensures any_moment { (before : ℕ) (entries : List (Entry A)) (commands : List (Asked A)) → IsNext self.old commands text.now → (D.view disk.old).honest → IsSettled (D.view disk.old) self.old before entries
+            → LeavesOnly (D.view disk.old) (D.view disk.new) (Leaves (D.view disk.old) self.old before entries (self.old.next + 1, commands)) }
 
         // At `Ok` each stop leaves it.
-        ensures acknowledged { OnOk result ((entries : List (Entry A)) (commands : List (Asked A)) → IsRecord commands → text.now ≡ record_text commands → (D.view disk.old).honest → IsSettled (D.view disk.old) self.old entries
-            → IsSettled (D.view disk.new) self.new (entries ++ (self.old.next + 1, commands) ∷ [])) }
+        ensures acknowledged { OnOk result ((before : ℕ) (entries : List (Entry A)) (commands : List (Asked A)) → IsNext self.old commands text.now → (D.view disk.old).honest → IsSettled (D.view disk.old) self.old before entries
+            → IsSettled (D.view disk.new) (counting self.new commands) before (entries ++ (self.old.next + 1, commands) ∷ [])) }
         ensures durable { (D.view disk.old).honest → OnOk result ((k : ℕ) → (D.view disk.new).pending k ≡ false) }
         ensures elsewhere { (D.view disk.old).honest → OnOk result ((k : ℕ) → (k < self.old.first) ⊎ (self.old.end ≤ k) → sector (D.view disk.new).reads k ≡ sector (D.view disk.old).reads k) }
         ensures next { OnOk result (self.new ≡ record (self.old) { next = self.old.next + data_size text.now + 1 }) }

@@ -1,18 +1,21 @@
 // Reading a half.
-ghost use Rattle.std.specs.Prelude.{◌≡◌, ◌+◌, ◌*◌, ◌-◌, ◌<◌, ◌≤◌, ◌^◌, ℕ, length, IsErr, IsErrOf, OnOk, IfOk, IfSome, option_map, vec_capacity, vec_len};
+ghost use Rattle.std.specs.Prelude.{◌≡◌, ◌+◌, ◌*◌, ◌-◌, ◌<◌, ◌≤◌, ◌^◌, ℕ, length, IsErr, IsErrOf, OnOk, IfOk, IfSome, option_map};
+ghost use Rattle.byteorder.specs.Endian.{big_from};
 ghost use Rattle.sector_disk.specs.Disk.{HasFailed};
 ghost use Rattle.sector_disk.specs.Reading.{before_reads};
 ghost use Rattle.sector_disk.specs.Run.{HasLooked};
 ghost use Rattle.sector_disk.specs.declared.disk.DiskError.TheVariants.{OutOfRange};
 ghost use Rattle.gated_journal.specs.declared.fault.JournalError.TheVariants.{DiskFault, JournalFull, Damaged, NoMemory};
-ghost use Rattle.gated_journal.specs.Half.{bytes_at, data_from, half_of, record_at};
+ghost use Rattle.gated_journal.specs.Half.{bytes_at, counted, data_from, half_of, record_at, told_size};
+ghost use Rattle.gated_journal.specs.Inside.Room.{capacity};
 ghost use Rattle.gated_journal.specs.Reading.{Answers, AreJudged, HasRecord, HasRecords, IsJudged, entries_view, found_view};
-ghost use Rattle.gated_journal.specs.Record.{most_sectors};
+ghost use Rattle.gated_journal.specs.Record.{most_commands, most_sectors};
+ghost use Rattle.gated_journal.specs.Settled.{IsCounted};
 
-use crate::journal::add;
-use crate::record::is_record;
-use crate::{JournalError, decode_record};
-use byteorder::{BigEndian, ByteOrder};
+use crate::record::{count_next, decode_next};
+use crate::record_text::RecordText;
+use crate::{Form, JournalError, Place};
+use bytes::Buf;
 use centre_core::Command;
 use sector_disk::{Disk, DiskError};
 use std::alloc::Allocator;
@@ -27,12 +30,12 @@ fn read_sectors<A: Allocator, D: Disk>(
     at: u64,
     from: u64,
     n: u64,
-    buffer: &mut Vec<u8, A>,
+    buffer: &mut RecordText<A>,
 ) -> Result<(), DiskError>
     requires inside { at + n ≤ (D.view disk.old).sectors }
     requires fits { at + n < 2 ^ 64 }
     requires some { from ≤ n }
-    requires room { vec_len buffer.old + 512 * (n - from) ≤ vec_capacity buffer.old }
+    requires room { length buffer.old.items + 512 * (n - from) ≤ capacity buffer.old }
     ensures effect { (D.view disk.old).honest → HasLooked (D.view disk.old) (D.view disk.new)
         × OnOk result (buffer.old.items ≡ data_from (D.view disk.old).reads at from → buffer.new.items ≡ data_from (D.view disk.old).reads at n) }
     ensures only_reads { before_reads (D.view disk.new).calls ≡ before_reads (D.view disk.old).calls }
@@ -40,57 +43,76 @@ fn read_sectors<A: Allocator, D: Disk>(
     ensures later { (D.view disk.old).failures ≤ (D.view disk.new).failures }
     ensures fault { IsErr result → HasFailed (D.view disk.old) (D.view disk.new) }
     ensures in_range { IsErrOf result OutOfRange → ⊥ }
-    ensures capacity { vec_capacity buffer.old ≤ vec_capacity buffer.new }
+    ensures capacity { capacity buffer.old ≤ capacity buffer.new }
 {
     for k in from..n {
         let mut bytes = [0; 512];
         disk.read(at + k, &mut bytes)?;
-        add(buffer, &bytes);
+        buffer.add(&bytes);
     }
     Ok(())
+}
+
+// The number in the four bytes from a place on.
+fn number_from(bytes: &[u8; 512], at: usize) -> u64
+    requires { at + 4 ≤ 512 }
+    ensures { result ≡ big_from at 4 bytes.now }
+{
+    let mut rest = &bytes[at..];
+    u64::from(rest.get_u32())
+}
+
+// How many data sectors a record takes, as its first data sector tells.
+fn told_size(form: Form, bytes: &[u8; 512]) -> u64
+    ensures { result ≡ told_size form bytes.now }
+{
+    match form {
+        Form::Plain => (number_from(bytes, 2) + 517) / 512,
+        Form::Numbered => (number_from(bytes, 10) + 525) / 512,
+    }
 }
 
 // The bytes of a record's data sectors behind an open gate, and the next gate; `None` at a closed one. Takes no memory.
 #[tactic(auto, unfolding(crate::specs::Half::bytes_at), using(sector_disk::proofs::Reading::one_read))]
 fn read_data<A: Allocator, D: Disk>(
     disk: &mut D,
-    at: u64,
-    end: u64,
-    buffer: &mut Vec<u8, A>,
+    place: &Place,
+    buffer: &mut RecordText<A>,
 ) -> Result<Option<u64>, JournalError>
-    requires before { at < end }
-    requires within { end ≤ (D.view disk.old).sectors }
-    requires room { 512 * most_sectors ≤ vec_capacity buffer.old }
+    requires before { place.now.next < place.now.end }
+    requires within { place.now.end ≤ (D.view disk.old).sectors }
+    requires room { 512 * most_sectors ≤ capacity buffer.old }
     ensures effect { (D.view disk.old).honest → HasLooked (D.view disk.old) (D.view disk.new)
-        × Answers (λ found. option_map (λ next. (buffer.new.items, next)) found) result (bytes_at (D.view disk.old).reads at end) }
+        × Answers (λ found. option_map (λ next. (buffer.new.items, next)) found) result (bytes_at place.now.form (D.view disk.old).reads place.now.next place.now.end) }
     ensures only_reads { before_reads (D.view disk.new).calls ≡ before_reads (D.view disk.old).calls }
     ensures sectors { (D.view disk.new).sectors ≡ (D.view disk.old).sectors }
     ensures later { (D.view disk.old).failures ≤ (D.view disk.new).failures }
     ensures fault { IsErrOf result JournalError.DiskFault → HasFailed (D.view disk.old) (D.view disk.new) }
-    ensures on { IfOk result (λ found. IfSome found (λ next. (at + 1 < next) × (next < end))) }
-    ensures damaged { (s : ℕ) → IsErrOf result (JournalError.Damaged s) → s < end }
+    ensures on { IfOk result (λ found. IfSome found (λ next. (place.now.next + 1 < next) × (next < place.now.end))) }
+    ensures damaged { (s : ℕ) → IsErrOf result (JournalError.Damaged s) → s < place.now.end }
     ensures full { IsErrOf result JournalError.JournalFull → ⊥ }
     ensures memory { IsErrOf result JournalError.NoMemory → ⊥ }
-    ensures capacity { vec_capacity buffer.old ≤ vec_capacity buffer.new }
+    ensures capacity { capacity buffer.old ≤ capacity buffer.new }
 {
+    let at = place.next;
     let mut bytes = [0; 512];
     disk.read(at, &mut bytes)?;
     if bytes[0] != 1 {
         return Ok(None);
     }
-    if at + 1 == end {
+    if at + 1 == place.end {
         return Err(JournalError::Damaged(at));
     }
     disk.read(at + 1, &mut bytes)?;
-    let size = (BigEndian::read_u32(&bytes[2..]) as u64 + 517) / 512;
+    let size = told_size(place.form, &bytes);
     if MOST_SECTORS < size {
         return Err(JournalError::Damaged(at + 1));
     }
-    if end - (at + 1) <= size {
+    if place.end - (at + 1) <= size {
         return Err(JournalError::Damaged(at + 1));
     }
     buffer.clear();
-    add(buffer, &bytes);
+    buffer.add(&bytes);
     read_sectors(disk, at + 1, 1, size, buffer)?;
     Ok(Some(at + 1 + size))
 }
@@ -99,148 +121,152 @@ fn read_data<A: Allocator, D: Disk>(
 pub(crate) fn read_record<A: Allocator + Clone, D: Disk>(
     alloc: A,
     disk: &mut D,
-    at: u64,
-    end: u64,
-    buffer: &mut Vec<u8, A>,
+    place: &Place,
+    buffer: &mut RecordText<A>,
 ) -> Result<Option<(Vec<Command<A>, A>, u64)>, JournalError>
-    requires before { at < end }
-    requires within { end ≤ (D.view disk.old).sectors }
-    requires room { 512 * most_sectors ≤ vec_capacity buffer.old }
-    ensures effect { (D.view disk.old).honest → HasLooked (D.view disk.old) (D.view disk.new) × Answers found_view result (record_at (D.view disk.old).reads at end) }
+    requires before { place.now.next < place.now.end }
+    requires within { place.now.end ≤ (D.view disk.old).sectors }
+    requires counts { IsCounted place.now }
+    requires room { 512 * most_sectors ≤ capacity buffer.old }
+    ensures effect { (D.view disk.old).honest → HasLooked (D.view disk.old) (D.view disk.new) × Answers found_view result (record_at place.now.form place.now.count (D.view disk.old).reads place.now.next place.now.end) }
     ensures only_reads { before_reads (D.view disk.new).calls ≡ before_reads (D.view disk.old).calls }
-    ensures memory { IsErrOf result JournalError.NoMemory → (D.view disk.old).honest → HasRecord A (D.view disk.old).reads at end }
+    ensures memory { IsErrOf result JournalError.NoMemory → (D.view disk.old).honest → HasRecord A place.now.form place.now.count (D.view disk.old).reads place.now.next place.now.end }
     ensures sectors { (D.view disk.new).sectors ≡ (D.view disk.old).sectors }
     ensures later { (D.view disk.old).failures ≤ (D.view disk.new).failures }
     ensures fault { IsErrOf result JournalError.DiskFault → HasFailed (D.view disk.old) (D.view disk.new) }
-    ensures on { IfOk result (λ found. IfSome found (λ x. (at + 1 < x.1) × (x.1 < end))) }
-    ensures damaged { (s : ℕ) → IsErrOf result (JournalError.Damaged s) → s < end }
+    ensures on { IfOk result (λ found. IfSome found (λ x. (place.now.next + 1 < x.1) × (x.1 < place.now.end) × (length x.0.items ≤ most_commands))) }
+    ensures damaged { (s : ℕ) → IsErrOf result (JournalError.Damaged s) → s < place.now.end }
     ensures full { IsErrOf result JournalError.JournalFull → ⊥ }
-    ensures capacity { vec_capacity buffer.old ≤ vec_capacity buffer.new }
+    ensures capacity { capacity buffer.old ≤ capacity buffer.new }
 {
-    let Some(next) = read_data(disk, at, end, buffer)? else {
+    let Some(next) = read_data(disk, place, buffer)? else {
         return Ok(None);
     };
-    match decode_record(alloc, buffer)? {
-        None => Err(JournalError::Damaged(at + 1)),
+    match decode_next(alloc, place.form, place.count, buffer.as_slice())? {
+        None => Err(JournalError::Damaged(place.next + 1)),
         Some(commands) => Ok(Some((commands, next))),
     }
 }
 
-// The gate behind the record at a gate, if one stands there. Takes no memory.
+// How many commands the record at a gate has, and the next gate, if a record stands there. Takes no memory.
 fn judge_record<A: Allocator, D: Disk>(
     disk: &mut D,
-    at: u64,
-    end: u64,
-    buffer: &mut Vec<u8, A>,
-) -> Result<Option<u64>, JournalError>
-    requires before { at < end }
-    requires within { end ≤ (D.view disk.old).sectors }
-    requires room { 512 * most_sectors ≤ vec_capacity buffer.old }
-    ensures effect { (D.view disk.old).honest → HasLooked (D.view disk.old) (D.view disk.new) × IsJudged result (record_at {A = A} (D.view disk.old).reads at end) }
+    place: &Place,
+    buffer: &mut RecordText<A>,
+) -> Result<Option<(u64, u64)>, JournalError>
+    requires before { place.now.next < place.now.end }
+    requires within { place.now.end ≤ (D.view disk.old).sectors }
+    requires counts { IsCounted place.now }
+    requires room { 512 * most_sectors ≤ capacity buffer.old }
+    ensures effect { (D.view disk.old).honest → HasLooked (D.view disk.old) (D.view disk.new) × IsJudged result (record_at {A = A} place.now.form place.now.count (D.view disk.old).reads place.now.next place.now.end) }
     ensures only_reads { before_reads (D.view disk.new).calls ≡ before_reads (D.view disk.old).calls }
     ensures sectors { (D.view disk.new).sectors ≡ (D.view disk.old).sectors }
     ensures later { (D.view disk.old).failures ≤ (D.view disk.new).failures }
     ensures fault { IsErrOf result JournalError.DiskFault → HasFailed (D.view disk.old) (D.view disk.new) }
-    ensures on { IfOk result (λ found. IfSome found (λ next. (at + 1 < next) × (next < end))) }
-    ensures damaged { (s : ℕ) → IsErrOf result (JournalError.Damaged s) → s < end }
+    ensures on { IfOk result (λ found. IfSome found (λ x. (place.now.next + 1 < x.1) × (x.1 < place.now.end) × (x.0 ≤ most_commands))) }
+    ensures damaged { (s : ℕ) → IsErrOf result (JournalError.Damaged s) → s < place.now.end }
     ensures full { IsErrOf result JournalError.JournalFull → ⊥ }
     ensures memory { IsErrOf result JournalError.NoMemory → ⊥ }
-    ensures capacity { vec_capacity buffer.old ≤ vec_capacity buffer.new }
+    ensures capacity { capacity buffer.old ≤ capacity buffer.new }
 {
-    let Some(next) = read_data(disk, at, end, buffer)? else {
+    let Some(next) = read_data(disk, place, buffer)? else {
         return Ok(None);
     };
-    if !is_record::<A>(buffer) {
-        return Err(JournalError::Damaged(at + 1));
-    }
-    Ok(Some(next))
+    let Some(count) = count_next::<A>(place.form, place.count, buffer.as_slice()) else {
+        return Err(JournalError::Damaged(place.next + 1));
+    };
+    Ok(Some((count, next)))
 }
 
-// The records of a half, of each its first data sector and its commands, and the gate behind them.
+// The records from the next gate of a place on, of each its first data sector and its commands, and the place behind them.
 fn read_half<A: Allocator + Clone, D: Disk>(
     alloc: A,
     disk: &mut D,
-    first: u64,
-    end: u64,
-    buffer: &mut Vec<u8, A>,
-) -> Result<(Vec<(u64, Vec<Command<A>, A>), A>, u64), JournalError>
-    requires some { first < end }
-    requires within { end ≤ (D.view disk.old).sectors }
-    requires room { 512 * most_sectors ≤ vec_capacity buffer.old }
-    ensures exact { (D.view disk.old).honest → Answers (λ x. (entries_view x.0.items, x.1)) result (half_of (D.view disk.old).reads first end) }
+    place: &Place,
+    buffer: &mut RecordText<A>,
+) -> Result<(Place, Vec<(u64, Vec<Command<A>, A>), A>), JournalError>
+    requires some { place.now.next < place.now.end }
+    requires within { place.now.end ≤ (D.view disk.old).sectors }
+    requires counts { IsCounted place.now }
+    requires room { 512 * most_sectors ≤ capacity buffer.old }
+    ensures exact { (D.view disk.old).honest → Answers (λ x. (entries_view x.1.items, x.0.next)) result (half_of place.now.form place.now.count (D.view disk.old).reads place.now.next place.now.end) }
     ensures looked { (D.view disk.old).honest → HasLooked (D.view disk.old) (D.view disk.new) }
     ensures only_reads { before_reads (D.view disk.new).calls ≡ before_reads (D.view disk.old).calls }
-    ensures gate { IfOk result (λ x. (first ≤ x.1) × (x.1 < end)) }
+    ensures place { IfOk result (λ x. (x.0.first ≡ place.now.first) × (x.0.end ≡ place.now.end) × (x.0.form ≡ place.now.form) × (place.now.next ≤ x.0.next) × (x.0.next < place.now.end)) }
+    ensures count { IfOk result (λ x. x.0.count ≡ counted place.now.count (entries_view x.1.items)) }
     ensures sectors { (D.view disk.new).sectors ≡ (D.view disk.old).sectors }
     ensures later { (D.view disk.old).failures ≤ (D.view disk.new).failures }
     ensures fault { IsErrOf result JournalError.DiskFault → HasFailed (D.view disk.old) (D.view disk.new) }
-    ensures damaged { (s : ℕ) → IsErrOf result (JournalError.Damaged s) → s < end }
+    ensures damaged { (s : ℕ) → IsErrOf result (JournalError.Damaged s) → s < place.now.end }
     ensures full { IsErrOf result JournalError.JournalFull → ⊥ }
-    ensures capacity { vec_capacity buffer.old ≤ vec_capacity buffer.new }
+    ensures capacity { capacity buffer.old ≤ capacity buffer.new }
 {
     let mut entries = Vec::new(alloc.clone()?);
-    let mut next = first;
-    while let Some((commands, after)) = read_record(alloc.clone()?, disk, next, end, buffer)? {
-        entries.push((next + 1, commands))?;
-        next = after;
+    let mut rest = *place;
+    while let Some((commands, next)) = read_record(alloc.clone()?, disk, &rest, buffer)? {
+        rest.count += commands.len() as u64;
+        entries.push((rest.next + 1, commands))?;
+        rest.next = next;
     }
-    Ok((entries, next))
+    Ok((rest, entries))
 }
 
-// Judges the records of a half. Takes no memory.
+// Judges the records from the next gate of a place on. Takes no memory.
 pub(crate) fn judge_half<A: Allocator, D: Disk>(
     disk: &mut D,
-    first: u64,
-    end: u64,
-    buffer: &mut Vec<u8, A>,
+    place: &Place,
+    buffer: &mut RecordText<A>,
 ) -> Result<(), JournalError>
-    requires some { first < end }
-    requires within { end ≤ (D.view disk.old).sectors }
-    requires room { 512 * most_sectors ≤ vec_capacity buffer.old }
-    ensures exact { (D.view disk.old).honest → AreJudged result (half_of {A = A} (D.view disk.old).reads first end) }
+    requires some { place.now.next < place.now.end }
+    requires within { place.now.end ≤ (D.view disk.old).sectors }
+    requires counts { IsCounted place.now }
+    requires room { 512 * most_sectors ≤ capacity buffer.old }
+    ensures exact { (D.view disk.old).honest → AreJudged result (half_of {A = A} place.now.form place.now.count (D.view disk.old).reads place.now.next place.now.end) }
     ensures looked { (D.view disk.old).honest → HasLooked (D.view disk.old) (D.view disk.new) }
     ensures only_reads { before_reads (D.view disk.new).calls ≡ before_reads (D.view disk.old).calls }
     ensures sectors { (D.view disk.new).sectors ≡ (D.view disk.old).sectors }
     ensures later { (D.view disk.old).failures ≤ (D.view disk.new).failures }
     ensures fault { IsErrOf result JournalError.DiskFault → HasFailed (D.view disk.old) (D.view disk.new) }
-    ensures damaged { (s : ℕ) → IsErrOf result (JournalError.Damaged s) → s < end }
+    ensures damaged { (s : ℕ) → IsErrOf result (JournalError.Damaged s) → s < place.now.end }
     ensures full { IsErrOf result JournalError.JournalFull → ⊥ }
     ensures memory { IsErrOf result JournalError.NoMemory → ⊥ }
-    ensures capacity { vec_capacity buffer.old ≤ vec_capacity buffer.new }
+    ensures capacity { capacity buffer.old ≤ capacity buffer.new }
 {
-    let mut next = first;
-    while let Some(after) = judge_record(disk, next, end, buffer)? {
-        next = after;
+    let mut rest = *place;
+    while let Some((count, next)) = judge_record(disk, &rest, buffer)? {
+        rest.count += count;
+        rest.next = next;
     }
     Ok(())
 }
 
-// The same. Where memory is wanted, the whole half is judged first.
+// Reads these records. Where memory is wanted, all of them are judged first.
 pub(crate) fn read_or_judge<A: Allocator + Clone, D: Disk>(
     alloc: A,
     disk: &mut D,
-    first: u64,
-    end: u64,
-    buffer: &mut Vec<u8, A>,
-) -> Result<(Vec<(u64, Vec<Command<A>, A>), A>, u64), JournalError>
-    requires some { first < end }
-    requires within { end ≤ (D.view disk.old).sectors }
-    requires room { 512 * most_sectors ≤ vec_capacity buffer.old }
-    ensures exact { (D.view disk.old).honest → Answers (λ x. (entries_view x.0.items, x.1)) result (half_of (D.view disk.old).reads first end) }
-    ensures memory { IsErrOf result JournalError.NoMemory → (D.view disk.old).honest → HasRecords A (D.view disk.old).reads first end }
+    place: &Place,
+    buffer: &mut RecordText<A>,
+) -> Result<(Place, Vec<(u64, Vec<Command<A>, A>), A>), JournalError>
+    requires some { place.now.next < place.now.end }
+    requires within { place.now.end ≤ (D.view disk.old).sectors }
+    requires counts { IsCounted place.now }
+    requires room { 512 * most_sectors ≤ capacity buffer.old }
+    ensures exact { (D.view disk.old).honest → Answers (λ x. (entries_view x.1.items, x.0.next)) result (half_of place.now.form place.now.count (D.view disk.old).reads place.now.next place.now.end) }
+    ensures memory { IsErrOf result JournalError.NoMemory → (D.view disk.old).honest → HasRecords A place.now.form place.now.count (D.view disk.old).reads place.now.next place.now.end }
     ensures looked { (D.view disk.old).honest → HasLooked (D.view disk.old) (D.view disk.new) }
     ensures only_reads { before_reads (D.view disk.new).calls ≡ before_reads (D.view disk.old).calls }
-    ensures gate { IfOk result (λ x. (first ≤ x.1) × (x.1 < end)) }
+    ensures place { IfOk result (λ x. (x.0.first ≡ place.now.first) × (x.0.end ≡ place.now.end) × (x.0.form ≡ place.now.form) × (place.now.next ≤ x.0.next) × (x.0.next < place.now.end)) }
+    ensures count { IfOk result (λ x. x.0.count ≡ counted place.now.count (entries_view x.1.items)) }
     ensures sectors { (D.view disk.new).sectors ≡ (D.view disk.old).sectors }
     ensures later { (D.view disk.old).failures ≤ (D.view disk.new).failures }
     ensures fault { IsErrOf result JournalError.DiskFault → HasFailed (D.view disk.old) (D.view disk.new) }
-    ensures damaged { (s : ℕ) → IsErrOf result (JournalError.Damaged s) → s < end }
+    ensures damaged { (s : ℕ) → IsErrOf result (JournalError.Damaged s) → s < place.now.end }
     ensures full { IsErrOf result JournalError.JournalFull → ⊥ }
-    ensures capacity { vec_capacity buffer.old ≤ vec_capacity buffer.new }
+    ensures capacity { capacity buffer.old ≤ capacity buffer.new }
 {
-    match read_half(alloc, disk, first, end, buffer) {
+    match read_half(alloc, disk, place, buffer) {
         Err(JournalError::NoMemory) => {
-            judge_half(disk, first, end, buffer)?;
+            judge_half(disk, place, buffer)?;
             Err(JournalError::NoMemory)
         }
         read => read,

@@ -1,8 +1,10 @@
 // One record's bytes.
-ghost use Rattle.std.specs.Prelude.{◌≡◌, IfOk, IsSome, OnErr, is_some, option_map};
+ghost use Rattle.std.specs.Prelude.{◌≡◌, ◌+◌, ◌<◌, ◌≤◌, ◌^◌, IfOk, IfSome, IsSome, OnErr, is_some, length, option_map};
 ghost use Rattle.std.specs.List.{list_all};
-ghost use Rattle.gated_journal.specs.Record.{commands_in, is_in_range, is_zero, packed_of, record_of};
+ghost use Rattle.gated_journal.specs.Reading.{told_view};
+ghost use Rattle.gated_journal.specs.Record.{commands_in, first_at, follows, is_in_range, is_zero, most_commands, packed_of, record_of, told_of};
 
+use crate::Form;
 use centre_core::Command;
 use command_bytes::{after_first, decode_first, number};
 use std::alloc::{AllocError, Allocator};
@@ -11,7 +13,7 @@ use std::alloc::{AllocError, Allocator};
 const MOST_COMMANDS: u64 = 64;
 
 /// How many bytes a command may have.
-const LONGEST_COMMAND: u64 = 281;
+pub(crate) const LONGEST_COMMAND: u64 = 281;
 
 fn are_zeros(bytes: &[u8]) -> bool
     ensures { result ≡ list_all is_zero bytes.now }
@@ -25,12 +27,46 @@ fn is_in_range(count: u64, size: u64) -> bool
     1 <= count && count <= MOST_COMMANDS && size <= LONGEST_COMMAND * count
 }
 
-// How many commands a record's data sectors tell, and their bytes.
+// What a record's data sectors tell, before its commands are read.
+#[derive(Drop)]
+struct Packed<'a> {
+    count: u64,
+    first: Option<u64>,
+    commands: &'a [u8],
+}
+
+// The number of the first command, where the form has one, and the bytes behind it.
+#[tactic(auto, unfolding(crate::specs::Record::first_at))]
+fn first_at(form: Form, bytes: &[u8]) -> Option<(Option<u64>, &[u8])>
+    ensures { option_map (λ x. (x.0, x.1.now)) result ≡ first_at form bytes.now }
+{
+    match form {
+        Form::Plain => Some((None, bytes)),
+        Form::Numbered => {
+            let (number, rest) = number(bytes, 8)?;
+            Some((Some(number), rest))
+        }
+    }
+}
+
+// May a record that tells this number stand behind so many accepted commands?
+fn follows(before: u64, first: Option<u64>) -> bool
+    requires { before + 1 < 2 ^ 64 }
+    ensures { result ≡ follows before first }
+{
+    match first {
+        None => true,
+        Some(number) => number == before + 1,
+    }
+}
+
+// What a record's data sectors tell.
 #[tactic(auto, unfolding(crate::specs::Record::packed_of))]
-fn packed(bytes: &[u8]) -> Option<(u64, &[u8])>
-    ensures { option_map (λ x. record { count = x.0; bytes = x.1.now }) result ≡ packed_of bytes.now }
+fn packed_of(form: Form, bytes: &[u8]) -> Option<Packed<'_>>
+    ensures { option_map (λ x. record { count = x.count; first = x.first; bytes = x.commands.now }) result ≡ packed_of form bytes.now }
 {
     let (count, rest) = number(bytes, 2)?;
+    let (first, rest) = first_at(form, rest)?;
     let (size, rest) = number(rest, 4)?;
     if !is_in_range(count, size) || (rest.len() as u64) < size {
         return None;
@@ -39,7 +75,11 @@ fn packed(bytes: &[u8]) -> Option<(u64, &[u8])>
     if !are_zeros(filling) {
         return None;
     }
-    Some((count, commands))
+    Some(Packed {
+        count,
+        first,
+        commands,
+    })
 }
 
 // Are these so many commands, one after the other, and no byte behind them?
@@ -80,33 +120,91 @@ fn commands_in<A: Allocator + Clone>(
     }
 }
 
-/// The commands in a record's data sectors, given whole: how many (1 to 64), how many bytes, and they, one after the
-/// other, at most 281 bytes each, with zeros behind the last. `None` where the bytes are not a record's.
-///
-/// `AllocError` comes only where they are.
-pub fn decode_record<A: Allocator + Clone>(
+// The commands of a record. Want of memory stands in no other answer's place.
+fn whole<A: Allocator + Clone>(
     alloc: A,
-    bytes: &[u8],
+    packed: &Packed<'_>,
 ) -> Result<Option<Vec<Command<A>, A>>, AllocError>
-    ensures exact { IfOk result (λ found. option_map (λ commands. commands.items) found ≡ record_of bytes.now) }
-    ensures memory { OnErr result (IsSome (record_of {A = A} bytes.now)) }
+    ensures exact { IfOk result (λ found. option_map (λ commands. commands.items) found ≡ commands_in packed.now.count packed.now.commands.now) }
+    ensures memory { OnErr result (IsSome (commands_in {A = A} packed.now.count packed.now.commands.now)) }
 {
-    let Some((count, commands)) = packed(bytes) else {
-        return Ok(None);
-    };
-    match commands_in(alloc, count, commands) {
-        // Want of memory stands in no other answer's place.
-        Err(AllocError) if !are_commands::<A>(count, commands) => Ok(None),
+    match commands_in(alloc, packed.count, packed.commands) {
+        Err(AllocError) if !are_commands::<A>(packed.count, packed.commands) => Ok(None),
         found => found,
     }
 }
 
-/// Whether the data sectors of a record, given whole, hold one, as `decode_record` gives it. Takes no memory.
-pub(crate) fn is_record<A: Allocator>(bytes: &[u8]) -> bool
-    ensures { result ≡ is_some (record_of {A = A} bytes.now) }
+// How many commands of a record there are, where all of them are commands. Takes no memory.
+fn count_of<A: Allocator>(packed: &Packed<'_>) -> Option<u64>
+    ensures { result ≡ option_map (λ commands. length commands) (commands_in {A = A} packed.now.count packed.now.commands.now) }
 {
-    match packed(bytes) {
-        Some((count, commands)) => are_commands::<A>(count, commands),
-        None => false,
+    if are_commands::<A>(packed.count, packed.commands) {
+        Some(packed.count)
+    } else {
+        None
+    }
+}
+
+/// A record as its bytes tell it.
+#[derive(Drop)]
+pub struct Record<A: Allocator> {
+    /// The number of its first command, where the form has one: how many commands were accepted with it.
+    pub first: Option<u64>,
+    /// Its commands, 1 to 64, in order.
+    pub commands: Vec<Command<A>, A>,
+}
+
+/// The record of this form in its data sectors, given whole: how many commands (1 to 64), the number of the first one in
+/// layout 2, how many bytes they take, and they, one after the other, at most 281 bytes each, with zeros behind the last.
+/// `None` where the bytes are not a record's.
+///
+/// `AllocError` comes only where they are. Whether the number follows those of earlier records is told by reading a half.
+pub fn decode_record<A: Allocator + Clone>(
+    alloc: A,
+    form: Form,
+    bytes: &[u8],
+) -> Result<Option<Record<A>>, AllocError>
+    ensures exact { IfOk result (λ found. option_map told_view found ≡ told_of form bytes.now) }
+    ensures memory { OnErr result (IsSome (told_of {A = A} form bytes.now)) }
+{
+    let Some(packed) = packed_of(form, bytes) else {
+        return Ok(None);
+    };
+    let Some(commands) = whole(alloc, &packed)? else {
+        return Ok(None);
+    };
+    Ok(Some(Record {
+        first: packed.first,
+        commands,
+    }))
+}
+
+/// The commands of the record in these data sectors, given whole, where its number follows so many accepted commands.
+pub(crate) fn decode_next<A: Allocator + Clone>(
+    alloc: A,
+    form: Form,
+    before: u64,
+    bytes: &[u8],
+) -> Result<Option<Vec<Command<A>, A>>, AllocError>
+    requires { before + 1 < 2 ^ 64 }
+    ensures exact { IfOk result (λ found. option_map (λ commands. commands.items) found ≡ record_of form before bytes.now) }
+    ensures few { IfOk result (λ found. IfSome found (λ commands. length commands.items ≤ most_commands)) }
+    ensures memory { OnErr result (IsSome (record_of {A = A} form before bytes.now)) }
+{
+    match packed_of(form, bytes) {
+        Some(packed) if follows(before, packed.first) => whole(alloc, &packed),
+        _ => Ok(None),
+    }
+}
+
+/// How many commands `decode_next` finds. Takes no memory.
+pub(crate) fn count_next<A: Allocator>(form: Form, before: u64, bytes: &[u8]) -> Option<u64>
+    requires { before + 1 < 2 ^ 64 }
+    ensures exact { result ≡ option_map (λ commands. length commands) (record_of {A = A} form before bytes.now) }
+    ensures few { IfSome result (λ count. count ≤ most_commands) }
+{
+    match packed_of(form, bytes) {
+        Some(packed) if follows(before, packed.first) => count_of::<A>(&packed),
+        _ => None,
     }
 }

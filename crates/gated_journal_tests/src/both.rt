@@ -1,15 +1,23 @@
-//! One record added to two halves of a disk: those of the worked disk, from 589 and from 628, 39 sectors each.
-ghost use Rattle.std.specs.Prelude.{◌≡◌, ◌≤◌, length};
+//! One record added to two halves of a disk: those of the worked disk, from 589 and from 628, 39 sectors each. The records of the second half
+//! tell the number of their first command.
+ghost use Rattle.std.specs.Prelude.{◌≡◌, ◌≤◌, ◌<◌, length};
+ghost use Rattle.gated_journal.specs.Settled.{IsCounted};
+ghost use Rattle.gated_journal.specs.declared.form.Form.TheVariants.{Numbered, Plain};
 
 use crate::made;
 use centre_core::Command;
-use gated_journal::{Journal, JournalError};
+use gated_journal::{Form, Journal, JournalError, Place};
 use sector_disk::{Disk, DiskError, Failing, FailingDisk, MemoryDisk};
 use std::alloc::{AllocError, Global};
 use std::test::Fail;
 
 /// The front of the data sector of a record of an expiry.
 const EXPIRY_TEXT: [u8; 17] = [0, 1, 0, 0, 0, 11, 0, 1, 0, 0, 0, 3, 0, 0, 0, 11, 6];
+
+/// The same with the number of its first command, the eleventh of all.
+const ELEVENTH_TEXT: [u8; 25] = [
+    0, 1, 0, 0, 0, 0, 0, 0, 0, 11, 0, 0, 0, 11, 0, 1, 0, 0, 0, 3, 0, 0, 0, 11, 6,
+];
 
 /// A record as it is read: its first data sector and its commands.
 type Entry = (u64, Vec<Command<Global>>);
@@ -30,6 +38,8 @@ fn add_both<D: Disk>(
     requires first { first.old.end ≡ 628 }
     requires second { second.old.first ≡ 628 }
     requires end { second.old.end ≡ 667 }
+    requires count { first.old.count ≤ 100 }
+    requires second_count { second.old.count ≤ 100 }
     requires some { 1 ≤ length commands.now }
     requires few { length commands.now ≤ 64 }
 {
@@ -45,10 +55,12 @@ fn add_ten<D: Disk>(
     disk: &mut D,
     command: &Command<Global>,
 ) -> Result<(), JournalError>
-    requires { first.old.end ≡ 628 }
-    ensures { first.new.end ≡ 628 }
+    requires end { first.old.end ≡ 628 }
+    requires count { first.old.count ≡ 0 }
+    ensures end { first.new.end ≡ 628 }
+    ensures count { first.new.count ≤ 100 }
 {
-    for _ in 0..10 {
+    for _ in 0..10u64 {
         if disk.sectors() < 667 {
             return Err(JournalError::JournalFull);
         }
@@ -63,8 +75,8 @@ fn eleven<D: Disk>(
     disk: &mut D,
     command: &Command<Global>,
 ) -> Result<(Result<(), JournalError>, [u64; 2]), AllocError> {
-    let mut first = Journal::start(alloc, 589, 39)?;
-    let mut second = Journal::start(alloc, 628, 39)?;
+    let mut first = Journal::start(alloc, 589, 39, Form::Plain, 0)?;
+    let mut second = Journal::start(alloc, 628, 39, Form::Numbered, 10)?;
     let added = match add_ten(&mut first, disk, command) {
         Ok(()) => add_both(&mut first, &mut second, disk, &[command]),
         fault => fault,
@@ -72,14 +84,33 @@ fn eleven<D: Disk>(
     Ok((added, [first.room(), second.room()]))
 }
 
-/// How many records a half of 39 sectors has, the first data sector of the last one, and how many commands it has.
-fn last_of<D: Disk>(alloc: Global, disk: &mut D, first: u32) -> Option<(usize, u64, usize)> {
-    let first = u64::from(first);
-    if disk.sectors() < first + 39 {
+/// How many records a half has, the first data sector of the last one, and how many commands it has.
+fn last_of<D: Disk>(alloc: Global, disk: &mut D, place: Place) -> Option<(usize, u64, usize)>
+    requires up { place.first ≤ place.next }
+    requires some { place.next < place.end }
+    requires counts { IsCounted place }
+{
+    if disk.sectors() < place.end {
         return None;
     }
-    let (_, records) = Journal::replay(alloc, disk, first, 39).ok()?;
+    let (_, records) = Journal::replay(alloc, disk, place).ok()?;
     told(&records)
+}
+
+/// The half of the plain records, and that of the numbered ones, behind ten commands.
+fn first_half() -> Place
+    ensures { result ≡ record { first = 589; end = 628; next = 589; form = Plain; count = 0 } }
+{
+    made::place(589, 39, Form::Plain)
+}
+
+fn second_half() -> Place
+    ensures { result ≡ record { first = 628; end = 667; next = 628; form = Numbered; count = 10 } }
+{
+    Place {
+        count: 10,
+        ..made::place(628, 39, Form::Numbered)
+    }
 }
 
 fn told(records: &[Entry]) -> Option<(usize, u64, usize)> {
@@ -92,7 +123,7 @@ fn told(records: &[Entry]) -> Option<(usize, u64, usize)> {
 /// Whether the eleventh record is in both halves: its text at 610 and at 629, its gate at 609 and at 628, with a closed
 /// gate behind each text.
 fn is_in_both<D: Disk>(disk: &mut D) -> Result<bool, DiskError> {
-    let texts = begins(disk, 610, &EXPIRY_TEXT)? && begins(disk, 629, &EXPIRY_TEXT)?;
+    let texts = begins(disk, 610, &EXPIRY_TEXT)? && begins(disk, 629, &ELEVENTH_TEXT)?;
     let gates = begins(disk, 609, &[1, 0])? && begins(disk, 628, &[1, 0])?;
     Ok(texts && gates && begins(disk, 611, &[0; 512])? && begins(disk, 630, &[0; 512])?)
 }
@@ -102,8 +133,8 @@ fn are_added(alloc: Global, expiry: &Command<Global>) -> Result<bool, AllocError
     let (added, rooms) = eleven(alloc, &mut disk, expiry)?;
     let durable = disk.pending(alloc)?.is_empty();
     let there = is_in_both(&mut disk) == Ok(true);
-    let first = last_of(alloc, &mut disk, 589) == Some((11, 610, 1));
-    let second = last_of(alloc, &mut disk, 628) == Some((1, 629, 1));
+    let first = last_of(alloc, &mut disk, first_half()) == Some((11, 610, 1));
+    let second = last_of(alloc, &mut disk, second_half()) == Some((1, 629, 1));
     Ok(added.is_ok() && rooms == [15, 35] && durable && there && first && second)
 }
 
@@ -118,11 +149,11 @@ fn one_record_in_both_halves(rt: HostRuntime) -> Result<(), Fail> {
 fn longest_are_added(alloc: Global) -> Result<bool, Fail> {
     let longest = made::longest(alloc).ok_or("a short data PDU")?;
     let mut disk = MemoryDisk::new(alloc, 667, 199)?;
-    let mut first = Journal::start(alloc, 589, 39)?;
-    let mut second = Journal::start(alloc, 628, 39)?;
+    let mut first = Journal::start(alloc, 589, 39, Form::Plain, 0)?;
+    let mut second = Journal::start(alloc, 628, 39, Form::Numbered, 10)?;
     let added = add_both(&mut first, &mut second, &mut disk, &[&longest; 64]);
-    let one = last_of(alloc, &mut disk, 589) == Some((1, 590, 64));
-    let other = last_of(alloc, &mut disk, 628) == Some((1, 629, 64));
+    let one = last_of(alloc, &mut disk, first_half()) == Some((1, 590, 64));
+    let other = last_of(alloc, &mut disk, second_half()) == Some((1, 629, 64));
     Ok(added.is_ok() && one && other)
 }
 
@@ -210,8 +241,8 @@ fn is_safe(
     let second = call == 9 || (call == 8 && bytes[1] == 1);
     let ten = if first { (11, 610, 1) } else { (10, 608, 1) };
     let one = if second { (1, 629, 1) } else { (0, 0, 0) };
-    let are_first = last_of(alloc, &mut left, 589) == Some(ten);
-    Ok(are_first && last_of(alloc, &mut left, 628) == Some(one))
+    let are_first = last_of(alloc, &mut left, first_half()) == Some(ten);
+    Ok(are_first && last_of(alloc, &mut left, second_half()) == Some(one))
 }
 
 const BYTES: [[u8; 2]; 5] = [[0, 0], [1, 1], [1, 0], [0, 1], [77, 255]];

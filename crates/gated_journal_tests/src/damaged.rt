@@ -1,6 +1,7 @@
 //! Halves that no journal left: each is read up to the first sector at fault, and that is told.
 
-use gated_journal::{Journal, JournalError, decode_record};
+use crate::made;
+use gated_journal::{Form, Journal, JournalError, decode_record};
 use linked_list_allocator::LocalHeap;
 use sector_disk::{Disk, DiskError, MemoryDisk};
 use std::alloc::{AllocError, Global};
@@ -211,7 +212,10 @@ fn is_read<D: Disk>(alloc: Global, disk: &mut D, row: &Row) -> bool {
     if stands(disk, row).is_err() || disk.sectors() < 4 {
         return false;
     }
-    match (Journal::replay(alloc, disk, 0, 4), row.want) {
+    match (
+        Journal::replay(alloc, disk, made::place(0, 4, Form::Plain)),
+        row.want,
+    ) {
         (Ok((_, records)), Ok(count)) => records.len() == count,
         (Err(JournalError::Damaged(at)), Err(fault)) => at == fault,
         _ => false,
@@ -223,7 +227,7 @@ fn is_judged<D: Disk>(alloc: Global, disk: &mut D, row: &Row) -> bool {
     if disk.sectors() < 4 {
         return false;
     }
-    let Ok(mut journal) = Journal::start(alloc, 0, 4) else {
+    let Ok(mut journal) = Journal::start(alloc, 0, 4, Form::Plain, 0) else {
         return false;
     };
     match (journal.judge_rest(disk), row.want) {
@@ -257,7 +261,7 @@ fn is_last_damaged(alloc: Global) -> Result<bool, AllocError> {
         return Ok(false);
     }
     Ok(matches!(
-        Journal::replay(alloc, &mut disk, 0, 1),
+        Journal::replay(alloc, &mut disk, made::place(0, 1, Form::Plain)),
         Err(JournalError::Damaged(0))
     ))
 }
@@ -288,7 +292,7 @@ fn first_misread(alloc: Global) -> Result<Option<usize>, AllocError> {
         let Some(bytes) = sector.get(..len) else {
             return Ok(Some(k));
         };
-        let found = decode_record(alloc, bytes)?.map(|commands| commands.len());
+        let found = decode_record(alloc, Form::Plain, bytes)?.map(|record| record.commands.len());
         if found != want {
             return Ok(Some(k));
         }
@@ -311,7 +315,7 @@ fn first_wrongly_refused(alloc: Global) -> Result<Option<usize>, Fail> {
         let Some(bytes) = sector.get(..len) else {
             return Ok(Some(k));
         };
-        let told = match decode_record(&heap, bytes) {
+        let told = match decode_record(&heap, Form::Plain, bytes) {
             Ok(found) => found.is_none() && want.is_none(),
             Err(_) => want.is_some(),
         };

@@ -1,10 +1,10 @@
 //! Heaps of rising size: each growth of a replay is refused in turn, all memory comes back, and then another replay gives
 //! all.
-ghost use Rattle.std.specs.Prelude.{◌≡◌};
+ghost use Rattle.std.specs.Prelude.{◌≡◌, ◌≤◌, ◌+◌};
 
 use crate::made;
 use centre_core::Command;
-use gated_journal::{Journal, JournalError};
+use gated_journal::{Form, Journal, JournalError};
 use linked_list_allocator::LocalHeap;
 use sector_disk::{Disk, MemoryDisk};
 use std::alloc::Global;
@@ -12,7 +12,10 @@ use std::test::Fail;
 
 /// Adds three records of one location update.
 fn are_added<D: Disk>(alloc: Global, disk: &mut D) -> bool {
-    let (Ok(mut journal), Some(update)) = (Journal::start(alloc, 0, 9), made::update(alloc)) else {
+    let (Ok(mut journal), Some(update)) = (
+        Journal::start(alloc, 0, 9, Form::Plain, 0),
+        made::update(alloc),
+    ) else {
         return false;
     };
     add(&mut journal, disk, &update)
@@ -21,8 +24,10 @@ fn are_added<D: Disk>(alloc: Global, disk: &mut D) -> bool {
 }
 
 fn add<D: Disk>(journal: &mut Journal<Global>, disk: &mut D, command: &Command<Global>) -> bool
-    requires { journal.old.end ≡ 9 }
-    ensures { journal.new.end ≡ 9 }
+    requires end { journal.old.end ≡ 9 }
+    requires count { journal.old.count ≤ 100 }
+    ensures end { journal.new.end ≡ 9 }
+    ensures count { journal.new.count ≤ journal.old.count + 1 }
 {
     disk.sectors() >= 9 && journal.append(disk, &[command]).is_ok()
 }
@@ -32,7 +37,7 @@ fn are_read<'a, D: Disk>(heap: &'a LocalHeap, disk: &mut D) -> Option<bool> {
     if disk.sectors() < 9 {
         return Some(false);
     }
-    match Journal::replay(heap, disk, 0, 9) {
+    match Journal::replay(heap, disk, made::place(0, 9, Form::Plain)) {
         Ok((_, records)) => Some(records.len() == 3),
         Err(fault) => (fault != JournalError::NoMemory).then_some(false),
     }
@@ -68,6 +73,6 @@ fn each_growth_is_refused_in_turn(rt: HostRuntime) -> Result<(), Fail> {
 #[test]
 fn a_small_heap_starts_no_journal(rt: HostRuntime) -> Result<(), Fail> {
     let heap = LocalHeap::new(rt.alloc(), 1_000)?;
-    assert!(rt; Journal::start(&heap, 0, 39).is_err());
+    assert!(rt; Journal::start(&heap, 0, 39, Form::Plain, 0).is_err());
     Ok(())
 }

@@ -10,4 +10,6 @@ mod growths;
 #[cfg(test)]
 mod made;
 #[cfg(test)]
+mod numbered;
+#[cfg(test)]
 mod records;

@@ -1,11 +1,28 @@
 //! The commands of the tests.
 
+ghost use Rattle.std.specs.Prelude.{◌≡◌, ◌+◌};
+
 use centre_core::{Body, Command, Sequence};
+use gated_journal::{Form, Place};
 use identity::{BitWriter, Itsi, Prefix};
 use mailbox::Moment;
 use mm_pdus::Lifetime;
 use registration::{LocationArea, Rule, Station};
 use std::alloc::Global;
+
+/// The first gate of a half, behind no command.
+pub fn place(first: u32, sectors: u32, form: Form) -> Place
+    ensures { result ≡ record { first = first; end = first + sectors; next = first; form = form; count = 0 } }
+{
+    let first = u64::from(first);
+    Place {
+        first,
+        end: first + u64::from(sectors),
+        next: first,
+        form,
+        count: 0,
+    }
+}
 
 /// A command of station 1.
 fn made(sequence: u32, moment: Moment, body: Body<Global>) -> Option<Command<Global>> {

@@ -1,9 +1,9 @@
 //! Records that are written and read back.
-ghost use Rattle.std.specs.Prelude.{◌≡◌, ◌≤◌, length};
+ghost use Rattle.std.specs.Prelude.{◌≡◌, ◌≤◌, ◌+◌, length};
 
 use crate::made;
 use centre_core::{Body, Command};
-use gated_journal::{Journal, JournalError};
+use gated_journal::{Form, Journal, JournalError};
 use sector_disk::{Disk, DiskError, Failing, FailingDisk, MemoryDisk};
 use std::alloc::{AllocError, Global};
 use std::test::Fail;
@@ -14,8 +14,17 @@ const RULE_TEXT: [u8; 33] = [
     0x63, 1, 0, 0, 0x0e, 0x10,
 ];
 
+/// The same with the number of its first command, the first of all.
+const NUMBERED_TEXT: [u8; 41] = [
+    0, 1, 0, 0, 0, 0, 0, 0, 0, 1, 0, 0, 0, 27, 0, 1, 0, 0, 0, 1, 0, 0, 0, 0, 1, 0x18, 0x3a, 0x80,
+    0x0e, 0, 0, 0, 0, 1, 0, 0x63, 1, 0, 0, 0x0e, 0x10,
+];
+
 /// The first bytes of a record of 27, 23 and 11 bytes.
 const THREE_HEAD: [u8; 6] = [0, 3, 0, 0, 0, 61];
+
+/// The same with the number of its first command, the first of all.
+const NUMBERED_HEAD: [u8; 14] = [0, 3, 0, 0, 0, 0, 0, 0, 0, 1, 0, 0, 0, 61];
 
 fn begins<D: Disk>(disk: &mut D, at: u64, head: &[u8]) -> Result<bool, DiskError> {
     let mut bytes = [7; 512];
@@ -27,11 +36,11 @@ fn begins<D: Disk>(disk: &mut D, at: u64, head: &[u8]) -> Result<bool, DiskError
 type Entry = (u64, Vec<Command<Global>>);
 
 /// Whether a half of 39 sectors is read as these: of each the first data sector, how many commands, and the last one's sequence.
-fn reads_as<D: Disk>(alloc: Global, disk: &mut D, want: &[(u64, usize, u32)]) -> bool {
+fn reads_as<D: Disk>(alloc: Global, disk: &mut D, form: Form, want: &[(u64, usize, u32)]) -> bool {
     if disk.sectors() < 39 {
         return false;
     }
-    match Journal::replay(alloc, disk, 0, 39) {
+    match Journal::replay(alloc, disk, made::place(0, 39, form)) {
         Ok((_, records)) => are(&records, want),
         Err(_) => false,
     }
@@ -60,8 +69,10 @@ fn add<D: Disk>(
     disk: &mut D,
     command: &Command<Global>,
 ) -> Result<(), JournalError>
-    requires { journal.old.end ≡ 39 }
-    ensures { journal.new.end ≡ 39 }
+    requires end { journal.old.end ≡ 39 }
+    requires count { journal.old.count ≤ 100 }
+    ensures end { journal.new.end ≡ 39 }
+    ensures count { journal.new.count ≤ journal.old.count + 1 }
 {
     if disk.sectors() < 39 {
         return Err(JournalError::NoMemory);
@@ -70,11 +81,11 @@ fn add<D: Disk>(
 }
 
 /// Whether a half of 39 sectors is read as one record of a rule's command.
-fn reads_the_rule<D: Disk>(alloc: Global, disk: &mut D) -> bool {
+fn reads_the_rule<D: Disk>(alloc: Global, disk: &mut D, form: Form) -> bool {
     if disk.sectors() < 39 {
         return false;
     }
-    match Journal::replay(alloc, disk, 0, 39) {
+    match Journal::replay(alloc, disk, made::place(0, 39, form)) {
         Ok((_, records)) => records.len() == 1
             && records[0].1.len() == 1
             && is_the_rule(&records[0].1[0]),
@@ -102,31 +113,42 @@ fn one_is_recorded<D: Disk>(
     alloc: Global,
     disk: &mut D,
     rule: &Command<Global>,
+    form: Form,
 ) -> Result<bool, AllocError> {
-    let mut journal = Journal::start(alloc, 0, 39)?;
+    let mut journal = Journal::start(alloc, 0, 39, form, 0)?;
     let before = journal.room() == 37;
     let added = add(&mut journal, disk, rule).is_ok() && journal.room() == 35;
-    Ok(before && added && reads_the_rule(alloc, disk))
+    Ok(before && added && reads_the_rule(alloc, disk, form))
 }
 
-fn stands<D: Disk>(disk: &mut D) -> Result<bool, DiskError> {
-    Ok(begins(disk, 0, &[1])? && begins(disk, 1, &RULE_TEXT)? && begins(disk, 2, &[0; 512])?)
+fn stands<D: Disk>(disk: &mut D, text: &[u8]) -> Result<bool, DiskError> {
+    Ok(begins(disk, 0, &[1])? && begins(disk, 1, text)? && begins(disk, 2, &[0; 512])?)
+}
+
+fn is_recorded(
+    alloc: Global,
+    rule: &Command<Global>,
+    form: Form,
+    text: &[u8],
+) -> Result<bool, AllocError> {
+    let mut disk = MemoryDisk::new(alloc, 39, 99)?;
+    Ok(one_is_recorded(alloc, &mut disk, rule, form)? && stands(&mut disk, text) == Ok(true))
 }
 
 #[test]
 fn one_command_in_one_record(rt: HostRuntime) -> Result<(), Fail> {
     let rule = made::rule().ok_or("a rule")?;
-    let mut disk = MemoryDisk::new(rt.alloc(), 39, 99)?;
-    assert!(rt; one_is_recorded(rt.alloc(), &mut disk, &rule)? && stands(&mut disk) == Ok(true));
+    assert!(rt; is_recorded(rt.alloc(), &rule, Form::Plain, &RULE_TEXT)?);
+    assert!(rt; is_recorded(rt.alloc(), &rule, Form::Numbered, &NUMBERED_TEXT)?);
     Ok(())
 }
 
 /// Whether a journal that begins anew judges what is there, reads the one record of a rule's command, and stays at the closed gate.
-fn goes_through<D: Disk>(alloc: Global, disk: &mut D) -> Option<bool> {
+fn goes_through<D: Disk>(alloc: Global, disk: &mut D, form: Form) -> Option<bool> {
     if disk.sectors() < 39 {
         return None;
     }
-    let mut journal = Journal::start(alloc, 0, 39).ok()?;
+    let mut journal = Journal::start(alloc, 0, 39, form, 0).ok()?;
     journal.judge_rest(disk).ok()?;
     let (at, commands) = journal.read_next(alloc, disk).ok()??;
     let is_read = at == 1 && commands.len() == 1 && is_the_rule(&commands[0]);
@@ -138,8 +160,11 @@ fn goes_through<D: Disk>(alloc: Global, disk: &mut D) -> Option<bool> {
 fn records_are_read_one_by_one(rt: HostRuntime) -> Result<(), Fail> {
     let rule = made::rule().ok_or("a rule")?;
     let mut disk = MemoryDisk::new(rt.alloc(), 39, 99)?;
-    assert!(rt; one_is_recorded(rt.alloc(), &mut disk, &rule)?);
-    assert_eq!(rt; goes_through(rt.alloc(), &mut disk), Some(true));
+    assert!(rt; one_is_recorded(rt.alloc(), &mut disk, &rule, Form::Numbered)?);
+    assert_eq!(rt;
+        goes_through(rt.alloc(), &mut disk, Form::Numbered),
+        Some(true)
+    );
     Ok(())
 }
 
@@ -149,10 +174,12 @@ fn is_filled<D: Disk>(
     disk: &mut D,
     command: &Command<Global>,
 ) -> bool
-    requires { journal.old.end ≡ 39 }
-    ensures { journal.new.end ≡ 39 }
+    requires end { journal.old.end ≡ 39 }
+    requires count { journal.old.count ≡ 0 }
+    ensures end { journal.new.end ≡ 39 }
+    ensures count { journal.new.count ≤ 100 }
 {
-    for _ in 0..19 {
+    for _ in 0..19u64 {
         if add(journal, disk, command).is_err() {
             return false;
         }
@@ -171,11 +198,11 @@ fn nineteen(alloc: Global) -> Result<Vec<(u64, usize, u32)>, AllocError> {
 
 fn is_full(alloc: Global, command: &Command<Global>) -> Result<bool, AllocError> {
     let mut disk = MemoryDisk::new(alloc, 39, 199)?;
-    let mut journal = Journal::start(alloc, 0, 39)?;
+    let mut journal = Journal::start(alloc, 0, 39, Form::Plain, 0)?;
     let filled = is_filled(&mut journal, &mut disk, command);
     let refused = add(&mut journal, &mut disk, command) == Err(JournalError::JournalFull);
     let untouched = disk.pending(alloc)?.is_empty() && journal.room() == 0;
-    Ok(filled && refused && untouched && reads_as(alloc, &mut disk, &nineteen(alloc)?))
+    Ok(filled && refused && untouched && reads_as(alloc, &mut disk, Form::Plain, &nineteen(alloc)?))
 }
 
 #[test]
@@ -188,13 +215,13 @@ fn a_full_journal_writes_nothing(rt: HostRuntime) -> Result<(), Fail> {
 /// What a stop leaves of one record whose gate was written and not synced: byte 0 of the gate, and whether the record counts.
 fn counts(alloc: Global, rule: &Command<Global>, gate: u8) -> Result<bool, AllocError> {
     let mut disk = FailingDisk::new(MemoryDisk::new(alloc, 39, 99)?, 5, Failing::Once);
-    let mut journal = Journal::start(alloc, 0, 39)?;
+    let mut journal = Journal::start(alloc, 0, 39, Form::Plain, 0)?;
     let failed = add(&mut journal, &mut disk, rule) == Err(JournalError::DiskFault);
     let mut disk = disk.into_inner().crash(&[(0, [gate; 512])]);
     if gate == 1 {
-        Ok(failed && reads_the_rule(alloc, &mut disk))
+        Ok(failed && reads_the_rule(alloc, &mut disk, Form::Plain))
     } else {
-        Ok(failed && reads_as(alloc, &mut disk, &[]))
+        Ok(failed && reads_as(alloc, &mut disk, Form::Plain, &[]))
     }
 }
 
@@ -212,64 +239,74 @@ fn a_record_counts_once_its_gate_is_open(rt: HostRuntime) -> Result<(), Fail> {
 fn are_recorded<D: Disk>(
     alloc: Global,
     disk: &mut D,
+    form: Form,
     commands: &[&Command<Global>],
 ) -> Result<bool, AllocError>
     requires some { 1 ≤ length commands.now }
     requires few { length commands.now ≤ 64 }
 {
-    let mut journal = Journal::start(alloc, 0, 39)?;
+    let mut journal = Journal::start(alloc, 0, 39, form, 0)?;
     Ok(disk.sectors() >= 39 && journal.append(disk, commands).is_ok())
 }
 
-fn three_are_recorded(alloc: Global) -> Result<bool, Fail> {
+fn three_are_recorded(alloc: Global, form: Form, head: &[u8]) -> Result<bool, Fail> {
     let rule = made::rule().ok_or("a rule")?;
     let update = made::update(alloc).ok_or("an update")?;
     let expiry = made::expiry().ok_or("an expiry")?;
     let mut disk = MemoryDisk::new(alloc, 39, 99)?;
-    let added = are_recorded(alloc, &mut disk, &[&rule, &update, &expiry])?;
-    let begun = begins(&mut disk, 1, &THREE_HEAD) == Ok(true);
-    Ok(added && begun && reads_as(alloc, &mut disk, &[(1, 3, 3)]))
+    let added = are_recorded(alloc, &mut disk, form, &[&rule, &update, &expiry])?;
+    let begun = begins(&mut disk, 1, head) == Ok(true);
+    Ok(added && begun && reads_as(alloc, &mut disk, form, &[(1, 3, 3)]))
 }
 
 #[test]
 fn three_commands_in_one_record(rt: HostRuntime) -> Result<(), Fail> {
-    assert!(rt; three_are_recorded(rt.alloc())?);
+    assert!(rt; three_are_recorded(rt.alloc(), Form::Plain, &THREE_HEAD)?);
+    assert!(rt; three_are_recorded(rt.alloc(), Form::Numbered, &NUMBERED_HEAD)?);
     Ok(())
 }
 
 /// Whether 64 of the longest commands are added, and read back.
-fn longest_are_recorded(alloc: Global) -> Result<bool, Fail> {
+fn longest_are_recorded(alloc: Global, form: Form) -> Result<bool, Fail> {
     let longest = made::longest(alloc).ok_or("a short data PDU")?;
     let mut disk = MemoryDisk::new(alloc, 39, 199)?;
-    let added = are_recorded(alloc, &mut disk, &[&longest; 64])?;
-    Ok(added && reads_as(alloc, &mut disk, &[(1, 64, 4)]))
+    let added = are_recorded(alloc, &mut disk, form, &[&longest; 64])?;
+    Ok(added && reads_as(alloc, &mut disk, form, &[(1, 64, 4)]))
 }
 
 #[test]
 fn the_longest_commands_take_36_sectors(rt: HostRuntime) -> Result<(), Fail> {
-    assert!(rt; longest_are_recorded(rt.alloc())?);
+    assert!(rt; longest_are_recorded(rt.alloc(), Form::Plain)?);
+    assert!(rt; longest_are_recorded(rt.alloc(), Form::Numbered)?);
     Ok(())
 }
 
 /// Whether a half of so many sectors has room for a record of these.
-fn has_room(alloc: Global, sectors: u32, commands: &[&Command<Global>]) -> Result<bool, AllocError>
+fn has_room(
+    alloc: Global,
+    sectors: u32,
+    form: Form,
+    commands: &[&Command<Global>],
+) -> Result<bool, AllocError>
     requires { length commands.now ≤ 64 }
 {
-    let journal = Journal::start(alloc, 0, u64::from(sectors))?;
+    let journal = Journal::start(alloc, 0, u64::from(sectors), form, 0)?;
     Ok(journal.has_room(commands))
 }
 
 /// One short command takes one data sector, and 64 of the longest take 36; two more are gates.
-fn is_room_told(alloc: Global) -> Result<bool, Fail> {
+fn is_room_told(alloc: Global, form: Form) -> Result<bool, Fail> {
     let expiry = made::expiry().ok_or("an expiry")?;
     let longest = made::longest(alloc).ok_or("a short data PDU")?;
-    let short = has_room(alloc, 3, &[&expiry])? && !has_room(alloc, 2, &[&expiry])?;
-    let long = has_room(alloc, 38, &[&longest; 64])? && !has_room(alloc, 37, &[&longest; 64])?;
+    let short = has_room(alloc, 3, form, &[&expiry])? && !has_room(alloc, 2, form, &[&expiry])?;
+    let long = has_room(alloc, 38, form, &[&longest; 64])?
+        && !has_room(alloc, 37, form, &[&longest; 64])?;
     Ok(short && long)
 }
 
 #[test]
 fn room_is_told_before_an_append(rt: HostRuntime) -> Result<(), Fail> {
-    assert!(rt; is_room_told(rt.alloc())?);
+    assert!(rt; is_room_told(rt.alloc(), Form::Plain)?);
+    assert!(rt; is_room_told(rt.alloc(), Form::Numbered)?);
     Ok(())
 }

@@ -1,12 +1,12 @@
 -- How long rows are, and a radio's attachments as the groups of its row.
-use Rattle.std.proofs.Common.{◌≡◌, ℕ, ◌+◌, ◌*◌, ◌≤◌, Bool, List, [], ◌∷◌, ◌++◌, length, Option, Some, None, refl, ap, arith}
+use Rattle.std.proofs.Common.{◌≡◌, ℕ, ◌*◌, ◌≤◌, Bool, List, [], ◌∷◌, ◌++◌, length, Option, Some, None, refl, ap, arith}
 use Rattle.std.specs.Prelude.{map}
 use Rattle.std.specs.List.{flat_map}
 use Rattle.std.specs.FinMap as finite
 use Rattle.std.proofs.lemmas.List.{length-append}
 use Rattle.centre_core.specs.StateRanges.{IsReply}
 use Rattle.group_attach.specs.Attached.{Attached, Pair, Usage, attachment_of, of_radio, groups_of as attachments_of}
-use Rattle.command_bytes.specs.Fields.{big, bytes_for}
+use Rattle.command_bytes.specs.Fields.{big}
 use Rattle.command_bytes.specs.Text.{prefix_text, rule_text, key_text, bits_text}
 use Rattle.command_bytes.proofs.Numbers.{length-big}
 use Rattle.command_bytes.proofs.Sizes.{length-prefix, length-bits, length-rule, length-key}

@@ -1,6 +1,7 @@
 pub mod RowParts
 pub mod RowLaws
 pub mod Settled
+pub mod Tags
 pub mod Filled
 pub mod Written
 pub mod PduTests

@@ -1,5 +1,5 @@
 -- The two laws of a row: what is read is its bytes, in range, and its bytes are read again, whatever stands behind them.
-use Rattle.std.proofs.Common.{◌≡◌, ℕ, zero, suc, ◌^◌, ◌<◌, ◌≤◌, Bool, true, false, cond, leb, eqb, List, [], ◌∷◌, ◌++◌, length, Option, Some, None, refl, sym, ap, subst, ◌∙◌, arith}
+use Rattle.std.proofs.Common.{◌≡◌, ℕ, zero, suc, ◌^◌, ◌<◌, ◌≤◌, Bool, true, false, cond, leb, eqb, List, [], ◌∷◌, ◌++◌, length, Option, Some, None, refl, sym, ap, subst, ◌∙◌, arith, inl, inr, ◌||◌}
 use Rattle.std.specs.Prelude.{IfSome}
 use Rattle.std.specs.List.{flat_map}
 use Rattle.std.proofs.lemmas.Bool.{eqb-true, leb-true, le-leb, ne_eqb}
@@ -18,13 +18,13 @@ use Rattle.command_bytes.proofs.Numbers.{number_small, number_again}
 use Rattle.command_bytes.proofs.Steps.{Takes, behind, bind_some, some_is, some_where, some_unless, then_again, last_again}
 use Rattle.command_bytes.proofs.PartLaws.{number_read, prefix_takes, prefix_again, rule_takes, rule_again, area_takes, area_again, key_takes, key_again, bits_takes, bits_again}
 use Rattle.image_rows.specs.Rows.{Row, HeaderRow, RuleRow, RadioRow, MailRow, ServedRow, Header, Group, RadioRowInRange, ServedRowInRange}
-use Rattle.image_rows.specs.RowText.{present_number, group_text, radio_text, copied_text, item_text, reply_bits, served_text, mail_tag, tag_of, fields_of, row_bytes}
-use Rattle.image_rows.specs.RowReading.{header_at, rule_row_at, present_of, groups_at, radio_row_at, copied_at, item_at, reply_of, served_row_at, fields_at, row_at, ItemAsRead, RowAsRead}
+use Rattle.image_rows.specs.RowText.{present_number, group_text, radio_text, copied_text, item_text, reply_bits, served_text, mail_tag, header_tag, plain_header_tag, tag_of, fields_of}
+use Rattle.image_rows.specs.RowReading.{header_at, rule_row_at, present_of, groups_at, radio_row_at, copied_at, item_at, reply_of, served_row_at, is_header_tag, fields_at, row_at, ItemAsRead, RowAsRead, IsTagOf}
 use Rattle.image_rows.proofs.RowParts.{header_takes, header_again, present_is, present_back, groups_take, groups_again}
 
 -- what was read behind a tag
 record Reads (tag : ℕ) (bytes : List ℕ) (x : Row × List ℕ) : Type 0 where
-  pub named : tag_of x.0 ≡ tag
+  pub tagged : IsTagOf x.0 tag
   pub takes : Takes bytes (fields_of x.0) x.1
   pub fits : RowAsRead x.0
 
@@ -33,13 +33,20 @@ record Reads (tag : ℕ) (bytes : List ℕ) (x : Row × List ℕ) : Type 0 where
 header_row : Header × List ℕ → Read Row
 header_row h = Some (HeaderRow h.0, h.1)
 
-header_row_takes : (bytes : List ℕ) (x : Row × List ℕ) → AreBytes bytes → (header_at bytes >>= header_row) ≡ Some x → Reads 16 bytes x
+header_tagged : (tag : ℕ) (h : Header) → is_header_tag tag ≡ true → IsTagOf (HeaderRow h) tag
+header_tagged tag h e = by (eqb tag header_tag) refl e
+  where
+    by : (b : Bool) → eqb tag header_tag ≡ b → (b || eqb tag plain_header_tag) ≡ true → IsTagOf (HeaderRow h) tag
+    by true is e = inl (eqb-true tag header_tag is)
+    by false is e = inr (h, refl, eqb-true tag plain_header_tag e)
+
+header_row_takes : (tag : ℕ) (bytes : List ℕ) (x : Row × List ℕ) → AreBytes bytes → is_header_tag tag ≡ true → (header_at bytes >>= header_row) ≡ Some x → Reads tag bytes x
 unfolding header_row
-header_row_takes bytes x are e =
+header_row_takes tag bytes x are told e =
     let a = bind_some (header_at bytes) header_row x e in
     let h : Header × List ℕ = a.0 in
     let first = header_takes bytes h are a.1 in
-    subst (λ (y : Row × List ℕ). Reads 16 bytes y) (some_is (HeaderRow h.0, h.1) x a.2) (record { named = refl; takes = first.0; fits = first.1 })
+    subst (λ (y : Row × List ℕ). Reads tag bytes y) (some_is (HeaderRow h.0, h.1) x a.2) (record { tagged = header_tagged tag h.0 told; takes = first.0; fits = first.1 })
 
 -- ---- a rule
 
@@ -59,7 +66,7 @@ rule_row_takes bytes x are e =
     let rule : Rule × List ℕ = b.0 in
     let second = rule_takes prefix.1 rule first.0.are b.1 in
     subst (λ (y : Row × List ℕ). Reads 17 bytes y) (some_is (RuleRow prefix.0 rule.0, rule.1) x b.2)
-    (record { named = refl; takes = behind (prefix_text prefix.0) (rule_text rule.0) first.0 second.0; fits = (first.1, second.1) })
+    (record { tagged = inl refl; takes = behind (prefix_text prefix.0) (rule_text rule.0) first.0 second.0; fits = (first.1, second.1) })
 
 -- ---- a radio
 
@@ -113,7 +120,7 @@ radio_row_takes bytes x are e =
     let radio : Radio = record { station = station.0; area = area.0; present = present } in
     subst (λ (y : Row × List ℕ). Reads 18 bytes y) (some_is (RadioRow itsi.0 radio groups.0, groups.1) x h.2)
     (record {
-      named = refl;
+      tagged = inl refl;
       takes =
           behind (big 6 itsi.0) (big 2 station.0 ++ big 2 area.0 ++ big 1 (present_number present) ++ big 1 (length groups.0) ++ flat_map group_text groups.0) first
           (behind (big 2 station.0) (big 2 area.0 ++ big 1 (present_number present) ++ big 1 (length groups.0) ++ flat_map group_text groups.0) second
@@ -241,7 +248,7 @@ mail_row_takes copied bytes x are e =
     let a = bind_some (item_at copied bytes) mail_row x e in
     let item : Item × List ℕ = a.0 in
     let first = item_takes copied bytes item are a.1 in
-    subst (λ (y : Row × List ℕ). Reads (cond copied 21 19) bytes y) (some_is (MailRow item.0, item.1) x a.2) (record { named = first.2; takes = first.0; fits = first.1 })
+    subst (λ (y : Row × List ℕ). Reads (cond copied 21 19) bytes y) (some_is (MailRow item.0, item.1) x a.2) (record { tagged = inl (sym first.2); takes = first.0; fits = first.1 })
 
 -- ---- what is kept of a station
 
@@ -291,7 +298,7 @@ served_row_takes bytes x are e =
     let h = some_unless (eqb sequence.0 0) (Some (ServedRow station.0 last, pdu.1)) x d.2 in
     subst (λ (y : Row × List ℕ). Reads 20 bytes y) (some_is (ServedRow station.0 last, pdu.1) x h.1)
     (record {
-      named = refl;
+      tagged = inl refl;
       takes =
           behind (big 2 station.0) (big 4 sequence.0 ++ big 8 number.0 ++ bits_text (reply_bits (reply_of pdu.0))) first
           (behind (big 4 sequence.0) (big 8 number.0 ++ bits_text (reply_bits (reply_of pdu.0))) second
@@ -330,10 +337,17 @@ on_tag n tag bytes x here others found later e = by (eqb tag n) refl e
     by true is e = subst (λ (k : ℕ). Reads k bytes x) (sym (eqb-true tag n is)) (found e)
     by false is e = later e
 
+on_header : (tag : ℕ) (bytes : List ℕ) (x : Row × List ℕ) (here others : Read Row) → (is_header_tag tag ≡ true → here ≡ Some x → Reads tag bytes x) → (others ≡ Some x → Reads tag bytes x) → cond (is_header_tag tag) here others ≡ Some x → Reads tag bytes x
+on_header tag bytes x here others found later e = by (is_header_tag tag) refl e
+  where
+    by : (b : Bool) → is_header_tag tag ≡ b → cond b here others ≡ Some x → Reads tag bytes x
+    by true is e = found is e
+    by false is e = later e
+
 fields_take : (tag : ℕ) (bytes : List ℕ) (x : Row × List ℕ) → AreBytes bytes → fields_at tag bytes ≡ Some x → Reads tag bytes x
 unfolding fields_at header_row mail_row
 fields_take tag bytes x are e =
-    on_tag 16 tag bytes x (header_at bytes >>= header_row) _ (header_row_takes bytes x are)
+    on_header tag bytes x (header_at bytes >>= header_row) _ (header_row_takes tag bytes x are)
     (on_tag 17 tag bytes x (rule_row_at bytes) _ (rule_row_takes bytes x are)
     (on_tag 18 tag bytes x (radio_row_at bytes) _ (radio_row_takes bytes x are)
     (on_tag 19 tag bytes x (item_at false bytes >>= mail_row) _ (mail_row_takes false bytes x are)
@@ -371,23 +385,36 @@ tag_small (MailRow w) = by w.group
     by (Some gtsi) = omega arith
 tag_small (ServedRow station last) = omega arith
 
+plain_again : (row : Row) (h : Header) (rest : List ℕ) → row ≡ HeaderRow h → RowAsRead row → fields_at plain_header_tag (fields_of row ++ rest) ≡ Some (row, rest)
+unfolding fields_at header_row
+plain_again row h rest is fits =
+    subst (λ (r : Row). fields_at plain_header_tag (fields_of r ++ rest) ≡ Some (r, rest)) (sym is)
+    (last_again header_row (header_again h rest (subst RowAsRead is fits)) refl)
+
+tagged_again : (row : Row) (tag : ℕ) (rest : List ℕ) → IsTagOf row tag → RowAsRead row → fields_at tag (fields_of row ++ rest) ≡ Some (row, rest)
+tagged_again row tag rest (inl is) fits = ap (λ (n : ℕ). fields_at n (fields_of row ++ rest)) is ∙ fields_again row rest fits
+tagged_again row tag rest (inr (h, is, plain)) fits = ap (λ (n : ℕ). fields_at n (fields_of row ++ rest)) plain ∙ plain_again row h rest is fits
+
+tagged_small : (row : Row) (tag : ℕ) → IsTagOf row tag → tag < 256 ^ 1
+tagged_small row tag (inl is) = let small = tag_small row in omega (arith, small, is)
+tagged_small row tag (inr (h, is, plain)) = omega (arith, plain)
+
 tag_step : ℕ × List ℕ → Read Row
 tag_step tag = fields_at tag.0 tag.1
 
--- what is read, its PDU as it stands there, is its bytes
-pub row_takes : (bytes : List ℕ) (x : Row × List ℕ) → AreBytes bytes → row_at bytes ≡ Some x → (bytes ≡ row_bytes x.0 ++ x.1) × RowAsRead x.0
-unfolding row_at row_bytes tag_step
+-- what is read, its PDU as it stands there, is a tag that it may have, and its fields
+pub row_takes : (bytes : List ℕ) (x : Row × List ℕ) → AreBytes bytes → row_at bytes ≡ Some x → (tag : ℕ) × IsTagOf x.0 tag × (bytes ≡ big 1 tag ++ fields_of x.0 ++ x.1) × RowAsRead x.0
+unfolding row_at tag_step
 row_takes bytes x are e =
     let a = bind_some (number_at 1 bytes) tag_step x e in
     let tag : ℕ × List ℕ = a.0 in
     let first = number_read 1 bytes tag are a.1 in
     let second = fields_take tag.0 tag.1 x first.are a.2 in
-    let named : Takes bytes (big 1 (tag_of x.0)) tag.1 = subst (λ (n : ℕ). Takes bytes (big 1 n) tag.1) (sym second.named) first in
-    ((behind (big 1 (tag_of x.0)) (fields_of x.0) named second.takes).is, second.fits)
+    (tag.0, second.tagged, (behind (big 1 tag.0) (fields_of x.0) first second.takes).is, second.fits)
 
--- its bytes are read again
-pub row_again : (row : Row) (rest : List ℕ) → RowAsRead row → row_at (row_bytes row ++ rest) ≡ Some (row, rest)
-unfolding row_at row_bytes tag_step
-row_again row rest fits =
-    then_again (big 1 (tag_of row)) (fields_of row) rest (number_at 1) tag_step (tag_of row) (row, rest) (number_again 1 (tag_of row) (fields_of row ++ rest) (tag_small row))
-    (fields_again row rest fits)
+-- these bytes are read again
+pub row_again : (row : Row) (tag : ℕ) (rest : List ℕ) → IsTagOf row tag → RowAsRead row → row_at (big 1 tag ++ fields_of row ++ rest) ≡ Some (row, rest)
+unfolding row_at tag_step
+row_again row tag rest tagged fits =
+    then_again (big 1 tag) (fields_of row) rest (number_at 1) tag_step tag (row, rest) (number_again 1 tag (fields_of row ++ rest) (tagged_small row tag tagged))
+    (tagged_again row tag rest tagged fits)

@@ -1,5 +1,5 @@
 -- A row whose PDU is in its written form is read as it is; and what is read is such a row.
-use Rattle.std.proofs.Common.{◌≡◌, ℕ, ◌≤◌, Bool, true, cond, List, ◌++◌, length, Option, Some, None, refl, sym, ap, subst, ◌∙◌, arith}
+use Rattle.std.proofs.Common.{◌≡◌, ℕ, ◌≤◌, Bool, true, cond, List, ◌++◌, length, Option, Some, None, refl, sym, ap, subst, ◌∙◌, arith, inl}
 use Rattle.sds_tl.specs.declared.fault.SdsFault.{SdsFault}
 use Rattle.sds_tl.specs.declared.pdu.Head.{Head}
 use Rattle.sds_tl.specs.Syntax.{Spells}
@@ -14,7 +14,7 @@ use Rattle.identity.specs.Packed.{AreBytes}
 use Rattle.command_bytes.specs.Fields.{◌>>=◌, number_at}
 use Rattle.command_bytes.proofs.Steps.{bind_some, some_is, some_where, last_again}
 use Rattle.image_rows.specs.Rows.{Row, HeaderRow, RuleRow, RadioRow, MailRow, ServedRow}
-use Rattle.image_rows.specs.RowText.{row_bytes}
+use Rattle.image_rows.specs.RowText.{tag_of, row_bytes}
 use Rattle.image_rows.specs.RowReading.{row_at, fields_at, fields_in, row_in, is_known, written, settled, IsRow, RowAsRead, Spells as SpellsRow}
 use Rattle.image_rows.proofs.RowLaws.{row_takes, row_again}
 use Rattle.image_rows.proofs.Order.{both}
@@ -96,7 +96,7 @@ row_is_spelt row bytes are e =
     let takes = row_takes bytes seen are a.1 in
     let b = some_where (is_known seen.0) (Some (written seen.0)) row a.2 in
     let same : written seen.0 ≡ row = some_is (written seen.0) row b.1 in
-    (subst IsRow same (is_row seen.0 takes.1 b.0), record { seen = seen.0; rest = seen.1; is = takes.0; fits = takes.1; known = b.0; same = same })
+    (subst IsRow same (is_row seen.0 takes.3 b.0), record { seen = seen.0; tag = takes.0; tagged = takes.1; rest = seen.1; is = takes.2; fits = takes.3; known = b.0; same = same })
 
 -- ---- a row is read
 
@@ -104,7 +104,7 @@ pub spelt_is_read : (row : Row) (bytes : List ℕ) → SpellsRow row bytes → r
 unfolding settle
 spelt_is_read row bytes spells =
     by_row bytes ∙ ap (λ (l : List ℕ). row_at l >>= settle) spells.is
-    ∙ last_again settle (row_again spells.seen spells.rest spells.fits)
+    ∙ last_again settle (row_again spells.seen spells.tag spells.rest spells.tagged spells.fits)
     (ap (λ (b : Bool). cond b (Some (written spells.seen)) None) spells.known ∙ ap Some spells.same)
 
 as_read : (row : Row) → IsRow row → RowAsRead row
@@ -125,5 +125,6 @@ as_written (MailRow w) is = ap (λ (pdu : List Bool). MailRow (record w { pdu = 
 as_written (ServedRow station last) is = refl
 
 pub written_is_read : (row : Row) (rest : List ℕ) → IsRow row → row_in (row_bytes row ++ rest) ≡ Some row
+unfolding row_bytes
 written_is_read row rest is =
-    spelt_is_read row (row_bytes row ++ rest) (record { seen = row; rest = rest; is = refl; fits = as_read row is; known = is.known; same = as_written row is })
+    spelt_is_read row (row_bytes row ++ rest) (record { seen = row; tag = tag_of row; tagged = inl refl; rest = rest; is = refl; fits = as_read row is; known = is.known; same = as_written row is })

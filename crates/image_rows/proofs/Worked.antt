@@ -14,9 +14,12 @@ use Rattle.registration.specs.declared.radio.Radio.{Radio}
 use Rattle.group_attach.specs.Attached.{Attached, Usage, no_groups, pair_cmp}
 use Rattle.mailbox.specs.Values.{Item}
 use Rattle.centre_core.specs.State.{LastAccepted, empty}
+use Rattle.command_bytes.specs.Fields.{big}
 use Rattle.image_rows.specs.Rows.{HeaderRow, RadioRow, MailRow, Group, rows_of, rule_row, radio_row, served_rows, groups_of}
+use Rattle.image_rows.specs.RowText.{padded, row_bytes, sector_of}
+use Rattle.image_rows.specs.Image.{sectors_of}
 use Rattle.image_rows.specs.Loading.{is_next}
-use Rattle.image_rows.specs.Worked.{bare, one_of_each, its_rows}
+use Rattle.image_rows.specs.Worked.{bare, new_header, one_of_each, its_rows}
 use Rattle.image_rows.proofs.Order.{entries-empty, entries_next}
 use Rattle.image_rows.proofs.WithAttachments.{own_on}
 use Rattle.image_rows.proofs.Only.{no_rows}
@@ -26,6 +29,11 @@ pub empty_image : (epoch : ℕ) (limits : Limits) → rows_of epoch (empty limit
 empty_image epoch limits =
     (λ i. HeaderRow (record { epoch = epoch; count = 0; rules = map.len-empty path_cmp Rule i; radios = map.len-empty path_cmp Radio i; mail = 0; served = none_in_blanks limits.stations i })
     ∷ (each rule_row (entries-empty {X = Rule} path_cmp i) ++ (each (radio_row no_groups) (entries-empty {X = Radio} path_cmp i) ++ no_rows 1 (blanks limits.stations) (free_blanks limits.stations) i)))
+
+-- of epoch 1, in bytes
+pub new_image : (limits : Limits) → sectors_of 1 (empty limits) ≡ padded new_header ∷ []
+unfolding sector_of row_bytes big
+new_image limits = ap (each sector_of) (empty_image 1 limits)
 
 next_is_first : {K : Type 0} (X : Type 0) (R : K → K → Ordering) (k : K) → is_next (map.empty {X = X} {R = R}) k ≡ true
 unfolding is_next

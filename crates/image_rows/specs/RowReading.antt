@@ -1,5 +1,5 @@
 -- Reading rows from bytes: the fields of the table one after the other, each judged by its range.
-use Rattle.std.specs.Prelude.{◌≡◌, ℕ, zero, suc, ◌^◌, ◌<◌, ◌≤◌, ◌==◌, ◌/◌, ◌%◌, Bool, true, false, ◌&&◌, List, [], ◌∷◌, ◌++◌, length, Option, Some, None, IfSome, nat_le, nat_lt, if◌then◌else◌}
+use Rattle.std.specs.Prelude.{◌≡◌, ◌⊎◌, ℕ, zero, suc, ◌^◌, ◌<◌, ◌≤◌, ◌==◌, ◌/◌, ◌%◌, Bool, true, false, ◌&&◌, ◌||◌, List, [], ◌∷◌, ◌++◌, length, Option, Some, None, IfSome, nat_le, nat_lt, if◌then◌else◌}
 use Rattle.identity.specs.Numbers.{Gtsi, Byte}
 use Rattle.mm_pdus.specs.Values.{lifetime_of}
 use Rattle.sds_tl.specs.Reading.{cleared}
@@ -9,10 +9,10 @@ use Rattle.mailbox.specs.Sound.{is_as_named}
 use Rattle.mailbox.specs.Values.{Item, KeyInRange, latest_deadline}
 use Rattle.identity.specs.BitsText.{most_bits}
 use Rattle.centre_core.specs.StateRanges.{RuleEntryInRange}
-use Rattle.command_bytes.specs.Fields.{◌>>=◌, number_at}
+use Rattle.command_bytes.specs.Fields.{◌>>=◌, big, number_at}
 use Rattle.command_bytes.specs.Reading.{Read, prefix_at, rule_at, area_at, key_at, bits_at}
 use Rattle.image_rows.specs.Rows.{Row, HeaderRow, RuleRow, RadioRow, MailRow, ServedRow, Header, Group, RowInRange, HeaderInRange, RadioRowInRange, ServedRowInRange, last_epoch}
-use Rattle.image_rows.specs.RowText.{row_bytes}
+use Rattle.image_rows.specs.RowText.{fields_of, header_tag, plain_header_tag, tag_of}
 
 -- ---- each kind of row
 
@@ -102,10 +102,14 @@ served_row_at bytes = do
 
 -- ---- the whole
 
+-- a header is told by the tag of either layout
+abbrev pub is_header_tag : Byte → Bool
+is_header_tag tag = tag == header_tag || tag == plain_header_tag
+
 -- the fields behind a tag
 unfoldable pub fields_at : Byte → List Byte → Read Row
 fields_at tag bytes =
-    if tag == 16 then (header_at bytes >>= λ header. Some (HeaderRow header.0, header.1))
+    if is_header_tag tag then (header_at bytes >>= λ header. Some (HeaderRow header.0, header.1))
     else if tag == 17 then rule_row_at bytes
     else if tag == 18 then radio_row_at bytes
     else if tag == 19 then (item_at false bytes >>= λ item. Some (MailRow item.0, item.1))
@@ -168,11 +172,17 @@ RowAsRead (RadioRow itsi radio groups) = RadioRowInRange itsi radio groups
 RowAsRead (MailRow w) = ItemAsRead w
 RowAsRead (ServedRow station last) = ServedRowInRange station last
 
--- bytes spell a row: they begin with those of a row that differs from it in the reserved bits of its PDU at most
+-- a tag that a row may have: the one with which it is written, and a header that of layout 1 too
+abbrev pub IsTagOf : Row → Byte → Type 0
+IsTagOf row tag = (tag ≡ tag_of row) ⊎ ((h : Header) × (row ≡ HeaderRow h) × (tag ≡ plain_header_tag))
+
+-- bytes spell a row: they begin with a tag and the fields of a row that differs from it in the reserved bits of its PDU at most
 pub record Spells (row : Row) (bytes : List Byte) : Type 0 where
   pub seen : Row
+  pub tag : Byte
+  pub tagged : IsTagOf seen tag
   pub rest : List Byte
-  pub is : bytes ≡ row_bytes seen ++ rest
+  pub is : bytes ≡ big 1 tag ++ fields_of seen ++ rest
   pub fits : RowAsRead seen
   pub known : is_known seen ≡ true
   pub same : written seen ≡ row

@@ -65,9 +65,17 @@ abbrev pub mail_tag : Option Gtsi → Byte
 mail_tag None = 19
 mail_tag (Some gtsi) = 21
 
--- the tag of a row
+-- a header of layout 2: behind its image the records tell the number of their first command
+abbrev pub header_tag : Byte
+header_tag = 22
+
+-- a header of layout 1: behind its image the records tell no number; none is written any more
+abbrev pub plain_header_tag : Byte
+plain_header_tag = 16
+
+-- the tag with which a row is written
 abbrev pub tag_of : Row → Byte
-tag_of (HeaderRow h) = 16
+tag_of (HeaderRow h) = header_tag
 tag_of (RuleRow prefix rule) = 17
 tag_of (RadioRow itsi radio groups) = 18
 tag_of (MailRow w) = mail_tag w.group

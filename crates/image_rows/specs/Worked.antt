@@ -1,7 +1,7 @@
--- A register with one of each, and its image.
-use Rattle.std.specs.Prelude.{List, [], ◌∷◌, Some, None}
+-- The first header's bytes, and a register with one of each and its image.
+use Rattle.std.specs.Prelude.{List, [], ◌∷◌, replicate, Some, None}
 use Rattle.std.specs.FinMap as map
-use Rattle.identity.specs.Numbers.{Itsi, Gtsi}
+use Rattle.identity.specs.Numbers.{Itsi, Gtsi, Byte}
 use Rattle.identity.specs.Path.{Path, id_path}
 use Rattle.registration.specs.declared.limits.Limits.{Limits}
 use Rattle.registration.specs.declared.rule.Rule.{Rule}
@@ -15,6 +15,10 @@ use Rattle.image_rows.specs.Rows.{Row, HeaderRow, RuleRow, RadioRow, MailRow, Se
 -- nothing but an epoch
 abbrev pub bare : Epoch → Header
 bare epoch = record { epoch = epoch; count = 0; rules = 0; radios = 0; mail = 0; served = 0 }
+
+-- the bytes of a new register's header: the tag, epoch 1 in 8 bytes, and 24 zeros
+abbrev pub new_header : List Byte
+new_header = 22 ∷ 0 ∷ 0 ∷ 0 ∷ 0 ∷ 0 ∷ 0 ∷ 0 ∷ 1 ∷ replicate 24 0
 
 -- one rule, one radio in one group, one item, and the last of two stations served; two commands were accepted
 module _ (limits : Limits) (prefix : Path) (rule : Rule) (itsi : Itsi) (radio : Radio) (gtsi : Gtsi) (usage : Usage) (item : Item) (last : LastAccepted) where

@@ -1,6 +1,12 @@
 //! The first row of an image.
 use std::marker::Model;
 
+/// The tag of a header of layout 2: behind its image the records tell the number of their first command.
+pub const HEADER_TAG: u8 = 22;
+
+/// The tag of a header of layout 1. It is read, and no longer written.
+pub const PLAIN_HEADER_TAG: u8 = 16;
+
 /// What the first row of an image tells.
 #[derive(Clone, Copy, Debug)]
 pub struct Header {

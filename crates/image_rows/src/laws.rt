@@ -9,12 +9,13 @@ ghost use Rattle.centre_core.specs.StateRanges.{StateInRange};
 ghost use Rattle.identity.specs.Packed.{AreBytes};
 ghost use Rattle.image_rows.specs.Image.{IsSpelt, sectors_of, slot_of};
 ghost use Rattle.image_rows.specs.Rows.{HeaderRow, Row, RowInRange, header_of, row_count, rows_of, last_epoch};
+ghost use Rattle.image_rows.specs.RowText.{padded};
 ghost use Rattle.image_rows.specs.Loading.{stood_for};
 ghost use Rattle.image_rows.specs.Parts.{PlaceInRange, told_after};
 ghost use Rattle.image_rows.specs.declared.place.RowPlace.{RowPlace};
 ghost use Rattle.image_rows.specs.Slot.{BeginsWith, FirstBad, slot_read};
 ghost use Rattle.image_rows.specs.Walking.{place_of, row_after};
-ghost use Rattle.image_rows.specs.Worked.{bare, its_rows, one_of_each};
+ghost use Rattle.image_rows.specs.Worked.{bare, its_rows, new_header, one_of_each};
 ghost use Rattle.identity.specs.Path.{Path};
 ghost use Rattle.registration.specs.declared.rule.Rule.{Rule};
 ghost use Rattle.registration.specs.declared.radio.Radio.{Radio};
@@ -43,9 +44,11 @@ pub fn rows_walk()
     ensures { (epoch : ℕ) (s : State) (n : ℕ) → IsState s → StateInRange s → length (rows_of epoch s) ≤ n → one_by_one (row_after epoch s) place_of n None ≡ rows_of epoch s }
 {}
 
-/// The image of an empty register is its header, and that of a register with one of each has one row of each.
+/// The image of an empty register is its header, which with epoch 1 has these bytes. That of a register with one of each has
+/// one row of each.
 pub fn worked_images()
     ensures empty { (epoch : ℕ) (limits : Limits) → rows_of epoch (empty limits) ≡ HeaderRow (bare epoch) ∷ [] }
+    ensures bytes { (limits : Limits) → sectors_of 1 (empty limits) ≡ padded new_header ∷ [] }
     ensures one { (epoch : ℕ) (limits : Limits) (prefix : Path) (rule : Rule) (itsi : ℕ) (radio : Radio) (gtsi : ℕ) (usage : Usage) (item : Item) (last : LastAccepted) → itsi < 2 ^ 48 → rows_of epoch (one_of_each limits prefix rule itsi radio gtsi usage item last) ≡ its_rows limits prefix rule itsi radio gtsi usage item last epoch }
 {}
 

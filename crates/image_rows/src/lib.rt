@@ -18,7 +18,7 @@ mod sector;
 mod seen;
 mod writing;
 
-pub use header::Header;
+pub use header::{HEADER_TAG, Header, PLAIN_HEADER_TAG};
 pub use in_turn::{row_after, rows};
 pub use item::ReadItem;
 pub use loader::Loader;

@@ -1,12 +1,13 @@
 //! Rows as they are read. No call takes memory.
 ghost use Rattle.std.specs.Prelude.{◌≡◌, option_map};
+ghost use Rattle.image_rows.specs.RowText.{header_tag};
 ghost use Rattle.image_rows.specs.RowReading.{fields_in, present_of, reply_of, row_in};
 ghost use Rattle.image_rows.specs.RowViews.{row_view};
 
-use crate::Header;
 use crate::item::{ReadItem, known};
 use crate::row_groups::{PackedGroups, groups};
 use crate::seen::item;
+use crate::{HEADER_TAG, Header, PLAIN_HEADER_TAG};
 use centre_core::Sequence;
 use command_bytes::bits::{PackedBits, bits};
 use command_bytes::fields::{area, area_of, itsi_of, number, prefix, rule};
@@ -45,7 +46,7 @@ pub enum ReadRow<'a> {
 
 #[tactic(auto, unfolding(crate::specs::RowReading::header_at, crate::specs::RowReading::fields_in, crate::specs::RowReading::fields_at))]
 fn header_row(bytes: &[u8]) -> Option<ReadRow<'_>>
-    ensures { option_map row_view result ≡ fields_in 16 bytes.now }
+    ensures { option_map row_view result ≡ fields_in header_tag bytes.now }
 {
     let (epoch, rest) = number(bytes, 8)?;
     let (count, rest) = number(rest, 8)?;
@@ -153,11 +154,11 @@ fn served_row(bytes: &[u8]) -> Option<ReadRow<'_>>
 }
 
 #[tactic(auto, unfolding(crate::specs::RowReading::fields_in, crate::specs::RowReading::fields_at))]
-fn fields(tag: u64, bytes: &[u8]) -> Option<ReadRow<'_>>
+fn fields(tag: u8, bytes: &[u8]) -> Option<ReadRow<'_>>
     ensures { option_map row_view result ≡ fields_in tag bytes.now }
 {
     match tag {
-        16 => header_row(bytes),
+        HEADER_TAG | PLAIN_HEADER_TAG => header_row(bytes),
         17 => rule_row(bytes),
         18 => radio_row(bytes),
         19 => item_row(bytes),
@@ -174,5 +175,5 @@ pub fn read_row(bytes: &[u8]) -> Option<ReadRow<'_>>
     ensures { option_map row_view result ≡ row_in bytes.now }
 {
     let (tag, rest) = number(bytes, 1)?;
-    fields(tag, rest)
+    fields(tag as u8, rest)
 }

@@ -1,18 +1,28 @@
 //! What holds of the bytes of rows alone, of all bytes and all rows.
 //! These functions do nothing: calling one gives its clauses.
 
-ghost use Rattle.std.specs.Prelude.{◌≡◌, ◌≤◌, ◌++◌, ℕ, List, Some, length, map};
+ghost use Rattle.std.specs.Prelude.{◌≡◌, ◌⊎◌, ◌≤◌, ◌∷◌, ◌++◌, ℕ, List, Some, length, map, slice_index};
 ghost use Rattle.group_attach.specs.Attached.{Attached, groups_of as attachments_of};
 ghost use Rattle.identity.specs.Packed.{AreBytes};
-ghost use Rattle.image_rows.specs.Rows.{Row, RowInRange, groups_of};
-ghost use Rattle.image_rows.specs.RowText.{group_in, row_bytes};
+ghost use Rattle.command_bytes.specs.Fields.{big};
+ghost use Rattle.image_rows.specs.Rows.{Header, HeaderRow, Row, RowInRange, groups_of};
+ghost use Rattle.image_rows.specs.RowText.{fields_of, group_in, header_tag, plain_header_tag, row_bytes, sector_of};
 ghost use Rattle.image_rows.specs.RowSizes.{HasFewGroups, longest_row};
-ghost use Rattle.image_rows.specs.RowReading.{IsRow, RowAsRead, Spells, row_at, row_in};
+ghost use Rattle.image_rows.specs.RowReading.{IsRow, IsTagOf, RowAsRead, Spells, row_at, row_in};
 
-/// A row's bytes are read as it, its PDU as it stands there, whatever stands behind them; and what is read has these bytes.
+/// A row's fields behind a tag that it may have are read as it, its PDU as it stands there, whatever stands behind them; and
+/// what is read has these bytes.
 pub fn read_as_it_stands()
-    ensures again { (row : Row) (rest : List ℕ) → RowAsRead row → row_at (row_bytes row ++ rest) ≡ Some (row, rest) }
-    ensures only { (row : Row) (bytes rest : List ℕ) → AreBytes bytes → row_at bytes ≡ Some (row, rest) → (bytes ≡ row_bytes row ++ rest) × RowAsRead row }
+    ensures again { (row : Row) (tag : ℕ) (rest : List ℕ) → IsTagOf row tag → RowAsRead row → row_at (big 1 tag ++ fields_of row ++ rest) ≡ Some (row, rest) }
+    ensures only { (row : Row) (bytes rest : List ℕ) → AreBytes bytes → row_at bytes ≡ Some (row, rest) → (tag : ℕ) × IsTagOf row tag × (bytes ≡ big 1 tag ++ fields_of row ++ rest) × RowAsRead row }
+{}
+
+/// A header's first byte tells its layout: it is written with the tag of layout 2, and read with this or that of layout 1.
+/// Behind either the same fields are the same row, and behind no other tag they are a header.
+pub fn headers_are_tagged()
+    ensures written { (h : Header) → slice_index (sector_of (HeaderRow h)) 0 ≡ header_tag }
+    ensures read { (h : Header) (bytes : List ℕ) → AreBytes bytes → row_in bytes ≡ Some (HeaderRow h) → (slice_index bytes 0 ≡ header_tag) ⊎ (slice_index bytes 0 ≡ plain_header_tag) }
+    ensures either { (fields : List ℕ) → row_in (plain_header_tag ∷ fields) ≡ row_in (header_tag ∷ fields) }
 {}
 
 /// What is written is read back, whatever stands behind it; bytes are read as the row that they spell, and as no other.

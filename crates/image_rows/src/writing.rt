@@ -10,8 +10,8 @@ ghost use Rattle.command_bytes.specs.Text.{bits_text};
 ghost use Rattle.image_rows.specs.Rows.{HeaderRow, RuleRow, RadioRow, MailRow, ServedRow};
 ghost use Rattle.image_rows.specs.RowText.{header_text, present_number, usage_number, group_in, group_text, radio_text, copied_text, item_text, mail_tag, reply_bits, served_text, sector_of};
 
-use crate::Header;
 use crate::sector::SectorText;
+use crate::{HEADER_TAG, Header};
 use centre_core::Sequence;
 use command_bytes::Room;
 use command_bytes::put::{put_bits, put_key, put_number, put_prefix, put_rule};
@@ -41,7 +41,7 @@ pub fn header_row(header: &Header) -> [u8; 512]
     ensures { result ≡ sector_of (HeaderRow header.now) }
 {
     let mut text = SectorText::new();
-    put_number(&mut text, 1, 16);
+    put_number(&mut text, 1, u64::from(HEADER_TAG));
     put_header(&mut text, header);
     text.finish()
 }

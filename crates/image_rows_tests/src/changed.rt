@@ -3,10 +3,11 @@ use crate::rows::{again, sector};
 use std::alloc::{AllocError, Global};
 
 /// A row's bytes; then what comes of each of them with its first bit changed, and with its last: `r` it is refused,
-/// `t` another row is taken and has these bytes, `s` one is taken that ends earlier. Written by hand from the table.
+/// `t` another row is taken and has these bytes, `s` one is taken that has others: it ends earlier, or is a header of layout 1.
+/// Written by hand from the table.
 const CHANGED: &str = "\
-10 0000000000000001 0000000000000000 00000000 00000000 00000000 00000000|r rttttttt tttttttt tttt tttt tttt tttt|r tttttttr tttttttt tttt tttt tttt tttt
-11 18 3a800e000000 0001 0063 01 00000e10|r r tttrrr rr rt r tttt|t t tttrrr rt tt t tttt
+16 0000000000000001 0000000000000000 00000000 00000000 00000000 00000000|r rttttttt tttttttt tttt tttt tttt tttt|r tttttttr tttttttt tttt tttt tttt tttt
+11 18 3a800e000000 0001 0063 01 00000e10|r r tttrrr rr rt r tttt|s t tttrrr rt tt t tttt
 12 3a800e0007d1 0001 0007 01 01 3a800e0003e8 13|r tttttt tt rt r r tttttt r|r tttttt tt tt t s tttttt t
 13 0000000000000008 0000000000000e74 3a800e0007d2 3a800e0007d1 05 00 0030 820405014849|r tttttttt rrrrtttt tttttt tttttt r r rt rrrttt|s tttttttt rrrttttt tttttt tttttt r r tt trrttt
 15 0000000000000006 0000000000000e74 3a800e0007d2 3a800e0007d1 05 00 3a800e0003e8 0030 820405014849|r tttttttt rrrrtttt tttttt tttttt r r tttttt rt rrrttt|r tttttttt rrrttttt tttttt tttttt r r tttttt tt trrttt

@@ -1,5 +1,5 @@
 //! Tests of the bytes of `image_rows`: worked rows both ways, each of their bytes changed,
-//! small heaps, and a register's rows one after another.
+//! small heaps, a register's rows one after another, and both tags of a header.
 #![tactic(auto)]
 
 #[cfg(test)]
@@ -8,6 +8,8 @@ mod changed;
 mod growth;
 #[cfg(test)]
 mod heaps;
+#[cfg(test)]
+mod layouts;
 #[cfg(test)]
 mod loaded;
 #[cfg(test)]

@@ -5,9 +5,9 @@ use std::alloc::{AllocError, Global};
 
 /// The bytes of rows, put together from the table by hand.
 const ROWS: &str = "\
-10 0000000000000001 0000000000000000 00000000 00000000 00000000 00000000=after a format
-10 4000000000000000 4000000000000000 00001000 00010000 00010000 00000040=the greatest numbers
-10 0000000000000002 ffffffffffffffff ffffffff ffffffff ffffffff ffffffff=more than any register has
+16 0000000000000001 0000000000000000 00000000 00000000 00000000 00000000=after a format
+16 4000000000000000 4000000000000000 00001000 00010000 00010000 00000040=the greatest numbers
+16 0000000000000002 ffffffffffffffff ffffffff ffffffff ffffffff ffffffff=more than any register has
 11 18 3a800e000000 0001 0063 01 00000e10=a rule
 11 00 000000000000 0000 3fff 03 ffffffff=a rule for all
 11 30 3a800e0007d1 0007 0007 00 00000000=a rule for one
@@ -23,11 +23,12 @@ const ROWS: &str = "\
 
 /// Bytes that are no row.
 const OTHERS: &str = "\
-00=tag 0
-0f=tag 15
-16=tag 22
-10 0000000000000000 0000000000000000 00000000 00000000 00000000 00000000=epoch 0
-10 4000000000000001 0000000000000000 00000000 00000000 00000000 00000000=an epoch above the last
+00 0000000000000001=a header with tag 0
+0f 0000000000000001=a header with tag 15
+17 0000000000000001=a header with tag 23
+ff 0000000000000001=a header with tag 255
+16 0000000000000000 0000000000000000 00000000 00000000 00000000 00000000=epoch 0
+16 4000000000000001 0000000000000000 00000000 00000000 00000000 00000000=an epoch above the last
 11 18 3a800e000000 0064 0063 01 00000e10=low above high
 11 31 3a800e0007d1 0001 0063 01 00000e10=a prefix of 49 bits
 12 3a800e0007d1 0001 0007 02 00=neither present nor absent
@@ -46,6 +47,11 @@ const OTHERS: &str = "\
 14 0001 00000000 0000000000000002 0008 56=sequence 0
 14 0001 00000002 0000000000000002 0801 56=a reply of 2049 bits
 14 0001 00000002 0000000000000002 0007 57=a bit that fills";
+
+/// Headers of layout 1, and as they are written.
+const PLAIN: &str = "\
+10 0000000000000001 0000000000000000 00000000 00000000 00000000 00000000=16 0000000000000001 0000000000000000 00000000 00000000 00000000 00000000
+10 4000000000000000 4000000000000000 00001000 00010000 00010000 00000040=16 4000000000000000 4000000000000000 00001000 00010000 00010000 00000040";
 
 /// Rows with reserved bits 1, and as they are written.
 const RESERVED: &str = "\
@@ -72,7 +78,7 @@ enum Form {
     Row,
     Other,
     /// It is written as the text behind the `=`.
-    Reserved,
+    Rewritten,
 }
 
 fn is_right(alloc: Global, form: Form, line: &str) -> bool {
@@ -82,7 +88,7 @@ fn is_right(alloc: Global, form: Form, line: &str) -> bool {
     match form {
         Form::Row => is_written(alloc, text, 0, text) && is_written(alloc, text, 255, text),
         Form::Other => written(alloc, text, 0) == Some(None),
-        Form::Reserved => is_written(alloc, text, 0, rest),
+        Form::Rewritten => is_written(alloc, text, 0, rest),
     }
 }
 
@@ -133,7 +139,12 @@ fn other_bytes_are_no_row(rt: HostRuntime) {
 
 #[test]
 fn reserved_bits_are_taken_for_0(rt: HostRuntime) {
-    assert_eq!(rt; first_wrong(rt.alloc(), Form::Reserved, RESERVED), None);
+    assert_eq!(rt; first_wrong(rt.alloc(), Form::Rewritten, RESERVED), None);
+}
+
+#[test]
+fn headers_of_layout_1_are_read(rt: HostRuntime) {
+    assert_eq!(rt; first_wrong(rt.alloc(), Form::Rewritten, PLAIN), None);
 }
 
 #[test]

@@ -26,7 +26,7 @@ const COMMANDS: &str = "\
 
 /// The rows of the register after them in its image of epoch 1, put together by hand.
 const ROWS: &str = "\
-10 0000000000000001 000000000000000b 00000002 00000002 00000003 00000002=the header
+16 0000000000000001 000000000000000b 00000002 00000002 00000003 00000002=the header
 11 00 000000000000 0000 3fff 03 ffffffff=the rule for all
 11 18 3a800e000000 0001 0063 01 00000e10=the other rule
 12 3a800e0007d1 0001 0007 01 01 3a800e0003e8 11=radio 2001
@@ -38,7 +38,7 @@ const ROWS: &str = "\
 14 0003 00000005 000000000000000b 0008 50=station 3";
 
 /// The only row of a new register in its image of epoch 1.
-const EMPTY: &str = "10 0000000000000001";
+const EMPTY: &str = "16 0000000000000001";
 
 /// Whether each of the commands was accepted.
 fn are_accepted(alloc: Global, register: &mut Register<Global>) -> bool {

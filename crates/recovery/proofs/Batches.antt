@@ -11,6 +11,7 @@ use Rattle.std.proofs.lemmas.List.{append-nil, length-append, length-map, length
 use Rattle.std.proofs.lemmas.Simd.{map-map}
 use mathlib.Core.Bool.{false≢true}
 use Rattle.centre_core.specs.Asked.{Asked}
+use Rattle.centre_core.specs.Batches.{replies, taken}
 use Rattle.centre_core.specs.declared.reply.Reply.{Reply}
 use Rattle.centre_core.specs.declared.reply.Reply.TheVariants.{Accepted, Kept, Refused}
 use Rattle.centre_core.specs.State.{State}
@@ -18,15 +19,18 @@ use Rattle.centre_core.specs.Step.{step}
 use Rattle.centre_core.specs.Memory.{needs_memory}
 use Rattle.centre_core.specs.History.{is_acceptance, accepts, after, next}
 use Rattle.centre_core.specs.Histories.{IsHistory}
+use Rattle.centre_core.proofs.HistoryLaws.{counted, counted_next}
 use Rattle.centre_core.proofs.InTurnLaws.{after-append}
+use Rattle.centre_core.proofs.JoinedLaws.{after_taken, taken_history}
 use Rattle.centre_core.proofs.SameLaws.{accepts_are_same, step_is_same}
+use Rattle.centre_core.proofs.StateLaws.{step_is_next}
 use Rattle.centre_core.proofs.StepLaws as core
 use Rattle.recovery.specs.declared.outcome.Outcome.{Outcome}
 use Rattle.recovery.specs.declared.outcome.Outcome.TheVariants.{NoMemory, Replied}
 use Rattle.centre_core.specs.Same.{under}
 use Rattle.command_bytes.specs.Text.{command_text}
 use Rattle.gated_journal.specs.Record.{given}
-use Rattle.recovery.specs.Outcomes.{AreApplied, AreRecorded, IsAnswered, IsEnd, accepted_of, asked, replies}
+use Rattle.recovery.specs.Outcomes.{AreApplied, AreRecorded, IsAnswered, IsEnd, asked}
 use Rattle.recovery.proofs.Limited.{step_limits}
 
 -- one more of the same behind a list
@@ -38,6 +42,13 @@ filled_one old now new n k x so_far more next =
 -- whether a command is accepted does not hang on where its reply is kept
 pub same_verdict : {B : Type 0} (C : Type 0) (s : State) (c : Asked B) → is_acceptance (step {B = C} s c).1 ≡ accepts s c
 same_verdict C s c = sym (ap (λ r. is_acceptance r.1) (step_is_same C C s c)) ∙ accepts_are_same C s c
+
+-- a command that is accepted is counted
+pub counted_one : {B C : Type 0} (s t : State) (c : Asked B) (reply : Reply C) → (t, reply) ≡ step s c → is_acceptance reply ≡ true → t.count ≡ s.count + 1
+counted_one {B} {C} s t c reply done is =
+    let state : t ≡ next s c = ap (λ (r : State × Reply C). r.0) done ∙ step_is_next C s c in
+    let verdict : accepts s c ≡ true = sym (same_verdict C s c) ∙ sym (ap (λ (r : State × Reply C). is_acceptance r.1) done) ∙ is in
+    ap (λ (u : State). u.count) state ∙ counted_next s c verdict
 
 module _ {B : Type 0} where
   -- a command that is not accepted changes nothing
@@ -54,14 +65,6 @@ module _ {B : Type 0} where
   abbrev pub first_or : Bool → Asked B → List (Asked B) → List (Asked B)
   first_or b c cs = if b then c ∷ cs else cs
 
-  history_by : (s : State) (c : Asked B) (rest : List (Asked B)) (b : Bool) → accepts s c ≡ b → IsHistory (next s c) rest → IsHistory s (first_or b c rest)
-  history_by s c rest true taken_is later = (taken_is, later)
-  history_by s c rest false refused later = subst (λ t. IsHistory t rest) (idle s c refused) later
-
-  after_by : (s : State) (c : Asked B) (rest : List (Asked B)) (b : Bool) → accepts s c ≡ b → after s (first_or b c rest) ≡ after (next s c) rest
-  after_by s c rest true taken_is = refl
-  after_by s c rest false refused = ap (λ t. after t rest) (sym (idle s c refused))
-
   count_by : (c : Asked B) (rest : List (Asked B)) (b : Bool) → length (first_or b c rest) ≤ 1 + length rest
   count_by c rest true = omega arith
   count_by c rest false = omega arith
@@ -70,26 +73,18 @@ module _ {B : Type 0} where
   more_by c rest more true = refl
   more_by c rest more false = refl
 
-  pub accepted_history : (s : State) (cs : List (Asked B)) → IsHistory s (accepted_of s cs)
-  accepted_history s [] = tt
-  accepted_history s (c ∷ cs) = history_by s c (accepted_of (next s c) cs) (accepts s c) refl (accepted_history (next s c) cs)
-
-  pub accepted_after : (s : State) (cs : List (Asked B)) → after s (accepted_of s cs) ≡ after s cs
-  accepted_after s [] = refl
-  accepted_after s (c ∷ cs) = after_by s c (accepted_of (next s c) cs) (accepts s c) refl ∙ accepted_after (next s c) cs
-
-  pub accepted_count : (s : State) (cs : List (Asked B)) → length (accepted_of s cs) ≤ length cs
+  pub accepted_count : (s : State) (cs : List (Asked B)) → length (taken s cs) ≤ length cs
   accepted_count s [] = omega arith
-  accepted_count s (c ∷ cs) = omega (arith, count_by c (accepted_of (next s c) cs) (accepts s c), accepted_count (next s c) cs)
+  accepted_count s (c ∷ cs) = omega (arith, count_by c (taken (next s c) cs) (accepts s c), accepted_count (next s c) cs)
 
   size_by : (c : Asked B) (rest : List (Asked B)) (b : Bool) → length (flat_map command_text (first_or b c rest)) ≤ length (command_text c) + length (flat_map command_text rest)
   size_by c rest true = omega (arith, ap length (flat_map-cons command_text c rest), length-append (command_text c) (flat_map command_text rest))
   size_by c rest false = omega arith
 
-  accepted_size : (s : State) (cs : List (Asked B)) → length (flat_map command_text (accepted_of s cs)) ≤ length (flat_map command_text cs)
+  accepted_size : (s : State) (cs : List (Asked B)) → length (flat_map command_text (taken s cs)) ≤ length (flat_map command_text cs)
   accepted_size s [] = omega arith
   accepted_size s (c ∷ cs) =
-      let rest = accepted_of (next s c) cs in
+      let rest = taken (next s c) cs in
       omega (arith, size_by c rest (accepts s c), accepted_size (next s c) cs, ap length (flat_map-cons command_text c cs), length-append (command_text c) (flat_map command_text cs))
 
   front_size : (cs : List (Asked B)) (n : ℕ) → length (flat_map command_text (take n cs)) ≤ length (flat_map command_text cs)
@@ -98,9 +93,9 @@ module _ {B : Type 0} where
       ap (λ (l : List (Asked B)). length (flat_map command_text l)) (sym (take-append-drop n cs)) ∙ ap length (flat_map-append command_text (take n cs) (drop n cs)) ∙ length-append (flat_map command_text (take n cs)) (flat_map command_text (drop n cs)) in
       omega (arith, parts)
 
-  pub accepted_more : (s : State) (xs ys : List (Asked B)) → accepted_of s (xs ++ ys) ≡ accepted_of s xs ++ accepted_of (after s xs) ys
+  pub accepted_more : (s : State) (xs ys : List (Asked B)) → taken s (xs ++ ys) ≡ taken s xs ++ taken (after s xs) ys
   accepted_more s [] ys = refl
-  accepted_more s (x ∷ xs) ys = ap (first_or (accepts s x) x) (accepted_more (next s x) xs ys) ∙ more_by x (accepted_of (next s x) xs) (accepted_of (after (next s x) xs) ys) (accepts s x)
+  accepted_more s (x ∷ xs) ys = ap (first_or (accepts s x) x) (accepted_more (next s x) xs ys) ∙ more_by x (taken (next s x) xs) (taken (after (next s x) xs) ys) (accepts s x)
 
   pub replies_more : (C : Type 0) (s : State) (xs ys : List (Asked B)) → replies C s (xs ++ ys) ≡ replies C s xs ++ replies C (after s xs) ys
   replies_more C s [] ys = refl
@@ -115,9 +110,9 @@ module _ {B : Type 0} where
   no_front [] ys e = refl
   no_front (x ∷ xs) ys e = absurd cc
 
-  pub none_accepted : (s : State) (cs : List (Asked B)) (n : ℕ) → accepted_of s cs ≡ [] → accepted_of s (take n cs) ≡ []
+  pub none_accepted : (s : State) (cs : List (Asked B)) (n : ℕ) → taken s cs ≡ [] → taken s (take n cs) ≡ []
   none_accepted s cs n none =
-      no_front (accepted_of s (take n cs)) (accepted_of (after s (take n cs)) (drop n cs)) (sym (accepted_more s (take n cs) (drop n cs)) ∙ ap (accepted_of s) (take-append-drop n cs) ∙ none)
+      no_front (taken s (take n cs)) (taken (after s (take n cs)) (drop n cs)) (sym (accepted_more s (take n cs) (drop n cs)) ∙ ap (taken s) (take-append-drop n cs) ∙ none)
 
   -- ---- the limits stay
 
@@ -155,7 +150,7 @@ module _ {B : Type 0} where
   all_done cs t = record { most = omega arith; wants = λ c e. let within = slice_get_within cs (length cs) c e in absurd (omega (arith, within)) }
 
   pub applied_one : {C : Type 0} (s t u : State) (cs : List (Bor (Asked B))) (i : ℕ) (c : Bor (Asked B)) (outcomes more : List (Outcome C)) (accepted others : List (Asked B)) → i < length cs → c ≡ get_or cs i c
-      → AreApplied s (asked cs) i t outcomes accepted → u ≡ next t c.now → more ≡ outcomes ++ map Replied (replies C t (c.now ∷ [])) → others ≡ accepted ++ accepted_of t (c.now ∷ [])
+      → AreApplied s (asked cs) i t outcomes accepted → u ≡ next t c.now → more ≡ outcomes ++ map Replied (replies C t (c.now ∷ [])) → others ≡ accepted ++ taken t (c.now ∷ [])
       → AreApplied s (asked cs) (i + 1) u more others
   applied_one {C} s t u cs i c outcomes more accepted others lt is so_far u_is more_is others_is =
       let front = take i (asked cs) in
@@ -166,8 +161,8 @@ module _ {B : Type 0} where
             more_is ∙ ap (λ l. l ++ map Replied (replies C t (c.now ∷ []))) so_far.replied ∙ ap (λ x. map Replied (replies C s front) ++ map Replied (replies C x (c.now ∷ []))) so_far.state
             ∙ sym (map-append Replied (replies C s front) (replies C (after s front) (c.now ∷ []))) ∙ ap (map Replied) (sym (replies_more C s front (c.now ∷ []))) ∙ ap (λ l. map Replied (replies C s l)) (sym one);
         taken =
-            others_is ∙ ap (λ l. l ++ accepted_of t (c.now ∷ [])) so_far.taken ∙ ap (λ x. accepted_of s front ++ accepted_of x (c.now ∷ [])) so_far.state
-            ∙ sym (accepted_more s front (c.now ∷ [])) ∙ ap (accepted_of s) (sym one);
+            others_is ∙ ap (λ l. l ++ taken t (c.now ∷ [])) so_far.taken ∙ ap (λ x. taken s front ++ taken x (c.now ∷ [])) so_far.state
+            ∙ sym (accepted_more s front (c.now ∷ [])) ∙ ap (taken s) (sym one);
       }
 
   -- none was applied, and no more are
@@ -224,10 +219,10 @@ module _ {B : Type 0} where
         }
 
     pub ends_history : IsHistory s (asked items)
-    ends_history = subst (λ (l : List (Asked B)). IsHistory s l) (sym e.are.taken) (accepted_history s applied)
+    ends_history = subst (λ (l : List (Asked B)). IsHistory s l) (sym e.are.taken) (taken_history s applied)
 
     pub ends_state : t ≡ after s (asked items)
-    ends_state = e.are.state ∙ sym (accepted_after s applied) ∙ ap (after s) (sym e.are.taken)
+    ends_state = e.are.state ∙ sym (after_taken s applied) ∙ ap (after s) (sym e.are.taken)
 
     pub ends_limits : t.registered.limits ≡ s.registered.limits
     ends_limits = ap (λ (x : State). x.registered.limits) e.are.state ∙ limits_after s applied
@@ -237,7 +232,12 @@ module _ {B : Type 0} where
         let most = e.end.most in
         omega (arith, most, count_is, length-map items (λ (x : Bor (Asked B)). x.now), ap length e.are.taken, accepted_count s applied, length-take-le e.applied (asked cs) most)
 
-    pub ends_none : accepted_of s (asked cs) ≡ [] → items ≡ []
+    -- each of them is counted
+    pub ends_counted : t.count ≡ s.count + length items
+    ends_counted =
+        omega (arith, ap (λ (x : State). x.count) ends_state, counted s (asked items) ends_history, length-map items (λ (x : Bor (Asked B)). x.now))
+
+    pub ends_none : taken s (asked cs) ≡ [] → items ≡ []
     ends_none none = nothing_asked items (e.are.taken ∙ none_accepted s (asked cs) e.applied none)
 
     pub ends_recorded : (A : Type 0) → AreRecorded A s (asked cs) t (given A items)
@@ -267,5 +267,5 @@ pub recorded_behind : {B : Type 0} (A : Type 0) (s m t u : State) (cs : List (As
 recorded_behind A s m t u cs given_are items same are last recorded = record {
   applied = recorded.applied;
   state = last ∙ recorded.state ∙ ap (λ x. after x (take recorded.applied cs)) same;
-  these = ap (given A) are ∙ recorded.these ∙ ap (λ x. map (under A) (accepted_of x (take recorded.applied cs))) same;
+  these = ap (given A) are ∙ recorded.these ∙ ap (λ x. map (under A) (taken x (take recorded.applied cs))) same;
 }

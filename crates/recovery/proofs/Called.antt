@@ -1,5 +1,5 @@
 -- The calls that a format, a checkpoint and a commit have made.
-use Rattle.std.proofs.Common.{◌≡◌, ℕ, ◌≤◌, ◌+◌, List, [], ◌∷◌, ◌++◌, length, Result, Ok, Err, OnOk, refl, sym, ap, ◌∙◌, append_assoc, arith}
+use Rattle.std.proofs.Common.{◌≡◌, ◌≤◌, List, [], ◌∷◌, ◌++◌, length, Result, Ok, Err, OnOk, refl, sym, ap, ◌∙◌, append_assoc, arith}
 use Rattle.std.specs.Borrow.{Bor}
 use Rattle.sector_disk.specs.Disk.{View, IsCalled}
 use Rattle.sector_disk.specs.Run.{HasMade}
@@ -9,11 +9,12 @@ use Rattle.sector_disk.specs.declared.record.Call.TheVariants.{Sync, Write}
 use Rattle.sector_disk.proofs.Made.{all_made, made_on}
 use Rattle.centre_core.specs.Asked.{Asked}
 use Rattle.gated_journal.specs.Calls.{append_calls, closed_gate, open_gate}
-use Rattle.gated_journal.specs.Record.{given, record_text}
+use Rattle.gated_journal.specs.Record.{given}
+use Rattle.gated_journal.specs.Settled.{text_at}
+use Rattle.gated_journal.specs.declared.place.Place.{Place}
 use Rattle.checkpoint.specs.declared.layout.Layout.{Layout}
-use Rattle.checkpoint.specs.declared.side.Side.{Side}
 use Rattle.checkpoint.specs.declared.side.Side.TheVariants as side
-use Rattle.checkpoint.specs.Layout.{half_at, label_at, other_of, root_at, slot_at}
+use Rattle.checkpoint.specs.Layout.{half_at, label_at, root_at, slot_at}
 use Rattle.recovery.specs.Calls.{first_header, format_calls, record_calls, label_sector, side_calls}
 
 -- ---- the sides
@@ -101,11 +102,6 @@ module _ (old mid new : View) (first second : List Call) (were : mid.calls ≡ o
   }
 
 -- some commands are kept by an append
-pub recorded_by_append : {B : Type 0} (A : Type 0) (gate : ℕ) (items : List (Bor (Asked B))) → 1 ≤ length items → record_calls gate (given A items) ≡ append_calls gate (record_text (given A items))
-recorded_by_append A gate [] some = absurd (omega (arith, some))
-recorded_by_append A gate (x ∷ xs) some = refl
-
--- behind a checkpoint the next gate is the other half's first one
-pub gate_behind : {T E : Type 0} (r : Result T E) (layout same : Layout) (side now : Side) (epoch later next : ℕ) → same ≡ layout → OnOk r ((now ≡ other_of side) × (later ≡ epoch + 1)) → OnOk r (next ≡ half_at same now) → OnOk r (next ≡ half_at layout (other_of side))
-gate_behind (Ok t) layout same side now epoch later next stays moved is = is ∙ ap (λ l. half_at l now) stays ∙ ap (half_at layout) moved.0
-gate_behind (Err e) layout same side now epoch later next stays moved is = tt
+pub recorded_by_append : {B : Type 0} (A : Type 0) (place : Place) (items : List (Bor (Asked B))) → 1 ≤ length items → record_calls place (given A items) ≡ append_calls place.next (text_at A place items)
+recorded_by_append A place [] some = absurd (omega (arith, some))
+recorded_by_append A place (x ∷ xs) some = refl

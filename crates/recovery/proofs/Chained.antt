@@ -1,12 +1,12 @@
 -- A step of opening, and the first fault.
-use Rattle.std.proofs.Common.{◌≡◌, ℕ, List, Option, Result, Ok, Err, refl, sym, subst, ap, ◌∙◌}
+use Rattle.std.proofs.Common.{◌≡◌, ℕ, List, Option, Result, Ok, Err, IfOk, refl, sym, subst, ap, ◌∙◌}
 use Rattle.centre_core.specs.State.{State}
 use Rattle.gated_journal.specs.Half.{half_of}
 use Rattle.checkpoint.specs.declared.layout.Layout.{Layout}
 use Rattle.checkpoint.specs.declared.side.Side.{Side}
 use Rattle.checkpoint.specs.declared.side.Side.TheVariants as side
 use Rattle.checkpoint.specs.Layout.{half_at, half_end}
-use Rattle.checkpoint.specs.Standing.{Base, Held}
+use Rattle.checkpoint.specs.Standing.{Base, Held, slot_form}
 use Rattle.recovery.specs.declared.fault.StoreFault.{StoreFault}
 use Rattle.recovery.specs.declared.fault.StoreFault.TheVariants.{BadGeometry, Broken, Damaged, DiskFault, EpochsUsedUp, NoMemory, Unformatted}
 use Rattle.recovery.specs.Label.{layout_in}
@@ -31,6 +31,11 @@ fails_is DiskFault r is = tt
 fails_is Broken r is = is
 fails_is NoMemory r is = tt
 fails_is EpochsUsedUp r is = is
+
+-- what holds of an answer under a premise
+pub if_ok_then : {X E P : Type 0} (Q : X → Type 0) (r : Result X E) → (P → IfOk r Q) → IfOk r (λ x. P → Q x)
+if_ok_then Q (Ok x) is = is
+if_ok_then Q (Err e) is = tt
 
 -- what is answered is what stands there
 pub gives_same : {X : Type 0} (r q : Result X StoreFault) → r ≡ q → Gives (λ x. x) r q
@@ -72,29 +77,29 @@ module _ (layout : Layout) (image : List (List ℕ)) where
   unfolding side_in
   side_ab a b first second = then_past a (side_at layout side.A image) with_a first ∙ then_past b (side_at layout side.B image) (λ b. chosen a b) second
 
-  pub side_chosen : (a b : Option ℕ) (r : Result Side StoreFault) → side_at layout side.A image ≡ Ok a → side_at layout side.B image ≡ Ok b → r ≡ chosen a b → Gives (λ x. x) r (side_in layout image)
-  side_chosen a b r first second is = gives_same r (side_in layout image) (is ∙ sym (side_ab a b first second))
+  pub side_chosen : {X : Type 0} (view : X → Side) (a b : Option ℕ) (r : Result X StoreFault) → side_at layout side.A image ≡ Ok a → side_at layout side.B image ≡ Ok b → Gives view r (chosen a b) → Gives view r (side_in layout image)
+  side_chosen view a b r first second is = subst (λ (q : Result Side StoreFault). Gives view r q) (sym (side_ab a b first second)) is
 
 -- ---- the records
 
 module _ (A : Type 0) (layout : Layout) (s : Side) (image : List (List ℕ)) where
-  abbrev pub whole : Result (Held A) StoreFault
-  whole = held_by (half_of image (half_at layout s) (half_end layout s))
+  abbrev pub whole : State → Result (Held A) StoreFault
+  whole t = held_by (half_of (slot_form layout s image) t.count image (half_at layout s) (half_end layout s))
 
   abbrev pub on_held : State → Held A → Result (State × ℕ) StoreFault
   on_held t held = played t held.0 >>= λ u. Ok (u, held.1)
 
-  pub played_half : (t : State) (e : StoreFault) → Fails e whole → Fails e (played_by A layout s t image)
+  pub played_half : (t : State) (e : StoreFault) → Fails e (whole t) → Fails e (played_by A layout s t image)
   unfolding played_by
-  played_half t e is = fails_then e whole (on_held t) is
+  played_half t e is = fails_then e (whole t) (on_held t) is
 
-  pub played_fault : (t : State) (held : Held A) (e : StoreFault) → whole ≡ Ok held → Fails e (played t held.0) → Fails e (played_by A layout s t image)
+  pub played_fault : (t : State) (held : Held A) (e : StoreFault) → whole t ≡ Ok held → Fails e (played t held.0) → Fails e (played_by A layout s t image)
   unfolding played_by
-  played_fault t held e there is = fails_past e held whole (on_held t) there (fails_then e (played t held.0) (λ u. Ok (u, held.1)) is)
+  played_fault t held e there is = fails_past e held (whole t) (on_held t) there (fails_then e (played t held.0) (λ u. Ok (u, held.1)) is)
 
-  pub played_ok : (t u : State) (held : Held A) → whole ≡ Ok held → played t held.0 ≡ Ok u → played_by A layout s t image ≡ Ok (u, held.1)
+  pub played_ok : (t u : State) (held : Held A) → whole t ≡ Ok held → played t held.0 ≡ Ok u → played_by A layout s t image ≡ Ok (u, held.1)
   unfolding played_by
-  played_ok t u held there is = then_past held whole (on_held t) there ∙ then_past u (played t held.0) (λ u. Ok (u, held.1)) is
+  played_ok t u held there is = then_past held (whole t) (on_held t) there ∙ then_past u (played t held.0) (λ u. Ok (u, held.1)) is
 
   -- ---- by one side
 

@@ -1,25 +1,26 @@
 -- The calls of a store as events of the life of its disk.
-use Rattle.std.proofs.Common.{◌≡◌, ◌⊎◌, inl, inr, ℕ, zero, suc, Bool, true, false, List, [], ◌∷◌, ◌++◌, ◌-◌, length, map, take, replicate, Result, Ok, Err, refl, sym, ap, subst, ◌∙◌, ◌≤◌, arith}
-use Rattle.std.specs.Prelude.{if◌then◌else◌}
+use Rattle.std.proofs.Common.{◌≡◌, inl, inr, ℕ, zero, suc, true, false, List, [], ◌∷◌, ◌++◌, ◌-◌, length, map, take, replicate, refl, sym, ap, subst, ◌∙◌, arith}
 use mathlib.Core.Bool.{false≢true}
 use Rattle.sector_disk.specs.Disk.{IsSound, View}
 use Rattle.sector_disk.specs.Run.{LeavesOnly}
 use Rattle.centre_core.specs.Asked.{Asked}
+use Rattle.centre_core.specs.Batches.{replies, taken}
 use Rattle.centre_core.specs.declared.reply.Reply.{Reply}
 use Rattle.centre_core.specs.State.{State}
 use Rattle.centre_core.specs.Step.{step}
 use Rattle.centre_core.specs.Same.{under}
-use Rattle.centre_core.specs.History.{accepts, after, is_acceptance, next}
+use Rattle.centre_core.specs.History.{accepts, after, next}
 use Rattle.centre_core.specs.Histories.{IsHistory}
+use Rattle.centre_core.proofs.JoinedLaws.{after_taken, taken_history}
 use Rattle.centre_core.proofs.SameLaws.{after_is_same, histories_are_same}
 use Rattle.centre_core.proofs.StateLaws.{step_is_next}
 use Rattle.recovery.specs.declared.outcome.Outcome.{Outcome}
 use Rattle.recovery.specs.declared.outcome.Outcome.TheVariants as outcome
-use Rattle.recovery.specs.Outcomes.{AreRecorded, IsAnswered, IsEnd, StandsForEither, accepted_of, replies}
+use Rattle.recovery.specs.Outcomes.{AreRecorded, IsAnswered, IsEnd, StandsForEither}
 use Rattle.recovery.specs.Serving.{IsAfterOne}
 use Rattle.recovery.specs.Standing.{StandsFor}
-use Rattle.recovery.specs.Lives.{Answered, HasAccepted, IsAnsweredCall, IsCall, IsStoredIn, IsUnansweredCall, Open, StoreView, Unanswered, acknowledged_of, answers, fails}
-use Rattle.recovery.proofs.Batches.{accepted_after, accepted_history, first_or, none_recorded, same_verdict}
+use Rattle.recovery.specs.Lives.{HasAccepted, IsAnsweredCall, IsCall, IsStoredIn, IsUnansweredCall, Open, StoreView, Unanswered, acknowledged_of, answers, fails}
+use Rattle.recovery.proofs.Batches.{first_or, none_recorded, same_verdict}
 use Rattle.recovery.proofs.Stored.{nothing_done, only_before}
 
 -- ---- the commands that a batch accepts
@@ -31,7 +32,7 @@ module _ {B : Type 0} where
     none_acknowledged (c ∷ cs) zero = refl
     none_acknowledged (c ∷ cs) (suc k) = none_acknowledged cs k
 
-    acknowledged_are : (s : State) (cs : List (Asked B)) (n k : ℕ) → acknowledged_of {C = C} cs (map outcome.Replied (replies C s (take n cs)) ++ replicate k outcome.NoMemory) ≡ accepted_of s (take n cs)
+    acknowledged_are : (s : State) (cs : List (Asked B)) (n k : ℕ) → acknowledged_of {C = C} cs (map outcome.Replied (replies C s (take n cs)) ++ replicate k outcome.NoMemory) ≡ taken s (take n cs)
     acknowledged_are s [] zero k = refl
     acknowledged_are s [] (suc n) k = refl
     acknowledged_are s (c ∷ cs) zero k = none_acknowledged (c ∷ cs) k
@@ -40,10 +41,10 @@ module _ {B : Type 0} where
         ∙ ap (first_or (accepts s c) c) (acknowledged_are (next s c) cs n k)
 
   module _ (A : Type 0) (s t : State) (commands : List (Asked B)) where
-    first_accepted : (n : ℕ) → t ≡ after s (take n commands) → IsHistory s (map (under A) (accepted_of s (take n commands))) × (t ≡ after s (map (under A) (accepted_of s (take n commands))))
+    first_accepted : (n : ℕ) → t ≡ after s (take n commands) → IsHistory s (map (under A) (taken s (take n commands))) × (t ≡ after s (map (under A) (taken s (take n commands))))
     first_accepted n e = (
-      histories_are_same A s (accepted_of s (take n commands)) (accepted_history s (take n commands)),
-      e ∙ sym (accepted_after s (take n commands)) ∙ sym (after_is_same A s (accepted_of s (take n commands))),
+      histories_are_same A s (taken s (take n commands)) (taken_history s (take n commands)),
+      e ∙ sym (after_taken s (take n commands)) ∙ sym (after_is_same A s (taken s (take n commands))),
     )
 
     recorded_accepted : (recorded : List (Asked A)) → AreRecorded A s commands t recorded → IsHistory s recorded × (t ≡ after s recorded)
@@ -51,7 +52,7 @@ module _ {B : Type 0} where
 
     answered_accepted : {C : Type 0} (outcomes : List (Outcome C)) → IsAnswered s commands t outcomes → IsHistory s (map (under A) (acknowledged_of commands outcomes)) × (t ≡ after s (map (under A) (acknowledged_of commands outcomes)))
     answered_accepted {C} outcomes is =
-        let same : acknowledged_of commands outcomes ≡ accepted_of s (take is.applied commands) = ap (acknowledged_of commands) is.outcomes_are ∙ acknowledged_are C s commands is.applied _ in
+        let same : acknowledged_of commands outcomes ≡ taken s (take is.applied commands) = ap (acknowledged_of commands) is.outcomes_are ∙ acknowledged_are C s commands is.applied _ in
         subst (λ (l : List (Asked B)). IsHistory s (map (under A) l) × (t ≡ after s (map (under A) l))) (sym same) (first_accepted is.applied is.state)
 
 -- a batch applied to the state as a checkpoint left it
@@ -72,7 +73,7 @@ module _ (A : Type 0) {D : Type 0} (view : D → View) where
     honest = honest;
     history = tt;
     made = refl;
-    any_moment = λ stored. only_before A store.register store.register (view store.disk) (view store.disk) (nothing_done A store.layout store.side store.epoch store.next store.register (view store.disk) stored sound);
+    any_moment = λ stored. only_before A store.register store.register (view store.disk) (view store.disk) (nothing_done A store.layout store.side store.epoch store.journal store.register (view store.disk) stored sound);
     kept = λ whole stored. stored;
     broken = λ is. refl;
   }
@@ -122,7 +123,7 @@ module _ (A : Type 0) {D : Type 0} (view : D → View) where
 
     pub one_unanswered : IsAfterOne old.register c new.register → IsUnansweredCall A view old (c ∷ []) new
     one_unanswered (inl same) = one_recorded [] (none_recorded A old.register new.register (c ∷ []) same)
-    one_unanswered (inr done) = one_recorded (map (under A) (accepted_of old.register (c ∷ []))) (record { applied = 1; state = done.1; these = refl })
+    one_unanswered (inr done) = one_recorded (map (under A) (taken old.register (c ∷ []))) (record { applied = 1; state = done.1; these = refl })
 
 -- a reply to one command answers a batch of it
 pub one_is_answered : {B C : Type 0} (s t : State) (c : Asked B) (reply : Reply C) → (t, reply) ≡ step s c → IsAnswered s (c ∷ []) t (outcome.Replied reply ∷ [])

@@ -1,5 +1,5 @@
 -- A disk that is made ready stands for an empty register.
-use Rattle.std.proofs.Common.{◌≡◌, ◌≢◌, inl, ℕ, suc, ◌+◌, ◌-◌, ◌<◌, ◌≤◌, List, ◌∷◌, ◌++◌, length, map, take, replicate, slice_index, Result, Ok, Err, OnOk, sym, ap, ◌∙◌, arith}
+use Rattle.std.proofs.Common.{◌≡◌, ◌≢◌, inl, ℕ, suc, ◌+◌, ◌-◌, ◌<◌, ◌≤◌, List, ◌∷◌, ◌++◌, length, map, take, replicate, slice_index, Result, Ok, Err, OnOk, refl, sym, ap, ◌∙◌, arith}
 use Rattle.std.proofs.Math.Seq.{take-append_seam}
 use Rattle.sector_disk.specs.Disk.{IsSound, HasSynced, HasWritten, View, sector}
 use Rattle.sector_disk.specs.declared.disk.DiskError.{DiskError}
@@ -9,9 +9,12 @@ use Rattle.centre_core.proofs.StateLaws.{empty_is_state}
 use Rattle.centre_core.proofs.RangeLaws.{empty_is_in_range}
 use Rattle.image_rows.specs.Rows.{Row}
 use Rattle.image_rows.specs.RowText.{sector_of}
+use Rattle.image_rows.specs.Worked.{bare}
+use Rattle.image_rows.proofs.Tags.{header_is_tagged}
 use Rattle.image_rows.specs.Image.{slot_of}
 use Rattle.image_rows.proofs.Images.{written_is_image}
 use Rattle.image_rows.proofs.Worked.{empty_image}
+use Rattle.gated_journal.specs.declared.form.Form.TheVariants.{Numbered}
 use Rattle.gated_journal.specs.Half.{IsClosed}
 use Rattle.gated_journal.specs.Calls.{closed_gate, open_gate}
 use Rattle.gated_journal.proofs.Chain.{last_gate}
@@ -19,7 +22,7 @@ use Rattle.checkpoint.specs.declared.layout.Layout.{Layout}
 use Rattle.checkpoint.specs.declared.side.Side.TheVariants as side
 use Rattle.checkpoint.specs.Label.{IsLabel, label_size, label_text}
 use Rattle.checkpoint.specs.Layout.{disk_size, half_at, half_end, label_at, root_at, slot_at, slot_size}
-use Rattle.checkpoint.specs.Standing.{InEach, IsInSlot, Stands, fresh, sectors_from}
+use Rattle.checkpoint.specs.Standing.{InEach, IsInSlot, Stands, form_told, fresh, sectors_from}
 use Rattle.recovery.specs.Calls.{first_header, label_sector}
 use Rattle.recovery.specs.Opens.{opening, opens}
 use Rattle.recovery.specs.Inside.Sides.{AreReady}
@@ -94,6 +97,10 @@ in_slot layout image is =
     ∙ ap (λ (bytes : List ℕ). slot_of layout.limits (bytes ∷ sectors_from image (slot_at layout side.A + 1) (slot_size layout - 1))) is
     ∙ header_read layout (sectors_from image (slot_at layout side.A + 1) (slot_size layout - 1))
 
+-- it tells numbered records
+header_form : form_told first_header ≡ Numbered
+header_form = rw (header_is_tagged (bare 1)) refl
+
 -- ---- the whole
 
 closed_is : (bytes : List ℕ) → bytes ≡ closed_gate → IsClosed bytes
@@ -101,7 +108,7 @@ closed_is bytes is opened = let one : slice_index closed_gate 0 ≡ 1 = ap (λ (
 
 module _ {A : Type 0} (layout : Layout) (sides labelled last : View) where
   pub stands_so : AreReady layout sides → HasWritten sides labelled label_at (label_sector layout) (Ok tt) → HasSynced labelled last (Ok tt) → IsSound last → disk_size layout ≤ last.sectors
-      → InEach last (Stands {A = A} layout side.A (first_base layout) (fresh layout side.A))
+      → InEach last (Stands {A = A} layout side.A Numbered (first_base layout) (fresh layout side.A))
   stands_so ready wrote syncs sound room image is =
       let some = layout.in_range.fewest in
       let now : (k : ℕ) → sector image k ≡ sector labelled.reads k = λ k. durable_image last syncs.durable image is k ∙ ap (λ (l : List (List ℕ)). sector l k) syncs.reads in
@@ -112,10 +119,11 @@ module _ {A : Type 0} (layout : Layout) (sides labelled last : View) where
         root = ap (λ (bytes : List ℕ). slice_index bytes 0) (as_before (root_at side.A) (omega arith) ∙ ready.root);
         below = inl (closed_is (sector image (root_at side.B)) (as_before (root_at side.B) (omega arith) ∙ ready.other));
         slot = in_slot layout image (as_before (slot_at layout side.A) (omega arith) ∙ ready.header);
-        half = last_gate (half_end layout side.A - half_at layout side.A) image (half_at layout side.A) (half_end layout side.A) (closed_is (sector image (half_at layout side.A)) (as_before (half_at layout side.A) (omega arith) ∙ ready.gate));
+        form_is = ap form_told (as_before (slot_at layout side.A) (omega arith) ∙ ready.header) ∙ header_form;
+        half = last_gate Numbered (half_end layout side.A - half_at layout side.A) (first_base layout).1.count image (half_at layout side.A) (half_end layout side.A) (closed_is (sector image (half_at layout side.A)) (as_before (half_at layout side.A) (omega arith) ∙ ready.gate));
         gate = omega (arith, some);
       }
 
 pub opens_so : (A : Type 0) (layout : Layout) (sides labelled last : View) → AreReady layout sides → HasWritten sides labelled label_at (label_sector layout) (Ok tt) → HasSynced labelled last (Ok tt) → IsSound last → disk_size layout ≤ last.sectors
     → InEach last (λ image. opens A image ≡ Ok (opening layout side.A 1 (half_at layout side.A) (empty layout.limits)))
-opens_so A layout sides labelled last ready wrote syncs sound room image is = standing_opens {A = A} layout side.A (first_base layout) (fresh layout side.A) image (stands_so layout sides labelled last ready wrote syncs sound room image is) tt
+opens_so A layout sides labelled last ready wrote syncs sound room image is = standing_opens {A = A} layout side.A Numbered (first_base layout) (fresh layout side.A) image (stands_so layout sides labelled last ready wrote syncs sound room image is) tt

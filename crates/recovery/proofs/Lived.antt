@@ -1,5 +1,5 @@
 -- What a disk keeps over its whole life.
-use Rattle.std.proofs.Common.{◌≡◌, inl, inr, ℕ, ◌≤◌, Bool, true, false, List, [], ◌∷◌, ◌++◌, Ok, refl, sym, ap, subst, ◌∙◌, arith}
+use Rattle.std.proofs.Common.{◌≡◌, inl, inr, ℕ, Bool, true, false, List, [], ◌∷◌, ◌++◌, Ok, refl, sym, ap, subst, ◌∙◌, arith}
 use Rattle.std.specs.Prelude.{◌⊎◌, Result}
 use Rattle.std.proofs.lemmas.List.{append-nil}
 use mathlib.Core.Bool.{false≢true}
@@ -17,13 +17,13 @@ use Rattle.centre_core.specs.Histories.{IsHistory}
 use Rattle.centre_core.proofs.InTurnLaws.{after-append, history-append, history-rest}
 use Rattle.centre_core.proofs.StateLaws.{empty_is_state}
 use Rattle.checkpoint.specs.Standing.{InEach}
-use Rattle.recovery.specs.Opens.{Opening, opening, opens}
+use Rattle.recovery.specs.Opens.{Opening, opening}
 use Rattle.recovery.specs.Standing.{StandsFor}
 use Rattle.recovery.specs.Outcomes.{StandsForEither}
 use Rattle.recovery.proofs.Lasting.{none_lost_made_on_disk}
 use Rattle.recovery.proofs.Stored.{stored_stands}
 use Rattle.recovery.specs.declared.fault.StoreFault.{StoreFault}
-use Rattle.recovery.specs.Lives.{Closed, Answered, Event, IsCall, HasAccepted, HasNotOpened, HasOpened, Holds, ComesBack, IsStoredIn, StoreView, Lasts, LosesNoMessage, IsLife, Open, Phase, Unanswered, answers, begins, stopped, disk_of, fails, closes, goes_on, opens_not, opens_to, stops, nothing}
+use Rattle.recovery.specs.Lives.{Closed, Answered, Event, IsCall, HasAccepted, HasOpened, Holds, ComesBack, IsStoredIn, StoreView, Lasts, LosesNoMessage, IsLife, Open, Phase, Unanswered, answers, begins, stopped, disk_of, fails, closes, goes_on, opens_not, opens_to, stops, nothing}
 
 either : (b : Bool) → (b ≡ true) ⊎ (b ≡ false)
 either true = inl refl
@@ -147,7 +147,7 @@ module _ {A D : Type 0} (view : D → View) (sound : (disk : D) → (view disk).
         record {
           here = record {
             honest = done.honest;
-            each = λ image here. stands_so limits (Answered cs ∷ events) new image held (stored_stands A new.layout new.side new.epoch new.next new.register (view new.disk) kept image here);
+            each = λ image here. stands_so limits (Answered cs ∷ events) new image held (stored_stands A new.layout new.side new.epoch new.journal new.register (view new.disk) kept image here);
           };
           store = λ _. (kept, held);
         }
@@ -164,7 +164,7 @@ module _ {A D : Type 0} (view : D → View) (sound : (disk : D) → (view disk).
     opened_holds : (new : StoreView D) → HasOpened A view old new → Holds A limits (Answered [] ∷ events) new
     opened_holds new has =
         let lasts = is.here.each (view old).reads (sound old is.here.honest).reads_left in
-        let same = ok_is (lasts.stands.opening) (opening new.layout new.side new.epoch new.next new.register) (sym lasts.stands.opens ∙ has.opened) in
+        let same = ok_is (lasts.stands.opening) (opening new.layout new.side new.epoch new.journal.next new.register) (sym lasts.stands.opens ∙ has.opened) in
         record {
           kept = lasts.kept;
           are = (lasts.kept, lasts.are, sym (append-nil lasts.kept));

@@ -1,6 +1,6 @@
 -- A commit of one command.
 use Rattle.std.proofs.Common.{◌≡◌, ◌⊎◌, inl, inr, subst, IsTrue, ℕ, ◌<◌, ◌-◌, ◌^◌, ◌≤◌, Bool, true, false, refl, Result, Ok, Err, List, [], ◌∷◌, length, ap, ◌∙◌, sym, arith}
-use Rattle.std.specs.Prelude.{if◌then◌else◌, nat_le, IfErr, IsErrOf, OnErr, OnOk}
+use Rattle.std.specs.Prelude.{if◌then◌else◌, nat_le, IfErr, IfOk, IsErrOf, OnErr, OnOk}
 use Rattle.std.specs.Borrow.{Bor}
 use Rattle.std.proofs.lemmas.Bool.Decides.{nat_tests}
 use Rattle.centre_core.specs.Asked.{Asked}
@@ -9,6 +9,7 @@ use Rattle.centre_core.specs.State.{State}
 use Rattle.centre_core.specs.Step.{step}
 use Rattle.centre_core.specs.Memory.{needs_memory}
 use Rattle.centre_core.specs.History.{accepts, is_acceptance, next}
+use Rattle.centre_core.proofs.HistoryLaws.{counted_next}
 use Rattle.centre_core.proofs.StateLaws.{step_is_next}
 use Rattle.image_rows.specs.Rows.{last_epoch}
 use Rattle.gated_journal.specs.Record.{most_commands}
@@ -62,6 +63,15 @@ module _ {B : Type 0} where
       };
       end = record { most = omega arith; wants = λ d at. absurd cc };
     }
+
+-- no command takes a number back
+counts_by : {B : Type 0} (s t : State) (c : Asked B) → IsAfterOne s c t → s.count ≤ t.count
+counts_by s t c (inl same) = omega (arith, ap (λ (u : State). u.count) same)
+counts_by s t c (inr done) = omega (arith, ap (λ (u : State). u.count) done.1, counted_next s c done.0)
+
+pub result_counts : {B C E : Type 0} (s t : State) (c : Asked B) (result : Result (Reply C) E) → IfOk result (λ reply. (t, reply) ≡ step s c) → OnErr result (t ≡ s) → s.count ≤ t.count
+result_counts s t c (Ok reply) ok err = counts_by s t c (after_one s t reply c ok s t refl refl)
+result_counts s t c (Err e) ok err = omega (arith, ap (λ (u : State). u.count) err)
 
 -- ---- what a desk says of it
 

@@ -17,11 +17,12 @@ use Rattle.centre_core.proofs.RangeLaws.{next_is_in_range}
 use Rattle.centre_core.proofs.StateLaws.{next_is_state}
 use Rattle.registration.specs.declared.limits.Limits.{Limits}
 use Rattle.image_rows.proofs.Images.{image_is_spelt}
+use Rattle.gated_journal.specs.declared.form.Form.{Form}
 use Rattle.gated_journal.specs.Half.{Entry, Half, data_from, half_from, half_on, record_at, told_size, with_front}
 use Rattle.gated_journal.proofs.Halves.{opened}
 use Rattle.gated_journal.proofs.Listed.{record_taken}
 use Rattle.checkpoint.specs.Layout.{half_at, half_end, slot_at, slot_size}
-use Rattle.checkpoint.specs.Standing.{sectors_from}
+use Rattle.checkpoint.specs.Standing.{sectors_from, slot_form}
 use Rattle.recovery.specs.Opens.{Opening, opens}
 use Rattle.recovery.specs.Standing.{IsRanged, commands_of}
 use Rattle.recovery.proofs.Limited.{step_limits}
@@ -75,23 +76,23 @@ module _ (image : List (List ℕ)) (are : AreSectors image) where
     none_mine : (at : ℕ) (entries : List (Entry A)) (gate : ℕ) → (let r : Half A = Ok ([], at) in r) ≡ Ok (entries, gate) → All Mine entries
     none_mine at entries gate e = subst (All Mine) (sym (no_entries at entries gate e)) (All-nil Mine)
 
-    half_commands : (fuel at end : ℕ) (entries : List (Entry A)) (gate : ℕ) → half_from fuel image at end ≡ Ok (entries, gate) → All Mine entries
+    half_commands : (fuel : ℕ) (form : Form) (before at end : ℕ) (entries : List (Entry A)) (gate : ℕ) → half_from fuel form before image at end ≡ Ok (entries, gate) → All Mine entries
     unfolding half_from
-    half_commands zero at end entries gate e = none_mine at entries gate e
-    half_commands (suc fuel) at end entries gate e =
-        elim (record_at {A = A} image at end) as (λ r. record_at image at end ≡ r → half_on at r (λ next. half_from fuel image next end) ≡ Ok (entries, gate) → All Mine entries) [
+    half_commands zero form before at end entries gate e = none_mine at entries gate e
+    half_commands (suc fuel) form before at end entries gate e =
+        elim (record_at {A = A} form before image at end) as (λ r. record_at form before image at end ≡ r → half_on at r (λ x. half_from fuel form (before + length x.0) image x.1 end) ≡ Ok (entries, gate) → All Mine entries) [
           | Err fault ↦ λ is f. absurd cc
-          | Ok o ↦ λ is f. on (λ next rest. half_commands fuel next end rest gate) o is f
+          | Ok o ↦ λ is f. on (λ x rest. half_commands fuel form (before + length x.0) x.1 end rest gate) o is f
         ] refl e
       where
-        on : ((next : ℕ) (rest : List (Entry A)) → half_from fuel image next end ≡ Ok (rest, gate) → All Mine rest) → (o : Option (List (Asked A) × ℕ)) → record_at image at end ≡ Ok o
-            → half_on at (Ok o) (λ next. half_from fuel image next end) ≡ Ok (entries, gate) → All Mine entries
+        on : ((x : List (Asked A) × ℕ) (rest : List (Entry A)) → half_from fuel form (before + length x.0) image x.1 end ≡ Ok (rest, gate) → All Mine rest) → (o : Option (List (Asked A) × ℕ)) → record_at form before image at end ≡ Ok o
+            → half_on at (Ok o) (λ x. half_from fuel form (before + length x.0) image x.1 end) ≡ Ok (entries, gate) → All Mine entries
         on go None is f = none_mine at entries gate f
         on go (Some x) is f =
-            let rest = entries_is (at + 1, x.0) (half_from fuel image x.1 end) entries gate f in
-            let there = opened image at end x is in
-            let fit = (record_taken (data_from image (at + 1) (told_size (sector image (at + 1)))) x.0 (data_bytes (told_size (sector image (at + 1))) (at + 1)) there.read).fit in
-            subst (All Mine) (sym rest.2) (All-cons Mine (at + 1, x.0) rest.0 fit.each (go x.1 rest.0 rest.1))
+            let rest = entries_is (at + 1, x.0) (half_from fuel form (before + length x.0) image x.1 end) entries gate f in
+            let there = opened form before image at end x is in
+            let fit = (record_taken form before (data_from image (at + 1) (told_size form (sector image (at + 1)))) x.0 (data_bytes (told_size form (sector image (at + 1))) (at + 1)) there.read).fit in
+            subst (All Mine) (sym rest.2) (All-cons Mine (at + 1, x.0) rest.0 fit.each (go x rest.0 rest.1))
 
 -- ---- the state after them
 
@@ -118,6 +119,6 @@ opens_ranged A o image are e =
     let first = half_at o.layout o.side in
     let end = half_end o.layout o.side in
     let base = image_is_spelt o.layout.limits (sectors_from image (slot_at o.layout o.side) (slot_size o.layout)) o.epoch is.base (slot_bytes image are (slot_size o.layout) (slot_at o.layout o.side)) is.slot in
-    let commands = all_commands is.entries (half_commands image are (end - first) first end is.entries o.next is.half) in
+    let commands = all_commands is.entries (half_commands image are (end - first) (slot_form o.layout o.side image) is.base.count first end is.entries o.next is.half) in
     let after_is = ranged_after o.layout.limits is.base (commands_of is.entries) commands (record { state = base.0; ranges = base.1; under = base.2 }) in
     subst (IsRanged o.layout.limits) (sym is.made) after_is

@@ -1,12 +1,13 @@
 -- Records read and played one after another.
-use Rattle.std.proofs.Common.{◌≡◌, ℕ, ◌+◌, ◌<◌, List, [], ◌∷◌, ◌++◌, Some, None, Result, Ok, Err, refl, sym, subst, ap, append_assoc, ◌∙◌}
+use Rattle.std.proofs.Common.{◌≡◌, ℕ, ◌+◌, ◌<◌, List, [], ◌∷◌, ◌++◌, length, Some, None, Result, Ok, Err, refl, sym, subst, ap, append_assoc, ◌∙◌}
 use Rattle.centre_core.specs.Asked.{Asked}
 use Rattle.centre_core.specs.State.{State}
 use Rattle.gated_journal.specs.declared.fault.JournalError.{JournalError}
 use Rattle.gated_journal.specs.declared.fault.JournalError.TheVariants as journal
-use Rattle.gated_journal.specs.Half.{Entry, Half, Found, half_of, half_on, record_at, with_front}
+use Rattle.gated_journal.specs.declared.form.Form.{Form}
+use Rattle.gated_journal.specs.Half.{Entry, Half, half_of, record_at, with_front}
 use Rattle.gated_journal.specs.Reading as reading
-use Rattle.gated_journal.proofs.Halves.{front_none, unrolled}
+use Rattle.gated_journal.proofs.Halves.{error_on, front_closed, front_more, front_none}
 use Rattle.checkpoint.specs.Standing.{Held}
 use Rattle.recovery.specs.declared.fault.StoreFault.{StoreFault}
 use Rattle.recovery.specs.Opens.{held_by, played, played_from, run, taken, ◌>>=◌}
@@ -48,19 +49,22 @@ module _ {A : Type 0} where
   abbrev on_held : Held A → Result State StoreFault → Result (State × ℕ) StoreFault
   on_held held r = (r >>= λ t. played t held.0) >>= λ t. Ok (t, held.1)
 
-  module _ (image : List (List ℕ)) (at end : ℕ) (lt : at < end) where
-    from : (r : Found A) → record_at image at end ≡ r → half_of image at end ≡ half_on at r (λ next. half_of image next end)
-    from r is = unrolled image at end lt ∙ ap (λ (q : Found A). half_on at q (λ next. half_of image next end)) is
+  module _ (form : Form) (before : ℕ) (image : List (List ℕ)) (at end : ℕ) (lt : at < end) where
+    from_record : (commands : List (Asked A)) (next : ℕ) → record_at form before image at end ≡ Ok (Some (commands, next)) → half_of form before image at end ≡ with_front ((at + 1, commands) ∷ []) (half_of form (before + length commands) image next end)
+    from_record commands next is = let half = half_of {A = A} form before image at end in sym (front_more form before image at end [] half lt (front_none half) commands next is)
 
-    pub begins_record : (commands : List (Asked A)) (next : ℕ) → record_at image at end ≡ Ok (Some (commands, next)) → BeginsWith {A = A} (half_of image at end) (half_of image next end)
-    begins_record commands next there = ((at + 1, commands) ∷ [], from (Ok (Some (commands, next))) there)
+    from_closed : record_at {A = A} form before image at end ≡ Ok None → half_of {A = A} form before image at end ≡ Ok ([], at)
+    from_closed is = let half = half_of {A = A} form before image at end in front_closed form before image at end [] half lt (front_none half) is
+
+    pub begins_record : (commands : List (Asked A)) (next : ℕ) → record_at form before image at end ≡ Ok (Some (commands, next)) → BeginsWith {A = A} (half_of form before image at end) (half_of form (before + length commands) image next end)
+    begins_record commands next there = ((at + 1, commands) ∷ [], from_record commands next there)
 
     module _ (s : State) where
-      pub plays_closed : record_at {A = A} image at end ≡ Ok None → played_from s (half_of {A = A} image at end) ≡ Ok (s, at)
+      pub plays_closed : record_at {A = A} form before image at end ≡ Ok None → played_from s (half_of {A = A} form before image at end) ≡ Ok (s, at)
       unfolding played
-      plays_closed is = ap (played_from s) (from (Ok None) is)
+      plays_closed is = ap (played_from s) (from_closed is)
 
-      module _ (commands : List (Asked A)) (next : ℕ) (there : record_at image at end ≡ Ok (Some (commands, next))) where
+      module _ (commands : List (Asked A)) (next : ℕ) (there : record_at form before image at end ≡ Ok (Some (commands, next))) where
         with_more : (half : Half A) (r : Result State StoreFault) → taken (at + 1) (run s commands) ≡ r
             → played_from s (with_front ((at + 1, commands) ∷ []) half) ≡ (held_by half >>= λ held. on_held held r)
         unfolding played
@@ -68,15 +72,15 @@ module _ {A : Type 0} where
         with_more (Err x) r is = refl
 
         -- its commands are accepted
-        pub plays_record : (t : State) → taken (at + 1) (run s commands) ≡ Ok t → played_from s (half_of {A = A} image at end) ≡ played_from t (half_of {A = A} image next end)
-        plays_record t is = ap (played_from s) (from (Ok (Some (commands, next))) there) ∙ with_more (half_of image next end) (Ok t) is
+        pub plays_record : (t : State) → taken (at + 1) (run s commands) ≡ Ok t → played_from s (half_of {A = A} form before image at end) ≡ played_from t (half_of {A = A} form (before + length commands) image next end)
+        plays_record t is = ap (played_from s) (from_record commands next there) ∙ with_more (half_of form (before + length commands) image next end) (Ok t) is
 
         -- one of them is not, or wants memory
-        pub plays_stop : (e : StoreFault) → Fails e (taken (at + 1) (run s commands)) → Stops e (held_by (half_of {A = A} image next end)) (played_from s (half_of {A = A} image at end))
+        pub plays_stop : (e : StoreFault) → Fails e (taken (at + 1) (run s commands)) → Stops e (held_by (half_of {A = A} form (before + length commands) image next end)) (played_from s (half_of {A = A} form before image at end))
         plays_stop e failed =
             let r = taken (at + 1) (run s commands) in
-            let whole : played_from s (half_of {A = A} image at end) ≡ (held_by (half_of {A = A} image next end) >>= λ held. on_held held (taken (at + 1) (run s commands))) = ap (played_from s) (from (Ok (Some (commands, next))) there) ∙ with_more (half_of image next end) r refl in
-            by (half_of image next end) (played_from s (half_of {A = A} image at end)) whole
+            let whole : played_from s (half_of {A = A} form before image at end) ≡ (held_by (half_of {A = A} form (before + length commands) image next end) >>= λ held. on_held held (taken (at + 1) (run s commands))) = ap (played_from s) (from_record commands next there) ∙ with_more (half_of form (before + length commands) image next end) r refl in
+            by (half_of form (before + length commands) image next end) (played_from s (half_of {A = A} form before image at end)) whole
           where
             by : (half : Half A) (is : Result (State × ℕ) StoreFault) → is ≡ (held_by half >>= λ held. on_held held (taken (at + 1) (run s commands))) → Stops e (held_by half) is
             by (Ok held) is whole =
@@ -85,15 +89,12 @@ module _ {A : Type 0} where
             by (Err x) is whole = whole
 
 -- the sector that is at fault at a gate is so in the half
-pub plays_fault : (A : Type 0) (image : List (List ℕ)) (at end : ℕ) → at < end → (s : State) (e : JournalError) → reading.Fails e (record_at {A = A} image at end) → Stops (fault_of e) (held_by (half_of {A = A} image at end)) (played_from s (half_of {A = A} image at end))
-plays_fault A image at end lt s e is = by (half_of image at end) e (bad e is)
+pub plays_fault : (A : Type 0) (form : Form) (before : ℕ) (image : List (List ℕ)) (at end : ℕ) → at < end → (s : State) (e : JournalError) → reading.Fails e (record_at {A = A} form before image at end)
+    → Stops (fault_of e) (held_by (half_of {A = A} form before image at end)) (played_from s (half_of {A = A} form before image at end))
+plays_fault A form before image at end lt s e is =
+    let half = half_of {A = A} form before image at end in
+    by half e (error_on form before image at end [] half lt (front_none half) e is)
   where
-    bad : (e : JournalError) → reading.Fails e (record_at {A = A} image at end) → reading.Fails e (half_of {A = A} image at end)
-    bad (journal.Damaged x) is = from {A = A} image at end lt (Err x) is
-    bad journal.DiskFault is = tt
-    bad journal.NoMemory is = tt
-    bad journal.JournalFull is = is
-
     by : (half : Half A) (e : JournalError) → reading.Fails e half → Stops (fault_of e) (held_by half) (played_from s half)
     by (Err x) e is = refl
     by (Ok held) (journal.Damaged x) is = absurd cc

@@ -1,5 +1,5 @@
 -- From what an image opens to, back to how it stands.
-use Rattle.std.proofs.Common.{◌≡◌, inl, inr, ℕ, zero, suc, ◌+◌, ◌-◌, ◌<◌, Bool, true, false, ltb, List, [], ◌∷◌, slice_index, Option, Some, None, Result, Ok, Err, refl, sym, subst, ap, ◌∙◌, if◌then◌else◌, ◌≤◌, ◌≢◌, arith}
+use Rattle.std.proofs.Common.{◌≡◌, inl, inr, ℕ, zero, suc, ◌+◌, ◌-◌, ◌<◌, Bool, true, false, ltb, List, [], ◌∷◌, length, slice_index, Option, Some, None, Result, Ok, Err, refl, sym, subst, ap, ◌∙◌, if◌then◌else◌, ◌≤◌, ◌≢◌, arith}
 use Rattle.std.proofs.lemmas.Bool.{ltb-false, ltb-true}
 use Rattle.std.proofs.lemmas.Bool.Decides.{eqb_tells}
 use Rattle.sector_disk.specs.Disk.{View, IsImageOf, sector}
@@ -10,13 +10,15 @@ use Rattle.centre_core.specs.State.{State}
 use Rattle.centre_core.specs.History.{accepts, after, next}
 use Rattle.centre_core.specs.Histories.{IsHistory}
 use Rattle.centre_core.proofs.InTurnLaws.{after-append, history-append}
+use Rattle.gated_journal.specs.declared.form.Form.{Form}
+use Rattle.gated_journal.specs.declared.place.Place.{Place}
 use Rattle.gated_journal.specs.Half.{Entry, Half, IsClosed, IsOpen, half_from, half_of, half_on, record_at, with_front}
 use Rattle.gated_journal.proofs.Halves.{opened}
 use Rattle.checkpoint.specs.declared.layout.Layout.{Layout}
 use Rattle.checkpoint.specs.declared.side.Side.{Side}
 use Rattle.checkpoint.specs.declared.side.Side.TheVariants as side
 use Rattle.checkpoint.specs.Layout.{half_at, half_end, label_at, other_of, root_at, slot_at}
-use Rattle.checkpoint.specs.Standing.{Base, Held, IsBelow, IsInSlot, Stands, slot_epoch}
+use Rattle.checkpoint.specs.Standing.{Base, Held, IsBelow, IsInSlot, Stands, slot_epoch, slot_form}
 use Rattle.checkpoint.proofs.Apart.{lies}
 use Rattle.checkpoint.proofs.Epochs.{slot_tells}
 use Rattle.recovery.specs.declared.fault.StoreFault.{StoreFault}
@@ -141,22 +143,22 @@ module _ {A : Type 0} where
 
 module _ {A : Type 0} where
   -- a half's first closed gate lies within it
-  last_before : (fuel : ℕ) (image : List (List ℕ)) (at end : ℕ) (entries : List (Entry A)) (gate : ℕ) → at < end → end ≤ at + fuel → half_from fuel image at end ≡ Ok (entries, gate) → gate < end
+  last_before : (fuel : ℕ) (form : Form) (before : ℕ) (image : List (List ℕ)) (at end : ℕ) (entries : List (Entry A)) (gate : ℕ) → at < end → end ≤ at + fuel → half_from fuel form before image at end ≡ Ok (entries, gate) → gate < end
   unfolding half_from
-  last_before zero image at end entries gate lt le e = absurd (omega (arith, lt, le))
-  last_before (suc fuel) image at end entries gate lt le e =
-      elim (record_at {A = A} image at end) as (λ r. record_at image at end ≡ r → half_on at r (λ next. half_from fuel image next end) ≡ Ok (entries, gate) → gate < end) [
+  last_before zero form before image at end entries gate lt le e = absurd (omega (arith, lt, le))
+  last_before (suc fuel) form before image at end entries gate lt le e =
+      elim (record_at {A = A} form before image at end) as (λ r. record_at form before image at end ≡ r → half_on at r (λ x. half_from fuel form (before + length x.0) image x.1 end) ≡ Ok (entries, gate) → gate < end) [
         | Err fault ↦ λ is f. absurd cc
-        | Ok o ↦ λ is f. on (λ next rest. last_before fuel image next end rest gate) o is f
+        | Ok o ↦ λ is f. on (λ x rest. last_before fuel form (before + length x.0) image x.1 end rest gate) o is f
       ] refl e
     where
-      on : ((next : ℕ) (rest : List (Entry A)) → next < end → end ≤ next + fuel → half_from fuel image next end ≡ Ok (rest, gate) → gate < end) → (o : Option (List (Asked A) × ℕ)) → record_at image at end ≡ Ok o
-          → half_on at (Ok o) (λ next. half_from fuel image next end) ≡ Ok (entries, gate) → gate < end
+      on : ((x : List (Asked A) × ℕ) (rest : List (Entry A)) → x.1 < end → end ≤ x.1 + fuel → half_from fuel form (before + length x.0) image x.1 end ≡ Ok (rest, gate) → gate < end) → (o : Option (List (Asked A) × ℕ)) → record_at form before image at end ≡ Ok o
+          → half_on at (Ok o) (λ x. half_from fuel form (before + length x.0) image x.1 end) ≡ Ok (entries, gate) → gate < end
       on go None is f = let same : at ≡ gate = gate_is [] entries at gate f in omega (arith, lt, same)
       on go (Some x) is f =
-          let rest = behind_front (at + 1, x.0) (half_from fuel image x.1 end) entries gate f in
-          let there = opened image at end x is in
-          go x.1 rest.0 there.within (omega (arith, le, there.next_is)) rest.1
+          let rest = behind_front (at + 1, x.0) (half_from fuel form (before + length x.0) image x.1 end) entries gate f in
+          let there = opened form before image at end x is in
+          go x rest.0 there.within (omega (arith, le, there.next_is)) rest.1
 
 -- ---- the whole
 
@@ -167,7 +169,7 @@ pub record Behind (A : Type 0) (o : Opening) (image : List (List ℕ)) : Type 0 
   pub label : layout_in image ≡ Ok o.layout
   pub side : side_in o.layout image ≡ Ok o.side
   pub slot : IsInSlot o.layout o.side (o.epoch, base) image
-  pub half : half_of image (half_at o.layout o.side) (half_end o.layout o.side) ≡ Ok (entries, o.next)
+  pub half : half_of (slot_form o.layout o.side image) base.count image (half_at o.layout o.side) (half_end o.layout o.side) ≡ Ok (entries, o.next)
   pub accepted : IsHistory base (commands_of entries)
   pub made : o.state ≡ after base (commands_of entries)
 
@@ -183,7 +185,7 @@ module _ (A : Type 0) where
       let base : Base = based.0 in
       let ended = then_ok (played_by A layout s base.1 image) (λ end. Ok (opening layout s base.0 end.1 end.0)) o based.2 in
       let end : State × ℕ = ended.0 in
-      let read = then_ok (whole A layout s image) (on_held A layout s image base.1) end ended.1 in
+      let read = then_ok (whole A layout s image base.1) (on_held A layout s image base.1) end ended.1 in
       let held : Held A = read.0 in
       let ran = then_ok (played base.1 held.0) (λ u. Ok (u, held.1)) end read.2 in
       let history = played_history base.1 ran.0 held.0 ran.1 in
@@ -194,14 +196,14 @@ module _ (A : Type 0) where
         label = labelled.1;
         side = sided.1;
         slot = in_slot layout s base image based.1;
-        half = held_is (half_of image (half_at layout s) (half_end layout s)) held read.1;
+        half = held_is (half_of (slot_form layout s image) base.1.count image (half_at layout s) (half_end layout s)) held read.1;
         accepted = history.0;
         made = history.1;
       } in
       let is : opening layout s base.0 held.1 ran.0 ≡ o = ap (λ (x : State × ℕ). opening layout s base.0 x.1 x.0) same ∙ ok_is (opening layout s base.0 end.1 end.0) o ended.2 in
       subst (λ (p : Opening). Behind A p image) is there
 
-  pub stands_behind : (o : Opening) (image : List (List ℕ)) (is : Behind A o image) → AreBytes (sector image label_at) → o.next < half_end o.layout o.side → Stands o.layout o.side (o.epoch, is.base) (is.entries, o.next) image
+  pub stands_behind : (o : Opening) (image : List (List ℕ)) (is : Behind A o image) → AreBytes (sector image label_at) → o.next < half_end o.layout o.side → Stands o.layout o.side (slot_form o.layout o.side image) (o.epoch, is.base) (is.entries, o.next) image
   stands_behind o image is bytes within =
       let label = label_only image bytes o.layout is.label in
       let counts = side_counts o.layout image o.side is.side in
@@ -212,22 +214,26 @@ module _ (A : Type 0) where
         root = counts.root;
         below = counts.below o.epoch (slot_tells o.layout o.side (o.epoch, is.base) image places.some is.slot);
         slot = is.slot;
+        form_is = refl;
         half = is.half;
         gate = within;
       }
 
-  -- where every image is what is read, and that opens, the register is kept
-  pub stored_so : (disk : View) (o : Opening) → ((image : List (List ℕ)) → IsImageOf disk image → image ≡ disk.reads) → AreBytes (sector disk.reads label_at) → opens A disk.reads ≡ Ok o → o.next < half_end o.layout o.side
-      → IsStored A o.layout o.side o.epoch o.next o.state disk
-  stored_so disk o one bytes e within =
-      let is = behind o disk.reads e in
-      record {
-        base = is.base;
-        entries = is.entries;
-        each = λ image here. subst (Stands o.layout o.side (o.epoch, is.base) (is.entries, o.next)) (sym (one image here)) (stands_behind o disk.reads is bytes within);
-        accepted = is.accepted;
-        made = is.made;
-      }
+  -- where every image is what is read, and that opens, the register is kept by the journal that goes on there
+  module _ (disk : View) (o : Opening) (journal : Place) where
+    pub stored_so : ((image : List (List ℕ)) → IsImageOf disk image → image ≡ disk.reads) → AreBytes (sector disk.reads label_at) → opens A disk.reads ≡ Ok o → o.next < half_end o.layout o.side
+        → journal.next ≡ o.next → journal.form ≡ slot_form o.layout o.side disk.reads → journal.count ≡ o.state.count → IsStored A o.layout o.side o.epoch journal o.state disk
+    stored_so one bytes e within next form counts =
+        let is = behind o disk.reads e in
+        let read : Stands o.layout o.side journal.form (o.epoch, is.base) (is.entries, journal.next) disk.reads = rw (next, form) (stands_behind o disk.reads is bytes within) in
+        record {
+          base = is.base;
+          entries = is.entries;
+          each = λ image here. subst (Stands o.layout o.side journal.form (o.epoch, is.base) (is.entries, journal.next)) (sym (one image here)) read;
+          accepted = is.accepted;
+          made = is.made;
+          counts = counts;
+        }
 
   -- ---- each image that opens stands
 
@@ -236,8 +242,9 @@ module _ (A : Type 0) where
       let is = behind o image e in
       let places = lies o.layout o.side in
       let some : half_at o.layout o.side < half_end o.layout o.side = omega (arith, o.layout.in_range.fewest) in
-      let within = last_before (half_end o.layout o.side - half_at o.layout o.side) image (half_at o.layout o.side) (half_end o.layout o.side) is.entries o.next some (omega arith) is.half in
+      let within = last_before (half_end o.layout o.side - half_at o.layout o.side) (slot_form o.layout o.side image) is.base.count image (half_at o.layout o.side) (half_end o.layout o.side) is.entries o.next some (omega arith) is.half in
       record {
+        form = slot_form o.layout o.side image;
         base = is.base;
         entries = is.entries;
         stands = stands_behind o image is bytes within;

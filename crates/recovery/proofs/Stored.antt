@@ -1,11 +1,11 @@
 -- A register that is stored stays so: through a checkpoint, and through an append of commands that it accepts.
-use Rattle.std.proofs.Common.{◌≡◌, inl, inr, ℕ, ◌+◌, ◌<◌, ◌≤◌, List, [], ◌∷◌, ◌++◌, length, map, take, true, false, Ok, refl, sym, ap, subst, ◌∙◌, arith}
+use Rattle.std.proofs.Common.{◌≡◌, inl, inr, ℕ, ◌+◌, ◌<◌, ◌≤◌, List, [], ◌∷◌, ◌++◌, length, map, take, true, false, Result, Ok, Err, OnOk, refl, sym, ap, subst, ◌∙◌, arith}
 use Rattle.std.specs.Prelude.{nat_eq}
 use Rattle.std.specs.Borrow.{Bor}
 use Rattle.std.proofs.lemmas.Bool.Decides.{nat_tests}
 use Rattle.std.specs.List.{flat_map}
 use Rattle.std.proofs.lemmas.Grind.{flat_map-append}
-use Rattle.std.proofs.lemmas.List.{append-nil}
+use Rattle.std.proofs.lemmas.List.{append-nil, length-append, length-map}
 use Rattle.std.proofs.lemmas.Simd.{map-map}
 use Rattle.sector_disk.specs.Disk.{IsSound, View}
 use Rattle.sector_disk.specs.Run.{IsTorn, LeavesOnly}
@@ -15,14 +15,17 @@ use Rattle.centre_core.specs.Same.{under}
 use Rattle.centre_core.specs.State.{State}
 use Rattle.centre_core.specs.History.{after}
 use Rattle.centre_core.specs.Histories.{IsHistory}
+use Rattle.centre_core.proofs.HistoryLaws as numbers
 use Rattle.centre_core.proofs.InTurnLaws.{after-append, history-append}
 use Rattle.centre_core.proofs.SameLaws.{after_is_same, histories_are_same}
 use Rattle.command_bytes.specs.Text.{command_text}
+use Rattle.gated_journal.specs.declared.form.Form.{Form}
+use Rattle.gated_journal.specs.declared.form.Form.TheVariants.{Numbered, Plain}
 use Rattle.gated_journal.specs.declared.place.Place.{Place}
-use Rattle.gated_journal.specs.Half.{Entry, half_of}
-use Rattle.gated_journal.specs.Record.{data_size, given, record_text}
+use Rattle.gated_journal.specs.Half.{Entry, counted, half_of}
+use Rattle.gated_journal.specs.Record.{data_size, given, head_len, most_sectors, record_text}
 use Rattle.gated_journal.proofs.Given.{given_size}
-use Rattle.gated_journal.specs.Settled.{IsSettled, Leaves}
+use Rattle.gated_journal.specs.Settled.{IsSettled, Leaves, room_of, text_at}
 use Rattle.gated_journal.proofs.Chain.{half_below}
 use Rattle.checkpoint.specs.declared.layout.Layout.{Layout}
 use Rattle.checkpoint.specs.declared.side.Side.{Side}
@@ -30,7 +33,7 @@ use Rattle.checkpoint.specs.Layout.{half_at, half_end, other_of}
 use Rattle.checkpoint.specs.Standing.{Base, Held, InEach, IsEither, Stands, fresh}
 use Rattle.checkpoint.proofs.Added.{stands_with}
 use Rattle.checkpoint.proofs.Spared.{left_each}
-use Rattle.recovery.specs.Stored.{IsStored}
+use Rattle.recovery.specs.Stored.{IsStored, fresh_place}
 use Rattle.recovery.specs.Opens.{opening}
 use Rattle.recovery.specs.declared.outcome.Outcome.{Outcome}
 use Rattle.recovery.specs.Outcomes.{IsAfterBatch, IsAnswered, IsEnd, StandsForEither, asked}
@@ -39,16 +42,16 @@ use Rattle.recovery.proofs.Opened.{standing_opens}
 
 -- ---- what stands is stood for
 
-pub stands_for : (A : Type 0) (layout : Layout) (side : Side) (base : Base) (held : Held A) (s : State) (image : List (List ℕ)) → Stands layout side base held image → IsHistory base.1 (commands_of held.0) → s ≡ after base.1 (commands_of held.0) → StandsFor A s image
-stands_for A layout side base held s image stands history made = record {
+pub stands_for : (A : Type 0) (layout : Layout) (side : Side) (form : Form) (base : Base) (held : Held A) (s : State) (image : List (List ℕ)) → Stands layout side form base held image → IsHistory base.1 (commands_of held.0) → s ≡ after base.1 (commands_of held.0) → StandsFor A s image
+stands_for A layout side form base held s image stands history made = record {
   opening = opening layout side base.0 held.1 (after base.1 (commands_of held.0));
-  opens = standing_opens layout side base held image stands history;
+  opens = standing_opens layout side form base held image stands history;
   same = sym made;
 }
 
-module _ (A : Type 0) (layout : Layout) (side : Side) (epoch next : ℕ) (s : State) (disk : View) (stored : IsStored A layout side epoch next s disk) where
+module _ (A : Type 0) (layout : Layout) (side : Side) (epoch : ℕ) (journal : Place) (s : State) (disk : View) (stored : IsStored A layout side epoch journal s disk) where
   pub stored_stands : InEach disk (StandsFor A s)
-  stored_stands image is = stands_for A layout side (epoch, stored.base) (stored.entries, next) s image (stored.each image is) stored.accepted stored.made
+  stored_stands image is = stands_for A layout side journal.form (epoch, stored.base) (stored.entries, journal.next) s image (stored.each image is) stored.accepted stored.made
 
   pub nothing_done : IsSound disk → LeavesOnly disk disk (StandsFor A s)
   nothing_done sound = started disk (StandsFor A s) sound stored_stands
@@ -57,26 +60,26 @@ module _ (A : Type 0) (layout : Layout) (side : Side) (epoch next : ℕ) (s : St
 
   -- the image stands by the old side, or by the other one with no record
   abbrev Either : List (List ℕ) → Type 0
-  Either = IsEither layout side (epoch, stored.base) (epoch + 1, s) (stored.entries, next) (fresh layout (other_of side))
+  Either = IsEither layout side journal.form Numbered (epoch, stored.base) (epoch + 1, s) (stored.entries, journal.next) (fresh layout (other_of side))
 
   either_stands : (image : List (List ℕ)) → Either image → StandsFor A s image
-  either_stands image (inl old) = stands_for A layout side (epoch, stored.base) (stored.entries, next) s image old stored.accepted stored.made
-  either_stands image (inr new) = stands_for A layout (other_of side) (epoch + 1, s) (fresh layout (other_of side)) s image new tt refl
+  either_stands image (inl old) = stands_for A layout side journal.form (epoch, stored.base) (stored.entries, journal.next) s image old stored.accepted stored.made
+  either_stands image (inr new) = stands_for A layout (other_of side) Numbered (epoch + 1, s) (fresh layout (other_of side)) s image new tt refl
 
   pub in_checkpoint : (new : View) → LeavesOnly disk new Either → LeavesOnly disk new (StandsFor A s)
   in_checkpoint new leaves = weaker disk new Either (StandsFor A s) leaves either_stands
 
 -- the image is written, and then the side switched to
-module _ {A : Type 0} (layout : Layout) (current : Side) (base next : Base) (held more : Held A) (old mid : View) (written : LeavesOnly old mid (Stands layout current base held)) where
-  pub not_switched : LeavesOnly old mid (IsEither layout current base next held more)
-  not_switched = weaker old mid (Stands layout current base held) (IsEither layout current base next held more) written (λ image is. inl is)
+module _ {A : Type 0} (layout : Layout) (current : Side) (form also : Form) (base next : Base) (held more : Held A) (old mid : View) (written : LeavesOnly old mid (Stands layout current form base held)) where
+  pub not_switched : LeavesOnly old mid (IsEither layout current form also base next held more)
+  not_switched = weaker old mid (Stands layout current form base held) (IsEither layout current form also base next held more) written (λ image is. inl is)
 
-  pub then_switched : (new : View) → LeavesOnly mid new (IsEither layout current base next held more) → LeavesOnly old new (IsEither layout current base next held more)
-  then_switched new switched = run_on old mid new (IsEither layout current base next held more) (IsEither layout current base next held more) not_switched switched (λ image is. is)
+  pub then_switched : (new : View) → LeavesOnly mid new (IsEither layout current form also base next held more) → LeavesOnly old new (IsEither layout current form also base next held more)
+  then_switched new switched = run_on old mid new (IsEither layout current form also base next held more) (IsEither layout current form also base next held more) not_switched switched (λ image is. is)
 
 -- where all images stand by a side with no record, the register is stored there
-pub stored_fresh : (A : Type 0) (layout : Layout) (side : Side) (epoch : ℕ) (s : State) (disk : View) → InEach disk (Stands {A = A} layout side (epoch, s) (fresh layout side)) → IsStored A layout side epoch (half_at layout side) s disk
-stored_fresh A layout side epoch s disk each = record { base = s; entries = []; each = each; accepted = tt; made = refl }
+pub stored_fresh : (A : Type 0) (layout : Layout) (side : Side) (epoch : ℕ) (s : State) (disk : View) → InEach disk (Stands {A = A} layout side Numbered (epoch, s) (fresh layout side)) → IsStored A layout side epoch (fresh_place layout side s.count) s disk
+stored_fresh A layout side epoch s disk each = record { base = s; entries = []; each = each; accepted = tt; made = refl; counts = refl }
 
 -- ---- commands that are given
 
@@ -92,15 +95,25 @@ module _ {B : Type 0} (A : Type 0) (s : State) (cs : List (Bor (Asked B))) where
 
 -- ---- an append
 
+-- the commands of some records, counted
+counted_all : {A : Type 0} (before : ℕ) (entries : List (Entry A)) → counted before entries ≡ before + length (commands_of entries)
+counted_all before [] = omega arith
+counted_all before (entry ∷ entries) = omega (arith, counted_all (before + length entry.1) entries, length-append entry.1 (commands_of entries))
+
 module _ (A : Type 0) (layout : Layout) (side : Side) (epoch : ℕ) (place : Place) (first_is : place.first ≡ half_at layout side) (end_is : place.end ≡ half_end layout side) (within : place.next < half_end layout side)
-    (s : State) (disk : View) (stored : IsStored A layout side epoch place.next s disk) where
+    (s : State) (disk : View) (stored : IsStored A layout side epoch place s disk) where
   some : half_at layout side < half_end layout side
   some = let fewest = layout.in_range.fewest in omega (arith, fewest)
 
-  pub settled : IsSettled disk place stored.entries
+  -- with the records' commands so many are accepted as the place counts
+  counts : counted stored.base.count stored.entries ≡ place.count
+  counts = counted_all stored.base.count stored.entries ∙ sym (numbers.counted stored.base (commands_of stored.entries) stored.accepted) ∙ ap (λ (t : State). t.count) (sym stored.made) ∙ sym stored.counts
+
+  pub settled : IsSettled disk place stored.base.count stored.entries
   settled = record {
     begins = omega (arith, first_is, end_is, some);
     within = omega (arith, end_is, within);
+    counts = counts;
     half = λ image is. rw (first_is, end_is) ((stored.each image is).half);
   }
 
@@ -122,44 +135,49 @@ module _ (A : Type 0) (layout : Layout) (side : Side) (epoch : ℕ) (place : Pla
     all_made = ap (λ (t : State). after t more) stored.made ∙ sym (after-append stored.base (commands_of stored.entries) more) ∙ ap (after stored.base) (sym all)
 
     -- an image in which nothing but the half has changed
-    stands_so : (entries : List (Entry A)) (gate : ℕ) (image : List (List ℕ)) → Leaves disk place stored.entries last image → half_of image place.first place.end ≡ Ok (entries, gate) → Stands layout side (epoch, stored.base) (entries, gate) image
+    stands_so : (entries : List (Entry A)) (gate : ℕ) (image : List (List ℕ)) → Leaves disk place stored.base.count stored.entries last image → half_of place.form stored.base.count image place.first place.end ≡ Ok (entries, gate) → Stands layout side place.form (epoch, stored.base) (entries, gate) image
     stands_so entries gate image leaves half =
         let was = leaves.elsewhere.0 in
         let torn : IsTorn (half_at layout side) layout.journal was image = record {
           count = leaves.elsewhere.2.count;
           others = λ k out. leaves.elsewhere.2.others k (elim out [ inl low ↦ inl (omega (arith, first_is, low)) | inr high ↦ inr (omega (arith, first_is, end_is, high)) ]);
         } in
-        let there : half_of image (half_at layout side) (half_end layout side) ≡ Ok (entries, gate) = rw (first_is, end_is) at half in
-        stands_with layout side (epoch, stored.base) (stored.entries, place.next) (entries, gate) was image (stored.each was leaves.elsewhere.1) torn there (half_below image (half_at layout side) (half_end layout side) entries gate some there)
+        let there : half_of place.form stored.base.count image (half_at layout side) (half_end layout side) ≡ Ok (entries, gate) = rw (first_is, end_is) at half in
+        stands_with layout side place.form (epoch, stored.base) (stored.entries, place.next) (entries, gate) was image (stored.each was leaves.elsewhere.1) torn there (half_below place.form stored.base.count image (half_at layout side) (half_end layout side) entries gate some there)
 
-    left_either : (image : List (List ℕ)) → Leaves disk place stored.entries last image → StandsForEither A s (after s more) image
+    left_either : (image : List (List ℕ)) → Leaves disk place stored.base.count stored.entries last image → StandsForEither A s (after s more) image
     left_either image leaves = elim (leaves.half) [
-      | inl without ↦ inl (stands_for A layout side (epoch, stored.base) (stored.entries, without.0) s image (stands_so stored.entries without.0 image leaves without.1) stored.accepted stored.made)
-      | inr with ↦ inr (stands_for A layout side (epoch, stored.base) (longer, with.0) (after s more) image (stands_so longer with.0 image leaves with.1) all_accepted all_made)
+      | inl without ↦ inl (stands_for A layout side place.form (epoch, stored.base) (stored.entries, without.0) s image (stands_so stored.entries without.0 image leaves without.1) stored.accepted stored.made)
+      | inr with ↦ inr (stands_for A layout side place.form (epoch, stored.base) (longer, with.0) (after s more) image (stands_so longer with.0 image leaves with.1) all_accepted all_made)
     ]
 
-    pub in_append : (new : View) → LeavesOnly disk new (Leaves disk place stored.entries last) → LeavesOnly disk new (StandsForEither A s (after s more))
-    in_append new leaves = weaker disk new (Leaves disk place stored.entries last) (StandsForEither A s (after s more)) leaves left_either
+    pub in_append : (new : View) → LeavesOnly disk new (Leaves disk place stored.base.count stored.entries last) → LeavesOnly disk new (StandsForEither A s (after s more))
+    in_append new leaves = weaker disk new (Leaves disk place stored.base.count stored.entries last) (StandsForEither A s (after s more)) leaves left_either
 
-    pub stored_more : (new : View) (now : Place) → now.first ≡ place.first → now.end ≡ place.end → LeavesOnly disk new (Leaves disk place stored.entries last) → IsSound new → IsSettled new now longer → IsStored A layout side epoch now.next (after s more) new
-    stored_more new now first end leaves sound is = record {
+    pub stored_more : (new : View) (now : Place) → now.first ≡ place.first → now.end ≡ place.end → now.form ≡ place.form → now.count ≡ place.count + length more
+        → LeavesOnly disk new (Leaves disk place stored.base.count stored.entries last) → IsSound new → IsSettled new now stored.base.count longer → IsStored A layout side epoch now (after s more) new
+    stored_more new now first end form count leaves sound is = record {
       base = stored.base;
       entries = longer;
-      each = λ image left. stands_so longer now.next image (left_each disk new (Leaves disk place stored.entries last) leaves sound image left) (rw (first, end) at (is.half image left));
+      each = λ image left. rw form (stands_so longer now.next image (left_each disk new (Leaves disk place stored.base.count stored.entries last) leaves sound image left) (rw (first, end, form) at (is.half image left)));
       accepted = all_accepted;
       made = all_made;
+      counts = omega (arith, count, stored.counts, numbers.counted s more history);
     }
 
   -- the same of commands that are given
   module _ {B : Type 0} (cs : List (Bor (Asked B))) (history : IsHistory s (asked cs)) where
     abbrev Left : List (List ℕ) → Type 0
-    Left = Leaves disk place stored.entries (place.next + 1, given A cs)
+    Left = Leaves disk place stored.base.count stored.entries (place.next + 1, given A cs)
 
     pub append_leaves : (new : View) → LeavesOnly disk new Left → LeavesOnly disk new (StandsForEither A s (after s (asked cs)))
     append_leaves new leaves = subst (λ (t : State). LeavesOnly disk new (StandsForEither A s t)) (given_after A s cs) (in_append (given A cs) (given_history A s cs history) new leaves)
 
-    pub stored_append : (new : View) (now : Place) → now.first ≡ place.first → now.end ≡ place.end → LeavesOnly disk new Left → IsSound new → IsSettled new now (stored.entries ++ (place.next + 1, given A cs) ∷ []) → IsStored A layout side epoch now.next (after s (asked cs)) new
-    stored_append new now first end leaves sound is = subst (λ (t : State). IsStored A layout side epoch now.next t new) (given_after A s cs) (stored_more (given A cs) (given_history A s cs history) new now first end leaves sound is)
+    pub stored_append : (new : View) (now : Place) → now.first ≡ place.first → now.end ≡ place.end → now.form ≡ place.form → now.count ≡ place.count + length cs
+        → LeavesOnly disk new Left → IsSound new → IsSettled new now stored.base.count (stored.entries ++ (place.next + 1, given A cs) ∷ []) → IsStored A layout side epoch now (after s (asked cs)) new
+    stored_append new now first end form count leaves sound is =
+        let all : now.count ≡ place.count + length (given A cs) = omega (arith, count, length-map cs (λ (c : Bor (Asked B)). under A c.now)) in
+        subst (λ (t : State). IsStored A layout side epoch now t new) (given_after A s cs) (stored_more (given A cs) (given_history A s cs history) new now first end form all leaves sound is)
 
 -- ---- one part of a commit after another
 
@@ -169,12 +187,30 @@ only_before A s t old new leaves = weaker old new (StandsFor A s) (StandsForEith
 pub then_either : (A : Type 0) (s t : State) (old mid new : View) → LeavesOnly old mid (StandsFor A s) → LeavesOnly mid new (StandsForEither A s t) → LeavesOnly old new (StandsForEither A s t)
 then_either A s t old mid new first second = run_on old mid new (StandsForEither A s t) (StandsForEither A s t) (only_before A s t old mid first) second (λ image is. is)
 
+-- a record takes one data sector at least
+head_some : (form : Form) → 1 ≤ head_len form
+head_some Plain = omega arith
+head_some Numbered = omega arith
+
+pub some_sectors : {B : Type 0} (A : Type 0) (place : Place) (cs : List (Bor (Asked B))) → 1 ≤ data_size (text_at A place cs)
+some_sectors A place cs = omega (arith, given_size A place.form place.count cs, head_some place.form)
+
+-- the greatest one fits behind a new image
+pub fits_fresh : {T E B : Type 0} (A : Type 0) (r : Result T E) (layout : Layout) (side : Side) (count : ℕ) (now : Place) (cs : List (Bor (Asked B))) → ((form : Form) (before : ℕ) → data_size (record_text form before (given A cs)) ≤ most_sectors)
+    → OnOk r (now ≡ fresh_place layout side count) → OnOk r (data_size (text_at A now cs) ≤ room_of now)
+fits_fresh A (Ok t) layout side count now cs most is =
+    let fewest = layout.in_range.fewest in
+    let few : data_size (text_at A (fresh_place layout side count) cs) ≤ most_sectors = most Numbered count in
+    let fits : data_size (text_at A (fresh_place layout side count) cs) ≤ room_of (fresh_place layout side count) = omega (arith, few, fewest) in
+    subst (λ (p : Place). data_size (text_at A p cs) ≤ room_of p) (sym is) fits
+fits_fresh A (Err e) layout side count now cs most is = tt
+
 -- a record of fewer bytes of commands fits where the greater one does
-pub fewer_fit : {B : Type 0} (A : Type 0) (less few more : List (Bor (Asked B))) (room : ℕ) → less ≡ few → length (flat_map (λ c. command_text c.now) few) ≤ length (flat_map (λ c. command_text c.now) more)
-    → data_size (record_text (given A more)) ≤ room → data_size (record_text (given A less)) ≤ room
-fewer_fit A less few more room same size fits =
+pub fewer_fit : {B : Type 0} (A : Type 0) (place : Place) (less few more : List (Bor (Asked B))) (room : ℕ) → less ≡ few → length (flat_map (λ c. command_text c.now) few) ≤ length (flat_map (λ c. command_text c.now) more)
+    → data_size (text_at A place more) ≤ room → data_size (text_at A place less) ≤ room
+fewer_fit A place less few more room same size fits =
     let bytes : length (flat_map (λ c. command_text c.now) less) ≡ length (flat_map (λ c. command_text c.now) few) = ap (λ l. length (flat_map (λ c. command_text c.now) l)) same in
-    omega (arith, given_size A less, given_size A more, bytes, size, fits)
+    omega (arith, given_size A place.form place.count less, given_size A place.form place.count more, bytes, size, fits)
 
 -- m is the state s as the checkpoint left it, t the one after the batch, and u what the register has in the end
 module _ {B : Type 0} (A : Type 0) (s m t u : State) (given_are items : List (Bor (Asked B))) (same : m ≡ s) (are : given_are ≡ items) (made : t ≡ after m (asked items)) (last : u ≡ t) where
@@ -189,8 +225,8 @@ module _ {B : Type 0} (A : Type 0) (s m t u : State) (given_are items : List (Bo
       let now : LeavesOnly mid new (StandsForEither A m u) = subst (λ x. LeavesOnly mid new (StandsForEither A m x)) (sym in_end) second in
       then_either A s u old mid new first (subst (λ x. LeavesOnly mid new (StandsForEither A x u)) same now)
 
-  pub stored_commit : (layout : Layout) (side : Side) (epoch next : ℕ) (disk : View) → IsStored A layout side epoch next (after m (asked given_are)) disk → IsStored A layout side epoch next u disk
-  stored_commit layout side epoch next disk stored = subst (λ x. IsStored A layout side epoch next x disk) (sym in_end) stored
+  pub stored_commit : (layout : Layout) (side : Side) (epoch : ℕ) (journal : Place) (disk : View) → IsStored A layout side epoch journal (after m (asked given_are)) disk → IsStored A layout side epoch journal u disk
+  stored_commit layout side epoch journal disk stored = subst (λ x. IsStored A layout side epoch journal x disk) (sym in_end) stored
 
 pub batch_done : {B C : Type 0} (s m t u : State) (cs : List (Asked B)) (outcomes : List (Outcome C)) → m ≡ s → u ≡ t → IsAnswered m cs t outcomes → IsAfterBatch s cs u
 batch_done s m t u cs outcomes same last is = (is.applied, last ∙ is.state ∙ ap (λ x. after x (take is.applied cs)) same, subst (λ x. IsEnd cs is.applied x) (sym last) is.end)

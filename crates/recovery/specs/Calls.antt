@@ -2,7 +2,6 @@
 use Rattle.std.specs.Prelude.{◌+◌, Bool, true, false, List, [], ◌∷◌, ◌++◌, nat_le}
 use Rattle.std.specs.Borrow.{Bor}
 use Rattle.identity.specs.Numbers.{Byte}
-use Rattle.sector_disk.specs.Numbers.{Sector}
 use Rattle.sector_disk.specs.declared.record.Call.{Call}
 use Rattle.sector_disk.specs.declared.record.Call.TheVariants.{Sync, Write}
 use Rattle.centre_core.specs.Asked.{Asked}
@@ -13,14 +12,15 @@ use Rattle.image_rows.specs.RowText.{padded, sector_of}
 use Rattle.image_rows.specs.Worked.{bare}
 use Rattle.gated_journal.specs.declared.place.Place.{Place}
 use Rattle.gated_journal.specs.Calls.{append_calls, closed_gate, open_gate}
-use Rattle.gated_journal.specs.Record.{data_size, given, record_text}
-use Rattle.gated_journal.specs.Settled.{room_of}
+use Rattle.gated_journal.specs.Record.{data_size, record_text}
+use Rattle.gated_journal.specs.Settled.{room_of, text_at}
 use Rattle.checkpoint.specs.Calls.{image_calls_by, is_root_open, switch_calls}
 use Rattle.checkpoint.specs.declared.layout.Layout.{Layout}
 use Rattle.checkpoint.specs.declared.side.Side.{Side}
 use Rattle.checkpoint.specs.declared.side.Side.TheVariants as side
 use Rattle.checkpoint.specs.Label.{label_text}
 use Rattle.checkpoint.specs.Layout.{half_at, label_at, other_of, root_at, slot_at}
+use Rattle.recovery.specs.Stored.{fresh_place}
 
 -- the sector of the one row that an empty register has, of epoch 1
 abbrev pub first_header : List Byte
@@ -49,19 +49,14 @@ format_calls layout = side_calls layout ++ Write label_at (label_sector layout) 
 
 -- may a record of all these commands go to the next gate?
 abbrev pub fits_in : {B : Type 0} (A : Type 0) → Place → List (Bor (Asked B)) → Bool
-fits_in A place commands = nat_le (data_size (record_text (given A commands))) (room_of place)
+fits_in A place commands = nat_le (data_size (text_at A place commands)) (room_of place)
 
--- these commands as one record at a gate; of none nothing
-abbrev pub record_calls : {A : Type 0} → Sector → List (Asked A) → List Call
-record_calls gate [] = []
-record_calls gate (c ∷ cs) = append_calls gate (record_text (c ∷ cs))
+-- these commands as one record at the next gate; of none nothing
+abbrev pub record_calls : {A : Type 0} → Place → List (Asked A) → List Call
+record_calls place [] = []
+record_calls place (c ∷ cs) = append_calls place.next (record_text place.form place.count (c ∷ cs))
 
 module _ (layout : Layout) (side : Side) where
-  -- the gate of the next record, where it fits or not: the next one, or behind a checkpoint the first of the other side's half
-  abbrev pub gate_then : Bool → Sector → Sector
-  gate_then true gate = gate
-  gate_then false gate = half_at layout (other_of side)
-
   module _ (epoch : Epoch) (state : State) where
     -- the register's image is written to the other side, whose root was read as open or closed, with the next epoch, and
     -- that side is made to count
@@ -73,9 +68,15 @@ module _ (layout : Layout) (side : Side) where
     room_calls_by was_open true = []
     room_calls_by was_open false = checkpoint_calls_by was_open
 
+    -- where the next record goes, whether it fits or not: to the next gate, or behind a checkpoint to the first one of the
+    -- other side's half
+    abbrev pub place_then : Bool → Place → Place
+    place_then true place = place
+    place_then false place = fresh_place layout (other_of side) state.count
+
     -- room is made where the record does not fit, and then the accepted commands are kept
-    abbrev pub commit_calls_by : {A : Type 0} → Bool → Bool → Sector → List (Asked A) → List Call
-    commit_calls_by was_open fits gate accepted = room_calls_by was_open fits ++ record_calls (gate_then fits gate) accepted
+    abbrev pub commit_calls_by : {A : Type 0} → Bool → Bool → Place → List (Asked A) → List Call
+    commit_calls_by was_open fits place accepted = room_calls_by was_open fits ++ record_calls (place_then fits place) accepted
 
     module _ (reads : List (List Byte)) where
       -- those of a checkpoint, by what the other side's root reads as
@@ -87,5 +88,5 @@ module _ (layout : Layout) (side : Side) where
       room_calls fits = room_calls_by (is_root_open (other_of side) reads) fits
 
       -- those of a commit, by that root
-      abbrev pub commit_calls : {A : Type 0} → Bool → Sector → List (Asked A) → List Call
-      commit_calls fits gate accepted = commit_calls_by (is_root_open (other_of side) reads) fits gate accepted
+      abbrev pub commit_calls : {A : Type 0} → Bool → Place → List (Asked A) → List Call
+      commit_calls fits place accepted = commit_calls_by (is_root_open (other_of side) reads) fits place accepted

@@ -15,6 +15,7 @@ use Rattle.centre_core.specs.History.{after, is_acceptance, made, next}
 use Rattle.centre_core.specs.Same.{under}
 use Rattle.centre_core.specs.Histories.{IsHistory}
 use Rattle.image_rows.specs.Numbers.{Epoch}
+use Rattle.gated_journal.specs.declared.place.Place.{Place}
 use Rattle.checkpoint.specs.declared.layout.Layout.{Layout}
 use Rattle.checkpoint.specs.declared.side.Side.{Side}
 use Rattle.checkpoint.specs.Standing.{InEach}
@@ -34,7 +35,7 @@ pub record StoreView (D : Type 0) : Type 0 where
   pub layout : Layout
   pub side : Side
   pub epoch : Epoch
-  pub next : Sector
+  pub journal : Place
   pub register : State
   pub broken : Bool
   pub disk : D
@@ -51,7 +52,7 @@ disk_of (Open store) = store.disk
 
 -- a store, as contracts see it
 abbrev pub view_of : {A D : Type 0} {g : Ghosts D} → Store A D g → StoreView D
-view_of store = record { layout = store.layout; side = store.side; epoch = store.epoch; next = store.journal.next; register = store.register; broken = store.broken; disk = store.disk }
+view_of store = record { layout = store.layout; side = store.side; epoch = store.epoch; journal = store.journal; register = store.register; broken = store.broken; disk = store.disk }
 
 -- ---- calls
 
@@ -87,12 +88,12 @@ module _ {A : Type 0} where
 module _ {D : Type 0} (A : Type 0) (view : D → View) where
   -- the store's register is on its disk
   abbrev pub IsStoredIn : StoreView D → Type 0
-  IsStoredIn store = IsStored A store.layout store.side store.epoch store.next store.register (view store.disk)
+  IsStoredIn store = IsStored A store.layout store.side store.epoch store.journal store.register (view store.disk)
 
   -- a store is opened on the disk
   pub record HasOpened (old : D) (new : StoreView D) : Type 0 where
     pub honest : (view new.disk).honest
-    pub opened : opens A (view old).reads ≡ Ok (opening new.layout new.side new.epoch new.next new.register)
+    pub opened : opens A (view old).reads ≡ Ok (opening new.layout new.side new.epoch new.journal.next new.register)
     pub kept : IsStoredIn new
     pub left : LeavesOnly (view old) (view new.disk) (IsImageOf (view old))
 

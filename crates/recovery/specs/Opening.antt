@@ -12,7 +12,7 @@ use Rattle.checkpoint.specs.declared.layout.Layout.{Layout}
 use Rattle.checkpoint.specs.declared.side.Side.{Side}
 use Rattle.checkpoint.specs.Layout.{half_at, half_end, slot_at}
 use Rattle.checkpoint.specs.Reading.{looks}
-use Rattle.checkpoint.specs.Standing.{Base, Held, slot_in}
+use Rattle.checkpoint.specs.Standing.{Base, Held, slot_form, slot_in}
 use Rattle.recovery.specs.declared.fault.StoreFault.{StoreFault}
 use Rattle.recovery.specs.declared.fault.StoreFault.TheVariants.{BadGeometry, Broken, Damaged, DiskFault, EpochsUsedUp, NoMemory, Unformatted}
 use Rattle.recovery.specs.Label.{layout_in}
@@ -106,7 +106,7 @@ pub record AreGoodRows (layout : Layout) (side : Side) (image : List (List Byte)
 pub record AreAllGood (A : Type 0) (layout : Layout) (side : Side) (image : List (List Byte)) : Type 0 where
   pub base : Base
   pub rows : base_in layout side image ≡ Ok base
-  pub records : HasRecords A image (half_at layout side) (half_end layout side)
+  pub records : HasRecords A (slot_form layout side image) base.1.count image (half_at layout side) (half_end layout side)
 
 -- the rows that were read last are good, or all rows and all records are
 abbrev pub AreGoodSoFar : Type 0 → Layout → Side → List (List Byte) → List Call → Type 0

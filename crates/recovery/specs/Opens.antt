@@ -12,7 +12,7 @@ use Rattle.checkpoint.specs.declared.layout.Layout.{Layout}
 use Rattle.checkpoint.specs.declared.side.Side.{Side}
 use Rattle.checkpoint.specs.declared.side.Side.TheVariants as side
 use Rattle.checkpoint.specs.Layout.{half_at, half_end, root_at, slot_at}
-use Rattle.checkpoint.specs.Standing.{Base, Held, slot_epoch, slot_in}
+use Rattle.checkpoint.specs.Standing.{Base, Held, slot_epoch, slot_form, slot_in}
 use Rattle.recovery.specs.declared.fault.StoreFault.{StoreFault}
 use Rattle.recovery.specs.declared.fault.StoreFault.TheVariants.{Damaged}
 use Rattle.recovery.specs.Label.{layout_in}
@@ -110,9 +110,9 @@ played_from s half = do
   Ok (t, held.1)
 
 module _ (A : Type 0) where
-  -- the same of a side's half
+  -- the same of a side's half, read in the form that its slot tells and behind the state's commands
   unfoldable pub played_by : Layout → Side → State → List (List Byte) → Result Reached StoreFault
-  played_by layout side s image = played_from s (half_of {A = A} image (half_at layout side) (half_end layout side))
+  played_by layout side s image = played_from s (half_of {A = A} (slot_form layout side image) s.count image (half_at layout side) (half_end layout side))
 
   -- by this side: its image, then its records
   unfoldable pub opens_by : Layout → Side → List (List Byte) → Result Opening StoreFault

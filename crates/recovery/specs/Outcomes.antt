@@ -1,14 +1,13 @@
 -- What becomes of a batch of commands.
-use Rattle.std.specs.Prelude.{◌≡◌, ◌⊎◌, ℕ, ◌-◌, ◌≤◌, IsTrue, List, [], ◌∷◌, ◌++◌, length, map, take, replicate, slice_get, Some, if◌then◌else◌}
+use Rattle.std.specs.Prelude.{◌≡◌, ◌⊎◌, ℕ, ◌-◌, ◌≤◌, IsTrue, List, ◌++◌, length, map, take, replicate, slice_get, Some}
 use Rattle.std.specs.Borrow.{Bor}
 use Rattle.identity.specs.Numbers.{Byte}
 use Rattle.centre_core.specs.Asked.{Asked}
 use Rattle.centre_core.specs.Same.{under}
-use Rattle.centre_core.specs.declared.reply.Reply.{Reply}
 use Rattle.centre_core.specs.State.{State}
-use Rattle.centre_core.specs.Step.{step}
 use Rattle.centre_core.specs.Memory.{needs_memory}
-use Rattle.centre_core.specs.History.{accepts, after, next}
+use Rattle.centre_core.specs.History.{after}
+use Rattle.centre_core.specs.Batches.{replies, taken}
 use Rattle.recovery.specs.declared.outcome.Outcome.{Outcome}
 use Rattle.recovery.specs.declared.outcome.Outcome.TheVariants.{NoMemory, Replied}
 use Rattle.recovery.specs.Standing.{StandsFor}
@@ -18,21 +17,11 @@ abbrev pub asked : {B : Type 0} → List (Bor (Asked B)) → List (Asked B)
 asked commands = map (λ command. command.now) commands
 
 module _ {B : Type 0} where
-  -- those of the commands that are accepted, each in its turn
-  abbrev pub accepted_of : State → List (Asked B) → List (Asked B)
-  accepted_of s [] = []
-  accepted_of s (c ∷ cs) = if accepts s c then c ∷ accepted_of (next s c) cs else accepted_of (next s c) cs
-
-  -- the replies to the commands, each in its turn, kept under the allocator C
-  abbrev pub replies : (C : Type 0) → State → List (Asked B) → List (Reply C)
-  replies C s [] = []
-  replies C s (c ∷ cs) = (step {B = C} s c).1 ∷ replies C (next s c) cs
-
   -- the first commands were applied, so many of them: the state then, the outcomes, and the commands that were accepted
   pub record AreApplied {C : Type 0} (s : State) (commands : List (Asked B)) (applied : ℕ) (t : State) (outcomes : List (Outcome C)) (accepted : List (Asked B)) : Type 0 where
     pub state : t ≡ after s (take applied commands)
     pub replied : outcomes ≡ map Replied (replies C s (take applied commands))
-    pub taken : accepted ≡ accepted_of s (take applied commands)
+    pub taken : accepted ≡ taken s (take applied commands)
 
   -- no more are applied: there are no more, or the next one needs memory
   pub record IsEnd (commands : List (Asked B)) (applied : ℕ) (t : State) : Type 0 where
@@ -47,7 +36,7 @@ module _ {B : Type 0} where
   pub record AreRecorded (A : Type 0) (s : State) (commands : List (Asked B)) (t : State) (recorded : List (Asked A)) : Type 0 where
     pub applied : ℕ
     pub state : t ≡ after s (take applied commands)
-    pub these : recorded ≡ map (under A) (accepted_of s (take applied commands))
+    pub these : recorded ≡ map (under A) (taken s (take applied commands))
 
   -- so the batch is answered: the first commands by their replies, and from the first one that found no memory on each by want of memory
   pub record IsAnswered {C : Type 0} (s : State) (commands : List (Asked B)) (t : State) (outcomes : List (Outcome C)) : Type 0 where

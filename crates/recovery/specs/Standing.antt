@@ -8,6 +8,7 @@ use Rattle.centre_core.specs.State.{IsState, State, empty}
 use Rattle.centre_core.specs.StateRanges.{StateInRange}
 use Rattle.centre_core.specs.History.{after}
 use Rattle.centre_core.specs.Histories.{IsHistory}
+use Rattle.gated_journal.specs.declared.form.Form.{Form}
 use Rattle.gated_journal.specs.Half.{Entry}
 use Rattle.checkpoint.specs.declared.layout.Layout.{Layout}
 use Rattle.checkpoint.specs.Standing.{Base, Stands}
@@ -33,10 +34,11 @@ pub record IsRanged (limits : Limits) (s : State) : Type 0 where
   pub ranges : StateInRange s
   pub under : s.registered.limits ≡ limits
 
--- How an image stands that opens: by this side, for a base and records whose commands were accepted one after the other.
+-- How an image stands that opens: by this side, for a base and records of either form, whose commands were accepted one after the other.
 pub record OpensAs (A : Type 0) (opening : Opening) (image : List (List Byte)) : Type 0 where
+  pub form : Form
   pub base : State
   pub entries : List (Entry A)
-  pub stands : Stands opening.layout opening.side (opening.epoch, base) (entries, opening.next) image
+  pub stands : Stands opening.layout opening.side form (opening.epoch, base) (entries, opening.next) image
   pub accepted : IsHistory base (commands_of entries)
   pub made : opening.state ≡ after base (commands_of entries)

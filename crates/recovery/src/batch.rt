@@ -1,12 +1,13 @@
 // A batch of commands applied to a register.
 ghost use Rattle.std.specs.Prelude.{◌≡◌, ◌≤◌, ◌<◌, ◌+◌, ◌-◌, ◌++◌, ◌∷◌, ℕ, [], IsTrue, OnErr, OnOk, length, map, replicate, vec_capacity, vec_len};
 ghost use Rattle.std.specs.List.{flat_map};
+ghost use Rattle.centre_core.specs.Batches.{replies, taken};
 ghost use Rattle.centre_core.specs.History.{after, next};
 ghost use Rattle.centre_core.specs.Histories.{IsHistory};
 ghost use Rattle.centre_core.specs.Memory.{needs_memory};
 ghost use Rattle.command_bytes.specs.Text.{command_text};
 ghost use Rattle.gated_journal.specs.Record.{given};
-ghost use Rattle.recovery.specs.Outcomes.{AreApplied, AreRecorded, IsAnswered, IsEnd, accepted_of, asked, replies};
+ghost use Rattle.recovery.specs.Outcomes.{AreApplied, AreRecorded, IsAnswered, IsEnd, asked};
 ghost use Rattle.recovery.specs.declared.outcome.Outcome.TheVariants.{NoMemory, Replied};
 
 use crate::Outcome;
@@ -26,7 +27,7 @@ fn apply_one<'a, A: Allocator + Clone, B: Allocator, C: Allocator + Copy>(
     requires also { vec_len accepted.old < vec_capacity accepted.old }
     ensures register { OnOk result (register.new ≡ next register.old command.now) }
     ensures outcomes { OnOk result (outcomes.new.items ≡ outcomes.old.items ++ map Replied (replies C register.old (command.now ∷ []))) }
-    ensures accepted { OnOk result (asked accepted.new.items ≡ asked accepted.old.items ++ accepted_of register.old (command.now ∷ [])) }
+    ensures accepted { OnOk result (asked accepted.new.items ≡ asked accepted.old.items ++ taken register.old (command.now ∷ [])) }
     ensures places { OnOk result (vec_len outcomes.new ≡ vec_len outcomes.old + 1) }
     ensures also_places { vec_len accepted.new ≤ vec_len accepted.old + 1 }
     ensures capacity { vec_capacity outcomes.old ≤ vec_capacity outcomes.new }
@@ -93,8 +94,9 @@ pub(crate) fn apply_all<'a, A: Allocator + Clone, B: Allocator, C: Allocator + C
     ensures state { register.new ≡ after register.old (asked accepted.new.items) }
     ensures limits { register.new.registered.limits ≡ register.old.registered.limits }
     ensures count { length accepted.new.items ≤ length commands.now }
+    ensures counted { register.new.count ≡ register.old.count + length accepted.new.items }
     ensures size { length (flat_map (λ command. command_text command.now) accepted.new.items) ≤ length (flat_map (λ command. command_text command.now) commands.now) }
-    ensures none { accepted_of register.old (asked commands.now) ≡ [] → accepted.new.items ≡ [] }
+    ensures none { taken register.old (asked commands.now) ≡ [] → accepted.new.items ≡ [] }
     ensures recorded { AreRecorded A register.old (asked commands.now) register.new (given A accepted.new.items) }
 {
     let _ = apply_in_turn(register, alloc, commands, outcomes, accepted);

@@ -9,7 +9,9 @@ ghost use Rattle.checkpoint.specs.Layout.{disk_size, half_at, half_end, other_of
 ghost use Rattle.checkpoint.specs.Standing.{Base, Held, InEach, IsEither, Stands, fresh};
 ghost use Rattle.recovery.specs.declared.fault.StoreFault.TheVariants.{Broken, DiskFault, EpochsUsedUp};
 ghost use Rattle.recovery.specs.Calls.{checkpoint_calls, checkpoint_calls_by};
-ghost use Rattle.recovery.specs.Stored.{IsStored};
+ghost use Rattle.gated_journal.specs.declared.form.Form.{Form};
+ghost use Rattle.gated_journal.specs.declared.form.Form.TheVariants.{Numbered};
+ghost use Rattle.recovery.specs.Stored.{IsStored, fresh_place};
 ghost use Rattle.recovery.specs.Refusals.{IsOfCheckpoint};
 ghost use Rattle.recovery.specs.Standing.{StandsFor};
 ghost use Rattle.recovery.specs.Lives.{IsCall, Open, Unanswered, view_of};
@@ -18,6 +20,7 @@ use crate::before::Before;
 use crate::{Store, StoreFault};
 use centre_core::Register;
 use checkpoint::{CheckpointError, Layout, Side, switch, write_image};
+use gated_journal::Form;
 use sector_disk::Disk;
 use std::alloc::Allocator;
 
@@ -31,10 +34,10 @@ fn write_side<A: Allocator + Clone, D: Disk>(
 ) -> Result<(), CheckpointError>
     requires room { disk_size layout.now ≤ (D.view disk.old).sectors }
     requires limits { register.now.registered.limits ≡ layout.now.limits }
-    ensures any_moment { (base : Base) (held : Held A) → base.0 ≡ epoch → (D.view disk.old).honest → InEach (D.view disk.old) (Stands layout.now current base held)
-        → LeavesOnly (D.view disk.old) (D.view disk.new) (IsEither layout.now current base (epoch + 1, register.now) held (fresh layout.now (other_of current))) }
-    ensures switched { OnOk result ((base : Base) (held : Held A) → base.0 ≡ epoch → (D.view disk.old).honest → InEach (D.view disk.old) (Stands layout.now current base held)
-        → InEach (D.view disk.new) (Stands {A = A} layout.now (other_of current) (epoch + 1, register.now) (fresh layout.now (other_of current)))) }
+    ensures any_moment { (form : Form) (base : Base) (held : Held A) → base.0 ≡ epoch → (D.view disk.old).honest → InEach (D.view disk.old) (Stands layout.now current form base held)
+        → LeavesOnly (D.view disk.old) (D.view disk.new) (IsEither layout.now current form Numbered base (epoch + 1, register.now) held (fresh layout.now (other_of current))) }
+    ensures switched { OnOk result ((form : Form) (base : Base) (held : Held A) → base.0 ≡ epoch → (D.view disk.old).honest → InEach (D.view disk.old) (Stands layout.now current form base held)
+        → InEach (D.view disk.new) (Stands {A = A} layout.now (other_of current) Numbered (epoch + 1, register.now) (fresh layout.now (other_of current)))) }
     ensures calls { OnOk result ((D.view disk.old).honest → (D.view disk.new).calls ≡ (D.view disk.old).calls ++ checkpoint_calls layout.now current epoch register.now (D.view disk.old).reads) }
     ensures some_calls { (D.view disk.old).honest → HasMade (D.view disk.old) (D.view disk.new) (checkpoint_calls layout.now current epoch register.now (D.view disk.old).reads) }
     ensures calls_on_any_disk { OnOk result ((was_open : Bool) × ((D.view disk.new).calls ≡ (D.view disk.old).calls ++ checkpoint_calls_by layout.now current epoch register.now was_open)) }
@@ -58,16 +61,16 @@ impl<A: Allocator + Clone, D: Disk> Store<A, D> {
     /// last epoch, 2 to the 62nd; nothing is then changed. After `DiskFault` the disk is to be opened again.
     pub fn checkpoint(&mut self) -> Result<(), StoreFault>
         // A stop at any moment of the call, also of one that fails, leaves the disk standing for the register.
-        ensures any_moment { (D.view self.old.disk).honest → IsStored A self.old.layout self.old.side self.old.epoch self.old.journal.next self.old.register (D.view self.old.disk)
+        ensures any_moment { (D.view self.old.disk).honest → IsStored A self.old.layout self.old.side self.old.epoch self.old.journal self.old.register (D.view self.old.disk)
             → LeavesOnly (D.view self.old.disk) (D.view self.new.disk) (StandsFor A self.old.register) }
 
-        // At `Ok` each stop leaves it standing by the other side, with the next epoch and no record.
-        ensures moved { OnOk result ((D.view self.old.disk).honest → IsStored A self.old.layout self.old.side self.old.epoch self.old.journal.next self.old.register (D.view self.old.disk)
-            → InEach (D.view self.new.disk) (Stands {A = A} self.old.layout (other_of self.old.side) (self.old.epoch + 1, self.old.register) (fresh self.old.layout (other_of self.old.side)))) }
-        ensures kept { OnOk result ((D.view self.old.disk).honest → IsStored A self.old.layout self.old.side self.old.epoch self.old.journal.next self.old.register (D.view self.old.disk)
-            → IsStored A self.new.layout self.new.side self.new.epoch self.new.journal.next self.new.register (D.view self.new.disk)) }
+        // At `Ok` each stop leaves it standing by the other side, with the next epoch and no record; records will be numbered.
+        ensures moved { OnOk result ((D.view self.old.disk).honest → IsStored A self.old.layout self.old.side self.old.epoch self.old.journal self.old.register (D.view self.old.disk)
+            → InEach (D.view self.new.disk) (Stands {A = A} self.old.layout (other_of self.old.side) Numbered (self.old.epoch + 1, self.old.register) (fresh self.old.layout (other_of self.old.side)))) }
+        ensures kept { OnOk result ((D.view self.old.disk).honest → IsStored A self.old.layout self.old.side self.old.epoch self.old.journal self.old.register (D.view self.old.disk)
+            → IsStored A self.new.layout self.new.side self.new.epoch self.new.journal self.new.register (D.view self.new.disk)) }
         ensures sides { OnOk result ((self.new.side ≡ other_of self.old.side) × (self.new.epoch ≡ self.old.epoch + 1)) }
-        ensures no_record { OnOk result (self.new.journal.next ≡ half_at self.new.layout self.new.side) }
+        ensures no_record { OnOk result (self.new.journal ≡ fresh_place self.old.layout (other_of self.old.side) self.old.register.count) }
         ensures same { (self.new.layout ≡ self.old.layout) × (self.new.register ≡ self.old.register) }
         ensures unmoved { OnErr result ((self.new.side ≡ self.old.side) × (self.new.epoch ≡ self.old.epoch) × (self.new.journal ≡ self.old.journal)) }
 
@@ -105,8 +108,12 @@ impl<A: Allocator + Clone, D: Disk> Store<A, D> {
                 self.side = side.other();
                 self.epoch = epoch + 1;
                 let first = self.layout.half(self.side);
-                self.journal
-                    .restart(first, u64::from(self.layout.journal()));
+                self.journal.restart(
+                    first,
+                    u64::from(self.layout.journal()),
+                    Form::Numbered,
+                    self.register.count(),
+                );
                 Ok(())
             }
             Err(CheckpointError::EpochsUsedUp) => Err(StoreFault::EpochsUsedUp),

@@ -4,18 +4,19 @@ ghost use Rattle.std.specs.Prelude.{◌≡◌, ◌⊎◌, ◌+◌, ◌<◌, ◌�
 ghost use Rattle.sector_disk.specs.Disk.{HasFailed};
 ghost use Rattle.sector_disk.specs.Run.{HasMade, LeavesOnly};
 ghost use Rattle.centre_core.specs.Asked.{Asked};
+ghost use Rattle.centre_core.specs.Batches.{taken};
 ghost use Rattle.centre_core.specs.History.{after};
 ghost use Rattle.centre_core.specs.Histories.{IsHistory};
 ghost use Rattle.centre_core.specs.State.{State};
 ghost use Rattle.image_rows.specs.Rows.{last_epoch};
-ghost use Rattle.gated_journal.specs.Record.{data_size, given, most_commands, record_text};
-ghost use Rattle.gated_journal.specs.Settled.{room_of};
+ghost use Rattle.gated_journal.specs.Record.{data_size, given, most_commands};
+ghost use Rattle.gated_journal.specs.Settled.{room_of, text_at};
 ghost use Rattle.checkpoint.specs.Layout.{other_of};
 ghost use Rattle.checkpoint.specs.Standing.{InEach};
 ghost use Rattle.recovery.specs.declared.fault.StoreFault.TheVariants.{Broken, DiskFault, EpochsUsedUp, NoMemory};
-ghost use Rattle.recovery.specs.Calls.{commit_calls, commit_calls_by, fits_in, gate_then, record_calls, room_calls, room_calls_by};
+ghost use Rattle.recovery.specs.Calls.{commit_calls, commit_calls_by, fits_in, place_then, record_calls, room_calls, room_calls_by};
 ghost use Rattle.recovery.specs.Stored.{IsStored};
-ghost use Rattle.recovery.specs.Outcomes.{AreRecorded, IsAfterBatch, IsAnswered, StandsForEither, accepted_of, asked};
+ghost use Rattle.recovery.specs.Outcomes.{AreRecorded, IsAfterBatch, IsAnswered, StandsForEither, asked};
 ghost use Rattle.recovery.specs.Refusals.{IsOfCheckpoint, IsOfCommit};
 ghost use Rattle.recovery.specs.Standing.{StandsFor};
 ghost use Rattle.recovery.specs.Lives.{IsAnsweredCall, IsCall, IsUnansweredCall, Open, Unanswered, view_of};
@@ -24,6 +25,7 @@ use crate::batch::apply_all;
 use crate::before::Before;
 use crate::{Outcome, Store, StoreFault};
 use centre_core::Command;
+use centre_core::laws::registers;
 use sector_disk::Disk;
 use std::alloc::Allocator;
 
@@ -34,23 +36,23 @@ impl<A: Allocator + Clone, D: Disk> Store<A, D> {
         commands: &[&Command<B>],
     ) -> Result<(), StoreFault>
         requires { length commands.now ≤ most_commands }
-        ensures any_moment { (D.view self.old.disk).honest → IsStored A self.old.layout self.old.side self.old.epoch self.old.journal.next self.old.register (D.view self.old.disk)
+        ensures any_moment { (D.view self.old.disk).honest → IsStored A self.old.layout self.old.side self.old.epoch self.old.journal self.old.register (D.view self.old.disk)
             → LeavesOnly (D.view self.old.disk) (D.view self.new.disk) (StandsFor A self.old.register) }
-        ensures kept { OnOk result ((D.view self.old.disk).honest → IsStored A self.old.layout self.old.side self.old.epoch self.old.journal.next self.old.register (D.view self.old.disk)
-            → IsStored A self.new.layout self.new.side self.new.epoch self.new.journal.next self.new.register (D.view self.new.disk)) }
-        ensures fits { OnOk result (data_size (record_text (given A commands.now)) ≤ room_of self.new.journal) }
-        ensures stays { data_size (record_text (given A commands.now)) ≤ room_of self.old.journal → (result ≡ Ok tt) × (self.new ≡ self.old) }
-        ensures moves { OnOk result (room_of self.old.journal < data_size (record_text (given A commands.now)) → (self.new.side ≡ other_of self.old.side) × (self.new.epoch ≡ self.old.epoch + 1)) }
+        ensures kept { OnOk result ((D.view self.old.disk).honest → IsStored A self.old.layout self.old.side self.old.epoch self.old.journal self.old.register (D.view self.old.disk)
+            → IsStored A self.new.layout self.new.side self.new.epoch self.new.journal self.new.register (D.view self.new.disk)) }
+        ensures fits { OnOk result (data_size (text_at A self.new.journal commands.now) ≤ room_of self.new.journal) }
+        ensures stays { data_size (text_at A self.old.journal commands.now) ≤ room_of self.old.journal → (result ≡ Ok tt) × (self.new ≡ self.old) }
+        ensures moves { OnOk result (room_of self.old.journal < data_size (text_at A self.old.journal commands.now) → (self.new.side ≡ other_of self.old.side) × (self.new.epoch ≡ self.old.epoch + 1)) }
         ensures calls { OnOk result ((D.view self.old.disk).honest → (D.view self.new.disk).calls ≡ (D.view self.old.disk).calls ++ room_calls self.old.layout self.old.side self.old.epoch self.old.register (D.view self.old.disk).reads (fits_in A self.old.journal commands.now)) }
         ensures some_calls { (D.view self.old.disk).honest → HasMade (D.view self.old.disk) (D.view self.new.disk) (room_calls self.old.layout self.old.side self.old.epoch self.old.register (D.view self.old.disk).reads (fits_in A self.old.journal commands.now)) }
         ensures calls_on_any_disk { OnOk result ((was_open : Bool) × ((D.view self.new.disk).calls ≡ (D.view self.old.disk).calls ++ room_calls_by self.old.layout self.old.side self.old.epoch self.old.register was_open (fits_in A self.old.journal commands.now))) }
         ensures some_calls_on_any_disk { (was_open : Bool) × HasMade (D.view self.old.disk) (D.view self.new.disk) (room_calls_by self.old.layout self.old.side self.old.epoch self.old.register was_open (fits_in A self.old.journal commands.now)) }
-        ensures gate { OnOk result (self.new.journal.next ≡ gate_then self.old.layout self.old.side (fits_in A self.old.journal commands.now) self.old.journal.next) }
+        ensures place { OnOk result (self.new.journal ≡ place_then self.old.layout self.old.side self.old.epoch self.old.register (fits_in A self.old.journal commands.now) self.old.journal) }
         ensures same { (self.new.layout ≡ self.old.layout) × (self.new.register ≡ self.old.register) }
         ensures unmoved { OnErr result ((self.new.side ≡ self.old.side) × (self.new.epoch ≡ self.old.epoch) × (self.new.journal ≡ self.old.journal)) }
         ensures only_broken { IsErrOf result Broken → (self.old.broken ≡ true) × (self.new ≡ self.old) }
         ensures memory { IsErrOf result NoMemory → ⊥ }
-        ensures epochs { IsErrOf result EpochsUsedUp → (last_epoch ≤ self.old.epoch) × (room_of self.old.journal < data_size (record_text (given A commands.now))) × (self.new.disk ≡ self.old.disk) × (self.new.broken ≡ false) }
+        ensures epochs { IsErrOf result EpochsUsedUp → (last_epoch ≤ self.old.epoch) × (room_of self.old.journal < data_size (text_at A self.old.journal commands.now)) × (self.new.disk ≡ self.old.disk) × (self.new.broken ≡ false) }
         ensures fault { IsErrOf result DiskFault → HasFailed (D.view self.old.disk) (D.view self.new.disk) × (self.new.broken ≡ true) }
         ensures shown { IsErrOf result DiskFault → self.new.before.value ≡ self.old.register }
         ensures kinds { IfErr result IsOfCheckpoint }
@@ -65,20 +67,21 @@ impl<A: Allocator + Clone, D: Disk> Store<A, D> {
         self.checkpoint()
     }
 
-    // Adds a record of these commands to the journal, of none nothing. The register has them already.
+    // Adds a record of these commands to the journal, of none nothing. The register has them already, and counts them.
     pub(crate) fn add_record<B: Allocator>(
         &mut self,
         accepted: &[&Command<B>],
     ) -> Result<(), StoreFault>
         requires few { length accepted.now ≤ most_commands }
-        requires fits { data_size (record_text (given A accepted.now)) ≤ room_of self.old.journal }
-        ensures any_moment { (state : State) → IsHistory state (asked accepted.now) → (D.view self.old.disk).honest → IsStored A self.old.layout self.old.side self.old.epoch self.old.journal.next state (D.view self.old.disk)
+        requires fits { data_size (text_at A self.old.journal accepted.now) ≤ room_of self.old.journal }
+        requires counted { self.old.journal.count + length accepted.now ≤ self.old.register.count }
+        ensures any_moment { (state : State) → IsHistory state (asked accepted.now) → (D.view self.old.disk).honest → IsStored A self.old.layout self.old.side self.old.epoch self.old.journal state (D.view self.old.disk)
             → LeavesOnly (D.view self.old.disk) (D.view self.new.disk) (StandsForEither A state (after state (asked accepted.now))) }
-        ensures kept { OnOk result ((state : State) → IsHistory state (asked accepted.now) → (D.view self.old.disk).honest → IsStored A self.old.layout self.old.side self.old.epoch self.old.journal.next state (D.view self.old.disk)
-            → IsStored A self.new.layout self.new.side self.new.epoch self.new.journal.next (after state (asked accepted.now)) (D.view self.new.disk)) }
+        ensures kept { OnOk result ((state : State) → IsHistory state (asked accepted.now) → (D.view self.old.disk).honest → IsStored A self.old.layout self.old.side self.old.epoch self.old.journal state (D.view self.old.disk)
+            → IsStored A self.new.layout self.new.side self.new.epoch self.new.journal (after state (asked accepted.now)) (D.view self.new.disk)) }
         ensures none { accepted.now ≡ [] → self.new ≡ self.old }
-        ensures calls { OnOk result ((D.view self.new.disk).calls ≡ (D.view self.old.disk).calls ++ record_calls self.old.journal.next (given A accepted.now)) }
-        ensures some_calls { HasMade (D.view self.old.disk) (D.view self.new.disk) (record_calls self.old.journal.next (given A accepted.now)) }
+        ensures calls { OnOk result ((D.view self.new.disk).calls ≡ (D.view self.old.disk).calls ++ record_calls self.old.journal (given A accepted.now)) }
+        ensures some_calls { HasMade (D.view self.old.disk) (D.view self.new.disk) (record_calls self.old.journal (given A accepted.now)) }
         ensures same { (self.new.layout ≡ self.old.layout) × (self.new.side ≡ self.old.side) × (self.new.epoch ≡ self.old.epoch) × (self.new.register ≡ self.old.register) }
         ensures shown { self.new.before ≡ self.old.before }
         ensures fault { IfErr result (λ fault. (fault ≡ DiskFault) × HasFailed (D.view self.old.disk) (D.view self.new.disk) × (self.new.broken ≡ true)) }
@@ -89,6 +92,7 @@ impl<A: Allocator + Clone, D: Disk> Store<A, D> {
         if accepted.is_empty() {
             return Ok(());
         }
+        registers(&self.register);
         if self.journal.append(&mut self.disk, accepted).is_err() {
             self.broken = true;
             return Err(StoreFault::DiskFault);
@@ -112,44 +116,44 @@ impl<A: Allocator + Clone, D: Disk> Store<A, D> {
 
         // A stop at any moment of the call, also of one that fails, leaves the disk standing for the register before it or
         // after it, that is with none or with all of its accepted commands.
-        ensures any_moment { (D.view self.old.disk).honest → IsStored A self.old.layout self.old.side self.old.epoch self.old.journal.next self.old.register (D.view self.old.disk)
+        ensures any_moment { (D.view self.old.disk).honest → IsStored A self.old.layout self.old.side self.old.epoch self.old.journal self.old.register (D.view self.old.disk)
             → LeavesOnly (D.view self.old.disk) (D.view self.new.disk) (StandsForEither A self.old.register self.new.register) }
         ensures register { OnErr result ((self.new.register ≡ self.old.register) ⊎ IsAfterBatch self.old.register (asked commands.now) self.new.register) }
 
         // At `Ok` the register has them, each stop leaves the disk standing for it, and each command is answered.
         ensures outcomes { IfOk result (λ outcomes. IsAnswered self.old.register (asked commands.now) self.new.register outcomes.items) }
-        ensures kept { OnOk result ((D.view self.old.disk).honest → IsStored A self.old.layout self.old.side self.old.epoch self.old.journal.next self.old.register (D.view self.old.disk)
-            → IsStored A self.new.layout self.new.side self.new.epoch self.new.journal.next self.new.register (D.view self.new.disk)) }
-        ensures acknowledged { OnOk result ((D.view self.old.disk).honest → IsStored A self.old.layout self.old.side self.old.epoch self.old.journal.next self.old.register (D.view self.old.disk)
+        ensures kept { OnOk result ((D.view self.old.disk).honest → IsStored A self.old.layout self.old.side self.old.epoch self.old.journal self.old.register (D.view self.old.disk)
+            → IsStored A self.new.layout self.new.side self.new.epoch self.new.journal self.new.register (D.view self.new.disk)) }
+        ensures acknowledged { OnOk result ((D.view self.old.disk).honest → IsStored A self.old.layout self.old.side self.old.epoch self.old.journal self.old.register (D.view self.old.disk)
             → InEach (D.view self.new.disk) (StandsFor A self.new.register)) }
 
         // A checkpoint is made exactly where a record of all commands would not fit. Nothing is written of no commands,
         // nor, where they would fit, of commands none of which is accepted; no commands take no memory.
         ensures empty { commands.now ≡ [] → self.old.broken ≡ false → OnOk result (self.new ≡ self.old) }
         ensures at_once { commands.now ≡ [] → self.old.broken ≡ false → IsOk result }
-        ensures idle { data_size (record_text (given A commands.now)) ≤ room_of self.old.journal → accepted_of self.old.register (asked commands.now) ≡ [] → self.new.disk ≡ self.old.disk }
-        ensures stays { data_size (record_text (given A commands.now)) ≤ room_of self.old.journal → (self.new.side ≡ self.old.side) × (self.new.epoch ≡ self.old.epoch) }
-        ensures moves { OnOk result (1 ≤ length commands.now → room_of self.old.journal < data_size (record_text (given A commands.now)) → (self.new.side ≡ other_of self.old.side) × (self.new.epoch ≡ self.old.epoch + 1)) }
+        ensures idle { data_size (text_at A self.old.journal commands.now) ≤ room_of self.old.journal → taken self.old.register (asked commands.now) ≡ [] → self.new.disk ≡ self.old.disk }
+        ensures stays { data_size (text_at A self.old.journal commands.now) ≤ room_of self.old.journal → (self.new.side ≡ self.old.side) × (self.new.epoch ≡ self.old.epoch) }
+        ensures moves { OnOk result (1 ≤ length commands.now → room_of self.old.journal < data_size (text_at A self.old.journal commands.now) → (self.new.side ≡ other_of self.old.side) × (self.new.epoch ≡ self.old.epoch + 1)) }
         ensures layout { self.new.layout ≡ self.old.layout }
 
         // The calls of that checkpoint, and then of one record of the accepted commands; of no commands none. A call that
         // fails is the last.
         ensures calls { OnOk result (1 ≤ length commands.now → (D.view self.old.disk).honest → (recorded : List (Asked A)) × AreRecorded A self.old.register (asked commands.now) self.new.register recorded
-            × ((D.view self.new.disk).calls ≡ (D.view self.old.disk).calls ++ commit_calls self.old.layout self.old.side self.old.epoch self.old.register (D.view self.old.disk).reads (fits_in A self.old.journal commands.now) self.old.journal.next recorded)) }
+            × ((D.view self.new.disk).calls ≡ (D.view self.old.disk).calls ++ commit_calls self.old.layout self.old.side self.old.epoch self.old.register (D.view self.old.disk).reads (fits_in A self.old.journal commands.now) self.old.journal recorded)) }
         ensures some_calls { (D.view self.old.disk).honest → (recorded : List (Asked A)) × AreRecorded A self.old.register (asked commands.now) self.new.register recorded
-            × HasMade (D.view self.old.disk) (D.view self.new.disk) (commit_calls self.old.layout self.old.side self.old.epoch self.old.register (D.view self.old.disk).reads (fits_in A self.old.journal commands.now) self.old.journal.next recorded) }
+            × HasMade (D.view self.old.disk) (D.view self.new.disk) (commit_calls self.old.layout self.old.side self.old.epoch self.old.register (D.view self.old.disk).reads (fits_in A self.old.journal commands.now) self.old.journal recorded) }
 
         // So too on a disk that is not honest, with the write of the other side's root or without it.
         ensures calls_on_any_disk { OnOk result (1 ≤ length commands.now → (was_open : Bool) × (recorded : List (Asked A)) × AreRecorded A self.old.register (asked commands.now) self.new.register recorded
-            × ((D.view self.new.disk).calls ≡ (D.view self.old.disk).calls ++ commit_calls_by self.old.layout self.old.side self.old.epoch self.old.register was_open (fits_in A self.old.journal commands.now) self.old.journal.next recorded)) }
+            × ((D.view self.new.disk).calls ≡ (D.view self.old.disk).calls ++ commit_calls_by self.old.layout self.old.side self.old.epoch self.old.register was_open (fits_in A self.old.journal commands.now) self.old.journal recorded)) }
         ensures some_calls_on_any_disk { (was_open : Bool) × (recorded : List (Asked A)) × AreRecorded A self.old.register (asked commands.now) self.new.register recorded
-            × HasMade (D.view self.old.disk) (D.view self.new.disk) (commit_calls_by self.old.layout self.old.side self.old.epoch self.old.register was_open (fits_in A self.old.journal commands.now) self.old.journal.next recorded) }
+            × HasMade (D.view self.old.disk) (D.view self.new.disk) (commit_calls_by self.old.layout self.old.side self.old.epoch self.old.register was_open (fits_in A self.old.journal commands.now) self.old.journal recorded) }
 
         // It does not give up by itself.
         ensures broken { self.old.broken ≡ true → result ≡ Err Broken }
         ensures only_broken { IsErrOf result Broken → (self.old.broken ≡ true) × (self.new ≡ self.old) }
         ensures memory { IsErrOf result NoMemory → self.new ≡ self.old }
-        ensures epochs { IsErrOf result EpochsUsedUp → (last_epoch ≤ self.old.epoch) × (room_of self.old.journal < data_size (record_text (given A commands.now))) × (self.new.disk ≡ self.old.disk) × (self.new.broken ≡ false) }
+        ensures epochs { IsErrOf result EpochsUsedUp → (last_epoch ≤ self.old.epoch) × (room_of self.old.journal < data_size (text_at A self.old.journal commands.now)) × (self.new.disk ≡ self.old.disk) × (self.new.broken ≡ false) }
         ensures unmoved { IsErrOf result EpochsUsedUp → (self.new.side ≡ self.old.side) × (self.new.epoch ≡ self.old.epoch) × (self.new.journal ≡ self.old.journal) × (self.new.register ≡ self.old.register) }
         ensures fault { IsErrOf result DiskFault → HasFailed (D.view self.old.disk) (D.view self.new.disk) × (self.new.broken ≡ true) }
         ensures shown { IsErrOf result DiskFault → self.new.before.value ≡ self.old.register }

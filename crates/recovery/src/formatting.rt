@@ -4,6 +4,7 @@ ghost use Rattle.sector_disk.specs.Disk.{HasCause, HasFailed};
 ghost use Rattle.sector_disk.specs.Run.{HasMade};
 ghost use Rattle.sector_disk.specs.declared.disk.DiskError.TheVariants.{OutOfRange};
 ghost use Rattle.centre_core.specs.State.{empty};
+ghost use Rattle.gated_journal.specs.declared.form.Form.TheVariants.{Numbered};
 ghost use Rattle.checkpoint.specs.declared.side.Side.TheVariants.{A};
 ghost use Rattle.checkpoint.specs.Layout.{disk_size, half_at};
 ghost use Rattle.checkpoint.specs.Standing.{InEach, Stands, fresh};
@@ -83,7 +84,7 @@ fn write_sides<D: Disk>(disk: &mut D, layout: &Layout) -> Result<(), DiskError>
 /// nothing is said of what the disk holds.
 pub fn format<A: Allocator, D: Disk>(disk: &mut D, layout: &Layout) -> Result<(), StoreFault>
     // At `Ok` each stop leaves the disk standing by side A for the empty register, with no record.
-    ensures stands { OnOk result ((D.view disk.old).honest → InEach (D.view disk.new) (Stands {A = A} layout.now Side.A (first_base layout.now) (fresh layout.now Side.A))) }
+    ensures stands { OnOk result ((D.view disk.old).honest → InEach (D.view disk.new) (Stands {A = A} layout.now Side.A Numbered (first_base layout.now) (fresh layout.now Side.A))) }
     ensures opens { OnOk result ((D.view disk.old).honest → InEach (D.view disk.new) (λ image. opens A image ≡ Ok (opening layout.now Side.A 1 (half_at layout.now Side.A) (empty layout.now.limits)))) }
 
     // The sides are written and synced, then the label; each sector is written once, and nothing is read. A call that

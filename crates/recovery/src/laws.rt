@@ -6,6 +6,7 @@ ghost use Rattle.sector_disk.specs.Disk.{AreSectors, sector};
 ghost use Rattle.identity.specs.Packed.{AreBytes};
 ghost use Rattle.centre_core.specs.History.{after};
 ghost use Rattle.centre_core.specs.Histories.{IsHistory};
+ghost use Rattle.gated_journal.specs.declared.form.Form.{Form};
 ghost use Rattle.gated_journal.specs.Half.{IsClosed, IsOpen};
 ghost use Rattle.checkpoint.specs.declared.layout.Layout.{Layout};
 ghost use Rattle.checkpoint.specs.declared.side.Side.{Side};
@@ -48,7 +49,7 @@ pub fn side_told()
 /// An image that stands by a side, whose records hold commands that its base accepts one after the other, opens by
 /// that side, with its epoch, to the state after these commands.
 pub fn standing_opens<A: Allocator>()
-    ensures { (layout : Layout) (side : Side) (base : Base) (held : Held A) (image : List (List ℕ)) → Stands layout side base held image → IsHistory base.1 (commands_of held.0)
+    ensures { (layout : Layout) (side : Side) (form : Form) (base : Base) (held : Held A) (image : List (List ℕ)) → Stands layout side form base held image → IsHistory base.1 (commands_of held.0)
         → opens A image ≡ Ok (opening layout side base.0 held.1 (after base.1 (commands_of held.0))) }
 {}
 

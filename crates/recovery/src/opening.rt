@@ -5,6 +5,7 @@ ghost use Rattle.sector_disk.specs.Reading.{before_reads};
 ghost use Rattle.sector_disk.specs.Run.{HasLooked};
 ghost use Rattle.gated_journal.specs.Reading.{HasRecords};
 ghost use Rattle.checkpoint.specs.Layout.{disk_size, half_at, half_end};
+ghost use Rattle.checkpoint.specs.Standing.{slot_form};
 ghost use Rattle.recovery.specs.declared.fault.StoreFault.TheVariants.{Damaged, DiskFault, NoMemory};
 ghost use Rattle.recovery.specs.Opens.{opens, opens_by, played_by};
 ghost use Rattle.recovery.specs.Opening.{AreGoodSoFar, EndsAt, Gives, HasNoFaultYet, IsOfOpening};
@@ -13,8 +14,9 @@ ghost use Rattle.recovery.specs.Inside.Opened.{IsWhole, opened_view};
 use crate::StoreFault;
 use crate::label::read_layout;
 use crate::records::{play, read_base};
-use crate::sides::read_side;
+use crate::sides::{Current, read_side};
 use centre_core::Register;
+use centre_core::laws::registers;
 use checkpoint::{Layout, Side};
 use gated_journal::Journal;
 use sector_disk::Disk;
@@ -30,22 +32,25 @@ pub(crate) struct Opened<A: Allocator> {
     pub(crate) register: Register<A>,
 }
 
-// Reads the records of a side's half, and gives their commands to the register.
+// Reads the records of a side's half, in their form and behind the commands that the register counts, and gives their
+// commands to it.
 #[tactic(auto, unfolding(crate::specs::Opens::played_by))]
 fn read_half<A: Allocator + Copy, D: Disk>(
     alloc: A,
     disk: &mut D,
     layout: &Layout,
-    side: Side,
+    current: Current,
     register: &mut Register<A>,
 ) -> Result<Journal<A>, StoreFault>
     requires room { disk_size layout.now ≤ (D.view disk.old).sectors }
-    ensures exact { (D.view disk.old).honest → EndsAt (λ journal. journal.next) result register.new (played_by A layout.now side register.old (D.view disk.old).reads) }
-    ensures memory { IsErrOf result NoMemory → (D.view disk.old).honest → ((D.view disk.new).calls ≡ (D.view disk.old).calls) ⊎ HasRecords A (D.view disk.old).reads (half_at layout.now side) (half_end layout.now side) }
+    ensures exact { (D.view disk.old).honest → current.form ≡ slot_form layout.now current.side (D.view disk.old).reads → EndsAt (λ journal. journal.next) result register.new (played_by A layout.now current.side register.old (D.view disk.old).reads) }
+    ensures memory { IsErrOf result NoMemory → (D.view disk.old).honest → ((D.view disk.new).calls ≡ (D.view disk.old).calls) ⊎ HasRecords A current.form register.old.count (D.view disk.old).reads (half_at layout.now current.side) (half_end layout.now current.side) }
     ensures limits { register.new.registered.limits ≡ register.old.registered.limits }
-    ensures first { IfOk result (λ journal. journal.first ≡ half_at layout.now side) }
-    ensures end { IfOk result (λ journal. journal.end ≡ half_end layout.now side) }
-    ensures next { IfOk result (λ journal. journal.next < half_end layout.now side) }
+    ensures first { IfOk result (λ journal. journal.first ≡ half_at layout.now current.side) }
+    ensures end { IfOk result (λ journal. journal.end ≡ half_end layout.now current.side) }
+    ensures next { IfOk result (λ journal. journal.next < half_end layout.now current.side) }
+    ensures form { IfOk result (λ journal. journal.form ≡ current.form) }
+    ensures counts { IfOk result (λ journal. journal.count ≡ register.new.count) }
     ensures kinds { IfErr result IsOfOpening }
     ensures on_disk { (at : ℕ) → IsErrOf result (Damaged at) → at < (D.view disk.old).sectors }
     ensures looked { (D.view disk.old).honest → HasLooked (D.view disk.old) (D.view disk.new) }
@@ -54,7 +59,14 @@ fn read_half<A: Allocator + Copy, D: Disk>(
     ensures sectors { (D.view disk.new).sectors ≡ (D.view disk.old).sectors }
     ensures later { (D.view disk.old).failures ≤ (D.view disk.new).failures }
 {
-    let mut journal = Journal::start(alloc, layout.half(side), u64::from(layout.journal()))?;
+    registers(register);
+    let mut journal = Journal::start(
+        alloc,
+        layout.half(current.side),
+        u64::from(layout.journal()),
+        current.form,
+        register.count(),
+    )?;
     play(alloc, disk, &mut journal, register)?;
     Ok(journal)
 }
@@ -65,13 +77,15 @@ fn read_by<A: Allocator + Copy, D: Disk>(
     alloc: A,
     disk: &mut D,
     layout: Layout,
-    side: Side,
+    current: Current,
 ) -> Result<Opened<A>, StoreFault>
     requires room { disk_size layout ≤ (D.view disk.old).sectors }
-    ensures exact { (D.view disk.old).honest → Gives opened_view result (opens_by A layout side (D.view disk.old).reads) }
-    ensures memory { IsErrOf result NoMemory → (D.view disk.old).honest → AreGoodSoFar A layout side (D.view disk.old).reads (D.view disk.new).calls }
+    ensures exact { (D.view disk.old).honest → current.form ≡ slot_form layout current.side (D.view disk.old).reads → Gives opened_view result (opens_by A layout current.side (D.view disk.old).reads) }
+    ensures memory { IsErrOf result NoMemory → (D.view disk.old).honest → current.form ≡ slot_form layout current.side (D.view disk.old).reads → AreGoodSoFar A layout current.side (D.view disk.old).reads (D.view disk.new).calls }
     ensures whole { IfOk result IsWhole }
     ensures layout { IfOk result (λ opened. opened.layout ≡ layout) }
+    ensures side { IfOk result (λ opened. opened.side ≡ current.side) }
+    ensures form { IfOk result (λ opened. opened.journal.form ≡ current.form) }
     ensures kinds { IfErr result IsOfOpening }
     ensures on_disk { (at : ℕ) → IsErrOf result (Damaged at) → at < (D.view disk.old).sectors }
     ensures looked { (D.view disk.old).honest → HasLooked (D.view disk.old) (D.view disk.new) }
@@ -80,11 +94,11 @@ fn read_by<A: Allocator + Copy, D: Disk>(
     ensures sectors { (D.view disk.new).sectors ≡ (D.view disk.old).sectors }
     ensures later { (D.view disk.old).failures ≤ (D.view disk.new).failures }
 {
-    let (epoch, mut register) = read_base(alloc, disk, &layout, side)?;
-    match read_half(alloc, disk, &layout, side, &mut register) {
+    let (epoch, mut register) = read_base(alloc, disk, &layout, current.side)?;
+    match read_half(alloc, disk, &layout, current, &mut register) {
         Ok(journal) => Ok(Opened {
             layout,
-            side,
+            side: current.side,
             epoch,
             journal,
             register,
@@ -105,6 +119,7 @@ pub(crate) fn read_all<A: Allocator + Copy, D: Disk>(
     ensures exact { (D.view disk.old).honest → Gives opened_view result (opens A (D.view disk.old).reads) }
     ensures memory { IsErrOf result NoMemory → (D.view disk.old).honest → HasNoFaultYet A (D.view disk.old).reads (D.view disk.new).calls }
     ensures whole { IfOk result IsWhole }
+    ensures form { IfOk result (λ opened. (D.view disk.old).honest → opened.journal.form ≡ slot_form opened.layout opened.side (D.view disk.old).reads) }
     ensures room { IfOk result (λ opened. disk_size opened.layout ≤ (D.view disk.old).sectors) }
     ensures kinds { IfErr result IsOfOpening }
     ensures on_disk { (at : ℕ) → IsErrOf result (Damaged at) → at < (D.view disk.old).sectors }
@@ -115,6 +130,6 @@ pub(crate) fn read_all<A: Allocator + Copy, D: Disk>(
     ensures later { (D.view disk.old).failures ≤ (D.view disk.new).failures }
 {
     let layout = read_layout(disk)?;
-    let side = read_side(disk, &layout)?;
-    read_by(alloc, disk, layout, side)
+    let current = read_side(disk, &layout)?;
+    read_by(alloc, disk, layout, current)
 }

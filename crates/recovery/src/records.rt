@@ -1,10 +1,11 @@
 // The image in a side's slot, and the commands in its half.
-ghost use Rattle.std.specs.Prelude.{◌≡◌, ◌⊎◌, ◌<◌, ◌≤◌, ◌++◌, ℕ, IfErr, IfOk, IsErrOf, OnOk, Result, true};
+ghost use Rattle.std.specs.Prelude.{◌≡◌, ◌⊎◌, ◌<◌, ◌≤◌, ◌+◌, ◌++◌, ℕ, IfErr, IfOk, IsErrOf, OnOk, Result, length, true};
 ghost use Rattle.sector_disk.specs.Disk.{HasFailed};
 ghost use Rattle.sector_disk.specs.Reading.{before_reads};
 ghost use Rattle.sector_disk.specs.Run.{HasLooked};
 ghost use Rattle.gated_journal.specs.Half.{half_of};
 ghost use Rattle.gated_journal.specs.Reading.{HasRecords};
+ghost use Rattle.gated_journal.specs.Settled.{IsCounted};
 ghost use Rattle.centre_core.specs.State.{State};
 ghost use Rattle.checkpoint.specs.Layout.{disk_size, slot_at};
 ghost use Rattle.checkpoint.specs.Reading.{IsGoodSoFar, image_looks};
@@ -57,6 +58,7 @@ fn play_record<A: Allocator + Copy>(
 ) -> Result<(), StoreFault>
     ensures exact { PlaysTo result register.new (taken at (run register.old commands.now)) }
     ensures limits { register.new.registered.limits ≡ register.old.registered.limits }
+    ensures count { OnOk result (register.new.count ≡ register.old.count + length commands.now) }
     ensures kinds { IfErr result IsOfOpening }
     ensures here { (s : ℕ) → IsErrOf result (Damaged s) → s ≡ at }
     ensures device { IsErrOf result DiskFault → ⊥ }
@@ -79,13 +81,17 @@ fn play_next<A: Allocator + Copy, D: Disk>(
 ) -> Result<bool, StoreFault>
     requires before { journal.old.next < journal.old.end }
     requires within { journal.old.end ≤ (D.view disk.old).sectors }
-    ensures exact { (D.view disk.old).honest → PlaysOn result register.new journal.new.next (half_of {A = A} (D.view disk.old).reads journal.new.next journal.old.end)
-        (played_from register.old (half_of {A = A} (D.view disk.old).reads journal.old.next journal.old.end)) }
-    ensures begins { (D.view disk.old).honest → BeginsWith (half_of {A = A} (D.view disk.old).reads journal.old.next journal.old.end) (half_of {A = A} (D.view disk.old).reads journal.new.next journal.old.end) }
+    requires room { IsCounted journal.old }
+    ensures exact { (D.view disk.old).honest → PlaysOn result register.new journal.new.next (half_of {A = A} journal.new.form journal.new.count (D.view disk.old).reads journal.new.next journal.old.end)
+        (played_from register.old (half_of {A = A} journal.old.form journal.old.count (D.view disk.old).reads journal.old.next journal.old.end)) }
+    ensures begins { (D.view disk.old).honest → BeginsWith (half_of {A = A} journal.old.form journal.old.count (D.view disk.old).reads journal.old.next journal.old.end) (half_of {A = A} journal.new.form journal.new.count (D.view disk.old).reads journal.new.next journal.old.end) }
     ensures limits { register.new.registered.limits ≡ register.old.registered.limits }
     ensures first { journal.new.first ≡ journal.old.first }
     ensures end { journal.new.end ≡ journal.old.end }
     ensures next { journal.new.next < journal.old.end }
+    ensures form { journal.new.form ≡ journal.old.form }
+    ensures counts { OnOk result (journal.old.count ≡ register.old.count → journal.new.count ≡ register.new.count) }
+    ensures room { IsCounted journal.new }
     ensures on { IfOk result (λ more. more ≡ true → journal.old.next < journal.new.next) }
     ensures kinds { IfErr result IsOfOpening }
     ensures damaged { (at : ℕ) → IsErrOf result (Damaged at) → at < journal.old.end }
@@ -111,13 +117,17 @@ fn play_on<A: Allocator + Copy, D: Disk>(
 ) -> Result<(), StoreFault>
     requires before { journal.old.next < journal.old.end }
     requires within { journal.old.end ≤ (D.view disk.old).sectors }
-    ensures exact { (D.view disk.old).honest → StopsAt result register.new journal.new.next (half_of {A = A} (D.view disk.old).reads journal.new.next journal.old.end)
-        (played_from register.old (half_of {A = A} (D.view disk.old).reads journal.old.next journal.old.end)) }
-    ensures begins { (D.view disk.old).honest → BeginsWith (half_of {A = A} (D.view disk.old).reads journal.old.next journal.old.end) (half_of {A = A} (D.view disk.old).reads journal.new.next journal.old.end) }
+    requires room { IsCounted journal.old }
+    ensures exact { (D.view disk.old).honest → StopsAt result register.new journal.new.next (half_of {A = A} journal.new.form journal.new.count (D.view disk.old).reads journal.new.next journal.old.end)
+        (played_from register.old (half_of {A = A} journal.old.form journal.old.count (D.view disk.old).reads journal.old.next journal.old.end)) }
+    ensures begins { (D.view disk.old).honest → BeginsWith (half_of {A = A} journal.old.form journal.old.count (D.view disk.old).reads journal.old.next journal.old.end) (half_of {A = A} journal.new.form journal.new.count (D.view disk.old).reads journal.new.next journal.old.end) }
     ensures limits { register.new.registered.limits ≡ register.old.registered.limits }
     ensures first { journal.new.first ≡ journal.old.first }
     ensures end { journal.new.end ≡ journal.old.end }
     ensures next { journal.new.next < journal.old.end }
+    ensures form { journal.new.form ≡ journal.old.form }
+    ensures counts { OnOk result (journal.old.count ≡ register.old.count → journal.new.count ≡ register.new.count) }
+    ensures room { IsCounted journal.new }
     ensures kinds { IfErr result IsOfOpening }
     ensures damaged { (at : ℕ) → IsErrOf result (Damaged at) → at < journal.old.end }
     ensures looked { (D.view disk.old).honest → HasLooked (D.view disk.old) (D.view disk.new) }
@@ -138,8 +148,9 @@ fn first_fault<A: Allocator, D: Disk>(
 ) -> StoreFault
     requires before { journal.old.next < journal.old.end }
     requires within { journal.old.end ≤ (D.view disk.old).sectors }
-    ensures exact { (D.view disk.old).honest → (is : Result (State × ℕ) StoreFault) → Stops fault (held_by (half_of {A = A} (D.view disk.old).reads journal.old.next journal.old.end)) is → Fails result is }
-    ensures memory { result ≡ NoMemory → (D.view disk.old).honest → HasRecords A (D.view disk.old).reads journal.old.next journal.old.end }
+    requires room { IsCounted journal.old }
+    ensures exact { (D.view disk.old).honest → (is : Result (State × ℕ) StoreFault) → Stops fault (held_by (half_of {A = A} journal.old.form journal.old.count (D.view disk.old).reads journal.old.next journal.old.end)) is → Fails result is }
+    ensures memory { result ≡ NoMemory → (D.view disk.old).honest → HasRecords A journal.old.form journal.old.count (D.view disk.old).reads journal.old.next journal.old.end }
     ensures same { journal.new ≡ journal.old }
     ensures kinds { IsOfOpening fault → IsOfOpening result }
     ensures damaged { (at : ℕ) → result ≡ Damaged at → (fault ≡ Damaged at) ⊎ (at < journal.old.end) }
@@ -168,12 +179,16 @@ pub(crate) fn play<A: Allocator + Copy, D: Disk>(
 ) -> Result<(), StoreFault>
     requires before { journal.old.next < journal.old.end }
     requires within { journal.old.end ≤ (D.view disk.old).sectors }
-    ensures exact { (D.view disk.old).honest → EndsAt (λ done. journal.new.next) result register.new (played_from register.old (half_of {A = A} (D.view disk.old).reads journal.old.next journal.old.end)) }
-    ensures memory { IsErrOf result NoMemory → (D.view disk.old).honest → HasRecords A (D.view disk.old).reads journal.old.next journal.old.end }
+    requires room { IsCounted journal.old }
+    ensures exact { (D.view disk.old).honest → EndsAt (λ done. journal.new.next) result register.new (played_from register.old (half_of {A = A} journal.old.form journal.old.count (D.view disk.old).reads journal.old.next journal.old.end)) }
+    ensures memory { IsErrOf result NoMemory → (D.view disk.old).honest → HasRecords A journal.old.form journal.old.count (D.view disk.old).reads journal.old.next journal.old.end }
     ensures limits { register.new.registered.limits ≡ register.old.registered.limits }
     ensures first { journal.new.first ≡ journal.old.first }
     ensures end { journal.new.end ≡ journal.old.end }
     ensures next { journal.new.next < journal.old.end }
+    ensures form { journal.new.form ≡ journal.old.form }
+    ensures counts { OnOk result (journal.old.count ≡ register.old.count → journal.new.count ≡ register.new.count) }
+    ensures room { IsCounted journal.new }
     ensures kinds { IfErr result IsOfOpening }
     ensures damaged { (at : ℕ) → IsErrOf result (Damaged at) → at < journal.old.end }
     ensures looked { (D.view disk.old).honest → HasLooked (D.view disk.old) (D.view disk.new) }

@@ -1,19 +1,36 @@
 // The sides of a disk, and which of them counts.
-ghost use Rattle.std.specs.Prelude.{◌≡◌, ◌⊎◌, ◌<◌, ◌≤◌, ℕ, IfErr, IsErrOf};
+ghost use Rattle.std.specs.Prelude.{◌≡◌, ◌⊎◌, ◌<◌, ◌≤◌, ℕ, IfErr, IfOk, IfSome, IsErrOf, option_map};
 ghost use Rattle.sector_disk.specs.Disk.{HasFailed};
 ghost use Rattle.sector_disk.specs.Reading.{before_reads};
 ghost use Rattle.sector_disk.specs.Run.{HasLooked};
 ghost use Rattle.image_rows.specs.RowReading.{row_in};
 ghost use Rattle.checkpoint.specs.Layout.{disk_size};
-ghost use Rattle.checkpoint.specs.Standing.{epoch_of};
+ghost use Rattle.gated_journal.specs.declared.form.Form.{Form};
+ghost use Rattle.checkpoint.specs.declared.side.Side.{Side};
+ghost use Rattle.checkpoint.specs.Standing.{epoch_of, slot_form};
 ghost use Rattle.recovery.specs.declared.fault.StoreFault.TheVariants.{Damaged, DiskFault};
 ghost use Rattle.recovery.specs.Opens.{chosen, side_at, side_in};
 ghost use Rattle.recovery.specs.Opening.{Gives, IsOfDisk};
 
 use crate::StoreFault;
-use checkpoint::{Layout, Side};
+use checkpoint::{Layout, Side, form_told};
+use gated_journal::Form;
 use image_rows::{ReadRow, read_row};
 use sector_disk::Disk;
+
+// What the first sector of a slot tells: the epoch of the image there, and the form of the records behind it.
+#[derive(Clone, Copy, Drop)]
+struct Head {
+    epoch: u64,
+    form: Form,
+}
+
+// The side that counts, and the form of the records in its half.
+#[derive(Clone, Copy, Drop)]
+pub(crate) struct Current {
+    pub(crate) side: Side,
+    pub(crate) form: Form,
+}
 
 // The epoch that a row tells, where it is a header.
 fn epoch_of(bytes: &[u8]) -> Option<u64>
@@ -25,11 +42,12 @@ fn epoch_of(bytes: &[u8]) -> Option<u64>
     }
 }
 
-// The epoch of a side whose root is open.
+// What the slot of a side tells whose root is open.
 #[tactic(auto, unfolding(crate::specs::Opens::side_at), using(sector_disk::proofs::Reading::one_read))]
-fn read_epoch<D: Disk>(disk: &mut D, layout: &Layout, side: Side) -> Result<Option<u64>, StoreFault>
+fn read_head<D: Disk>(disk: &mut D, layout: &Layout, side: Side) -> Result<Option<Head>, StoreFault>
     requires room { disk_size layout.now ≤ (D.view disk.old).sectors }
-    ensures exact { (D.view disk.old).honest → Gives (λ epoch. epoch) result (side_at layout.now side (D.view disk.old).reads) }
+    ensures exact { (D.view disk.old).honest → Gives (option_map (λ head. head.epoch)) result (side_at layout.now side (D.view disk.old).reads) }
+    ensures form { IfOk result (λ found. (D.view disk.old).honest → IfSome found (λ head. head.form ≡ slot_form layout.now side (D.view disk.old).reads)) }
     ensures kinds { IfErr result IsOfDisk }
     ensures on_disk { (at : ℕ) → IsErrOf result (Damaged at) → at < (D.view disk.old).sectors }
     ensures looked { (D.view disk.old).honest → HasLooked (D.view disk.old) (D.view disk.new) }
@@ -46,38 +64,53 @@ fn read_epoch<D: Disk>(disk: &mut D, layout: &Layout, side: Side) -> Result<Opti
     let slot = layout.slot(side);
     disk.read(slot, &mut bytes)?;
     match epoch_of(&bytes) {
-        Some(epoch) => Ok(Some(epoch)),
+        Some(epoch) => Ok(Some(Head {
+            epoch,
+            form: form_told(&bytes),
+        })),
         None => Err(StoreFault::Damaged(slot)),
     }
 }
 
+// A side that counts by what its slot tells.
+fn by(side: Side, head: Head) -> Current
+    ensures { result ≡ record { side = side; form = head.form } }
+{
+    Current {
+        side,
+        form: head.form,
+    }
+}
+
 // The side of the greater epoch.
-fn chosen(a: Option<u64>, b: Option<u64>) -> Result<Side, StoreFault>
-    ensures value { result ≡ chosen a b }
+fn chosen(a: Option<Head>, b: Option<Head>) -> Result<Current, StoreFault>
+    ensures value { Gives (λ current. current.side) result (chosen (option_map (λ head. head.epoch) a) (option_map (λ head. head.epoch) b)) }
+    ensures form { (told : Side → Form) → IfSome a (λ head. head.form ≡ told Side.A) → IfSome b (λ head. head.form ≡ told Side.B) → IfOk result (λ current. current.form ≡ told current.side) }
     ensures kinds { IfErr result IsOfDisk }
     ensures roots { (at : ℕ) → IsErrOf result (Damaged at) → at < 3 }
     ensures fault { IsErrOf result DiskFault → ⊥ }
 {
     match (a, b) {
         (None, None) => Err(StoreFault::Damaged(1)),
-        (Some(_), None) => Ok(Side::A),
-        (None, Some(_)) => Ok(Side::B),
+        (Some(a), None) => Ok(by(Side::A, a)),
+        (None, Some(b)) => Ok(by(Side::B, b)),
         (Some(a), Some(b)) => {
-            if a == b {
+            if a.epoch == b.epoch {
                 Err(StoreFault::Damaged(2))
-            } else if a < b {
-                Ok(Side::B)
+            } else if a.epoch < b.epoch {
+                Ok(by(Side::B, b))
             } else {
-                Ok(Side::A)
+                Ok(by(Side::A, a))
             }
         }
     }
 }
 
-// The side that counts.
-pub(crate) fn read_side<D: Disk>(disk: &mut D, layout: &Layout) -> Result<Side, StoreFault>
+// The side that counts, and the form of its records. The first sector of each open side's slot is read.
+pub(crate) fn read_side<D: Disk>(disk: &mut D, layout: &Layout) -> Result<Current, StoreFault>
     requires room { disk_size layout.now ≤ (D.view disk.old).sectors }
-    ensures exact { (D.view disk.old).honest → Gives (λ side. side) result (side_in layout.now (D.view disk.old).reads) }
+    ensures exact { (D.view disk.old).honest → Gives (λ current. current.side) result (side_in layout.now (D.view disk.old).reads) }
+    ensures form { IfOk result (λ current. (D.view disk.old).honest → current.form ≡ slot_form layout.now current.side (D.view disk.old).reads) }
     ensures kinds { IfErr result IsOfDisk }
     ensures on_disk { (at : ℕ) → IsErrOf result (Damaged at) → at < (D.view disk.old).sectors }
     ensures looked { (D.view disk.old).honest → HasLooked (D.view disk.old) (D.view disk.new) }
@@ -86,7 +119,7 @@ pub(crate) fn read_side<D: Disk>(disk: &mut D, layout: &Layout) -> Result<Side, 
     ensures sectors { (D.view disk.new).sectors ≡ (D.view disk.old).sectors }
     ensures later { (D.view disk.old).failures ≤ (D.view disk.new).failures }
 {
-    let a = read_epoch(disk, layout, Side::A)?;
-    let b = read_epoch(disk, layout, Side::B)?;
+    let a = read_head(disk, layout, Side::A)?;
+    let b = read_head(disk, layout, Side::B)?;
     chosen(a, b)
 }

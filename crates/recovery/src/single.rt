@@ -7,8 +7,8 @@ ghost use Rattle.centre_core.specs.History.{is_acceptance};
 ghost use Rattle.centre_core.specs.Memory.{needs_memory};
 ghost use Rattle.centre_core.specs.Step.{step};
 ghost use Rattle.image_rows.specs.Rows.{last_epoch};
-ghost use Rattle.gated_journal.specs.Record.{data_size, given, record_text};
-ghost use Rattle.gated_journal.specs.Settled.{room_of};
+ghost use Rattle.gated_journal.specs.Record.{data_size};
+ghost use Rattle.gated_journal.specs.Settled.{room_of, text_at};
 ghost use Rattle.recovery.specs.declared.fault.StoreFault.TheVariants.{Broken, DiskFault, EpochsUsedUp, NoMemory};
 ghost use Rattle.recovery.specs.Calls.{commit_calls, commit_calls_by, fits_in};
 ghost use Rattle.recovery.specs.Stored.{IsStored};
@@ -44,20 +44,20 @@ impl<A: Allocator + Clone, D: Disk> Store<A, D> {
     ) -> Result<Reply<C>, StoreFault>
         ensures replied { IfOk result (λ reply. (self.new.register, reply) ≡ step self.old.register command.now) }
         ensures register { IsAfterOne self.old.register command.now self.new.register }
-        ensures any_moment { (D.view self.old.disk).honest → IsStored A self.old.layout self.old.side self.old.epoch self.old.journal.next self.old.register (D.view self.old.disk)
+        ensures any_moment { (D.view self.old.disk).honest → IsStored A self.old.layout self.old.side self.old.epoch self.old.journal self.old.register (D.view self.old.disk)
             → LeavesOnly (D.view self.old.disk) (D.view self.new.disk) (StandsForEither A self.old.register self.new.register) }
-        ensures kept { self.new.broken ≡ false → (D.view self.old.disk).honest → IsStored A self.old.layout self.old.side self.old.epoch self.old.journal.next self.old.register (D.view self.old.disk)
-            → IsStored A self.new.layout self.new.side self.new.epoch self.new.journal.next self.new.register (D.view self.new.disk) }
+        ensures kept { self.new.broken ≡ false → (D.view self.old.disk).honest → IsStored A self.old.layout self.old.side self.old.epoch self.old.journal self.old.register (D.view self.old.disk)
+            → IsStored A self.new.layout self.new.side self.new.epoch self.new.journal self.new.register (D.view self.new.disk) }
         ensures layout { self.new.layout ≡ self.old.layout }
-        ensures stays { data_size (record_text (given A (command.entry ∷ []))) ≤ room_of self.old.journal → (self.new.side ≡ self.old.side) × (self.new.epoch ≡ self.old.epoch) }
+        ensures stays { data_size (text_at A self.old.journal (command.entry ∷ [])) ≤ room_of self.old.journal → (self.new.side ≡ self.old.side) × (self.new.epoch ≡ self.old.epoch) }
         ensures calls { OnOk result ((D.view self.old.disk).honest → (recorded : List (Asked A)) × AreRecorded A self.old.register (command.now ∷ []) self.new.register recorded
-            × ((D.view self.new.disk).calls ≡ (D.view self.old.disk).calls ++ commit_calls self.old.layout self.old.side self.old.epoch self.old.register (D.view self.old.disk).reads (fits_in A self.old.journal (command.entry ∷ [])) self.old.journal.next recorded)) }
+            × ((D.view self.new.disk).calls ≡ (D.view self.old.disk).calls ++ commit_calls self.old.layout self.old.side self.old.epoch self.old.register (D.view self.old.disk).reads (fits_in A self.old.journal (command.entry ∷ [])) self.old.journal recorded)) }
         ensures some_calls { (D.view self.old.disk).honest → (recorded : List (Asked A)) × AreRecorded A self.old.register (command.now ∷ []) self.new.register recorded
-            × HasMade (D.view self.old.disk) (D.view self.new.disk) (commit_calls self.old.layout self.old.side self.old.epoch self.old.register (D.view self.old.disk).reads (fits_in A self.old.journal (command.entry ∷ [])) self.old.journal.next recorded) }
+            × HasMade (D.view self.old.disk) (D.view self.new.disk) (commit_calls self.old.layout self.old.side self.old.epoch self.old.register (D.view self.old.disk).reads (fits_in A self.old.journal (command.entry ∷ [])) self.old.journal recorded) }
         ensures calls_on_any_disk { OnOk result ((was_open : Bool) × (recorded : List (Asked A)) × AreRecorded A self.old.register (command.now ∷ []) self.new.register recorded
-            × ((D.view self.new.disk).calls ≡ (D.view self.old.disk).calls ++ commit_calls_by self.old.layout self.old.side self.old.epoch self.old.register was_open (fits_in A self.old.journal (command.entry ∷ [])) self.old.journal.next recorded)) }
+            × ((D.view self.new.disk).calls ≡ (D.view self.old.disk).calls ++ commit_calls_by self.old.layout self.old.side self.old.epoch self.old.register was_open (fits_in A self.old.journal (command.entry ∷ [])) self.old.journal recorded)) }
         ensures some_calls_on_any_disk { (was_open : Bool) × (recorded : List (Asked A)) × AreRecorded A self.old.register (command.now ∷ []) self.new.register recorded
-            × HasMade (D.view self.old.disk) (D.view self.new.disk) (commit_calls_by self.old.layout self.old.side self.old.epoch self.old.register was_open (fits_in A self.old.journal (command.entry ∷ [])) self.old.journal.next recorded) }
+            × HasMade (D.view self.old.disk) (D.view self.new.disk) (commit_calls_by self.old.layout self.old.side self.old.epoch self.old.register was_open (fits_in A self.old.journal (command.entry ∷ [])) self.old.journal recorded) }
 
         // It does not give up by itself, and a fault of the disk shows the register before the call.
         ensures broken { self.old.broken ≡ true → (result ≡ Err Broken) × (self.new ≡ self.old) }

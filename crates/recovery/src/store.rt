@@ -37,6 +37,7 @@ pub struct Store<A: Allocator, D: Disk> {
     ghost first: { journal.first ≡ half_at layout side },
     ghost end: { journal.end ≡ half_end layout side },
     ghost next: { journal.next < half_end layout side },
+    ghost counts: { journal.count ≤ register.count },
 }
 
 impl<A: Allocator + Copy, D: Disk> Store<A, D> {
@@ -52,7 +53,7 @@ impl<A: Allocator + Copy, D: Disk> Store<A, D> {
         ensures refused { IfErr result (λ e. (D.view disk).honest → Fails e.0 (opens A (D.view disk).reads)) }
 
         // The store is kept: each stop leaves what was read, and no stop in the call leaves anything else than one before it.
-        ensures kept { IfOk result (λ store. (D.view disk).honest → IsStored A store.layout store.side store.epoch store.journal.next store.register (D.view store.disk)) }
+        ensures kept { IfOk result (λ store. (D.view disk).honest → IsStored A store.layout store.side store.epoch store.journal store.register (D.view store.disk)) }
         ensures sound { IfOk result (λ store. store.broken ≡ false) }
         ensures only { IfOk result (λ store. (D.view disk).honest → InEach (D.view store.disk) (λ image. image ≡ (D.view disk).reads)) }
         ensures left { IfOk result (λ store. (D.view disk).honest → LeavesOnly (D.view disk) (D.view store.disk) (IsImageOf (D.view disk))) }

@@ -14,11 +14,11 @@ const BYTES: [u8; 3] = [0, 1, 77];
 
 // ---- one after the other
 
-/// The record of the rule, alone.
-const RULE_ALONE: [u8; 6] = [0, 1, 0, 0, 0, 0x1b];
+/// The record of the rule, alone, number 1.
+const RULE_ALONE: [u8; 14] = [0, 1, 0, 0, 0, 0, 0, 0, 0, 1, 0, 0, 0, 0x1b];
 
-/// The record of an attach.
-const ATTACH_ALONE: [u8; 6] = [0, 1, 0, 0, 0, 0x17];
+/// The record of an attach, number 2.
+const ATTACH_ALONE: [u8; 14] = [0, 1, 0, 0, 0, 0, 0, 0, 0, 2, 0, 0, 0, 0x17];
 
 fn are_recorded(alloc: Global) -> Result<bool, Fail> {
     let rule = made::rule().ok_or("a rule")?;
@@ -86,8 +86,8 @@ fn a_command_counts_once_its_gate_is_open(rt: HostRuntime) -> Result<(), Fail> {
 
 // ---- several in one record
 
-/// The head of a record of 27, 23 and 11 bytes.
-const THREE: [u8; 6] = [0, 3, 0, 0, 0, 0x3d];
+/// The head of a record of 27, 23 and 11 bytes, from number 1 on.
+const THREE: [u8; 14] = [0, 3, 0, 0, 0, 0, 0, 0, 0, 1, 0, 0, 0, 0x3d];
 
 /// Three commands are committed at once while this call of the disk fails. Tells as `stopped` does.
 fn three_stopped(alloc: Global, call: u64, byte: u8) -> Result<(bool, bool, Option<u64>), Fail> {
@@ -132,7 +132,7 @@ fn is_nothing_written<D: Disk>(alloc: Global, store: &mut Store<Global, D>) -> b
 // ---- a full half
 
 /// Commits expiries with these sequences, one by one.
-fn commit_expiries<D: Disk>(
+pub fn commit_expiries<D: Disk>(
     alloc: Global,
     store: &mut Store<Global, D>,
     first: u32,
@@ -170,17 +170,17 @@ fn filled(alloc: Global) -> Result<MemoryDisk<Global>, Fail> {
 
 /// The header of the other slot: epoch 2, 19 commands, one rule, and what is kept of two stations.
 const SECOND: [u8; 33] = [
-    16, 0, 0, 0, 0, 0, 0, 0, 2, 0, 0, 0, 0, 0, 0, 0, 19, 0, 0, 0, 1, 0, 0, 0, 0, 0, 0, 0, 0, 0, 0,
+    22, 0, 0, 0, 0, 0, 0, 0, 2, 0, 0, 0, 0, 0, 0, 0, 19, 0, 0, 0, 1, 0, 0, 0, 0, 0, 0, 0, 0, 0, 0,
     0, 2,
 ];
 
-/// The record of an expiry.
-const EXPIRY_ALONE: [u8; 6] = [0, 1, 0, 0, 0, 0x0b];
+/// The record of an expiry, number 20.
+const EXPIRY_ALONE: [u8; 14] = [0, 1, 0, 0, 0, 0, 0, 0, 0, 20, 0, 0, 0, 0x0b];
 
-/// The next command makes a checkpoint: root 2 is opened, and its record is the first of half B.
-fn is_checkpointed(alloc: Global) -> Result<bool, Fail> {
+/// The next command on a disk whose half is full makes a checkpoint: root 2 is opened, and its record is the first of half B.
+pub fn is_checkpointed(alloc: Global, disk: MemoryDisk<Global>) -> Result<bool, Fail> {
     let next = made::expiry(19).ok_or("an expiry")?;
-    let mut disk = filled(alloc)?;
+    let mut disk = disk;
     let full = begin(&mut disk, &[(2, &[0]), (625, &[1]), (627, &[0])]);
     let (answered, disk) = run(alloc, disk, &[&next]);
     let (count, mut disk) = stands_for(alloc, disk);
@@ -196,7 +196,7 @@ fn is_checkpointed(alloc: Global) -> Result<bool, Fail> {
 
 #[test]
 fn a_full_half_makes_a_checkpoint(rt: HostRuntime) -> Result<(), Fail> {
-    assert!(rt; is_checkpointed(rt.alloc())?);
+    assert!(rt; is_checkpointed(rt.alloc(), filled(rt.alloc())?)?);
     Ok(())
 }
 
@@ -327,10 +327,10 @@ fn what_was_acknowledged_is_there_after_a_stop(rt: HostRuntime) -> Result<(), Fa
 // ---- numbers that end
 
 /// A header of epoch 1 and 2 to the 62nd commands.
-const LAST_COMMAND: [u8; 17] = [16, 0, 0, 0, 0, 0, 0, 0, 1, 0x40, 0, 0, 0, 0, 0, 0, 0];
+const LAST_COMMAND: [u8; 17] = [22, 0, 0, 0, 0, 0, 0, 0, 1, 0x40, 0, 0, 0, 0, 0, 0, 0];
 
 /// A header of the last epoch, 2 to the 62nd.
-const LAST_EPOCH: [u8; 9] = [16, 0x40, 0, 0, 0, 0, 0, 0, 0];
+const LAST_EPOCH: [u8; 9] = [22, 0x40, 0, 0, 0, 0, 0, 0, 0];
 
 /// A disk ready for a register with this header.
 fn headed(alloc: Global, header: &[u8]) -> Result<MemoryDisk<Global>, Fail> {

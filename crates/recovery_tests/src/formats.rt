@@ -14,7 +14,7 @@ const LABEL: [u8; 30] = [
 ];
 
 /// A header of epoch 1.
-const HEADER: [u8; 9] = [0x10, 0, 0, 0, 0, 0, 0, 0, 1];
+const HEADER: [u8; 9] = [0x16, 0, 0, 0, 0, 0, 0, 0, 1];
 
 /// The sectors that a format writes, and with which bytes they begin: the label, both roots, the header of side A and
 /// the first gates of both halves.

@@ -10,36 +10,36 @@ use std::test::Fail;
 
 /// A header of epoch 2: 3 commands, a rule, two radios, nothing that waits, one station.
 const SECOND: [u8; 33] = [
-    16, 0, 0, 0, 0, 0, 0, 0, 2, 0, 0, 0, 0, 0, 0, 0, 3, 0, 0, 0, 1, 0, 0, 0, 2, 0, 0, 0, 0, 0, 0,
+    22, 0, 0, 0, 0, 0, 0, 0, 2, 0, 0, 0, 0, 0, 0, 0, 3, 0, 0, 0, 1, 0, 0, 0, 2, 0, 0, 0, 0, 0, 0,
     0, 1,
 ];
 
-/// How the record begins: 64 commands of 281 bytes, the first of them of station 1 with sequence 4 at moment 20, from
+/// How the record begins: 64 commands from number 4 on, of 281 bytes, the first of them of station 1 with sequence 4 at moment 20, from
 /// 234-14-2001 to 234-14-2002, 2,047 bits with reference 0.
-const HEAD: [u8; 36] = [
-    0, 0x40, 0, 0, 0x46, 0x40, 0, 1, 0, 0, 0, 4, 0, 0, 0, 0x14, 4, 0x3a, 0x80, 0x0e, 0, 0x07, 0xd1,
-    0x3a, 0x80, 0x0e, 0, 0x07, 0xd2, 0x07, 0xff, 0x82, 0, 0, 0xff, 0xff,
+const HEAD: [u8; 44] = [
+    0, 0x40, 0, 0, 0, 0, 0, 0, 0, 4, 0, 0, 0x46, 0x40, 0, 1, 0, 0, 0, 4, 0, 0, 0, 0x14, 4, 0x3a,
+    0x80, 0x0e, 0, 0x07, 0xd1, 0x3a, 0x80, 0x0e, 0, 0x07, 0xd2, 0x07, 0xff, 0x82, 0, 0, 0xff, 0xff,
 ];
 
-/// Its 36th data sector: of the 6 bytes of its head and of the 64 times 281 ones 70 are left, all of the last
+/// Its 36th data sector: of the 14 bytes of its head and of the 64 times 281 ones 78 are left, all of the last
 /// message's user data, behind whose last bit a 0 fills.
 fn last_sector() -> [u8; 512] {
     let mut bytes = [0; 512];
-    for byte in bytes.iter_mut().take(69) {
+    for byte in bytes.iter_mut().take(77) {
         *byte = 255;
     }
-    bytes[69] = 254;
+    bytes[77] = 254;
     bytes
 }
 
 /// A header of epoch 3: 67 commands, a rule, two radios, 64 messages that wait, one station.
 const THIRD: [u8; 33] = [
-    16, 0, 0, 0, 0, 0, 0, 0, 3, 0, 0, 0, 0, 0, 0, 0, 67, 0, 0, 0, 1, 0, 0, 0, 2, 0, 0, 0, 64, 0, 0,
+    22, 0, 0, 0, 0, 0, 0, 0, 3, 0, 0, 0, 0, 0, 0, 0, 67, 0, 0, 0, 1, 0, 0, 0, 2, 0, 0, 0, 64, 0, 0,
     0, 1,
 ];
 
-/// The record of an expiry.
-const EXPIRY_ALONE: [u8; 6] = [0, 1, 0, 0, 0, 0x0b];
+/// The record of an expiry, number 68.
+const EXPIRY_ALONE: [u8; 14] = [0, 1, 0, 0, 0, 0, 0, 0, 0, 68, 0, 0, 0, 0x0b];
 
 /// A rule and two attaches in one record, so that the half has room for 35 data sectors more.
 fn begin_three<D: Disk>(alloc: Global, store: &mut Store<Global, D>) -> Option<bool> {

@@ -12,6 +12,8 @@ mod greatest;
 #[cfg(test)]
 mod group_message;
 #[cfg(test)]
+mod layouts;
+#[cfg(test)]
 mod made;
 #[cfg(test)]
 mod opens;

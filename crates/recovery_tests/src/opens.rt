@@ -14,14 +14,17 @@ const LABEL: [u8; 30] = [
     0, 0, 0, 4, 0, 0, 0, 0x27,
 ];
 
-/// Headers of epochs 1 and 2.
-const FIRST: [u8; 9] = [0x10, 0, 0, 0, 0, 0, 0, 0, 1];
+/// A header of layout 1, of epoch 1.
+pub const PLAIN_FIRST: [u8; 9] = [0x10, 0, 0, 0, 0, 0, 0, 0, 1];
 
-const SECOND: [u8; 9] = [0x10, 0, 0, 0, 0, 0, 0, 0, 2];
+/// Headers of epochs 1 and 2.
+const FIRST: [u8; 9] = [0x16, 0, 0, 0, 0, 0, 0, 0, 1];
+
+const SECOND: [u8; 9] = [0x16, 0, 0, 0, 0, 0, 0, 0, 2];
 
 /// A header of epoch 2 with a rule, and the rule.
 const WITH_RULE: [u8; 33] = [
-    0x10, 0, 0, 0, 0, 0, 0, 0, 2, 0, 0, 0, 0, 0, 0, 0, 1, 0, 0, 0, 1, 0, 0, 0, 0, 0, 0, 0, 0, 0, 0,
+    0x16, 0, 0, 0, 0, 0, 0, 0, 2, 0, 0, 0, 0, 0, 0, 0, 1, 0, 0, 0, 1, 0, 0, 0, 0, 0, 0, 0, 0, 0, 0,
     0, 0,
 ];
 
@@ -29,17 +32,25 @@ const RULE: [u8; 17] = [
     0x11, 0x18, 0x3a, 0x80, 0x0e, 0, 0, 0, 0, 1, 0, 0x63, 1, 0, 0, 0x0e, 0x10,
 ];
 
-/// A record of a rule, sequence 1 of station 1.
-const SET_RULE: [u8; 33] = [
-    0, 1, 0, 0, 0, 0x1b, 0, 1, 0, 0, 0, 1, 0, 0, 0, 0, 1, 0x18, 0x3a, 0x80, 0x0e, 0, 0, 0, 0, 1, 0,
-    0x63, 1, 0, 0, 0x0e, 0x10,
+/// A record of a rule, number 1, sequence 1 of station 1.
+pub const SET_RULE: [u8; 41] = [
+    0, 1, 0, 0, 0, 0, 0, 0, 0, 1, 0, 0, 0, 0x1b, 0, 1, 0, 0, 0, 1, 0, 0, 0, 0, 1, 0x18, 0x3a, 0x80,
+    0x0e, 0, 0, 0, 0, 1, 0, 0x63, 1, 0, 0, 0x0e, 0x10,
 ];
 
-/// A record of an expiry, sequence 1 of station 5, of which there is none.
-const FROM_STATION_5: [u8; 17] = [0, 1, 0, 0, 0, 0x0b, 0, 5, 0, 0, 0, 1, 0, 0, 0, 0, 6];
+/// The same command again, number 2.
+const SET_RULE_AGAIN: [u8; 41] = [
+    0, 1, 0, 0, 0, 0, 0, 0, 0, 2, 0, 0, 0, 0x1b, 0, 1, 0, 0, 0, 1, 0, 0, 0, 0, 1, 0x18, 0x3a, 0x80,
+    0x0e, 0, 0, 0, 0, 1, 0, 0x63, 1, 0, 0, 0x0e, 0x10,
+];
+
+/// A record of an expiry, number 1, sequence 1 of station 5, of which there is none.
+const FROM_STATION_5: [u8; 25] = [
+    0, 1, 0, 0, 0, 0, 0, 0, 0, 1, 0, 0, 0, 0x0b, 0, 5, 0, 0, 0, 1, 0, 0, 0, 0, 6,
+];
 
 /// A gate that is open.
-const OPEN: [u8; 1] = [1];
+pub const OPEN: [u8; 1] = [1];
 
 /// A sector that begins with these bytes, with zeros behind them.
 fn sector(front: &[u8]) -> [u8; 512] {
@@ -51,7 +62,7 @@ fn sector(front: &[u8]) -> [u8; 512] {
 }
 
 /// Puts these bytes and zeros into these sectors.
-fn put<D: Disk>(disk: &mut D, sectors: &[(u64, &[u8])]) -> bool {
+pub fn put<D: Disk>(disk: &mut D, sectors: &[(u64, &[u8])]) -> bool {
     for (at, front) in sectors {
         if disk.write(*at, &sector(front)).is_err() {
             return false;
@@ -65,7 +76,7 @@ fn layout() -> Option<Layout> {
 }
 
 /// The worked disk made ready, and then these sectors written.
-fn disk(alloc: Global, sectors: &[(u64, &[u8])]) -> Result<MemoryDisk<Global>, Fail> {
+pub fn disk(alloc: Global, sectors: &[(u64, &[u8])]) -> Result<MemoryDisk<Global>, Fail> {
     let layout = layout().ok_or("a layout")?;
     let mut disk = MemoryDisk::new(alloc, 667, 4_000)?;
     if format::<Global, MemoryDisk<Global>>(&mut disk, &layout) != Ok(())
@@ -77,7 +88,7 @@ fn disk(alloc: Global, sectors: &[(u64, &[u8])]) -> Result<MemoryDisk<Global>, F
 }
 
 /// How many commands the register of the disk has accepted, or why it does not open; and the disk.
-fn opened<A: Allocator + Copy, D: Disk>(alloc: A, disk: D) -> (Result<u64, StoreFault>, D) {
+pub fn opened<A: Allocator + Copy, D: Disk>(alloc: A, disk: D) -> (Result<u64, StoreFault>, D) {
     match Store::open(alloc, disk) {
         Ok(store) => (counted(&store), store.into_disk()),
         Err((fault, disk)) => (Err(fault), disk),
@@ -92,7 +103,7 @@ fn counted<A: Allocator + Copy, D: Disk>(store: &Store<A, D>) -> Result<u64, Sto
 }
 
 /// The same of the worked disk with these sectors.
-fn with(alloc: Global, sectors: &[(u64, &[u8])]) -> Result<Result<u64, StoreFault>, Fail> {
+pub fn with(alloc: Global, sectors: &[(u64, &[u8])]) -> Result<Result<u64, StoreFault>, Fail> {
     let (answer, _) = opened(alloc, disk(alloc, sectors)?);
     Ok(answer)
 }
@@ -226,7 +237,7 @@ fn each_command_has_to_be_accepted(rt: HostRuntime) -> Result<(), Fail> {
         (589, &OPEN),
         (590, &SET_RULE),
         (591, &OPEN),
-        (592, &SET_RULE),
+        (592, &SET_RULE_AGAIN),
     ];
     assert_eq!(rt; with(alloc, &again)?, Err(StoreFault::Damaged(592)));
     let nobody: [(u64, &[u8]); 2] = [(589, &OPEN), (590, &FROM_STATION_5)];
@@ -242,13 +253,15 @@ fn each_command_has_to_be_accepted(rt: HostRuntime) -> Result<(), Fail> {
     Ok(())
 }
 
-/// A record of an expiry of station 1 with this sequence.
-fn expiry(sequence: u8) -> [u8; 17] {
-    [0, 1, 0, 0, 0, 0x0b, 0, 1, 0, 0, 0, sequence, 0, 0, 0, 0, 6]
+/// A record of an expiry of station 1 with this sequence, which is its number too.
+pub fn expiry(sequence: u8) -> [u8; 25] {
+    [
+        0, 1, 0, 0, 0, 0, 0, 0, 0, sequence, 0, 0, 0, 0x0b, 0, 1, 0, 0, 0, sequence, 0, 0, 0, 0, 6,
+    ]
 }
 
 /// Puts so many expiries from the gate 591 on, two sectors each, and opens the gates.
-fn put_expiries<D: Disk>(disk: &mut D, count: u8) -> bool {
+pub fn put_expiries<D: Disk>(disk: &mut D, count: u8) -> bool {
     for k in 0..count {
         let gate = 591 + 2 * u64::from(k);
         if !put(

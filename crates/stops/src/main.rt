@@ -1,4 +1,5 @@
-//! Tells each call that a disk gets from a register that is kept on it, for `tests/disks.py`. On standard input a line is a
+//! Tells each call that a disk gets from a register that is kept on it, for `tests/disks.py`. Standard input begins with the
+//! sectors of a disk, each a line `N DIGITS`, and an empty line; a disk without any is made ready. Then a line is a
 //! station and what it says there, with a space between, and an empty line ends a batch of at most 64 commands. Standard output
 //! begins with `disk N`, the number of sectors. Then come the calls that make the disk ready, those that open it, and those of
 //! each batch, with an empty line behind each of these: `write N DIGITS`, the sector's bytes in hexadecimal digits without the
@@ -83,32 +84,75 @@ fn tell_answer<W: Write>(
     out.write_all(&text)
 }
 
-/// Makes a disk ready, and writes the calls.
-fn make_ready<D: Disk, W: Write>(
+/// The sector that begins with these bytes; what is past 512 of them is left out.
+fn sector(bytes: &[u8]) -> [u8; 512] {
+    let mut sector = [0; 512];
+    for (to, byte) in sector.iter_mut().zip(bytes) {
+        *to = *byte;
+    }
+    sector
+}
+
+/// Writes the sector that a line gives.
+fn write_sector<D: Disk>(alloc: Global, disk: &mut D, line: &str) -> io::Result<()> {
+    let (at, digits) = line.split_once(' ').ok_or(io::ErrorKind::InvalidData)?;
+    let Ok(at) = at.parse() else {
+        return Err(io::ErrorKind::InvalidData.into());
+    };
+    let Ok(bytes) = hex::decode(alloc, digits) else {
+        return Err(io::ErrorKind::InvalidData.into());
+    };
+    match disk.write(at, &sector(&bytes)) {
+        Ok(()) => Ok(()),
+        Err(_) => Err(io::ErrorKind::Other.into()),
+    }
+}
+
+/// Writes the sectors that lines give, up to an empty one. Whether there were any.
+fn write_sectors<R: BufRead, D: Disk>(
     alloc: Global,
-    out: &mut W,
-    calls: &Calls,
+    lines: &mut R,
+    disk: &mut D,
+) -> io::Result<bool> {
+    for written in 0..MOST_CALLS {
+        let mut line = String::new(alloc);
+        lines.read_line(&mut line)?;
+        if line.trim_end().is_empty() {
+            return Ok(written > 0);
+        }
+        write_sector(alloc, disk, line.trim_end())?;
+    }
+    Err(io::ErrorKind::InvalidData.into())
+}
+
+/// Makes a disk ready: with the sectors that lines give, or anew where they give none.
+fn make_ready<R: BufRead, D: Disk>(
+    alloc: Global,
+    lines: &mut R,
     layout: &Layout,
     disk: &mut D,
 ) -> io::Result<()> {
-    if format::<Global, D>(disk, layout).is_err() {
+    let is_made = if write_sectors(alloc, lines, disk)? {
+        disk.sync().is_ok()
+    } else {
+        format::<Global, D>(disk, layout).is_ok()
+    };
+    if !is_made {
         return Err(io::ErrorKind::Other.into());
     }
-    tell_calls(alloc, out, calls)?;
-    writeln!(out)
+    Ok(())
 }
 
 /// A disk that was made ready.
-fn ready_disk<'a, W: Write>(
+fn ready_disk<'a, R: BufRead>(
     alloc: Global,
-    out: &mut W,
+    lines: &mut R,
     calls: &'a Calls,
 ) -> io::Result<WatchedDisk<'a, MemoryDisk<Global>>> {
     let layout = layout().ok_or(io::ErrorKind::Other)?;
-    writeln!(out, "disk {}", layout.sectors())?;
     let inner = MemoryDisk::new(alloc, layout.sectors() as usize, MOST_CALLS)?;
     let mut disk = WatchedDisk::new(inner, calls);
-    make_ready(alloc, out, calls, &layout, &mut disk)?;
+    make_ready(alloc, lines, &layout, &mut disk)?;
     Ok(disk)
 }
 
@@ -174,15 +218,15 @@ fn open<D: Disk + Drop>(alloc: Global, disk: D, calls: &Calls) -> io::Result<Ses
 }
 
 /// Writes the calls that opened the disk, and answers all lines.
-fn serve<D: Disk, W: Write>(
-    rt: &HostRuntime,
+fn serve<R: BufRead + Drop, D: Disk, W: Write>(
+    alloc: Global,
+    lines: R,
     out: &mut W,
     session: &mut Session<'_, D>,
 ) -> io::Result<()> {
-    let alloc = rt.alloc();
     tell_calls(alloc, out, session.calls)?;
     writeln!(out)?;
-    for line in BufReader::new(alloc, rt.reader())?.lines(alloc) {
+    for line in lines.lines(alloc) {
         session.take_line(alloc, out, &line?)?;
     }
     Ok(())
@@ -191,9 +235,13 @@ fn serve<D: Disk, W: Write>(
 fn main(rt: HostRuntime) -> io::Result<()> {
     let alloc = rt.alloc();
     let mut out = BufWriter::new(alloc, io::writer(&rt))?;
+    let mut lines = BufReader::new(alloc, rt.reader())?;
     let calls = RefCell::new(Vec::new(alloc));
-    let disk = ready_disk(alloc, &mut out, &calls)?;
+    let disk = ready_disk(alloc, &mut lines, &calls)?;
+    writeln!(out, "disk {}", disk.sectors())?;
+    tell_calls(alloc, &mut out, &calls)?;
+    writeln!(out)?;
     let mut session = open(alloc, disk, &calls)?;
-    serve(&rt, &mut out, &mut session)?;
+    serve(alloc, lines, &mut out, &mut session)?;
     out.flush()
 }

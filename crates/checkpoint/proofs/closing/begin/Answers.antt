@@ -11,7 +11,7 @@ use Rattle.sector_disk.proofs.Made.{made_of_more}
 use Rattle.checkpoint.proofs.closing.begin.Goals as goal
 
 pub returns-in_err-write-clause-any_moment : goal.returns-in_err-write-clause-any_moment
-returns-in_err-write-clause-any_moment g c base held honest each =
+returns-in_err-write-clause-any_moment g c form base held honest each =
     let layout = c.args.layout.now in
     let old : View = g.D.Disk.view c.args.disk.now in
     let mid : View = g.D.Disk.view c.close_root.new.disk in
@@ -20,10 +20,10 @@ returns-in_err-write-clause-any_moment g c base held honest each =
     let place : c.half.result ≡ half_at layout (other_of c.args.current) = c.half.ensures ∙ ap (half_at layout) c.other.ensures in
     let inside : c.half.result < mid.sectors = rw place (gate_inside layout (other_of c.args.current) mid.sectors room) in
     let wrote = rw place at (c.in_err-write.ensures.effect inside honest_still) in
-    in_gate layout c.args.current base held old mid (c.close_root.ensures.any_moment base held honest each) (g.met.D.Disk.sound c.close_root.new.disk honest_still) room _ _ _ wrote
+    in_gate layout c.args.current form base held old mid (c.close_root.ensures.any_moment form base held honest each) (g.met.D.Disk.sound c.close_root.new.disk honest_still) room _ _ _ wrote
 
 pub returns-in_err-sync-clause-any_moment : goal.returns-in_err-sync-clause-any_moment
-returns-in_err-sync-clause-any_moment g c base held honest each =
+returns-in_err-sync-clause-any_moment g c form base held honest each =
     let layout = c.args.layout.now in
     let old : View = g.D.Disk.view c.args.disk.now in
     let mid : View = g.D.Disk.view c.close_root.new.disk in
@@ -32,10 +32,10 @@ returns-in_err-sync-clause-any_moment g c base held honest each =
     let place : c.half.result ≡ half_at layout (other_of c.args.current) = c.half.ensures ∙ ap (half_at layout) c.other.ensures in
     let inside : c.half.result < mid.sectors = rw place (gate_inside layout (other_of c.args.current) mid.sectors room) in
     let wrote = rw place at (c.in_ok-write.ensures.effect inside honest_still) in
-    in_sync layout c.args.current base held old mid (c.close_root.ensures.any_moment base held honest each) (g.met.D.Disk.sound c.close_root.new.disk honest_still) room _ _ _ _ wrote (c.in_err-sync.ensures.effect wrote.honest)
+    in_sync layout c.args.current form base held old mid (c.close_root.ensures.any_moment form base held honest each) (g.met.D.Disk.sound c.close_root.new.disk honest_still) room _ _ _ _ wrote (c.in_err-sync.ensures.effect wrote.honest)
 
 pub returns-clause-any_moment : goal.returns-clause-any_moment
-returns-clause-any_moment g c base held honest each =
+returns-clause-any_moment g c form base held honest each =
     let layout = c.args.layout.now in
     let old : View = g.D.Disk.view c.args.disk.now in
     let mid : View = g.D.Disk.view c.close_root.new.disk in
@@ -44,7 +44,7 @@ returns-clause-any_moment g c base held honest each =
     let place : c.half.result ≡ half_at layout (other_of c.args.current) = c.half.ensures ∙ ap (half_at layout) c.other.ensures in
     let inside : c.half.result < mid.sectors = rw place (gate_inside layout (other_of c.args.current) mid.sectors room) in
     let wrote = rw place at (c.in_ok-write.ensures.effect inside honest_still) in
-    in_sync layout c.args.current base held old mid (c.close_root.ensures.any_moment base held honest each) (g.met.D.Disk.sound c.close_root.new.disk honest_still) room _ _ _ _ wrote (c.in_ok-sync.ensures.effect wrote.honest)
+    in_sync layout c.args.current form base held old mid (c.close_root.ensures.any_moment form base held honest each) (g.met.D.Disk.sound c.close_root.new.disk honest_still) room _ _ _ _ wrote (c.in_ok-sync.ensures.effect wrote.honest)
 
 pub returns-clause-shut : goal.returns-clause-shut
 returns-clause-shut g c honest =

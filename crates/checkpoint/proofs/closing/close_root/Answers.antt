@@ -8,25 +8,25 @@ use Rattle.checkpoint.proofs.Closed.{in_read, in_root}
 use Rattle.checkpoint.proofs.closing.close_root.Goals as goal
 
 pub returns-in_err-read-clause-any_moment : goal.returns-in_err-read-clause-any_moment
-returns-in_err-read-clause-any_moment g c base held honest each =
+returns-in_err-read-clause-any_moment g c form base held honest each =
     let layout = c.args.layout.now in
     let old : View = g.D.Disk.view c.args.disk.now in
     let place : c.root-root.result ≡ root_at (other_of c.args.current) = c.root-root.ensures ∙ ap root_at c.other.ensures in
     let inside : c.root-root.result < old.sectors = rw place (root_inside layout (other_of c.args.current) old.sectors c.requires.room) in
     let has = rw place at (c.in_err-read.ensures.effect inside honest) in
-    in_read layout c.args.current base held old _ (g.met.D.Disk.sound c.args.disk.now honest) c.requires.room each _ _ has
+    in_read layout c.args.current form base held old _ (g.met.D.Disk.sound c.args.disk.now honest) c.requires.room each _ _ has
 
 pub returns-then-bytes-ne1-clause-any_moment : goal.returns-then-bytes-ne1-clause-any_moment
-returns-then-bytes-ne1-clause-any_moment g c base held honest each =
+returns-then-bytes-ne1-clause-any_moment g c form base held honest each =
     let layout = c.args.layout.now in
     let old : View = g.D.Disk.view c.args.disk.now in
     let place : c.root-root.result ≡ root_at (other_of c.args.current) = c.root-root.ensures ∙ ap root_at c.other.ensures in
     let inside : c.root-root.result < old.sectors = rw place (root_inside layout (other_of c.args.current) old.sectors c.requires.room) in
     let has = rw place at (c.in_ok-read.ensures.effect inside honest) in
-    in_read layout c.args.current base held old _ (g.met.D.Disk.sound c.args.disk.now honest) c.requires.room each _ _ has
+    in_read layout c.args.current form base held old _ (g.met.D.Disk.sound c.args.disk.now honest) c.requires.room each _ _ has
 
 pub returns-in_err-write-clause-any_moment : goal.returns-in_err-write-clause-any_moment
-returns-in_err-write-clause-any_moment g c base held honest each =
+returns-in_err-write-clause-any_moment g c form base held honest each =
     let layout = c.args.layout.now in
     let old : View = g.D.Disk.view c.args.disk.now in
     let mid : View = g.D.Disk.view c.read.new.self in
@@ -35,10 +35,10 @@ returns-in_err-write-clause-any_moment g c base held honest each =
     let has = rw place at (c.in_ok-read.ensures.effect inside honest) in
     let same : mid.sectors ≡ old.sectors = c.in_ok-read.ensures.cause.sectors in
     let wrote = rw place at (c.in_err-write.ensures.effect (omega (arith, inside, same)) has.honest) in
-    in_root layout c.args.current base held old mid (g.met.D.Disk.sound c.args.disk.now honest) c.requires.room each c.read.new.bytes _ _ _ has c.if-bytes-ne1.false (g.met.D.Disk.sound c.read.new.self has.honest) same wrote
+    in_root layout c.args.current form base held old mid (g.met.D.Disk.sound c.args.disk.now honest) c.requires.room each c.read.new.bytes _ _ _ has c.if-bytes-ne1.false (g.met.D.Disk.sound c.read.new.self has.honest) same wrote
 
 pub returns-clause-any_moment : goal.returns-clause-any_moment
-returns-clause-any_moment g c base held honest each =
+returns-clause-any_moment g c form base held honest each =
     let layout = c.args.layout.now in
     let old : View = g.D.Disk.view c.args.disk.now in
     let mid : View = g.D.Disk.view c.read.new.self in
@@ -47,7 +47,7 @@ returns-clause-any_moment g c base held honest each =
     let has = rw place at (c.in_ok-read.ensures.effect inside honest) in
     let same : mid.sectors ≡ old.sectors = c.in_ok-read.ensures.cause.sectors in
     let wrote = rw place at (c.in_ok-write.ensures.effect (omega (arith, inside, same)) has.honest) in
-    in_root layout c.args.current base held old mid (g.met.D.Disk.sound c.args.disk.now honest) c.requires.room each c.read.new.bytes _ _ _ has c.if-bytes-ne1.false (g.met.D.Disk.sound c.read.new.self has.honest) same wrote
+    in_root layout c.args.current form base held old mid (g.met.D.Disk.sound c.args.disk.now honest) c.requires.room each c.read.new.bytes _ _ _ has c.if-bytes-ne1.false (g.met.D.Disk.sound c.read.new.self has.honest) same wrote
 
 pub returns-in_err-write-clause-some_calls : goal.returns-in_err-write-clause-some_calls
 returns-in_err-write-clause-some_calls g c honest =

@@ -12,8 +12,8 @@ use Rattle.checkpoint.specs.Standing.{Stands}
 use Rattle.checkpoint.proofs.image.write_image.Goals as goal
 
 pub returns-then-epoch-ge-LAST_EPOCH-clause-any_moment : goal.returns-then-epoch-ge-LAST_EPOCH-clause-any_moment
-returns-then-epoch-ge-LAST_EPOCH-clause-any_moment g c base held honest each =
-    started (g.D.Disk.view c.args.disk.now) (Stands c.args.layout.now c.args.current base held) (g.met.D.Disk.sound c.args.disk.now honest) each
+returns-then-epoch-ge-LAST_EPOCH-clause-any_moment g c form base held honest each =
+    started (g.D.Disk.view c.args.disk.now) (Stands c.args.layout.now c.args.current form base held) (g.met.D.Disk.sound c.args.disk.now honest) each
 
 pub write_rows-requires-clause-room : goal.write_rows-requires-clause-room
 write_rows-requires-clause-room g c =
@@ -33,7 +33,7 @@ write_rows-requires-clause-fits g c =
     omega (arith, place, fit, places.slot, places.half, places.short)
 
 pub returns-in_err-write_rows-clause-any_moment : goal.returns-in_err-write_rows-clause-any_moment
-returns-in_err-write_rows-clause-any_moment g c base held honest each =
+returns-in_err-write_rows-clause-any_moment g c form base held honest each =
     let layout = c.args.layout.now in
     let mid : View = g.D.Disk.view c.begin.new.disk in
     let fit = rows_have_room layout (c.args.epoch + 1) c.args.register.now c.registers.ensures.state c.requires.limits in
@@ -41,10 +41,10 @@ returns-in_err-write_rows-clause-any_moment g c base held honest each =
     let place : c.slot.result ≡ slot_at layout (other_of c.args.current) = c.slot.ensures ∙ ap (slot_at layout) c.other.ensures in
     let filled = rw place at (c.in_err-write_rows.ensures.effect honest_still) in
     in_rows layout c.args.current (g.D.Disk.view c.args.disk.now) mid (c.in_ok-begin.ensures.shut honest) (length (rows_of (c.args.epoch + 1) c.args.register.now)) fit (row_sector (c.args.epoch + 1, c.args.register.now)) (g.D.Disk.view c.write_rows.new.disk)
-    base held (c.begin.ensures.any_moment base held honest each) (g.met.D.Disk.sound c.begin.new.disk honest_still) _ filled
+    form base held (c.begin.ensures.any_moment form base held honest each) (g.met.D.Disk.sound c.begin.new.disk honest_still) _ filled
 
 pub returns-in_err-sync-clause-any_moment : goal.returns-in_err-sync-clause-any_moment
-returns-in_err-sync-clause-any_moment g c base held honest each =
+returns-in_err-sync-clause-any_moment g c form base held honest each =
     let layout = c.args.layout.now in
     let mid : View = g.D.Disk.view c.begin.new.disk in
     let fit = rows_have_room layout (c.args.epoch + 1) c.args.register.now c.registers.ensures.state c.requires.limits in
@@ -52,10 +52,10 @@ returns-in_err-sync-clause-any_moment g c base held honest each =
     let place : c.slot.result ≡ slot_at layout (other_of c.args.current) = c.slot.ensures ∙ ap (slot_at layout) c.other.ensures in
     let filled = rw place at (c.in_ok-write_rows.ensures.effect honest_still) in
     in_last layout c.args.current (g.D.Disk.view c.args.disk.now) mid (c.in_ok-begin.ensures.shut honest) (length (rows_of (c.args.epoch + 1) c.args.register.now)) fit (row_sector (c.args.epoch + 1, c.args.register.now)) (g.D.Disk.view c.write_rows.new.disk)
-    base held (c.begin.ensures.any_moment base held honest each) (g.met.D.Disk.sound c.begin.new.disk honest_still) (g.D.Disk.view c.sync.new.self) _ filled (c.in_err-sync.ensures.effect filled.honest)
+    form base held (c.begin.ensures.any_moment form base held honest each) (g.met.D.Disk.sound c.begin.new.disk honest_still) (g.D.Disk.view c.sync.new.self) _ filled (c.in_err-sync.ensures.effect filled.honest)
 
 pub returns-clause-any_moment : goal.returns-clause-any_moment
-returns-clause-any_moment g c base held honest each =
+returns-clause-any_moment g c form base held honest each =
     let layout = c.args.layout.now in
     let mid : View = g.D.Disk.view c.begin.new.disk in
     let fit = rows_have_room layout (c.args.epoch + 1) c.args.register.now c.registers.ensures.state c.requires.limits in
@@ -63,7 +63,7 @@ returns-clause-any_moment g c base held honest each =
     let place : c.slot.result ≡ slot_at layout (other_of c.args.current) = c.slot.ensures ∙ ap (slot_at layout) c.other.ensures in
     let filled = rw place at (c.in_ok-write_rows.ensures.effect honest_still) in
     in_last layout c.args.current (g.D.Disk.view c.args.disk.now) mid (c.in_ok-begin.ensures.shut honest) (length (rows_of (c.args.epoch + 1) c.args.register.now)) fit (row_sector (c.args.epoch + 1, c.args.register.now)) (g.D.Disk.view c.write_rows.new.disk)
-    base held (c.begin.ensures.any_moment base held honest each) (g.met.D.Disk.sound c.begin.new.disk honest_still) (g.D.Disk.view c.sync.new.self) _ filled (c.in_ok-sync.ensures.effect filled.honest)
+    form base held (c.begin.ensures.any_moment form base held honest each) (g.met.D.Disk.sound c.begin.new.disk honest_still) (g.D.Disk.view c.sync.new.self) _ filled (c.in_ok-sync.ensures.effect filled.honest)
 
 pub returns-clause-ready : goal.returns-clause-ready
 returns-clause-ready g c honest =

@@ -1,7 +1,7 @@
-use Rattle.std.proofs.Common.{◌≡◌, ◌+◌, ◌-◌, ◌<◌, ◌≤◌, ◌∙◌, ℕ, length, sym, refl, arith}
+use Rattle.std.proofs.Common.{◌≡◌, ◌+◌, ◌-◌, ◌<◌, ◌≤◌, ◌∙◌, length, sym, refl, arith}
 use Rattle.sector_disk.specs.Disk.{View}
 use Rattle.image_rows.specs.Rows.{rows_of}
-use Rattle.checkpoint.specs.Progress.{next_rows, written_after}
+use Rattle.checkpoint.specs.Progress.{next_rows}
 use Rattle.checkpoint.proofs.NextRows.{all_called, all_filled, all_have, last_called, last_filled, none_called, none_filled, one_called, one_filled}
 use Rattle.checkpoint.proofs.Walked.{progress_done, progress_on}
 use Rattle.checkpoint.proofs.progress.put_rows.Goals as goal

@@ -10,13 +10,13 @@ use Rattle.checkpoint.proofs.Switched.{has_switched, in_root, in_sync}
 use Rattle.checkpoint.proofs.switching.switch.Goals as goal
 
 pub returns-in_err-write-clause-any_moment : goal.returns-in_err-write-clause-any_moment
-returns-in_err-write-clause-any_moment g c base next held more newer honest each ready =
+returns-in_err-write-clause-any_moment g c form also base next held more newer honest each ready =
     let layout = c.args.layout.now in
     let old : View = g.D.Disk.view c.args.disk.now in
     let place : c.root.result ≡ root_at (other_of c.args.current) = c.root.ensures ∙ ap root_at c.other.ensures in
     let inside : c.root.result < old.sectors = rw place (root_inside layout (other_of c.args.current) old.sectors c.requires.room) in
     let wrote = rw place at (c.in_err-write.ensures.effect inside honest) in
-    in_root layout c.args.current base next held more newer _ _ (g.met.D.Disk.sound c.args.disk.now honest) c.requires.room each ready _ _ wrote
+    in_root layout c.args.current form also base next held more newer _ _ (g.met.D.Disk.sound c.args.disk.now honest) c.requires.room each ready _ _ wrote
 
 pub returns-in_err-write-clause-some_calls : goal.returns-in_err-write-clause-some_calls
 returns-in_err-write-clause-some_calls g c =
@@ -25,13 +25,13 @@ returns-in_err-write-clause-some_calls g c =
     made_on old old _ [] (Sync ∷ []) (Write (root_at (other_of c.args.current)) open_gate) c.write.result (sym (append-nil old.calls)) (rw place at c.write.ensures.called)
 
 pub returns-in_err-sync-clause-any_moment : goal.returns-in_err-sync-clause-any_moment
-returns-in_err-sync-clause-any_moment g c base next held more newer honest each ready =
+returns-in_err-sync-clause-any_moment g c form also base next held more newer honest each ready =
     let layout = c.args.layout.now in
     let old : View = g.D.Disk.view c.args.disk.now in
     let place : c.root.result ≡ root_at (other_of c.args.current) = c.root.ensures ∙ ap root_at c.other.ensures in
     let inside : c.root.result < old.sectors = rw place (root_inside layout (other_of c.args.current) old.sectors c.requires.room) in
     let wrote = rw place at (c.in_ok-write.ensures.effect inside honest) in
-    in_sync layout c.args.current base next held more newer _ _ (g.met.D.Disk.sound c.args.disk.now honest) c.requires.room each ready _ wrote _ _ (c.in_err-sync.ensures.effect wrote.honest)
+    in_sync layout c.args.current form also base next held more newer _ _ (g.met.D.Disk.sound c.args.disk.now honest) c.requires.room each ready _ wrote _ _ (c.in_err-sync.ensures.effect wrote.honest)
 
 pub returns-in_err-sync-clause-some_calls : goal.returns-in_err-sync-clause-some_calls
 returns-in_err-sync-clause-some_calls g c =
@@ -40,22 +40,22 @@ returns-in_err-sync-clause-some_calls g c =
     made_on old (g.D.Disk.view c.write.new.self) _ (Write (root_at (other_of c.args.current)) open_gate ∷ []) [] Sync c.sync.result (rw place at c.in_ok-write.ensures.called.made) c.sync.ensures.called
 
 pub returns-clause-any_moment : goal.returns-clause-any_moment
-returns-clause-any_moment g c base next held more newer honest each ready =
+returns-clause-any_moment g c form also base next held more newer honest each ready =
     let layout = c.args.layout.now in
     let old : View = g.D.Disk.view c.args.disk.now in
     let place : c.root.result ≡ root_at (other_of c.args.current) = c.root.ensures ∙ ap root_at c.other.ensures in
     let inside : c.root.result < old.sectors = rw place (root_inside layout (other_of c.args.current) old.sectors c.requires.room) in
     let wrote = rw place at (c.in_ok-write.ensures.effect inside honest) in
-    in_sync layout c.args.current base next held more newer _ _ (g.met.D.Disk.sound c.args.disk.now honest) c.requires.room each ready _ wrote _ _ (c.in_ok-sync.ensures.effect wrote.honest)
+    in_sync layout c.args.current form also base next held more newer _ _ (g.met.D.Disk.sound c.args.disk.now honest) c.requires.room each ready _ wrote _ _ (c.in_ok-sync.ensures.effect wrote.honest)
 
 pub returns-clause-switched : goal.returns-clause-switched
-returns-clause-switched g c base next held more newer honest each ready =
+returns-clause-switched g c form also base next held more newer honest each ready =
     let layout = c.args.layout.now in
     let old : View = g.D.Disk.view c.args.disk.now in
     let place : c.root.result ≡ root_at (other_of c.args.current) = c.root.ensures ∙ ap root_at c.other.ensures in
     let inside : c.root.result < old.sectors = rw place (root_inside layout (other_of c.args.current) old.sectors c.requires.room) in
     let wrote = rw place at (c.in_ok-write.ensures.effect inside honest) in
-    has_switched layout c.args.current base next held more newer _ _ (g.met.D.Disk.sound c.args.disk.now honest) c.requires.room each ready _ wrote _ (c.in_ok-sync.ensures.effect wrote.honest) refl
+    has_switched layout c.args.current form also base next held more newer _ _ (g.met.D.Disk.sound c.args.disk.now honest) c.requires.room each ready _ wrote _ (c.in_ok-sync.ensures.effect wrote.honest) refl
 
 pub returns-clause-calls : goal.returns-clause-calls
 returns-clause-calls g c =

@@ -1,7 +1,6 @@
-use Rattle.std.proofs.Common.{◌≡◌, ◌+◌, ◌≤◌, ◌⊎◌, inl, inr, ℕ, arith, ap, sym, refl, slice_index, [], ◌∷◌, ◌∙◌}
-use Rattle.sector_disk.specs.Disk.{View}
+use Rattle.std.proofs.Common.{ap, sym, slice_index, [], ◌∷◌}
 use Rattle.gated_journal.specs.declared.place.Place.{Place}
-use Rattle.gated_journal.specs.Record.{data_sector, data_size}
+use Rattle.gated_journal.specs.Record.{data_sector}
 use Rattle.gated_journal.proofs.TwoHalves.{at_end, elsewhere, fills, gates_apart, is_adding, opens, texts_apart}
 use Rattle.gated_journal.proofs.BothCalls.{made_at_end, made_in_gates, made_in_texts}
 use Rattle.gated_journal.proofs.Called.{open_gate_is}
@@ -14,35 +13,35 @@ pub settle_both-requires-2-clause-apart : goal.settle_both-requires-2-clause-apa
 settle_both-requires-2-clause-apart g c = gates_apart c.args.place.now c.args.other.now c.args.text.now c.args.other_text.now c.requires.apart c.requires.up c.requires.other_up c.requires.fits c.requires.other_fits
 
 pub returns-in_err-settle_both-clause-any_moment : goal.returns-in_err-settle_both-clause-any_moment
-returns-in_err-settle_both-clause-any_moment g c entries others commands is text_is other_is honest settled also =
+returns-in_err-settle_both-clause-any_moment g c before start entries others commands is other_is honest settled also =
     let x : Place = c.args.place.now in
     let y : Place = c.args.other.now in
-    fills x y entries others commands c.args.text.now c.args.other_text.now (is_adding x entries commands c.args.text.now is text_is c.requires.fits) (is_adding y others commands c.args.other_text.now is other_is c.requires.other_fits) c.requires.apart
+    fills x y before start entries others commands c.args.text.now c.args.other_text.now (is_adding x before entries commands c.args.text.now is settled.counts c.requires.fits) (is_adding y start others commands c.args.other_text.now other_is also.counts c.requires.other_fits) c.requires.apart
     (g.D.Disk.view c.args.disk.now) (g.met.D.Disk.sound c.args.disk.now honest).reads_left settled also (g.D.Disk.view c.settle_both.new.disk) _ (c.in_err-settle_both.ensures.effect honest)
 
 pub returns-in_err-settle_both-2-clause-any_moment : goal.returns-in_err-settle_both-2-clause-any_moment
-returns-in_err-settle_both-2-clause-any_moment g c entries others commands is text_is other_is honest settled also =
+returns-in_err-settle_both-2-clause-any_moment g c before start entries others commands is other_is honest settled also =
     let x : Place = c.args.place.now in
     let y : Place = c.args.other.now in
     let has = c.in_ok-settle_both.ensures.effect honest in
-    opens x y entries others commands c.args.text.now c.args.other_text.now (is_adding x entries commands c.args.text.now is text_is c.requires.fits) (is_adding y others commands c.args.other_text.now is other_is c.requires.other_fits) c.requires.apart
+    opens x y before start entries others commands c.args.text.now c.args.other_text.now (is_adding x before entries commands c.args.text.now is settled.counts c.requires.fits) (is_adding y start others commands c.args.other_text.now other_is also.counts c.requires.other_fits) c.requires.apart
     (g.D.Disk.view c.args.disk.now) (g.met.D.Disk.sound c.args.disk.now honest).reads_left settled also (g.D.Disk.view c.settle_both.new.disk) has (c.in_ok-settle_both.ensures.durable honest) (g.D.Disk.view c.settle_both-2.new.disk) (data_sector (1 ∷ [])) (data_sector (1 ∷ [])) _ (c.in_err-settle_both-2.ensures.effect has.honest)
 
 pub returns-clause-any_moment : goal.returns-clause-any_moment
-returns-clause-any_moment g c entries others commands is text_is other_is honest settled also =
+returns-clause-any_moment g c before start entries others commands is other_is honest settled also =
     let x : Place = c.args.place.now in
     let y : Place = c.args.other.now in
     let has = c.in_ok-settle_both.ensures.effect honest in
-    opens x y entries others commands c.args.text.now c.args.other_text.now (is_adding x entries commands c.args.text.now is text_is c.requires.fits) (is_adding y others commands c.args.other_text.now is other_is c.requires.other_fits) c.requires.apart
+    opens x y before start entries others commands c.args.text.now c.args.other_text.now (is_adding x before entries commands c.args.text.now is settled.counts c.requires.fits) (is_adding y start others commands c.args.other_text.now other_is also.counts c.requires.other_fits) c.requires.apart
     (g.D.Disk.view c.args.disk.now) (g.met.D.Disk.sound c.args.disk.now honest).reads_left settled also (g.D.Disk.view c.settle_both.new.disk) has (c.in_ok-settle_both.ensures.durable honest) (g.D.Disk.view c.settle_both-2.new.disk) (data_sector (1 ∷ [])) (data_sector (1 ∷ [])) _ (c.in_ok-settle_both-2.ensures.effect has.honest)
 
 pub returns-clause-acknowledged : goal.returns-clause-acknowledged
-returns-clause-acknowledged g c entries others commands is text_is other_is honest settled also =
+returns-clause-acknowledged g c before start entries others commands is other_is honest settled also =
     let x : Place = c.args.place.now in
     let y : Place = c.args.other.now in
     let has = c.in_ok-settle_both.ensures.effect honest in
     let opened = ap (λ bytes. slice_index bytes 0) (sym open_gate_is) in
-    at_end x y entries others commands c.args.text.now c.args.other_text.now (is_adding x entries commands c.args.text.now is text_is c.requires.fits) (is_adding y others commands c.args.other_text.now is other_is c.requires.other_fits) c.requires.apart
+    at_end x y before start entries others commands c.args.text.now c.args.other_text.now (is_adding x before entries commands c.args.text.now is settled.counts c.requires.fits) (is_adding y start others commands c.args.other_text.now other_is also.counts c.requires.other_fits) c.requires.apart
     (g.D.Disk.view c.args.disk.now) (g.met.D.Disk.sound c.args.disk.now honest).reads_left settled also (g.D.Disk.view c.settle_both.new.disk) has (c.in_ok-settle_both.ensures.durable honest) (g.D.Disk.view c.settle_both-2.new.disk) (data_sector (1 ∷ [])) (data_sector (1 ∷ [])) (c.in_ok-settle_both-2.ensures.effect has.honest) (c.in_ok-settle_both-2.ensures.durable has.honest) opened opened
 
 pub returns-clause-durable : goal.returns-clause-durable

@@ -1,4 +1,3 @@
-use Rattle.std.proofs.Common.{arith}
 use Rattle.gated_journal.proofs.FilledTwice.{filled_first, filled_second, so_failed, then_synced_twice}
 use Rattle.gated_journal.specs.Record.{data_sector}
 use Rattle.gated_journal.proofs.BothCalls.{both_settled, in_first, in_second, in_their_sync}

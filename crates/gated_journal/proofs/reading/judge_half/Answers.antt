@@ -2,13 +2,17 @@ use Rattle.std.proofs.Common.{◌+◌, ◌∷◌, [], ◌++◌, ◌∙◌, refl,
 use Rattle.std.proofs.lemmas.Result.{err_from_is_err_and}
 use Rattle.sector_disk.specs.Disk.{View}
 use Rattle.gated_journal.specs.Half.{half_of}
+use Rattle.gated_journal.specs.declared.place.Place.{Place}
 use Rattle.sector_disk.proofs.Looked.{looked_on, not_looked}
 use Rattle.gated_journal.proofs.Halves.{error_on, front_closed, front_more, front_none}
 use Rattle.gated_journal.proofs.reading.judge_half.Goals as goal
 
-pub loop-after-init : goal.loop-after-init
-loop-after-init g c = record {
+pub loop-count-init : goal.loop-count-init
+loop-count-init g c = record {
+  end = refl;
+  form = refl;
   within = c.requires.some;
+  counts = c.requires.counts;
   sectors = refl;
   capacity = omega arith;
   later = omega arith;
@@ -17,40 +21,50 @@ loop-after-init g c = record {
   so_far = λ honest. ([], front_none _);
 }
 
-pub returns-in_err-after-clause-exact : goal.returns-in_err-after-clause-exact
-returns-in_err-after-clause-exact g c honest =
+pub returns-in_err-count-clause-exact : goal.returns-in_err-count-clause-exact
+returns-in_err-count-clause-exact g c honest =
     let old : View = g.D.Disk.view c.args.disk.now in
-    let looked = c.loop-after.invariant.looked honest in
+    let rest : Place = c.loop-count.rest in
+    let looked = c.loop-count.invariant.looked honest in
     let p = err_from_is_err_and c.from_residual.result c.from_residual.ensures.1 in
-    let read = rw looked.reads at ((c.in_err-after.ensures.effect looked.honest).1) in
-    let front = c.loop-after.invariant.so_far honest in
-    rw (p.1, p.2) (error_on c.in_err-after.field-0.0 old.reads c.loop-after.next c.args.end front.0 (half_of old.reads c.args.first c.args.end) c.loop-after.invariant.within read front.1)
+    let read = rw looked.reads at ((c.in_err-count.ensures.effect looked.honest).1) in
+    let front = c.loop-count.invariant.so_far honest in
+    rw (p.1, p.2) (error_on rest.form rest.count old.reads rest.next rest.end front.0 (half_of c.args.place.now.form c.args.place.now.count old.reads c.args.place.now.next c.args.place.now.end) c.loop-count.invariant.within front.1 c.in_err-count.field-0.0 read)
 
-pub loop-after-preserved : goal.loop-after-preserved
-loop-after-preserved g c =
+pub loop-count-preserved : goal.loop-count-preserved
+loop-count-preserved g c =
     let old : View = g.D.Disk.view c.args.disk.now in
-    let mid : View = g.D.Disk.view c.loop-after.disk in
-    let on = rw c.in-Some.is at c.in_ok-after.ensures.on in
+    let mid : View = g.D.Disk.view c.loop-count.disk in
+    let rest : Place = c.loop-count.rest in
+    let on = rw c.in-Some.is at c.in_ok-count.ensures.on in
     record {
+      end = c.loop-count.invariant.end;
+      form = c.loop-count.invariant.form;
       within = on.1;
-      sectors = c.in_ok-after.ensures.sectors ∙ c.loop-after.invariant.sectors;
-      capacity = omega (arith, c.in_ok-after.ensures.capacity, c.loop-after.invariant.capacity);
-      later = omega (arith, c.in_ok-after.ensures.later, c.loop-after.invariant.later);
+      counts = omega (arith, on.0, on.1, on.2, c.loop-count.invariant.counts);
+      sectors = c.in_ok-count.ensures.sectors ∙ c.loop-count.invariant.sectors;
+      capacity = omega (arith, c.in_ok-count.ensures.capacity, c.loop-count.invariant.capacity);
+      later = omega (arith, c.in_ok-count.ensures.later, c.loop-count.invariant.later);
       looked = λ honest.
-          let looked = c.loop-after.invariant.looked honest in
-          looked_on _ mid _ looked ((c.in_ok-after.ensures.effect looked.honest).0);
-      only_reads = c.in_ok-after.ensures.only_reads ∙ c.loop-after.invariant.only_reads;
+          let looked = c.loop-count.invariant.looked honest in
+          looked_on _ mid _ looked ((c.in_ok-count.ensures.effect looked.honest).0);
+      only_reads = c.in_ok-count.ensures.only_reads ∙ c.loop-count.invariant.only_reads;
       so_far = λ honest.
-          let looked = c.loop-after.invariant.looked honest in
-          let read = rw (c.in-Some.is, looked.reads) at ((c.in_ok-after.ensures.effect looked.honest).1) in
-          let front = c.loop-after.invariant.so_far honest in
-          (front.0 ++ (c.loop-after.next + 1, read.0) ∷ [], front_more old.reads c.loop-after.next c.args.end front.0 read.0 c.in-Some.after (half_of old.reads c.args.first c.args.end) c.loop-after.invariant.within read.1 front.1);
+          let looked = c.loop-count.invariant.looked honest in
+          let read = rw (c.in-Some.is, looked.reads) at ((c.in_ok-count.ensures.effect looked.honest).1) in
+          let front = c.loop-count.invariant.so_far honest in (
+            front.0 ++ (rest.next + 1, read.0) ∷ [],
+            rw (← read.1) (front_more rest.form rest.count old.reads rest.next rest.end front.0 (half_of c.args.place.now.form c.args.place.now.count old.reads c.args.place.now.next c.args.place.now.end) c.loop-count.invariant.within front.1 read.0 c.in-Some.next read.2),
+          );
     }
 
 pub returns-clause-exact : goal.returns-clause-exact
 returns-clause-exact g c honest =
     let old : View = g.D.Disk.view c.args.disk.now in
-    let looked = c.loop-after.invariant.looked honest in
-    let read = rw (c.in_default.is, looked.reads) at ((c.in_ok-after.ensures.effect looked.honest).1) in
-    let front = c.loop-after.invariant.so_far honest in
-    ((front.0, c.loop-after.next), front_closed old.reads c.loop-after.next c.args.end front.0 (half_of old.reads c.args.first c.args.end) c.loop-after.invariant.within read front.1)
+    let rest : Place = c.loop-count.rest in
+    let looked = c.loop-count.invariant.looked honest in
+    let read = rw (c.in_default.is, looked.reads) at ((c.in_ok-count.ensures.effect looked.honest).1) in
+    let front = c.loop-count.invariant.so_far honest in (
+      (front.0, rest.next),
+      front_closed rest.form rest.count old.reads rest.next rest.end front.0 (half_of c.args.place.now.form c.args.place.now.count old.reads c.args.place.now.next c.args.place.now.end) c.loop-count.invariant.within front.1 read,
+    )

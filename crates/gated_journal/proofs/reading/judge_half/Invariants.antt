@@ -1,23 +1,28 @@
-use Rattle.std.proofs.Common.{◌≡◌, ◌≤◌, ◌<◌, ◌-◌, List, vec_capacity}
+use Rattle.std.proofs.Common.{◌≡◌, ◌≤◌, ◌<◌, ◌-◌, List}
 use Rattle.sector_disk.specs.Disk.{View}
 use Rattle.sector_disk.specs.Reading.{before_reads}
 use Rattle.sector_disk.specs.Run.{HasLooked}
 use Rattle.gated_journal.specs.Half.{Entry, half_of, with_front}
+use Rattle.gated_journal.specs.Settled.{IsCounted}
+use Rattle.gated_journal.specs.Inside.Room.{capacity}
 use Rattle.gated_journal.proofs.reading.judge_half.Given as goal
 
-abbrev pub invariant-loop-after : goal.invariant-loop-after
-invariant-loop-after g l =
+abbrev pub invariant-loop-count : goal.invariant-loop-count
+invariant-loop-count g l =
     let old : View = g.D.Disk.view l.initial.disk in
     let now : View = g.D.Disk.view l.disk in
     record {
-      within : l.next < l.end;
+      end : l.rest.end ≡ l.place.end;
+      form : l.rest.form ≡ l.place.form;
+      within : l.rest.next < l.rest.end;
+      counts : IsCounted l.rest;
       sectors : now.sectors ≡ old.sectors;
-      capacity : vec_capacity l.initial.buffer ≤ vec_capacity l.buffer;
+      capacity : capacity l.initial.buffer ≤ capacity l.buffer;
       later : old.failures ≤ now.failures;
       looked : old.honest → HasLooked old now;
       only_reads : before_reads now.calls ≡ before_reads old.calls;
-      so_far : old.honest → (front : List (Entry g.row.A.Denot)) × (with_front front (half_of old.reads l.next l.end) ≡ half_of old.reads l.first l.end);
+      so_far : old.honest → (front : List (Entry g.row.A.Denot)) × (with_front front (half_of l.rest.form l.rest.count old.reads l.rest.next l.rest.end) ≡ half_of l.place.form l.place.count old.reads l.place.next l.place.end);
     }
 
-abbrev pub decreases-loop-after : goal.decreases-loop-after
-decreases-loop-after g l = l.end - l.next
+abbrev pub decreases-loop-count : goal.decreases-loop-count
+decreases-loop-count g l = l.rest.end - l.rest.next

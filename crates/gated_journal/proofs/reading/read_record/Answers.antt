@@ -11,35 +11,35 @@ returns-in_err-next-clause-effect g c honest =
     let old : View = g.D.Disk.view c.args.disk.now in
     let p = err_from_is_err_and c.from_residual.result c.from_residual.ensures.1 in
     let read = c.in_err-next.ensures.effect honest in
-    (read.0, rw (p.1, p.2) (bytes_fail g.row.A.Denot old.reads c.args.at c.args.end c.in_err-next.field-0.0 read.1))
+    (read.0, rw (p.1, p.2) (bytes_fail g.row.A.Denot c.args.place.now.form c.args.place.now.count old.reads c.args.place.now.next c.args.place.now.end c.in_err-next.field-0.0 read.1))
 
 pub returns-in_default-clause-effect : goal.returns-in_default-clause-effect
 returns-in_default-clause-effect g c honest =
     let old : View = g.D.Disk.view c.args.disk.now in
     let read = c.in_ok-next.ensures.effect honest in
     let none = rw c.in_default.is at read.1 in
-    (read.0, no_bytes old.reads c.args.at c.args.end none)
+    (read.0, no_bytes c.args.place.now.form c.args.place.now.count old.reads c.args.place.now.next c.args.place.now.end none)
 
 pub returns-in-None-clause-effect : goal.returns-in-None-clause-effect
 returns-in-None-clause-effect g c honest =
     let old : View = g.D.Disk.view c.args.disk.now in
     let read = c.in_ok-next.ensures.effect honest in
     let found = rw c.in-Some.is at read.1 in
-    let none : record_of c.read_data.new.buffer.items ≡ None = ap record_of (sym c.deref.ensures.value) ∙ sym (c.in_ok-decode_record.ensures.exact) ∙ ap (option_map (λ commands. commands.items)) c.in-None.is in
-    (read.0, no_record old.reads c.args.at c.args.end c.read_data.new.buffer.items c.in-Some.next found none)
+    let none : record_of c.args.place.now.form c.args.place.now.count c.read_data.new.buffer.items ≡ None = ap (record_of c.args.place.now.form c.args.place.now.count) (sym c.as_slice.ensures) ∙ sym (c.in_ok-decode_next.ensures.exact) ∙ ap (option_map (λ commands. commands.items)) c.in-None.is in
+    (read.0, no_record c.args.place.now.form c.args.place.now.count old.reads c.args.place.now.next c.args.place.now.end c.read_data.new.buffer.items c.in-Some.next found none)
 
 pub returns-in-Some-2-clause-effect : goal.returns-in-Some-2-clause-effect
 returns-in-Some-2-clause-effect g c honest =
     let old : View = g.D.Disk.view c.args.disk.now in
     let read = c.in_ok-next.ensures.effect honest in
     let found = rw c.in-Some.is at read.1 in
-    let some : record_of c.read_data.new.buffer.items ≡ Some c.in-Some-2.commands.items = ap record_of (sym c.deref.ensures.value) ∙ sym (c.in_ok-decode_record.ensures.exact) ∙ ap (option_map (λ commands. commands.items)) c.in-Some-2.is in
-    (read.0, some_record old.reads c.args.at c.args.end c.read_data.new.buffer.items c.in-Some.next c.in-Some-2.commands.items found some)
+    let some : record_of c.args.place.now.form c.args.place.now.count c.read_data.new.buffer.items ≡ Some c.in-Some-2.commands.items = ap (record_of c.args.place.now.form c.args.place.now.count) (sym c.as_slice.ensures) ∙ sym (c.in_ok-decode_next.ensures.exact) ∙ ap (option_map (λ commands. commands.items)) c.in-Some-2.is in
+    (read.0, some_record c.args.place.now.form c.args.place.now.count old.reads c.args.place.now.next c.args.place.now.end c.read_data.new.buffer.items c.in-Some.next c.in-Some-2.commands.items found some)
 
-pub returns-in_err-decode_record-clause-memory : goal.returns-in_err-decode_record-clause-memory
-returns-in_err-decode_record-clause-memory g c e honest =
+pub returns-in_err-decode_next-clause-memory : goal.returns-in_err-decode_next-clause-memory
+returns-in_err-decode_next-clause-memory g c e honest =
     let old : View = g.D.Disk.view c.args.disk.now in
     let read = c.in_ok-next.ensures.effect honest in
     let found = rw c.in-Some.is at read.1 in
-    some_judged old.reads c.args.at c.args.end c.read_data.new.buffer.items c.in-Some.next found
-    (subst (λ (bytes : List ℕ). IsSome (record_of {A = g.row.A.Denot} bytes)) c.deref.ensures.value c.in_err-decode_record.ensures.memory)
+    some_judged c.args.place.now.form c.args.place.now.count old.reads c.args.place.now.next c.args.place.now.end c.read_data.new.buffer.items c.in-Some.next found
+    (subst (λ (bytes : List ℕ). IsSome (record_of {A = g.row.A.Denot} c.args.place.now.form c.args.place.now.count bytes)) c.as_slice.ensures c.in_err-decode_next.ensures.memory)

@@ -1,8 +1,9 @@
-use Rattle.std.proofs.Common.{◌≡◌, ◌+◌, ◌*◌, ◌-◌, ◌≤◌, vec_capacity, vec_len}
+use Rattle.std.proofs.Common.{◌≡◌, ◌+◌, ◌*◌, ◌-◌, ◌≤◌, length}
 use Rattle.sector_disk.specs.Disk.{View}
 use Rattle.sector_disk.specs.Reading.{before_reads}
 use Rattle.sector_disk.specs.Run.{HasLooked}
 use Rattle.gated_journal.specs.Half.{data_from}
+use Rattle.gated_journal.specs.Inside.Room.{capacity}
 use Rattle.gated_journal.proofs.reading.read_sectors.Given as goal
 
 abbrev pub invariant-loop-k : goal.invariant-loop-k
@@ -11,8 +12,8 @@ invariant-loop-k g l =
     let now : View = g.D.Disk.view l.disk in
     record {
       sectors : now.sectors ≡ old.sectors;
-      room : vec_len l.buffer + 512 * (l.n - l.k) ≤ vec_capacity l.buffer;
-      capacity : vec_capacity l.initial.buffer ≤ vec_capacity l.buffer;
+      room : length l.buffer.items + 512 * (l.n - l.k) ≤ capacity l.buffer;
+      capacity : capacity l.initial.buffer ≤ capacity l.buffer;
       later : old.failures ≤ now.failures;
       looked : old.honest → HasLooked old now;
       only_reads : before_reads now.calls ≡ before_reads old.calls;

@@ -1,5 +1,8 @@
-use Rattle.std.proofs.Common.{◌≡◌}
+use Rattle.std.proofs.Common.{◌≡◌, ◌≤◌}
 use Rattle.gated_journal_tests.proofs.both.add_ten.Given as goal
 
 abbrev pub invariant-loop : goal.invariant-loop
-invariant-loop g l = l.first.end ≡ 628
+invariant-loop g l = record {
+  end : l.first.end ≡ 628;
+  count : l.first.count ≤ l.counter;
+}

@@ -1,6 +1,6 @@
 use Rattle.std.proofs.Common.{arith}
 use Rattle.recovery.specs.Outcomes.{asked}
-use Rattle.recovery.proofs.Batches.{ends, ends_answered, ends_count, ends_history, ends_recorded, ends_limits, ends_none, ends_places, ends_size, ends_state}
+use Rattle.recovery.proofs.Batches.{ends, ends_answered, ends_count, ends_counted, ends_history, ends_recorded, ends_limits, ends_none, ends_places, ends_size, ends_state}
 use Rattle.recovery.proofs.batch.apply_all.Goals as goal
 
 pub fill_up-requires-clause-some : goal.fill_up-requires-clause-some
@@ -32,6 +32,11 @@ pub returns-clause-count : goal.returns-clause-count
 returns-clause-count g c =
     let e = ends c.args.register.now c.apply_in_turn.new.register c.args.commands.now c.apply_in_turn.new.outcomes.items (asked c.apply_in_turn.new.accepted.items) c.apply_in_turn.result c.apply_in_turn.ensures.all c.apply_in_turn.ensures.some in
     ends_count c.args.register.now c.apply_in_turn.new.register c.args.commands.now c.apply_in_turn.new.accepted.items c.apply_in_turn.new.outcomes.items e
+
+pub returns-clause-counted : goal.returns-clause-counted
+returns-clause-counted g c =
+    let e = ends c.args.register.now c.apply_in_turn.new.register c.args.commands.now c.apply_in_turn.new.outcomes.items (asked c.apply_in_turn.new.accepted.items) c.apply_in_turn.result c.apply_in_turn.ensures.all c.apply_in_turn.ensures.some in
+    ends_counted c.args.register.now c.apply_in_turn.new.register c.args.commands.now c.apply_in_turn.new.accepted.items c.apply_in_turn.new.outcomes.items e
 
 pub returns-clause-size : goal.returns-clause-size
 returns-clause-size g c =

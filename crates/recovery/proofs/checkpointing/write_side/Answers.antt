@@ -1,5 +1,6 @@
 use Rattle.std.proofs.Common.{◌+◌, ◌<◌, arith}
 use Rattle.std.proofs.lemmas.Result.{on_ok_weaker}
+use Rattle.gated_journal.specs.declared.form.Form.TheVariants.{Numbered}
 use Rattle.checkpoint.specs.Standing.{Base, Held, Stands, fresh}
 use Rattle.checkpoint.specs.Calls.{image_calls, image_calls_by, switch_calls}
 use Rattle.checkpoint.specs.Layout.{other_of}
@@ -10,32 +11,32 @@ use Rattle.recovery.proofs.Stored.{not_switched, then_switched}
 use Rattle.recovery.proofs.checkpointing.write_side.Goals as goal
 
 pub returns-in_err-write_image-clause-any_moment : goal.returns-in_err-write_image-clause-any_moment
-returns-in_err-write_image-clause-any_moment g c = λ base held same honest each.
+returns-in_err-write_image-clause-any_moment g c = λ form base held same honest each.
     let more : Held g.row.A.Denot = fresh c.args.layout.now (other_of c.args.current) in
-    not_switched c.args.layout.now c.args.current base (c.args.epoch + 1, c.args.register.now) held more (g.D.Disk.view c.args.disk.now) (g.D.Disk.view c.write_image.new.disk) (c.write_image.ensures.any_moment base held honest each)
+    not_switched c.args.layout.now c.args.current form Numbered base (c.args.epoch + 1, c.args.register.now) held more (g.D.Disk.view c.args.disk.now) (g.D.Disk.view c.write_image.new.disk) (c.write_image.ensures.any_moment form base held honest each)
 
 pub returns-clause-any_moment : goal.returns-clause-any_moment
-returns-clause-any_moment g c = λ base held same honest each.
+returns-clause-any_moment g c = λ form base held same honest each.
     let next : Base = (c.args.epoch + 1, c.args.register.now) in
     let more : Held g.row.A.Denot = fresh c.args.layout.now (other_of c.args.current) in
     let old = g.D.Disk.view c.args.disk.now in
     let mid = g.D.Disk.view c.write_image.new.disk in
-    let written = c.write_image.ensures.any_moment base held honest each in
+    let written = c.write_image.ensures.any_moment form base held honest each in
     let still = c.write_image.ensures.honest honest in
     let newer : base.0 < next.0 = omega (arith, same) in
-    then_switched c.args.layout.now c.args.current base next held more old mid written (g.D.Disk.view c.switch.new.disk)
-    (c.switch.ensures.any_moment base next held more newer still (left_each old mid (Stands c.args.layout.now c.args.current base held) written (g.met.D.Disk.sound c.write_image.new.disk still)) (c.in_ok-write_image.ensures.ready honest))
+    then_switched c.args.layout.now c.args.current form Numbered base next held more old mid written (g.D.Disk.view c.switch.new.disk)
+    (c.switch.ensures.any_moment form Numbered base next held more newer still (left_each old mid (Stands c.args.layout.now c.args.current form base held) written (g.met.D.Disk.sound c.write_image.new.disk still)) (c.in_ok-write_image.ensures.ready honest))
 
 pub returns-clause-switched : goal.returns-clause-switched
-returns-clause-switched g c = on_ok_weaker c.switch.result (λ then base held same honest each.
+returns-clause-switched g c = on_ok_weaker c.switch.result (λ then form base held same honest each.
     let next : Base = (c.args.epoch + 1, c.args.register.now) in
     let more : Held g.row.A.Denot = fresh c.args.layout.now (other_of c.args.current) in
     let old = g.D.Disk.view c.args.disk.now in
     let mid = g.D.Disk.view c.write_image.new.disk in
-    let written = c.write_image.ensures.any_moment base held honest each in
+    let written = c.write_image.ensures.any_moment form base held honest each in
     let still = c.write_image.ensures.honest honest in
     let newer : base.0 < next.0 = omega (arith, same) in
-    then base next held more newer still (left_each old mid (Stands c.args.layout.now c.args.current base held) written (g.met.D.Disk.sound c.write_image.new.disk still)) (c.in_ok-write_image.ensures.ready honest)) c.switch.ensures.switched
+    then form Numbered base next held more newer still (left_each old mid (Stands c.args.layout.now c.args.current form base held) written (g.met.D.Disk.sound c.write_image.new.disk still)) (c.in_ok-write_image.ensures.ready honest)) c.switch.ensures.switched
 
 pub returns-in_err-write_image-clause-some_calls : goal.returns-in_err-write_image-clause-some_calls
 returns-in_err-write_image-clause-some_calls g c honest =

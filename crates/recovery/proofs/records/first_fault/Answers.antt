@@ -7,10 +7,10 @@ pub returns-in-Ok-clause-exact : goal.returns-in-Ok-clause-exact
 returns-in-Ok-clause-exact g c honest is stops =
     let old : View = g.D.Disk.view c.args.disk.now in
     let good = c.in-Ok.ensures.exact honest in
-    stops_good c.args.fault good.0 (half_of {A = g.row.A.Denot} old.reads c.args.journal.now.next c.args.journal.now.end) is good.1 stops
+    stops_good c.args.fault good.0 (half_of {A = g.row.A.Denot} c.args.journal.now.form c.args.journal.now.count old.reads c.args.journal.now.next c.args.journal.now.end) is good.1 stops
 
 pub returns-in-Err-clause-exact : goal.returns-in-Err-clause-exact
 returns-in-Err-clause-exact g c honest is stops =
     let old : View = g.D.Disk.view c.args.disk.now in
     let bad = c.in-Err.ensures.exact honest in
-    rw c.from.ensures (stops_bad c.args.fault c.in-Err.told (half_of {A = g.row.A.Denot} old.reads c.args.journal.now.next c.args.journal.now.end) is bad stops)
+    rw c.from.ensures (stops_bad c.args.fault c.in-Err.told (half_of {A = g.row.A.Denot} c.args.journal.now.form c.args.journal.now.count old.reads c.args.journal.now.next c.args.journal.now.end) is bad stops)

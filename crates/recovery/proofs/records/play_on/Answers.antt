@@ -7,6 +7,9 @@ use Rattle.recovery.proofs.records.play_on.Goals as goal
 
 pub loop-init : goal.loop-init
 loop-init g c = record {
+  form = refl;
+  counts = λ same. same;
+  room = c.requires.room;
   before = c.requires.before;
   first = refl;
   end = refl;
@@ -24,7 +27,7 @@ returns-in_err-play_next-clause-begins g c honest =
     let old : View = g.D.Disk.view c.args.disk.now in
     let looked = c.loop.invariant.looked honest in
     let begins = rw (looked.reads, c.loop.invariant.end) at (c.play_next.ensures.begins looked.honest) in
-    begins_on (half_of {A = g.row.A.Denot} old.reads c.args.journal.now.next c.args.journal.now.end) (half_of {A = g.row.A.Denot} old.reads c.loop.journal.next c.args.journal.now.end) (half_of {A = g.row.A.Denot} old.reads c.play_next.new.journal.next c.args.journal.now.end)
+    begins_on (half_of {A = g.row.A.Denot} c.args.journal.now.form c.args.journal.now.count old.reads c.args.journal.now.next c.args.journal.now.end) (half_of {A = g.row.A.Denot} c.loop.journal.form c.loop.journal.count old.reads c.loop.journal.next c.args.journal.now.end) (half_of {A = g.row.A.Denot} c.play_next.new.journal.form c.play_next.new.journal.count old.reads c.play_next.new.journal.next c.args.journal.now.end)
     (c.loop.invariant.begins honest) begins
 
 pub returns-clause-begins : goal.returns-clause-begins
@@ -32,7 +35,7 @@ returns-clause-begins g c honest =
     let old : View = g.D.Disk.view c.args.disk.now in
     let looked = c.loop.invariant.looked honest in
     let begins = rw (looked.reads, c.loop.invariant.end) at (c.play_next.ensures.begins looked.honest) in
-    begins_on (half_of {A = g.row.A.Denot} old.reads c.args.journal.now.next c.args.journal.now.end) (half_of {A = g.row.A.Denot} old.reads c.loop.journal.next c.args.journal.now.end) (half_of {A = g.row.A.Denot} old.reads c.play_next.new.journal.next c.args.journal.now.end)
+    begins_on (half_of {A = g.row.A.Denot} c.args.journal.now.form c.args.journal.now.count old.reads c.args.journal.now.next c.args.journal.now.end) (half_of {A = g.row.A.Denot} c.loop.journal.form c.loop.journal.count old.reads c.loop.journal.next c.args.journal.now.end) (half_of {A = g.row.A.Denot} c.play_next.new.journal.form c.play_next.new.journal.count old.reads c.play_next.new.journal.next c.args.journal.now.end)
     (c.loop.invariant.begins honest) begins
 
 pub loop-preserved : goal.loop-preserved
@@ -40,6 +43,9 @@ loop-preserved g c =
     let old : View = g.D.Disk.view c.args.disk.now in
     let mid : View = g.D.Disk.view c.loop.disk in
     record {
+      form = c.play_next.ensures.form ∙ c.loop.invariant.form;
+      counts = λ same. c.in_ok-play_next.ensures.counts (c.loop.invariant.counts same);
+      room = c.play_next.ensures.room;
       before = omega (arith, c.play_next.ensures.next, c.loop.invariant.end);
       first = c.play_next.ensures.first ∙ c.loop.invariant.first;
       end = c.play_next.ensures.end ∙ c.loop.invariant.end;
@@ -53,7 +59,7 @@ loop-preserved g c =
       begins = λ honest.
           let looked = c.loop.invariant.looked honest in
           let begins = rw (looked.reads, c.loop.invariant.end) at (c.play_next.ensures.begins looked.honest) in
-          begins_on (half_of {A = g.row.A.Denot} old.reads c.args.journal.now.next c.args.journal.now.end) (half_of {A = g.row.A.Denot} old.reads c.loop.journal.next c.args.journal.now.end) (half_of {A = g.row.A.Denot} old.reads c.play_next.new.journal.next c.args.journal.now.end)
+          begins_on (half_of {A = g.row.A.Denot} c.args.journal.now.form c.args.journal.now.count old.reads c.args.journal.now.next c.args.journal.now.end) (half_of {A = g.row.A.Denot} c.loop.journal.form c.loop.journal.count old.reads c.loop.journal.next c.args.journal.now.end) (half_of {A = g.row.A.Denot} c.play_next.new.journal.form c.play_next.new.journal.count old.reads c.play_next.new.journal.next c.args.journal.now.end)
           (c.loop.invariant.begins honest) begins;
       so_far = λ honest.
           let looked = c.loop.invariant.looked honest in

@@ -3,6 +3,7 @@ use Rattle.sector_disk.specs.Disk.{View}
 use Rattle.sector_disk.specs.Reading.{before_reads}
 use Rattle.sector_disk.specs.Run.{HasLooked}
 use Rattle.gated_journal.specs.Half.{half_of}
+use Rattle.gated_journal.specs.Settled.{IsCounted}
 use Rattle.recovery.specs.Opening.{BeginsWith}
 use Rattle.recovery.specs.Opens.{played_from}
 use Rattle.recovery.proofs.records.play_on.Given as goal
@@ -12,6 +13,9 @@ invariant-loop g l =
     let old : View = g.D.Disk.view l.initial.disk in
     let now : View = g.D.Disk.view l.disk in
     record {
+      form : l.journal.form ≡ l.initial.journal.form;
+      counts : l.initial.journal.count ≡ l.initial.register.count → l.journal.count ≡ l.register.count;
+      room : IsCounted l.journal;
       before : l.journal.next < l.initial.journal.end;
       first : l.journal.first ≡ l.initial.journal.first;
       end : l.journal.end ≡ l.initial.journal.end;
@@ -20,8 +24,8 @@ invariant-loop g l =
       later : old.failures ≤ now.failures;
       looked : old.honest → HasLooked old now;
       only_reads : before_reads now.calls ≡ before_reads old.calls;
-      begins : old.honest → BeginsWith (half_of {A = g.row.A.Denot} old.reads l.initial.journal.next l.initial.journal.end) (half_of {A = g.row.A.Denot} old.reads l.journal.next l.initial.journal.end);
-      so_far : old.honest → played_from l.initial.register (half_of {A = g.row.A.Denot} old.reads l.initial.journal.next l.initial.journal.end) ≡ played_from l.register (half_of {A = g.row.A.Denot} old.reads l.journal.next l.initial.journal.end);
+      begins : old.honest → BeginsWith (half_of {A = g.row.A.Denot} l.initial.journal.form l.initial.journal.count old.reads l.initial.journal.next l.initial.journal.end) (half_of {A = g.row.A.Denot} l.journal.form l.journal.count old.reads l.journal.next l.initial.journal.end);
+      so_far : old.honest → played_from l.initial.register (half_of {A = g.row.A.Denot} l.initial.journal.form l.initial.journal.count old.reads l.initial.journal.next l.initial.journal.end) ≡ played_from l.register (half_of {A = g.row.A.Denot} l.journal.form l.journal.count old.reads l.journal.next l.initial.journal.end);
     }
 
 abbrev pub decreases-loop : goal.decreases-loop

@@ -1,6 +1,7 @@
 use Rattle.std.proofs.Common.{ap, sym, ◌∙◌, arith}
 use Rattle.recovery.specs.Opens.{run, taken}
 use Rattle.recovery.proofs.Applied.{run_done, run_more, run_stops}
+use Rattle.recovery.proofs.Batches.{counted_one}
 use Rattle.recovery.proofs.Limited.{step_limits}
 use Rattle.recovery.proofs.records.play_record.Goals as goal
 
@@ -20,6 +21,9 @@ loop-command-preserved g c =
     record {
       so_far = run_more commands c.loop-command.command-index c.command-item.result c.loop-command.register c.apply.new.self c.in_ok-reply.reply (run c.args.register.now commands)
           c.loop-command-test.true c.command-item.is c.in_ok-reply.ensures.ok (sym c.is_acceptance.ensures ∙ c.if-not-is_acceptance.false) c.loop-command.invariant.so_far;
+      counted =
+          let one = counted_one c.loop-command.register c.apply.new.self c.command-item.result c.in_ok-reply.reply c.in_ok-reply.ensures.ok (sym c.is_acceptance.ensures ∙ c.if-not-is_acceptance.false) in
+          omega (arith, one, c.loop-command.invariant.counted);
       limits = step_limits c.loop-command.register c.apply.new.self c.command-item.result c.in_ok-reply.reply c.in_ok-reply.ensures.ok ∙ c.loop-command.invariant.limits;
     }
 
@@ -27,3 +31,6 @@ pub returns-clause-exact : goal.returns-clause-exact
 returns-clause-exact g c =
     let commands = c.args.commands.now in
     ap (taken c.args.at) (run_done commands c.loop-command.command-index c.loop-command.register (run c.args.register.now commands) (omega arith) c.loop-command.invariant.so_far)
+
+pub returns-clause-count : goal.returns-clause-count
+returns-clause-count g c = omega (arith, c.loop-command.invariant.counted, c.loop-command-test.false, c.loop-command.auto.command-index-end)

@@ -1,39 +1,40 @@
-use Rattle.std.proofs.Common.{◌+◌, ◌≤◌, [], ◌∷◌, arith, refl, ap, sym, slice_index}
+use Rattle.std.proofs.Common.{◌+◌, ◌≤◌, [], ◌∷◌, arith, ap, sym, slice_index}
 use Rattle.gated_journal.specs.Record.{data_sector, data_size}
 use Rattle.gated_journal.proofs.Append.{in_fill, in_gate, at_end, reads_elsewhere}
+use Rattle.gated_journal.proofs.OneHalf.{next_read}
 use Rattle.gated_journal.proofs.Called.{calls_in_text, calls_in_gate, calls_at_end, open_gate_is}
 use Rattle.gated_journal.proofs.place.Place.append_text.Goals as goal
 
 pub returns-in_err-settle-clause-any_moment : goal.returns-in_err-settle-clause-any_moment
-returns-in_err-settle-clause-any_moment g c entries commands record_is text_is honest settled =
+returns-in_err-settle-clause-any_moment g c before entries commands is honest settled =
     let place = c.args.self.now in
     let room : place.next + data_size c.args.text.now + 2 ≤ place.end = omega arith in
-    in_fill place entries commands record_is c.args.text.now text_is room _ _ _ settled (c.in_err-settle.ensures.effect honest)
+    in_fill place before entries commands c.args.text.now (next_read place before entries commands c.args.text.now is settled.counts room) room _ _ _ settled (c.in_err-settle.ensures.effect honest)
 
 pub returns-in_err-settle-2-clause-any_moment : goal.returns-in_err-settle-2-clause-any_moment
-returns-in_err-settle-2-clause-any_moment g c entries commands record_is text_is honest settled =
+returns-in_err-settle-2-clause-any_moment g c before entries commands is honest settled =
     let place = c.args.self.now in
     let room : place.next + data_size c.args.text.now + 2 ≤ place.end = omega arith in
     let whole = (g.met.D.Disk.sound c.args.disk.now honest).reads_left in
     let has = c.in_ok-settle.ensures.effect honest in
-    in_gate place entries commands record_is c.args.text.now text_is room _ _ whole settled has (c.in_ok-settle.ensures.durable honest) _ _ _ (c.in_err-settle-2.ensures.effect has.honest)
+    in_gate place before entries commands c.args.text.now (next_read place before entries commands c.args.text.now is settled.counts room) room _ _ whole settled has (c.in_ok-settle.ensures.durable honest) _ _ _ (c.in_err-settle-2.ensures.effect has.honest)
 
 pub returns-clause-any_moment : goal.returns-clause-any_moment
-returns-clause-any_moment g c entries commands record_is text_is honest settled =
+returns-clause-any_moment g c before entries commands is honest settled =
     let place = c.args.self.now in
     let room : place.next + data_size c.args.text.now + 2 ≤ place.end = omega arith in
     let whole = (g.met.D.Disk.sound c.args.disk.now honest).reads_left in
     let has = c.in_ok-settle.ensures.effect honest in
-    in_gate place entries commands record_is c.args.text.now text_is room _ _ whole settled has (c.in_ok-settle.ensures.durable honest) _ _ _ (c.in_ok-settle-2.ensures.effect has.honest)
+    in_gate place before entries commands c.args.text.now (next_read place before entries commands c.args.text.now is settled.counts room) room _ _ whole settled has (c.in_ok-settle.ensures.durable honest) _ _ _ (c.in_ok-settle-2.ensures.effect has.honest)
 
 pub returns-clause-acknowledged : goal.returns-clause-acknowledged
-returns-clause-acknowledged g c entries commands record_is text_is honest settled =
+returns-clause-acknowledged g c before entries commands is honest settled =
     let place = c.args.self.now in
     let room : place.next + data_size c.args.text.now + 2 ≤ place.end = omega arith in
     let whole = (g.met.D.Disk.sound c.args.disk.now honest).reads_left in
     let has = c.in_ok-settle.ensures.effect honest in
-    at_end place entries commands record_is c.args.text.now text_is room _ _ whole settled has (c.in_ok-settle.ensures.durable honest) _ _ _ (c.in_ok-settle-2.ensures.effect has.honest) (c.in_ok-settle-2.ensures.durable has.honest)
-    (ap (λ bytes. slice_index bytes 0) (sym open_gate_is)) refl refl refl
+    at_end place before entries commands c.args.text.now (next_read place before entries commands c.args.text.now is settled.counts room) room _ _ whole settled has (c.in_ok-settle.ensures.durable honest) _ _ (c.in_ok-settle-2.ensures.effect has.honest) (c.in_ok-settle-2.ensures.durable has.honest)
+    (ap (λ bytes. slice_index bytes 0) (sym open_gate_is))
 
 pub returns-clause-durable : goal.returns-clause-durable
 returns-clause-durable g c honest = let has = c.in_ok-settle.ensures.effect honest in c.in_ok-settle-2.ensures.durable has.honest

@@ -1,5 +1,5 @@
 -- `of` makes a value that owns nothing. Assumes `Logic`.
-use Rattle.std.proofs.Common.{◌≡◌, ℕ, List, [], ◌∷◌, ◌++◌, refl, sym, subst}
+use Rattle.std.proofs.Common.{◌≡◌, List, [], ◌∷◌, ◌++◌, refl, sym, subst}
 use seplogic.Ra.Ura.{Ura}
 use mir.Syntax.{a_type}
 use mir.Val.{Val, vptr, vstruct, vcons, vnil}

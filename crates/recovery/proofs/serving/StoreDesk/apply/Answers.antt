@@ -1,4 +1,4 @@
-use Rattle.std.proofs.Common.{rules, ◌≡◌, ◌∷◌, [], Err, ap}
+use Rattle.std.proofs.Common.{◌∷◌, [], Err, ap}
 use Rattle.desk.proofs.ShortReplies.{replied_short}
 use Rattle.recovery.specs.Serving.{stored_of}
 use Rattle.recovery.specs.Lives.{view_of}

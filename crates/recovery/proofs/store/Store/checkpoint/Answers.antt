@@ -1,39 +1,40 @@
 use Rattle.std.proofs.Common.{◌≡◌, ◌+◌, [], false, refl, rules}
 use Rattle.std.proofs.lemmas.Bool.{true≢false}
-use Rattle.checkpoint.specs.Layout.{half_at, other_of}
+use Rattle.checkpoint.specs.Layout.{other_of}
 use Rattle.sector_disk.proofs.Made.{made_none}
 use Rattle.recovery.proofs.Stored.{in_checkpoint, stored_fresh, nothing_done}
+use Rattle.recovery.specs.Stored.{fresh_place}
 use Rattle.recovery.specs.Lives.{fails, view_of}
 use Rattle.recovery.proofs.Events.{none_accepted, nothing_accepted}
 use Rattle.recovery.proofs.store.Store.checkpoint.Goals as goal
 
 pub returns-then-self-clause-any_moment : goal.returns-then-self-clause-any_moment
-returns-then-self-clause-any_moment g c = λ honest stored. nothing_done g.row.A.Denot c.args.self.now.layout c.args.self.now.side c.args.self.now.epoch c.args.self.now.journal.next c.args.self.now.register (g.D.Disk.view c.args.self.now.disk) stored (g.met.D.Disk.sound c.args.self.now.disk honest)
+returns-then-self-clause-any_moment g c = λ honest stored. nothing_done g.row.A.Denot c.args.self.now.layout c.args.self.now.side c.args.self.now.epoch c.args.self.now.journal c.args.self.now.register (g.D.Disk.view c.args.self.now.disk) stored (g.met.D.Disk.sound c.args.self.now.disk honest)
 
 pub returns-in-Ok-clause-any_moment : goal.returns-in-Ok-clause-any_moment
 returns-in-Ok-clause-any_moment g c = λ honest stored.
-    in_checkpoint g.row.A.Denot c.args.self.now.layout c.args.self.now.side c.args.self.now.epoch c.args.self.now.journal.next c.args.self.now.register (g.D.Disk.view c.args.self.now.disk) stored (g.D.Disk.view c.write_side.new.disk)
-    (c.write_side.ensures.any_moment (c.args.self.now.epoch, stored.base) (stored.entries, c.args.self.now.journal.next) refl honest stored.each)
+    in_checkpoint g.row.A.Denot c.args.self.now.layout c.args.self.now.side c.args.self.now.epoch c.args.self.now.journal c.args.self.now.register (g.D.Disk.view c.args.self.now.disk) stored (g.D.Disk.view c.write_side.new.disk)
+    (c.write_side.ensures.any_moment c.args.self.now.journal.form (c.args.self.now.epoch, stored.base) (stored.entries, c.args.self.now.journal.next) refl honest stored.each)
 
 pub returns-in-Err-EpochsUsedUp-clause-any_moment : goal.returns-in-Err-EpochsUsedUp-clause-any_moment
 returns-in-Err-EpochsUsedUp-clause-any_moment g c = λ honest stored.
-    in_checkpoint g.row.A.Denot c.args.self.now.layout c.args.self.now.side c.args.self.now.epoch c.args.self.now.journal.next c.args.self.now.register (g.D.Disk.view c.args.self.now.disk) stored (g.D.Disk.view c.write_side.new.disk)
-    (c.write_side.ensures.any_moment (c.args.self.now.epoch, stored.base) (stored.entries, c.args.self.now.journal.next) refl honest stored.each)
+    in_checkpoint g.row.A.Denot c.args.self.now.layout c.args.self.now.side c.args.self.now.epoch c.args.self.now.journal c.args.self.now.register (g.D.Disk.view c.args.self.now.disk) stored (g.D.Disk.view c.write_side.new.disk)
+    (c.write_side.ensures.any_moment c.args.self.now.journal.form (c.args.self.now.epoch, stored.base) (stored.entries, c.args.self.now.journal.next) refl honest stored.each)
 
 pub returns-in-Err-DiskFault-clause-any_moment : goal.returns-in-Err-DiskFault-clause-any_moment
 returns-in-Err-DiskFault-clause-any_moment g c = λ honest stored.
-    in_checkpoint g.row.A.Denot c.args.self.now.layout c.args.self.now.side c.args.self.now.epoch c.args.self.now.journal.next c.args.self.now.register (g.D.Disk.view c.args.self.now.disk) stored (g.D.Disk.view c.write_side.new.disk)
-    (c.write_side.ensures.any_moment (c.args.self.now.epoch, stored.base) (stored.entries, c.args.self.now.journal.next) refl honest stored.each)
+    in_checkpoint g.row.A.Denot c.args.self.now.layout c.args.self.now.side c.args.self.now.epoch c.args.self.now.journal c.args.self.now.register (g.D.Disk.view c.args.self.now.disk) stored (g.D.Disk.view c.write_side.new.disk)
+    (c.write_side.ensures.any_moment c.args.self.now.journal.form (c.args.self.now.epoch, stored.base) (stored.entries, c.args.self.now.journal.next) refl honest stored.each)
 
 pub returns-in-Ok-clause-moved : goal.returns-in-Ok-clause-moved
-returns-in-Ok-clause-moved g c = λ honest stored. c.in-Ok.ensures.switched (c.args.self.now.epoch, stored.base) (stored.entries, c.args.self.now.journal.next) refl honest stored.each
+returns-in-Ok-clause-moved g c = λ honest stored. c.in-Ok.ensures.switched c.args.self.now.journal.form (c.args.self.now.epoch, stored.base) (stored.entries, c.args.self.now.journal.next) refl honest stored.each
 
 pub returns-in-Ok-clause-kept : goal.returns-in-Ok-clause-kept
 returns-in-Ok-clause-kept g c = λ honest stored.
     let side : c.other-self.result ≡ other_of c.args.self.now.side = c.other-self.ensures in
-    let next : c.restart.new.self.next ≡ half_at c.args.self.now.layout c.other-self.result = search rules in
-    rw (next, side) (stored_fresh g.row.A.Denot c.args.self.now.layout (other_of c.args.self.now.side) (c.args.self.now.epoch + 1) c.args.self.now.register (g.D.Disk.view c.write_side.new.disk)
-    (c.in-Ok.ensures.switched (c.args.self.now.epoch, stored.base) (stored.entries, c.args.self.now.journal.next) refl honest stored.each))
+    let journal : c.restart.new.self ≡ fresh_place c.args.self.now.layout (other_of c.args.self.now.side) c.args.self.now.register.count = search rules in
+    rw (journal, side) (stored_fresh g.row.A.Denot c.args.self.now.layout (other_of c.args.self.now.side) (c.args.self.now.epoch + 1) c.args.self.now.register (g.D.Disk.view c.write_side.new.disk)
+    (c.in-Ok.ensures.switched c.args.self.now.journal.form (c.args.self.now.epoch, stored.base) (stored.entries, c.args.self.now.journal.next) refl honest stored.each))
 
 pub returns-then-self-clause-some_calls : goal.returns-then-self-clause-some_calls
 returns-then-self-clause-some_calls g c = λ honest. made_none (g.D.Disk.view c.args.self.now.disk) _

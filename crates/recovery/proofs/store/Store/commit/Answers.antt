@@ -5,7 +5,7 @@ use Rattle.mailbox.proofs.Results.{known_err}
 use Rattle.recovery.proofs.Stored.{batch_done, commit_history, stored_commit, commit_leaves, fewer_fit, stored_stands, no_length, none_answered, nothing_done, only_before}
 use Rattle.sector_disk.proofs.Made.{made_none, made_of_more}
 use Rattle.gated_journal.specs.Record.{given}
-use Rattle.recovery.specs.Calls.{fits_in, gate_then, record_calls, room_calls, room_calls_by}
+use Rattle.recovery.specs.Calls.{fits_in, place_then, record_calls, room_calls, room_calls_by}
 use Rattle.recovery.proofs.Batches.{recorded_behind, none_recorded}
 use Rattle.recovery.proofs.Called.{made_both, made_in_second}
 use Rattle.recovery.specs.Outcomes.{asked}
@@ -15,19 +15,19 @@ use Rattle.recovery.proofs.store.Store.commit.Goals as goal
 
 pub returns-then-self-clause-any_moment : goal.returns-then-self-clause-any_moment
 returns-then-self-clause-any_moment g c = λ honest stored.
-    only_before g.row.A.Denot c.args.self.now.register c.args.self.now.register (g.D.Disk.view c.args.self.now.disk) (g.D.Disk.view c.args.self.now.disk) (nothing_done g.row.A.Denot c.args.self.now.layout c.args.self.now.side c.args.self.now.epoch c.args.self.now.journal.next c.args.self.now.register (g.D.Disk.view c.args.self.now.disk) stored (g.met.D.Disk.sound c.args.self.now.disk honest))
+    only_before g.row.A.Denot c.args.self.now.register c.args.self.now.register (g.D.Disk.view c.args.self.now.disk) (g.D.Disk.view c.args.self.now.disk) (nothing_done g.row.A.Denot c.args.self.now.layout c.args.self.now.side c.args.self.now.epoch c.args.self.now.journal c.args.self.now.register (g.D.Disk.view c.args.self.now.disk) stored (g.met.D.Disk.sound c.args.self.now.disk honest))
 
 pub returns-in_err-outcomes-clause-any_moment : goal.returns-in_err-outcomes-clause-any_moment
 returns-in_err-outcomes-clause-any_moment g c = λ honest stored.
-    only_before g.row.A.Denot c.args.self.now.register c.args.self.now.register (g.D.Disk.view c.args.self.now.disk) (g.D.Disk.view c.args.self.now.disk) (nothing_done g.row.A.Denot c.args.self.now.layout c.args.self.now.side c.args.self.now.epoch c.args.self.now.journal.next c.args.self.now.register (g.D.Disk.view c.args.self.now.disk) stored (g.met.D.Disk.sound c.args.self.now.disk honest))
+    only_before g.row.A.Denot c.args.self.now.register c.args.self.now.register (g.D.Disk.view c.args.self.now.disk) (g.D.Disk.view c.args.self.now.disk) (nothing_done g.row.A.Denot c.args.self.now.layout c.args.self.now.side c.args.self.now.epoch c.args.self.now.journal c.args.self.now.register (g.D.Disk.view c.args.self.now.disk) stored (g.met.D.Disk.sound c.args.self.now.disk honest))
 
 pub returns-then-is_empty-clause-any_moment : goal.returns-then-is_empty-clause-any_moment
 returns-then-is_empty-clause-any_moment g c = λ honest stored.
-    only_before g.row.A.Denot c.args.self.now.register c.args.self.now.register (g.D.Disk.view c.args.self.now.disk) (g.D.Disk.view c.args.self.now.disk) (nothing_done g.row.A.Denot c.args.self.now.layout c.args.self.now.side c.args.self.now.epoch c.args.self.now.journal.next c.args.self.now.register (g.D.Disk.view c.args.self.now.disk) stored (g.met.D.Disk.sound c.args.self.now.disk honest))
+    only_before g.row.A.Denot c.args.self.now.register c.args.self.now.register (g.D.Disk.view c.args.self.now.disk) (g.D.Disk.view c.args.self.now.disk) (nothing_done g.row.A.Denot c.args.self.now.layout c.args.self.now.side c.args.self.now.epoch c.args.self.now.journal c.args.self.now.register (g.D.Disk.view c.args.self.now.disk) stored (g.met.D.Disk.sound c.args.self.now.disk honest))
 
 pub returns-in_err-accepted-clause-any_moment : goal.returns-in_err-accepted-clause-any_moment
 returns-in_err-accepted-clause-any_moment g c = λ honest stored.
-    only_before g.row.A.Denot c.args.self.now.register c.args.self.now.register (g.D.Disk.view c.args.self.now.disk) (g.D.Disk.view c.args.self.now.disk) (nothing_done g.row.A.Denot c.args.self.now.layout c.args.self.now.side c.args.self.now.epoch c.args.self.now.journal.next c.args.self.now.register (g.D.Disk.view c.args.self.now.disk) stored (g.met.D.Disk.sound c.args.self.now.disk honest))
+    only_before g.row.A.Denot c.args.self.now.register c.args.self.now.register (g.D.Disk.view c.args.self.now.disk) (g.D.Disk.view c.args.self.now.disk) (nothing_done g.row.A.Denot c.args.self.now.layout c.args.self.now.side c.args.self.now.epoch c.args.self.now.journal c.args.self.now.register (g.D.Disk.view c.args.self.now.disk) stored (g.met.D.Disk.sound c.args.self.now.disk honest))
 
 pub returns-then-is_empty-clause-outcomes : goal.returns-then-is_empty-clause-outcomes
 returns-then-is_empty-clause-outcomes g c =
@@ -36,14 +36,29 @@ returns-then-is_empty-clause-outcomes g c =
     none_answered c.args.self.now.register c.args.commands.now c.new.result.items (nil_from_length c.args.commands.now nothing) empty
 
 pub returns-then-is_empty-clause-acknowledged : goal.returns-then-is_empty-clause-acknowledged
-returns-then-is_empty-clause-acknowledged g c = λ honest stored. stored_stands g.row.A.Denot c.args.self.now.layout c.args.self.now.side c.args.self.now.epoch c.args.self.now.journal.next c.args.self.now.register (g.D.Disk.view c.args.self.now.disk) stored
+returns-then-is_empty-clause-acknowledged g c = λ honest stored. stored_stands g.row.A.Denot c.args.self.now.layout c.args.self.now.side c.args.self.now.epoch c.args.self.now.journal c.args.self.now.register (g.D.Disk.view c.args.self.now.disk) stored
 
 pub returns-in_err-make_room-clause-any_moment : goal.returns-in_err-make_room-clause-any_moment
 returns-in_err-make_room-clause-any_moment g c = λ honest stored.
     only_before g.row.A.Denot c.args.self.now.register c.make_room.new.self.register (g.D.Disk.view c.args.self.now.disk) (g.D.Disk.view c.make_room.new.self.disk) (c.make_room.ensures.any_moment honest stored)
 
+pub invariant_of-self : goal.invariant_of-self
+invariant_of-self g c =
+    let self = c.make_room.new.self in
+    record {
+      room = self.room;
+      limits = c.apply_all.ensures.limits ∙ self.limits;
+      first = self.first;
+      end = self.end;
+      next = self.next;
+      counts = omega (arith, self.counts, c.apply_all.ensures.counted);
+    }
+
 pub add_record-requires-clause-fits : goal.add_record-requires-clause-fits
-add_record-requires-clause-fits g c = fewer_fit g.row.A.Denot c.deref.result.now c.apply_all.new.accepted.items c.args.commands.now _ c.deref.ensures.value c.apply_all.ensures.size c.in_ok-make_room.ensures.fits
+add_record-requires-clause-fits g c = fewer_fit g.row.A.Denot c.make_room.new.self.journal c.deref.result.now c.apply_all.new.accepted.items c.args.commands.now _ c.deref.ensures.value c.apply_all.ensures.size c.in_ok-make_room.ensures.fits
+
+pub add_record-requires-clause-counted : goal.add_record-requires-clause-counted
+add_record-requires-clause-counted g c = rw c.deref.ensures.value (omega (arith, c.apply_all.ensures.counted, c.make_room.new.self.counts))
 
 pub returns-in_err-add_record-clause-any_moment : goal.returns-in_err-add_record-clause-any_moment
 returns-in_err-add_record-clause-any_moment g c = λ honest stored.
@@ -64,14 +79,14 @@ returns-clause-any_moment g c = λ honest stored.
 pub returns-clause-kept : goal.returns-clause-kept
 returns-clause-kept g c = λ honest stored.
     let history = commit_history g.row.A.Denot c.args.self.now.register c.make_room.new.self.register c.apply_all.new.register c.add_record.new.self.register c.deref.result.now c.apply_all.new.accepted.items c.make_room.ensures.same.1 c.deref.ensures.value c.apply_all.ensures.state c.add_record.ensures.same.3 c.apply_all.ensures.history in
-    stored_commit g.row.A.Denot c.args.self.now.register c.make_room.new.self.register c.apply_all.new.register c.add_record.new.self.register c.deref.result.now c.apply_all.new.accepted.items c.make_room.ensures.same.1 c.deref.ensures.value c.apply_all.ensures.state c.add_record.ensures.same.3 c.add_record.new.self.layout c.add_record.new.self.side c.add_record.new.self.epoch c.add_record.new.self.journal.next (g.D.Disk.view c.add_record.new.self.disk)
+    stored_commit g.row.A.Denot c.args.self.now.register c.make_room.new.self.register c.apply_all.new.register c.add_record.new.self.register c.deref.result.now c.apply_all.new.accepted.items c.make_room.ensures.same.1 c.deref.ensures.value c.apply_all.ensures.state c.add_record.ensures.same.3 c.add_record.new.self.layout c.add_record.new.self.side c.add_record.new.self.epoch c.add_record.new.self.journal (g.D.Disk.view c.add_record.new.self.disk)
     (c.in_ok-add_record.ensures.kept c.make_room.new.self.register history (c.make_room.ensures.honest honest) (c.in_ok-make_room.ensures.kept honest stored))
 
 pub returns-clause-acknowledged : goal.returns-clause-acknowledged
 returns-clause-acknowledged g c = λ honest stored.
     let history = commit_history g.row.A.Denot c.args.self.now.register c.make_room.new.self.register c.apply_all.new.register c.add_record.new.self.register c.deref.result.now c.apply_all.new.accepted.items c.make_room.ensures.same.1 c.deref.ensures.value c.apply_all.ensures.state c.add_record.ensures.same.3 c.apply_all.ensures.history in
-    stored_stands g.row.A.Denot c.add_record.new.self.layout c.add_record.new.self.side c.add_record.new.self.epoch c.add_record.new.self.journal.next c.add_record.new.self.register (g.D.Disk.view c.add_record.new.self.disk)
-    (stored_commit g.row.A.Denot c.args.self.now.register c.make_room.new.self.register c.apply_all.new.register c.add_record.new.self.register c.deref.result.now c.apply_all.new.accepted.items c.make_room.ensures.same.1 c.deref.ensures.value c.apply_all.ensures.state c.add_record.ensures.same.3 c.add_record.new.self.layout c.add_record.new.self.side c.add_record.new.self.epoch c.add_record.new.self.journal.next (g.D.Disk.view c.add_record.new.self.disk)
+    stored_stands g.row.A.Denot c.add_record.new.self.layout c.add_record.new.self.side c.add_record.new.self.epoch c.add_record.new.self.journal c.add_record.new.self.register (g.D.Disk.view c.add_record.new.self.disk)
+    (stored_commit g.row.A.Denot c.args.self.now.register c.make_room.new.self.register c.apply_all.new.register c.add_record.new.self.register c.deref.result.now c.apply_all.new.accepted.items c.make_room.ensures.same.1 c.deref.ensures.value c.apply_all.ensures.state c.add_record.ensures.same.3 c.add_record.new.self.layout c.add_record.new.self.side c.add_record.new.self.epoch c.add_record.new.self.journal (g.D.Disk.view c.add_record.new.self.disk)
     (c.in_ok-add_record.ensures.kept c.make_room.new.self.register history (c.make_room.ensures.honest honest) (c.in_ok-make_room.ensures.kept honest stored)))
 
 pub returns-clause-sound : goal.returns-clause-sound
@@ -113,7 +128,7 @@ returns-in_err-add_record-clause-some_calls g c = λ honest.
     let these = given g.row.A.Denot c.deref.result.now in (
       these,
       recorded_behind g.row.A.Denot self.register c.make_room.new.self.register c.apply_all.new.register c.add_record.new.self.register (asked c.args.commands.now) c.deref.result.now c.apply_all.new.accepted.items c.make_room.ensures.same.1 c.deref.ensures.value c.add_record.ensures.same.3 c.apply_all.ensures.recorded,
-      made_in_second old mid (g.D.Disk.view c.add_record.new.self.disk) (room_calls self.layout self.side self.epoch self.register old.reads fits) (record_calls (gate_then self.layout self.side fits self.journal.next) these) (c.in_ok-make_room.ensures.calls honest) (rw c.in_ok-make_room.ensures.gate at c.add_record.ensures.some_calls),
+      made_in_second old mid (g.D.Disk.view c.add_record.new.self.disk) (room_calls self.layout self.side self.epoch self.register old.reads fits) (record_calls (place_then self.layout self.side self.epoch self.register fits self.journal) these) (c.in_ok-make_room.ensures.calls honest) (rw c.in_ok-make_room.ensures.place at c.add_record.ensures.some_calls),
     )
 
 pub returns-clause-some_calls : goal.returns-clause-some_calls
@@ -125,7 +140,7 @@ returns-clause-some_calls g c = λ honest.
     let these = given g.row.A.Denot c.deref.result.now in (
       these,
       recorded_behind g.row.A.Denot self.register c.make_room.new.self.register c.apply_all.new.register c.add_record.new.self.register (asked c.args.commands.now) c.deref.result.now c.apply_all.new.accepted.items c.make_room.ensures.same.1 c.deref.ensures.value c.add_record.ensures.same.3 c.apply_all.ensures.recorded,
-      made_in_second old mid (g.D.Disk.view c.add_record.new.self.disk) (room_calls self.layout self.side self.epoch self.register old.reads fits) (record_calls (gate_then self.layout self.side fits self.journal.next) these) (c.in_ok-make_room.ensures.calls honest) (rw c.in_ok-make_room.ensures.gate at c.add_record.ensures.some_calls),
+      made_in_second old mid (g.D.Disk.view c.add_record.new.self.disk) (room_calls self.layout self.side self.epoch self.register old.reads fits) (record_calls (place_then self.layout self.side self.epoch self.register fits self.journal) these) (c.in_ok-make_room.ensures.calls honest) (rw c.in_ok-make_room.ensures.place at c.add_record.ensures.some_calls),
     )
 
 pub returns-clause-calls : goal.returns-clause-calls
@@ -137,7 +152,7 @@ returns-clause-calls g c = λ some honest.
     let these = given g.row.A.Denot c.deref.result.now in (
       these,
       recorded_behind g.row.A.Denot self.register c.make_room.new.self.register c.apply_all.new.register c.add_record.new.self.register (asked c.args.commands.now) c.deref.result.now c.apply_all.new.accepted.items c.make_room.ensures.same.1 c.deref.ensures.value c.add_record.ensures.same.3 c.apply_all.ensures.recorded,
-      made_both old mid (g.D.Disk.view c.add_record.new.self.disk) (room_calls self.layout self.side self.epoch self.register old.reads fits) (record_calls (gate_then self.layout self.side fits self.journal.next) these) (c.in_ok-make_room.ensures.calls honest) (rw c.in_ok-make_room.ensures.gate at c.in_ok-add_record.ensures.calls),
+      made_both old mid (g.D.Disk.view c.add_record.new.self.disk) (room_calls self.layout self.side self.epoch self.register old.reads fits) (record_calls (place_then self.layout self.side self.epoch self.register fits self.journal) these) (c.in_ok-make_room.ensures.calls honest) (rw c.in_ok-make_room.ensures.place at c.in_ok-add_record.ensures.calls),
     )
 
 -- ---- the life of the disk
@@ -222,7 +237,7 @@ returns-in_err-add_record-clause-some_calls_on_any_disk g c =
       all.0,
       these,
       recorded_behind g.row.A.Denot self.register c.make_room.new.self.register c.apply_all.new.register c.add_record.new.self.register (asked c.args.commands.now) c.deref.result.now c.apply_all.new.accepted.items c.make_room.ensures.same.1 c.deref.ensures.value c.add_record.ensures.same.3 c.apply_all.ensures.recorded,
-      made_in_second (g.D.Disk.view self.disk) (g.D.Disk.view c.make_room.new.self.disk) (g.D.Disk.view c.add_record.new.self.disk) (room_calls_by self.layout self.side self.epoch self.register all.0 fits) (record_calls (gate_then self.layout self.side fits self.journal.next) these) all.1 (rw c.in_ok-make_room.ensures.gate at c.add_record.ensures.some_calls),
+      made_in_second (g.D.Disk.view self.disk) (g.D.Disk.view c.make_room.new.self.disk) (g.D.Disk.view c.add_record.new.self.disk) (room_calls_by self.layout self.side self.epoch self.register all.0 fits) (record_calls (place_then self.layout self.side self.epoch self.register fits self.journal) these) all.1 (rw c.in_ok-make_room.ensures.place at c.add_record.ensures.some_calls),
     )
 
 pub returns-clause-some_calls_on_any_disk : goal.returns-clause-some_calls_on_any_disk
@@ -234,7 +249,7 @@ returns-clause-some_calls_on_any_disk g c =
       all.0,
       these,
       recorded_behind g.row.A.Denot self.register c.make_room.new.self.register c.apply_all.new.register c.add_record.new.self.register (asked c.args.commands.now) c.deref.result.now c.apply_all.new.accepted.items c.make_room.ensures.same.1 c.deref.ensures.value c.add_record.ensures.same.3 c.apply_all.ensures.recorded,
-      made_in_second (g.D.Disk.view self.disk) (g.D.Disk.view c.make_room.new.self.disk) (g.D.Disk.view c.add_record.new.self.disk) (room_calls_by self.layout self.side self.epoch self.register all.0 fits) (record_calls (gate_then self.layout self.side fits self.journal.next) these) all.1 (rw c.in_ok-make_room.ensures.gate at c.add_record.ensures.some_calls),
+      made_in_second (g.D.Disk.view self.disk) (g.D.Disk.view c.make_room.new.self.disk) (g.D.Disk.view c.add_record.new.self.disk) (room_calls_by self.layout self.side self.epoch self.register all.0 fits) (record_calls (place_then self.layout self.side self.epoch self.register fits self.journal) these) all.1 (rw c.in_ok-make_room.ensures.place at c.add_record.ensures.some_calls),
     )
 
 pub returns-clause-calls_on_any_disk : goal.returns-clause-calls_on_any_disk
@@ -246,5 +261,5 @@ returns-clause-calls_on_any_disk g c = λ some.
       all.0,
       these,
       recorded_behind g.row.A.Denot self.register c.make_room.new.self.register c.apply_all.new.register c.add_record.new.self.register (asked c.args.commands.now) c.deref.result.now c.apply_all.new.accepted.items c.make_room.ensures.same.1 c.deref.ensures.value c.add_record.ensures.same.3 c.apply_all.ensures.recorded,
-      made_both (g.D.Disk.view self.disk) (g.D.Disk.view c.make_room.new.self.disk) (g.D.Disk.view c.add_record.new.self.disk) (room_calls_by self.layout self.side self.epoch self.register all.0 fits) (record_calls (gate_then self.layout self.side fits self.journal.next) these) all.1 (rw c.in_ok-make_room.ensures.gate at c.in_ok-add_record.ensures.calls),
+      made_both (g.D.Disk.view self.disk) (g.D.Disk.view c.make_room.new.self.disk) (g.D.Disk.view c.add_record.new.self.disk) (room_calls_by self.layout self.side self.epoch self.register all.0 fits) (record_calls (place_then self.layout self.side self.epoch self.register fits self.journal) these) all.1 (rw c.in_ok-make_room.ensures.place at c.in_ok-add_record.ensures.calls),
     )

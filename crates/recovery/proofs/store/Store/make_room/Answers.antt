@@ -2,14 +2,14 @@ use Rattle.std.proofs.Common.{◌≡◌, [], true, false, refl, sym, ◌∙◌}
 use Rattle.std.proofs.lemmas.List.{append-nil}
 use Rattle.sector_disk.proofs.Made.{made_none}
 use Rattle.recovery.specs.Calls.{fits_in}
-use Rattle.recovery.proofs.Called.{gate_behind}
-use Rattle.recovery.proofs.Stored.{nothing_done}
+use Rattle.checkpoint.specs.Layout.{other_of}
+use Rattle.recovery.proofs.Stored.{fits_fresh, nothing_done}
 use Rattle.recovery.specs.Lives.{fails, view_of}
 use Rattle.recovery.proofs.Events.{nothing_accepted}
 use Rattle.recovery.proofs.store.Store.make_room.Goals as goal
 
 pub returns-then-has_room-clause-any_moment : goal.returns-then-has_room-clause-any_moment
-returns-then-has_room-clause-any_moment g c = λ honest stored. nothing_done g.row.A.Denot c.args.self.now.layout c.args.self.now.side c.args.self.now.epoch c.args.self.now.journal.next c.args.self.now.register (g.D.Disk.view c.args.self.now.disk) stored (g.met.D.Disk.sound c.args.self.now.disk honest)
+returns-then-has_room-clause-any_moment g c = λ honest stored. nothing_done g.row.A.Denot c.args.self.now.layout c.args.self.now.side c.args.self.now.epoch c.args.self.now.journal c.args.self.now.register (g.D.Disk.view c.args.self.now.disk) stored (g.met.D.Disk.sound c.args.self.now.disk honest)
 
 pub returns-then-has_room-clause-calls : goal.returns-then-has_room-clause-calls
 returns-then-has_room-clause-calls g c = λ honest.
@@ -19,8 +19,8 @@ returns-then-has_room-clause-calls g c = λ honest.
 pub returns-then-has_room-clause-some_calls : goal.returns-then-has_room-clause-some_calls
 returns-then-has_room-clause-some_calls g c = λ honest. made_none (g.D.Disk.view c.args.self.now.disk) _
 
-pub returns-then-has_room-clause-gate : goal.returns-then-has_room-clause-gate
-returns-then-has_room-clause-gate g c =
+pub returns-then-has_room-clause-place : goal.returns-then-has_room-clause-place
+returns-then-has_room-clause-place g c =
     let fits : fits_in g.row.A.Denot c.args.self.now.journal c.args.commands.now ≡ true = sym c.has_room.ensures.exact ∙ c.if-has_room.true in
     rw fits refl
 
@@ -34,10 +34,13 @@ returns-clause-some_calls g c =
     let fits : fits_in g.row.A.Denot c.args.self.now.journal c.args.commands.now ≡ false = sym c.has_room.ensures.exact ∙ c.if-has_room.false in
     rw fits c.checkpoint.ensures.some_calls
 
-pub returns-clause-gate : goal.returns-clause-gate
-returns-clause-gate g c =
+pub returns-clause-fits : goal.returns-clause-fits
+returns-clause-fits g c = fits_fresh g.row.A.Denot c.checkpoint.result c.args.self.now.layout (other_of c.args.self.now.side) c.args.self.now.register.count c.checkpoint.new.self.journal c.args.commands.now c.has_room.ensures.most c.checkpoint.ensures.no_record
+
+pub returns-clause-place : goal.returns-clause-place
+returns-clause-place g c =
     let fits : fits_in g.row.A.Denot c.args.self.now.journal c.args.commands.now ≡ false = sym c.has_room.ensures.exact ∙ c.if-has_room.false in
-    rw fits (gate_behind c.checkpoint.result c.args.self.now.layout c.checkpoint.new.self.layout c.args.self.now.side c.checkpoint.new.self.side c.args.self.now.epoch c.checkpoint.new.self.epoch c.checkpoint.new.self.journal.next c.checkpoint.ensures.same.0 c.checkpoint.ensures.sides c.checkpoint.ensures.no_record)
+    rw fits c.checkpoint.ensures.no_record
 
 pub returns-then-has_room-clause-call : goal.returns-then-has_room-clause-call
 returns-then-has_room-clause-call g c = λ honest. fails _ _ [] (nothing_accepted g.row.A.Denot g.D.Disk.view (view_of c.args.self.now) honest (g.met.D.Disk.sound c.args.self.now.disk honest))

@@ -3,6 +3,7 @@ use Rattle.sector_disk.specs.Disk.{View}
 use Rattle.sector_disk.specs.Reading.{before_reads}
 use Rattle.sector_disk.proofs.Reading.{one_sync}
 use Rattle.checkpoint.specs.Layout.{disk_size}
+use Rattle.checkpoint.specs.Standing.{slot_form}
 use Rattle.recovery.specs.Inside.Opened.{opened_view}
 use Rattle.recovery.specs.Opens.{Opening, opens}
 use Rattle.recovery.specs.Lives.{opens_not, opens_to}
@@ -23,7 +24,8 @@ returns-in-Ok-read_all-clause-kept g c honest =
     let sound = g.met.D.Disk.sound c.read_all.new.disk looked.honest in
     let room : disk_size o.layout ≤ synced.sectors = c.in-Ok-read_all.ensures.room in
     let some : 0 < length now.reads = omega (arith, room, sound.count, c.read_all.ensures.sectors) in
-    stored_so g.row.A.Denot now o (one_image given synced now syncs looked) (sound.reads_left.whole 0 some).bytes last c.in-Ok-read_all.ensures.whole.next
+    let form : c.in-Ok-read_all.opened.journal.form ≡ slot_form o.layout o.side now.reads = rw looked.reads (c.in-Ok-read_all.ensures.form syncs.honest) in
+    stored_so g.row.A.Denot now o c.in-Ok-read_all.opened.journal (one_image given synced now syncs looked) (sound.reads_left.whole 0 some).bytes last c.in-Ok-read_all.ensures.whole.next refl form c.in-Ok-read_all.ensures.whole.counts
 
 pub returns-in-Ok-read_all-clause-only : goal.returns-in-Ok-read_all-clause-only
 returns-in-Ok-read_all-clause-only g c honest image is =

@@ -1,0 +1,7 @@
+-- How much a buffer of a record's text takes in all.
+use Rattle.std.specs.Prelude.{ℕ, ◌+◌, length}
+use Rattle.bytes.specs.Filled.{Filled}
+
+-- how many bytes a buffer holds when it is full
+abbrev pub capacity : Filled → ℕ
+capacity text = length text.items + text.spare

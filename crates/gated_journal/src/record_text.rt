@@ -1,0 +1,86 @@
+// The buffer of a record's text.
+ghost use Rattle.std.specs.Prelude.{◌≡◌, ◌≤◌, ◌+◌, ◌++◌, [], IfOk, length};
+ghost use Rattle.command_bytes.specs.Text.{IsCommand, command_text};
+ghost use Rattle.gated_journal.specs.Inside.Room.{capacity};
+
+use crate::record::LONGEST_COMMAND;
+use bytes::BytesMut;
+use centre_core::Command;
+use command_bytes::text_len;
+use std::alloc::{AllocError, Allocator};
+use std::marker::Model;
+
+// A record's bytes, in room that was taken when the buffer was made, and the bytes of one command, on their way there:
+// `command_bytes` puts a command into a `Vec`.
+//
+// Each number is added as its bytes. The `put_` calls of `BufMut` may grow the buffer, and so want a `Copy` allocator,
+// which a journal has only where it is made.
+#[derive(Debug, Drop)]
+pub(crate) struct RecordText<A: Allocator> {
+    bytes: BytesMut<A>,
+    command: Vec<u8, A>,
+}
+
+impl<A: Allocator> Model for RecordText<A> {
+    ghost use Rattle.std.specs.Prelude.{◌≤◌, vec_capacity};
+    ghost use Rattle.bytes.specs.Filled.{Filled, filled_code};
+    ghost use Rattle.command_bytes.specs.Text.{longest};
+
+    ghost Value = { Filled };
+
+    ghost coded = { filled_code };
+
+    ghost view = { λ text. text.bytes };
+
+    ghost invariant = { λ text. longest ≤ vec_capacity text.command };
+}
+
+impl<A: Allocator + Copy> RecordText<A> {
+    // No bytes, and room for so many.
+    pub(crate) fn with_room(alloc: A, room: usize) -> Result<RecordText<A>, AllocError>
+        ensures { IfOk result (λ text. room ≤ text.spare) }
+    {
+        Ok(RecordText {
+            bytes: BytesMut::with_capacity(alloc, room)?,
+            command: Vec::with_capacity(alloc, LONGEST_COMMAND as usize)?,
+        })
+    }
+}
+
+impl<A: Allocator> RecordText<A> {
+    pub(crate) fn as_slice(&self) -> &[u8]
+        ensures { result.now ≡ self.now.items }
+    {
+        self.bytes.as_slice()
+    }
+
+    pub(crate) fn clear(&mut self)
+        ensures items { self.new.items ≡ [] }
+        ensures capacity { capacity self.old ≤ capacity self.new }
+    {
+        self.bytes.clear();
+    }
+
+    // Adds bytes for which there is room.
+    pub(crate) fn add(&mut self, bytes: &[u8])
+        requires { length self.old.items + length bytes.now ≤ capacity self.old }
+        ensures items { self.new.items ≡ self.old.items ++ bytes.now }
+        ensures len { length self.new.items ≡ length self.old.items + length bytes.now }
+        ensures capacity { capacity self.old ≤ capacity self.new }
+    {
+        self.bytes.extend_reserved(bytes);
+    }
+
+    // Adds a command's bytes, for which there is room.
+    pub(crate) fn add_command<B: Allocator>(&mut self, command: &Command<B>)
+        requires room { length self.old.items + length (command_text command.now) ≤ capacity self.old }
+        ensures items { self.new.items ≡ self.old.items ++ command_text command.now }
+        ensures capacity { capacity self.old ≤ capacity self.new }
+        ensures is_command { IsCommand command.now }
+    {
+        prove!(text_len(command) <= LONGEST_COMMAND as usize);
+        self.command.clear();
+        command_bytes::append(&mut self.command, command);
+        self.bytes.extend_reserved(&self.command);
+    }
+}
