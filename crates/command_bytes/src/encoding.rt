@@ -1,5 +1,5 @@
 // Commands as they are written.
-ghost use Rattle.std.specs.Prelude.{◌≡◌, ◌≤◌, ◌+◌, ◌++◌, IfOk, length, vec_capacity, vec_len};
+ghost use Rattle.std.specs.Prelude.{◌≡◌, ◌≤◌, ◌+◌, ◌++◌, IfOk, length};
 ghost use Rattle.identity.specs.BitsText.{most_bits};
 ghost use Rattle.centre_core.specs.Ranges.{BodyInRange};
 ghost use Rattle.command_bytes.specs.Fields.{bytes_for};
@@ -103,10 +103,10 @@ fn hold_ranges<A: Allocator>(command: &Command<A>)
     let _station = command.station.number();
 }
 
-// Puts the command's text at the end of what has room for it.
+/// Puts the command's text at the end of what has room for it. Takes no memory.
 #[tactic(auto, unfolding(crate::specs::Text::command_text), using(std::proofs::Common::append_assoc, crate::proofs::Sizes::command_size))]
-fn put_command<R: Room, B: Allocator>(out: &mut R, command: &Command<B>)
-    requires { length (command_text command.now) ≤ R.room out.old }
+pub fn append<R: Room, B: Allocator>(out: &mut R, command: &Command<B>)
+    requires room { length (command_text command.now) ≤ R.room out.old }
     ensures held { R.held out.new ≡ R.held out.old ++ command_text command.now }
     ensures room { R.room out.old ≤ R.room out.new + length (command_text command.now) }
     ensures is_command { IsCommand command.now }
@@ -117,16 +117,6 @@ fn put_command<R: Room, B: Allocator>(out: &mut R, command: &Command<B>)
     put_number(out, 4, u64::from(command.moment.number()));
     put_number(out, 1, tag(&command.body));
     put_body(out, &command.body);
-}
-
-/// Puts the command's text at the end of bytes that have room for it. Takes no memory.
-pub fn append<A: Allocator, B: Allocator>(out: &mut Vec<u8, A>, command: &Command<B>)
-    requires room { vec_len out.old + length (command_text command.now) ≤ vec_capacity out.old }
-    ensures items { out.new.items ≡ out.old.items ++ command_text command.now }
-    ensures capacity { vec_capacity out.old ≤ vec_capacity out.new }
-    ensures is_command { IsCommand command.now }
-{
-    put_command(out, command);
 }
 
 /// The command's text, in memory of its own.

@@ -93,6 +93,13 @@ impl<A: Allocator> Journal<A> {
         self.place.room()
     }
 
+    /// How many sectors of its half lie before the next gate.
+    pub fn used(&self) -> u64
+        ensures { result ≡ self.now.next - self.now.first }
+    {
+        self.place.next - self.place.first
+    }
+
     /// Whether a record of these commands, at most 64, has no more data sectors than `room`. Takes no memory.
     pub fn has_room<B: Allocator>(&self, commands: &[&Command<B>]) -> bool
         requires few { length commands.now ≤ most_commands }

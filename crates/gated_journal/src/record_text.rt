@@ -1,38 +1,32 @@
 // The buffer of a record's text.
 ghost use Rattle.std.specs.Prelude.{◌≡◌, ◌≤◌, ◌+◌, ◌++◌, [], IfOk, length};
+ghost use Rattle.bytes.specs.Filled.{Filled};
 ghost use Rattle.command_bytes.specs.Text.{IsCommand, command_text};
 ghost use Rattle.gated_journal.specs.Inside.Room.{capacity};
 
-use crate::record::LONGEST_COMMAND;
 use bytes::BytesMut;
 use centre_core::Command;
-use command_bytes::text_len;
+use command_bytes::Room;
 use std::alloc::{AllocError, Allocator};
 use std::marker::Model;
 
-// A record's bytes, in room that was taken when the buffer was made, and the bytes of one command, on their way there:
-// `command_bytes` puts a command into a `Vec`.
+// A record's bytes, in room that was taken when the buffer was made.
 //
 // Each number is added as its bytes. The `put_` calls of `BufMut` may grow the buffer, and so want a `Copy` allocator,
 // which a journal has only where it is made.
 #[derive(Debug, Drop)]
 pub(crate) struct RecordText<A: Allocator> {
     bytes: BytesMut<A>,
-    command: Vec<u8, A>,
 }
 
 impl<A: Allocator> Model for RecordText<A> {
-    ghost use Rattle.std.specs.Prelude.{◌≤◌, vec_capacity};
     ghost use Rattle.bytes.specs.Filled.{Filled, filled_code};
-    ghost use Rattle.command_bytes.specs.Text.{longest};
 
     ghost Value = { Filled };
 
     ghost coded = { filled_code };
 
     ghost view = { λ text. text.bytes };
-
-    ghost invariant = { λ text. longest ≤ vec_capacity text.command };
 }
 
 impl<A: Allocator + Copy> RecordText<A> {
@@ -42,7 +36,6 @@ impl<A: Allocator + Copy> RecordText<A> {
     {
         Ok(RecordText {
             bytes: BytesMut::with_capacity(alloc, room)?,
-            command: Vec::with_capacity(alloc, LONGEST_COMMAND as usize)?,
         })
     }
 }
@@ -78,9 +71,16 @@ impl<A: Allocator> RecordText<A> {
         ensures capacity { capacity self.old ≤ capacity self.new }
         ensures is_command { IsCommand command.now }
     {
-        prove!(text_len(command) <= LONGEST_COMMAND as usize);
-        self.command.clear();
-        command_bytes::append(&mut self.command, command);
-        self.bytes.extend_reserved(&self.command);
+        command_bytes::append(self, command);
+    }
+}
+
+impl<A: Allocator> Room for RecordText<A> {
+    ghost held = { λ (text : Filled). text.items };
+
+    ghost room = { λ (text : Filled). text.spare };
+
+    fn put(&mut self, bytes: &[u8]) {
+        self.bytes.extend_reserved(bytes);
     }
 }
