@@ -116,8 +116,10 @@ fn one_is_recorded<D: Disk>(
     form: Form,
 ) -> Result<bool, AllocError> {
     let mut journal = Journal::start(alloc, 0, 39, form, 0)?;
-    let before = journal.room() == 37;
-    let added = add(&mut journal, disk, rule).is_ok() && journal.room() == 35;
+    let before = journal.room() == 37 && journal.used() == 0;
+    let added = add(&mut journal, disk, rule).is_ok()
+        && journal.room() == 35
+        && journal.used() == 2;
     Ok(before && added && reads_the_rule(alloc, disk, form))
 }
 

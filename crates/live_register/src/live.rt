@@ -1,6 +1,7 @@
-ghost use Rattle.std.specs.Prelude.{◌≡◌, ◌<◌, ◌≤◌, ◌∷◌, ◌++◌, [], true, IsTrue, MatchOption};
+ghost use Rattle.std.specs.Prelude.{◌≡◌, ◌⊎◌, ◌<◌, ◌∷◌, ◌++◌, [], Err, true, IsTrue, MatchOption};
 ghost use Rattle.std.specs.Arc.{arc_value};
 ghost use Rattle.centre_core.specs.History.{accepts, after, next};
+ghost use Rattle.snapshots.specs.declared.making.MakeFault.TheVariants.{NoMemory, NoPlace};
 
 use centre_core::{Command, Register, Reply};
 use prefix_tree::TryCopy;
@@ -40,7 +41,7 @@ pub fn make_live<J: Centre, R: Wait>(
     places: usize,
 ) -> Result<(LiveRegister<J>, Vec<Viewer<J>>), MakeFault>
     requires centre { (log.seen.book ≡ J.book) × (register ≡ J.base) }
-    requires places { (0 < places) × (places ≤ 64) }
+    ensures no_place { (places ≡ 0) ⊎ (64 < places) → (result ≡ Err NoPlace) ⊎ (result ≡ Err NoMemory) }
 {
     let own = register.try_copy()?;
     let (publisher, viewers) = make::<J, R>(rt, alloc, log, register, places)?;

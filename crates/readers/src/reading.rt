@@ -1,5 +1,5 @@
 //! Times viewers that read beside a publisher that publishes all the time, and a loop of queries of a plain register.
-ghost use Rattle.std.specs.Prelude.{◌≡◌, ◌<◌, ◌≤◌};
+ghost use Rattle.std.specs.Prelude.{◌≡◌};
 
 use crate::filling::{RADIOS, attach, empty, is_filled};
 use centre_core::{Query, Register};
@@ -103,7 +103,6 @@ fn timed<J: Centre + Send + Sync, R: Threads + Wait + Clock + Sync>(
     places: usize,
 ) -> Option<Measured>
     requires centre { (log.seen.book ≡ J.book) × (register ≡ J.base) }
-    requires places { (0 < places) × (places ≤ 64) }
 {
     let (mut live, viewers) = make_live::<J, R>(rt, alloc, log, register, places).ok()?;
     let timed = time(rt, alloc, &mut live, viewers);
@@ -136,9 +135,7 @@ fn timed_with<R: Threads + Wait + Clock + Sync>(
     rt: &R,
     alloc: Global,
     places: usize,
-) -> Option<Measured>
-    requires { (0 < places) × (places ≤ 64) }
-{
+) -> Option<Measured> {
     let register = empty(alloc)?;
     timed::<Brand, R>(rt, alloc, NewLog::new(), register, places)
 }
@@ -191,9 +188,7 @@ fn is_timed<R: Threads + Wait + Clock + Print + Sync>(
     alloc: Global,
     what: &str,
     places: usize,
-) -> bool
-    requires { (0 < places) × (places ≤ 64) }
-{
+) -> bool {
     let Some(timed) = timed_with(rt, alloc, places) else {
         return false;
     };

@@ -17,7 +17,7 @@ mod viewer;
 mod visit;
 
 pub use log::{Centre, NewLog};
-pub use making::{MakeFault, PENDING, make};
+pub use making::{MakeFault, PENDING, PLACES, make};
 pub use published::Published;
 pub use publisher::Publisher;
 pub use viewer::{ReadFault, Viewer};

@@ -1,5 +1,6 @@
 //! How a publisher and its viewers are made.
-ghost use Rattle.std.specs.Prelude.{◌≡◌, ◌<◌, ◌≤◌, [], All, length, IfOk};
+ghost use Rattle.std.specs.Prelude.{◌≡◌, ◌⊎◌, ◌<◌, ◌≤◌, [], All, Err, IfOk, IsErrOf, length};
+ghost use Rattle.snapshots.specs.declared.making.MakeFault.TheVariants.{NoMemory, NoPlace};
 
 use crate::log::{Centre, NewLog};
 use crate::publisher::Publisher;
@@ -15,15 +16,21 @@ use std::sync::Wait;
 /// For how many pending commands a publisher has its room from the start.
 pub const PENDING: usize = 64;
 
+/// The most places for viewers.
+pub const PLACES: usize = 64;
+
 /// Why nothing was made.
-#[derive(Debug, Drop)]
+#[derive(Clone, Copy, Debug, PartialEq, Eq, Drop)]
 pub enum MakeFault {
+    /// There was no memory.
     NoMemory,
-    /// There was no place for one of the viewers.
+    /// The number of places is not 1 to 64.
     NoPlace,
 }
 
 impl From<AllocError> for MakeFault {
+    ghost from_gives = { λ _ e. e ≡ NoMemory };
+
     fn from(_: AllocError) -> MakeFault {
         MakeFault::NoMemory
     }
@@ -34,21 +41,18 @@ fn add_viewers<J: Centre>(
     publisher: &Publisher<J>,
     viewers: &mut Vec<Viewer<J>>,
     places: usize,
-) -> Result<(), MakeFault>
+) -> Result<(), AllocError>
     requires { (publisher.now.published ≡ []) × (viewers.old.items ≡ []) }
     ensures { IfOk result (λ _. (length viewers.new.items ≡ places) × All (λ v. v ≡ []) viewers.new.items) }
 {
     for _ in 0..places {
-        let Ok(reader) = publisher.writer.factory().reader() else {
-            return Err(MakeFault::NoPlace);
-        };
         let viewer = Viewer {
-            reader,
+            reader: publisher.writer.factory().reader()?,
             known: publisher.published(),
             base: publisher.base,
         };
         if viewers.push(viewer).is_err() {
-            return Err(MakeFault::NoMemory);
+            return Err(AllocError);
         }
     }
     Ok(())
@@ -91,6 +95,8 @@ fn new_publisher<J: Centre>(
 /// A publisher of this register, which it copies once, and a viewer for each of 1 to 64 places. Nothing is appended yet,
 /// and the viewers have seen nothing. Where a viewer can't be made the publisher is ended; nobody reads then, so that
 /// doesn't wait.
+///
+/// `NoPlace` comes for another number of places, and for nothing else.
 pub fn make<J: Centre, R: Wait>(
     rt: &R,
     alloc: Global,
@@ -99,17 +105,21 @@ pub fn make<J: Centre, R: Wait>(
     places: usize,
 ) -> Result<(Publisher<J>, Vec<Viewer<J>>), MakeFault>
     requires centre { (log.seen.book ≡ J.book) × (register ≡ J.base) }
-    requires places { (0 < places) × (places ≤ 64) }
     ensures publisher { IfOk result (λ r. (r.0.published ≡ []) × (r.0.appended ≡ [])) }
     ensures viewers { IfOk result (λ r. (length r.1.items ≡ places) × All (λ v. v ≡ []) r.1.items) }
+    ensures no_place { (places ≡ 0) ⊎ (64 < places) → result ≡ Err NoPlace }
+    ensures only_no_place { IsErrOf result NoPlace → (places ≡ 0) ⊎ (64 < places) }
 {
+    if places == 0 || places > PLACES {
+        return Err(MakeFault::NoPlace);
+    }
     let mut viewers = Vec::with_capacity(alloc, places)?;
     let publisher = new_publisher::<J>(alloc, log, register, places)?;
     match add_viewers(&publisher, &mut viewers, places) {
         Ok(()) => Ok((publisher, viewers)),
-        Err(fault) => {
+        Err(AllocError) => {
             publisher.close(rt);
-            Err(fault)
+            Err(MakeFault::NoMemory)
         }
     }
 }

@@ -1,5 +1,5 @@
 //! The one writer of the two copies.
-ghost use Rattle.std.specs.Prelude.{◌≡◌, ◌∷◌, ◌++◌, [], IsTrue, MatchResult};
+ghost use Rattle.std.specs.Prelude.{◌≡◌, ◌↔◌, ◌∷◌, ◌++◌, [], IsTrue, MatchResult};
 ghost use Rattle.std.specs.Arc.{arc_value};
 ghost use Rattle.centre_core.specs.History.{accepts, after};
 ghost use Rattle.centre_core.specs.Histories.{IsHistory};
@@ -90,9 +90,9 @@ impl<J: Centre> Publisher<J> {
 
     /// Whether all that was appended is published.
     pub fn is_level(&self) -> bool
-        ensures { IsTrue result → self.now.published ≡ self.now.appended }
+        ensures { IsTrue result ↔ (self.now.published ≡ self.now.appended) }
     {
-        self.pending.is_empty() && !self.writer.has_pending_operations()
+        self.writer.published().register.count() - self.base == self.count
     }
 
     /// What is published.

@@ -1,5 +1,5 @@
 //! One publisher, and viewers in threads of their own, over a register that grows.
-ghost use Rattle.std.specs.Prelude.{◌≡◌, ◌<◌, ◌≤◌};
+ghost use Rattle.std.specs.Prelude.{◌≡◌};
 
 use crate::publishing::{empty, publish_all, visited};
 use crate::turns::TURNS;
@@ -96,11 +96,10 @@ fn followed<J: Centre + Send + Sync, R: Threads + Wait + Sync>(
     places: usize,
 ) -> Option<u64>
     requires centre { (log.seen.book ≡ J.book) × (register ≡ J.base) }
-    requires places { (0 < places) × (places ≤ 64) }
 {
     let (mut live, viewers) = make_live::<J, R>(rt, alloc, log, register, places).ok()?;
     let good = AtomicU64::new(0);
-    let done = is_published(rt, alloc, &mut live, viewers, &good);
+    let done = is_published(rt, alloc, &mut live, viewers, &good) && live.publisher().is_level();
     live.close(rt);
     if done {
         Some(good.load(Ordering::SeqCst))
@@ -109,9 +108,7 @@ fn followed<J: Centre + Send + Sync, R: Threads + Wait + Sync>(
     }
 }
 
-fn followed_by<R: Threads + Wait + Sync>(rt: &R, alloc: Global, places: usize) -> Option<u64>
-    requires { (0 < places) × (places ≤ 64) }
-{
+fn followed_by<R: Threads + Wait + Sync>(rt: &R, alloc: Global, places: usize) -> Option<u64> {
     let register = empty(alloc, COMMANDS)?;
     followed::<Brand, R>(rt, alloc, NewLog::new(), register, places)
 }
