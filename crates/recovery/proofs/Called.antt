@@ -1,5 +1,5 @@
 -- The calls that a format, a checkpoint and a commit have made.
-use Rattle.std.proofs.Common.{◌≡◌, ◌≤◌, List, [], ◌∷◌, ◌++◌, length, Result, Ok, Err, OnOk, refl, sym, ap, ◌∙◌, append_assoc, arith}
+use Rattle.std.proofs.Common.{◌≡◌, ◌≤◌, List, [], ◌∷◌, ◌++◌, length, None, Some, Result, Ok, Err, OnOk, refl, sym, ap, ◌∙◌, append_assoc, arith}
 use Rattle.std.specs.Borrow.{Bor}
 use Rattle.sector_disk.specs.Disk.{View, IsCalled}
 use Rattle.sector_disk.specs.Run.{HasMade}
@@ -8,13 +8,14 @@ use Rattle.sector_disk.specs.declared.record.Call.{Call}
 use Rattle.sector_disk.specs.declared.record.Call.TheVariants.{Sync, Write}
 use Rattle.sector_disk.proofs.Made.{all_made, made_on}
 use Rattle.centre_core.specs.Asked.{Asked}
-use Rattle.gated_journal.specs.Calls.{append_calls, closed_gate, open_gate}
+use Rattle.gated_journal.specs.Calls.{append_both_calls, append_calls, closed_gate, open_gate}
 use Rattle.gated_journal.specs.Record.{given}
 use Rattle.gated_journal.specs.Settled.{text_at}
 use Rattle.gated_journal.specs.declared.place.Place.{Place}
 use Rattle.checkpoint.specs.declared.layout.Layout.{Layout}
 use Rattle.checkpoint.specs.declared.side.Side.TheVariants as side
 use Rattle.checkpoint.specs.Layout.{half_at, label_at, root_at, slot_at}
+use Rattle.recovery.specs.declared.beside.Beside.{Beside}
 use Rattle.recovery.specs.Calls.{first_header, format_calls, record_calls, label_sector, side_calls}
 
 -- ---- the sides
@@ -102,6 +103,12 @@ module _ (old mid new : View) (first second : List Call) (were : mid.calls ≡ o
   }
 
 -- some commands are kept by an append
-pub recorded_by_append : {B : Type 0} (A : Type 0) (place : Place) (items : List (Bor (Asked B))) → 1 ≤ length items → record_calls place (given A items) ≡ append_calls place.next (text_at A place items)
+pub recorded_by_append : {B : Type 0} (A : Type 0) (place : Place) (items : List (Bor (Asked B))) → 1 ≤ length items → record_calls {A = A} place None (given A items) ≡ append_calls place.next (text_at A place items)
 recorded_by_append A place [] some = absurd (omega (arith, some))
 recorded_by_append A place (x ∷ xs) some = refl
+
+-- and by one to both halves, where a checkpoint is under way
+pub recorded_by_both : {B : Type 0} (A : Type 0) (place : Place) (it : Beside A) (items : List (Bor (Asked B))) → 1 ≤ length items
+    → record_calls place (Some it) (given A items) ≡ append_both_calls place.next (text_at A place items) it.journal.next (text_at A it.journal items)
+recorded_by_both A place it [] some = absurd (omega (arith, some))
+recorded_by_both A place it (x ∷ xs) some = refl

@@ -8,7 +8,7 @@ use Rattle.checkpoint.specs.declared.side.Side.TheVariants as side
 use Rattle.checkpoint.specs.Layout.{half_at, half_end}
 use Rattle.checkpoint.specs.Standing.{Base, Held, slot_form}
 use Rattle.recovery.specs.declared.fault.StoreFault.{StoreFault}
-use Rattle.recovery.specs.declared.fault.StoreFault.TheVariants.{BadGeometry, Broken, Damaged, DiskFault, EpochsUsedUp, NoMemory, Unformatted}
+use Rattle.recovery.specs.declared.fault.StoreFault.TheVariants.{BadGeometry, Broken, Damaged, DiskFault, EpochsUsedUp, NoMemory, Unformatted, Unready}
 use Rattle.recovery.specs.Label.{layout_in}
 use Rattle.recovery.specs.Opens.{Opening, base_in, chosen, held_by, opening, opens, opens_by, played, played_by, side_at, side_in, ◌>>=◌}
 use Rattle.recovery.specs.Opening.{Fails, Gives}
@@ -22,6 +22,7 @@ fails_by DiskFault r q f is = tt
 fails_by Broken r q f is = f is
 fails_by NoMemory r q f is = tt
 fails_by EpochsUsedUp r q f is = f is
+fails_by Unready r q f is = f is
 
 pub fails_is : {X : Type 0} (e : StoreFault) (r : Result X StoreFault) → r ≡ Err e → Fails e r
 fails_is Unformatted r is = is
@@ -31,6 +32,7 @@ fails_is DiskFault r is = tt
 fails_is Broken r is = is
 fails_is NoMemory r is = tt
 fails_is EpochsUsedUp r is = is
+fails_is Unready r is = is
 
 -- what holds of an answer under a premise
 pub if_ok_then : {X E P : Type 0} (Q : X → Type 0) (r : Result X E) → (P → IfOk r Q) → IfOk r (λ x. P → Q x)

@@ -68,18 +68,18 @@ answered_later {B} {C} s m t u cs outcomes same last is = record {
 
 module _ (A : Type 0) {D : Type 0} (view : D → View) where
   -- nothing is done, also not by a store that is broken
-  pub nothing_accepted : (store : StoreView D) → (view store.disk).honest → IsSound (view store.disk) → HasAccepted A view store store []
+  pub nothing_accepted : (store : StoreView A D) → (view store.disk).honest → IsSound (view store.disk) → HasAccepted A view store store []
   nothing_accepted store honest sound = record {
     honest = honest;
     history = tt;
     made = refl;
-    any_moment = λ stored. only_before A store.register store.register (view store.disk) (view store.disk) (nothing_done A store.layout store.side store.epoch store.journal store.register (view store.disk) stored sound);
+    any_moment = λ stored. only_before A store.register store.register (view store.disk) (view store.disk) (nothing_done A store.layout store.side store.epoch store.journal store.register (view store.disk) stored.stored sound);
     kept = λ whole stored. stored;
     broken = λ is. refl;
   }
 
   -- the register stays, and so does what the disk stands for
-  pub none_accepted : (old new : StoreView D) → (view new.disk).honest → new.register ≡ old.register → (IsStoredIn A view old → LeavesOnly (view old.disk) (view new.disk) (StandsFor A old.register))
+  pub none_accepted : (old new : StoreView A D) → (view new.disk).honest → new.register ≡ old.register → (IsStoredIn A view old → LeavesOnly (view old.disk) (view new.disk) (StandsFor A old.register))
       → (new.broken ≡ false → IsStoredIn A view old → IsStoredIn A view new) → old.broken ≡ false → HasAccepted A view old new []
   none_accepted old new honest same leaves kept whole = record {
     honest = honest;
@@ -91,10 +91,10 @@ module _ (A : Type 0) {D : Type 0} (view : D → View) where
   }
 
   -- of a call that accepts nothing
-  pub accepts_nothing : (old new : StoreView D) → IsCall A view (Open old) (Unanswered []) (Open new) → HasAccepted A view old new []
+  pub accepts_nothing : (old new : StoreView A D) → IsCall A view (Open old) (Unanswered []) (Open new) → HasAccepted A view old new []
   accepts_nothing old new (fails was now cs done) = done
 
-  module _ {B : Type 0} (old new : StoreView D) (commands : List (Asked B)) where
+  module _ {B : Type 0} (old new : StoreView A D) (commands : List (Asked B)) where
     pub unanswered_idle : HasAccepted A view old new [] → IsUnansweredCall A view old commands new
     unanswered_idle done = ([], none_recorded A old.register new.register commands done.made, fails old new [] done)
 
@@ -113,7 +113,7 @@ module _ (A : Type 0) {D : Type 0} (view : D → View) where
 
   -- ---- one command
 
-  module _ {B : Type 0} (old new : StoreView D) (c : Asked B) (honest : (view new.disk).honest) (leaves : IsStoredIn A view old → LeavesOnly (view old.disk) (view new.disk) (StandsForEither A old.register new.register))
+  module _ {B : Type 0} (old new : StoreView A D) (c : Asked B) (honest : (view new.disk).honest) (leaves : IsStoredIn A view old → LeavesOnly (view old.disk) (view new.disk) (StandsForEither A old.register new.register))
       (kept : new.broken ≡ false → IsStoredIn A view old → IsStoredIn A view new) (broken : old.broken ≡ true → new ≡ old) where
     one_accepted : (cs : List (Asked A)) → IsHistory old.register cs × (new.register ≡ after old.register cs) → HasAccepted A view old new cs
     one_accepted cs is = record { honest = honest; history = is.0; made = is.1; any_moment = leaves; kept = kept; broken = broken }

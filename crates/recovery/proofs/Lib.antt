@@ -9,6 +9,10 @@ mod Formatted
 mod Faults
 mod Batches
 pub mod Stored
+mod UnderWay
+mod Going
+mod Recorded
+mod KeptOn
 mod Chained
 mod Limited
 mod Applied
@@ -18,3 +22,4 @@ mod Synced
 mod Ranged
 mod Lived
 mod Events
+mod Committed

@@ -41,7 +41,7 @@ module _ {A : Type 0} (limits : Limits) (events : List (Event A)) where
   without : (cs : List (Asked A)) (image : List (List ℕ)) → Lasts A limits events image → Lasts A limits (Unanswered cs ∷ events) image
   without cs image is = record { kept = is.kept; are = inl is.are; history = is.history; stands = is.stands }
 
-  module _ {D : Type 0} (old new : StoreView D) (cs : List (Asked A)) (holds : Holds A limits events old) (history : IsHistory old.register cs) (made : new.register ≡ after old.register cs) where
+  module _ {D : Type 0} (old new : StoreView A D) (cs : List (Asked A)) (holds : Holds A limits events old) (history : IsHistory old.register cs) (made : new.register ≡ after old.register cs) where
     more_history : IsHistory (empty limits) (holds.kept ++ cs)
     more_history = history-append (empty limits) holds.kept cs holds.history (subst (λ (s : State). IsHistory s cs) holds.made history)
 
@@ -55,7 +55,7 @@ module _ {A : Type 0} (limits : Limits) (events : List (Event A)) where
     unanswered = record { kept = holds.kept ++ cs; are = inr (holds.kept, holds.are, refl); history = more_history; made = more_made }
 
 -- an image that stands for the store's register
-stands_so : {A D : Type 0} (limits : Limits) (events : List (Event A)) (store : StoreView D) (image : List (List ℕ)) → Holds A limits events store → StandsFor A store.register image → Lasts A limits events image
+stands_so : {A D : Type 0} (limits : Limits) (events : List (Event A)) (store : StoreView A D) (image : List (List ℕ)) → Holds A limits events store → StandsFor A store.register image → Lasts A limits events image
 stands_so {A} limits events store image holds stands = record { kept = holds.kept; are = holds.are; history = holds.history; stands = subst (λ (s : State). StandsFor A s image) holds.made stands }
 
 ok_is : (x y : Opening) → ◌≡◌ {A = Result Opening StoreFault} (Ok x) (Ok y) → x ≡ y
@@ -72,16 +72,16 @@ module _ {D : Type 0} (view : D → View) (sound : (disk : D) → (view disk).ho
 
 module _ {A D : Type 0} (view : D → View) (sound : (disk : D) → (view disk).honest → IsSound (view disk)) (limits : Limits) where
   -- what holds of a phase in a life
-  record Here (events : List (Event A)) (phase : Phase D) : Type 0 where
+  record Here (events : List (Event A)) (phase : Phase A D) : Type 0 where
     honest : (view (disk_of phase)).honest
     each : InEach (view (disk_of phase)) (Lasts A limits events)
 
   -- and of a store
-  abbrev Sound : List (Event A) → Phase D → Type 0
+  abbrev Sound : List (Event A) → Phase A D → Type 0
   Sound events (Closed disk) = Unit {0}
   Sound events (Open store) = store.broken ≡ false → IsStoredIn A view store × Holds A limits events store
 
-  record Invariant (events : List (Event A)) (phase : Phase D) : Type 0 where
+  record Invariant (events : List (Event A)) (phase : Phase A D) : Type 0 where
     here : Here events phase
     store : Sound events phase
 
@@ -91,13 +91,13 @@ module _ {A D : Type 0} (view : D → View) (sound : (disk : D) → (view disk).
 
   -- ---- a call of a store
 
-  module _ (events : List (Event A)) (old new : StoreView D) (cs : List (Asked A)) (is : Invariant events (Open old)) (done : HasAccepted A view old new cs) where
+  module _ (events : List (Event A)) (old new : StoreView A D) (cs : List (Asked A)) (is : Invariant events (Open old)) (done : HasAccepted A view old new cs) where
     -- a broken store does nothing
     nothing_within : old.broken ≡ true → Within (Unanswered cs ∷ events) old.disk new.disk
-    nothing_within broken = subst (λ (k : StoreView D). Within (Unanswered cs ∷ events) old.disk k.disk) (sym (done.broken broken)) (now_alone view sound old.disk (Lasts A limits (Unanswered cs ∷ events)) is.here.honest (λ image here. without limits events cs image (is.here.each image here)))
+    nothing_within broken = subst (λ (k : StoreView A D). Within (Unanswered cs ∷ events) old.disk k.disk) (sym (done.broken broken)) (now_alone view sound old.disk (Lasts A limits (Unanswered cs ∷ events)) is.here.honest (λ image here. without limits events cs image (is.here.each image here)))
 
     nothing_after : old.broken ≡ true → InEach (view new.disk) (Lasts A limits (Unanswered cs ∷ events))
-    nothing_after broken = subst (λ (k : StoreView D). InEach (view k.disk) (Lasts A limits (Unanswered cs ∷ events))) (sym (done.broken broken)) (λ image here. without limits events cs image (is.here.each image here))
+    nothing_after broken = subst (λ (k : StoreView A D). InEach (view k.disk) (Lasts A limits (Unanswered cs ∷ events))) (sym (done.broken broken)) (λ image here. without limits events cs image (is.here.each image here))
 
     module _ (whole : old.broken ≡ false) where
       stored : IsStoredIn A view old
@@ -131,7 +131,7 @@ module _ {A D : Type 0} (view : D → View) (sound : (disk : D) → (view disk).
 
     -- a store that is not broken was not so before
     was_whole : new.broken ≡ false → old.broken ≡ false
-    was_whole now = elim (either old.broken) [ inl broken ↦ absurd (not_both old.broken broken (sym (ap (λ (k : StoreView D). k.broken) (done.broken broken)) ∙ now)) | inr whole ↦ whole ]
+    was_whole now = elim (either old.broken) [ inl broken ↦ absurd (not_both old.broken broken (sym (ap (λ (k : StoreView A D). k.broken) (done.broken broken)) ∙ now)) | inr whole ↦ whole ]
 
     failed : Invariant (Unanswered cs ∷ events) (Open new)
     failed = record {
@@ -147,7 +147,7 @@ module _ {A D : Type 0} (view : D → View) (sound : (disk : D) → (view disk).
         record {
           here = record {
             honest = done.honest;
-            each = λ image here. stands_so limits (Answered cs ∷ events) new image held (stored_stands A new.layout new.side new.epoch new.journal new.register (view new.disk) kept image here);
+            each = λ image here. stands_so limits (Answered cs ∷ events) new image held (stored_stands A new.layout new.side new.epoch new.journal new.register (view new.disk) kept.stored image here);
           };
           store = λ _. (kept, held);
         }
@@ -161,7 +161,7 @@ module _ {A D : Type 0} (view : D → View) (sound : (disk : D) → (view disk).
     left_after : (new : D) → (view new).honest → LeavesOnly (view old) (view new) (IsImageOf (view old)) → InEach (view new) (Lasts A limits (Answered [] ∷ events))
     left_after new honest leaves image here = with_nothing limits events image (is.here.each image (since_now view sound old new (IsImageOf (view old)) honest leaves image here))
 
-    opened_holds : (new : StoreView D) → HasOpened A view old new → Holds A limits (Answered [] ∷ events) new
+    opened_holds : (new : StoreView A D) → HasOpened A view old new → Holds A limits (Answered [] ∷ events) new
     opened_holds new has =
         let lasts = is.here.each (view old).reads (sound old is.here.honest).reads_left in
         let same = ok_is (lasts.stands.opening) (opening new.layout new.side new.epoch new.journal.next new.register) (sym lasts.stands.opens ∙ has.opened) in
@@ -175,19 +175,19 @@ module _ {A D : Type 0} (view : D → View) (sound : (disk : D) → (view disk).
   -- ---- any call
 
   -- nothing is done
-  idle : (events : List (Event A)) (phase : Phase D) → Here events phase → Here (Answered [] ∷ events) phase
+  idle : (events : List (Event A)) (phase : Phase A D) → Here events phase → Here (Answered [] ∷ events) phase
   idle events phase is = record { honest = is.honest; each = λ image here. with_nothing limits events image (is.each image here) }
 
-  idle_within : (events : List (Event A)) (phase : Phase D) → Here events phase → Within (Unanswered [] ∷ events) (disk_of phase) (disk_of phase)
+  idle_within : (events : List (Event A)) (phase : Phase A D) → Here events phase → Within (Unanswered [] ∷ events) (disk_of phase) (disk_of phase)
   idle_within events phase is = now_alone view sound (disk_of phase) (Lasts A limits (Unanswered [] ∷ events)) is.honest (λ image here. without limits events [] image (is.each image here))
 
-  idle_store : (events : List (Event A)) (phase : Phase D) → Sound events phase → Sound (Answered [] ∷ events) phase
+  idle_store : (events : List (Event A)) (phase : Phase A D) → Sound events phase → Sound (Answered [] ∷ events) phase
   idle_store events (Closed disk) is = tt
   idle_store events (Open store) is = λ whole.
       let now = is whole in
       (now.0, record { kept = now.1.kept; are = (now.1.kept, now.1.are, sym (append-nil now.1.kept)); history = now.1.history; made = now.1.made })
 
-  after_call : (events : List (Event A)) (old new : Phase D) (event : Event A) → Invariant events old → IsCall A view old event new → Invariant (event ∷ events) new
+  after_call : (events : List (Event A)) (old new : Phase A D) (event : Event A) → Invariant events old → IsCall A view old event new → Invariant (event ∷ events) new
   after_call events old new event is (nothing phase) = record { here = idle events phase is.here; store = idle_store events phase is.store }
   after_call events old new event is (opens_to disk store has) =
       record { here = record { honest = has.honest; each = left_after events disk is store.disk has.honest has.left }; store = λ _. (has.kept, opened_holds events disk is store has) }
@@ -196,7 +196,7 @@ module _ {A D : Type 0} (view : D → View) (sound : (disk : D) → (view disk).
   after_call events old new event is (answers was now cs done whole) = acknowledged events was now cs is done whole
   after_call events old new event is (fails was now cs done) = failed events was now cs is done
 
-  within_call : (events : List (Event A)) (old new : Phase D) (event : Event A) → Invariant events old → IsCall A view old event new → Within (stopped event ∷ events) (disk_of old) (disk_of new)
+  within_call : (events : List (Event A)) (old new : Phase A D) (event : Event A) → Invariant events old → IsCall A view old event new → Within (stopped event ∷ events) (disk_of old) (disk_of new)
   within_call events old new event is (nothing phase) = idle_within events phase is.here
   within_call events old new event is (opens_to disk store has) = left_within events disk is store.disk has.left
   within_call events old new event is (opens_not disk then has) = left_within events disk is then has.left
@@ -212,20 +212,20 @@ module _ {A D : Type 0} (view : D → View) (sound : (disk : D) → (view disk).
     store = tt;
   }
 
-  lived : (events : List (Event A)) (phase : Phase D) → IsLife A view limits events phase → Invariant events phase
+  lived : (events : List (Event A)) (phase : Phase A D) → IsLife A view limits events phase → Invariant events phase
   lived events phase (begins disk honest each) = record { here = record { honest = honest; each = λ image here. record { kept = []; are = refl; history = tt; stands = each image here } }; store = tt }
   lived events phase (goes_on before old new event life goes) = after_call before old new event (lived before old life) goes
   lived events phase (stops before old new event image disk life goes left is) = back (stopped event ∷ before) image disk is (within_call before old new event (lived before old life) goes image left)
 
-  pub life_lasts : (events : List (Event A)) (phase : Phase D) → IsLife A view limits events phase → InEach (view (disk_of phase)) (Lasts A limits events)
+  pub life_lasts : (events : List (Event A)) (phase : Phase A D) → IsLife A view limits events phase → InEach (view (disk_of phase)) (Lasts A limits events)
   life_lasts events phase life = (lived events phase life).here.each
 
-  pub life_holds : (events : List (Event A)) (store : StoreView D) → IsLife A view limits events (Open store) → store.broken ≡ false → Holds A limits events store
+  pub life_holds : (events : List (Event A)) (store : StoreView A D) → IsLife A view limits events (Open store) → store.broken ≡ false → Holds A limits events store
   life_holds events store life whole = ((lived events (Open store) life).store whole).1
 
 -- ---- the last place is honest
 
-honest_then : {A D : Type 0} (view : D → View) (old new : Phase D) (event : Event A) → (view (disk_of old)).honest → IsCall A view old event new → (view (disk_of new)).honest
+honest_then : {A D : Type 0} (view : D → View) (old new : Phase A D) (event : Event A) → (view (disk_of old)).honest → IsCall A view old event new → (view (disk_of new)).honest
 honest_then view old new event honest (nothing phase) = honest
 honest_then view old new event honest (opens_to disk store has) = has.honest
 honest_then view old new event honest (opens_not disk then has) = has.honest
@@ -233,7 +233,7 @@ honest_then view old new event honest (closes store) = honest
 honest_then view old new event honest (answers was now cs done whole) = done.honest
 honest_then view old new event honest (fails was now cs done) = done.honest
 
-life_honest : {A D : Type 0} (view : D → View) (limits : Limits) (events : List (Event A)) (phase : Phase D) → IsLife A view limits events phase → (view (disk_of phase)).honest
+life_honest : {A D : Type 0} (view : D → View) (limits : Limits) (events : List (Event A)) (phase : Phase A D) → IsLife A view limits events phase → (view (disk_of phase)).honest
 life_honest view limits events phase (begins disk honest each) = honest
 life_honest view limits events phase (goes_on before old new event life call) = honest_then view old new event (life_honest view limits before old life) call
 life_honest view limits events phase (stops before old new event image disk life call left is) = is.honest

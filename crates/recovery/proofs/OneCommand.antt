@@ -19,7 +19,7 @@ use Rattle.recovery.specs.declared.outcome.Outcome.TheVariants.{Replied}
 use Rattle.recovery.specs.declared.fault.StoreFault.{StoreFault}
 use Rattle.recovery.specs.declared.fault.StoreFault.TheVariants as fault
 use Rattle.recovery.specs.Outcomes.{asked}
-use Rattle.recovery.specs.Refusals.{IsOfCheckpoint, IsOfCommit}
+use Rattle.recovery.specs.Refusals.{IsOfCheckpoint, IsOfDesk}
 use Rattle.recovery.specs.Serving.{IsAfterOne, IsWordFor, stored_of}
 use Rattle.recovery.proofs.Batches.{Ends, idle, same_verdict}
 
@@ -93,7 +93,7 @@ module _ (failures later epoch now : ℕ) (was is : Bool) (before later_before s
   Says c word = Refuses old c word new
 
   -- a fault is told by its word
-  pub by_fault : {A : Type 0} (c : Asked A) (e : StoreFault) (word : Service) → IsOfCommit e → IsWordFor e word
+  pub by_fault : {A : Type 0} (c : Asked A) (e : StoreFault) (word : Service) → IsOfDesk e → IsWordFor e word
       → (e ≡ fault.Broken → (was ≡ true) × (new ≡ old))
       → (e ≡ fault.NoMemory → (was ≡ false) × (is ≡ false) × (t ≡ s) × IsTrue (needs_memory s c))
       → (e ≡ fault.EpochsUsedUp → (was ≡ false) × (is ≡ false) × (last_epoch ≤ epoch) × (now ≡ epoch) × (later ≡ failures) × (t ≡ s))
@@ -102,6 +102,7 @@ module _ (failures later epoch now : ℕ) (was is : Bool) (before later_before s
   by_fault c fault.Unformatted word of told broken memory epochs device = absurd of
   by_fault c fault.BadGeometry word of told broken memory epochs device = absurd of
   by_fault c (fault.Damaged at) word of told broken memory epochs device = absurd of
+  by_fault c fault.Unready word of told broken memory epochs device = absurd of
   by_fault c fault.Broken word of told broken memory epochs device = subst (Says c) (sym told) (broken refl)
   by_fault c fault.NoMemory word of told broken memory epochs device =
       let m = memory refl in
@@ -122,6 +123,7 @@ by_room (Err fault.Unformatted) ok of broken epochs device = absurd of
 by_room (Err fault.BadGeometry) ok of broken epochs device = absurd of
 by_room (Err (fault.Damaged at)) ok of broken epochs device = absurd of
 by_room (Err fault.NoMemory) ok of broken epochs device = absurd of
+by_room (Err fault.Unready) ok of broken epochs device = absurd of
 by_room (Err fault.Broken) ok of broken epochs device = broken refl
 by_room (Err fault.EpochsUsedUp) ok of broken epochs device = epochs refl
 by_room (Err fault.DiskFault) ok of broken epochs device = device refl

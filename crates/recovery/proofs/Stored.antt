@@ -96,7 +96,7 @@ module _ {B : Type 0} (A : Type 0) (s : State) (cs : List (Bor (Asked B))) where
 -- ---- an append
 
 -- the commands of some records, counted
-counted_all : {A : Type 0} (before : ℕ) (entries : List (Entry A)) → counted before entries ≡ before + length (commands_of entries)
+pub counted_all : {A : Type 0} (before : ℕ) (entries : List (Entry A)) → counted before entries ≡ before + length (commands_of entries)
 counted_all before [] = omega arith
 counted_all before (entry ∷ entries) = omega (arith, counted_all (before + length entry.1) entries, length-append entry.1 (commands_of entries))
 
@@ -212,22 +212,7 @@ fewer_fit A place less few more room same size fits =
     let bytes : length (flat_map (λ c. command_text c.now) less) ≡ length (flat_map (λ c. command_text c.now) few) = ap (λ l. length (flat_map (λ c. command_text c.now) l)) same in
     omega (arith, given_size A place.form place.count less, given_size A place.form place.count more, bytes, size, fits)
 
--- m is the state s as the checkpoint left it, t the one after the batch, and u what the register has in the end
-module _ {B : Type 0} (A : Type 0) (s m t u : State) (given_are items : List (Bor (Asked B))) (same : m ≡ s) (are : given_are ≡ items) (made : t ≡ after m (asked items)) (last : u ≡ t) where
-  in_end : u ≡ after m (asked given_are)
-  in_end = last ∙ made ∙ ap (λ l. after m (asked l)) (sym are)
-
-  pub commit_history : IsHistory m (asked items) → IsHistory m (asked given_are)
-  commit_history is = subst (λ l. IsHistory m (asked l)) (sym are) is
-
-  pub commit_leaves : (old mid new : View) → LeavesOnly old mid (StandsFor A s) → LeavesOnly mid new (StandsForEither A m (after m (asked given_are))) → LeavesOnly old new (StandsForEither A s u)
-  commit_leaves old mid new first second =
-      let now : LeavesOnly mid new (StandsForEither A m u) = subst (λ x. LeavesOnly mid new (StandsForEither A m x)) (sym in_end) second in
-      then_either A s u old mid new first (subst (λ x. LeavesOnly mid new (StandsForEither A x u)) same now)
-
-  pub stored_commit : (layout : Layout) (side : Side) (epoch : ℕ) (journal : Place) (disk : View) → IsStored A layout side epoch journal (after m (asked given_are)) disk → IsStored A layout side epoch journal u disk
-  stored_commit layout side epoch journal disk stored = subst (λ x. IsStored A layout side epoch journal x disk) (sym in_end) stored
-
+-- a batch is done: m is the state s as it was before, t the one after it, and u what the register has in the end
 pub batch_done : {B C : Type 0} (s m t u : State) (cs : List (Asked B)) (outcomes : List (Outcome C)) → m ≡ s → u ≡ t → IsAnswered m cs t outcomes → IsAfterBatch s cs u
 batch_done s m t u cs outcomes same last is = (is.applied, last ∙ is.state ∙ ap (λ x. after x (take is.applied cs)) same, subst (λ x. IsEnd cs is.applied x) (sym last) is.end)
 

@@ -1,5 +1,5 @@
 -- The calls of the disk that a format, a checkpoint and a commit make.
-use Rattle.std.specs.Prelude.{◌+◌, Bool, true, false, List, [], ◌∷◌, ◌++◌, nat_le}
+use Rattle.std.specs.Prelude.{◌+◌, Bool, true, false, List, [], ◌∷◌, ◌++◌, Option, None, Some, nat_le}
 use Rattle.std.specs.Borrow.{Bor}
 use Rattle.identity.specs.Numbers.{Byte}
 use Rattle.sector_disk.specs.declared.record.Call.{Call}
@@ -11,16 +11,18 @@ use Rattle.image_rows.specs.Rows.{HeaderRow}
 use Rattle.image_rows.specs.RowText.{padded, sector_of}
 use Rattle.image_rows.specs.Worked.{bare}
 use Rattle.gated_journal.specs.declared.place.Place.{Place}
-use Rattle.gated_journal.specs.Calls.{append_calls, closed_gate, open_gate}
+use Rattle.gated_journal.specs.Calls.{append_both_calls, append_calls, closed_gate, open_gate}
 use Rattle.gated_journal.specs.Record.{data_size, record_text}
 use Rattle.gated_journal.specs.Settled.{room_of, text_at}
-use Rattle.checkpoint.specs.Calls.{image_calls_by, is_root_open, switch_calls}
+use Rattle.checkpoint.specs.Calls.{close_calls_by, image_calls_by, is_root_open, switch_calls}
+use Rattle.checkpoint.specs.Progress.{next_calls}
 use Rattle.checkpoint.specs.declared.layout.Layout.{Layout}
 use Rattle.checkpoint.specs.declared.side.Side.{Side}
 use Rattle.checkpoint.specs.declared.side.Side.TheVariants as side
 use Rattle.checkpoint.specs.Label.{label_text}
 use Rattle.checkpoint.specs.Layout.{half_at, label_at, other_of, root_at, slot_at}
-use Rattle.recovery.specs.Stored.{fresh_place}
+use Rattle.recovery.specs.declared.beside.Beside.{Beside}
+use Rattle.recovery.specs.UnderWay.{ends_with}
 
 -- the sector of the one row that an empty register has, of epoch 1
 abbrev pub first_header : List Byte
@@ -51,42 +53,54 @@ format_calls layout = side_calls layout ++ Write label_at (label_sector layout) 
 abbrev pub fits_in : {B : Type 0} (A : Type 0) → Place → List (Bor (Asked B)) → Bool
 fits_in A place commands = nat_le (data_size (text_at A place commands)) (room_of place)
 
--- these commands as one record at the next gate; of none nothing
-abbrev pub record_calls : {A : Type 0} → Place → List (Asked A) → List Call
-record_calls place [] = []
-record_calls place (c ∷ cs) = append_calls place.next (record_text place.form place.count (c ∷ cs))
+-- these commands as one record at the next gate, and, where a checkpoint is under way, at that of the other half too; of none nothing
+abbrev pub record_calls : {A : Type 0} → Place → Option (Beside A) → List (Asked A) → List Call
+record_calls place beside [] = []
+record_calls place None (c ∷ cs) = append_calls place.next (record_text place.form place.count (c ∷ cs))
+record_calls place (Some it) (c ∷ cs) = append_both_calls place.next (record_text place.form place.count (c ∷ cs)) it.journal.next (record_text it.journal.form it.journal.count (c ∷ cs))
 
 module _ (layout : Layout) (side : Side) where
+  module _ (epoch : Epoch) where
+    -- the side of the image whose last row is written is made to count
+    abbrev pub end_calls : Bool → List Call
+    end_calls true = Sync ∷ switch_calls (other_of side)
+    end_calls false = []
+
+    -- of a checkpoint under way the next rows are written
+    abbrev pub rows_calls : {A : Type 0} → Beside A → List Call
+    rows_calls it = next_calls layout (other_of side) (epoch + 1, it.register) it.progress.written
+
+    -- behind a record: of a checkpoint under way the next rows, and where they end the image, the switch; else, where one
+    -- begins, the other side is closed, whose root was read as open or closed
+    abbrev pub beside_calls : {A : Type 0} → Option (Beside A) → Bool → Bool → List Call
+    beside_calls (Some it) begins was_open = rows_calls it ++ end_calls (ends_with (epoch + 1) it.register it.progress.written)
+    beside_calls None true was_open = close_calls_by layout (other_of side) was_open
+    beside_calls None false was_open = []
+
+    -- those of a commit that keeps these commands, where a record of them fits; of none nothing
+    abbrev pub commit_calls_by : {A : Type 0} → Place → Option (Beside A) → List (Asked A) → Bool → Bool → List Call
+    commit_calls_by place beside [] begins was_open = []
+    commit_calls_by place beside (c ∷ cs) begins was_open = record_calls place beside (c ∷ cs) ++ beside_calls beside begins was_open
+
+    -- the same, by what the other side's root reads as
+    abbrev pub commit_calls : {A : Type 0} → Place → Option (Beside A) → List (Asked A) → Bool → List (List Byte) → List Call
+    commit_calls place beside accepted begins reads = commit_calls_by place beside accepted begins (is_root_open (other_of side) reads)
+
   module _ (epoch : Epoch) (state : State) where
     -- the register's image is written to the other side, whose root was read as open or closed, with the next epoch, and
     -- that side is made to count
     abbrev pub checkpoint_calls_by : Bool → List Call
     checkpoint_calls_by was_open = image_calls_by layout (other_of side) was_open (epoch + 1, state) ++ switch_calls (other_of side)
 
+    -- those of a checkpoint, by what the other side's root reads as
+    abbrev pub checkpoint_calls : List (List Byte) → List Call
+    checkpoint_calls reads = checkpoint_calls_by (is_root_open (other_of side) reads)
+
     -- where the record fits none, else those of a checkpoint
     abbrev pub room_calls_by : Bool → Bool → List Call
     room_calls_by was_open true = []
     room_calls_by was_open false = checkpoint_calls_by was_open
 
-    -- where the next record goes, whether it fits or not: to the next gate, or behind a checkpoint to the first one of the
-    -- other side's half
-    abbrev pub place_then : Bool → Place → Place
-    place_then true place = place
-    place_then false place = fresh_place layout (other_of side) state.count
-
-    -- room is made where the record does not fit, and then the accepted commands are kept
-    abbrev pub commit_calls_by : {A : Type 0} → Bool → Bool → Place → List (Asked A) → List Call
-    commit_calls_by was_open fits place accepted = room_calls_by was_open fits ++ record_calls (place_then fits place) accepted
-
-    module _ (reads : List (List Byte)) where
-      -- those of a checkpoint, by what the other side's root reads as
-      abbrev pub checkpoint_calls : List Call
-      checkpoint_calls = checkpoint_calls_by (is_root_open (other_of side) reads)
-
-      -- those that make room, by that root
-      abbrev pub room_calls : Bool → List Call
-      room_calls fits = room_calls_by (is_root_open (other_of side) reads) fits
-
-      -- those of a commit, by that root
-      abbrev pub commit_calls : {A : Type 0} → Bool → Place → List (Asked A) → List Call
-      commit_calls fits place accepted = commit_calls_by (is_root_open (other_of side) reads) fits place accepted
+    -- those that make room, by that root
+    abbrev pub room_calls : List (List Byte) → Bool → List Call
+    room_calls reads fits = room_calls_by (is_root_open (other_of side) reads) fits

@@ -11,3 +11,5 @@ pub mod Serving
 pub mod Lasting
 pub mod Lives
 pub mod Inside
+pub mod GoneOn
+pub mod UnderWay

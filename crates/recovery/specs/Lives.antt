@@ -1,6 +1,6 @@
 -- The life of a disk: it is formatted, a store is opened on it, and calls of the store follow each other. At any moment,
 -- between two calls or within one, the disk may stop; it then comes back as an image that the stop left.
-use Rattle.std.specs.Prelude.{◌≡◌, ◌⊎◌, Bool, true, false, List, [], ◌∷◌, ◌++◌, Ok, map, if◌then◌else◌}
+use Rattle.std.specs.Prelude.{◌≡◌, ◌⊎◌, Bool, true, false, List, [], ◌∷◌, ◌++◌, Ok, Option, map, if◌then◌else◌}
 use Rattle.identity.specs.Numbers.{Byte}
 use Rattle.registration.specs.declared.limits.Limits.{Limits}
 use Rattle.sector_disk.specs.Numbers.{Sector}
@@ -21,38 +21,40 @@ use Rattle.checkpoint.specs.declared.side.Side.{Side}
 use Rattle.checkpoint.specs.Standing.{InEach}
 use Rattle.recovery.specs.Opens.{opening, opens}
 use Rattle.recovery.specs.Standing.{StandsFor}
-use Rattle.recovery.specs.Stored.{IsStored}
+use Rattle.recovery.specs.UnderWay.{IsKept}
 use Rattle.recovery.specs.Lasting.{LacksWhereEnded}
 use Rattle.recovery.specs.Outcomes.{AreRecorded, StandsForEither}
+use Rattle.recovery.specs.declared.beside.Beside.{Beside}
 use Rattle.recovery.specs.declared.store.Store.{Store}
 use Rattle.recovery.specs.declared.outcome.Outcome.{Outcome}
 use Rattle.recovery.specs.declared.outcome.Outcome.TheVariants.{NoMemory, Replied}
 
 -- ---- where the disk is
 
--- a store as contracts see it, with its disk
-pub record StoreView (D : Type 0) : Type 0 where
+-- a store as contracts see it, with its disk; under the allocator A its journals take their memory
+pub record StoreView (A D : Type 0) : Type 0 where
   pub layout : Layout
   pub side : Side
   pub epoch : Epoch
   pub journal : Place
+  pub beside : Option (Beside A)
   pub register : State
   pub broken : Bool
   pub disk : D
 
 -- a disk on which no store is open, or a store with its disk
-pub data Phase (D : Type 0) : Type 0 where
-  Closed : D → Phase D
-  Open : StoreView D → Phase D
+pub data Phase (A D : Type 0) : Type 0 where
+  Closed : D → Phase A D
+  Open : StoreView A D → Phase A D
 
 -- the disk
-abbrev pub disk_of : {D : Type 0} → Phase D → D
+abbrev pub disk_of : {A D : Type 0} → Phase A D → D
 disk_of (Closed disk) = disk
 disk_of (Open store) = store.disk
 
 -- a store, as contracts see it
-abbrev pub view_of : {A D : Type 0} {g : Ghosts D} → Store A D g → StoreView D
-view_of store = record { layout = store.layout; side = store.side; epoch = store.epoch; journal = store.journal; register = store.register; broken = store.broken; disk = store.disk }
+abbrev pub view_of : {A D : Type 0} {g : Ghosts D} → Store A D g → StoreView A D
+view_of store = record { layout = store.layout; side = store.side; epoch = store.epoch; journal = store.journal; beside = store.beside; register = store.register; broken = store.broken; disk = store.disk }
 
 -- ---- calls
 
@@ -87,11 +89,11 @@ module _ {A : Type 0} where
 
 module _ {D : Type 0} (A : Type 0) (view : D → View) where
   -- the store's register is on its disk
-  abbrev pub IsStoredIn : StoreView D → Type 0
-  IsStoredIn store = IsStored A store.layout store.side store.epoch store.journal store.register (view store.disk)
+  abbrev pub IsStoredIn : StoreView A D → Type 0
+  IsStoredIn store = IsKept A store.layout store.side store.epoch store.journal store.beside store.register (view store.disk)
 
   -- a store is opened on the disk
-  pub record HasOpened (old : D) (new : StoreView D) : Type 0 where
+  pub record HasOpened (old : D) (new : StoreView A D) : Type 0 where
     pub honest : (view new.disk).honest
     pub opened : opens A (view old).reads ≡ Ok (opening new.layout new.side new.epoch new.journal.next new.register)
     pub kept : IsStoredIn new
@@ -103,7 +105,7 @@ module _ {D : Type 0} (A : Type 0) (view : D → View) where
     pub left : LeavesOnly (view old) (view new) (IsImageOf (view old))
 
   -- a call of a store accepts these commands; a broken store does nothing
-  pub record HasAccepted (old new : StoreView D) (accepted : List (Asked A)) : Type 0 where
+  pub record HasAccepted (old new : StoreView A D) (accepted : List (Asked A)) : Type 0 where
     pub honest : (view new.disk).honest
     pub history : IsHistory old.register accepted
     pub made : new.register ≡ after old.register accepted
@@ -112,20 +114,20 @@ module _ {D : Type 0} (A : Type 0) (view : D → View) where
     pub broken : old.broken ≡ true → new ≡ old
 
   -- one call: where the disk was, what happened, and where it is then
-  pub data IsCall : Phase D → Event A → Phase D → Type 0 where
-    nothing : (phase : Phase D) → IsCall phase (Answered []) phase
-    opens_to : (old : D) (new : StoreView D) → HasOpened old new → IsCall (Closed old) (Answered []) (Open new)
+  pub data IsCall : Phase A D → Event A → Phase A D → Type 0 where
+    nothing : (phase : Phase A D) → IsCall phase (Answered []) phase
+    opens_to : (old : D) (new : StoreView A D) → HasOpened old new → IsCall (Closed old) (Answered []) (Open new)
     opens_not : (old new : D) → HasNotOpened old new → IsCall (Closed old) (Answered []) (Closed new)
-    closes : (store : StoreView D) → IsCall (Open store) (Answered []) (Closed store.disk)
-    answers : (old new : StoreView D) (accepted : List (Asked A)) → HasAccepted old new accepted → new.broken ≡ false → IsCall (Open old) (Answered accepted) (Open new)
-    fails : (old new : StoreView D) (accepted : List (Asked A)) → HasAccepted old new accepted → IsCall (Open old) (Unanswered accepted) (Open new)
+    closes : (store : StoreView A D) → IsCall (Open store) (Answered []) (Closed store.disk)
+    answers : (old new : StoreView A D) (accepted : List (Asked A)) → HasAccepted old new accepted → new.broken ≡ false → IsCall (Open old) (Answered accepted) (Open new)
+    fails : (old new : StoreView A D) (accepted : List (Asked A)) → HasAccepted old new accepted → IsCall (Open old) (Unanswered accepted) (Open new)
 
   -- a call for these commands is answered, with these outcomes
-  abbrev pub IsAnsweredCall : {B C : Type 0} → StoreView D → List (Asked B) → List (Outcome C) → StoreView D → Type 0
+  abbrev pub IsAnsweredCall : {B C : Type 0} → StoreView A D → List (Asked B) → List (Outcome C) → StoreView A D → Type 0
   IsAnsweredCall old commands outcomes new = IsCall (Open old) (answered A commands outcomes) (Open new)
 
   -- it is not: of those that were accepted all or none are kept
-  abbrev pub IsUnansweredCall : {B : Type 0} → StoreView D → List (Asked B) → StoreView D → Type 0
+  abbrev pub IsUnansweredCall : {B : Type 0} → StoreView A D → List (Asked B) → StoreView A D → Type 0
   IsUnansweredCall old commands new = (recorded : List (Asked A)) × AreRecorded A old.register commands new.register recorded × IsCall (Open old) (Unanswered recorded) (Open new)
 
   -- ---- the life
@@ -138,10 +140,10 @@ module _ {D : Type 0} (A : Type 0) (view : D → View) where
 
   -- The events of a life so far, the last one first, and where the disk is. It begins with a disk made ready for an empty
   -- register. Then each event is a call, or a call in which a stop comes: it leaves an image of some moment of the call.
-  pub data IsLife (limits : Limits) : List (Event A) → Phase D → Type 0 where
+  pub data IsLife (limits : Limits) : List (Event A) → Phase A D → Type 0 where
     begins : (disk : D) → (view disk).honest → InEach (view disk) (StandsFor A (empty limits)) → IsLife limits [] (Closed disk)
-    goes_on : (events : List (Event A)) (old new : Phase D) (event : Event A) → IsLife limits events old → IsCall old event new → IsLife limits (event ∷ events) new
-    stops : (events : List (Event A)) (old new : Phase D) (event : Event A) (image : List (List Byte)) (disk : D) → IsLife limits events old → IsCall old event new
+    goes_on : (events : List (Event A)) (old new : Phase A D) (event : Event A) → IsLife limits events old → IsCall old event new → IsLife limits (event ∷ events) new
+    stops : (events : List (Event A)) (old new : Phase A D) (event : Event A) (image : List (List Byte)) (disk : D) → IsLife limits events old → IsCall old event new
         → (view (disk_of new)).since (view (disk_of old)).moment image → ComesBack image disk → IsLife limits (stopped event ∷ events) (Closed disk)
 
 -- ---- what lasts
@@ -160,7 +162,7 @@ module _ (A : Type 0) (limits : Limits) where
     pub stands : StandsFor A (after (empty limits) kept) image
 
   -- so does the register of a store
-  pub record Holds {D : Type 0} (events : List (Event A)) (store : StoreView D) : Type 0 where
+  pub record Holds {D : Type 0} (events : List (Event A)) (store : StoreView A D) : Type 0 where
     pub kept : List (Asked A)
     pub are : AreKept events kept
     pub history : IsHistory (empty limits) kept

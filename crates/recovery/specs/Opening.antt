@@ -14,7 +14,7 @@ use Rattle.checkpoint.specs.Layout.{half_at, half_end, slot_at}
 use Rattle.checkpoint.specs.Reading.{looks}
 use Rattle.checkpoint.specs.Standing.{Base, Held, slot_form, slot_in}
 use Rattle.recovery.specs.declared.fault.StoreFault.{StoreFault}
-use Rattle.recovery.specs.declared.fault.StoreFault.TheVariants.{BadGeometry, Broken, Damaged, DiskFault, EpochsUsedUp, NoMemory, Unformatted}
+use Rattle.recovery.specs.declared.fault.StoreFault.TheVariants.{BadGeometry, Broken, Damaged, DiskFault, EpochsUsedUp, NoMemory, Unformatted, Unready}
 use Rattle.recovery.specs.Label.{layout_in}
 use Rattle.recovery.specs.Opens.{Reached, base_in, held_by, played_from, side_in}
 
@@ -27,6 +27,7 @@ IsOfDisk DiskFault = Unit {0}
 IsOfDisk Broken = ⊥
 IsOfDisk NoMemory = ⊥
 IsOfDisk EpochsUsedUp = ⊥
+IsOfDisk Unready = ⊥
 
 -- a fault of opening: no store was there before it
 abbrev pub IsOfOpening : StoreFault → Type 0
@@ -37,6 +38,7 @@ IsOfOpening DiskFault = Unit {0}
 IsOfOpening Broken = ⊥
 IsOfOpening NoMemory = Unit {0}
 IsOfOpening EpochsUsedUp = ⊥
+IsOfOpening Unready = ⊥
 
 -- A fault that is told is the one that stands there; a failing device and want of memory say nothing of it.
 abbrev pub Fails : {Y : Type 0} → StoreFault → Result Y StoreFault → Type 0
@@ -47,6 +49,7 @@ Fails DiskFault is = Unit {0}
 Fails Broken is = is ≡ Err Broken
 Fails NoMemory is = Unit {0}
 Fails EpochsUsedUp is = is ≡ Err EpochsUsedUp
+Fails Unready is = is ≡ Err Unready
 
 -- What was read, seen by view, is what stands there, if the device and the memory allow.
 abbrev pub Gives : {X Y : Type 0} → (X → Y) → Result X StoreFault → Result Y StoreFault → Type 0

@@ -1,6 +1,6 @@
 -- Why a call on a store may be refused.
 use Rattle.recovery.specs.declared.fault.StoreFault.{StoreFault}
-use Rattle.recovery.specs.declared.fault.StoreFault.TheVariants.{BadGeometry, Broken, Damaged, DiskFault, EpochsUsedUp, NoMemory, Unformatted}
+use Rattle.recovery.specs.declared.fault.StoreFault.TheVariants.{BadGeometry, Broken, Damaged, DiskFault, EpochsUsedUp, NoMemory, Unformatted, Unready}
 
 -- what a commit may be refused for; the other faults are told by an opening alone
 abbrev pub IsOfCommit : StoreFault → Type 0
@@ -10,7 +10,19 @@ IsOfCommit (Damaged at) = ⊥
 IsOfCommit DiskFault = Unit {0}
 IsOfCommit Broken = Unit {0}
 IsOfCommit NoMemory = Unit {0}
-IsOfCommit EpochsUsedUp = Unit {0}
+IsOfCommit EpochsUsedUp = ⊥
+IsOfCommit Unready = Unit {0}
+
+-- and a desk's commit, which makes a checkpoint where a record would not fit
+abbrev pub IsOfDesk : StoreFault → Type 0
+IsOfDesk Unformatted = ⊥
+IsOfDesk BadGeometry = ⊥
+IsOfDesk (Damaged at) = ⊥
+IsOfDesk DiskFault = Unit {0}
+IsOfDesk Broken = Unit {0}
+IsOfDesk NoMemory = Unit {0}
+IsOfDesk EpochsUsedUp = Unit {0}
+IsOfDesk Unready = ⊥
 
 -- and a checkpoint, which takes no memory
 abbrev pub IsOfCheckpoint : StoreFault → Type 0
@@ -21,3 +33,4 @@ IsOfCheckpoint DiskFault = Unit {0}
 IsOfCheckpoint Broken = Unit {0}
 IsOfCheckpoint NoMemory = ⊥
 IsOfCheckpoint EpochsUsedUp = Unit {0}
+IsOfCheckpoint Unready = ⊥

@@ -1,6 +1,6 @@
 //! A checkpoint of a register that is kept on a disk.
 
-ghost use Rattle.std.specs.Prelude.{◌≡◌, ◌+◌, ◌<◌, ◌≤◌, ◌++◌, Bool, [], Err, IfErr, IsErrOf, OnErr, OnOk, true, false};
+ghost use Rattle.std.specs.Prelude.{◌≡◌, ◌+◌, ◌<◌, ◌≤◌, ◌++◌, Bool, [], Err, IfErr, IsErrOf, None, OnErr, OnOk, true, false};
 ghost use Rattle.sector_disk.specs.Disk.{HasFailed};
 ghost use Rattle.sector_disk.specs.Run.{HasMade, LeavesOnly};
 ghost use Rattle.image_rows.specs.Rows.{last_epoch};
@@ -11,10 +11,10 @@ ghost use Rattle.recovery.specs.declared.fault.StoreFault.TheVariants.{Broken, D
 ghost use Rattle.recovery.specs.Calls.{checkpoint_calls, checkpoint_calls_by};
 ghost use Rattle.gated_journal.specs.declared.form.Form.{Form};
 ghost use Rattle.gated_journal.specs.declared.form.Form.TheVariants.{Numbered};
-ghost use Rattle.recovery.specs.Stored.{IsStored, fresh_place};
+ghost use Rattle.recovery.specs.Stored.{fresh_place};
 ghost use Rattle.recovery.specs.Refusals.{IsOfCheckpoint};
 ghost use Rattle.recovery.specs.Standing.{StandsFor};
-ghost use Rattle.recovery.specs.Lives.{IsCall, Open, Unanswered, view_of};
+ghost use Rattle.recovery.specs.Lives.{IsCall, IsStoredIn, Open, Unanswered, view_of};
 
 use crate::before::Before;
 use crate::{Store, StoreFault};
@@ -55,21 +55,21 @@ fn write_side<A: Allocator + Clone, D: Disk>(
 
 impl<A: Allocator + Clone, D: Disk> Store<A, D> {
     /// Makes a checkpoint: writes the register's image to the other side of the disk, which then counts, with the next
-    /// epoch and no record behind it. Takes no memory.
+    /// epoch and no record behind it. One that is under way is given up. Takes no memory.
     ///
     /// `Broken` comes where the device has failed in an earlier call, `EpochsUsedUp` where the register's image has the
     /// last epoch, 2 to the 62nd; nothing is then changed. After `DiskFault` the disk is to be opened again.
     pub fn checkpoint(&mut self) -> Result<(), StoreFault>
         // A stop at any moment of the call, also of one that fails, leaves the disk standing for the register.
-        ensures any_moment { (D.view self.old.disk).honest → IsStored A self.old.layout self.old.side self.old.epoch self.old.journal self.old.register (D.view self.old.disk)
+        ensures any_moment { (D.view self.old.disk).honest → IsStoredIn A D.view (view_of self.old)
             → LeavesOnly (D.view self.old.disk) (D.view self.new.disk) (StandsFor A self.old.register) }
 
         // At `Ok` each stop leaves it standing by the other side, with the next epoch and no record; records will be numbered.
-        ensures moved { OnOk result ((D.view self.old.disk).honest → IsStored A self.old.layout self.old.side self.old.epoch self.old.journal self.old.register (D.view self.old.disk)
+        ensures moved { OnOk result ((D.view self.old.disk).honest → IsStoredIn A D.view (view_of self.old)
             → InEach (D.view self.new.disk) (Stands {A = A} self.old.layout (other_of self.old.side) Numbered (self.old.epoch + 1, self.old.register) (fresh self.old.layout (other_of self.old.side)))) }
-        ensures kept { OnOk result ((D.view self.old.disk).honest → IsStored A self.old.layout self.old.side self.old.epoch self.old.journal self.old.register (D.view self.old.disk)
-            → IsStored A self.new.layout self.new.side self.new.epoch self.new.journal self.new.register (D.view self.new.disk)) }
-        ensures sides { OnOk result ((self.new.side ≡ other_of self.old.side) × (self.new.epoch ≡ self.old.epoch + 1)) }
+        ensures kept { OnOk result ((D.view self.old.disk).honest → IsStoredIn A D.view (view_of self.old)
+            → IsStoredIn A D.view (view_of self.new)) }
+        ensures sides { OnOk result ((self.new.side ≡ other_of self.old.side) × (self.new.epoch ≡ self.old.epoch + 1) × (self.new.beside ≡ None)) }
         ensures no_record { OnOk result (self.new.journal ≡ fresh_place self.old.layout (other_of self.old.side) self.old.register.count) }
         ensures same { (self.new.layout ≡ self.old.layout) × (self.new.register ≡ self.old.register) }
         ensures unmoved { OnErr result ((self.new.side ≡ self.old.side) × (self.new.epoch ≡ self.old.epoch) × (self.new.journal ≡ self.old.journal)) }
@@ -87,7 +87,7 @@ impl<A: Allocator + Clone, D: Disk> Store<A, D> {
         ensures broken { self.old.broken ≡ true → result ≡ Err Broken }
         ensures only_broken { IsErrOf result Broken → (self.old.broken ≡ true) × (self.new ≡ self.old) }
         ensures used_up { self.old.broken ≡ false → last_epoch ≤ self.old.epoch → result ≡ Err EpochsUsedUp }
-        ensures epochs { IsErrOf result EpochsUsedUp → (last_epoch ≤ self.old.epoch) × (self.new.disk ≡ self.old.disk) × (self.new.broken ≡ false) }
+        ensures epochs { IsErrOf result EpochsUsedUp → (last_epoch ≤ self.old.epoch) × (self.new.disk ≡ self.old.disk) × (self.new.broken ≡ false) × (self.new.beside ≡ self.old.beside) }
         ensures fault { IsErrOf result DiskFault → HasFailed (D.view self.old.disk) (D.view self.new.disk) × (self.new.broken ≡ true) }
         ensures shown { IsErrOf result DiskFault → self.new.before.value ≡ self.old.register }
         ensures kinds { IfErr result IsOfCheckpoint }
@@ -102,6 +102,7 @@ impl<A: Allocator + Clone, D: Disk> Store<A, D> {
             return Err(StoreFault::Broken);
         }
         self.before = Before::of(&self.register);
+        self.beside = None;
         let (side, epoch) = (self.side, self.epoch);
         match write_side(&mut self.disk, &self.layout, side, epoch, &self.register) {
             Ok(()) => {

@@ -32,6 +32,9 @@ pub enum StoreFault {
     /// The register's image has the last epoch.
     #[error("the epochs are used up")]
     EpochsUsedUp,
+    /// A record of all the commands would not fit the journal: a checkpoint is to be made first.
+    #[error("the journal has no room: a checkpoint is to be made")]
+    Unready,
 }
 
 impl From<DiskError> for StoreFault {

@@ -4,10 +4,12 @@
 
 mod batch;
 mod before;
+mod beside;
 mod checkpointing;
 mod commit;
 mod fault;
 mod formatting;
+mod keeping;
 mod label;
 pub mod laws;
 pub mod lives;

@@ -16,8 +16,8 @@ use std::alloc::Allocator;
 ///
 /// This function does nothing: calling it gives its clauses.
 pub fn lasts<A: Allocator, D: Disk>()
-    ensures on_disk { (limits : Limits) (events : List (Event A)) (now : Phase D) → IsLife A D.view limits events now → InEach (D.view (disk_of now)) (Lasts A limits events) }
-    ensures in_store { (limits : Limits) (events : List (Event A)) (store : StoreView D) → IsLife A D.view limits events (Open store) → store.broken ≡ false → Holds A limits events store }
+    ensures on_disk { (limits : Limits) (events : List (Event A)) (now : Phase A D) → IsLife A D.view limits events now → InEach (D.view (disk_of now)) (Lasts A limits events) }
+    ensures in_store { (limits : Limits) (events : List (Event A)) (store : StoreView A D) → IsLife A D.view limits events (Open store) → store.broken ≡ false → Holds A limits events store }
     ensures messages { (limits : Limits) (events : List (Event A)) (image : List (List ℕ)) (lasts : Lasts A limits events image) → LosesNoMessage A limits lasts.kept image }
 {}
 

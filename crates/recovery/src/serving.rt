@@ -1,17 +1,15 @@
 //! A register that is kept on a disk as a desk: a command is a commit of one.
-ghost use Rattle.std.specs.Prelude.{◌≡◌, ◌≤◌, ◌++◌, ◌∷◌, Bool, [], IfOk, List, OnErr, OnOk, true, false};
+ghost use Rattle.std.specs.Prelude.{◌≡◌, ◌++◌, ◌∷◌, Bool, [], IfOk, List, OnErr, OnOk, is_some, true, false};
 ghost use Rattle.sector_disk.specs.Run.{HasMade, LeavesOnly};
 ghost use Rattle.centre_core.specs.Asked.{Asked};
-ghost use Rattle.gated_journal.specs.Record.{data_size};
-ghost use Rattle.gated_journal.specs.Settled.{room_of, text_at};
 ghost use Rattle.desk.specs.OfStore.{Stored, of_store};
 ghost use Rattle.desk.specs.Replies.{HasShortPdu};
-ghost use Rattle.recovery.specs.Calls.{commit_calls, commit_calls_by, fits_in};
-ghost use Rattle.recovery.specs.Stored.{IsStored};
+ghost use Rattle.recovery.specs.Calls.{fits_in};
+ghost use Rattle.recovery.specs.GoneOn.{HasKept, with_room};
+ghost use Rattle.recovery.specs.Lives.{IsAnsweredCall, IsStoredIn, IsUnansweredCall, view_of};
 ghost use Rattle.recovery.specs.Outcomes.{AreRecorded, StandsForEither};
-ghost use Rattle.recovery.specs.Refusals.{IsOfCommit};
-ghost use Rattle.recovery.specs.Serving.{IsAfterOne, IsWordFor, stored_of};
-ghost use Rattle.recovery.specs.Lives.{IsAnsweredCall, IsUnansweredCall, view_of};
+ghost use Rattle.recovery.specs.Refusals.{IsOfDesk};
+ghost use Rattle.recovery.specs.Serving.{IsAfterOne, IsWordFor, MayBeginBy, desk_calls, desk_calls_by, stored_of};
 ghost use Rattle.recovery.specs.declared.outcome.Outcome.TheVariants.{Replied};
 
 use crate::{Store, StoreFault};
@@ -21,7 +19,7 @@ use desk::{Desk, Service};
 use sector_disk::Disk;
 use std::alloc::Allocator;
 
-impl<A: Allocator + Clone, D: Disk> Desk for Store<A, D> {
+impl<A: Allocator + Copy, D: Disk> Desk for Store<A, D> {
     ghost World = { Stored };
 
     ghost world = { λ store. stored_of (D.view store.disk).failures store.epoch store.broken store.before.value store.register };
@@ -40,27 +38,30 @@ impl<A: Allocator + Clone, D: Disk> Desk for Store<A, D> {
         // The register is as before, or the command was accepted; each stop leaves the disk standing for one of the two, and,
         // where the disk has not failed, for the register after the call.
         ensures register { IsAfterOne self.old.register command.now self.new.register }
-        ensures any_moment { (D.view self.old.disk).honest → IsStored A self.old.layout self.old.side self.old.epoch self.old.journal self.old.register (D.view self.old.disk)
+        ensures any_moment { (D.view self.old.disk).honest → IsStoredIn A D.view (view_of self.old)
             → LeavesOnly (D.view self.old.disk) (D.view self.new.disk) (StandsForEither A self.old.register self.new.register) }
-        ensures kept { self.new.broken ≡ false → (D.view self.old.disk).honest → IsStored A self.old.layout self.old.side self.old.epoch self.old.journal self.old.register (D.view self.old.disk)
-            → IsStored A self.new.layout self.new.side self.new.epoch self.new.journal self.new.register (D.view self.new.disk) }
+        ensures kept { self.new.broken ≡ false → (D.view self.old.disk).honest → IsStoredIn A D.view (view_of self.old)
+            → IsStoredIn A D.view (view_of self.new) }
         ensures broken { self.old.broken ≡ true → self.new ≡ self.old }
         ensures honest { (D.view self.old.disk).honest → (D.view self.new.disk).honest }
 
-        // A checkpoint is made only where a record of the command would not fit. The calls of the disk are those of a commit
-        // of this one command, and a call that fails is the last.
+        // A checkpoint is made first only where a record of the command would not fit; then the calls of the disk are those of
+        // a commit of this one command, and a call that fails is the last.
         ensures layout { self.new.layout ≡ self.old.layout }
-        ensures stays { data_size (text_at A self.old.journal (command.entry ∷ [])) ≤ room_of self.old.journal → (self.new.side ≡ self.old.side) × (self.new.epoch ≡ self.old.epoch) }
-        ensures calls { OnOk result ((D.view self.old.disk).honest → (recorded : List (Asked A)) × AreRecorded A self.old.register (command.now ∷ []) self.new.register recorded
-            × ((D.view self.new.disk).calls ≡ (D.view self.old.disk).calls ++ commit_calls self.old.layout self.old.side self.old.epoch self.old.register (D.view self.old.disk).reads (fits_in A self.old.journal (command.entry ∷ [])) self.old.journal recorded)) }
-        ensures some_calls { (D.view self.old.disk).honest → (recorded : List (Asked A)) × AreRecorded A self.old.register (command.now ∷ []) self.new.register recorded
-            × HasMade (D.view self.old.disk) (D.view self.new.disk) (commit_calls self.old.layout self.old.side self.old.epoch self.old.register (D.view self.old.disk).reads (fits_in A self.old.journal (command.entry ∷ [])) self.old.journal recorded) }
+        ensures calls { OnOk result ((D.view self.old.disk).honest → (recorded : List (Asked A)) × (also_open : Bool) × AreRecorded A self.old.register (command.now ∷ []) self.new.register recorded
+            × HasKept (with_room (fits_in A self.old.journal (command.entry ∷ [])) (view_of self.old)) (view_of self.new) recorded
+            × ((D.view self.new.disk).calls ≡ (D.view self.old.disk).calls ++ desk_calls (view_of self.old) (fits_in A self.old.journal (command.entry ∷ [])) recorded (is_some self.new.beside) (D.view self.old.disk).reads also_open)) }
+        ensures some_calls { (D.view self.old.disk).honest → (recorded : List (Asked A)) × (begins : Bool) × (also_open : Bool) × AreRecorded A self.old.register (command.now ∷ []) self.new.register recorded
+            × MayBeginBy (view_of self.old) (fits_in A self.old.journal (command.entry ∷ [])) recorded begins
+            × HasMade (D.view self.old.disk) (D.view self.new.disk) (desk_calls (view_of self.old) (fits_in A self.old.journal (command.entry ∷ [])) recorded begins (D.view self.old.disk).reads also_open) }
 
-        // So too on a disk that is not honest, with the write of the other side's root or without it.
-        ensures calls_on_any_disk { OnOk result ((was_open : Bool) × (recorded : List (Asked A)) × AreRecorded A self.old.register (command.now ∷ []) self.new.register recorded
-            × ((D.view self.new.disk).calls ≡ (D.view self.old.disk).calls ++ commit_calls_by self.old.layout self.old.side self.old.epoch self.old.register was_open (fits_in A self.old.journal (command.entry ∷ [])) self.old.journal recorded)) }
-        ensures some_calls_on_any_disk { (was_open : Bool) × (recorded : List (Asked A)) × AreRecorded A self.old.register (command.now ∷ []) self.new.register recorded
-            × HasMade (D.view self.old.disk) (D.view self.new.disk) (commit_calls_by self.old.layout self.old.side self.old.epoch self.old.register was_open (fits_in A self.old.journal (command.entry ∷ [])) self.old.journal recorded) }
+        // So too on a disk that is not honest, with the writes of the other side's root or without them.
+        ensures calls_on_any_disk { OnOk result ((recorded : List (Asked A)) × (was_open : Bool) × (also_open : Bool) × AreRecorded A self.old.register (command.now ∷ []) self.new.register recorded
+            × HasKept (with_room (fits_in A self.old.journal (command.entry ∷ [])) (view_of self.old)) (view_of self.new) recorded
+            × ((D.view self.new.disk).calls ≡ (D.view self.old.disk).calls ++ desk_calls_by (view_of self.old) (fits_in A self.old.journal (command.entry ∷ [])) recorded (is_some self.new.beside) was_open also_open)) }
+        ensures some_calls_on_any_disk { (recorded : List (Asked A)) × (begins : Bool) × (was_open : Bool) × (also_open : Bool) × AreRecorded A self.old.register (command.now ∷ []) self.new.register recorded
+            × MayBeginBy (view_of self.old) (fits_in A self.old.journal (command.entry ∷ [])) recorded begins
+            × HasMade (D.view self.old.disk) (D.view self.new.disk) (desk_calls_by (view_of self.old) (fits_in A self.old.journal (command.entry ∷ [])) recorded begins was_open also_open) }
 
         // In the life of the disk it is a call that is answered with this reply, or one that is not.
         ensures answered { IfOk result (λ reply. (D.view self.old.disk).honest → IsAnsweredCall A D.view (view_of self.old) (command.now ∷ []) (Replied reply ∷ []) (view_of self.new)) }
@@ -90,9 +91,9 @@ impl<A: Allocator + Clone, D: Disk> Desk for Store<A, D> {
     }
 }
 
-// The word for a fault of a commit.
+// The word for a fault of a desk's commit.
 fn service_of(fault: StoreFault) -> Service
-    requires { IsOfCommit fault }
+    requires { IsOfDesk fault }
     ensures { IsWordFor fault result }
 {
     match fault {
@@ -100,8 +101,9 @@ fn service_of(fault: StoreFault) -> Service
         StoreFault::Broken => Service::Broken,
         StoreFault::EpochsUsedUp => Service::Epochs,
         StoreFault::NoMemory => Service::Memory,
-        StoreFault::Unformatted | StoreFault::BadGeometry | StoreFault::Damaged(_) => {
-            unreachable!()
-        }
+        StoreFault::Unformatted
+        | StoreFault::BadGeometry
+        | StoreFault::Damaged(_)
+        | StoreFault::Unready => unreachable!(),
     }
 }

@@ -1,5 +1,5 @@
 // One command kept on a disk.
-ghost use Rattle.std.specs.Prelude.{◌≡◌, ◌≤◌, ◌++◌, ◌∷◌, Bool, [], Err, IfErr, IfOk, IsErrOf, IsTrue, List, OnOk, true, false, if◌then◌else◌};
+ghost use Rattle.std.specs.Prelude.{◌≡◌, ◌≤◌, ◌<◌, ◌++◌, ◌∷◌, Bool, [], Err, IfErr, IfOk, IsErrOf, IsTrue, List, Ok, OnErr, OnOk, is_some, length, true, false, if◌then◌else◌};
 ghost use Rattle.sector_disk.specs.Disk.{HasFailed};
 ghost use Rattle.sector_disk.specs.Run.{HasMade, LeavesOnly};
 ghost use Rattle.centre_core.specs.Asked.{Asked};
@@ -7,14 +7,16 @@ ghost use Rattle.centre_core.specs.History.{is_acceptance};
 ghost use Rattle.centre_core.specs.Memory.{needs_memory};
 ghost use Rattle.centre_core.specs.Step.{step};
 ghost use Rattle.image_rows.specs.Rows.{last_epoch};
-ghost use Rattle.gated_journal.specs.Record.{data_size};
+ghost use Rattle.gated_journal.specs.Record.{data_size, most_commands};
 ghost use Rattle.gated_journal.specs.Settled.{room_of, text_at};
 ghost use Rattle.recovery.specs.declared.fault.StoreFault.TheVariants.{Broken, DiskFault, EpochsUsedUp, NoMemory};
-ghost use Rattle.recovery.specs.Calls.{commit_calls, commit_calls_by, fits_in};
-ghost use Rattle.recovery.specs.Stored.{IsStored};
+ghost use Rattle.recovery.specs.Calls.{fits_in, room_calls, room_calls_by};
+ghost use Rattle.recovery.specs.GoneOn.{HasKept, HasRoom, with_room};
+ghost use Rattle.recovery.specs.Lives.{IsCall, IsStoredIn, Open, Unanswered, view_of};
 ghost use Rattle.recovery.specs.Outcomes.{AreRecorded, StandsForEither};
-ghost use Rattle.recovery.specs.Refusals.{IsOfCommit};
-ghost use Rattle.recovery.specs.Serving.{IsAfterOne};
+ghost use Rattle.recovery.specs.Refusals.{IsOfCheckpoint, IsOfDesk};
+ghost use Rattle.recovery.specs.Serving.{IsAfterOne, MayBeginBy, desk_calls, desk_calls_by};
+ghost use Rattle.recovery.specs.Standing.{StandsFor};
 
 use crate::before::Before;
 use crate::{Store, StoreFault};
@@ -35,7 +37,43 @@ fn if_accepted<'a, B: Allocator, C: Allocator>(
     &commands[..0]
 }
 
-impl<A: Allocator + Clone, D: Disk> Store<A, D> {
+impl<A: Allocator + Copy, D: Disk> Store<A, D> {
+    // A checkpoint where a record of these commands would not fit.
+    pub(crate) fn make_room<B: Allocator>(
+        &mut self,
+        commands: &[&Command<B>],
+    ) -> Result<(), StoreFault>
+        requires { length commands.now ≤ most_commands }
+        ensures any_moment { (D.view self.old.disk).honest → IsStoredIn A D.view (view_of self.old)
+            → LeavesOnly (D.view self.old.disk) (D.view self.new.disk) (StandsFor A self.old.register) }
+        ensures kept { OnOk result ((D.view self.old.disk).honest → IsStoredIn A D.view (view_of self.old)
+            → IsStoredIn A D.view (view_of self.new)) }
+        ensures fits { OnOk result (data_size (text_at A self.new.journal commands.now) ≤ room_of self.new.journal) }
+        ensures stays { data_size (text_at A self.old.journal commands.now) ≤ room_of self.old.journal → (result ≡ Ok tt) × (self.new ≡ self.old) }
+        ensures calls { OnOk result ((D.view self.old.disk).honest → (D.view self.new.disk).calls ≡ (D.view self.old.disk).calls ++ room_calls self.old.layout self.old.side self.old.epoch self.old.register (D.view self.old.disk).reads (fits_in A self.old.journal commands.now)) }
+        ensures some_calls { (D.view self.old.disk).honest → HasMade (D.view self.old.disk) (D.view self.new.disk) (room_calls self.old.layout self.old.side self.old.epoch self.old.register (D.view self.old.disk).reads (fits_in A self.old.journal commands.now)) }
+        ensures calls_on_any_disk { OnOk result ((was_open : Bool) × ((D.view self.new.disk).calls ≡ (D.view self.old.disk).calls ++ room_calls_by self.old.layout self.old.side self.old.epoch self.old.register was_open (fits_in A self.old.journal commands.now))) }
+        ensures some_calls_on_any_disk { (was_open : Bool) × HasMade (D.view self.old.disk) (D.view self.new.disk) (room_calls_by self.old.layout self.old.side self.old.epoch self.old.register was_open (fits_in A self.old.journal commands.now)) }
+        ensures place { OnOk result (HasRoom (view_of self.old) (view_of self.new) (fits_in A self.old.journal commands.now)) }
+        ensures same { (self.new.layout ≡ self.old.layout) × (self.new.register ≡ self.old.register) }
+        ensures unmoved { OnErr result ((self.new.side ≡ self.old.side) × (self.new.epoch ≡ self.old.epoch) × (self.new.journal ≡ self.old.journal)) }
+        ensures only_broken { IsErrOf result Broken → (self.old.broken ≡ true) × (self.new ≡ self.old) }
+        ensures memory { IsErrOf result NoMemory → ⊥ }
+        ensures epochs { IsErrOf result EpochsUsedUp → (last_epoch ≤ self.old.epoch) × (room_of self.old.journal < data_size (text_at A self.old.journal commands.now)) × (self.new.disk ≡ self.old.disk) × (self.new.broken ≡ false) × (self.new.beside ≡ self.old.beside) }
+        ensures fault { IsErrOf result DiskFault → HasFailed (D.view self.old.disk) (D.view self.new.disk) × (self.new.broken ≡ true) }
+        ensures shown { IsErrOf result DiskFault → self.new.before.value ≡ self.old.register }
+        ensures kinds { IfErr result IsOfCheckpoint }
+        ensures sound { OnOk result (self.old.broken ≡ false → self.new.broken ≡ false) }
+        ensures later { (D.view self.old.disk).failures ≤ (D.view self.new.disk).failures }
+        ensures honest { (D.view self.old.disk).honest → (D.view self.new.disk).honest }
+        ensures call { (D.view self.old.disk).honest → IsCall A D.view (Open (view_of self.old)) (Unanswered []) (Open (view_of self.new)) }
+    {
+        if self.journal.has_room(commands) {
+            return Ok(());
+        }
+        self.checkpoint()
+    }
+
     // A commit of one command, without a list: only a command that needs memory is refused for it.
     pub(crate) fn commit_one<B: Allocator, C: Allocator + Copy>(
         &mut self,
@@ -44,20 +82,23 @@ impl<A: Allocator + Clone, D: Disk> Store<A, D> {
     ) -> Result<Reply<C>, StoreFault>
         ensures replied { IfOk result (λ reply. (self.new.register, reply) ≡ step self.old.register command.now) }
         ensures register { IsAfterOne self.old.register command.now self.new.register }
-        ensures any_moment { (D.view self.old.disk).honest → IsStored A self.old.layout self.old.side self.old.epoch self.old.journal self.old.register (D.view self.old.disk)
+        ensures any_moment { (D.view self.old.disk).honest → IsStoredIn A D.view (view_of self.old)
             → LeavesOnly (D.view self.old.disk) (D.view self.new.disk) (StandsForEither A self.old.register self.new.register) }
-        ensures kept { self.new.broken ≡ false → (D.view self.old.disk).honest → IsStored A self.old.layout self.old.side self.old.epoch self.old.journal self.old.register (D.view self.old.disk)
-            → IsStored A self.new.layout self.new.side self.new.epoch self.new.journal self.new.register (D.view self.new.disk) }
+        ensures kept { self.new.broken ≡ false → (D.view self.old.disk).honest → IsStoredIn A D.view (view_of self.old)
+            → IsStoredIn A D.view (view_of self.new) }
         ensures layout { self.new.layout ≡ self.old.layout }
-        ensures stays { data_size (text_at A self.old.journal (command.entry ∷ [])) ≤ room_of self.old.journal → (self.new.side ≡ self.old.side) × (self.new.epoch ≡ self.old.epoch) }
-        ensures calls { OnOk result ((D.view self.old.disk).honest → (recorded : List (Asked A)) × AreRecorded A self.old.register (command.now ∷ []) self.new.register recorded
-            × ((D.view self.new.disk).calls ≡ (D.view self.old.disk).calls ++ commit_calls self.old.layout self.old.side self.old.epoch self.old.register (D.view self.old.disk).reads (fits_in A self.old.journal (command.entry ∷ [])) self.old.journal recorded)) }
-        ensures some_calls { (D.view self.old.disk).honest → (recorded : List (Asked A)) × AreRecorded A self.old.register (command.now ∷ []) self.new.register recorded
-            × HasMade (D.view self.old.disk) (D.view self.new.disk) (commit_calls self.old.layout self.old.side self.old.epoch self.old.register (D.view self.old.disk).reads (fits_in A self.old.journal (command.entry ∷ [])) self.old.journal recorded) }
-        ensures calls_on_any_disk { OnOk result ((was_open : Bool) × (recorded : List (Asked A)) × AreRecorded A self.old.register (command.now ∷ []) self.new.register recorded
-            × ((D.view self.new.disk).calls ≡ (D.view self.old.disk).calls ++ commit_calls_by self.old.layout self.old.side self.old.epoch self.old.register was_open (fits_in A self.old.journal (command.entry ∷ [])) self.old.journal recorded)) }
-        ensures some_calls_on_any_disk { (was_open : Bool) × (recorded : List (Asked A)) × AreRecorded A self.old.register (command.now ∷ []) self.new.register recorded
-            × HasMade (D.view self.old.disk) (D.view self.new.disk) (commit_calls_by self.old.layout self.old.side self.old.epoch self.old.register was_open (fits_in A self.old.journal (command.entry ∷ [])) self.old.journal recorded) }
+        ensures calls { OnOk result ((D.view self.old.disk).honest → (recorded : List (Asked A)) × (also_open : Bool) × AreRecorded A self.old.register (command.now ∷ []) self.new.register recorded
+            × HasKept (with_room (fits_in A self.old.journal (command.entry ∷ [])) (view_of self.old)) (view_of self.new) recorded
+            × ((D.view self.new.disk).calls ≡ (D.view self.old.disk).calls ++ desk_calls (view_of self.old) (fits_in A self.old.journal (command.entry ∷ [])) recorded (is_some self.new.beside) (D.view self.old.disk).reads also_open)) }
+        ensures some_calls { (D.view self.old.disk).honest → (recorded : List (Asked A)) × (begins : Bool) × (also_open : Bool) × AreRecorded A self.old.register (command.now ∷ []) self.new.register recorded
+            × MayBeginBy (view_of self.old) (fits_in A self.old.journal (command.entry ∷ [])) recorded begins
+            × HasMade (D.view self.old.disk) (D.view self.new.disk) (desk_calls (view_of self.old) (fits_in A self.old.journal (command.entry ∷ [])) recorded begins (D.view self.old.disk).reads also_open) }
+        ensures calls_on_any_disk { OnOk result ((recorded : List (Asked A)) × (was_open : Bool) × (also_open : Bool) × AreRecorded A self.old.register (command.now ∷ []) self.new.register recorded
+            × HasKept (with_room (fits_in A self.old.journal (command.entry ∷ [])) (view_of self.old)) (view_of self.new) recorded
+            × ((D.view self.new.disk).calls ≡ (D.view self.old.disk).calls ++ desk_calls_by (view_of self.old) (fits_in A self.old.journal (command.entry ∷ [])) recorded (is_some self.new.beside) was_open also_open)) }
+        ensures some_calls_on_any_disk { (recorded : List (Asked A)) × (begins : Bool) × (was_open : Bool) × (also_open : Bool) × AreRecorded A self.old.register (command.now ∷ []) self.new.register recorded
+            × MayBeginBy (view_of self.old) (fits_in A self.old.journal (command.entry ∷ [])) recorded begins
+            × HasMade (D.view self.old.disk) (D.view self.new.disk) (desk_calls_by (view_of self.old) (fits_in A self.old.journal (command.entry ∷ [])) recorded begins was_open also_open) }
 
         // It does not give up by itself, and a fault of the disk shows the register before the call.
         ensures broken { self.old.broken ≡ true → (result ≡ Err Broken) × (self.new ≡ self.old) }
@@ -66,7 +107,7 @@ impl<A: Allocator + Clone, D: Disk> Store<A, D> {
         ensures memory { IsErrOf result NoMemory → (self.old.broken ≡ false) × (self.new.broken ≡ false) × (self.new.register ≡ self.old.register) × IsTrue (needs_memory self.old.register command.now) }
         ensures epochs { IsErrOf result EpochsUsedUp → (self.old.broken ≡ false) × (self.new.broken ≡ false) × (last_epoch ≤ self.old.epoch) × (self.new.epoch ≡ self.old.epoch) × (self.new.disk ≡ self.old.disk) × (self.new.register ≡ self.old.register) }
         ensures fault { IsErrOf result DiskFault → (self.old.broken ≡ false) × (self.new.broken ≡ true) × (self.new.before.value ≡ self.old.register) × HasFailed (D.view self.old.disk) (D.view self.new.disk) }
-        ensures kinds { IfErr result IsOfCommit }
+        ensures kinds { IfErr result IsOfDesk }
         ensures honest { (D.view self.old.disk).honest → (D.view self.new.disk).honest }
     {
         if self.broken {
@@ -76,7 +117,7 @@ impl<A: Allocator + Clone, D: Disk> Store<A, D> {
         self.make_room(&commands)?;
         self.before = Before::of(&self.register);
         let reply = self.register.apply(alloc, command)?;
-        self.add_record(if_accepted(&reply, &commands))?;
+        self.keep(if_accepted(&reply, &commands))?;
         Ok(reply)
     }
 }

@@ -1,5 +1,5 @@
 //! A register that is kept on a disk.
-ghost use Rattle.std.specs.Prelude.{◌≡◌, ◌⊎◌, ◌≤◌, ◌<◌, ◌++◌, ◌∷◌, ℕ, [], IfErr, IfOk, Ok, true, false, Some, None, option_map};
+ghost use Rattle.std.specs.Prelude.{◌≡◌, ◌⊎◌, ◌≤◌, ◌<◌, ◌++◌, ◌∷◌, ℕ, [], IfErr, IfOk, IfSome, Ok, true, false, Some, None, option_map};
 ghost use Rattle.sector_disk.specs.Disk.{HasFailed, IsImageOf};
 ghost use Rattle.sector_disk.specs.Reading.{before_reads};
 ghost use Rattle.sector_disk.specs.Run.{LeavesOnly};
@@ -7,12 +7,14 @@ ghost use Rattle.sector_disk.specs.declared.record.Call.TheVariants.{Sync};
 ghost use Rattle.checkpoint.specs.Layout.{disk_size, half_at, half_end};
 ghost use Rattle.checkpoint.specs.Standing.{InEach};
 ghost use Rattle.recovery.specs.declared.fault.StoreFault.TheVariants.{Damaged, DiskFault, NoMemory};
-ghost use Rattle.recovery.specs.Stored.{IsStored};
+ghost use Rattle.recovery.specs.UnderWay.{BelongsTo};
+ghost use Rattle.std.proofs.Props.{props};
 ghost use Rattle.recovery.specs.Opens.{opening, opens};
 ghost use Rattle.recovery.specs.Opening.{Fails, HasNoFaultYet, IsOfOpening};
 
 use crate::StoreFault;
 use crate::before::Before;
+use crate::beside::Beside;
 use crate::opening::{Opened, read_all};
 use centre_core::Register;
 use checkpoint::{Layout, Side};
@@ -23,11 +25,13 @@ use std::alloc::Allocator;
 /// A register that is kept on a disk: each command that it accepts is on the disk before it is answered.
 #[derive(Drop)]
 pub struct Store<A: Allocator, D: Disk> {
+    pub(crate) alloc: A,
     pub(crate) disk: D,
     pub(crate) layout: Layout,
     pub(crate) side: Side,
     pub(crate) epoch: u64,
     pub(crate) journal: Journal<A>,
+    pub(crate) beside: Option<Beside<A>>,
     pub(crate) register: Register<A>,
     // The register as it was when the call at hand began: what a store shows that this call has broken.
     pub(crate) before: Before<Register<A>>,
@@ -38,10 +42,11 @@ pub struct Store<A: Allocator, D: Disk> {
     ghost end: { journal.end ≡ half_end layout side },
     ghost next: { journal.next < half_end layout side },
     ghost counts: { journal.count ≤ register.count },
+    ghost other: { IfSome beside (λ it. BelongsTo layout side epoch journal register.count it) } by { Prim.hlevel props },
 }
 
 impl<A: Allocator + Copy, D: Disk> Store<A, D> {
-    ghost use Rattle.recovery.specs.Lives.{Answered, Closed, IsCall, Open, view_of};
+    ghost use Rattle.recovery.specs.Lives.{Answered, Closed, IsCall, IsStoredIn, Open, view_of};
 
     /// Opens the register that is kept on a disk, under `alloc`; a fault gives the disk back. The disk is synced first,
     /// and then only read.
@@ -53,8 +58,9 @@ impl<A: Allocator + Copy, D: Disk> Store<A, D> {
         ensures refused { IfErr result (λ e. (D.view disk).honest → Fails e.0 (opens A (D.view disk).reads)) }
 
         // The store is kept: each stop leaves what was read, and no stop in the call leaves anything else than one before it.
-        ensures kept { IfOk result (λ store. (D.view disk).honest → IsStored A store.layout store.side store.epoch store.journal store.register (D.view store.disk)) }
+        ensures kept { IfOk result (λ store. (D.view disk).honest → IsStoredIn A D.view (view_of store)) }
         ensures sound { IfOk result (λ store. store.broken ≡ false) }
+        ensures idle { IfOk result (λ store. store.beside ≡ None) }
         ensures only { IfOk result (λ store. (D.view disk).honest → InEach (D.view store.disk) (λ image. image ≡ (D.view disk).reads)) }
         ensures left { IfOk result (λ store. (D.view disk).honest → LeavesOnly (D.view disk) (D.view store.disk) (IsImageOf (D.view disk))) }
         ensures left_by { IfErr result (λ e. (D.view disk).honest → LeavesOnly (D.view disk) (D.view e.1) (IsImageOf (D.view disk))) }
@@ -94,11 +100,13 @@ impl<A: Allocator + Copy, D: Disk> Store<A, D> {
                 } = opened;
                 let before = Before::of(&register);
                 Ok(Store {
+                    alloc,
                     disk,
                     layout,
                     side,
                     epoch,
                     journal,
+                    beside: None,
                     register,
                     before,
                     broken: false,

@@ -61,6 +61,7 @@ of_store store.DiskFault = fault.Device
 of_store store.Broken = fault.Device
 of_store store.NoMemory = fault.Memory
 of_store store.EpochsUsedUp = fault.Epochs
+of_store store.Unready = fault.Device
 
 -- of the lines in the file of this name, whose answers wait in memory: these find no room, and so are not written
 abbrev pub IsOfRun : RunFault → List Byte → Fault → Type 0

@@ -54,7 +54,8 @@ impl<'a> Fault<'a> {
         }
     }
 
-    /// Why a disk gives no register.
+    /// Why a disk gives no register, or is not made ready for one. `Broken`, `EpochsUsedUp` and `Unready` are told by calls on
+    /// a store alone, and so do not come from there.
     pub fn of_store(fault: StoreFault) -> Fault<'a>
         ensures { result ≡ of_store fault }
     {
@@ -62,7 +63,7 @@ impl<'a> Fault<'a> {
             StoreFault::Unformatted => Fault::Unformatted,
             StoreFault::BadGeometry => Fault::BadGeometry,
             StoreFault::Damaged(sector) => Fault::Damaged(sector),
-            StoreFault::DiskFault | StoreFault::Broken => Fault::Device,
+            StoreFault::DiskFault | StoreFault::Broken | StoreFault::Unready => Fault::Device,
             StoreFault::NoMemory => Fault::Memory,
             StoreFault::EpochsUsedUp => Fault::Epochs,
         }

@@ -6,13 +6,15 @@
 //! zeros at its end; `sync`; and for each line of a batch `answer` and the text of its answer. Reads are left out.
 #![tactic(auto)]
 
+ghost use Rattle.std.specs.Prelude.{◌≤◌, length};
+
 mod watched;
 
 use crate::watched::{Call, Calls, WatchedDisk};
 use centre_core::Command;
 use checkpoint::Layout;
 use console::{Answer, Line, parse_line, print_answer};
-use recovery::{Outcome, Store, format};
+use recovery::{Outcome, Store, StoreFault, format};
 use registration::{Limits, Station};
 use sector_disk::{Disk, MemoryDisk};
 use std::alloc::Global;
@@ -170,6 +172,24 @@ fn commit<D: Disk>(
         return Err(io::ErrorKind::InvalidData.into());
     }
     match store.commit(alloc, &commands) {
+        Ok(outcomes) => Ok(outcomes),
+        Err(StoreFault::Unready) => commit_again(alloc, store, &commands),
+        Err(_) => Err(io::ErrorKind::Other.into()),
+    }
+}
+
+/// Makes a checkpoint, and commits the commands that found no room.
+fn commit_again<D: Disk>(
+    alloc: Global,
+    store: &mut Store<Global, D>,
+    commands: &[&Command<Global>],
+) -> io::Result<Vec<Outcome<Global>, Global>>
+    requires { length commands.now ≤ 64 }
+{
+    if store.checkpoint().is_err() {
+        return Err(io::ErrorKind::Other.into());
+    }
+    match store.commit(alloc, commands) {
         Ok(outcomes) => Ok(outcomes),
         Err(_) => Err(io::ErrorKind::Other.into()),
     }

@@ -9,32 +9,35 @@ use Rattle.recovery.proofs.Events.{none_accepted, nothing_accepted}
 use Rattle.recovery.proofs.store.Store.checkpoint.Goals as goal
 
 pub returns-then-self-clause-any_moment : goal.returns-then-self-clause-any_moment
-returns-then-self-clause-any_moment g c = λ honest stored. nothing_done g.row.A.Denot c.args.self.now.layout c.args.self.now.side c.args.self.now.epoch c.args.self.now.journal c.args.self.now.register (g.D.Disk.view c.args.self.now.disk) stored (g.met.D.Disk.sound c.args.self.now.disk honest)
+returns-then-self-clause-any_moment g c = λ honest stored. nothing_done g.row.A.Denot c.args.self.now.layout c.args.self.now.side c.args.self.now.epoch c.args.self.now.journal c.args.self.now.register (g.D.Disk.view c.args.self.now.disk) stored.stored (g.met.D.Disk.sound c.args.self.now.disk honest)
 
 pub returns-in-Ok-clause-any_moment : goal.returns-in-Ok-clause-any_moment
 returns-in-Ok-clause-any_moment g c = λ honest stored.
-    in_checkpoint g.row.A.Denot c.args.self.now.layout c.args.self.now.side c.args.self.now.epoch c.args.self.now.journal c.args.self.now.register (g.D.Disk.view c.args.self.now.disk) stored (g.D.Disk.view c.write_side.new.disk)
-    (c.write_side.ensures.any_moment c.args.self.now.journal.form (c.args.self.now.epoch, stored.base) (stored.entries, c.args.self.now.journal.next) refl honest stored.each)
+    in_checkpoint g.row.A.Denot c.args.self.now.layout c.args.self.now.side c.args.self.now.epoch c.args.self.now.journal c.args.self.now.register (g.D.Disk.view c.args.self.now.disk) stored.stored (g.D.Disk.view c.write_side.new.disk)
+    (c.write_side.ensures.any_moment c.args.self.now.journal.form (c.args.self.now.epoch, stored.stored.base) (stored.stored.entries, c.args.self.now.journal.next) refl honest stored.stored.each)
 
 pub returns-in-Err-EpochsUsedUp-clause-any_moment : goal.returns-in-Err-EpochsUsedUp-clause-any_moment
 returns-in-Err-EpochsUsedUp-clause-any_moment g c = λ honest stored.
-    in_checkpoint g.row.A.Denot c.args.self.now.layout c.args.self.now.side c.args.self.now.epoch c.args.self.now.journal c.args.self.now.register (g.D.Disk.view c.args.self.now.disk) stored (g.D.Disk.view c.write_side.new.disk)
-    (c.write_side.ensures.any_moment c.args.self.now.journal.form (c.args.self.now.epoch, stored.base) (stored.entries, c.args.self.now.journal.next) refl honest stored.each)
+    in_checkpoint g.row.A.Denot c.args.self.now.layout c.args.self.now.side c.args.self.now.epoch c.args.self.now.journal c.args.self.now.register (g.D.Disk.view c.args.self.now.disk) stored.stored (g.D.Disk.view c.write_side.new.disk)
+    (c.write_side.ensures.any_moment c.args.self.now.journal.form (c.args.self.now.epoch, stored.stored.base) (stored.stored.entries, c.args.self.now.journal.next) refl honest stored.stored.each)
 
 pub returns-in-Err-DiskFault-clause-any_moment : goal.returns-in-Err-DiskFault-clause-any_moment
 returns-in-Err-DiskFault-clause-any_moment g c = λ honest stored.
-    in_checkpoint g.row.A.Denot c.args.self.now.layout c.args.self.now.side c.args.self.now.epoch c.args.self.now.journal c.args.self.now.register (g.D.Disk.view c.args.self.now.disk) stored (g.D.Disk.view c.write_side.new.disk)
-    (c.write_side.ensures.any_moment c.args.self.now.journal.form (c.args.self.now.epoch, stored.base) (stored.entries, c.args.self.now.journal.next) refl honest stored.each)
+    in_checkpoint g.row.A.Denot c.args.self.now.layout c.args.self.now.side c.args.self.now.epoch c.args.self.now.journal c.args.self.now.register (g.D.Disk.view c.args.self.now.disk) stored.stored (g.D.Disk.view c.write_side.new.disk)
+    (c.write_side.ensures.any_moment c.args.self.now.journal.form (c.args.self.now.epoch, stored.stored.base) (stored.stored.entries, c.args.self.now.journal.next) refl honest stored.stored.each)
 
 pub returns-in-Ok-clause-moved : goal.returns-in-Ok-clause-moved
-returns-in-Ok-clause-moved g c = λ honest stored. c.in-Ok.ensures.switched c.args.self.now.journal.form (c.args.self.now.epoch, stored.base) (stored.entries, c.args.self.now.journal.next) refl honest stored.each
+returns-in-Ok-clause-moved g c = λ honest stored. c.in-Ok.ensures.switched c.args.self.now.journal.form (c.args.self.now.epoch, stored.stored.base) (stored.stored.entries, c.args.self.now.journal.next) refl honest stored.stored.each
 
 pub returns-in-Ok-clause-kept : goal.returns-in-Ok-clause-kept
 returns-in-Ok-clause-kept g c = λ honest stored.
     let side : c.other-self.result ≡ other_of c.args.self.now.side = c.other-self.ensures in
     let journal : c.restart.new.self ≡ fresh_place c.args.self.now.layout (other_of c.args.self.now.side) c.args.self.now.register.count = search rules in
-    rw (journal, side) (stored_fresh g.row.A.Denot c.args.self.now.layout (other_of c.args.self.now.side) (c.args.self.now.epoch + 1) c.args.self.now.register (g.D.Disk.view c.write_side.new.disk)
-    (c.in-Ok.ensures.switched c.args.self.now.journal.form (c.args.self.now.epoch, stored.base) (stored.entries, c.args.self.now.journal.next) refl honest stored.each))
+    record {
+      stored = rw (journal, side) (stored_fresh g.row.A.Denot c.args.self.now.layout (other_of c.args.self.now.side) (c.args.self.now.epoch + 1) c.args.self.now.register (g.D.Disk.view c.write_side.new.disk)
+          (c.in-Ok.ensures.switched c.args.self.now.journal.form (c.args.self.now.epoch, stored.stored.base) (stored.stored.entries, c.args.self.now.journal.next) refl honest stored.stored.each));
+      under_way = tt;
+    }
 
 pub returns-then-self-clause-some_calls : goal.returns-then-self-clause-some_calls
 returns-then-self-clause-some_calls g c = λ honest. made_none (g.D.Disk.view c.args.self.now.disk) _
@@ -49,7 +52,7 @@ returns-in-Ok-clause-call g c = λ honest.
 pub returns-in-Err-EpochsUsedUp-clause-call : goal.returns-in-Err-EpochsUsedUp-clause-call
 returns-in-Err-EpochsUsedUp-clause-call g c = λ honest.
     let same : c.write_side.new.disk ≡ c.args.self.now.disk = search rules in
-    fails _ _ [] (none_accepted g.row.A.Denot g.D.Disk.view (view_of c.args.self.now) _ (c.write_side.ensures.honest honest) refl (returns-in-Err-EpochsUsedUp-clause-any_moment g c honest) (λ whole stored. rw same stored) c.if-self.false)
+    fails _ _ [] (none_accepted g.row.A.Denot g.D.Disk.view (view_of c.args.self.now) _ (c.write_side.ensures.honest honest) refl (returns-in-Err-EpochsUsedUp-clause-any_moment g c honest) (λ whole stored. record { stored = rw same stored.stored; under_way = tt }) c.if-self.false)
 
 pub returns-in-Err-DiskFault-clause-call : goal.returns-in-Err-DiskFault-clause-call
 returns-in-Err-DiskFault-clause-call g c = λ honest.

@@ -1,15 +1,20 @@
-use Rattle.std.proofs.Common.{◌∷◌, [], false, inl, refl, sym, ◌∙◌, arith}
+use Rattle.std.proofs.Common.{◌∷◌, [], false, inl, refl, sym, ap, ◌≡◌, true, length, ◌∙◌, arith}
+use Rattle.std.specs.Prelude.{is_some}
 use Rattle.std.proofs.lemmas.Bool.{true≢false}
 use Rattle.sector_disk.proofs.Made.{made_none, made_of_more}
 use Rattle.centre_core.specs.History.{is_acceptance}
 use Rattle.gated_journal.specs.Record.{given}
+use Rattle.checkpoint.specs.Calls.{is_root_open}
+use Rattle.checkpoint.specs.Layout.{other_of}
 use Rattle.recovery.specs.declared.outcome.Outcome.TheVariants.{Replied}
-use Rattle.recovery.specs.Calls.{fits_in, place_then, record_calls, room_calls, room_calls_by}
+use Rattle.recovery.specs.Calls.{fits_in, room_calls, room_calls_by}
+use Rattle.recovery.specs.GoneOn.{with_room}
+use Rattle.recovery.specs.Lives.{view_of}
 use Rattle.recovery.proofs.Batches.{ends_counted, ends_history, ends_recorded, ends_size, ends_state, none_recorded, recorded_behind}
-use Rattle.recovery.proofs.Called.{made_both, made_in_second}
+use Rattle.recovery.proofs.Committed.{batch_kept, begins_none, belongs_later, counts_beside, desk_leaves, it_fits, kept_from, made_then, room_calls_are, room_calls_read, room_kept, room_may, some_then}
 use Rattle.recovery.proofs.Limited.{result_limits}
 use Rattle.recovery.proofs.OneCommand.{after_one, by_room, err_part, few_kept, one_ends, result_counts}
-use Rattle.recovery.proofs.Stored.{commit_leaves, fewer_fit, nothing_done, only_before, stored_commit}
+use Rattle.recovery.proofs.Stored.{fewer_fit, nothing_done, only_before}
 use Rattle.recovery.proofs.store.Store.commit_one.Goals as goal
 
 pub returns-then-self-clause-register : goal.returns-then-self-clause-register
@@ -17,10 +22,13 @@ returns-then-self-clause-register g c = inl refl
 
 pub returns-then-self-clause-any_moment : goal.returns-then-self-clause-any_moment
 returns-then-self-clause-any_moment g c = λ honest stored.
-    only_before g.row.A.Denot c.args.self.now.register c.args.self.now.register (g.D.Disk.view c.args.self.now.disk) (g.D.Disk.view c.args.self.now.disk) (nothing_done g.row.A.Denot c.args.self.now.layout c.args.self.now.side c.args.self.now.epoch c.args.self.now.journal c.args.self.now.register (g.D.Disk.view c.args.self.now.disk) stored (g.met.D.Disk.sound c.args.self.now.disk honest))
+    only_before g.row.A.Denot c.args.self.now.register c.args.self.now.register (g.D.Disk.view c.args.self.now.disk) (g.D.Disk.view c.args.self.now.disk) (nothing_done g.row.A.Denot c.args.self.now.layout c.args.self.now.side c.args.self.now.epoch c.args.self.now.journal c.args.self.now.register (g.D.Disk.view c.args.self.now.disk) stored.stored (g.met.D.Disk.sound c.args.self.now.disk honest))
 
 pub returns-then-self-clause-some_calls : goal.returns-then-self-clause-some_calls
-returns-then-self-clause-some_calls g c = λ honest. ([], none_recorded g.row.A.Denot c.args.self.now.register c.args.self.now.register (c.args.command.now ∷ []) refl, made_none (g.D.Disk.view c.args.self.now.disk) _)
+returns-then-self-clause-some_calls g c = λ honest. ([], false, false, none_recorded g.row.A.Denot c.args.self.now.register c.args.self.now.register (c.args.command.now ∷ []) refl, begins_none (view_of c.args.self.now) (fits_in g.row.A.Denot c.args.self.now.journal (c.args.command ∷ [])) [], made_none (g.D.Disk.view c.args.self.now.disk) _)
+
+pub returns-then-self-clause-some_calls_on_any_disk : goal.returns-then-self-clause-some_calls_on_any_disk
+returns-then-self-clause-some_calls_on_any_disk g c = ([], false, false, false, none_recorded g.row.A.Denot c.args.self.now.register c.args.self.now.register (c.args.command.now ∷ []) refl, begins_none (view_of c.args.self.now) (fits_in g.row.A.Denot c.args.self.now.journal (c.args.command ∷ [])) [], made_none (g.D.Disk.view c.args.self.now.disk) _)
 
 pub returns-in_err-make_room-clause-register : goal.returns-in_err-make_room-clause-register
 returns-in_err-make_room-clause-register g c = inl c.make_room.ensures.same.1
@@ -35,7 +43,7 @@ returns-in_err-make_room-clause-kept g c = λ sound.
     (λ is honest stored. rw (c.make_room.ensures.only_broken is).1 stored)
     (λ is honest stored.
     let stays = err_part is c.make_room.ensures.unmoved in
-    rw (c.make_room.ensures.same.0, c.make_room.ensures.same.1, stays.0, stays.1, stays.2, (c.make_room.ensures.epochs is).2) stored)
+    rw (c.make_room.ensures.same.0, c.make_room.ensures.same.1, stays.0, stays.1, stays.2, (c.make_room.ensures.epochs is).2, (c.make_room.ensures.epochs is).4) stored)
     (λ is honest stored. absurd (true≢false (sym (c.make_room.ensures.fault is).1 ∙ sound)))
 
 pub returns-in_err-make_room-clause-some_calls : goal.returns-in_err-make_room-clause-some_calls
@@ -44,8 +52,26 @@ returns-in_err-make_room-clause-some_calls g c = λ honest.
     let fits = fits_in g.row.A.Denot self.journal (c.args.command ∷ []) in
     let old = g.D.Disk.view self.disk in (
       [],
+      false,
+      false,
       none_recorded g.row.A.Denot self.register c.make_room.new.self.register (c.args.command.now ∷ []) c.make_room.ensures.same.1,
+      begins_none (view_of self) fits [],
       made_of_more old (g.D.Disk.view c.make_room.new.self.disk) (room_calls self.layout self.side self.epoch self.register old.reads fits) [] (c.make_room.ensures.some_calls honest),
+    )
+
+pub returns-in_err-make_room-clause-some_calls_on_any_disk : goal.returns-in_err-make_room-clause-some_calls_on_any_disk
+returns-in_err-make_room-clause-some_calls_on_any_disk g c =
+    let self = c.args.self.now in
+    let fits = fits_in g.row.A.Denot self.journal (c.args.command ∷ []) in
+    let old = g.D.Disk.view self.disk in
+    let all = c.make_room.ensures.some_calls_on_any_disk in (
+      [],
+      false,
+      all.0,
+      false,
+      none_recorded g.row.A.Denot self.register c.make_room.new.self.register (c.args.command.now ∷ []) c.make_room.ensures.same.1,
+      begins_none (view_of self) fits [],
+      made_of_more old (g.D.Disk.view c.make_room.new.self.disk) (room_calls_by self.layout self.side self.epoch self.register all.0 fits) [] all.1,
     )
 
 pub returns-in_err-reply-clause-register : goal.returns-in_err-reply-clause-register
@@ -64,155 +90,11 @@ returns-in_err-reply-clause-some_calls g c = λ honest.
     let fits = fits_in g.row.A.Denot self.journal (c.args.command ∷ []) in
     let old = g.D.Disk.view self.disk in (
       [],
+      false,
+      false,
       none_recorded g.row.A.Denot self.register c.apply.new.self (c.args.command.now ∷ []) (c.in_err-reply.ensures.err ∙ c.make_room.ensures.same.1),
+      begins_none (view_of self) fits [],
       made_of_more old (g.D.Disk.view c.make_room.new.self.disk) (room_calls self.layout self.side self.epoch self.register old.reads fits) [] (c.make_room.ensures.some_calls honest),
-    )
-
-pub invariant_of-self : goal.invariant_of-self
-invariant_of-self g c =
-    let self = c.make_room.new.self in
-    record {
-      room = self.room;
-      limits = result_limits self.register c.apply.new.self c.args.command.now c.apply.result c.apply.ensures.ok c.apply.ensures.err ∙ self.limits;
-      first = self.first;
-      end = self.end;
-      next = self.next;
-      counts = omega (arith, self.counts, result_counts self.register c.apply.new.self c.args.command.now c.apply.result c.apply.ensures.ok c.apply.ensures.err);
-    }
-
-pub add_record-requires-clause-few : goal.add_record-requires-clause-few
-add_record-requires-clause-few g c = few_kept (is_acceptance c.in_ok-reply.reply) c.args.command c.if_accepted.result.now c.if_accepted.ensures
-
-pub add_record-requires-clause-fits : goal.add_record-requires-clause-fits
-add_record-requires-clause-fits g c =
-    let kept = c.if_accepted.result.now in
-    let ends = one_ends c.make_room.new.self.register c.apply.new.self c.in_ok-reply.reply c.args.command.now c.in_ok-reply.ensures.ok c.args.command kept refl c.if_accepted.ensures in
-    fewer_fit g.row.A.Denot c.make_room.new.self.journal kept kept (c.args.command ∷ []) _ refl (ends_size c.make_room.new.self.register c.apply.new.self (c.args.command ∷ []) kept (Replied c.in_ok-reply.reply ∷ []) ends) c.in_ok-make_room.ensures.fits
-
-pub add_record-requires-clause-counted : goal.add_record-requires-clause-counted
-add_record-requires-clause-counted g c =
-    let kept = c.if_accepted.result.now in
-    let ends = one_ends c.make_room.new.self.register c.apply.new.self c.in_ok-reply.reply c.args.command.now c.in_ok-reply.ensures.ok c.args.command kept refl c.if_accepted.ensures in
-    omega (arith, ends_counted c.make_room.new.self.register c.apply.new.self (c.args.command ∷ []) kept (Replied c.in_ok-reply.reply ∷ []) ends, c.make_room.new.self.counts)
-
-pub returns-in_err-add_record-clause-register : goal.returns-in_err-add_record-clause-register
-returns-in_err-add_record-clause-register g c = after_one c.make_room.new.self.register c.apply.new.self c.in_ok-reply.reply c.args.command.now c.in_ok-reply.ensures.ok c.args.self.now.register c.add_record.new.self.register c.make_room.ensures.same.1 c.add_record.ensures.same.3
-
-pub returns-in_err-add_record-clause-any_moment : goal.returns-in_err-add_record-clause-any_moment
-returns-in_err-add_record-clause-any_moment g c = λ honest stored.
-    let self = c.args.self.now in
-    let m = c.make_room.new.self.register in
-    let t = c.apply.new.self in
-    let u = c.add_record.new.self.register in
-    let kept = c.if_accepted.result.now in
-    let one = Replied c.in_ok-reply.reply ∷ [] in
-    let ends = one_ends m t c.in_ok-reply.reply c.args.command.now c.in_ok-reply.ensures.ok c.args.command kept refl c.if_accepted.ensures in
-    commit_leaves g.row.A.Denot self.register m t u kept kept c.make_room.ensures.same.1 refl (ends_state m t (c.args.command ∷ []) kept one ends) c.add_record.ensures.same.3
-    (g.D.Disk.view self.disk) (g.D.Disk.view c.make_room.new.self.disk) (g.D.Disk.view c.add_record.new.self.disk) (c.make_room.ensures.any_moment honest stored)
-    (c.add_record.ensures.any_moment m (ends_history m t (c.args.command ∷ []) kept one ends) (c.make_room.ensures.honest honest) (c.in_ok-make_room.ensures.kept honest stored))
-
-pub returns-in_err-add_record-clause-some_calls : goal.returns-in_err-add_record-clause-some_calls
-returns-in_err-add_record-clause-some_calls g c = λ honest.
-    let self = c.args.self.now in
-    let m = c.make_room.new.self.register in
-    let t = c.apply.new.self in
-    let u = c.add_record.new.self.register in
-    let kept = c.if_accepted.result.now in
-    let one = Replied c.in_ok-reply.reply ∷ [] in
-    let ends = one_ends m t c.in_ok-reply.reply c.args.command.now c.in_ok-reply.ensures.ok c.args.command kept refl c.if_accepted.ensures in
-    let fits = fits_in g.row.A.Denot self.journal (c.args.command ∷ []) in
-    let old = g.D.Disk.view self.disk in
-    let mid = g.D.Disk.view c.make_room.new.self.disk in
-    let these = given g.row.A.Denot kept in (
-      these,
-      recorded_behind g.row.A.Denot self.register m t u (c.args.command.now ∷ []) kept kept c.make_room.ensures.same.1 refl c.add_record.ensures.same.3 (ends_recorded m t (c.args.command ∷ []) kept one ends g.row.A.Denot),
-      made_in_second old mid (g.D.Disk.view c.add_record.new.self.disk) (room_calls self.layout self.side self.epoch self.register old.reads fits) (record_calls (place_then self.layout self.side self.epoch self.register fits self.journal) these) (c.in_ok-make_room.ensures.calls honest) (rw c.in_ok-make_room.ensures.place at c.add_record.ensures.some_calls),
-    )
-
-pub returns-clause-register : goal.returns-clause-register
-returns-clause-register g c = after_one c.make_room.new.self.register c.apply.new.self c.in_ok-reply.reply c.args.command.now c.in_ok-reply.ensures.ok c.args.self.now.register c.add_record.new.self.register c.make_room.ensures.same.1 c.add_record.ensures.same.3
-
-pub returns-clause-any_moment : goal.returns-clause-any_moment
-returns-clause-any_moment g c = λ honest stored.
-    let self = c.args.self.now in
-    let m = c.make_room.new.self.register in
-    let t = c.apply.new.self in
-    let u = c.add_record.new.self.register in
-    let kept = c.if_accepted.result.now in
-    let one = Replied c.in_ok-reply.reply ∷ [] in
-    let ends = one_ends m t c.in_ok-reply.reply c.args.command.now c.in_ok-reply.ensures.ok c.args.command kept refl c.if_accepted.ensures in
-    commit_leaves g.row.A.Denot self.register m t u kept kept c.make_room.ensures.same.1 refl (ends_state m t (c.args.command ∷ []) kept one ends) c.add_record.ensures.same.3
-    (g.D.Disk.view self.disk) (g.D.Disk.view c.make_room.new.self.disk) (g.D.Disk.view c.add_record.new.self.disk) (c.make_room.ensures.any_moment honest stored)
-    (c.add_record.ensures.any_moment m (ends_history m t (c.args.command ∷ []) kept one ends) (c.make_room.ensures.honest honest) (c.in_ok-make_room.ensures.kept honest stored))
-
-pub returns-clause-some_calls : goal.returns-clause-some_calls
-returns-clause-some_calls g c = λ honest.
-    let self = c.args.self.now in
-    let m = c.make_room.new.self.register in
-    let t = c.apply.new.self in
-    let u = c.add_record.new.self.register in
-    let kept = c.if_accepted.result.now in
-    let one = Replied c.in_ok-reply.reply ∷ [] in
-    let ends = one_ends m t c.in_ok-reply.reply c.args.command.now c.in_ok-reply.ensures.ok c.args.command kept refl c.if_accepted.ensures in
-    let fits = fits_in g.row.A.Denot self.journal (c.args.command ∷ []) in
-    let old = g.D.Disk.view self.disk in
-    let mid = g.D.Disk.view c.make_room.new.self.disk in
-    let these = given g.row.A.Denot kept in (
-      these,
-      recorded_behind g.row.A.Denot self.register m t u (c.args.command.now ∷ []) kept kept c.make_room.ensures.same.1 refl c.add_record.ensures.same.3 (ends_recorded m t (c.args.command ∷ []) kept one ends g.row.A.Denot),
-      made_in_second old mid (g.D.Disk.view c.add_record.new.self.disk) (room_calls self.layout self.side self.epoch self.register old.reads fits) (record_calls (place_then self.layout self.side self.epoch self.register fits self.journal) these) (c.in_ok-make_room.ensures.calls honest) (rw c.in_ok-make_room.ensures.place at c.add_record.ensures.some_calls),
-    )
-
-pub returns-clause-replied : goal.returns-clause-replied
-returns-clause-replied g c = rw (c.add_record.ensures.same.3, sym c.make_room.ensures.same.1) c.in_ok-reply.ensures.ok
-
-pub returns-clause-kept : goal.returns-clause-kept
-returns-clause-kept g c = λ sound honest stored.
-    let self = c.args.self.now in
-    let m = c.make_room.new.self.register in
-    let t = c.apply.new.self in
-    let u = c.add_record.new.self.register in
-    let kept = c.if_accepted.result.now in
-    let one = Replied c.in_ok-reply.reply ∷ [] in
-    let ends = one_ends m t c.in_ok-reply.reply c.args.command.now c.in_ok-reply.ensures.ok c.args.command kept refl c.if_accepted.ensures in
-    stored_commit g.row.A.Denot self.register m t u kept kept c.make_room.ensures.same.1 refl (ends_state m t (c.args.command ∷ []) kept one ends) c.add_record.ensures.same.3
-    c.add_record.new.self.layout c.add_record.new.self.side c.add_record.new.self.epoch c.add_record.new.self.journal (g.D.Disk.view c.add_record.new.self.disk)
-    (c.in_ok-add_record.ensures.kept m (ends_history m t (c.args.command ∷ []) kept one ends) (c.make_room.ensures.honest honest) (c.in_ok-make_room.ensures.kept honest stored))
-
-pub returns-clause-calls : goal.returns-clause-calls
-returns-clause-calls g c = λ honest.
-    let self = c.args.self.now in
-    let m = c.make_room.new.self.register in
-    let t = c.apply.new.self in
-    let u = c.add_record.new.self.register in
-    let kept = c.if_accepted.result.now in
-    let one = Replied c.in_ok-reply.reply ∷ [] in
-    let ends = one_ends m t c.in_ok-reply.reply c.args.command.now c.in_ok-reply.ensures.ok c.args.command kept refl c.if_accepted.ensures in
-    let fits = fits_in g.row.A.Denot self.journal (c.args.command ∷ []) in
-    let old = g.D.Disk.view self.disk in
-    let mid = g.D.Disk.view c.make_room.new.self.disk in
-    let these = given g.row.A.Denot kept in (
-      these,
-      recorded_behind g.row.A.Denot self.register m t u (c.args.command.now ∷ []) kept kept c.make_room.ensures.same.1 refl c.add_record.ensures.same.3 (ends_recorded m t (c.args.command ∷ []) kept one ends g.row.A.Denot),
-      made_both old mid (g.D.Disk.view c.add_record.new.self.disk) (room_calls self.layout self.side self.epoch self.register old.reads fits) (record_calls (place_then self.layout self.side self.epoch self.register fits self.journal) these) (c.in_ok-make_room.ensures.calls honest) (rw c.in_ok-make_room.ensures.place at c.in_ok-add_record.ensures.calls),
-    )
-
-pub returns-clause-sound : goal.returns-clause-sound
-returns-clause-sound g c = (c.if-self.false, c.in_ok-add_record.ensures.sound ∙ c.in_ok-make_room.ensures.sound c.if-self.false)
-
-pub returns-then-self-clause-some_calls_on_any_disk : goal.returns-then-self-clause-some_calls_on_any_disk
-returns-then-self-clause-some_calls_on_any_disk g c = (false, [], none_recorded g.row.A.Denot c.args.self.now.register c.args.self.now.register (c.args.command.now ∷ []) refl, made_none (g.D.Disk.view c.args.self.now.disk) _)
-
-pub returns-in_err-make_room-clause-some_calls_on_any_disk : goal.returns-in_err-make_room-clause-some_calls_on_any_disk
-returns-in_err-make_room-clause-some_calls_on_any_disk g c =
-    let self = c.args.self.now in
-    let fits = fits_in g.row.A.Denot self.journal (c.args.command ∷ []) in
-    let old = g.D.Disk.view self.disk in
-    let all = c.make_room.ensures.some_calls_on_any_disk in (
-      all.0,
-      [],
-      none_recorded g.row.A.Denot self.register c.make_room.new.self.register (c.args.command.now ∷ []) c.make_room.ensures.same.1,
-      made_of_more old (g.D.Disk.view c.make_room.new.self.disk) (room_calls_by self.layout self.side self.epoch self.register all.0 fits) [] all.1,
     )
 
 pub returns-in_err-reply-clause-some_calls_on_any_disk : goal.returns-in_err-reply-clause-some_calls_on_any_disk
@@ -221,68 +103,267 @@ returns-in_err-reply-clause-some_calls_on_any_disk g c =
     let fits = fits_in g.row.A.Denot self.journal (c.args.command ∷ []) in
     let old = g.D.Disk.view self.disk in
     let all = c.make_room.ensures.some_calls_on_any_disk in (
-      all.0,
       [],
+      false,
+      all.0,
+      false,
       none_recorded g.row.A.Denot self.register c.apply.new.self (c.args.command.now ∷ []) (c.in_err-reply.ensures.err ∙ c.make_room.ensures.same.1),
+      begins_none (view_of self) fits [],
       made_of_more old (g.D.Disk.view c.make_room.new.self.disk) (room_calls_by self.layout self.side self.epoch self.register all.0 fits) [] all.1,
     )
 
-pub returns-in_err-add_record-clause-some_calls_on_any_disk : goal.returns-in_err-add_record-clause-some_calls_on_any_disk
-returns-in_err-add_record-clause-some_calls_on_any_disk g c =
+pub invariant_of-self : goal.invariant_of-self
+invariant_of-self g c =
+    let self = c.make_room.new.self in
+    let more = result_counts self.register c.apply.new.self c.args.command.now c.apply.result c.apply.ensures.ok c.apply.ensures.err in
+    record {
+      room = self.room;
+      limits = result_limits self.register c.apply.new.self c.args.command.now c.apply.result c.apply.ensures.ok c.apply.ensures.err ∙ self.limits;
+      first = self.first;
+      end = self.end;
+      next = self.next;
+      counts = omega (arith, self.counts, more);
+      other = belongs_later self.layout self.side self.epoch self.journal self.register.count c.apply.new.self.count self.beside self.other more;
+    }
+
+pub keep-requires-clause-few : goal.keep-requires-clause-few
+keep-requires-clause-few g c = few_kept (is_acceptance c.in_ok-reply.reply) c.args.command c.if_accepted.result.now c.if_accepted.ensures
+
+pub keep-requires-clause-fits : goal.keep-requires-clause-fits
+keep-requires-clause-fits g c =
+    let kept = c.if_accepted.result.now in
+    let ends = one_ends c.make_room.new.self.register c.apply.new.self c.in_ok-reply.reply c.args.command.now c.in_ok-reply.ensures.ok c.args.command kept refl c.if_accepted.ensures in
+    fewer_fit g.row.A.Denot c.make_room.new.self.journal kept kept (c.args.command ∷ []) _ refl (ends_size c.make_room.new.self.register c.apply.new.self (c.args.command ∷ []) kept (Replied c.in_ok-reply.reply ∷ []) ends) c.in_ok-make_room.ensures.fits
+
+pub keep-requires-clause-counted : goal.keep-requires-clause-counted
+keep-requires-clause-counted g c =
+    let kept = c.if_accepted.result.now in
+    let ends = one_ends c.make_room.new.self.register c.apply.new.self c.in_ok-reply.reply c.args.command.now c.in_ok-reply.ensures.ok c.args.command kept refl c.if_accepted.ensures in
+    omega (arith, ends_counted c.make_room.new.self.register c.apply.new.self (c.args.command ∷ []) kept (Replied c.in_ok-reply.reply ∷ []) ends, c.make_room.new.self.counts)
+
+pub keep-requires-clause-other_counted : goal.keep-requires-clause-other_counted
+keep-requires-clause-other_counted g c =
+    let self = c.make_room.new.self in
+    let m = c.make_room.new.self.register in
+    let t = c.apply.new.self in
+    let kept = c.if_accepted.result.now in
+    let one = Replied c.in_ok-reply.reply ∷ [] in
+    let ends = one_ends m t c.in_ok-reply.reply c.args.command.now c.in_ok-reply.ensures.ok c.args.command kept refl c.if_accepted.ensures in
+    counts_beside self.layout self.side self.epoch self.journal self.register.count t.count self.beside self.other (length kept) (omega (arith, ends_counted m t (c.args.command ∷ []) kept one ends))
+
+pub returns-in_err-keep-clause-register : goal.returns-in_err-keep-clause-register
+returns-in_err-keep-clause-register g c = after_one c.make_room.new.self.register c.apply.new.self c.in_ok-reply.reply c.args.command.now c.in_ok-reply.ensures.ok c.args.self.now.register c.keep.new.self.register c.make_room.ensures.same.1 c.keep.ensures.same.1
+
+pub returns-in_err-keep-clause-any_moment : goal.returns-in_err-keep-clause-any_moment
+returns-in_err-keep-clause-any_moment g c = λ honest stored.
     let self = c.args.self.now in
     let m = c.make_room.new.self.register in
     let t = c.apply.new.self in
-    let u = c.add_record.new.self.register in
+    let kept = c.if_accepted.result.now in
+    let one = Replied c.in_ok-reply.reply ∷ [] in
+    let ends = one_ends m t c.in_ok-reply.reply c.args.command.now c.in_ok-reply.ensures.ok c.args.command kept refl c.if_accepted.ensures in
+    desk_leaves g.row.A.Denot self.register m t c.keep.new.self.register c.make_room.ensures.same.1 c.keep.ensures.same.1
+    (g.D.Disk.view self.disk) (g.D.Disk.view c.make_room.new.self.disk) (g.D.Disk.view c.keep.new.self.disk) (c.make_room.ensures.any_moment honest stored)
+    (c.keep.ensures.any_moment m (ends_history m t (c.args.command ∷ []) kept one ends) (ends_state m t (c.args.command ∷ []) kept one ends) (c.make_room.ensures.honest honest) (c.in_ok-make_room.ensures.kept honest stored))
+
+pub returns-in_err-keep-clause-some_calls : goal.returns-in_err-keep-clause-some_calls
+returns-in_err-keep-clause-some_calls g c = λ honest.
+    let self = c.args.self.now in
+    let room = c.make_room.new.self in
+    let m = c.make_room.new.self.register in
+    let t = c.apply.new.self in
     let kept = c.if_accepted.result.now in
     let one = Replied c.in_ok-reply.reply ∷ [] in
     let ends = one_ends m t c.in_ok-reply.reply c.args.command.now c.in_ok-reply.ensures.ok c.args.command kept refl c.if_accepted.ensures in
     let fits = fits_in g.row.A.Denot self.journal (c.args.command ∷ []) in
+    let now = with_room fits (view_of self) in
     let old = g.D.Disk.view self.disk in
-    let mid = g.D.Disk.view c.make_room.new.self.disk in
-    let all = c.in_ok-make_room.ensures.calls_on_any_disk in
-    let these = given g.row.A.Denot kept in (
-      all.0,
+    let mid = g.D.Disk.view room.disk in
+    let new = g.D.Disk.view c.keep.new.self.disk in
+    let these = given g.row.A.Denot kept in
+    let recorded = recorded_behind g.row.A.Denot self.register m t c.keep.new.self.register (c.args.command.now ∷ []) kept kept c.make_room.ensures.same.1 refl c.keep.ensures.same.1 (ends_recorded m t (c.args.command ∷ []) kept one ends g.row.A.Denot) in
+    let place = c.in_ok-make_room.ensures.place in
+    let was_open = is_root_open (other_of self.side) old.reads in
+    let also = is_root_open (other_of room.side) mid.reads in
+    let same : fits ≡ true → also ≡ was_open = λ is. ap (λ store. is_root_open (other_of store.side) (g.D.Disk.view store.disk).reads) (c.make_room.ensures.stays (it_fits g.row.A.Denot self.journal (c.args.command ∷ []) is)).1 in
+    let some = c.keep.ensures.some_calls (c.make_room.ensures.honest honest) in (
       these,
-      recorded_behind g.row.A.Denot self.register m t u (c.args.command.now ∷ []) kept kept c.make_room.ensures.same.1 refl c.add_record.ensures.same.3 (ends_recorded m t (c.args.command ∷ []) kept one ends g.row.A.Denot),
-      made_in_second old mid (g.D.Disk.view c.add_record.new.self.disk) (room_calls_by self.layout self.side self.epoch self.register all.0 fits) (record_calls (place_then self.layout self.side self.epoch self.register fits self.journal) these) all.1 (rw c.in_ok-make_room.ensures.place at c.add_record.ensures.some_calls),
+      some.0,
+      also,
+      recorded,
+      room_may (view_of room) (view_of self) fits c.make_room.ensures.same.0 place these some.0 some.1,
+      some_then old mid new (room_calls self.layout self.side self.epoch self.register old.reads fits) _ _ (c.in_ok-make_room.ensures.calls honest) (room_calls_read (view_of room) (view_of self) fits c.make_room.ensures.same.0 place these some.0 was_open also same) some.2,
+    )
+
+pub returns-in_err-keep-clause-some_calls_on_any_disk : goal.returns-in_err-keep-clause-some_calls_on_any_disk
+returns-in_err-keep-clause-some_calls_on_any_disk g c =
+    let self = c.args.self.now in
+    let room = c.make_room.new.self in
+    let m = c.make_room.new.self.register in
+    let t = c.apply.new.self in
+    let kept = c.if_accepted.result.now in
+    let one = Replied c.in_ok-reply.reply ∷ [] in
+    let ends = one_ends m t c.in_ok-reply.reply c.args.command.now c.in_ok-reply.ensures.ok c.args.command kept refl c.if_accepted.ensures in
+    let fits = fits_in g.row.A.Denot self.journal (c.args.command ∷ []) in
+    let now = with_room fits (view_of self) in
+    let old = g.D.Disk.view self.disk in
+    let mid = g.D.Disk.view room.disk in
+    let new = g.D.Disk.view c.keep.new.self.disk in
+    let these = given g.row.A.Denot kept in
+    let recorded = recorded_behind g.row.A.Denot self.register m t c.keep.new.self.register (c.args.command.now ∷ []) kept kept c.make_room.ensures.same.1 refl c.keep.ensures.same.1 (ends_recorded m t (c.args.command ∷ []) kept one ends g.row.A.Denot) in
+    let place = c.in_ok-make_room.ensures.place in
+    let all = c.in_ok-make_room.ensures.calls_on_any_disk in
+    let some = c.keep.ensures.some_calls_on_any_disk in (
+      these,
+      some.0,
+      all.0,
+      some.1,
+      recorded,
+      room_may (view_of room) (view_of self) fits c.make_room.ensures.same.0 place these some.0 some.2,
+      some_then old mid new (room_calls_by self.layout self.side self.epoch self.register all.0 fits) _ _ all.1 (room_calls_are (view_of room) (view_of self) fits c.make_room.ensures.same.0 place these some.0 some.1) some.3,
+    )
+
+pub returns-clause-register : goal.returns-clause-register
+returns-clause-register g c = after_one c.make_room.new.self.register c.apply.new.self c.in_ok-reply.reply c.args.command.now c.in_ok-reply.ensures.ok c.args.self.now.register c.keep.new.self.register c.make_room.ensures.same.1 c.keep.ensures.same.1
+
+pub returns-clause-any_moment : goal.returns-clause-any_moment
+returns-clause-any_moment g c = λ honest stored.
+    let self = c.args.self.now in
+    let m = c.make_room.new.self.register in
+    let t = c.apply.new.self in
+    let kept = c.if_accepted.result.now in
+    let one = Replied c.in_ok-reply.reply ∷ [] in
+    let ends = one_ends m t c.in_ok-reply.reply c.args.command.now c.in_ok-reply.ensures.ok c.args.command kept refl c.if_accepted.ensures in
+    desk_leaves g.row.A.Denot self.register m t c.keep.new.self.register c.make_room.ensures.same.1 c.keep.ensures.same.1
+    (g.D.Disk.view self.disk) (g.D.Disk.view c.make_room.new.self.disk) (g.D.Disk.view c.keep.new.self.disk) (c.make_room.ensures.any_moment honest stored)
+    (c.keep.ensures.any_moment m (ends_history m t (c.args.command ∷ []) kept one ends) (ends_state m t (c.args.command ∷ []) kept one ends) (c.make_room.ensures.honest honest) (c.in_ok-make_room.ensures.kept honest stored))
+
+pub returns-clause-some_calls : goal.returns-clause-some_calls
+returns-clause-some_calls g c = λ honest.
+    let self = c.args.self.now in
+    let room = c.make_room.new.self in
+    let m = c.make_room.new.self.register in
+    let t = c.apply.new.self in
+    let kept = c.if_accepted.result.now in
+    let one = Replied c.in_ok-reply.reply ∷ [] in
+    let ends = one_ends m t c.in_ok-reply.reply c.args.command.now c.in_ok-reply.ensures.ok c.args.command kept refl c.if_accepted.ensures in
+    let fits = fits_in g.row.A.Denot self.journal (c.args.command ∷ []) in
+    let now = with_room fits (view_of self) in
+    let old = g.D.Disk.view self.disk in
+    let mid = g.D.Disk.view room.disk in
+    let new = g.D.Disk.view c.keep.new.self.disk in
+    let these = given g.row.A.Denot kept in
+    let recorded = recorded_behind g.row.A.Denot self.register m t c.keep.new.self.register (c.args.command.now ∷ []) kept kept c.make_room.ensures.same.1 refl c.keep.ensures.same.1 (ends_recorded m t (c.args.command ∷ []) kept one ends g.row.A.Denot) in
+    let place = c.in_ok-make_room.ensures.place in
+    let was_open = is_root_open (other_of self.side) old.reads in
+    let also = is_root_open (other_of room.side) mid.reads in
+    let same : fits ≡ true → also ≡ was_open = λ is. ap (λ store. is_root_open (other_of store.side) (g.D.Disk.view store.disk).reads) (c.make_room.ensures.stays (it_fits g.row.A.Denot self.journal (c.args.command ∷ []) is)).1 in
+    let some = c.keep.ensures.some_calls (c.make_room.ensures.honest honest) in (
+      these,
+      some.0,
+      also,
+      recorded,
+      room_may (view_of room) (view_of self) fits c.make_room.ensures.same.0 place these some.0 some.1,
+      some_then old mid new (room_calls self.layout self.side self.epoch self.register old.reads fits) _ _ (c.in_ok-make_room.ensures.calls honest) (room_calls_read (view_of room) (view_of self) fits c.make_room.ensures.same.0 place these some.0 was_open also same) some.2,
     )
 
 pub returns-clause-some_calls_on_any_disk : goal.returns-clause-some_calls_on_any_disk
 returns-clause-some_calls_on_any_disk g c =
     let self = c.args.self.now in
+    let room = c.make_room.new.self in
     let m = c.make_room.new.self.register in
     let t = c.apply.new.self in
-    let u = c.add_record.new.self.register in
     let kept = c.if_accepted.result.now in
     let one = Replied c.in_ok-reply.reply ∷ [] in
     let ends = one_ends m t c.in_ok-reply.reply c.args.command.now c.in_ok-reply.ensures.ok c.args.command kept refl c.if_accepted.ensures in
     let fits = fits_in g.row.A.Denot self.journal (c.args.command ∷ []) in
+    let now = with_room fits (view_of self) in
     let old = g.D.Disk.view self.disk in
-    let mid = g.D.Disk.view c.make_room.new.self.disk in
+    let mid = g.D.Disk.view room.disk in
+    let new = g.D.Disk.view c.keep.new.self.disk in
+    let these = given g.row.A.Denot kept in
+    let recorded = recorded_behind g.row.A.Denot self.register m t c.keep.new.self.register (c.args.command.now ∷ []) kept kept c.make_room.ensures.same.1 refl c.keep.ensures.same.1 (ends_recorded m t (c.args.command ∷ []) kept one ends g.row.A.Denot) in
+    let place = c.in_ok-make_room.ensures.place in
     let all = c.in_ok-make_room.ensures.calls_on_any_disk in
-    let these = given g.row.A.Denot kept in (
-      all.0,
+    let some = c.keep.ensures.some_calls_on_any_disk in (
       these,
-      recorded_behind g.row.A.Denot self.register m t u (c.args.command.now ∷ []) kept kept c.make_room.ensures.same.1 refl c.add_record.ensures.same.3 (ends_recorded m t (c.args.command ∷ []) kept one ends g.row.A.Denot),
-      made_in_second old mid (g.D.Disk.view c.add_record.new.self.disk) (room_calls_by self.layout self.side self.epoch self.register all.0 fits) (record_calls (place_then self.layout self.side self.epoch self.register fits self.journal) these) all.1 (rw c.in_ok-make_room.ensures.place at c.add_record.ensures.some_calls),
+      some.0,
+      all.0,
+      some.1,
+      recorded,
+      room_may (view_of room) (view_of self) fits c.make_room.ensures.same.0 place these some.0 some.2,
+      some_then old mid new (room_calls_by self.layout self.side self.epoch self.register all.0 fits) _ _ all.1 (room_calls_are (view_of room) (view_of self) fits c.make_room.ensures.same.0 place these some.0 some.1) some.3,
+    )
+
+pub returns-clause-replied : goal.returns-clause-replied
+returns-clause-replied g c = rw (c.keep.ensures.same.1, sym c.make_room.ensures.same.1) c.in_ok-reply.ensures.ok
+
+pub returns-clause-kept : goal.returns-clause-kept
+returns-clause-kept g c = λ sound honest stored.
+    let m = c.make_room.new.self.register in
+    let t = c.apply.new.self in
+    let kept = c.if_accepted.result.now in
+    let one = Replied c.in_ok-reply.reply ∷ [] in
+    let ends = one_ends m t c.in_ok-reply.reply c.args.command.now c.in_ok-reply.ensures.ok c.args.command kept refl c.if_accepted.ensures in
+    let new = c.keep.new.self in
+    batch_kept g.row.A.Denot new.layout new.side new.epoch new.journal new.beside t new.register (g.D.Disk.view new.disk) c.keep.ensures.same.1
+    (c.in_ok-keep.ensures.kept m (ends_history m t (c.args.command ∷ []) kept one ends) (ends_state m t (c.args.command ∷ []) kept one ends) (c.make_room.ensures.honest honest) (c.in_ok-make_room.ensures.kept honest stored))
+
+pub returns-clause-calls : goal.returns-clause-calls
+returns-clause-calls g c = λ honest.
+    let self = c.args.self.now in
+    let room = c.make_room.new.self in
+    let m = c.make_room.new.self.register in
+    let t = c.apply.new.self in
+    let kept = c.if_accepted.result.now in
+    let one = Replied c.in_ok-reply.reply ∷ [] in
+    let ends = one_ends m t c.in_ok-reply.reply c.args.command.now c.in_ok-reply.ensures.ok c.args.command kept refl c.if_accepted.ensures in
+    let fits = fits_in g.row.A.Denot self.journal (c.args.command ∷ []) in
+    let now = with_room fits (view_of self) in
+    let old = g.D.Disk.view self.disk in
+    let mid = g.D.Disk.view room.disk in
+    let new = g.D.Disk.view c.keep.new.self.disk in
+    let these = given g.row.A.Denot kept in
+    let recorded = recorded_behind g.row.A.Denot self.register m t c.keep.new.self.register (c.args.command.now ∷ []) kept kept c.make_room.ensures.same.1 refl c.keep.ensures.same.1 (ends_recorded m t (c.args.command ∷ []) kept one ends g.row.A.Denot) in
+    let place = c.in_ok-make_room.ensures.place in
+    let was_open = is_root_open (other_of self.side) old.reads in
+    let also = is_root_open (other_of room.side) mid.reads in
+    let same : fits ≡ true → also ≡ was_open = λ is. ap (λ store. is_root_open (other_of store.side) (g.D.Disk.view store.disk).reads) (c.make_room.ensures.stays (it_fits g.row.A.Denot self.journal (c.args.command ∷ []) is)).1 in
+    let begins = is_some c.keep.new.self.beside in (
+      these,
+      also,
+      recorded,
+      room_kept (view_of room) (view_of self) fits c.make_room.ensures.same.0 place these (view_of c.keep.new.self) (kept_from _ (view_of room) (view_of c.keep.new.self) these c.in_ok-keep.ensures.gone_on refl refl refl refl refl),
+      made_then old mid new (room_calls self.layout self.side self.epoch self.register old.reads fits) _ _ (c.in_ok-make_room.ensures.calls honest) (room_calls_read (view_of room) (view_of self) fits c.make_room.ensures.same.0 place these begins was_open also same) (c.in_ok-keep.ensures.calls (c.make_room.ensures.honest honest)),
     )
 
 pub returns-clause-calls_on_any_disk : goal.returns-clause-calls_on_any_disk
 returns-clause-calls_on_any_disk g c =
     let self = c.args.self.now in
+    let room = c.make_room.new.self in
     let m = c.make_room.new.self.register in
     let t = c.apply.new.self in
-    let u = c.add_record.new.self.register in
     let kept = c.if_accepted.result.now in
     let one = Replied c.in_ok-reply.reply ∷ [] in
     let ends = one_ends m t c.in_ok-reply.reply c.args.command.now c.in_ok-reply.ensures.ok c.args.command kept refl c.if_accepted.ensures in
     let fits = fits_in g.row.A.Denot self.journal (c.args.command ∷ []) in
+    let now = with_room fits (view_of self) in
     let old = g.D.Disk.view self.disk in
-    let mid = g.D.Disk.view c.make_room.new.self.disk in
+    let mid = g.D.Disk.view room.disk in
+    let new = g.D.Disk.view c.keep.new.self.disk in
+    let these = given g.row.A.Denot kept in
+    let recorded = recorded_behind g.row.A.Denot self.register m t c.keep.new.self.register (c.args.command.now ∷ []) kept kept c.make_room.ensures.same.1 refl c.keep.ensures.same.1 (ends_recorded m t (c.args.command ∷ []) kept one ends g.row.A.Denot) in
+    let place = c.in_ok-make_room.ensures.place in
+    let begins = is_some c.keep.new.self.beside in
     let all = c.in_ok-make_room.ensures.calls_on_any_disk in
-    let these = given g.row.A.Denot kept in (
-      all.0,
+    let also = c.in_ok-keep.ensures.calls_on_any_disk in (
       these,
-      recorded_behind g.row.A.Denot self.register m t u (c.args.command.now ∷ []) kept kept c.make_room.ensures.same.1 refl c.add_record.ensures.same.3 (ends_recorded m t (c.args.command ∷ []) kept one ends g.row.A.Denot),
-      made_both old mid (g.D.Disk.view c.add_record.new.self.disk) (room_calls_by self.layout self.side self.epoch self.register all.0 fits) (record_calls (place_then self.layout self.side self.epoch self.register fits self.journal) these) all.1 (rw c.in_ok-make_room.ensures.place at c.in_ok-add_record.ensures.calls),
+      all.0,
+      also.0,
+      recorded,
+      room_kept (view_of room) (view_of self) fits c.make_room.ensures.same.0 place these (view_of c.keep.new.self) (kept_from _ (view_of room) (view_of c.keep.new.self) these c.in_ok-keep.ensures.gone_on refl refl refl refl refl),
+      made_then old mid new (room_calls_by self.layout self.side self.epoch self.register all.0 fits) _ _ all.1 (room_calls_are (view_of room) (view_of self) fits c.make_room.ensures.same.0 place these begins also.0) also.1,
     )
+
+pub returns-clause-sound : goal.returns-clause-sound
+returns-clause-sound g c = (c.if-self.false, c.in_ok-keep.ensures.sound ∙ c.in_ok-make_room.ensures.sound c.if-self.false)

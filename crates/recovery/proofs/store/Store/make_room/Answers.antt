@@ -5,11 +5,12 @@ use Rattle.recovery.specs.Calls.{fits_in}
 use Rattle.checkpoint.specs.Layout.{other_of}
 use Rattle.recovery.proofs.Stored.{fits_fresh, nothing_done}
 use Rattle.recovery.specs.Lives.{fails, view_of}
+use Rattle.recovery.proofs.Committed.{room_made}
 use Rattle.recovery.proofs.Events.{nothing_accepted}
 use Rattle.recovery.proofs.store.Store.make_room.Goals as goal
 
 pub returns-then-has_room-clause-any_moment : goal.returns-then-has_room-clause-any_moment
-returns-then-has_room-clause-any_moment g c = λ honest stored. nothing_done g.row.A.Denot c.args.self.now.layout c.args.self.now.side c.args.self.now.epoch c.args.self.now.journal c.args.self.now.register (g.D.Disk.view c.args.self.now.disk) stored (g.met.D.Disk.sound c.args.self.now.disk honest)
+returns-then-has_room-clause-any_moment g c = λ honest stored. nothing_done g.row.A.Denot c.args.self.now.layout c.args.self.now.side c.args.self.now.epoch c.args.self.now.journal c.args.self.now.register (g.D.Disk.view c.args.self.now.disk) stored.stored (g.met.D.Disk.sound c.args.self.now.disk honest)
 
 pub returns-then-has_room-clause-calls : goal.returns-then-has_room-clause-calls
 returns-then-has_room-clause-calls g c = λ honest.
@@ -22,7 +23,7 @@ returns-then-has_room-clause-some_calls g c = λ honest. made_none (g.D.Disk.vie
 pub returns-then-has_room-clause-place : goal.returns-then-has_room-clause-place
 returns-then-has_room-clause-place g c =
     let fits : fits_in g.row.A.Denot c.args.self.now.journal c.args.commands.now ≡ true = sym c.has_room.ensures.exact ∙ c.if-has_room.true in
-    rw fits refl
+    rw fits (record { side = refl; epoch = refl; journal = refl }, refl)
 
 pub returns-clause-calls : goal.returns-clause-calls
 returns-clause-calls g c =
@@ -40,7 +41,7 @@ returns-clause-fits g c = fits_fresh g.row.A.Denot c.checkpoint.result c.args.se
 pub returns-clause-place : goal.returns-clause-place
 returns-clause-place g c =
     let fits : fits_in g.row.A.Denot c.args.self.now.journal c.args.commands.now ≡ false = sym c.has_room.ensures.exact ∙ c.if-has_room.false in
-    rw fits c.checkpoint.ensures.no_record
+    rw fits (room_made c.checkpoint.result (view_of c.args.self.now) (view_of c.checkpoint.new.self) c.checkpoint.ensures.sides c.checkpoint.ensures.no_record)
 
 pub returns-then-has_room-clause-call : goal.returns-then-has_room-clause-call
 returns-then-has_room-clause-call g c = λ honest. fails _ _ [] (nothing_accepted g.row.A.Denot g.D.Disk.view (view_of c.args.self.now) honest (g.met.D.Disk.sound c.args.self.now.disk honest))

@@ -25,7 +25,8 @@ returns-in-Ok-read_all-clause-kept g c honest =
     let room : disk_size o.layout ≤ synced.sectors = c.in-Ok-read_all.ensures.room in
     let some : 0 < length now.reads = omega (arith, room, sound.count, c.read_all.ensures.sectors) in
     let form : c.in-Ok-read_all.opened.journal.form ≡ slot_form o.layout o.side now.reads = rw looked.reads (c.in-Ok-read_all.ensures.form syncs.honest) in
-    stored_so g.row.A.Denot now o c.in-Ok-read_all.opened.journal (one_image given synced now syncs looked) (sound.reads_left.whole 0 some).bytes last c.in-Ok-read_all.ensures.whole.next refl form c.in-Ok-read_all.ensures.whole.counts
+    let stored = stored_so g.row.A.Denot now o c.in-Ok-read_all.opened.journal (one_image given synced now syncs looked) (sound.reads_left.whole 0 some).bytes last c.in-Ok-read_all.ensures.whole.next refl form c.in-Ok-read_all.ensures.whole.counts in
+    record { stored = stored; under_way = tt }
 
 pub returns-in-Ok-read_all-clause-only : goal.returns-in-Ok-read_all-clause-only
 returns-in-Ok-read_all-clause-only g c honest image is =
