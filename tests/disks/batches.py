@@ -88,6 +88,11 @@ def batches(count):
             yield [line(stations) for _ in range(stations.dice.choice(SIZES))]
 
 
+def split(batch):
+    """Each line of a batch with its station."""
+    return [(int(said.split(' ', 1)[0]), said.split(' ', 1)[1].encode()) for said in batch]
+
+
 def answers(register, batch):
     """The lines that answer a batch."""
     told = []

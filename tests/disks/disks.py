@@ -1,8 +1,9 @@
 #!/usr/bin/env python3
 """Gives a program (crates/stops) batches of lines for a register that is kept on a disk, and follows each call that the disk
-gets: over a disk that it makes ready, and over one of layout 1, which is written here and moves at its first checkpoint. At every
+gets: over a disk that it makes ready, and over one of layout 1, which is written here and moves at its first checkpoint. The calls of
+each batch have to be those of the independent reading beside this file, also where a checkpoint goes on beside. At every
 stop, after each call and within each write, the image has to stand for the register before the batch or after it,
-by the independent reading beside this file, and once the batch is answered only for that after it. The reading has to tell the
+by that reading, and once the batch is answered only for that after it. The reading has to tell the
 faults of images put together by hand, and bugs planted in the calls have to be found. Prints a line for each part, the first
 case of a part that is wrong, and last 'N passed, M failed'.
 Usage: tests/run disks COMMAND..."""
@@ -18,8 +19,9 @@ import reading
 from images import fault_of, told_as
 from made_disks import FORMS, GATE, expire, image, ready, records
 from pending import SYNC, Disk, Write, choices
-from reading_disks import LABEL, NUMBERED, PLAIN, ROOTS, Damaged, copied, is_open, layout_in, opens
-from reading_rows import SECTOR, number
+from reading_disks import LABEL, NUMBERED, PLAIN, ROOTS, Damaged, copied, layout_in, opens
+from reading_rows import SECTOR, number, rows
+from reading_stores import Store
 
 BATCHES, DRAWS = 200, 2
 CLOSED = b'\0' * SECTOR
@@ -112,48 +114,36 @@ def faults(script, stream):
             yield place, fault
 
 
-# Bugs planted in the calls of a commit
+# The calls of a commit in their parts, by the reading
 
-class Parts(collections.namedtuple('Parts', 'front image end record form')):
-    """The calls of a commit: of its checkpoint, where it makes one, those before the rows, the rows, and then a sync, the root
-    and a sync; and of its record, which has this form, the data, a gate that is closed, a sync, a gate that is opened, and a sync."""
-
-    def joined(self):
-        return [*self.front, *self.image, *self.end, *self.record]
-
-
-def parts(calls, form=NUMBERED):
-    """Those of a commit on a side of this form. A checkpoint leaves a side of layout 2."""
-    opened = [k for k, call in enumerate(calls) if call is not SYNC and call.at in ROOTS and is_open(call.bytes)]
-    if not opened:
-        return Parts([], [], [], calls, form)
-    start, end = calls.index(SYNC) + 1, opened[-1]
-    return Parts(calls[:start], calls[start:end - 1], calls[end - 1:end + 2], calls[end + 2:], NUMBERED)
+@functools.lru_cache(maxsize=4)
+def all_parts(script, form):
+    """Of each batch, over a disk that was made ready in this layout."""
+    store = Store(image(form=form))
+    return [store.serves(batches.split(batch))[0] for batch in script.batches]
 
 
-def all_parts(stream):
-    """Of each commit, after the disk was made ready and opened."""
-    form = stream.form
-    for commit in stream.commits[2:]:
-        told = parts(commit.calls, form)
-        form = told.form
-        yield told
-
+# Bugs planted in the calls of a commit. Each is given the layout, the register before the commit and after it, and the parts
 
 def with_record(change):
     """A bug in the record of a commit; none where it has no record."""
-    return lambda layout, commit: commit._replace(record=change(commit.record)).joined() if commit.record else None
+    return lambda layout, before, after, told: change(told) if told.record else None
 
 
-def gate_in_the_sync_of_the_data(record):
-    *data, sync, gate, last = record
-    return [*data, gate, sync, last]
+def without_sync(told, number):
+    """The calls without a sync of the record, the first or the second."""
+    kept = [*told.record, *told.also, *[SYNC] * number, *told.gates, *[SYNC] * (1 - number)]
+    return [*told._replace(record=(), gates=(), also=(), rows=(), end=(), begun=()).joined(), *kept, *told.rows, *told.end, *told.begun]
+
+
+def record_left_out(told):
+    return told._replace(record=(), also=(), gates=()).joined()
 
 
 def with_head(change):
-    """A bug in the first data sector of a record."""
-    return lambda layout, commit: with_record(
-        lambda record: [record[0]._replace(bytes=change(record[0].bytes, commit.form)), *record[1:]])(layout, commit)
+    """A bug in the first data sector of the record of the current half."""
+    return with_record(lambda told: told._replace(
+        record=[told.record[0]._replace(bytes=change(told.record[0].bytes, told.form)), *told.record[1:]]).joined())
 
 
 def first_number_of_the_next(first, form):
@@ -170,85 +160,108 @@ HEAD_BUGS = {
     'a record in the form of the other layout': in_the_other_form,
 }
 RECORD_BUGS = {
-    'a gate opened in the sync of its data': gate_in_the_sync_of_the_data,
-    'a record without its last sector': lambda record: record[:-5] + record[-4:],
-    'the next gate left open': lambda record: record[:-4] + record[-3:],
-    'an answer before the last sync': lambda record: record[:-1],
-    'an answer and no record': lambda record: [],
+    'a gate opened in the sync of its data': lambda told: without_sync(told, 0),
+    'a record without its last sector': lambda told: told._replace(record=[*told.record[:-2], told.record[-1]]).joined(),
+    'the next gate left open': lambda told: told._replace(record=told.record[:-1]).joined(),
+    'an answer before the last sync': lambda told: without_sync(told, 1),
+    'an answer and no record': record_left_out,
 }
 
 
-def with_checkpoint(change):
-    """A bug in the checkpoint of a commit; none where it makes no checkpoint."""
-    return lambda layout, commit: change(layout, commit) if commit.image else None
+def with_image(change):
+    """A bug in the checkpoint that makes room for a commit; none where it needs none."""
+    return lambda layout, before, after, told: change(layout, told) if told.image else None
 
 
-def root_before_the_image(layout, commit):
-    sync, root, last = commit.end
-    return [*commit.front, root, sync, *commit.image, last, *commit.record]
+def root_before_the_image(layout, told):
+    sync, root, last = told.switch
+    return [*told.closed, root, sync, *told.image, last, *told._replace(closed=(), image=(), switch=()).joined()]
 
 
-def root_in_the_sync_of_the_image(layout, commit):
-    sync, root, last = commit.end
-    return commit._replace(end=[root, sync, last]).joined()
+def root_in_the_sync_of_the_image(layout, told):
+    sync, root, last = told.switch
+    return told._replace(switch=[root, sync, last]).joined()
 
 
-def row_left_out(layout, commit):
-    return commit._replace(image=commit.image[:-1]).joined()
+def image_in_the_current_slot(layout, told):
+    there = layout.slot(0) + layout.slot(1) - 2 * told.image[0].at
+    return told._replace(image=[row._replace(at=row.at + there) for row in told.image]).joined()
 
 
-def image_in_the_current_slot(layout, commit):
-    there = layout.slot(0) + layout.slot(1) - 2 * commit.image[0].at
-    return commit._replace(image=[row._replace(at=row.at + there) for row in commit.image]).joined()
-
-
-def header_of_layout_1(layout, commit):
+def header_of_layout_1(layout, told):
     """The records that follow are numbered ones."""
-    header = commit.image[0]
-    return commit._replace(image=[header._replace(bytes=number(PLAIN, 1) + header.bytes[1:]), *commit.image[1:]]).joined()
+    header = told.image[0]
+    return told._replace(image=[header._replace(bytes=number(PLAIN, 1) + header.bytes[1:]), *told.image[1:]]).joined()
 
 
-def first_gate_left_open(layout, commit):
-    return commit._replace(front=commit.front[:-2] + [SYNC]).joined()
+def first_gate_left_open(layout, told):
+    return told._replace(closed=[*told.closed[:-2], SYNC]).joined()
 
 
-def closes_a_root(commit):
-    return commit.front[0].at in ROOTS
-
-
-def root_left_open(layout, commit):
-    return commit.joined()[1:] if closes_a_root(commit) else None
-
-
-def closed_root_written(layout, commit):
-    return None if closes_a_root(commit) else [Write(commit.end[1].at, CLOSED), *commit.joined()]
-
-
-CHECKPOINT_BUGS = {
+IMAGE_BUGS = {
     'a root opened before the image': root_before_the_image,
     'a root opened in the sync of the image': root_in_the_sync_of_the_image,
-    'an image without its last row': row_left_out,
+    'an image without its last row': lambda layout, told: told._replace(image=told.image[:-1]).joined(),
     'an image in the slot of the side that counts': image_in_the_current_slot,
     'an image with the header of layout 1': header_of_layout_1,
     'the first gate of the other half left open': first_gate_left_open,
-    'the root of the other side left open': root_left_open,
-    'a root that is closed written': closed_root_written,
+}
+
+
+def beside(part, change):
+    """A bug in this part of a checkpoint that goes on beside; none where a commit has none of it."""
+    return lambda layout, before, after, told: change(before, after, told) if getattr(told, part) else None
+
+
+def other_record_left_out(before, after, told):
+    return told._replace(also=(), gates=told.gates[:1]).joined()
+
+
+def root_opened_with_the_gates(before, after, told):
+    """In the sync of the last record, before the last rows are safe."""
+    _, root, _ = told.end
+    return told._replace(gates=[*told.gates, root], end=[SYNC]).joined()
+
+
+def root_opened_in_the_sync_of_the_rows(before, after, told):
+    sync, root, last = told.end
+    return told._replace(end=[root, sync, last]).joined()
+
+
+def rows_of_the_register_now(before, after, told):
+    """Where the image begins its header counts the commands of this commit too."""
+    header = told.rows[0]
+    epoch = int.from_bytes(header.bytes[1:9], 'big')
+    if header.bytes[0] != NUMBERED:
+        return None
+    return told._replace(rows=[header._replace(bytes=rows(epoch, after)[0]), *told.rows[1:]]).joined()
+
+
+def root_left_open(before, after, told):
+    return told._replace(begun=told.begun[1:]).joined() if told.begun[0].at in ROOTS else None
+
+
+BESIDE_BUGS = {
+    'the record of the other half left out': beside('also', other_record_left_out),
+    'a root opened in the sync of the last record': beside('end', root_opened_with_the_gates),
+    'a root opened in the sync of the last rows': beside('end', root_opened_in_the_sync_of_the_rows),
+    'a row skipped': beside('rows', lambda before, after, told: told._replace(rows=told.rows[:-1]).joined()),
+    'rows of the register as it is now': beside('rows', rows_of_the_register_now),
+    'a root left open where a checkpoint begins': beside('begun', root_left_open),
 }
 BUGS = {**{name: with_head(change) for name, change in HEAD_BUGS.items()},
         **{name: with_record(change) for name, change in RECORD_BUGS.items()},
-        **{name: with_checkpoint(change) for name, change in CHECKPOINT_BUGS.items()}}
-
-
-def planted(commit, told, layout, bug):
-    calls = bug(layout, told)
-    return commit if calls is None else commit._replace(calls=calls)
+        **{name: with_image(change) for name, change in IMAGE_BUGS.items()}, **BESIDE_BUGS}
 
 
 def is_found(script, stream, bug):
     """Whether a program that makes this mistake in each batch is found out."""
     label = next(call.bytes for call in stream.commits[0].calls if call is not SYNC and call.at == LABEL)
-    layout, commits = layout_in(label, stream.sectors), zip(stream.commits[2:], all_parts(stream))
-    changed = [planted(commit, told, layout, bug) for commit, told in commits]
+    layout, changed = layout_in(label, stream.sectors), []
+    around = zip(script.registers, script.registers[1:], all_parts(script, stream.form), stream.commits[2:])
+    for before, after, told, commit in around:
+        calls = bug(layout, before, after, told)
+        changed.append(commit if calls is None else commit._replace(calls=calls))
     return any(fault for _, fault in faults(script, stream._replace(commits=stream.commits[:2] + changed)))
 
 
@@ -271,17 +284,27 @@ def side_of(image):
         return told_as(fault)
 
 
+def the_calls(script, stream):
+    """Of each batch those of the reading."""
+    told = zip(all_parts(script, stream.form), stream.commits[2:])
+    return 'calls', len(script.batches), [f'batch {k}: {shown(commit.calls):.600}, wanted {shown(parts.joined()):.600}'
+                                          for k, (parts, commit) in enumerate(told, 1) if parts.joined() != commit.calls]
+
+
 def the_checkpoints(script, stream):
-    """There are some, and each makes the other side count, by the next epoch and in layout 2."""
-    disk, made, wrong = new_disk(stream.sectors, random.Random(batches.SEED)), 0, []
+    """There are some of each kind, and each makes the other side count, by the next epoch and in layout 2."""
+    disk, made, wrong, told = new_disk(stream.sectors, random.Random(batches.SEED)), 0, [], all_parts(script, stream.form)
     run(disk, [call for commit in stream.commits[:2] for call in commit.calls])
-    for commit, told in zip(stream.commits[2:], all_parts(stream)):
+    for commit, parts in zip(stream.commits[2:], told):
         run(disk, commit.calls)
-        made += bool(told.image)
-        side = side_of(disk.lasting)
-        if side != (made % 2, told.form, made + 1):
+        made += bool(parts.image) + bool(parts.end)
+        side = side_of(disk.image({at: held[-1] for at, held in disk.pending.items()}))
+        if side != (made % 2, NUMBERED if made else stream.form, made + 1):
             wrong.append(f'after {made} checkpoints the side, tag and epoch {side}')
-    return f'{made} checkpoints', len(stream.commits), wrong if made > 1 else ['too few']
+    at_once, beside, begun = (sum(bool(getattr(parts, name)) for parts in told) for name in ('image', 'end', 'begun'))
+    if at_once < 2 or beside < 2 or begun <= beside:
+        wrong.append(f'{at_once} at once, {begun} begun beside, {beside} ended')
+    return f'{at_once} checkpoints at once, {begun} begun beside and {beside} ended', len(stream.commits), wrong
 
 
 def the_stops(script, stream):
@@ -324,12 +347,15 @@ THREE = {PLAIN: f'590 0003 0000003d {P_BYTES} {ATTACH_BYTES} {EXPIRE_BYTES}, 591
 # Of the 20th command on a disk of layout 1 whose half is full: a checkpoint, and then the record
 MOVED = ('628 00, sync, 296 16 0000000000000002 0000000000000013 00000001 00000000 00000000 00000001, 297 11 18 3a800e000000 0001 0063 '
          '01 00000e10, 298 14 0001 00000013 0000000000000013 0000, sync, 2 01, sync')
+# The image of ten commands, written beside the eleventh
+TEN = ('296 16 0000000000000002 000000000000000a 00000001 00000000 00000000 00000001, 297 11 18 3a800e000000 0001 0063 01 00000e10, '
+       '298 14 0001 0000000a 000000000000000a 0000')
 TWENTIETH = '629 0001 0000000000000014 0000000b 0001 00000014 00000000 06, 630 00, sync, 628 01, sync'
 
 
-def commit_differs(stream, wanted):
-    """What is wrong with the calls of the last commit."""
-    got = stream.commits[-1].calls
+def commit_differs(stream, wanted, place=-1):
+    """What is wrong with the calls of the last commit, or of another."""
+    got = stream.commits[place].calls
     return [] if got == calls_wanted(wanted) else [f'{shown(got)}, wanted {shown(calls_wanted(wanted))}']
 
 
@@ -361,9 +387,31 @@ def the_move(command):
     return wrong
 
 
+def one_by_one(count):
+    """P, and `expire` until there are so many commands, a batch each."""
+    return [[P], *([f'1 {k} 0 expire'] for k in range(2, count + 1))]
+
+
+def a_record_of(form, sequence):
+    plain = f'0000000b 0001 {sequence:08x} 00000000 06'
+    return f'0001 {sequence:016x} {plain}' if form == NUMBERED else f'0001 {plain}'
+
+
+def beside_the_commits(command, form):
+    """With the tenth command a checkpoint begins; with the eleventh it ends, and the twelfth is a record of its half alone."""
+    ten, eleven, also, twelve = (a_record_of(*one) for one in ((form, 10), (form, 11), (NUMBERED, 11), (NUMBERED, 12)))
+    stream = ran(command, one_by_one(12), form)
+    wanted = {-4: '606 {}, 607 00, sync, 605 01, sync'.format(a_record_of(form, 9)),
+              -3: f'608 {ten}, 609 00, sync, 607 01, sync, 628 00, sync',
+              -2: f'610 {eleven}, 611 00, 629 {also}, 630 00, sync, 609 01, 628 01, sync, {TEN}, sync, 2 01, sync',
+              -1: f'631 {twelve}, 632 00, sync, 630 01, sync'}
+    return [wrong for place, words in wanted.items() for wrong in commit_differs(stream, words, place)]
+
+
 def the_worked_commits(command):
     cases = [the_move(command)]
     for form in FORMS:
+        cases.append(beside_the_commits(command, form))
         cases.append(commit_differs(ran(command, [[P]], form), ONE[form]))
         cases.append(commit_differs(ran(command, [[P, ATTACH, '1 3 0 expire']], form), THREE[form]))
     return 'worked commits', len(cases), [wrong[0] for wrong in cases if wrong]
@@ -375,7 +423,7 @@ def part_of(name, part, script, stream):
     return f'{name}, {what}', *told
 
 
-PARTS = [the_answers, the_checkpoints, the_stops, the_bugs]
+PARTS = [the_answers, the_calls, the_checkpoints, the_stops, the_bugs]
 
 
 def main():

@@ -95,6 +95,7 @@ def is_record(sectors, gate, form, sequence):
 
 def the_last_record(place, sectors, side, form, sequence):
     serves(place, sequence)
+    # The half is more than half full: a checkpoint begins, which closes the other half's first gate; here that gate is zeros already
     now, end = changed(place, sectors), LAYOUT.half(side + 1)
     compare('the sectors that are written', sorted(now), [end - 3, end - 2, end - 1])
     is_record(now, end - 3, form, sequence)

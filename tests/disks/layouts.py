@@ -1,7 +1,7 @@
 #!/usr/bin/env python3
 """Worked disks of both layouts, their bytes written here by hand: what the independent reading beside this file takes them for, and
-then what the program's `show` and `run` do with each. A disk of layout 1 goes on in its form until its first checkpoint, which
-moves it. Records of another form than their slot tells, records out of place and records of another image are damage. Prints the
+then what the program's `show` and `run` do with each. A disk of layout 1 goes on in its form until its first checkpoint, at once or
+beside its commits, which moves it. Records of another form than their slot tells, records out of place and records of another image are damage. Prints the
 cases that fail, and last 'N passed, M failed'. Without a program only the reading is tried.
 Usage: tests/run layouts [PROGRAM]"""
 import itertools
@@ -196,14 +196,16 @@ def a_new_disk(place):
 
 
 def an_old_disk(place):
-    """It goes on in layout 1: its header stays, and each record is a plain one, until the half is full."""
+    """In runs of one line it goes on in layout 1: its header stays, and each record is a plain one, until the half is full. From the
+    tenth command on a checkpoint begins in each run, which the next run forgets: it closes the first gate of the other half."""
     place.put(zeroed(form=PLAIN))
     _, after = serves(place, 1, P_LINE.removeprefix('1 '))
     is_sector(after, GATE + 1, ONE[PLAIN] + P.hex())
     for sequence in range(2, 20):
         before, after = serves(place, sequence, '0 expire')
         gate = GATE + 2 * (sequence - 1)
-        compare('the sectors that are written', set(changed(before, after)) <= {gate, gate + 1, gate + 2}, True)
+        also = {OTHER_GATE} if sequence >= 10 else set()
+        compare('the sectors that are written', set(changed(before, after)) <= {gate, gate + 1, gate + 2, *also}, True)
         is_sector(after, gate + 1, text_of(PLAIN, [expire(sequence)]).hex())
     is_sector(after, SLOT, HEADERS[PLAIN])
     stands_for(after, (0, PLAIN, 1, 627, 19))
@@ -219,6 +221,29 @@ def moves(place):
     is_sector(after, OTHER_GATE + 1, TWENTIETH)
     written = set(changed(before, after))
     compare('the sectors that are written', written <= {2, *FULL, OTHER_GATE, OTHER_GATE + 1, OTHER_GATE + 2}, True)
+
+
+def beside_its_commits(place, form):
+    """In one run a checkpoint begins with the tenth command and ends with the eleventh, whose record is in both halves."""
+    place.put(zeroed(form=form))
+    place.write(LINES, text([P_LINE, *(f'{sequence} 0 expire' for sequence in range(2, 12))]))
+    place.gives(['run', DISK, LINES], 0, text([f'station 1 {LINES}', *(f'{number} ok {number} -' for number in range(1, 12))]))
+    after = place.image()
+    stands_for(after, (1, NUMBERED, 2, 630, 11))
+    for at, digits in MOVED.items():
+        is_sector(after, at, digits)
+    is_sector(after, GATE + 21, text_of(form, [expire(11)], 11).hex())
+    is_sector(after, OTHER_GATE + 1, ELEVENTH.format(11))
+    place.put([*after[:629], sector(ELEVENTH.format(12)), *after[630:]])
+    place.gives(['show', DISK, 'count'], 5, b'', fault_line(Damaged(629)))
+
+
+def an_old_disk_in_one_run(place):
+    beside_its_commits(place, PLAIN)
+
+
+def a_new_disk_in_one_run(place):
+    beside_its_commits(place, NUMBERED)
 
 
 def a_full_old_disk(place):
@@ -241,7 +266,7 @@ def by_the_program(command, count):
     for name, made, at in damaged():
         with place(command) as folder:
             count.case(f'{name}, shown', shown, folder, made, 5, b'', fault_line(Damaged(at)))
-    for case in a_new_disk, an_old_disk, a_full_old_disk, a_moved_disk:
+    for case in a_new_disk, an_old_disk, an_old_disk_in_one_run, a_new_disk_in_one_run, a_full_old_disk, a_moved_disk:
         with place(command) as folder:
             count.case(case.__name__, case, folder)
 

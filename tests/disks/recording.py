@@ -1,6 +1,6 @@
 #!/usr/bin/env python3
 """Writes down each read, write and sync of the disk file while the program serves a station's file, with two checkpoints or more
-(record.c, compiled and preloaded), on a disk that began in either layout; and takes the moments between these calls, drawn anew each
+beside its commits (record.c, compiled and preloaded), on a disk that began in either layout; and takes the moments between these calls, drawn anew each
 time. At each one the writes since the last sync are done, left out or torn in 20 ways: the independent reading beside this file
 opens each image to what a front of the accepted commands made, all that were answered by then among them, and for one of the ways
 the program's `show` tells the same. On some of the images the file is served again, and that run stopped in turn. Bugs planted in
@@ -122,17 +122,39 @@ def without(turn, kind, number):
     return turn[:places[number]] + turn[places[number] + 1:] if len(places) > number else turn
 
 
-def is_checkpoint(turn):
-    return sum(done.kind == 's' for done in turn) > 2
+def syncs(turn):
+    """Two are those of a record. One more closes the other side where a checkpoint begins; two more switch to it where one ends beside
+    the record, and three are those of a checkpoint that makes room first."""
+    return sum(done.kind == 's' for done in turn)
+
+
+def in_record(turn, kind, number):
+    """It without that call, where no checkpoint comes before the record."""
+    return turn if syncs(turn) > 4 else without(turn, kind, number)
+
+
+def ended(turn, kind, number):
+    """It without that call, where a checkpoint ends: data and a gate in each half, a sync, two gates, a sync, rows, a sync, the root."""
+    return without(turn, kind, number) if syncs(turn) == 4 else turn
+
+
+def other_record_left_out(turn):
+    """Where a checkpoint ends: the four writes before the first sync are two records of one data sector."""
+    writes = turn[:[done.kind for done in turn].index('s')] if syncs(turn) == 4 else []
+    at = [k for k, done in enumerate(turn) if done.kind == 'w']
+    if sum(done.kind == 'w' for done in writes) != 4:
+        return turn
+    return [done for k, done in enumerate(turn) if k not in (at[2], at[3], at[5])]
 
 
 BUGS = {
-    'records synced once': lambda turn: turn if is_checkpoint(turn) else without(turn, 's', 0),
-    'answers before the last sync': lambda turn: turn if is_checkpoint(turn) else without(turn, 's', 1),
-    'records without their data': lambda turn: turn if is_checkpoint(turn) else without(turn, 'w', 0),
-    'a gate that is not closed': lambda turn: turn if is_checkpoint(turn) else without(turn, 'w', 1),
-    'roots synced with their image': lambda turn: without(turn, 's', 1) if is_checkpoint(turn) else turn,
-    'an image without a row': lambda turn: without(turn, 'w', 3) if is_checkpoint(turn) else turn,
+    'records synced once': lambda turn: in_record(turn, 's', 0),
+    'answers before the last sync': lambda turn: in_record(turn, 's', 1),
+    'records without their data': lambda turn: in_record(turn, 'w', 0),
+    'a gate that is not closed': lambda turn: in_record(turn, 'w', 1),
+    'roots synced with their last rows': lambda turn: ended(turn, 's', 2),
+    'an image without a row': lambda turn: ended(turn, 'w', 6),
+    'records of the other half left out': other_record_left_out,
 }
 
 

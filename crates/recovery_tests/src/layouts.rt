@@ -1,10 +1,10 @@
 //! Disks of both layouts: one of layout 1 goes on in its form until its first checkpoint, and no record passes for one of the
 //! other form, or for one of another number.
 
-use crate::commits::{commit_expiries, is_checkpointed};
+use crate::commits::is_checkpointed;
 use crate::made;
 use crate::opens::{OPEN, PLAIN_FIRST, SET_RULE, disk, expiry, opened, put, put_expiries, with};
-use crate::runs::{begin, stands_for, stop};
+use crate::runs::{begin, commit_each, run, stands_for, stop};
 use recovery::{Store, StoreFault};
 use sector_disk::{Disk, Failing, FailingDisk, MemoryDisk};
 use std::alloc::Global;
@@ -29,26 +29,51 @@ fn old(alloc: Global) -> Result<MemoryDisk<Global>, Fail> {
     )
 }
 
+/// A record of an expiry of station 1 with this sequence, in layout 1.
+fn plain_expiry(sequence: u8) -> [u8; 17] {
+    [0, 1, 0, 0, 0, 0x0b, 0, 1, 0, 0, 0, sequence, 0, 0, 0, 0, 6]
+}
+
+/// Puts 18 expiries behind the rule, and opens their gates.
+fn put_plain_expiries<D: Disk>(disk: &mut D) -> bool {
+    for k in 0..18u8 {
+        let gate = 591 + 2 * u64::from(k);
+        let expiry = plain_expiry(k.saturating_add(2));
+        if !put(disk, &[(gate, &OPEN), (gate + 1, &expiry)]) {
+            return false;
+        }
+    }
+    disk.sync().is_ok()
+}
+
 /// The same with 18 expiries behind the rule, which fill its half.
 fn old_filled(alloc: Global) -> Result<MemoryDisk<Global>, Fail> {
-    match Store::open(alloc, old(alloc)?) {
-        Ok(mut store) => {
-            let all = commit_expiries(alloc, &mut store, 1, 18);
-            let disk = store.into_disk();
-            if all {
-                Ok(disk)
-            } else {
-                Err("18 commands".into())
-            }
-        }
-        Err((_, _)) => Err("a disk of layout 1".into()),
+    let mut disk = old(alloc)?;
+    if put_plain_expiries(&mut disk) {
+        Ok(disk)
+    } else {
+        Err("a disk of 4,000 calls".into())
     }
+}
+
+/// Commits those expiries, each on the disk opened anew, so that no checkpoint ends beside them.
+fn run_expiries(alloc: Global) -> Result<MemoryDisk<Global>, Fail> {
+    let mut disk = old(alloc)?;
+    for sequence in 2..=19 {
+        let expiry = made::own_expiry(sequence).ok_or("an expiry")?;
+        let (answered, given) = run(alloc, disk, &[&expiry]);
+        if answered != 1 {
+            return Err("an expiry that is kept".into());
+        }
+        disk = given;
+    }
+    Ok(disk)
 }
 
 /// Its records stay plain, and so does its header.
 fn goes_on(alloc: Global) -> Result<bool, Fail> {
     let (first, _) = opened(alloc, old(alloc)?);
-    let (count, mut disk) = stands_for(alloc, old_filled(alloc)?);
+    let (count, mut disk) = stands_for(alloc, run_expiries(alloc)?);
     let written = [
         (2, [0].as_slice()),
         (3, PLAIN_FIRST.as_slice()),
@@ -71,6 +96,34 @@ fn a_disk_of_layout_1_goes_on_in_its_form(rt: HostRuntime) -> Result<(), Fail> {
 fn its_first_checkpoint_moves_it(rt: HostRuntime) -> Result<(), Fail> {
     let alloc = rt.alloc();
     assert!(rt; is_checkpointed(alloc, old_filled(alloc)?)?);
+    Ok(())
+}
+
+/// In one run a checkpoint begins with the tenth command, and ends with the eleventh: its side is of layout 2.
+fn moves_beside(alloc: Global) -> Result<bool, Fail> {
+    let Ok(mut store) = Store::open(alloc, old(alloc)?) else {
+        return Ok(false);
+    };
+    let mut answered = 0;
+    for sequence in 2..=11 {
+        let expiry = made::own_expiry(sequence).ok_or("an expiry")?;
+        answered += commit_each(alloc, &mut store, &[&expiry]);
+    }
+    let (count, mut disk) = stands_for(alloc, store.into_disk());
+    let written = [
+        (2, [1].as_slice()),
+        (3, PLAIN_FIRST.as_slice()),
+        (296, [22].as_slice()),
+        (610, PLAIN_EXPIRY.as_slice()),
+        (628, [1].as_slice()),
+        (629, [0, 1, 0, 0, 0, 0, 0, 0, 0, 11].as_slice()),
+    ];
+    Ok(answered == 10 && count == Some(11) && begin(&mut disk, &written))
+}
+
+#[test]
+fn a_checkpoint_beside_its_commits_moves_it(rt: HostRuntime) -> Result<(), Fail> {
+    assert!(rt; moves_beside(rt.alloc())?);
     Ok(())
 }
 

@@ -146,6 +146,19 @@ pub fn expiry(sequence: u32) -> Option<Command<Global>> {
     made(2, sequence, Moment::new(11), Body::Expire)
 }
 
+/// An expiry of station 1 with this sequence: 11 bytes.
+pub fn own_expiry(sequence: u32) -> Option<Command<Global>> {
+    made(1, sequence, Moment::new(0), Body::Expire)
+}
+
+/// A rule for a radio alone, the one of this number, with this sequence of station 1.
+pub fn rule_for(sequence: u32) -> Option<Command<Global>> {
+    let prefix = Prefix::new(0x3a80_0e00_0000 + u64::from(sequence), 48)?;
+    let low = LocationArea::new(1)?;
+    let rule = Rule::new(low, low, Lifetime::NextItsiAttach, 3_600)?;
+    made(1, sequence, Moment::new(0), Body::RuleSet { prefix, rule })
+}
+
 /// A sector that begins with these bytes, with zeros behind them.
 pub fn sector(front: &[u8]) -> [u8; 512] {
     let mut bytes = [0; 512];

@@ -2,6 +2,7 @@
 ghost use Rattle.std.specs.Prelude.{◌≤◌, length};
 
 use centre_core::{Command, Reply};
+use desk::Desk;
 use recovery::{Outcome, Store, StoreFault};
 use sector_disk::{Disk, MemoryDisk};
 use std::alloc::{Allocator, Global};
@@ -89,7 +90,31 @@ pub fn run<D: Disk>(alloc: Global, disk: D, commands: &[&Command<Global>]) -> (u
     }
 }
 
-/// The same with all commands in one commit; tells whether it was answered.
+/// Opens a disk, and has a desk answer a command; tells whether it was accepted with this number, and gives the disk.
+pub fn serve<D: Disk>(alloc: Global, disk: D, command: &Command<Global>, want: u64) -> (bool, D) {
+    match Store::open(alloc, disk) {
+        Ok(mut store) => {
+            let is_kept = is_served(alloc, &mut store, command, want);
+            (is_kept, store.into_disk())
+        }
+        Err((_, disk)) => (false, disk),
+    }
+}
+
+/// Whether a desk accepts a command with this number.
+pub fn is_served<T: Desk>(
+    alloc: Global,
+    desk: &mut T,
+    command: &Command<Global>,
+    want: u64,
+) -> bool {
+    match desk.apply(alloc, command) {
+        Ok(Reply::Accepted { number, .. }) => number == want,
+        _ => false,
+    }
+}
+
+/// Opens a disk, and commits commands at once; tells whether it was answered.
 pub fn run_as_one<D: Disk>(alloc: Global, disk: D, commands: &[&Command<Global>]) -> (bool, D)
     requires { length commands.now ≤ 64 }
 {
