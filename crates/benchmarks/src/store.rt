@@ -1,5 +1,7 @@
 // A register that is kept on a disk in memory: commits, timed beside the same commands applied to a register in memory,
 // and a whole disk opened, timed beside its sectors read and its tables built by the calls of the tables alone.
+ghost use Rattle.std.specs.Prelude.{◌≤◌, length};
+
 use crate::building::Tables;
 use crate::filling::{itsi, message, update};
 use centre_core::{Body, Command, Register, Reply, Sequence};
@@ -7,7 +9,7 @@ use checkpoint::{Layout, Side};
 use identity::Prefix;
 use mailbox::Moment;
 use mm_pdus::Lifetime;
-use recovery::{Store, format};
+use recovery::{Outcome, Store, StoreFault, format};
 use registration::{Limits, LocationArea, Rule, Station};
 use sector_disk::{Disk, MemoryDisk};
 use std::alloc::Global;
@@ -46,7 +48,7 @@ const LONG_FULL: u32 = 16_383;
 // More calls than either disk gets before it forgets them.
 const FEW_CALLS: usize = 999;
 
-const MANY_CALLS: usize = 300_000;
+const MANY_CALLS: usize = 420_000;
 
 // How often the half is filled, and how often the disk is opened.
 const COMMITS: u32 = 500;
@@ -153,16 +155,43 @@ fn committed<D: Disk>(
         return None;
     }
     let start = Instant::now(rt).ok()?;
-    let outcomes = store.commit(rt.alloc(), &list);
+    let outcomes = commit(rt.alloc(), store, &list);
     let took = start.elapsed(rt).ok()?;
     outcomes.is_ok().then_some(took)
 }
 
-// The time of commits, and of the same commands applied.
+// Commits the commands, behind a checkpoint where they find no room.
+fn commit<D: Disk>(
+    alloc: Global,
+    store: &mut Store<Global, D>,
+    commands: &[&Command<Global>],
+) -> Result<Vec<Outcome<Global>, Global>, StoreFault>
+    requires { length commands.now ≤ 64 }
+{
+    match store.commit(alloc, commands) {
+        Err(StoreFault::Unready) => {
+            store.checkpoint()?;
+            store.commit(alloc, commands)
+        }
+        told => told,
+    }
+}
+
+// The time of commits, of the longest one of them, and of the same commands applied.
 #[derive(Clone, Copy, Drop)]
 struct Timed {
     committed: Duration,
+    longest: Duration,
     applied: Duration,
+}
+
+// The longer of two times.
+fn longer(one: Duration, other: Duration) -> Duration {
+    if one.as_nanos() > other.as_nanos() {
+        one
+    } else {
+        other
+    }
 }
 
 // A batch, applied to the register and committed to the store, which have accepted the same commands.
@@ -176,7 +205,11 @@ fn give<D: Disk>(
     let commands = batch(rt.alloc(), asked, first, register.count())?;
     let applied = applied(rt, register, &commands)?;
     let committed = committed(rt, store, &commands)?;
-    (store.register()?.count() == register.count()).then_some(Timed { committed, applied })
+    (store.register()?.count() == register.count()).then_some(Timed {
+        committed,
+        longest: committed,
+        applied,
+    })
 }
 
 // So many batches, from the first radio or item on, and again where all of so many came.
@@ -189,6 +222,7 @@ fn give_all<D: Disk>(
 ) -> Option<Timed> {
     let mut all = Timed {
         committed: Duration::from_nanos(0),
+        longest: Duration::from_nanos(0),
         applied: Duration::from_nanos(0),
     };
     let radios = register.limits().radios.max(1);
@@ -197,42 +231,45 @@ fn give_all<D: Disk>(
         let one = give(rt, store, register, asked, first)?;
         all = Timed {
             committed: all.committed.checked_add(one.committed)?,
+            longest: longer(all.longest, one.longest),
             applied: all.applied.checked_add(one.applied)?,
         };
     }
     Some(all)
 }
 
-// Adds the rule, so many batches of radios and of items, and makes a checkpoint.
+// Adds the rule, so many batches of radios and of items, and makes a checkpoint: how long that takes.
 fn prepare<D: Disk>(
     rt: &HostRuntime,
     store: &mut Store<Global, D>,
     register: &mut Register<Global>,
     radios: u32,
     items: u32,
-) -> Option<()> {
+) -> Option<Duration> {
     give(rt, store, register, Asked::Rule, 0)?;
     give_all(rt, store, register, Asked::Attach, radios)?;
     give_all(rt, store, register, Asked::Message, items)?;
-    store.checkpoint().ok()
+    let start = Instant::now(rt).ok()?;
+    store.checkpoint().ok()?;
+    start.elapsed(rt).ok()
 }
 
-// Opens the disk, prepares it, and adds so many batches of attaches behind the checkpoint. The disk then forgets its
-// calls.
+// Opens the disk, prepares it, and adds so many batches of attaches behind the checkpoint. The disk, which then forgets
+// its calls, the time of the longest commit behind the checkpoint, and that of the checkpoint.
 fn prepared(
     rt: &HostRuntime,
     disk: MemoryDisk<Global>,
     register: &mut Register<Global>,
     filling: (u32, u32, u32),
-) -> Option<MemoryDisk<Global>> {
+) -> Option<(MemoryDisk<Global>, Duration, Duration)> {
     let (radios, items, records) = filling;
     let Ok(mut store) = Store::open(rt.alloc(), disk) else {
         return None;
     };
-    let is_done = prepare(rt, &mut store, register, radios, items).is_some()
-        && give_all(rt, &mut store, register, Asked::Attach, records).is_some();
+    let checkpoint = prepare(rt, &mut store, register, radios, items);
+    let all = give_all(rt, &mut store, register, Asked::Attach, records);
     let disk = store.into_disk().crash(&[]);
-    is_done.then_some(disk)
+    Some((disk, all?.longest, checkpoint?))
 }
 
 // Fills the half by commits, and then makes a checkpoint.
@@ -274,7 +311,7 @@ fn ready(alloc: Global, limits: Limits, journal: u32, calls: usize) -> Option<Me
 // All rounds of commits.
 fn told_commits(rt: &HostRuntime, register: &mut Register<Global>) -> Option<()> {
     let disk = ready(rt.alloc(), FEW, SHORT, FEW_CALLS)?;
-    let mut disk = prepared(rt, disk, register, (1, 0, 0))?;
+    let (mut disk, _, _) = prepared(rt, disk, register, (1, 0, 0))?;
     for _ in 0..COMMITS {
         disk = tell_commits(rt, disk, register)?;
     }
@@ -355,7 +392,10 @@ fn tell_opening(
 // All openings.
 fn told_openings(rt: &HostRuntime, register: &mut Register<Global>) -> Option<()> {
     let disk = ready(rt.alloc(), MANY, LONG, MANY_CALLS)?;
-    let mut disk = prepared(rt, disk, register, (FILLING, FILLING, LONG_FULL))?;
+    let filling = (FILLING, FILLING, LONG_FULL);
+    let (mut disk, longest, checkpoint) = prepared(rt, disk, register, filling)?;
+    let (longest, checkpoint) = (longest.as_nanos(), checkpoint.as_nanos());
+    println!(rt; "longest 1 {longest} {checkpoint}").ok()?;
     for _ in 0..OPENINGS {
         disk = tell_opening(rt, disk, register)?;
     }
