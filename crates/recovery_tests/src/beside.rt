@@ -388,17 +388,23 @@ fn commit_with<A: Allocator + Copy, D: Disk>(
     last.saturating_add(1).saturating_sub(first)
 }
 
-/// All memory that a heap has left.
+/// The pieces in which a heap is taken, the greatest first.
+const PIECES: [usize; 17] = [
+    65_536, 32_768, 16_384, 8_192, 4_096, 2_048, 1_024, 512, 256, 128, 64, 32, 16, 8, 4, 2, 1,
+];
+
+/// All memory that a heap of less than 4 MiB has left.
 fn rest_of<'a>(
     alloc: Global,
     heap: &'a LocalHeap,
 ) -> Result<Vec<Vec<u8, &'a LocalHeap>, Global>, Fail> {
     let mut rest = Vec::new(alloc);
-    let mut size: usize = 1 << 16;
-    while size > 0 {
-        match Vec::with_capacity(heap, size) {
-            Ok(taken) => rest.push(taken)?,
-            Err(_) => size /= 2,
+    for size in PIECES {
+        for _ in 0..64 {
+            match Vec::with_capacity(heap, size) {
+                Ok(taken) => rest.push(taken)?,
+                Err(_) => break,
+            }
         }
     }
     Ok(rest)

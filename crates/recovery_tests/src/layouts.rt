@@ -107,7 +107,7 @@ fn moves_beside(alloc: Global) -> Result<bool, Fail> {
     let mut answered = 0;
     for sequence in 2..=11 {
         let expiry = made::own_expiry(sequence).ok_or("an expiry")?;
-        answered += commit_each(alloc, &mut store, &[&expiry]);
+        answered = commit_each(alloc, &mut store, &[&expiry]).saturating_add(answered);
     }
     let (count, mut disk) = stands_for(alloc, store.into_disk());
     let written = [
