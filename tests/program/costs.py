@@ -17,8 +17,8 @@ from testing import Count, options
 COUNTER = pathlib.Path(__file__).resolve().parent / 'count.c'
 # The tables of a small register and of a full one. The records of a case take less than half of a half: no checkpoint begins.
 SMALL, FULL, HALF = 16, 4096, 60_000
-# A full register has an entry for each radio in three tables
-MOST_TIMES, MOST_PER_CHECKPOINT, LINES_EACH = 4, 64 + 8 * 3 * FULL, 512
+# A copy of the register takes some five allocations for each radio.
+MOST_TIMES, MOST_PER_CHECKPOINT, LINES_EACH = 4, 64 + 6 * FULL, 512
 RADIO, ATTACH = '234-14-{}', '10:260'
 
 
