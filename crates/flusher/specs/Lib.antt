@@ -1,0 +1,17 @@
+pub mod Shared
+pub mod Stages
+pub mod Attempts
+pub mod Batches
+pub mod Answerings
+pub mod View
+pub mod Served
+pub mod Rounds
+pub mod Stored
+pub mod Submitted
+pub mod Sessions
+pub mod Opened
+pub mod Endings
+pub mod Runs
+pub mod Closed
+pub mod Borne
+pub mod Order

@@ -1,0 +1,24 @@
+-- What a run of the flusher does: rounds, until the end of each session was taken.
+use Rattle.std.specs.Prelude.{◌≡◌, ℕ, ◌+◌, ◌<◌, length, slice_get, Some, Contains}
+use Rattle.crossbeam_channel.specs.Ends.{sends_on}
+use Rattle.centre_core.specs.State.{State}
+use Rattle.station_queue.specs.declared.entry.Entry.TheVariants.{Ended}
+use Rattle.answers.specs.declared.channel.AnswerSender.{AnswerSender}
+use Rattle.flusher.specs.Stages.{Sent}
+use Rattle.flusher.specs.View.{FlusherView}
+use Rattle.flusher.specs.Rounds.{IsRound}
+
+-- rounds, one after another: none, or one and then rounds
+pub data AreRounds {D : Type 0} (base : State) : FlusherView D → FlusherView D → Type 0 where
+  none : (f : FlusherView D) → AreRounds base f f
+  next : (f g h : FlusherView D) → IsRound base f g → AreRounds base g h → AreRounds base f h
+
+-- the end of each session is among the entries taken
+abbrev pub HasTakenEnds : {D : Type 0} → FlusherView D → Type 0
+HasTakenEnds f = (k : ℕ) → k < length f.senders → Contains f.taker.taken (Ended (k + 1))
+
+-- the flusher still has its queue and its channels
+pub record HasSameEnds {D : Type 0} (f g : FlusherView D) : Type 0 where
+  pub queue : g.taker.queue ≡ f.taker.queue
+  pub count : length g.senders ≡ length f.senders
+  pub channels : (k : ℕ) (a b : AnswerSender Sent) → slice_get f.senders k ≡ Some a → slice_get g.senders k ≡ Some b → sends_on b.channel ≡ sends_on a.channel

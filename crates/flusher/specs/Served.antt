@@ -1,0 +1,118 @@
+-- What a round has done with its commands, and what always holds between two rounds.
+use Rattle.std.specs.Prelude.{◌≡◌, ◌⊎◌, ◌<◌, ◌≤◌, Bool, true, false, cond, List, ◌++◌, length}
+use mathlib.Core.List.{IsPrefix}
+use Rattle.std.specs.declared.alloc.Global.{Global}
+use Rattle.centre_core.specs.Asked.{Asked}
+use Rattle.centre_core.specs.State.{State}
+use Rattle.centre_core.specs.History.{after}
+use Rattle.centre_core.specs.Histories.{IsHistory}
+use Rattle.image_rows.specs.Rows.{last_epoch}
+use Rattle.answers.specs.declared.channel.AnswerSender.{AnswerSender}
+use Rattle.recovery.specs.Outcomes.{IsAnswered}
+use Rattle.recovery.specs.declared.outcome.Outcome.{Outcome}
+use Rattle.recovery.specs.declared.fault.StoreFault.{StoreFault}
+use Rattle.recovery.specs.declared.fault.StoreFault.TheVariants.{BadGeometry, Broken, Damaged, DiskFault, EpochsUsedUp, NoMemory, Unformatted, Unready}
+use Rattle.flusher.specs.declared.decision.Decision.{Decision}
+use Rattle.flusher.specs.declared.decision.Decision.TheVariants as decision
+use Rattle.flusher.specs.Stages.{Sent, HasRun, commands_of, sent_by, sent_to_all}
+use Rattle.flusher.specs.Attempts.{WasOutOfMemory}
+use Rattle.flusher.specs.Batches.{accepted_by}
+use Rattle.flusher.specs.Endings.{AreEnded}
+use Rattle.flusher.specs.Answerings.{HaveAnswered}
+use Rattle.flusher.specs.Borne.{AreSentInOrder}
+use Rattle.flusher.specs.Order.{AreInOrder}
+use Rattle.flusher.specs.View.{FlusherView, Progress, stage_of}
+
+-- what always holds between two rounds: what is durable is a history, and the register of a sound store is what it makes; what is
+-- published is a prefix of it; each answer that was sent is borne out by it; and its commands were taken in this order
+pub record IsSettled {D : Type 0} (base : State) (f : FlusherView D) : Type 0 where
+  pub history : IsHistory base f.durable
+  pub made : f.store.broken ≡ false → f.store.register ≡ after base f.durable
+  pub prefix : IsPrefix f.published f.durable
+  pub sent : AreSentInOrder base f.durable f.senders
+  pub order : AreInOrder f.durable f.taker.taken
+  pub ended : AreEnded f.ended f.taker.taken
+
+-- the decision on each command of a commit that was refused
+abbrev pub decision_by : StoreFault → Decision
+decision_by NoMemory = decision.NoMemory
+decision_by DiskFault = decision.Fault DiskFault
+decision_by Broken = decision.Fault Broken
+decision_by EpochsUsedUp = decision.Fault EpochsUsedUp
+decision_by Unready = decision.Fault Unready
+decision_by Unformatted = decision.Fault Unformatted
+decision_by BadGeometry = decision.Fault BadGeometry
+decision_by (Damaged at) = decision.Fault (Damaged at)
+
+-- From one view to another, with these commands and their answers.
+module _ {D : Type 0} (base : State) (f g : Progress D) (commands : List (Asked Global)) (answers : List Sent) where
+  -- The commands were committed, and each is answered by its outcome: its reply in its turn, and out of memory from the first one on
+  -- that needed memory. What is accepted is published; where memory did not allow that, an accepted one is answered as kept.
+  pub record AreCommitted : Type 0 where
+    pub outcomes : List (Outcome Global)
+    pub all : Bool
+    pub answered : IsAnswered (after base f.durable) commands (after base g.durable) outcomes
+    pub durable : g.durable ≡ f.durable ++ accepted_by commands outcomes
+    pub published : g.published ≡ cond all g.durable f.durable
+    pub some : all ≡ false → length f.durable < length g.durable
+    pub sound : g.store.broken ≡ false
+    pub each : answers ≡ sent_by g.published all commands outcomes
+
+  -- why a commit was refused: it was itself out of memory, no epoch is left for a checkpoint, or the disk failed
+  abbrev pub IsReason : StoreFault → Type 0
+  IsReason NoMemory = WasOutOfMemory f.attempts g.attempts × (g.store.broken ≡ false)
+  IsReason EpochsUsedUp = (last_epoch ≤ f.store.epoch) × (g.store.broken ≡ false)
+  IsReason DiskFault = g.store.broken ≡ true
+  IsReason Broken = ⊥
+  IsReason Unready = ⊥
+  IsReason Unformatted = ⊥
+  IsReason BadGeometry = ⊥
+  IsReason (Damaged at) = ⊥
+
+  -- the commit was refused, and each command is answered so; what was durable is published
+  pub record AreRefused : Type 0 where
+    pub fault : StoreFault
+    pub reason : IsReason fault
+    pub durable : g.durable ≡ f.durable
+    pub published : g.published ≡ f.durable
+    pub each : answers ≡ sent_to_all g.published (decision_by fault) commands
+
+  -- what was durable before could still not be published: nothing is committed, and each command is answered as out of memory
+  pub record AreBehind : Type 0 where
+    pub fewer : length f.published < length f.durable
+    pub durable : g.durable ≡ f.durable
+    pub published : g.published ≡ f.published
+    pub store : g.store ≡ f.store
+    pub each : answers ≡ sent_to_all g.published decision.NoMemory commands
+
+  -- the disk had failed in an earlier round: nothing is changed, and each command is answered so
+  pub record AreBroken : Type 0 where
+    pub durable : g.durable ≡ f.durable
+    pub published : g.published ≡ f.published
+    pub store : g.store ≡ f.store
+    pub each : answers ≡ sent_to_all g.published (decision.Fault Broken) commands
+
+  -- by whether the disk had failed before
+  abbrev pub AreServedBy : Bool → Type 0
+  AreServedBy true = AreBroken
+  AreServedBy false = AreCommitted ⊎ (AreRefused ⊎ AreBehind)
+
+  -- why each command is answered as it is
+  abbrev pub AreServed : Type 0
+  AreServed = AreServedBy f.store.broken
+
+-- Each command got one answer, in turn. The core goes so by a run of its events, and each answer has its reason.
+pub record HasServed {D : Type 0} (base : State) (f g : Progress D) (commands : List (Asked Global)) (old new : List (AnswerSender Sent)) : Type 0 where
+  pub answers : List Sent
+  pub asked : commands_of answers ≡ commands
+  pub answered : HaveAnswered old answers new
+  pub run : HasRun base (stage_of f) (stage_of g) commands answers
+  pub served : AreServed base f g commands answers
+
+-- what became durable was published, or it was not; each command was answered by its outcome
+pub record HavePublished (before durable list commands : List (Asked Global)) (outcomes : List (Outcome Global))
+    (old new : List (AnswerSender Sent)) : Type 0 where
+  pub all : Bool
+  pub published : list ≡ cond all durable before
+  pub some : all ≡ false → length before < length durable
+  pub answered : HaveAnswered old (sent_by list all commands outcomes) new

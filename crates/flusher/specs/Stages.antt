@@ -1,0 +1,136 @@
+-- What a round does, over what is durable and what is published.
+use Rattle.std.specs.Prelude.{◌≡◌, ◌⊎◌, ◌≤◌, ◌+◌, ℕ, Bool, true, false, Option, List, [], ◌∷◌, ◌++◌, length, take, None, Some}
+use Rattle.std.specs.declared.alloc.Global.{Global}
+use Rattle.centre_core.specs.Asked.{Asked}
+use Rattle.centre_core.specs.State.{State}
+use Rattle.centre_core.specs.Step.{last_at}
+use Rattle.centre_core.specs.History.{after}
+use Rattle.centre_core.specs.Histories.{IsHistory}
+use Rattle.centre_core.specs.InTurn.{reply_to, last_of, Lands, IsLeftBy}
+use Rattle.centre_core.specs.declared.reply.Reply.{Reply}
+use Rattle.centre_core.specs.declared.reply.Reply.TheVariants.{Accepted, Kept, Refused}
+use Rattle.schedule.specs.declared.event.Event.{Event}
+use Rattle.schedule.specs.World.{World, Entry}
+use Rattle.schedule.specs.Next.{told}
+use Rattle.schedule.specs.Rounds.{Goes, GoesDown}
+use Rattle.recovery.specs.declared.fault.StoreFault.{StoreFault}
+use Rattle.recovery.specs.declared.outcome.Outcome.{Outcome}
+use Rattle.recovery.specs.declared.outcome.Outcome.TheVariants as outcome
+use Rattle.flusher.specs.declared.decision.Decision.{Decision}
+use Rattle.flusher.specs.declared.decision.Decision.TheVariants as decision
+
+-- ---- answers
+
+-- an answer as it is sent: its command, the list that was published then, and the decision
+pub record Sent : Type 0 where
+  pub command : Asked Global
+  pub published : List (Asked Global)
+  pub decision : Decision
+
+abbrev pub sent : Asked Global → List (Asked Global) → Decision → Sent
+sent c published d = record { command = c; published = published; decision = d }
+
+-- the list or the base keeps this number and reply of the command's station and sequence
+abbrev pub IsKeptOf : State → List (Asked Global) → Asked Global → ℕ → Option (List Bool) → Type 0
+IsKeptOf base l c n p = IsLeftBy base l c.station (last_of c n p) ⊎ (last_at base c.station ≡ Some (last_of c n p))
+
+-- a reply as the published list bears it out: accepted, the command is there at its number with this reply; kept, the list or the
+-- base keeps it, if the list is as long; refused, the step refuses it after some list of commands that are accepted in turn
+abbrev pub BearsOut : State → List (Asked Global) → Asked Global → Reply Global → Type 0
+BearsOut base published c (Accepted n p) = Lands base published c n p
+BearsOut base published c (Kept n p) = n ≤ base.count + length published → IsKeptOf base published c n p
+BearsOut base published c (Refused r) = (l : List (Asked Global)) × IsHistory base l × (reply_to (after base l) c ≡ Refused r)
+
+-- so a decision: one that is no reply needs nothing
+abbrev pub BearsOutDecision : State → List (Asked Global) → Asked Global → Decision → Type 0
+BearsOutDecision base published c (decision.Replied r) = BearsOut base published c r
+BearsOutDecision base published c decision.NoMemory = Unit {0}
+BearsOutDecision base published c (decision.Fault fault) = Unit {0}
+
+-- the decision by an outcome of a commit, where all that is durable is published, or not
+abbrev pub decision_of : Bool → Outcome Global → Decision
+decision_of all (outcome.Replied r) = decision.Replied (told all r)
+decision_of all outcome.NoMemory = decision.NoMemory
+
+-- the answers to these commands by these outcomes
+abbrev pub sent_by : List (Asked Global) → Bool → List (Asked Global) → List (Outcome Global) → List Sent
+sent_by published all [] os = []
+sent_by published all (c ∷ cs) [] = []
+sent_by published all (c ∷ cs) (o ∷ os) = sent c published (decision_of all o) ∷ sent_by published all cs os
+
+-- the same decision on each
+abbrev pub sent_to_all : List (Asked Global) → Decision → List (Asked Global) → List Sent
+sent_to_all published d [] = []
+sent_to_all published d (c ∷ cs) = sent c published d ∷ sent_to_all published d cs
+
+-- the published list bears out the decision on each by its outcome
+abbrev pub BearsOutDecisions : State → List (Asked Global) → Bool → List (Asked Global) → List (Outcome Global) → Type 0
+BearsOutDecisions base published all [] os = Unit {0}
+BearsOutDecisions base published all (c ∷ cs) [] = Unit {0}
+BearsOutDecisions base published all (c ∷ cs) (o ∷ os) = BearsOutDecision base published c (decision_of all o) × BearsOutDecisions base published all cs os
+
+-- the commands that are answered
+abbrev pub commands_of : List Sent → List (Asked Global)
+commands_of [] = []
+commands_of (x ∷ xs) = x.command ∷ commands_of xs
+
+-- out of memory, or this fault
+abbrev pub decision_for_all : Option StoreFault → Decision
+decision_for_all None = decision.NoMemory
+decision_for_all (Some fault) = decision.Fault fault
+
+-- ---- the core
+
+-- an answer in the core: a reply alone is one
+abbrev pub entry_of : Asked Global → Decision → List (Entry Global)
+entry_of c (decision.Replied r) = (c, r) ∷ []
+entry_of c decision.NoMemory = []
+entry_of c (decision.Fault fault) = []
+
+-- those among these answers, in order
+abbrev pub entries_of : List Sent → List (Entry Global)
+entries_of [] = []
+entries_of (x ∷ xs) = entry_of x.command x.decision ++ entries_of xs
+
+-- how far the centre is: what is published, what is durable, whether a checkpoint is under way, and whether its disk has failed
+pub record Stage : Type 0 where
+  pub published : List (Asked Global)
+  pub durable : List (Asked Global)
+  pub checking : Bool
+  pub broken : Bool
+
+abbrev pub stage : List (Asked Global) → List (Asked Global) → Bool → Bool → Stage
+stage published durable checking broken = record { published = published; durable = durable; checking = checking; broken = broken }
+
+-- the same in the core between two rounds, where so much was answered
+abbrev pub world_of : Stage → List (Entry Global) → World Global
+world_of s answers = record {
+  lines = [];
+  batch = [];
+  accepted = s.durable;
+  durable = length s.durable;
+  published = length s.published;
+  flying = None;
+  owed = [];
+  answers = answers;
+  checking = s.checking;
+  down = s.broken;
+}
+
+module _ (base : State) (f g : Stage) (commands : List (Asked Global)) (events : List (Event Global)) (answers : List Sent) where
+  -- these events pop the commands and give the answers, whatever waits and whatever was answered before
+  abbrev pub GoesOn : Type 0
+  GoesOn = (a : List (Entry Global)) → Goes base commands events (world_of f a) (world_of g (a ++ entries_of answers))
+
+  -- these events pop the commands and end in a crash, and give no reply
+  pub record Stops : Type 0 where
+    pub up : f.broken ≡ false
+    pub down : g.broken ≡ true
+    pub none : entries_of answers ≡ []
+    pub stops : (a : List (Entry Global)) → GoesDown base commands events (world_of f a) (world_of g a)
+
+-- the first of the commands go through the core by a run of its events: one that goes on, or one that ends in a crash
+pub record HasRun (base : State) (f g : Stage) (commands : List (Asked Global)) (answers : List Sent) : Type 0 where
+  pub reached : ℕ
+  pub events : List (Event Global)
+  pub run : GoesOn base f g (take reached commands) events answers ⊎ Stops base f g (take reached commands) events answers

@@ -1,0 +1,35 @@
+-- What the disk holds of what is durable.
+use Rattle.std.specs.Prelude.{◌≡◌, ℕ, true, false, List, ◌++◌, take}
+use Rattle.std.specs.declared.alloc.Global.{Global}
+use Rattle.sector_disk.specs.Disk.{View}
+use Rattle.centre_core.specs.Asked.{Asked}
+use Rattle.centre_core.specs.State.{State}
+use Rattle.centre_core.specs.History.{after}
+use Rattle.centre_core.specs.Batches.{taken}
+use Rattle.checkpoint.specs.Standing.{InEach}
+use Rattle.recovery.specs.Lives.{IsStoredIn}
+use Rattle.recovery.specs.Outcomes.{StandsForEither}
+use Rattle.flusher.specs.Shared.{commands_among}
+use Rattle.flusher.specs.Order.{AreInOrder}
+use Rattle.flusher.specs.View.{FlusherView}
+
+-- the list has these in a row
+abbrev pub IsPart : {X : Type 0} → List X → List X → Type 0
+IsPart {X} part whole = (before : List X) × (after : List X) × (whole ≡ before ++ (part ++ after))
+
+-- further commands that a commit was to make durable when the disk failed: the accepted ones of the first commands of a batch that was taken
+pub record AreUnderWay {D : Type 0} (base : State) (f : FlusherView D) (more : List (Asked Global)) : Type 0 where
+  pub batch : List (Asked Global)
+  pub reached : ℕ
+  pub part : IsPart batch (commands_among f.taker.taken)
+  pub these : more ≡ taken (after base f.durable) (take reached batch)
+  -- they were taken after all that is durable
+  pub order : AreInOrder (f.durable ++ more) f.taker.taken
+
+-- Each image that a stop may leave stands for what is durable. If the disk has failed, each stands for that, or for that and further
+-- commands that were under way.
+pub record IsStoredFor {D : Type 0} (view : D → View) (base : State) (f : FlusherView D) : Type 0 where
+  pub honest : (view f.store.disk).honest
+  pub sound : f.store.broken ≡ false → IsStoredIn Global view f.store
+  pub failed : f.store.broken ≡ true → (more : List (Asked Global)) × AreUnderWay base f more
+      × InEach (view f.store.disk) (StandsForEither Global (after base f.durable) (after base (f.durable ++ more)))

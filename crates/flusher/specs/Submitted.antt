@@ -1,0 +1,100 @@
+-- What a session submits, and how it is answered.
+use Rattle.std.specs.Prelude.{◌≡◌, ◌⊎◌, ◌<◌, ◌≤◌, ◌+◌, ℕ, Bool, true, false, List, [], ◌∷◌, ◌++◌, length}
+use Rattle.std.specs.Arc.{arc_value}
+use Rattle.std.specs.declared.alloc.Global.{Global}
+use mathlib.Core.List.{IsPrefix}
+use Rattle.centre_core.specs.Asked.{Asked}
+use Rattle.centre_core.specs.State.{State}
+use Rattle.centre_core.specs.History.{after}
+use Rattle.centre_core.specs.Histories.{IsHistory}
+use Rattle.centre_core.specs.InTurn.{reply_to, Lands}
+use Rattle.centre_core.specs.declared.reply.Reply.TheVariants.{Accepted, Kept, Refused}
+use Rattle.station_queue.specs.declared.entry.Entry.{Entry}
+use Rattle.station_queue.specs.declared.entry.Entry.TheVariants.{Submitted, Ended}
+use Rattle.station_queue.specs.declared.entry.Request.{Request}
+use Rattle.flusher.specs.declared.decision.Decision.{Decision}
+use Rattle.flusher.specs.declared.decision.Decision.TheVariants as decision
+use Rattle.flusher.specs.declared.answer.Answer.{Answer}
+use Rattle.flusher.specs.declared.answer.Answer.TheVariants as answer
+use Rattle.flusher.specs.Stages.{Sent, IsKeptOf}
+
+-- each entry is of a command that was submitted
+abbrev pub are_submitted : List Entry → Bool
+are_submitted [] = true
+are_submitted (Submitted request ∷ entries) = are_submitted entries
+are_submitted (Ended station ∷ entries) = false
+
+-- commands that were submitted, and last the end of a session
+abbrev pub is_ended : List Entry → Bool
+is_ended [] = false
+is_ended (Submitted request ∷ entries) = is_ended entries
+is_ended (Ended station ∷ []) = true
+is_ended (Ended station ∷ (next ∷ entries)) = false
+
+-- what a session put into the queue, what it received, and the list that it has seen
+pub record SessionView : Type 0 where
+  pub sent : List Entry
+  pub received : List Sent
+  pub seen : List (Asked Global)
+
+-- the decision accepts a command under a number within so many after the base's
+abbrev pub IsAlreadySeen : ℕ → ℕ → Decision → Type 0
+IsAlreadySeen base seen (decision.Replied (Accepted n p)) = n ≤ base + seen
+IsAlreadySeen base seen (decision.Replied (Kept n p)) = ⊥
+IsAlreadySeen base seen (decision.Replied (Refused r)) = ⊥
+IsAlreadySeen base seen decision.NoMemory = ⊥
+IsAlreadySeen base seen (decision.Fault f) = ⊥
+
+-- what was received is for another command, its list is shorter than what was seen, or it accepts under a number that was seen
+abbrev pub IsMisfit : State → Asked Global → List (Asked Global) → Sent → Type 0
+IsMisfit base c seen x = (x.command ≡ c → ⊥) ⊎ (length x.published < length seen) ⊎ IsAlreadySeen base.count (length seen) x.decision
+
+-- the command was put into the queue, after all that the session put there
+abbrev pub IsPut : Asked Global → List Entry → List Entry → Type 0
+IsPut c old new = (request : Request) × (arc_value request.command ≡ c) × (new ≡ old ++ Submitted request ∷ [])
+
+module _ {J : Type 0} where
+  -- the answer for a decision
+  abbrev pub answer_by : List (Asked Global) → Decision → Answer J
+  answer_by published (decision.Replied (Accepted n p)) = answer.Accepted n p published
+  answer_by published (decision.Replied (Kept n p)) = answer.Kept n p
+  answer_by published (decision.Replied (Refused r)) = answer.Refused r
+  answer_by published decision.NoMemory = answer.NoMemory
+  answer_by published (decision.Fault f) = answer.Fault f
+
+  -- What an answer says of its command, with the lists that are seen before and now. Accepted: the published list begins with
+  -- all that was seen, and is now seen; the command is in it at its number, past all that was seen, with this reply. Kept: if
+  -- the list that is now seen is as long, it has this number and reply for the station's command of that sequence, or the base
+  -- has. Refused: so it is after some list of commands that are accepted in turn.
+  abbrev pub BearsOutAnswer : State → Asked Global → List (Asked Global) → List (Asked Global) → Answer J → Type 0
+  BearsOutAnswer base c seen now (answer.Accepted n p published) =
+      IsPrefix seen published × (base.count + length seen < n) × Lands base published c n p × (now ≡ published)
+  BearsOutAnswer base c seen now (answer.Kept n p) = n ≤ base.count + length now → IsKeptOf base now c n p
+  BearsOutAnswer base c seen now (answer.Refused r) = (l : List (Asked Global)) × IsHistory base l × (reply_to (after base l) c ≡ Refused r)
+  BearsOutAnswer base c seen now answer.NoMemory = Unit {0}
+  BearsOutAnswer base c seen now (answer.Fault f) = Unit {0}
+  BearsOutAnswer base c seen now answer.Closed = Unit {0}
+
+  -- what was received is the answer, and its list is seen now; or it does not fit, and the session is closed
+  abbrev pub Fits : State → Asked Global → List (Asked Global) → Sent → List (Asked Global) → Answer J → Type 0
+  Fits base c seen x now a = ((a ≡ answer_by x.published x.decision) × (now ≡ x.published)) ⊎ (IsMisfit base c seen x × (a ≡ answer.Closed) × (now ≡ seen))
+
+  -- one answer was received
+  abbrev pub IsAnswered : State → Asked Global → SessionView → SessionView → Answer J → Type 0
+  IsAnswered base c old new a = (x : Sent) × (new.received ≡ old.received ++ x ∷ []) × Fits base c old.seen x new.seen a
+
+  -- none was received, since the flusher is gone
+  abbrev pub IsUnanswered : SessionView → SessionView → Answer J → Type 0
+  IsUnanswered old new a = (new.received ≡ old.received) × (new.seen ≡ old.seen) × (a ≡ answer.Closed)
+
+  -- memory ran out before the command was put into the queue, and nothing has changed
+  abbrev pub IsOutOfMemory : SessionView → SessionView → Answer J → Type 0
+  IsOutOfMemory old new a = (new ≡ old) × (a ≡ answer.NoMemory)
+
+  -- the command was put into the queue; or memory ran out before
+  abbrev pub HasPut : Asked Global → SessionView → SessionView → Answer J → Type 0
+  HasPut c old new a = IsPut c old.sent new.sent ⊎ IsOutOfMemory old new a
+
+  -- one answer was received, or none; or memory ran out before the command was put into the queue
+  abbrev pub HasReceived : State → Asked Global → SessionView → SessionView → Answer J → Type 0
+  HasReceived base c old new a = IsAnswered base c old new a ⊎ IsUnanswered old new a ⊎ IsOutOfMemory old new a

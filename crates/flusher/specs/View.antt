@@ -1,0 +1,66 @@
+-- The flusher as contracts see it.
+use Rattle.std.specs.Prelude.{Bool, false, cond, is_some, List, ◌++◌}
+use Rattle.std.specs.declared.alloc.Global.{Global}
+use Rattle.sector_disk.specs.declared.disk.Disk.{Ghosts}
+use Rattle.centre_core.specs.Asked.{Asked}
+use Rattle.station_queue.specs.Ends.{Taking}
+use Rattle.answers.specs.declared.channel.AnswerSender.{AnswerSender}
+use Rattle.recovery.specs.Lives.{StoreView, view_of as store_view}
+use Rattle.flusher.specs.Shared.{commands_in}
+use Rattle.flusher.specs.Stages.{Sent, Stage, stage}
+use Rattle.flusher.specs.declared.publishing.Publication.{Publication}
+use Rattle.flusher.specs.declared.committing.Attempts.{Attempts}
+use Rattle.flusher.specs.declared.committing.Committer.{Committer}
+use Rattle.flusher.specs.declared.flusher.Flusher.{Flusher}
+
+-- The taker of the queue; the commands that are published, and those that are durable; the channels, one for each station; the store;
+-- how often it was told to commit, and whether the last commit was out of memory; and of each station whether its end was taken.
+pub record FlusherView (D : Type 0) : Type 0 where
+  pub taker : Taking
+  pub published : List (Asked Global)
+  pub durable : List (Asked Global)
+  pub senders : List (AnswerSender Sent)
+  pub store : StoreView Global D
+  pub attempts : Attempts
+  pub ended : List Bool
+
+-- all that is durable: what the publisher has, and what it does not have yet
+abbrev pub durable_of : {J : Type 0} → Publication J → List (Asked Global)
+durable_of p = p.publisher.appended ++ commands_in p.unpublished.items
+
+-- the flusher, as contracts see it
+abbrev pub view_of : {J D : Type 0} {g : Ghosts D} → Flusher J D g → FlusherView D
+view_of f = record {
+  taker = f.taker;
+  published = f.publication.publisher.published;
+  durable = durable_of f.publication;
+  senders = f.senders.items;
+  store = store_view f.committer.store;
+  attempts = f.committer.attempts;
+  ended = f.ended.items;
+}
+
+-- how far the centre is: what is published, what is durable, its store, and whether the last commit was out of memory
+pub record Progress (D : Type 0) : Type 0 where
+  pub published : List (Asked Global)
+  pub durable : List (Asked Global)
+  pub store : StoreView Global D
+  pub attempts : Attempts
+
+abbrev pub progress : {D : Type 0} → List (Asked Global) → List (Asked Global) → StoreView Global D → Attempts → Progress D
+progress published durable store attempts = record { published = published; durable = durable; store = store; attempts = attempts }
+
+abbrev pub progress_of : {D : Type 0} → FlusherView D → Progress D
+progress_of f = progress f.published f.durable f.store f.attempts
+
+-- so of its parts
+abbrev pub progress_by : {J D : Type 0} {g : Ghosts D} → Publication J → Committer D g → Progress D
+progress_by p c = progress p.publisher.published (durable_of p) (store_view c.store) c.attempts
+
+-- whether a checkpoint is under way in a store that is not broken
+abbrev pub is_checking : {D : Type 0} → StoreView Global D → Bool
+is_checking store = cond store.broken false (is_some store.beside)
+
+-- the same in the core
+abbrev pub stage_of : {D : Type 0} → Progress D → Stage
+stage_of f = stage f.published f.durable (is_checking f.store) f.store.broken

@@ -1,0 +1,31 @@
+use centre_core::Refusal;
+use identity::Bits;
+use recovery::StoreFault;
+use snapshots::{Centre, Published};
+use std::alloc::Global;
+
+/// How a submitted command was answered.
+#[derive(Drop)]
+pub enum Answer<J: Centre> {
+    /// It was accepted under this number, with this PDU of its reply. It is in the published list, which the session has
+    /// now seen.
+    Accepted {
+        number: u64,
+        pdu: Option<Bits<Global>>,
+        published: Published<J>,
+    },
+    /// A command of its station and sequence was accepted under this number, with this PDU: one that was submitted earlier,
+    /// or this one. In both cases it is durable. If this one, it is not published yet, since memory ran out.
+    Kept {
+        number: u64,
+        pdu: Option<Bits<Global>>,
+    },
+    /// It was refused.
+    Refused(Refusal<Global>),
+    /// Memory ran out before it was accepted.
+    NoMemory,
+    /// The device failed, now or earlier, or the last epoch is used up.
+    Fault(StoreFault),
+    /// The flusher is gone, or what was received does not fit the command.
+    Closed,
+}

@@ -1,0 +1,138 @@
+//! A batch: how it is taken, and how it is committed.
+ghost use Rattle.std.specs.Prelude.{◌≡◌, ◌≤◌, ◌<◌, ◌*◌, ◌++◌, ◌+◌, ◌∷◌, [], false, IsErrOf, List, MatchBool, length};
+ghost use Rattle.recovery.specs.declared.fault.StoreFault.TheVariants.{Unready};
+ghost use Rattle.std.specs.VecDeque.{deque_capacity};
+ghost use Rattle.std.specs.List.{flat_map};
+ghost use Rattle.command_bytes.specs.Text.{command_text, longest};
+ghost use Rattle.station_queue.specs.declared.entry.Entry.{Entry};
+ghost use Rattle.station_queue.specs.Entries.{station_of};
+ghost use Rattle.recovery.specs.Lives.{view_of};
+ghost use Rattle.recovery.specs.Outcomes.{asked};
+ghost use Rattle.flusher.specs.Shared.{commands_in, commands_among};
+ghost use Rattle.flusher.specs.Batches.{AreWithin, FailsByDisk, HasCommitted, HasTaken, HoldsImages, ended_by};
+
+use crate::committing::Committer;
+use centre_core::Command;
+use command_bytes::text_len;
+use recovery::{Outcome, StoreFault};
+use sector_disk::Disk;
+use station_queue::{Entry, Request, SharedCommand, Taker};
+use std::alloc::Global;
+use std::collections::VecDeque;
+use std::sync::Wait;
+
+/// The most entries of a round.
+pub(crate) const MOST: usize = 64;
+
+/// The commands of a round, each with its copy: there is room for 64.
+#[derive(Drop)]
+pub struct Room {
+    pub(crate) batch: VecDeque<SharedCommand>,
+    pub(crate) copies: VecDeque<SharedCommand>,
+    pub ghost same: { commands_in copies.items ≡ commands_in batch.items },
+    pub ghost few: { length batch.items ≤ 64 },
+    pub ghost room: { 64 ≤ deque_capacity batch },
+    pub ghost also_room: { 64 ≤ deque_capacity copies },
+}
+
+// Keeps the command of an entry with its copy, or notes an end.
+fn put(entry: Entry, room: &mut Room, ended: &mut Vec<bool>)
+    requires few { length room.old.batch.items < 64 }
+    requires station { (0 < station_of entry) × (station_of entry ≤ length ended.old.items) }
+    ensures batch { commands_in room.new.batch.items ≡ commands_in room.old.batch.items ++ commands_among (entry ∷ []) }
+    ensures few { length room.new.batch.items ≤ length room.old.batch.items + 1 }
+    ensures ended { ended.new.items ≡ ended_by (entry ∷ []) ended.old.items }
+{
+    match entry {
+        Entry::Submitted(request) => {
+            let Request { command, copy } = request;
+            room.batch.push_back_reserved(command);
+            room.copies.push_back_reserved(copy);
+        }
+        Entry::Ended(station) => ended[usize::from(station.number()) - 1] = true,
+    }
+}
+
+/// Takes entries until there are 64 or the queue is empty: the commands among them, and the stations that ended.
+pub(crate) fn take_batch<R: Wait>(rt: &R, taker: &mut Taker, room: &mut Room, ended: &mut Vec<bool>)
+    requires empty { room.old.batch.items ≡ [] }
+    requires flags { taker.old.made ≡ length ended.old.items }
+    ensures taken { (popped : List Entry) × HasTaken taker.old popped taker.new × (commands_among popped ≡ commands_in room.new.batch.items)
+        × (ended.new.items ≡ ended_by popped ended.old.items) }
+    ensures stations { AreWithin taker.old.made (commands_in room.new.batch.items) }
+{
+    for _ in 0..MOST {
+        let Some(entry) = taker.take(rt) else {
+            return;
+        };
+        put(entry, room, ended);
+    }
+}
+
+// How many bytes the commands take: so few that a record of them fits after a checkpoint.
+fn size_of(commands: &[&Command<Global>]) -> usize
+    requires few { length commands.now ≤ 64 }
+    ensures size { result ≡ length (flat_map (λ command. command_text command.now) commands.now) }
+    ensures most { result ≤ longest * length commands.now }
+{
+    let mut size = 0;
+    for command in commands {
+        size += text_len(command);
+    }
+    size
+}
+
+// Whether a checkpoint is to be made first.
+fn is_unready(done: &Result<Vec<Outcome<Global>>, StoreFault>) -> bool
+    ensures { MatchBool result (IsErrOf done.now Unready) (IsErrOf done.now Unready → ⊥) }
+{
+    match done {
+        Err(StoreFault::Unready) => true,
+        _ => false,
+    }
+}
+
+// Commits the commands. Where a record of them would not fit, a checkpoint is made first.
+fn commit_with_room<D: Disk>(
+    committer: &mut Committer<D>,
+    commands: &[&Command<Global>],
+) -> Result<Vec<Outcome<Global>>, StoreFault>
+    requires sound { committer.old.store.broken ≡ false }
+    requires few { length commands.now ≤ 64 }
+    requires some { 0 < length commands.now }
+    ensures committed { HasCommitted (asked commands.now) (view_of committer.old.store) (view_of committer.new.store)
+        result committer.old.attempts committer.new.attempts }
+    ensures images { HoldsImages D.view (view_of committer.old.store) (view_of committer.new.store) }
+    ensures fails { FailsByDisk D.view (view_of committer.old.store) (view_of committer.new.store) }
+{
+    let first = committer.commit(commands);
+    if !is_unready(&first) {
+        return first;
+    }
+    let _size = size_of(commands);
+    committer.make_room()?;
+    committer.commit(commands)
+}
+
+/// Commits the commands of a batch.
+pub(crate) fn commit_batch<D: Disk>(
+    committer: &mut Committer<D>,
+    batch: &VecDeque<SharedCommand>,
+) -> Result<Vec<Outcome<Global>>, StoreFault>
+    requires sound { committer.old.store.broken ≡ false }
+    requires few { length batch.now.items ≤ 64 }
+    ensures committed { HasCommitted (commands_in batch.now.items) (view_of committer.old.store) (view_of committer.new.store)
+        result committer.old.attempts committer.new.attempts }
+    ensures images { HoldsImages D.view (view_of committer.old.store) (view_of committer.new.store) }
+    ensures fails { FailsByDisk D.view (view_of committer.old.store) (view_of committer.new.store) }
+{
+    if batch.is_empty() {
+        return Ok(Vec::new(committer.alloc));
+    }
+    let first: &Command<Global> = &batch[0];
+    let mut commands = [first; MOST];
+    for k in 0..batch.len() {
+        commands[k] = &batch[k];
+    }
+    commit_with_room(committer, &commands[..batch.len()])
+}

@@ -1,0 +1,137 @@
+//! Closing a centre.
+ghost use Rattle.std.specs.Prelude.{◌≡◌, ◌<◌, [], ◌∷◌, All, Any, MatchBool, IfOk, IfErr, map, length};
+ghost use Rattle.std.specs.List.{AllZip};
+ghost use mathlib.Core.List.{IsPrefix};
+ghost use Rattle.crossbeam_channel.specs.Ends.{sends_on, receives_on};
+ghost use Rattle.answers.specs.Views.{sent_of, received_of};
+ghost use Rattle.station_queue.specs.Ends.{with_settled};
+ghost use Rattle.station_queue.specs.Order.{settled};
+ghost use Rattle.recovery.specs.Lives.{view_of as store_view};
+ghost use Rattle.flusher.specs.View.{view_of};
+ghost use Rattle.flusher.specs.Served.{IsSettled};
+ghost use Rattle.flusher.specs.Closed.{AreSessionsOf, IsClosed, IsNotClosed};
+
+use crate::flusher::Flusher;
+use crate::publishing::Publication;
+use crate::response::Response;
+use crate::session::Ended;
+use answers::AnswerSender;
+use recovery::Store;
+use sector_disk::Disk;
+use snapshots::{Centre, Published};
+use station_queue::Taker;
+use std::alloc::Global;
+use std::sync::Wait;
+
+// Whether each session has seen a prefix of what is published.
+fn have_seen<J: Centre>(ended: &[Ended<J>], published: &Published<J>) -> bool
+    ensures { MatchBool result (All (λ e. IsPrefix e.viewer published.now) ended.now) (Any (λ e. length published.now < length e.viewer) ended.now) }
+{
+    for end in ended {
+        if !end.viewer.is_within(published) {
+            return false;
+        }
+    }
+    true
+}
+
+// Takes both ends of a session back.
+fn settle<J: Centre>(taker: &mut Taker, sender: AnswerSender<Response<J>>, end: Ended<J>)
+    requires queue { end.sender.queue ≡ taker.old.queue }
+    requires channel { receives_on end.receiver.channel ≡ sends_on sender.channel }
+    ensures settled { taker.new ≡ with_settled taker.old (settled end.sender.station end.sender.sent ∷ []) }
+    ensures received { IsPrefix (received_of end.receiver.pass) (sent_of sender.pass) }
+{
+    let Ended {
+        sender: queue,
+        receiver,
+        viewer: _,
+    } = end;
+    taker.settle(queue);
+    sender.settle(receiver);
+}
+
+// The same of each session.
+fn settle_each<J: Centre>(
+    taker: &mut Taker,
+    senders: Vec<AnswerSender<Response<J>>>,
+    ended: Vec<Ended<J>>,
+)
+    requires queue { All (λ e. e.sender.queue ≡ taker.old.queue) ended.items }
+    requires channels { AllZip (λ s e. receives_on e.receiver.channel ≡ sends_on s.channel) senders.items ended.items }
+    ensures settled { taker.new ≡ with_settled taker.old (map (λ e. settled e.sender.station e.sender.sent) ended.items) }
+    ensures received { AllZip (λ s e. IsPrefix (received_of e.receiver.pass) (sent_of s.pass)) senders.items ended.items }
+{
+    let mut senders = senders.into_iter();
+    for end in ended {
+        let Some(sender) = senders.next() else {
+            return;
+        };
+        settle(taker, sender, end);
+    }
+}
+
+// Ends the publisher. What is not published yet is dropped.
+fn end_publisher<J: Centre, R: Wait>(rt: &R, publication: Publication<J>) {
+    let Publication {
+        publisher,
+        unpublished: _,
+    } = publication;
+    publisher.close(rt);
+}
+
+/// Closes a centre, and gives its store back. The ended sessions are all that the centre has, in order of station.
+///
+/// Both come back unchanged where the flusher has not taken the end of each session. So they do where a session has seen
+/// more commands than are published, which never happens.
+pub fn close<J: Centre, D: Disk, R: Wait>(
+    rt: &R,
+    flusher: Flusher<J, D>,
+    ended: Vec<Ended<J>>,
+) -> Result<Store<Global, D>, (Flusher<J, D>, Vec<Ended<J>>)>
+    requires settled { IsSettled J.base (view_of flusher) }
+    requires sessions { AreSessionsOf (view_of flusher) ended.items }
+    ensures store { IfOk result (λ store. store_view store ≡ (view_of flusher).store) }
+    ensures closed { IfOk result (λ _. IsClosed J.base (view_of flusher) ended.items) }
+    ensures refused { IfErr result (λ back. (back.0 ≡ flusher) × (back.1 ≡ ended) × IsNotClosed (view_of flusher) ended.items) }
+{
+    if !flusher.has_ended() {
+        return Err((flusher, ended));
+    }
+    if !have_seen(&ended, &flusher.publication.publisher.published()) {
+        return Err((flusher, ended));
+    }
+    let Flusher {
+        mut taker,
+        senders,
+        publication,
+        committer,
+        room: _,
+        ended: _,
+        rounds: _,
+    } = flusher;
+    settle_each(&mut taker, senders, ended);
+    taker.total();
+    end_publisher(rt, publication);
+    Ok(committer.store)
+}
+
+impl<J: Centre, D: Disk> Flusher<J, D> {
+    /// Gives the store back without closing the centre. Entries that are still in the queue are lost, and each session
+    /// that waits for an answer gets `Closed`.
+    pub fn abandon<R: Wait>(self, rt: &R) -> Store<Global, D>
+        ensures { store_view result ≡ (view_of self).store }
+    {
+        let Flusher {
+            taker: _,
+            senders: _,
+            publication,
+            committer,
+            room: _,
+            ended: _,
+            rounds: _,
+        } = self;
+        end_publisher(rt, publication);
+        committer.store
+    }
+}

@@ -1,0 +1,102 @@
+//! The store that commits, and whether its last commit was out of memory.
+ghost use Rattle.std.specs.Prelude.{◌≡◌, ◌↔◌, ◌≤◌, ◌<◌, IsTrue, IsErrOf, MatchBool, true, false, length};
+ghost use Rattle.recovery.specs.declared.fault.StoreFault.TheVariants.{NoMemory};
+ghost use Rattle.recovery.specs.Lives.{view_of};
+ghost use Rattle.recovery.specs.Outcomes.{asked};
+ghost use Rattle.flusher.specs.Attempts.{HasAttempted, IsNext};
+ghost use Rattle.flusher.specs.Batches.{FailsByDisk, HasMadeRoom, HasTried, HoldsImages};
+
+use centre_core::Command;
+use recovery::{Outcome, Store, StoreFault};
+use sector_disk::Disk;
+use std::alloc::Global;
+
+/// How many commits were tried, counted from 0 again after the greatest number; and whether the last one was out of memory.
+#[derive(Drop)]
+pub struct Attempts {
+    count: u64,
+    refused: bool,
+}
+
+/// A store that commits, and how its commits were tried.
+#[derive(Drop)]
+pub struct Committer<D: Disk> {
+    pub(crate) store: Store<Global, D>,
+    pub(crate) alloc: Global,
+    attempts: Attempts,
+}
+
+impl<D: Disk> Committer<D> {
+    /// A store that has not committed yet.
+    pub(crate) fn new(alloc: Global, store: Store<Global, D>) -> Committer<D>
+        ensures { result.store ≡ store }
+    {
+        Committer {
+            store,
+            alloc,
+            attempts: Attempts {
+                count: 0,
+                refused: false,
+            },
+        }
+    }
+
+    /// Whether the disk has not failed.
+    pub(crate) fn is_sound(&self) -> bool
+        ensures { MatchBool result (self.now.store.broken ≡ false) (self.now.store.broken ≡ true) }
+    {
+        self.store.register().is_some()
+    }
+
+    /// One call of the store's commit.
+    pub(crate) fn commit(
+        &mut self,
+        commands: &[&Command<Global>],
+    ) -> Result<Vec<Outcome<Global>>, StoreFault>
+        requires sound { self.old.store.broken ≡ false }
+        requires few { length commands.now ≤ 64 }
+        requires some { 0 < length commands.now }
+        ensures tried { HasTried (asked commands.now) (view_of self.old.store) (view_of self.new.store) result }
+        ensures attempted { HasAttempted self.old.attempts result self.new.attempts }
+        ensures images { HoldsImages D.view (view_of self.old.store) (view_of self.new.store) }
+        ensures fails { FailsByDisk D.view (view_of self.old.store) (view_of self.new.store) }
+    {
+        let done = self.store.commit(self.alloc, commands);
+        self.attempts = Attempts {
+            count: next(self.attempts.count),
+            refused: is_out_of_memory(&done),
+        };
+        done
+    }
+
+    /// One call of the store's checkpoint.
+    pub(crate) fn make_room(&mut self) -> Result<(), StoreFault>
+        requires sound { self.old.store.broken ≡ false }
+        ensures attempts { self.new.attempts ≡ self.old.attempts }
+        ensures made { HasMadeRoom (view_of self.old.store) (view_of self.new.store) result }
+        ensures images { HoldsImages D.view (view_of self.old.store) (view_of self.new.store) }
+        ensures fails { FailsByDisk D.view (view_of self.old.store) (view_of self.new.store) }
+    {
+        self.store.checkpoint()
+    }
+}
+
+// The number after this one: 0 after the greatest.
+fn next(count: u64) -> u64
+    ensures { IsNext count result }
+{
+    if count == u64::MAX {
+        return 0;
+    }
+    count + 1
+}
+
+// Whether a commit was out of memory.
+fn is_out_of_memory(done: &Result<Vec<Outcome<Global>>, StoreFault>) -> bool
+    ensures { IsTrue result ↔ IsErrOf done.now NoMemory }
+{
+    match done {
+        Err(StoreFault::NoMemory) => true,
+        _ => false,
+    }
+}

@@ -1,0 +1,96 @@
+//! The one thread that commits.
+ghost use Rattle.std.specs.Prelude.{◌≡◌, [], None, Some, length, MatchBool};
+ghost use Rattle.recovery.specs.declared.fault.StoreFault.TheVariants.{Broken};
+
+use crate::batch::{Room, take_batch};
+use crate::committing::Committer;
+use crate::publishing::Publication;
+use crate::response::Response;
+use crate::serving::{commit_and_answer, refuse};
+use answers::AnswerSender;
+use recovery::StoreFault;
+use sector_disk::Disk;
+use snapshots::Centre;
+use station_queue::Taker;
+use std::sync::Wait;
+
+/// It is called in each round, before the round commits.
+pub trait Gate {
+    /// The round of this number, counted from 1, has taken so many commands, and commits them now.
+    fn before_commit(&self, round: u64, taken: usize);
+}
+
+/// The one thread that commits. It is not `Drop`: end it by `close`.
+pub struct Flusher<J: Centre, D: Disk> {
+    pub(crate) taker: Taker,
+    pub(crate) senders: Vec<AnswerSender<Response<J>>>,
+    pub(crate) publication: Publication<J>,
+    pub(crate) committer: Committer<D>,
+    pub(crate) room: Room,
+    pub(crate) ended: Vec<bool>,
+    pub(crate) rounds: u64,
+    pub ghost stations: { taker.made ≡ length senders.items },
+    pub ghost flags: { taker.made ≡ length ended.items },
+    pub ghost empty: { room.batch.items ≡ [] },
+}
+
+// Why nothing is committed: out of memory, or the disk has failed.
+fn fault_of(sound: bool) -> Option<StoreFault>
+    ensures { MatchBool sound (result ≡ None) (result ≡ Some Broken) }
+{
+    if sound {
+        None
+    } else {
+        Some(StoreFault::Broken)
+    }
+}
+
+impl<J: Centre, D: Disk> Flusher<J, D> {
+    ghost use Rattle.std.specs.Prelude.{◌≡◌, ◌≤◌, true, false};
+    ghost use Rattle.std.specs.declared.alloc.Global.{Global};
+    ghost use Rattle.sector_disk.specs.Disk.{HasFailed};
+    ghost use Rattle.sector_disk.specs.Run.{LeavesOnly};
+    ghost use Rattle.recovery.specs.Outcomes.{StandsForEither};
+    ghost use Rattle.flusher.specs.Rounds.{IsRound};
+    ghost use Rattle.flusher.specs.Served.{IsSettled};
+    ghost use Rattle.flusher.specs.Stored.{IsStoredFor};
+    ghost use Rattle.flusher.specs.View.{view_of};
+
+    /// One round: publishes what an earlier round left, takes commands, commits them, publishes those that are accepted,
+    /// and answers each.
+    pub fn round<R: Wait, T: Gate>(&mut self, rt: &R, gate: &T)
+        requires settled { IsSettled J.base (view_of self.old) }
+        ensures settled { IsSettled J.base (view_of self.new) }
+        ensures round { IsRound J.base (view_of self.old) (view_of self.new) }
+
+        // Each image of the disk stands for what is durable. A stop at any moment of the round leaves it standing for the
+        // register before the round or for that after it. Only a failure of the disk breaks the store.
+        ensures stored { IsStoredFor D.view J.base (view_of self.old) → IsStoredFor D.view J.base (view_of self.new) }
+        ensures any_moment { IsStoredFor D.view J.base (view_of self.old) → self.old.committer.store.broken ≡ false
+            → LeavesOnly (D.view self.old.committer.store.disk) (D.view self.new.committer.store.disk)
+            (StandsForEither Global self.old.committer.store.register self.new.committer.store.register) }
+        ensures later { (D.view self.old.committer.store.disk).failures ≤ (D.view self.new.committer.store.disk).failures }
+        ensures failed { self.old.committer.store.broken ≡ false → self.new.committer.store.broken ≡ true
+            → HasFailed (D.view self.old.committer.store.disk) (D.view self.new.committer.store.disk) }
+    {
+        let Flusher {
+            taker,
+            senders,
+            publication,
+            committer,
+            room,
+            ended,
+            rounds,
+        } = self;
+        let sound = committer.is_sound();
+        let level = publication.catch_up(rt, sound);
+        take_batch(rt, taker, room, ended);
+        *rounds = rounds.saturating_add(1);
+        gate.before_commit(*rounds, room.batch.len());
+        if level {
+            commit_and_answer(rt, committer, publication, senders, room);
+            return;
+        }
+        refuse(rt, publication, senders, fault_of(sound), room);
+    }
+}

@@ -1,0 +1,25 @@
+//! One flusher and many sessions over one store: sessions submit commands and wait for their answers, and the flusher
+//! commits what has gathered, publishes it and answers.
+#![tactic(auto)]
+
+mod answer;
+mod answering;
+mod batch;
+mod closing;
+mod committing;
+mod decision;
+mod flusher;
+mod opening;
+mod publishing;
+mod response;
+mod running;
+mod serving;
+mod session;
+
+pub use answer::Answer;
+pub use closing::close;
+pub use decision::Decision;
+pub use flusher::{Flusher, Gate};
+pub use opening::{CentreFault, open_centre};
+pub use response::Response;
+pub use session::{Ended, Session};

@@ -1,0 +1,143 @@
+//! Publishing what is durable.
+ghost use Rattle.std.specs.Prelude.{◌≡◌, ◌≤◌, ◌++◌, [], length, MatchBool};
+ghost use Rattle.std.specs.VecDeque.{deque_capacity};
+ghost use Rattle.centre_core.specs.Histories.{IsHistory};
+ghost use Rattle.flusher.specs.Shared.{commands_in};
+ghost use Rattle.flusher.specs.Batches.{accepted_by};
+
+use centre_core::Reply;
+use recovery::Outcome;
+use snapshots::{Centre, Published, Publisher};
+use station_queue::SharedCommand;
+use std::alloc::Global;
+use std::collections::VecDeque;
+use std::sync::Wait;
+
+/// The publisher, and the durable commands that it does not have yet: there is room for 64.
+pub struct Publication<J: Centre> {
+    pub(crate) publisher: Publisher<J>,
+    pub(crate) unpublished: VecDeque<SharedCommand>,
+    pub ghost room: { 64 ≤ deque_capacity unpublished },
+    pub ghost within: { length publisher.published ≤ length publisher.appended },
+}
+
+/// What is published when answers go out, and whether that is all that is durable.
+#[derive(Drop)]
+pub(crate) struct Shown<J: Centre> {
+    pub(crate) published: Published<J>,
+    pub(crate) all: bool,
+}
+
+// Appends what is durable and publishes it. False if it ran out of memory; then nothing new is published.
+fn publish_all<J: Centre, R: Wait>(
+    rt: &R,
+    publisher: &mut Publisher<J>,
+    unpublished: &mut VecDeque<SharedCommand>,
+) -> bool
+    requires { IsHistory J.base (publisher.old.appended ++ commands_in unpublished.old.items) }
+    ensures durable { publisher.new.appended ++ commands_in unpublished.new.items ≡ publisher.old.appended ++ commands_in unpublished.old.items }
+    ensures published { MatchBool result ((publisher.new.published ≡ publisher.new.appended) × (unpublished.new.items ≡ []))
+        (publisher.new.published ≡ publisher.old.published) }
+    ensures grows { length publisher.old.appended ≤ length publisher.new.appended }
+    ensures room { deque_capacity unpublished.new ≡ deque_capacity unpublished.old }
+{
+    while let Some(command) = unpublished.pop_front() {
+        if let Err(command) = publisher.append(command) {
+            unpublished.push_front_reserved(command);
+            return false;
+        }
+    }
+    publisher.publish(rt).is_ok()
+}
+
+impl<J: Centre> Publication<J> {
+    ghost use Rattle.std.specs.Prelude.{◌≡◌, ◌≤◌, ◌<◌, [], true, false, length, MatchBool};
+    ghost use Rattle.std.specs.VecDeque.{deque_capacity};
+    ghost use Rattle.centre_core.specs.Histories.{IsHistory};
+    ghost use Rattle.flusher.specs.Shared.{commands_in};
+    ghost use Rattle.flusher.specs.Batches.{accepted_by};
+    ghost use Rattle.flusher.specs.View.{durable_of};
+
+    // Whether all that is durable is published.
+    fn is_level(&self) -> bool
+        ensures { MatchBool result ((self.now.publisher.published ≡ self.now.publisher.appended) × (self.now.unpublished.items ≡ []))
+            (self.now.publisher.published ≡ durable_of self.now → ⊥) }
+    {
+        self.unpublished.is_empty() && self.publisher.is_level()
+    }
+
+    /// Publishes what an earlier round left, where the disk has not failed. Whether all that is durable is published then.
+    pub(crate) fn catch_up<R: Wait>(&mut self, rt: &R, sound: bool) -> bool
+        requires { IsHistory J.base (durable_of self.old) }
+        ensures durable { durable_of self.new ≡ durable_of self.old }
+        ensures level { MatchBool result
+            ((self.new.publisher.published ≡ self.new.publisher.appended) × (self.new.unpublished.items ≡ []) × (sound ≡ true))
+            (self.new.publisher.published ≡ self.old.publisher.published) }
+        ensures behind { result ≡ false → sound ≡ true → self.old.publisher.published ≡ durable_of self.old → ⊥ }
+    {
+        if !sound {
+            return false;
+        }
+        if self.is_level() {
+            return true;
+        }
+        publish_all(rt, &mut self.publisher, &mut self.unpublished)
+    }
+
+    /// Keeps the copies of the commands that were accepted, and lets the others go.
+    pub(crate) fn keep(
+        &mut self,
+        copies: &mut VecDeque<SharedCommand>,
+        outcomes: &[Outcome<Global>],
+    )
+        requires empty { self.old.unpublished.items ≡ [] }
+        requires few { length copies.old.items ≤ 64 }
+        ensures publisher { self.new.publisher ≡ self.old.publisher }
+        ensures kept { commands_in self.new.unpublished.items ≡ accepted_by (commands_in copies.old.items) outcomes.now }
+        ensures done { copies.new.items ≡ [] }
+        ensures room { deque_capacity copies.new ≡ deque_capacity copies.old }
+    {
+        keep_accepted(&mut self.unpublished, copies, outcomes);
+    }
+
+    /// Publishes what was just kept, if anything was. False only where something was.
+    pub(crate) fn publish_new<R: Wait>(&mut self, rt: &R) -> Shown<J>
+        requires history { IsHistory J.base (durable_of self.old) }
+        requires level { self.old.publisher.published ≡ self.old.publisher.appended }
+        ensures durable { durable_of self.new ≡ durable_of self.old }
+        ensures published { MatchBool result.all (self.new.publisher.published ≡ durable_of self.new)
+            ((self.new.publisher.published ≡ self.old.publisher.published) × (0 < length (commands_in self.old.unpublished.items))) }
+        ensures shown { result.published ≡ self.new.publisher.published }
+    {
+        let all = self.unpublished.is_empty()
+            || publish_all(rt, &mut self.publisher, &mut self.unpublished);
+        Shown {
+            published: self.publisher.published(),
+            all,
+        }
+    }
+}
+
+// Keeps the copies of the commands that were accepted, for which there is room, and lets the others go.
+fn keep_accepted(
+    unpublished: &mut VecDeque<SharedCommand>,
+    copies: &mut VecDeque<SharedCommand>,
+    outcomes: &[Outcome<Global>],
+)
+    requires empty { unpublished.old.items ≡ [] }
+    requires room { length copies.old.items ≤ deque_capacity unpublished.old }
+    ensures kept { commands_in unpublished.new.items ≡ accepted_by (commands_in copies.old.items) outcomes.now }
+    ensures done { copies.new.items ≡ [] }
+    ensures room { deque_capacity unpublished.new ≡ deque_capacity unpublished.old }
+    ensures also_room { deque_capacity copies.new ≡ deque_capacity copies.old }
+{
+    for outcome in outcomes {
+        let Some(copy) = copies.pop_front() else {
+            return;
+        };
+        if let Outcome::Replied(Reply::Accepted { .. }) = outcome {
+            unpublished.push_back_reserved(copy);
+        }
+    }
+    copies.clear();
+}

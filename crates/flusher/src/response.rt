@@ -1,0 +1,48 @@
+//! What the flusher sends to a session.
+ghost use Rattle.std.specs.Prelude.{◌≡◌};
+ghost use Rattle.flusher.specs.Stages.{decision_of};
+
+use crate::decision::Decision;
+use centre_core::Reply;
+use recovery::Outcome;
+use snapshots::{Centre, Published};
+use station_queue::SharedCommand;
+use std::alloc::Global;
+use std::marker::Model;
+
+/// An answer. It brings its command back, with the list that was published when it was sent.
+#[derive(Drop)]
+pub struct Response<J: Centre> {
+    pub(crate) command: SharedCommand,
+    pub(crate) published: Published<J>,
+    pub(crate) decision: Decision,
+}
+
+impl<J: Centre> Model for Response<J> {
+    ghost use Rattle.std.specs.Arc.{arc_value};
+    ghost use Rattle.centre_core.specs.Histories.{IsHistory};
+    ghost use Rattle.flusher.specs.Stages.{Sent, sent, BearsOutDecision};
+
+    ghost Value = { Sent };
+
+    ghost view = { λ r. sent (arc_value r.command) r.published r.decision };
+
+    ghost invariant = { λ r. IsHistory J.base r.published × BearsOutDecision J.base r.published (arc_value r.command) r.decision };
+}
+
+/// The decision by an outcome of a commit, where all that is durable is published, or not.
+pub(crate) fn decision_of(all: bool, outcome: Outcome<Global>) -> Decision
+    ensures { result ≡ decision_of all outcome }
+{
+    match outcome {
+        Outcome::Replied(Reply::Accepted { number, pdu }) => {
+            if all {
+                Decision::Replied(Reply::Accepted { number, pdu })
+            } else {
+                Decision::Replied(Reply::Kept { number, pdu })
+            }
+        }
+        Outcome::Replied(reply) => Decision::Replied(reply),
+        Outcome::NoMemory => Decision::NoMemory,
+    }
+}
