@@ -14,7 +14,7 @@ use Rattle.flusher.specs.declared.committing.Committer.{Committer}
 use Rattle.flusher.specs.declared.flusher.Flusher.{Flusher}
 
 -- The taker of the queue; the commands that are published, and those that are durable; the channels, one for each station; the store;
--- how often it was told to commit, and whether the last commit was out of memory; and of each station whether its end was taken.
+-- how often it tried to commit, and whether the last commit was out of memory; and of each station whether its end was taken.
 pub record FlusherView (D : Type 0) : Type 0 where
   pub taker : Taking
   pub published : List (Asked Global)
