@@ -17,7 +17,8 @@ from disk_files import LINES, MEMORY, place, queries, register_of
 from images import fault_of
 from made_disks import FORMS
 from pending import Disk, choices
-from reading_disks import NUMBERED, opens
+from reading_disks import NUMBERED, layout_in, opens, side_in
+from reading_stores import ROWS
 from recorder import follow, recorder
 from running import Differs, compare
 from station_lines import Serving, data_of, lines
@@ -92,11 +93,19 @@ def stopped_twice(made, moment, lines, dice):
 
 # The record as a whole
 
+def slot_beside(image):
+    """The sectors of the slot that doesn't count: a checkpoint under way writes its rows there."""
+    layout = layout_in(image[0], len(image))
+    at = layout.slot(1 - side_in(image, layout))
+    return range(at, at + layout.rows())
+
+
 def the_end(place, last, serving):
-    """The record leaves the disk as the file is, and all lasts."""
-    image = place.image()
-    compare('the writes that no sync made last', len(last.disk.pending), 0)
-    compare('the file as it was recorded', last.disk.lasting == image, True)
+    """The record leaves the disk as the file is. All lasts but the rows that the last commit wrote of a checkpoint under way."""
+    image, pending = place.image(), set(last.disk.pending)
+    compare('the writes that no sync made last', pending - set(slot_beside(image)), set())
+    compare('no more rows than a commit writes', len(pending) <= ROWS, True)
+    compare('the file as it was recorded', [last.disk.now(at) for at in range(len(image))] == image, True)
     compare('the commands', register_of(image).count, serving.registers[-1].count)
 
 
