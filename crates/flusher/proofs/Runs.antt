@@ -1,6 +1,6 @@
 -- Rounds, one after another.
-use Rattle.std.proofs.Common.{◌≡◌, ℕ, zero, suc, ◌<◌, true, List, [], ◌∷◌, length, refl, sym, ◌∙◌, arith}
-use Rattle.std.specs.Prelude.{All, IsTrue, Some, slice_get, slice_index_or}
+use Rattle.std.proofs.Common.{◌≡◌, ◌⊎◌, inl, inr, ℕ, zero, suc, ◌+◌, ◌-◌, ◌<◌, ◌≤◌, true, List, [], ◌∷◌, length, refl, sym, ◌∙◌, arith}
+use Rattle.std.specs.Prelude.{◌^◌, All, IsTrue, Some, slice_get, slice_index_or}
 use Rattle.crossbeam_channel.specs.Ends.{sends_on}
 use Rattle.centre_core.specs.State.{State}
 use Rattle.answers.specs.declared.channel.AnswerSender.{AnswerSender}
@@ -55,3 +55,10 @@ module _ {D : Type 0} where
   -- where a flag is not set, an end was not taken
   pub flags_are_set : (f : FlusherView D) → f.taker.made ≡ length f.senders → f.taker.made ≡ length f.ended → AreEnded f.ended f.taker.taken → HasTakenEnds f → All IsTrue f.ended
   flags_are_set f senders flags are has k d lt = (are k (slice_index_or f.ended k d) (item_at f.ended k d lt)).1 (has k (omega (arith, lt, senders, flags)))
+
+-- rounds are counted upwards, and stay at the greatest number
+pub counted_on : (a b c : ℕ) → a ≤ b → (c ≡ b + 1) ⊎ ((b ≡ 2 ^ 64 - 1) × (c ≡ b)) → a ≤ c
+counted_on a b c le h = elim h [ inl e ↦ omega (arith, le, e) | inr e ↦ by_same e.1 ]
+  where
+    by_same : c ≡ b → a ≤ c
+    by_same e = omega (arith, le, e)

@@ -1,5 +1,5 @@
 //! The one thread that commits.
-ghost use Rattle.std.specs.Prelude.{◌≡◌, [], None, Some, length, MatchBool};
+ghost use Rattle.std.specs.Prelude.{◌≡◌, ◌⊎◌, ◌+◌, ◌-◌, ◌^◌, [], None, Some, length, MatchBool};
 ghost use Rattle.recovery.specs.declared.fault.StoreFault.TheVariants.{Broken};
 
 use crate::batch::{Room, take_batch};
@@ -45,6 +45,13 @@ fn fault_of(sound: bool) -> Option<StoreFault>
     }
 }
 
+// The number of the round after this one; the greatest number stays.
+fn next_round(round: u64) -> u64
+    ensures { (result ≡ round + 1) ⊎ ((round ≡ 2 ^ 64 - 1) × (result ≡ round)) }
+{
+    round.saturating_add(1)
+}
+
 impl<J: Centre, D: Disk> Flusher<J, D> {
     ghost use Rattle.std.specs.Prelude.{◌≡◌, ◌≤◌, true, false};
     ghost use Rattle.std.specs.declared.alloc.Global.{Global};
@@ -62,6 +69,7 @@ impl<J: Centre, D: Disk> Flusher<J, D> {
         requires settled { IsSettled J.base (view_of self.old) }
         ensures settled { IsSettled J.base (view_of self.new) }
         ensures round { IsRound J.base (view_of self.old) (view_of self.new) }
+        ensures counted { (self.new.rounds ≡ self.old.rounds + 1) ⊎ ((self.old.rounds ≡ 2 ^ 64 - 1) × (self.new.rounds ≡ self.old.rounds)) }
 
         // Each image of the disk stands for what is durable. A stop at any moment of the round leaves it standing for the
         // register before the round or for that after it. Only a failure of the disk breaks the store.
@@ -85,7 +93,7 @@ impl<J: Centre, D: Disk> Flusher<J, D> {
         let sound = committer.is_sound();
         let level = publication.catch_up(rt, sound);
         take_batch(rt, taker, room, ended);
-        *rounds = rounds.saturating_add(1);
+        *rounds = next_round(*rounds);
         gate.before_commit(*rounds, room.batch.len());
         if level {
             commit_and_answer(rt, committer, publication, senders, room);

@@ -209,6 +209,7 @@ pub fn open_centre<J: Centre, D: Disk, R: Wait>(
     // The flusher has the store, and has taken, committed and sent nothing. The sessions are its own.
     ensures flusher { IfOk result (λ r. IsNewFlusher sessions (store_of store) (view_of r.0)) }
     ensures settled { IfOk result (λ r. IsSettled J.base (view_of r.0)) }
+    ensures uncounted { IfOk result (λ r. r.0.rounds ≡ 0) }
     ensures sessions { IfOk result (λ r. AreNewSessions (view_of r.0).taker.queue (view_of r.0).senders r.1.items) }
 
     // Which fault comes, and that the store comes back as it was.

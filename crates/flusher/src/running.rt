@@ -1,5 +1,5 @@
 //! Rounds, until each session has ended.
-ghost use Rattle.std.specs.Prelude.{◌↔◌, All, IsTrue};
+ghost use Rattle.std.specs.Prelude.{◌≤◌, ◌↔◌, All, IsTrue};
 ghost use Rattle.flusher.specs.View.{view_of};
 ghost use Rattle.flusher.specs.Served.{IsSettled};
 ghost use Rattle.flusher.specs.Stored.{IsStoredFor};
@@ -26,6 +26,7 @@ impl<J: Centre, D: Disk> Flusher<J, D> {
         ensures stored { IsStoredFor D.view J.base (view_of self.old) → IsStoredFor D.view J.base (view_of self.new) }
         ensures ended { HasTakenEnds (view_of self.new) }
         ensures same { HasSameEnds (view_of self.old) (view_of self.new) }
+        ensures counted { self.old.rounds ≤ self.new.rounds }
     {
         for _ in rt.forever() {
             if self.has_ended() {

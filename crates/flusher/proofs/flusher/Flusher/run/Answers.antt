@@ -1,10 +1,11 @@
+use Rattle.std.proofs.Common.{arith}
 use Rattle.flusher.specs.View.{view_of}
 use Rattle.flusher.specs.Runs.{none}
-use Rattle.flusher.proofs.Runs.{ends_are_taken, ends_still, one_more_round, same_ends}
+use Rattle.flusher.proofs.Runs.{counted_on, ends_are_taken, ends_still, one_more_round, same_ends}
 use Rattle.flusher.proofs.flusher.Flusher.run.Goals as goal
 
 pub loop-init : goal.loop-init
-loop-init g c = (c.requires.settled, none (view_of c.args.self.now), (λ s. s), same_ends (view_of c.args.self.now))
+loop-init g c = (c.requires.settled, none (view_of c.args.self.now), (λ s. s), same_ends (view_of c.args.self.now), omega arith)
 
 pub loop-preserved : goal.loop-preserved
 loop-preserved g c =
@@ -14,6 +15,7 @@ loop-preserved g c =
       one_more_round _ _ _ _ i.1 e.round,
       (λ s. e.stored (i.2 s)),
       ends_still _ _ _ _ i.3 e.round,
+      counted_on _ _ _ i.4 e.counted,
     )
 
 pub round-requires : goal.round-requires
@@ -33,3 +35,6 @@ returns-then-has_ended-clause-ended g c = ends_are_taken (view_of c.loop.self) c
 
 pub returns-then-has_ended-clause-same : goal.returns-then-has_ended-clause-same
 returns-then-has_ended-clause-same g c = c.loop.invariant.3
+
+pub returns-then-has_ended-clause-counted : goal.returns-then-has_ended-clause-counted
+returns-then-has_ended-clause-counted g c = c.loop.invariant.4

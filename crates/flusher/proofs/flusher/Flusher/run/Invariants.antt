@@ -1,3 +1,4 @@
+use Rattle.std.proofs.Common.{◌≤◌}
 use Rattle.flusher.specs.View.{view_of}
 use Rattle.flusher.specs.Served.{IsSettled}
 use Rattle.flusher.specs.Stored.{IsStoredFor}
@@ -10,3 +11,4 @@ invariant-loop g l =
     × AreRounds g.J.Centre.base (view_of l.initial.self) (view_of l.self)
     × (IsStoredFor g.D.Disk.view g.J.Centre.base (view_of l.initial.self) → IsStoredFor g.D.Disk.view g.J.Centre.base (view_of l.self))
     × HasSameEnds (view_of l.initial.self) (view_of l.self)
+    × (l.initial.self.rounds ≤ l.self.rounds)
