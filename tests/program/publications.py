@@ -28,7 +28,7 @@ class Runs:
         ran = subprocess.run(self.command, stdin=subprocess.DEVNULL, capture_output=True, text=True, timeout=60,
                              env=refusing.environment(self.library, refused, refusals, str(self.held)))
         told = TOLD.fullmatch(ran.stdout)
-        return ran.returncode, told and (*map(int, told.groups()[:3]), told[4]), int(self.held.read_text())
+        return ran.returncode, told and (*map(int, told.groups()[:3]), told[4]), refusing.held_blocks(self.held)[0]
 
     def kind(self, refused, refusals, unrefused):
         status, told, held = self.run(refused, refusals)

@@ -1,6 +1,7 @@
 /* Preloaded into a program by refusing.py: its allocation of the number REFUSED, counted from 1, gets no
-   memory, nor do the next ones up to REFUSALS in all, where that is set; every other one gets what the C
-   library gives. At the end it writes how many blocks were not given back into the file named by HELD. */
+   memory, nor do the next ones up to REFUSALS in all, where that is set, nor that of the number ALSO, where
+   that is set; every other one gets what the C library gives. At the end it writes how many blocks were not
+   given back, and how many allocations it was asked for, into the file named by HELD. */
 #include <fcntl.h>
 #include <stddef.h>
 #include <stdio.h>
@@ -13,7 +14,7 @@ void *__libc_calloc(size_t count, size_t size);
 void *__libc_realloc(void *block, size_t size);
 void __libc_free(void *block);
 
-static long held;
+static long held, asked;
 
 static long number_of(const char *name, long otherwise)
 {
@@ -23,16 +24,14 @@ static long number_of(const char *name, long otherwise)
 
 static int is_refused(void)
 {
-    static long left = -1, refusals;
-    if (left < 0) {
-        left = number_of("REFUSED", 0);
+    static long first = -1, refusals, also;
+    if (first < 0) {
         refusals = number_of("REFUSALS", 1);
+        also = number_of("ALSO", 0);
+        first = number_of("REFUSED", 0);
     }
-    if (left != 1)
-        return left > 1 && --left == 0;
-    if (--refusals == 0)
-        left = 0;
-    return 1;
+    long number = __atomic_add_fetch(&asked, 1, __ATOMIC_SEQ_CST);
+    return number == also || (first > 0 && first <= number && number < first + refusals);
 }
 
 static void *counted(void *block)
@@ -71,7 +70,7 @@ static void report(void)
     const char *file = getenv("HELD");
     int out = file ? open(file, O_WRONLY | O_CREAT | O_TRUNC, 0600) : -1;
     if (out >= 0) {
-        dprintf(out, "%ld\n", held);
+        dprintf(out, "%ld %ld\n", held, asked);
         close(out);
     }
 }

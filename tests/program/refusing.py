@@ -13,11 +13,17 @@ def library():
     return preloading.library(SOURCE)
 
 
-def environment(made, number, refusals=1, held=''):
+def environment(made, number, refusals=1, held='', also=0):
     """The environment in which a program's allocation of that number, counted from 1, gets no memory, nor do those
-    behind it, so many in all. At its end the program writes into the file `held` how many blocks it did not give back."""
+    behind it, so many in all, nor that of the number `also`. At its end the program writes into the file `held` how
+    many blocks it did not give back, and for how many it asked."""
     named = {'HELD': held} if held else {}
-    return preloading.environment(made, REFUSED=number, REFUSALS=refusals, **named)
+    return preloading.environment(made, REFUSED=number, REFUSALS=refusals, ALSO=also, **named)
+
+
+def held_blocks(held):
+    """How many blocks the program did not give back, and for how many it asked."""
+    return tuple(map(int, held.read_text().split()))
 
 
 def is_script(command):
