@@ -1,0 +1,265 @@
+//! Times sessions in threads of their own, and the same commands committed in one thread.
+ghost use Rattle.std.specs.Prelude.{◌≡◌, ◌≤◌, false, length, IfSome};
+ghost use Rattle.flusher.specs.Served.{IsSettled};
+ghost use Rattle.flusher.specs.View.{view_of};
+
+use centre_core::Command;
+use flusher::{Answer, Flusher, Gate, Session, open_centre};
+use live_centre::{
+    Task, WatchedDisk, attach, end_all, opened, serve_beside, with_rule, worked_disk,
+};
+use recovery::{Outcome, Store, StoreFault};
+use registration::Station;
+use snapshots::{Centre, NewLog};
+use std::alloc::Global;
+use std::marker::Brand;
+use std::rt::Clock;
+use std::sync::Wait;
+use std::sync::atomic::{AtomicU64, Ordering};
+use std::thread::Threads;
+use std::time::{Duration, Instant};
+
+// How often all is measured.
+const ROUNDS: u32 = 5;
+
+// How many commands each of 64 sessions submits, and how many a lone one.
+const EACH: u32 = 500;
+
+const ALONE: u32 = 5_000;
+
+// The sectors of a half of the journal, and more calls than the disk gets.
+const JOURNAL: u32 = 32_768;
+
+const CALLS: usize = 60_000;
+
+type Kept = Store<Global, WatchedDisk>;
+
+// How many commands each session submits, and how many were accepted.
+#[derive(Drop)]
+struct Load {
+    alloc: Global,
+    each: u32,
+    accepted: AtomicU64,
+}
+
+// The attach of the radio of this station.
+fn update(alloc: Global, station: Station, sequence: u32) -> Option<Command<Global>>
+    ensures { IfSome result (λ command. command.station ≡ station) }
+{
+    attach(alloc, station, sequence, u32::from(station.number()) % 16)
+}
+
+fn is_accepted<J: Centre, R: Wait>(
+    rt: &R,
+    alloc: Global,
+    session: &mut Session<J>,
+    sequence: u32,
+) -> bool {
+    let Some(command) = update(alloc, session.station(), sequence) else {
+        return false;
+    };
+    matches!(session.submit(rt, command), Answer::Accepted { .. })
+}
+
+impl Gate for Load {
+    fn before_commit(&self, _round: u64, _taken: usize) {}
+}
+
+impl<J: Centre> Task<J> for Load {
+    fn before_round(&self) {}
+
+    fn act<R: Wait>(&self, rt: &R, session: &mut Session<J>) {
+        for k in 0..self.each {
+            if is_accepted(rt, self.alloc, session, k.saturating_add(2)) {
+                self.accepted.fetch_add(1, Ordering::SeqCst);
+            }
+        }
+    }
+}
+
+// A store after the rule of the network.
+fn ruled(alloc: Global) -> Option<Kept>
+    ensures { IfSome result (λ store. store.broken ≡ false) }
+{
+    let disk = with_rule(alloc, worked_disk(alloc, 64, JOURNAL, CALLS)?)?;
+    opened(alloc, disk)
+}
+
+// A centre over this store, with so many sessions.
+fn centre<J: Centre, R: Wait>(
+    rt: &R,
+    alloc: Global,
+    log: NewLog,
+    store: Kept,
+    sessions: usize,
+) -> Option<(Flusher<J, WatchedDisk>, Vec<Session<J>>)>
+    requires sound { store.broken ≡ false }
+    requires centre { (log.seen.book ≡ J.book) × (store.register ≡ J.base) }
+    ensures settled { IfSome result (λ r. IsSettled J.base (view_of r.0)) }
+{
+    match open_centre::<J, WatchedDisk, R>(rt, alloc, log, store, sessions) {
+        Ok(both) => Some(both),
+        Err(fault) => {
+            drop(fault);
+            None
+        }
+    }
+}
+
+// How long it takes so many sessions until all their commands are answered.
+fn served<J: Centre + Send + Sync, R: Threads + Wait + Clock + Sync>(
+    rt: &R,
+    log: NewLog,
+    store: Kept,
+    sessions: usize,
+    load: &Load,
+) -> Option<Duration>
+    requires sound { store.broken ≡ false }
+    requires centre { (log.seen.book ≡ J.book) × (store.register ≡ J.base) }
+{
+    let Some((mut flusher, mut sessions)) = centre::<J, R>(rt, load.alloc, log, store, sessions)
+    else {
+        return None;
+    };
+    let start = Instant::now(rt);
+    let done = serve_beside(rt, &mut flusher, &mut sessions, load);
+    let took = match start {
+        Ok(start) => start.elapsed(rt).ok(),
+        Err(_) => None,
+    };
+    drop(end_all(rt, flusher, sessions));
+    if done { took } else { None }
+}
+
+// The same with a store of its own, where each command is accepted.
+fn served_once<R: Threads + Wait + Clock + Sync>(
+    rt: &R,
+    alloc: Global,
+    sessions: usize,
+    each: u32,
+) -> Option<Duration> {
+    let load = Load {
+        alloc,
+        each,
+        accepted: AtomicU64::new(0),
+    };
+    let took = served::<Brand, R>(rt, NewLog::new(), ruled(alloc)?, sessions, &load)?;
+    if load.accepted.load(Ordering::SeqCst) == (sessions as u64).saturating_mul(u64::from(each)) {
+        Some(took)
+    } else {
+        None
+    }
+}
+
+// A batch of so many commands of the first stations, each with this sequence.
+fn batch(alloc: Global, size: u16, sequence: u32) -> Option<Vec<Command<Global>>> {
+    let mut commands = Vec::with_capacity(alloc, usize::from(size)).ok()?;
+    for number in 1..=size {
+        commands
+            .push(update(alloc, Station::new(number), sequence)?)
+            .ok()?;
+    }
+    Some(commands)
+}
+
+// References to the commands.
+fn lent<'a>(alloc: Global, commands: &'a [Command<Global>]) -> Option<Vec<&'a Command<Global>>> {
+    let mut list = Vec::with_capacity(alloc, commands.len()).ok()?;
+    for command in commands {
+        list.push(command).ok()?;
+    }
+    Some(list)
+}
+
+// Commits them, after a checkpoint where there is no room.
+fn commit(
+    alloc: Global,
+    store: &mut Kept,
+    commands: &[&Command<Global>],
+) -> Result<Vec<Outcome<Global>>, StoreFault>
+    requires { length commands.now ≤ 64 }
+{
+    match store.commit(alloc, commands) {
+        Err(StoreFault::Unready) => {
+            store.checkpoint()?;
+            store.commit(alloc, commands)
+        }
+        told => told,
+    }
+}
+
+// Makes a batch and commits it; whether it was committed.
+fn is_committed(alloc: Global, store: &mut Kept, size: u16, sequence: u32) -> Option<()> {
+    let commands = batch(alloc, size, sequence)?;
+    let list = lent(alloc, &commands)?;
+    if list.len() > 64 {
+        return None;
+    }
+    commit(alloc, store, &list).ok()?;
+    Some(())
+}
+
+// How long it takes one thread to make and to commit so many batches.
+fn committed<R: Clock>(
+    rt: &R,
+    alloc: Global,
+    store: &mut Kept,
+    size: u16,
+    batches: u32,
+) -> Option<Duration> {
+    let start = Instant::now(rt).ok()?;
+    for k in 0..batches {
+        is_committed(alloc, store, size, k.saturating_add(2))?;
+    }
+    start.elapsed(rt).ok()
+}
+
+// Whether the register has accepted so many commands.
+fn has_accepted(store: &Kept, count: u64) -> bool {
+    match store.register() {
+        Some(register) => register.count() == count,
+        None => false,
+    }
+}
+
+fn committed_once<R: Clock>(rt: &R, alloc: Global, size: u16, batches: u32) -> Option<Duration> {
+    let mut store = ruled(alloc)?;
+    let took = committed(rt, alloc, &mut store, size, batches);
+    let whole = has_accepted(&store, 1 + u64::from(size) * u64::from(batches));
+    drop(store);
+    if whole { took } else { None }
+}
+
+// Writes a line: what was timed, how many commands, and how many nanoseconds.
+fn is_reported<R: Print>(rt: &R, what: &str, commands: u32, took: Option<Duration>) -> bool {
+    match took {
+        Some(took) => {
+            let nanoseconds = took.as_nanos();
+            println!(rt; "{what} {commands} {nanoseconds}").is_ok()
+        }
+        None => false,
+    }
+}
+
+// Writes a line for 64 sessions, for batches of 64, for a lone session and for single commits; whether all were measured.
+fn is_measured<R: Threads + Wait + Clock + Print + Sync>(rt: &R, alloc: Global) -> bool {
+    is_reported(rt, "sessions", 64 * EACH, served_once(rt, alloc, 64, EACH))
+        && is_reported(
+            rt,
+            "batches",
+            64 * EACH,
+            committed_once(rt, alloc, 64, EACH),
+        )
+        && is_reported(rt, "alone", ALONE, served_once(rt, alloc, 1, ALONE))
+        && is_reported(rt, "singly", ALONE, committed_once(rt, alloc, 1, ALONE))
+}
+
+/// Writes these lines in each round; the exit status.
+pub fn report<R: Threads + Wait + Clock + Print + Sync>(rt: &R, alloc: Global) -> u8 {
+    for _ in 0..ROUNDS {
+        if !is_measured(rt, alloc) {
+            return 5;
+        }
+    }
+    0
+}
