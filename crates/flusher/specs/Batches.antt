@@ -129,14 +129,14 @@ module _ {D : Type 0} (commands : List (Asked Global)) (old new : StoreView Glob
     pub room : made_room ≡ true → LacksRoom old.journal commands
     pub answer : IsAnswerOf result was now
 
--- The register is on the disk before the call; each stop in the call leaves it there as it was before the call or as it is after it.
--- If the disk has not failed, it is there after the call.
 module _ {D : Type 0} (view : D → View) where
+  -- each stop in the call leaves the register on the disk, as before the call or as after it; there it is too if the disk has not failed
   pub record KeepsImages (old new : StoreView Global D) : Type 0 where
     pub honest : (view new.disk).honest
     pub any_moment : LeavesOnly (view old.disk) (view new.disk) (StandsForEither Global old.register new.register)
     pub kept : new.broken ≡ false → IsStoredIn Global view new
 
+  -- so it is where the disk is honest and the register was on it before the call
   abbrev pub HoldsImages : StoreView Global D → StoreView Global D → Type 0
   HoldsImages old new = (view old.disk).honest → IsStoredIn Global view old → KeepsImages old new
 

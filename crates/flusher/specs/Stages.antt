@@ -27,6 +27,7 @@ pub record Sent : Type 0 where
   pub published : List (Asked Global)
   pub decision : Decision
 
+-- an answer with these parts
 abbrev pub sent : Asked Global → List (Asked Global) → Decision → Sent
 sent c published d = record { command = c; published = published; decision = d }
 
@@ -99,6 +100,7 @@ pub record Stage : Type 0 where
   pub checking : Bool
   pub broken : Bool
 
+-- a stage with these parts
 abbrev pub stage : List (Asked Global) → List (Asked Global) → Bool → Bool → Stage
 stage published durable checking broken = record { published = published; durable = durable; checking = checking; broken = broken }
 

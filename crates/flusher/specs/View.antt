@@ -47,9 +47,11 @@ pub record Progress (D : Type 0) : Type 0 where
   pub store : StoreView Global D
   pub attempts : Attempts
 
+-- progress with these parts
 abbrev pub progress : {D : Type 0} → List (Asked Global) → List (Asked Global) → StoreView Global D → Attempts → Progress D
 progress published durable store attempts = record { published = published; durable = durable; store = store; attempts = attempts }
 
+-- how far this flusher is
 abbrev pub progress_of : {D : Type 0} → FlusherView D → Progress D
 progress_of f = progress f.published f.durable f.store f.attempts
 
