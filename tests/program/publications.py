@@ -64,15 +64,7 @@ def main():
         runs = Runs(command, library, folder)
         for refusals in (1, 2):
             runs.sweep(refusals)
-    seen = runs.seen
-    for kind in ('not made', 'publications refused 1 times', 'publications refused 2 times'):
-        if not seen[kind]:
-            print(f'no run was of the kind: {kind}')
-            seen['WRONG'] += 1
-    failed = seen['WRONG']
-    print(', '.join(f'{kind}: {count}' for kind, count in seen.items()))
-    print(f'{sum(seen.values()) - failed} passed, {failed} failed')
-    sys.exit(1 if failed else 0)
+    refusing.end(runs.seen, ('not made', 'publications refused 1 times', 'publications refused 2 times'))
 
 
 main()

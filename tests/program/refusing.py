@@ -2,6 +2,7 @@
 every proved build, by either compiler; what `rt try` builds has a heap of its own."""
 import contextlib
 import pathlib
+import sys
 
 import preloading
 
@@ -31,3 +32,15 @@ def is_script(command):
     with contextlib.suppress(OSError), open(command[0], 'rb') as program:
         return program.read(2) == b'#!'
     return False
+
+
+def end(seen, kinds):
+    """Prints how many runs were of each kind, and last 'N passed, M failed'. A run of each of these kinds has to be among them."""
+    for kind in kinds:
+        if not seen[kind]:
+            print(f'no run was of the kind: {kind}')
+            seen['WRONG'] += 1
+    failed = seen['WRONG']
+    print(', '.join(f'{kind}: {count}' for kind, count in seen.items()))
+    print(f'{sum(seen.values()) - failed} passed, {failed} failed')
+    sys.exit(1 if failed else 0)

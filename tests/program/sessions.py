@@ -83,15 +83,7 @@ def main():
     with refusing.library() as library, tempfile.TemporaryDirectory() as folder:
         runs = Runs(command, library, folder)
         runs.sweep()
-    seen = runs.seen
-    for kind in KINDS:
-        if not seen[kind]:
-            print(f'no run was of the kind: {kind}')
-            seen['WRONG'] += 1
-    failed = seen['WRONG']
-    print(', '.join(f'{kind}: {count}' for kind, count in seen.items()))
-    print(f'{sum(seen.values()) - failed} passed, {failed} failed')
-    sys.exit(1 if failed else 0)
+    refusing.end(runs.seen, KINDS)
 
 
 main()
