@@ -39,7 +39,7 @@ only_lists_are_long (answer.Told told) short long = line_or_list (is_list told) 
 only_lists_are_long (answer.Untold line word) short long = absurd (long tt)
 
 module _ {A W : Type 0} where
-  untold : (rules : Rules W) (n : ℕ) (s t : W) (line : Line A) (a : Answer A) → tells_list a ≡ true → AnswersReading rules n s line a t → AnswersReading rules n s line (answer.Untold n Memory) t
+  untold : (rules : Rules A W) (n : ℕ) (s t : W) (line : Line A) (a : Answer A) → tells_list a ≡ true → AnswersReading rules n s line a t → AnswersReading rules n s line (answer.Untold n Memory) t
   untold rules n s t Silent a list given = absurd (true≢false (sym list ∙ ap tells_list given.0))
   untold rules n s t (Bad fault) a list given = absurd (true≢false (sym list ∙ ap tells_list given.0))
   untold rules n s t (Apply c) (answer.Replied sequence reply) list given = absurd (true≢false (sym list))
@@ -56,7 +56,7 @@ module _ {A W : Type 0} where
   untold rules n s t (Ask q) (answer.Unreplied sequence word) list given = absurd given
 
   -- what is given in place of an answer is an answer
-  pub stands_in : (rules : Rules W) (station n : ℕ) (s t : W) (line : List ℕ) (a given : Answer A) → StandsIn n a given → Answers rules station n s line a t → Answers rules station n s line given t
+  pub stands_in : (rules : Rules A W) (station n : ℕ) (s t : W) (line : List ℕ) (a given : Answer A) → StandsIn n a given → Answers rules station n s line a t → Answers rules station n s line given t
   stands_in rules station n s t line a given stands answers = elim stands [
     | inl same ↦ subst (λ (b : Answer A). Answers rules station n s line b t) (sym same) answers
     | inr list ↦ subst (λ (b : Answer A). Answers rules station n s line b t) (sym list.1) (untold rules n s t (reading station line) a list.0 answers)

@@ -23,7 +23,7 @@ pub last_split : (taken line : List ℕ) (done : List (List ℕ)) → 0 < length
 last_split taken [] done some none split = absurd (omega (arith, some))
 last_split taken (b ∷ line) done some none split = ap lines (sym (append-nil taken)) ∙ split ∙ ap (λ l. done ++ lines l) (append-nil (b ∷ line)) ∙ ap (λ ls. done ++ ls) (lines_last b line none)
 
-module _ {A W : Type 0} (rules : Rules W) (start : Start W) (before : List ℕ) where
+module _ {A W : Type 0} (rules : Rules A W) (start : Start W) (before : List ℕ) where
   -- at the start nothing was taken
   pub going_start : (now : Stand A W) → now.station ≡ start.station → now.world ≡ start.world → now.written ≡ Some before →
       now.progress.troubled ≡ false → now.progress.lines ≡ 0 → Holds now.progress.hand.bytes.items now.progress.hand.long [] → IsGoing rules start before [] now
@@ -209,7 +209,7 @@ module _ {A W : Type 0} (rules : Rules W) (start : Start W) (before : List ℕ) 
   pub going_same : (taken other : List ℕ) (now : Stand A W) → taken ≡ other → IsGoing rules start before taken now → IsGoing rules start before other now
   going_same taken other now same i = subst (λ (text : List ℕ). IsGoing rules start before text now) same i
 
-pub run_same : (A : Type 0) {W : Type 0} (rules : Rules W) (start : Start W) (before all other : List ℕ) (r s : Result Ran RunFault) (t : W) (held : Option (List ℕ)) → all ≡ other → r ≡ s →
+pub run_same : (A : Type 0) {W : Type 0} (rules : Rules A W) (start : Start W) (before all other : List ℕ) (r s : Result Ran RunFault) (t : W) (held : Option (List ℕ)) → all ≡ other → r ≡ s →
     HasRun A rules start (record { result = r; world = t; written = held }) all before →
     HasRun A rules start (record { result = s; world = t; written = held }) other before
 run_same A rules start before all other r s t held same ends so = subst (λ (text : List ℕ). HasRun A rules start (record { result = s; world = t; written = held }) text before) same

@@ -5,7 +5,7 @@ use Rattle.console.specs.declared.running.RunFault.{RunFault}
 use Rattle.desk.specs.Rules.{Rules}
 use Rattle.console.specs.Runs.{IsRun}
 
-module _ (A : Type 0) {W : Type 0} (rules : Rules W) (station : ℕ) (s t : W) (r : Result Ran RunFault) where
+module _ (A : Type 0) {W : Type 0} (rules : Rules A W) (station : ℕ) (s t : W) (r : Result Ran RunFault) where
   -- of these bytes unread and written, and those written behind the run
   abbrev pub Runs : Option (List ℕ) → Option (List ℕ) → Option (List ℕ) → Type 0
   Runs given held now = IsRun A rules (record { station = station; world = s; unread = given; written = held }) (record { result = r; world = t; written = now })
@@ -17,7 +17,7 @@ module _ (A : Type 0) {W : Type 0} (rules : Rules W) (station : ℕ) (s t : W) (
       (subst (λ (i : Option (List ℕ)). Runs i held now) gives run))
 
 -- of what the desk stands for and the writer holds behind the run
-pub run_left : (A : Type 0) {W : Type 0} (rules : Rules W) (station : ℕ) (s : W) (r : Result Ran RunFault) {given held : Option (List ℕ)} (t : W) (now : Option (List ℕ)) {t' : W} {now' : Option (List ℕ)} →
+pub run_left : (A : Type 0) {W : Type 0} (rules : Rules A W) (station : ℕ) (s : W) (r : Result Ran RunFault) {given held : Option (List ℕ)} (t : W) (now : Option (List ℕ)) {t' : W} {now' : Option (List ℕ)} →
     t ≡ t' → now ≡ now' → Runs A rules station s t r given held now → Runs A rules station s t' r given held now'
 run_left A rules station s r {given = given} {held = held} t now {now' = now'} stands leaves run =
     subst (λ u. Runs A rules station s u r given held now') stands (subst (λ (n : Option (List ℕ)). Runs A rules station s t r given held n) leaves run)

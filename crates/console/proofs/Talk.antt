@@ -20,7 +20,7 @@ pub trouble_more : {A : Type 0} (answers : List (Answer A)) (a : Answer A) → l
 trouble_more answers a = list_any-append is_trouble answers (a ∷ []) ∙ ap (λ b. list_any is_trouble answers || b) (or_false (is_trouble a))
 
 -- one more line at the end, the k-th
-pub dialogue_more : {A W : Type 0} (rules : Rules W) (station n k : ℕ) (s : W) (done : List (List ℕ)) (answers : List (Answer A)) (mid : W) (line : List ℕ) (a : Answer A) (t : W) →
+pub dialogue_more : {A W : Type 0} (rules : Rules A W) (station n k : ℕ) (s : W) (done : List (List ℕ)) (answers : List (Answer A)) (mid : W) (line : List ℕ) (a : Answer A) (t : W) →
     k ≡ n + length done + 1 → Dialogue rules station n s done answers mid → Answers rules station k mid line a t → Dialogue rules station n s (done ++ line ∷ []) (answers ++ a ∷ []) t
 dialogue_more {W = W} rules station n k s [] [] mid line a t at so_far more =
     let here : k ≡ n + 1 = omega (arith, at) in

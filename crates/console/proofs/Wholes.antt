@@ -32,7 +32,7 @@ or_right false b h = h
 
 module _ {A : Type 0} where
   -- a line has an answer
-  abbrev pub HasAnswer : {W : Type 0} → Rules W → ℕ → W → Line A → Type 0
+  abbrev pub HasAnswer : {W : Type 0} → Rules A W → ℕ → W → Line A → Type 0
   HasAnswer {W = W} rules n s line = (a : Answer A) × (t : W) × AnswersReading rules n s line a t
 
   -- at a desk in memory
@@ -58,7 +58,7 @@ module _ {A : Type 0} where
   on_disk n s (Ask q) = query_on_disk n s q s.broken refl
 
   -- where each line has an answer at a desk of this kind
-  module _ {W : Type 0} (rules : Rules W) (has_answer : (n : ℕ) (s : W) (line : Line A) → HasAnswer rules n s line) where
+  module _ {W : Type 0} (rules : Rules A W) (has_answer : (n : ℕ) (s : W) (line : Line A) → HasAnswer rules n s line) where
     has_dialogue : (station n : ℕ) (s : W) (given : List (List ℕ)) → (answers : List (Answer A)) × (t : W) × Dialogue rules station n s given answers t
     has_dialogue station n s [] = ([], s, refl)
     has_dialogue station n s (line ∷ given) =

@@ -21,8 +21,8 @@ use Rattle.console.specs.Reading.{reading, HasPdu}
 use Rattle.console.specs.Answer.{texts, is_trouble, is_service, is_list}
 
 -- for the text of a list that the desk told there is no memory
-abbrev pub LacksText : (A : Type 0) {W : Type 0} → Rules W → W → Query → Service → W → Type 0
-LacksText A rules s q word t = (word ≡ Memory) × ((told : Told A) × (is_list told ≡ true) × rules.tells s q (Ok told) t)
+abbrev pub LacksText : {A W : Type 0} → Rules A W → W → Query → Service → W → Type 0
+LacksText {A = A} rules s q word t = (word ≡ Memory) × ((told : Told A) × (is_list told ≡ true) × rules.tells s q (Ok told) t)
 
 module _ {A W : Type 0} where
   -- for the PDU in a command there is no memory, and the desk does nothing
@@ -30,30 +30,30 @@ module _ {A W : Type 0} where
   LacksPdu s c word t = HasPdu c.body × (word ≡ Memory) × (t ≡ s)
 
   -- the answer to a command: under its sequence the desk's reply, or why there is none
-  abbrev pub AnswersCommand : Rules W → W → Command A → Answer A → W → Type 0
+  abbrev pub AnswersCommand : Rules A W → W → Command A → Answer A → W → Type 0
   AnswersCommand rules s c (answer.Replied sequence reply) t = (sequence ≡ c.sequence) × rules.applies s c (Ok reply) t
-  AnswersCommand rules s c (answer.Unreplied sequence word) t = (sequence ≡ c.sequence) × (rules.applies {A = A} {B = A} s c (Err word) t ⊎ LacksPdu s c word t)
+  AnswersCommand rules s c (answer.Unreplied sequence word) t = (sequence ≡ c.sequence) × (rules.applies s c (Err word) t ⊎ LacksPdu s c word t)
   AnswersCommand rules s c other t = ⊥
 
   -- the answer to a query: what the desk tells, or under the number of the line why it tells nothing
-  abbrev pub AnswersQuery : Rules W → ℕ → W → Query → Answer A → W → Type 0
+  abbrev pub AnswersQuery : Rules A W → ℕ → W → Query → Answer A → W → Type 0
   AnswersQuery rules n s q (answer.Told told) t = rules.tells s q (Ok told) t
-  AnswersQuery rules n s q (answer.Untold number word) t = (number ≡ n) × (rules.tells {B = A} s q (Err word) t ⊎ LacksText A rules s q word t)
+  AnswersQuery rules n s q (answer.Untold number word) t = (number ≡ n) × (rules.tells s q (Err word) t ⊎ LacksText rules s q word t)
   AnswersQuery rules n s q other t = ⊥
 
   -- the answer to what the line numbered n says, and what the desk stands for after it
-  abbrev pub AnswersReading : Rules W → ℕ → W → Line A → Answer A → W → Type 0
+  abbrev pub AnswersReading : Rules A W → ℕ → W → Line A → Answer A → W → Type 0
   AnswersReading rules n s line.Silent given t = (given ≡ answer.Quiet) × (t ≡ s)
   AnswersReading rules n s (line.Bad fault) given t = (given ≡ answer.Bad n fault) × (t ≡ s)
   AnswersReading rules n s (line.Apply c) given t = AnswersCommand rules s c given t
   AnswersReading rules n s (line.Ask q) given t = AnswersQuery rules n s q given t
 
   -- the answer to the line numbered n, whose text this station gave
-  abbrev pub Answers : Rules W → Station → ℕ → W → List Byte → Answer A → W → Type 0
+  abbrev pub Answers : Rules A W → Station → ℕ → W → List Byte → Answer A → W → Type 0
   Answers rules station n s text given t = AnswersReading rules n s (reading station text) given t
 
   -- one answer for each line, in order; n lines came before
-  abbrev pub Dialogue : Rules W → Station → ℕ → W → List (List Byte) → List (Answer A) → W → Type 0
+  abbrev pub Dialogue : Rules A W → Station → ℕ → W → List (List Byte) → List (Answer A) → W → Type 0
   Dialogue rules station n s [] [] t = t ≡ s
   Dialogue rules station n s [] (given ∷ answers) t = ⊥
   Dialogue rules station n s (text ∷ texts) [] t = ⊥
@@ -61,14 +61,14 @@ module _ {A W : Type 0} where
       (mid : W) × Answers rules station (n + 1) s text given mid × Dialogue rules station (n + 1) mid texts answers t
 
 -- the text out is the answers to the lines, and whether there was trouble in them
-pub record IsDialogue (A : Type 0) {W : Type 0} (rules : Rules W) (station : Station) (s : W) (given : List (List Byte)) (out : List Byte) (troubled : Bool) (t : W) : Type 0 where
+pub record IsDialogue (A : Type 0) {W : Type 0} (rules : Rules A W) (station : Station) (s : W) (given : List (List Byte)) (out : List Byte) (troubled : Bool) (t : W) : Type 0 where
   pub answers : List (Answer A)
   pub each : Dialogue rules station 0 s given answers t
   pub written : out ≡ texts answers
   pub trouble : troubled ≡ list_any is_trouble answers
 
 -- cut off: some lines were done, and their answers were written, but of the last of them perhaps only a prefix
-pub record IsCutOff (A : Type 0) {W : Type 0} (rules : Rules W) (station : Station) (s : W) (given : List (List Byte)) (out : List Byte) (t : W) : Type 0 where
+pub record IsCutOff (A : Type 0) {W : Type 0} (rules : Rules A W) (station : Station) (s : W) (given : List (List Byte)) (out : List Byte) (t : W) : Type 0 where
   pub done : List (List Byte)
   pub left : List (List Byte)
   pub answered : List (Answer A)
@@ -82,14 +82,14 @@ pub record IsCutOff (A : Type 0) {W : Type 0} (rules : Rules W) (station : Stati
   pub written : out ≡ texts answered ++ part
 
 -- the text is a prefix of one that may be written for the lines
-pub record IsFront (A : Type 0) {W : Type 0} (rules : Rules W) (station : Station) (s : W) (given : List (List Byte)) (out : List Byte) : Type 0 where
+pub record IsFront (A : Type 0) {W : Type 0} (rules : Rules A W) (station : Station) (s : W) (given : List (List Byte)) (out : List Byte) : Type 0 where
   pub missing : List Byte
   pub troubled : Bool
   pub after : W
   pub dialogue : IsDialogue A rules station s given (out ++ missing) troubled after
 
 -- at a desk of this kind, what was cut off is a prefix of a text that may be written
-abbrev pub CutOffIsFront : (A : Type 0) {W : Type 0} → Rules W → Type 0
+abbrev pub CutOffIsFront : (A : Type 0) {W : Type 0} → Rules A W → Type 0
 CutOffIsFront A {W = W} rules = (station : Station) (s t : W) (given : List (List Byte)) (out : List Byte) →
     IsCutOff A rules station s given out t → IsFront A rules station s given out
 

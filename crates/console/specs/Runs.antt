@@ -21,7 +21,7 @@ pub record Outcome (W : Type 0) : Type 0 where
   pub world : W
   pub written : Option (List Byte)
 
-module _ (A : Type 0) {W : Type 0} (rules : Rules W) (start : Start W) (end : Outcome W) where
+module _ (A : Type 0) {W : Type 0} (rules : Rules A W) (start : Start W) (end : Outcome W) where
   -- of this input every line is answered by the text out
   abbrev pub RunsWell : List Byte → List Byte → Ran → Type 0
   RunsWell input out ran = IsDialogue A rules start.station start.world (lines input) out ran.troubled end.world × (ran.lines ≡ length (lines input))

@@ -69,7 +69,7 @@ pub fn run_counted<
     A: Allocator + Copy + Drop,
     R: Read,
     W: Write,
-    D: Desk,
+    D: Desk<A>,
 >(
     terms: Terms<A>,
     input: &mut Input<R, L, F>,
@@ -107,7 +107,15 @@ struct Blanks {
     failures: Blank,
 }
 
-fn run_in<L: Ledger, F: Ledger, G: Ledger, A: Allocator + Copy + Drop, R: Read, W: Write, D: Desk>(
+fn run_in<
+    L: Ledger,
+    F: Ledger,
+    G: Ledger,
+    A: Allocator + Copy + Drop,
+    R: Read,
+    W: Write,
+    D: Desk<A>,
+>(
     blanks: Blanks,
     terms: Terms<A>,
     reader: &mut R,
@@ -141,7 +149,7 @@ fn run_in<L: Ledger, F: Ledger, G: Ledger, A: Allocator + Copy + Drop, R: Read, 
 
 /// Answers all lines of the reader, or the first of them where it ends early, and writes nothing else. That
 /// the reader is called at most `turns` times is a clause of [`run_counted`], by which it does so.
-pub fn run<A: Allocator + Copy + Drop, R: Read, W: Write, D: Desk>(
+pub fn run<A: Allocator + Copy + Drop, R: Read, W: Write, D: Desk<A>>(
     alloc: A,
     reader: &mut R,
     writer: &mut W,

@@ -32,7 +32,7 @@ struct Asked<'a> {
 
 /// Does what a station's line says.
 #[inline(always)]
-fn answer_line<A: Allocator + Copy, D: Desk>(
+fn answer_line<A: Allocator + Copy, D: Desk<A>>(
     terms: &Terms<A>,
     asked: Asked,
     desk: &mut D,
@@ -96,14 +96,25 @@ fn next_end(piece: &[u8], at: usize) -> Option<usize>
 
 /// A run: what it is given, how far it has come, where its answers go, and the desk that it asks.
 #[derive(Drop)]
-pub(crate) struct Run<'t, 'p, 'o, 'd, 'w, 'f, A: Allocator + Copy, W: Write, G: Ledger, D: Desk> {
+pub(crate) struct Run<
+    't,
+    'p,
+    'o,
+    'd,
+    'w,
+    'f,
+    A: Allocator + Copy,
+    W: Write,
+    G: Ledger,
+    D: Desk<A>,
+> {
     pub(crate) terms: &'t Terms<A>,
     pub(crate) progress: &'p mut Progress<A>,
     pub(crate) output: &'o mut Output<'w, 'f, W, G>,
     pub(crate) desk: &'d mut D,
 }
 
-impl<'t, 'p, 'o, 'd, 'w, 'f, A: Allocator + Copy + Drop, W: Write, G: Ledger, D: Desk> Run<
+impl<'t, 'p, 'o, 'd, 'w, 'f, A: Allocator + Copy + Drop, W: Write, G: Ledger, D: Desk<A>> Run<
     't,
     'p,
     'o,

@@ -7,7 +7,7 @@ use std::alloc::{Allocator, Global};
 use std::test::Fail;
 
 /// What a desk answers to these lines, where the run's own memory lies under `own`; nothing where the run failed.
-pub fn answers<B: Allocator + Copy + Drop, D: Desk>(
+pub fn answers<B: Allocator + Copy + Drop, D: Desk<B>>(
     alloc: Global,
     own: B,
     desk: &mut D,
@@ -22,7 +22,7 @@ pub fn answers<B: Allocator + Copy + Drop, D: Desk>(
 }
 
 /// Whether these are the answers.
-pub fn are_answered<B: Allocator + Copy + Drop, D: Desk>(
+pub fn are_answered<B: Allocator + Copy + Drop, D: Desk<B>>(
     alloc: Global,
     own: B,
     desk: &mut D,

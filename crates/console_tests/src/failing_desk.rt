@@ -21,18 +21,14 @@ struct FailingDesk<A: Allocator> {
     failures: u64,
 }
 
-impl<A: Allocator + Clone> Desk for FailingDesk<A> {
+impl<A: Allocator + Copy, B: Allocator + Clone> Desk<A> for FailingDesk<B> {
     ghost World = { Stored };
 
     ghost world = { λ desk. record { register = desk.register; broken = desk.broken; failures = desk.failures; last = true } };
 
     ghost rules = { of_store };
 
-    fn apply<B: Allocator, C: Allocator + Copy>(
-        &mut self,
-        alloc: C,
-        command: &Command<B>,
-    ) -> Result<Reply<C>, Service> {
+    fn apply(&mut self, alloc: A, command: &Command<A>) -> Result<Reply<A>, Service> {
         if self.broken {
             return Err(Service::Broken);
         }
@@ -54,7 +50,7 @@ impl<A: Allocator + Clone> Desk for FailingDesk<A> {
         }
     }
 
-    fn query<C: Allocator + Copy>(&mut self, alloc: C, query: &Query) -> Result<Told<C>, Service> {
+    fn query(&mut self, alloc: A, query: &Query) -> Result<Told<A>, Service> {
         if self.broken {
             return Err(Service::Broken);
         }

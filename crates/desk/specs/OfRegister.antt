@@ -24,5 +24,5 @@ Tells s q (Ok told) t = (t ≡ s) × (told ≡ tell s q)
 Tells s q (Err word) t = (word ≡ Memory) × (t ≡ s) × AsksForList q
 
 -- a register that nobody else changes
-abbrev pub of_register : Rules State
+abbrev pub of_register : {A : Type 0} → Rules A State
 of_register = record { applies = Applies; tells = Tells }

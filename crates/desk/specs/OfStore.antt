@@ -50,5 +50,5 @@ StoreTells s q (Err Epochs) t = ⊥
 StoreTells s q (Err Closed) t = ⊥
 
 -- a register on a disk that nobody else changes
-abbrev pub of_store : Rules Stored
+abbrev pub of_store : {A : Type 0} → Rules A Stored
 of_store = record { applies = StoreApplies; tells = StoreTells }

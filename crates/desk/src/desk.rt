@@ -7,26 +7,22 @@ use crate::service::Service;
 use centre_core::{Command, Query, Reply, Told};
 use std::alloc::Allocator;
 
-/// What carries out commands and answers queries.
-pub trait Desk {
+/// What carries out commands and answers queries. What it is given and what it answers lie under allocators of one kind.
+pub trait Desk<A: Allocator> {
     // What desks of this kind stand for.
     ghost World: { Type 0 };
 
     ghost world: { Self → World };
 
     // What they may do and say.
-    ghost rules: { Rules World };
+    ghost rules: { Rules A World };
 
     /// Carries out a command. The reply's bits lie under `alloc`, and are at most 2,048.
-    fn apply<B: Allocator, C: Allocator + Copy>(
-        &mut self,
-        alloc: C,
-        command: &Command<B>,
-    ) -> Result<Reply<C>, Service>
+    fn apply(&mut self, alloc: A, command: &Command<A>) -> Result<Reply<A>, Service>
         ensures applies { rules.applies (world self.old) command.now result (world self.new) }
         ensures short { IfOk result HasShortPdu };
 
     /// Answers a query; a list in the answer lies under `alloc`.
-    fn query<C: Allocator + Copy>(&mut self, alloc: C, query: &Query) -> Result<Told<C>, Service>
+    fn query(&mut self, alloc: A, query: &Query) -> Result<Told<A>, Service>
         ensures { rules.tells (world self.old) query.now result (world self.new) };
 }

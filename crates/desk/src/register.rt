@@ -8,18 +8,14 @@ use centre_core::laws::registers;
 use centre_core::{Command, Query, Register, Reply, Told};
 use std::alloc::Allocator;
 
-impl<A: Allocator + Clone> Desk for Register<A> {
+impl<A: Allocator + Copy, B: Allocator + Clone> Desk<A> for Register<B> {
     ghost World = { State };
 
     ghost world = { λ register. register };
 
     ghost rules = { of_register };
 
-    fn apply<B: Allocator, C: Allocator + Copy>(
-        &mut self,
-        alloc: C,
-        command: &Command<B>,
-    ) -> Result<Reply<C>, Service> {
+    fn apply(&mut self, alloc: A, command: &Command<A>) -> Result<Reply<A>, Service> {
         registers(self);
         match Register::apply(self, alloc, command) {
             Ok(reply) => Ok(reply),
@@ -27,7 +23,7 @@ impl<A: Allocator + Clone> Desk for Register<A> {
         }
     }
 
-    fn query<C: Allocator + Copy>(&mut self, alloc: C, query: &Query) -> Result<Told<C>, Service> {
+    fn query(&mut self, alloc: A, query: &Query) -> Result<Told<A>, Service> {
         match Register::query(self, alloc, query) {
             Ok(told) => Ok(told),
             Err(_) => Err(Service::Memory),

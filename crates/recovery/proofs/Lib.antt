@@ -22,4 +22,4 @@ mod Synced
 mod Ranged
 mod Lived
 mod Events
-mod Committed
+pub mod Committed

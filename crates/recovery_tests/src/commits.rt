@@ -468,7 +468,11 @@ fn numbers_are_used_up(rt: HostRuntime) -> Result<(), Fail> {
 }
 
 /// What a desk says in the place of a reply.
-fn word<T: Desk>(alloc: Global, desk: &mut T, command: &Command<Global>) -> Option<Service> {
+fn word<T: Desk<Global>>(
+    alloc: Global,
+    desk: &mut T,
+    command: &Command<Global>,
+) -> Option<Service> {
     match desk.apply(alloc, command) {
         Ok(_) => None,
         Err(word) => Some(word),

@@ -34,7 +34,7 @@ fn said<C: Allocator>(reply: &Reply<C>) -> Word {
     }
 }
 
-fn answer<T: Desk>(alloc: Global, desk: &mut T, command: &Command<Global>) -> Word {
+fn answer<T: Desk<Global>>(alloc: Global, desk: &mut T, command: &Command<Global>) -> Word {
     match desk.apply(alloc, command) {
         Ok(reply) => said(&reply),
         Err(_) => Word::Other,

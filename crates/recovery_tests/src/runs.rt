@@ -102,7 +102,7 @@ pub fn serve<D: Disk>(alloc: Global, disk: D, command: &Command<Global>, want: u
 }
 
 /// Whether a desk accepts a command with this number.
-pub fn is_served<T: Desk>(
+pub fn is_served<T: Desk<Global>>(
     alloc: Global,
     desk: &mut T,
     command: &Command<Global>,

@@ -47,7 +47,7 @@ module _ {A W : Type 0} where
   outcome_at stand result = record { result = result; world = stand.world; written = stand.written }
 
 -- of the run that began so these bytes were taken: some whole lines, which are answered, and the front of one more
-pub record IsGoing {A W : Type 0} (rules : Rules W) (start : Start W) (before taken : List Byte) (now : Stand A W) : Type 0 where
+pub record IsGoing {A W : Type 0} (rules : Rules A W) (start : Start W) (before taken : List Byte) (now : Stand A W) : Type 0 where
   pub done : List (List Byte)
   pub answers : List (Answer A)
   pub line : List Byte
@@ -61,7 +61,7 @@ pub record IsGoing {A W : Type 0} (rules : Rules W) (start : Start W) (before ta
   pub holds : Holds now.progress.hand.bytes.items now.progress.hand.long line
 
 -- from wherever a run stood
-module _ {A W : Type 0} (rules : Rules W) (old : Stand A W) where
+module _ {A W : Type 0} (rules : Rules A W) (old : Stand A W) where
   -- it has come these bytes further
   abbrev pub GoesOn : List Byte → Stand A W → Type 0
   GoesOn bytes new = (start : Start W) (before taken : List Byte) → IsGoing rules start before taken old → IsGoing rules start before (taken ++ bytes) new

@@ -14,7 +14,7 @@ returns-in-Ok-clause-applies g c =
     c.in-Ok.ensures.sound.0 c.in-Ok.ensures.sound.1 c.in-Ok.ensures.replied
 
 pub returns-in-Ok-clause-short : goal.returns-in-Ok-clause-short
-returns-in-Ok-clause-short g c = replied_short g.row.C.Denot c.args.self.now.register c.args.command.now c.commit_one.new.self.register c.in-Ok.reply c.in-Ok.ensures.replied c.registers.ensures.ranges
+returns-in-Ok-clause-short g c = replied_short g.row.A.Denot c.args.self.now.register c.args.command.now c.commit_one.new.self.register c.in-Ok.reply c.in-Ok.ensures.replied c.registers.ensures.ranges
 
 pub returns-in-Err-clause-applies : goal.returns-in-Err-clause-applies
 returns-in-Err-clause-applies g c =
@@ -29,10 +29,10 @@ returns-in-Err-clause-applies g c =
 pub returns-in-Ok-clause-answered : goal.returns-in-Ok-clause-answered
 returns-in-Ok-clause-answered g c = λ honest.
     let old = c.args.self.now in let new = c.commit_one.new.self in
-    is_answered g.row.A.Denot g.D.Disk.view (view_of old) (view_of new) (c.args.command.now ∷ []) (c.commit_one.ensures.honest honest) (c.commit_one.ensures.any_moment honest) (λ now. c.commit_one.ensures.kept now honest) c.in-Ok.ensures.sound.0
+    is_answered g.row.B.Denot g.D.Disk.view (view_of old) (view_of new) (c.args.command.now ∷ []) (c.commit_one.ensures.honest honest) (c.commit_one.ensures.any_moment honest) (λ now. c.commit_one.ensures.kept now honest) c.in-Ok.ensures.sound.0
     (Replied c.in-Ok.reply ∷ []) (one_is_answered old.register new.register c.args.command.now c.in-Ok.reply c.in-Ok.ensures.replied) c.in-Ok.ensures.sound.1
 
 pub returns-in-Err-clause-unanswered : goal.returns-in-Err-clause-unanswered
 returns-in-Err-clause-unanswered g c = λ honest.
     let old = c.args.self.now in let new = c.commit_one.new.self in
-    one_unanswered g.row.A.Denot g.D.Disk.view (view_of old) (view_of new) c.args.command.now (c.commit_one.ensures.honest honest) (c.commit_one.ensures.any_moment honest) (λ now. c.commit_one.ensures.kept now honest) (λ is. ap view_of (c.commit_one.ensures.broken is).1) c.commit_one.ensures.register
+    one_unanswered g.row.B.Denot g.D.Disk.view (view_of old) (view_of new) c.args.command.now (c.commit_one.ensures.honest honest) (c.commit_one.ensures.any_moment honest) (λ now. c.commit_one.ensures.kept now honest) (λ is. ap view_of (c.commit_one.ensures.broken is).1) c.commit_one.ensures.register
