@@ -10,6 +10,11 @@ use crate::rule::{AnswerPass, Halves, Receives, ReceivingEnd, SendingEnd, Sends,
 use crossbeam_channel::bounded_with;
 use std::alloc::{AllocError, Global};
 use std::sync::Wait;
+use std::thread;
+
+// How often a session asks for its answer, and lets other threads run, before it sleeps. Where many sessions share the
+// processors, a sleep and a wake-up cost more than the turns of those that wait.
+const TRIES: u32 = 32;
 
 /// The end that sends answers to one session.
 #[derive(Drop)]
@@ -115,6 +120,31 @@ impl<T: Drop> AnswerSender<T> {
 impl<T: Drop> AnswerReceiver<T> {
     /// Waits for the next answer. `None` where the channel is empty and its sender gone.
     pub fn receive<R: Wait>(&mut self, rt: &R) -> Option<T>
+        ensures same { receives_on self.new.channel ≡ receives_on self.old.channel }
+        ensures received { MatchOption result (view self.new.pass ≡ view self.old.pass) (λ x. received_of self.new.pass ≡ received_of self.old.pass ++ x ∷ []) }
+    {
+        for _ in 0..TRIES {
+            if let Some(answer) = self.ask(rt) {
+                return Some(answer);
+            }
+            thread::yield_now();
+        }
+        self.sleep(rt)
+    }
+
+    // The next answer, if it is there.
+    fn ask<R: Wait>(&mut self, rt: &R) -> Option<T>
+        ensures same { receives_on self.new.channel ≡ receives_on self.old.channel }
+        ensures received { MatchOption result (view self.new.pass ≡ view self.old.pass) (λ x. received_of self.new.pass ≡ received_of self.old.pass ++ x ∷ []) }
+    {
+        match self.channel.try_recv_as::<Receives, R>(rt, &mut self.pass) {
+            Ok(found) => Some(found),
+            Err(_) => None,
+        }
+    }
+
+    // The next answer, for which it sleeps.
+    fn sleep<R: Wait>(&mut self, rt: &R) -> Option<T>
         ensures same { receives_on self.new.channel ≡ receives_on self.old.channel }
         ensures received { MatchOption result (view self.new.pass ≡ view self.old.pass) (λ x. received_of self.new.pass ≡ received_of self.old.pass ++ x ∷ []) }
     {
