@@ -2,7 +2,7 @@
 use Rattle.std.specs.declared.alloc.Global.{Global}
 use Rattle.std.proofs.Common.{◌≡◌, inl, inr, Bool, true, false, List, [], ◌++◌, length, sym, ◌∙◌, subst, arith}
 use Rattle.std.proofs.lemmas.List.{append-nil}
-use mathlib.Core.List.{Sublist, nil-sublist}
+use mathlib.Core.List.{IsPrefix, Sublist, nil-sublist}
 use Rattle.centre_core.specs.Asked.{Asked}
 use Rattle.centre_core.specs.State.{State}
 use Rattle.centre_core.specs.Histories.{IsHistory}
@@ -89,6 +89,10 @@ module _ {D : Type 0} (base : State) (f g : Progress D) where
       subst (λ l. AreInOrder l (taken ++ popped)) (sym h.durable) (order_longer f.durable h.more taken popped order h.some)
 
 module _ {D : Type 0} (base : State) (f g : FlusherView D) where
+  -- what was durable is a prefix of what is durable after a round
+  pub round_longer : IsRound base f g → IsPrefix f.durable g.durable
+  round_longer r = let h = served_adds base (progress_of f) (progress_of g) (commands_among r.popped) f.senders g.senders r.served in (h.more, sym h.durable)
+
   -- the same of a round
   pub round_sent : IsHistory base f.durable → IsRound base f g → AreSentInOrder base f.durable f.senders → AreSentInOrder base g.durable g.senders
   round_sent a r sent = served_sent base (progress_of f) (progress_of g) (commands_among r.popped) f.senders g.senders a r.served sent

@@ -29,7 +29,7 @@ use Rattle.flusher.proofs.Ordered.{first_are_some, some_joined, some_longer}
 abbrev G : Type 0
 G = Asked Global
 
-later_failed : (a b c : ℕ) → a ≤ b → (b < c) ⊎ (c ≡ 2 ^ 64 - 1) → (a < c) ⊎ (c ≡ 2 ^ 64 - 1)
+pub later_failed : (a b c : ℕ) → a ≤ b → (b < c) ⊎ (c ≡ 2 ^ 64 - 1) → (a < c) ⊎ (c ≡ 2 ^ 64 - 1)
 later_failed a b c le h = elim h [ inl q ↦ inl (omega (arith, le, q)) | inr q ↦ inr q ]
 
 module _ {D : Type 0} (view : D → View) where
@@ -76,7 +76,7 @@ module _ {D : Type 0} (view : D → View) where
 
 module _ {D : Type 0} (view : D → View) (base : State) (f g : FlusherView D) (batch : List G) (more_taken : commands_among g.taker.taken ≡ commands_among f.taker.taken ++ batch) where
   -- what was under way stays so
-  still : (more : List G) → g.durable ≡ f.durable → AreUnderWay base f more → AreUnderWay base g more
+  pub still : (more : List G) → g.durable ≡ f.durable → AreUnderWay base f more → AreUnderWay base g more
   still more same u = record {
     batch = u.batch;
     reached = u.reached;
@@ -104,7 +104,7 @@ module _ {D : Type 0} (view : D → View) (base : State) (f g : FlusherView D) (
         );
   }
 
-  begun : (more : List G) (n : ℕ) → AreInOrder f.durable f.taker.taken → g.durable ≡ f.durable → more ≡ taken (after base g.durable) (take n batch) → AreUnderWay base g more
+  pub begun : (more : List G) (n : ℕ) → AreInOrder f.durable f.taker.taken → g.durable ≡ f.durable → more ≡ taken (after base g.durable) (take n batch) → AreUnderWay base g more
   begun more n order same is = record {
     batch = batch;
     reached = n;

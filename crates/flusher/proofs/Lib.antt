@@ -1,4 +1,5 @@
 pub mod Decided
+pub mod Short
 pub mod Published
 pub mod Going
 pub mod Answered
@@ -13,7 +14,9 @@ pub mod Beginning
 pub mod Endings
 pub mod Runs
 pub mod Closed
+pub mod Sessions
 pub mod Crossing
 pub mod Borne
 pub mod Ordered
 pub mod ByItself
+pub mod Between

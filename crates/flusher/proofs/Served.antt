@@ -20,7 +20,7 @@ use Rattle.flusher.specs.declared.decision.Decision.TheVariants as decision
 use Rattle.flusher.specs.Stages.{Sent, Stage, stage, HasRun, commands_of, decision_for_all, entries_of, entry_of, sent_by, sent_to_all}
 use Rattle.flusher.specs.Answerings.{HaveAnswered}
 use Rattle.flusher.specs.declared.committing.Attempts.{Attempts}
-use Rattle.flusher.specs.Batches.{IsDone, IsRefusedBy, accepted_by}
+use Rattle.flusher.specs.Batches.{HasRecorded, IsDone, IsRefusedBy, accepted_by}
 use Rattle.flusher.specs.Served.{AreServedBy, HasServed, HavePublished, IsReason, decision_by}
 use Rattle.flusher.specs.View.{progress, stage_of}
 use Rattle.flusher.proofs.Decided.{comes, commands_by}
@@ -71,17 +71,17 @@ module _ {D : Type 0} where
 
   -- ---- a batch that was committed
 
-  pub served_on : (base : State) (old new : StoreView Global D) (r r' : Attempts) (made_room : Bool) (seen log durable list cmds : List G) (os : List (Outcome Global)) (xs ys : List (AnswerSender Sent))
-      → IsHistory base log → old.register ≡ after base log → old.broken ≡ false → length cmds ≤ 64 → IsDone cmds old new os → durable ≡ log ++ accepted_by cmds os → HavePublished log durable list cmds os xs ys
+  pub served_on : (base : State) (old new : StoreView Global D) (r r' : Attempts) (seen log durable list cmds : List G) (os : List (Outcome Global)) (xs ys : List (AnswerSender Sent))
+      → IsHistory base log → old.register ≡ after base log → old.broken ≡ false → length cmds ≤ 64 → IsDone cmds old new os → HasRecorded cmds old new → durable ≡ log ++ accepted_by cmds os → HavePublished log durable list cmds os xs ys
       → HasServed base (progress seen log old r) (progress list durable new r') cmds xs ys
-  served_on base old new r r' made_room seen log durable list cmds os xs ys history made up small done is shown =
+  served_on base old new r r' seen log durable list cmds os xs ys history made up small done recorded is shown =
       let h = comes base old.register new.register log cmds os history made done.answered in
       let ts = taken (after base log) (take h.reached cmds) in
       let same : durable ≡ log ++ ts = is ∙ ap (λ l. log ++ l) h.accepted in
       let all = shown.all in
       let answers = sent_by list all cmds os in
       let some : all ≡ false → 0 < length ts = λ e. let less = shown.some e in omega (arith, ap length same, length-append log ts, less) in
-      let went = ran base seen log all cmds h.reached made_room (is_some old.beside) (is_some new.beside) answers small some (h.entries list all) in
+      let went = ran base seen log all cmds h.reached recorded.made_room (is_some old.beside) (is_some new.beside) answers small some (h.entries list all) in
       let start : stage seen log (is_some old.beside) false ≡ stage_of (progress seen log old r) = sound_stage seen log old r up in
       let end : stage (cond all (log ++ ts) log) (log ++ ts) (is_some new.beside) false ≡ stage_of (progress list durable new r') =
       (λ i. stage ((ap (λ l. cond all l log) (sym same) ∙ sym shown.published) i) (sym same i) (is_some new.beside) false) ∙ sound_stage list durable new r' done.sound in
@@ -100,6 +100,7 @@ module _ {D : Type 0} where
           some = shown.some;
           sound = done.sound;
           each = refl;
+          recorded = recorded;
         }));
       }
 
@@ -110,39 +111,39 @@ module _ {D : Type 0} where
   idle_run base old new r r' made_room seen log cmds answers up sound none =
       by_stages base _ _ _ _ cmds answers (sound_stage seen log old r up) (sound_stage log log new r' sound) (only_published base seen log cmds made_room (is_some old.beside) (is_some new.beside) answers none)
 
-  run_by : (base : State) (old new : StoreView Global D) (r r' : Attempts) (made_room : Bool) (seen log cmds : List G) (f : StoreFault) (answers : List Sent) → old.broken ≡ false → length cmds ≤ 64 → IsRefusedBy cmds old new f r r' → entries_of answers ≡ []
+  run_by : (base : State) (old new : StoreView Global D) (r r' : Attempts) (seen log cmds : List G) (f : StoreFault) (answers : List Sent) → old.broken ≡ false → length cmds ≤ 64 → IsRefusedBy cmds old new f r r' → entries_of answers ≡ []
       → HasRun base (stage_of (progress seen log old r)) (stage_of (progress log log new r')) cmds answers
-  run_by base old new r r' made_room seen log cmds DiskFault answers up small h none =
-      by_stages base _ _ _ _ cmds answers (sound_stage seen log old r up) (broken_stage log log new r' h.broken) (stopped base seen log cmds h.in_checkpoint made_room (is_some old.beside) answers h.some small none)
-  run_by base old new r r' made_room seen log cmds NoMemory answers up small h none = idle_run base old new r r' made_room seen log cmds answers up h.0.sound none
-  run_by base old new r r' made_room seen log cmds EpochsUsedUp answers up small h none =
-      idle_run base old new r r' made_room seen log cmds answers up (ap (λ (s : StoreView Global D). s.broken) h.0 ∙ up) none
-  run_by base old new r r' made_room seen log cmds Broken answers up small h none = absurd h
-  run_by base old new r r' made_room seen log cmds Unready answers up small h none = absurd h
-  run_by base old new r r' made_room seen log cmds Unformatted answers up small h none = absurd h
-  run_by base old new r r' made_room seen log cmds BadGeometry answers up small h none = absurd h
-  run_by base old new r r' made_room seen log cmds (Damaged at) answers up small h none = absurd h
+  run_by base old new r r' seen log cmds DiskFault answers up small h none =
+      by_stages base _ _ _ _ cmds answers (sound_stage seen log old r up) (broken_stage log log new r' h.broken) (stopped base seen log cmds h.in_checkpoint false (is_some old.beside) answers h.some small none)
+  run_by base old new r r' seen log cmds NoMemory answers up small h none = idle_run base old new r r' h.2.made_room seen log cmds answers up h.0.sound none
+  run_by base old new r r' seen log cmds EpochsUsedUp answers up small h none =
+      idle_run base old new r r' false seen log cmds answers up (ap (λ (s : StoreView Global D). s.broken) h.0 ∙ up) none
+  run_by base old new r r' seen log cmds Broken answers up small h none = absurd h
+  run_by base old new r r' seen log cmds Unready answers up small h none = absurd h
+  run_by base old new r r' seen log cmds Unformatted answers up small h none = absurd h
+  run_by base old new r r' seen log cmds BadGeometry answers up small h none = absurd h
+  run_by base old new r r' seen log cmds (Damaged at) answers up small h none = absurd h
 
   reason_by : (base : State) (old new : StoreView Global D) (r r' : Attempts) (seen log cmds : List G) (f : StoreFault) (answers : List Sent) → old.broken ≡ false → IsRefusedBy cmds old new f r r'
       → IsReason base (progress seen log old r) (progress log log new r') cmds answers f
-  reason_by base old new r r' seen log cmds DiskFault answers up h = h.broken
-  reason_by base old new r r' seen log cmds NoMemory answers up h = (h.1, h.0.sound)
-  reason_by base old new r r' seen log cmds EpochsUsedUp answers up h = (h.1, ap (λ (s : StoreView Global D). s.broken) h.0 ∙ up)
+  reason_by base old new r r' seen log cmds DiskFault answers up h = h
+  reason_by base old new r r' seen log cmds NoMemory answers up h = (h.1, h.0.sound, h.2)
+  reason_by base old new r r' seen log cmds EpochsUsedUp answers up h = (h.1, h.2, h.0)
   reason_by base old new r r' seen log cmds Broken answers up h = absurd h
   reason_by base old new r r' seen log cmds Unready answers up h = absurd h
   reason_by base old new r r' seen log cmds Unformatted answers up h = absurd h
   reason_by base old new r r' seen log cmds BadGeometry answers up h = absurd h
   reason_by base old new r r' seen log cmds (Damaged at) answers up h = absurd h
 
-  refused_at : (base : State) (old new : StoreView Global D) (r r' : Attempts) (made_room : Bool) (seen log cmds : List G) (f : StoreFault) (xs ys : List (AnswerSender Sent)) → old.broken ≡ false → length cmds ≤ 64 → IsRefusedBy cmds old new f r r'
+  refused_at : (base : State) (old new : StoreView Global D) (r r' : Attempts) (seen log cmds : List G) (f : StoreFault) (xs ys : List (AnswerSender Sent)) → old.broken ≡ false → length cmds ≤ 64 → IsRefusedBy cmds old new f r r'
       → HaveAnswered xs (sent_to_all log (decision_by f) cmds) ys → HasServed base (progress seen log old r) (progress log log new r') cmds xs ys
-  refused_at base old new r r' made_room seen log cmds f xs ys up small h sent =
+  refused_at base old new r r' seen log cmds f xs ys up small h sent =
       let answers = sent_to_all log (decision_by f) cmds in
       record {
         answers = answers;
         asked = commands_alike log (decision_by f) cmds;
         answered = sent;
-        run = run_by base old new r r' made_room seen log cmds f answers up small h (no_replies log (decision_by f) (no_entry f) cmds);
+        run = run_by base old new r r' seen log cmds f answers up small h (no_replies log (decision_by f) (no_entry f) cmds);
         served = subst (λ b. AreServedBy base (progress seen log old r) (progress log log new r') cmds answers b) (sym up) (inr (inl (record {
           fault = f;
           reason = reason_by base old new r r' seen log cmds f answers up h;
@@ -152,11 +153,11 @@ module _ {D : Type 0} where
         })));
       }
 
-  pub served_not : (base : State) (old new : StoreView Global D) (r r' : Attempts) (made_room : Bool) (seen log durable list cmds : List G) (f : StoreFault) (xs ys : List (AnswerSender Sent)) → old.broken ≡ false → length cmds ≤ 64 → IsRefusedBy cmds old new f r r'
+  pub served_not : (base : State) (old new : StoreView Global D) (r r' : Attempts) (seen log durable list cmds : List G) (f : StoreFault) (xs ys : List (AnswerSender Sent)) → old.broken ≡ false → length cmds ≤ 64 → IsRefusedBy cmds old new f r r'
       → list ≡ log → durable ≡ log → HaveAnswered xs (sent_to_all list (decision_by f) cmds) ys → HasServed base (progress seen log old r) (progress list durable new r') cmds xs ys
-  served_not base old new r r' made_room seen log durable list cmds f xs ys up small h level same sent =
+  served_not base old new r r' seen log durable list cmds f xs ys up small h level same sent =
       subst (λ (q : List G × List G). HasServed base (progress seen log old r) (progress q.0 q.1 new r') cmds xs ys) (λ j. (sym level j, sym same j))
-      (refused_at base old new r r' made_room seen log cmds f xs ys up small h (subst (λ l. HaveAnswered xs (sent_to_all l (decision_by f) cmds) ys) level sent))
+      (refused_at base old new r r' seen log cmds f xs ys up small h (subst (λ l. HaveAnswered xs (sent_to_all l (decision_by f) cmds) ys) level sent))
 
   -- ---- a round that commits nothing
 

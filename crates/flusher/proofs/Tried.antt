@@ -1,8 +1,8 @@
 -- What one call of the store comes to.
-use Rattle.std.specs.Prelude.{◌⊎◌, map, Result, Ok, Err, IsErrOf, IfOk, IfErr, OnOk, OnErr, Vec, None}
+use Rattle.std.specs.Prelude.{◌⊎◌, Bool, not, is_some, map, Result, Ok, Err, IsErrOf, IfOk, IfErr, OnOk, OnErr, Vec, None}
 use Rattle.std.specs.Borrow.{Bor}
 use Rattle.std.specs.declared.alloc.Global.{Global}
-use Rattle.std.proofs.Common.{◌≡◌, ℕ, suc, ◌+◌, ◌*◌, ◌^◌, ◌<◌, ◌≤◌, inl, inr, true, false, true≢false, List, [], ◌∷◌, length, refl, ap, sym, ◌∙◌, subst, arith}
+use Rattle.std.proofs.Common.{◌≡◌, ℕ, suc, ◌+◌, ◌*◌, ◌^◌, ◌<◌, ◌≤◌, inl, inr, true, false, true≢false, List, [], ◌∷◌, ◌++◌, length, refl, ap, sym, ◌∙◌, subst, arith}
 use Rattle.sector_disk.specs.Disk.{HasFailed, View}
 use Rattle.centre_core.specs.Asked.{Asked}
 use Rattle.centre_core.specs.Same.{under}
@@ -22,13 +22,16 @@ use Rattle.recovery.specs.declared.outcome.Outcome.{Outcome}
 use Rattle.recovery.specs.declared.fault.StoreFault.{StoreFault}
 use Rattle.recovery.specs.declared.fault.StoreFault.TheVariants.{BadGeometry, Broken, Damaged, DiskFault, EpochsUsedUp, NoMemory, Unformatted, Unready}
 use Rattle.recovery.specs.Lives.{StoreView, IsStoredIn}
-use Rattle.recovery.specs.Outcomes.{IsAnswered, IsAfterBatch, asked}
+use Rattle.recovery.specs.Calls.{commit_calls_by}
+use Rattle.recovery.specs.GoneOn.{HasKept, HasRoom}
+use Rattle.recovery.specs.Outcomes.{AreRecorded, IsAnswered, IsAfterBatch, asked}
 use Rattle.recovery.specs.Refusals.{IsOfCheckpoint, IsOfCommit}
 use Rattle.recovery.specs.Stored.{fresh_place}
 use Rattle.recovery.proofs.Stored.{fits_fresh}
+use Rattle.recovery.proofs.Committed.{none_kept, room_kept}
 use Rattle.flusher.specs.declared.committing.Attempts.{Attempts}
 use Rattle.flusher.specs.Attempts.{HasAttempted, IsNext, WasOutOfMemory}
-use Rattle.flusher.specs.Batches.{HasCommitted, HasMadeRoom, HasTried, IsAnswerOf, IsRefusedBy, IsUndone, LacksRoom}
+use Rattle.flusher.specs.Batches.{AreKept, HasMadeRoom, HasRecorded, HasTried, IsAnswerOf, IsRefusedBy, IsUndone, LacksRoom}
 
 abbrev G : Type 0
 G = Asked Global
@@ -63,20 +66,26 @@ module _ {D : Type 0} (view : D → View) (old new : StoreView Global D) where
 
   -- ---- a commit
 
+  -- what the store says of its record
+  pub kept_of : (cmds : List G) (r : Answers) → OnOk r ((recorded : List G) × (was_open : Bool) × AreRecorded Global old.register cmds new.register recorded × HasKept old new recorded
+      × ((view new.disk).calls ≡ (view old.disk).calls ++ commit_calls_by old.layout old.side old.epoch old.journal old.beside recorded (is_some new.beside) was_open)) → OnOk r (AreKept cmds old new true)
+  kept_of cmds (Ok o) h = record { recorded = h.0; these = h.2; kept = h.3 }
+  kept_of cmds (Err e) h = tt
+
   pub tried_by : (cmds : List G) (r : Answers) → old.broken ≡ false → (cmds ≡ [] → ⊥)
       → IfOk r (λ o. IsAnswered old.register cmds new.register o.items) → OnOk r (new.broken ≡ false)
       → (IsErrOf r Broken → old.broken ≡ true) → (IsErrOf r NoMemory → new ≡ old)
       → (IsErrOf r Unready → (new ≡ old) × LacksRoom old.journal cmds) → (IsErrOf r DiskFault → new.broken ≡ true)
-      → OnErr r ((new.register ≡ old.register) ⊎ IsAfterBatch old.register cmds new.register) → IfErr r IsOfCommit → HasTried cmds old new r
-  tried_by cmds (Ok o) sound some answered up only memory unready fault register kinds = record { answered = answered; sound = up }
-  tried_by cmds (Err Unformatted) sound some answered up only memory unready fault register kinds = absurd kinds
-  tried_by cmds (Err BadGeometry) sound some answered up only memory unready fault register kinds = absurd kinds
-  tried_by cmds (Err (Damaged at)) sound some answered up only memory unready fault register kinds = absurd kinds
-  tried_by cmds (Err DiskFault) sound some answered up only memory unready fault register kinds = record { broken = fault refl; some = some; in_checkpoint = false; register = register }
-  tried_by cmds (Err Broken) sound some answered up only memory unready fault register kinds = absurd (true≢false (sym (only refl) ∙ sound))
-  tried_by cmds (Err NoMemory) sound some answered up only memory unready fault register kinds = memory refl
-  tried_by cmds (Err EpochsUsedUp) sound some answered up only memory unready fault register kinds = absurd kinds
-  tried_by cmds (Err Unready) sound some answered up only memory unready fault register kinds = unready refl
+      → OnErr r ((new.register ≡ old.register) ⊎ IsAfterBatch old.register cmds new.register) → IfErr r IsOfCommit → OnOk r (AreKept cmds old new true) → HasTried cmds old new r
+  tried_by cmds (Ok o) sound some answered up only memory unready fault register kinds kept = (record { answered = answered; sound = up }, kept)
+  tried_by cmds (Err Unformatted) sound some answered up only memory unready fault register kinds kept = absurd kinds
+  tried_by cmds (Err BadGeometry) sound some answered up only memory unready fault register kinds kept = absurd kinds
+  tried_by cmds (Err (Damaged at)) sound some answered up only memory unready fault register kinds kept = absurd kinds
+  tried_by cmds (Err DiskFault) sound some answered up only memory unready fault register kinds kept = record { broken = fault refl; some = some; in_checkpoint = false; register = register }
+  tried_by cmds (Err Broken) sound some answered up only memory unready fault register kinds kept = absurd (true≢false (sym (only refl) ∙ sound))
+  tried_by cmds (Err NoMemory) sound some answered up only memory unready fault register kinds kept = memory refl
+  tried_by cmds (Err EpochsUsedUp) sound some answered up only memory unready fault register kinds kept = absurd kinds
+  tried_by cmds (Err Unready) sound some answered up only memory unready fault register kinds kept = unready refl
 
   pub tried_kept : (cmds : List G) (r : Answers) → HasTried cmds old new r → OnOk r (IsStoredIn Global view new) → IsStoredIn Global view old → new.broken ≡ false → IsStoredIn Global view new
   tried_kept cmds (Ok o) h kept stored sound = kept
@@ -90,7 +99,7 @@ module _ {D : Type 0} (view : D → View) (old new : StoreView Global D) where
   tried_kept cmds (Err (Damaged at)) h kept stored sound = absurd h
 
   pub tried_failed : (cmds : List G) (r : Answers) → old.broken ≡ false → HasTried cmds old new r → (IsErrOf r DiskFault → HasFailed (view old.disk) (view new.disk)) → new.broken ≡ true → HasFailed (view old.disk) (view new.disk)
-  tried_failed cmds (Ok o) sound h failed broken = absurd (true≢false (sym broken ∙ h.sound))
+  tried_failed cmds (Ok o) sound h failed broken = absurd (true≢false (sym broken ∙ h.0.sound))
   tried_failed cmds (Err DiskFault) sound h failed broken = failed refl
   tried_failed cmds (Err NoMemory) sound h failed broken = absurd (up h sound broken)
   tried_failed cmds (Err Unready) sound h failed broken = absurd (up h.0 sound broken)
@@ -109,7 +118,11 @@ module _ {D : Type 0} (view : D → View) (old new : StoreView Global D) where
       → OnOk r (new.journal ≡ fresh_place old.layout (other_of old.side) old.register.count) → OnErr r ((new.side ≡ old.side) × (new.epoch ≡ old.epoch) × (new.journal ≡ old.journal)) → OnOk r (new.broken ≡ false)
       → (IsErrOf r Broken → old.broken ≡ true) → (IsErrOf r EpochsUsedUp → (last_epoch ≤ old.epoch) × (new.disk ≡ old.disk) × (new.broken ≡ false) × (new.beside ≡ old.beside)) → (IsErrOf r DiskFault → new.broken ≡ true)
       → IfErr r IsOfCheckpoint → HasMadeRoom old new r
-  made_by (Ok done) sound same sides journal unmoved up only epochs fault kinds = (record { register = same.1; sound = up }, sides.2, journal)
+  made_by (Ok done) sound same sides journal unmoved up only epochs fault kinds = record {
+    undone = record { register = same.1; sound = up };
+    layout = same.0;
+    room = (record { side = sides.0; epoch = sides.1; journal = journal }, sides.2);
+  }
   made_by (Err Unformatted) sound same sides journal unmoved up only epochs fault kinds = absurd kinds
   made_by (Err BadGeometry) sound same sides journal unmoved up only epochs fault kinds = absurd kinds
   made_by (Err (Damaged at)) sound same sides journal unmoved up only epochs fault kinds = absurd kinds
@@ -133,7 +146,7 @@ module _ {D : Type 0} (view : D → View) (old new : StoreView Global D) where
   made_kept (Err (Damaged at)) h kept stored sound = absurd h
 
   pub made_failed : (r : Result (Unit {0}) StoreFault) → old.broken ≡ false → HasMadeRoom old new r → (IsErrOf r DiskFault → HasFailed (view old.disk) (view new.disk)) → new.broken ≡ true → HasFailed (view old.disk) (view new.disk)
-  made_failed (Ok done) sound h failed broken = absurd (true≢false (sym broken ∙ h.0.sound))
+  made_failed (Ok done) sound h failed broken = absurd (true≢false (sym broken ∙ h.undone.sound))
   made_failed (Err DiskFault) sound h failed broken = failed refl
   made_failed (Err EpochsUsedUp) sound h failed broken = absurd (up h.0 sound broken)
   made_failed (Err NoMemory) sound h failed broken = absurd h
@@ -167,34 +180,57 @@ out_after was mid now q r f h is = record { refused = h.exact.1 is; tried = two_
 pub undone_self : {D : Type 0} (store : StoreView Global D) → store.broken ≡ false → IsUndone store store
 undone_self store sound = record { register = refl; sound = sound }
 
--- the commit from the middle one
-pub answered_after : {D : Type 0} (cmds : List G) (old mid new : StoreView Global D) (r : Answers) (was now : Attempts) → IsUndone old mid → (IsErrOf r Unready → ⊥) → (IsErrOf r NoMemory → WasOutOfMemory was now) → HasTried cmds mid new r → IsAnswerOf cmds old new r was now
-answered_after cmds old mid new (Ok o) was now u n out h = record { answered = subst (λ s. IsAnswered s cmds new.register o.items) u.register h.answered; sound = h.sound }
-answered_after cmds old mid new (Err DiskFault) was now u n out h = record {
-  broken = h.broken;
-  some = h.some;
-  in_checkpoint = h.in_checkpoint;
-  register = elim h.register [ inl q ↦ inl (q ∙ u.register) | inr q ↦ inr (subst (λ s. IsAfterBatch s cmds new.register) u.register q) ];
-}
-answered_after {D} cmds old mid new (Err NoMemory) was now u n out h =
-    (record { register = ap (λ (s : StoreView Global D). s.register) h ∙ u.register; sound = ap (λ (s : StoreView Global D). s.broken) h ∙ u.sound }, out refl)
-answered_after cmds old mid new (Err Unready) was now u n out h = absurd (n refl)
-answered_after cmds old mid new (Err EpochsUsedUp) was now u n out h = absurd h
-answered_after cmds old mid new (Err Broken) was now u n out h = absurd h
-answered_after cmds old mid new (Err Unformatted) was now u n out h = absurd h
-answered_after cmds old mid new (Err BadGeometry) was now u n out h = absurd h
-answered_after cmds old mid new (Err (Damaged at)) was now u n out h = absurd h
+-- nothing is kept of no commands
+none_recorded : {D : Type 0} (cmds : List G) (store : StoreView Global D) → AreKept cmds store store true
+none_recorded cmds store = record { recorded = []; these = record { applied = 0; state = refl; these = refl }; kept = none_kept store }
+
+-- the commit from the middle one, behind a checkpoint or where the store was
+module _ {D : Type 0} (cmds : List G) (old mid new : StoreView Global D) (made_room : Bool) (lacks : made_room ≡ true → LacksRoom old.journal cmds) (layout : mid.layout ≡ old.layout) (room : HasRoom old mid (not made_room)) (u : IsUndone old mid) where
+  recorded_after : AreKept cmds mid new true → HasRecorded cmds old new
+  recorded_after k = record {
+    made_room = made_room;
+    lacks = lacks;
+    record_is = record {
+      recorded = k.recorded;
+      these = subst (λ s. AreRecorded Global s cmds new.register k.recorded) u.register k.these;
+      kept = room_kept mid old (not made_room) layout room k.recorded new k.kept;
+    };
+  }
+
+  pub answered_after : (r : Answers) (was now : Attempts) → (IsErrOf r Unready → ⊥) → (IsErrOf r NoMemory → WasOutOfMemory was now) → HasTried cmds mid new r → IsAnswerOf cmds old new r was now
+  answered_after (Ok o) was now n out h = (record { answered = subst (λ s. IsAnswered s cmds new.register o.items) u.register h.0.answered; sound = h.0.sound }, recorded_after h.1)
+  answered_after (Err DiskFault) was now n out h = record {
+    broken = h.broken;
+    some = h.some;
+    in_checkpoint = h.in_checkpoint;
+    register = elim h.register [ inl q ↦ inl (q ∙ u.register) | inr q ↦ inr (subst (λ s. IsAfterBatch s cmds new.register) u.register q) ];
+  }
+  answered_after (Err NoMemory) was now n out h = (
+    record { register = ap (λ (s : StoreView Global D). s.register) h ∙ u.register; sound = ap (λ (s : StoreView Global D). s.broken) h ∙ u.sound },
+    out refl,
+    recorded_after (subst (λ (s : StoreView Global D). AreKept cmds mid s true) (sym h) (none_recorded cmds mid)),
+  )
+  answered_after (Err Unready) was now n out h = absurd (n refl)
+  answered_after (Err EpochsUsedUp) was now n out h = absurd h
+  answered_after (Err Broken) was now n out h = absurd h
+  answered_after (Err Unformatted) was now n out h = absurd h
+  answered_after (Err BadGeometry) was now n out h = absurd h
+  answered_after (Err (Damaged at)) was now n out h = absurd h
+
+-- the first commit, without a checkpoint
+pub answered_at_once : {D : Type 0} (cmds : List G) (old new : StoreView Global D) (r : Answers) (was now : Attempts) → old.broken ≡ false → (IsErrOf r Unready → ⊥) → (IsErrOf r NoMemory → WasOutOfMemory was now) → HasTried cmds old new r → IsAnswerOf cmds old new r was now
+answered_at_once cmds old new r was now sound = answered_after cmds old old new false (λ e. absurd (true≢false (sym e))) refl (none_kept old) (undone_self old sound) r was now
 
 -- a checkpoint that was not made
-pub refused_before : {D : Type 0} (cmds : List G) (old new : StoreView Global D) (fault : StoreFault) (was now : Attempts) → (cmds ≡ [] → ⊥) → HasMadeRoom old new (Err fault) → IsRefusedBy cmds old new fault was now
-refused_before cmds old new DiskFault was now some h = record { broken = h.1; some = some; in_checkpoint = true; register = inl h.0 }
-refused_before cmds old new EpochsUsedUp was now some h = h
-refused_before cmds old new NoMemory was now some h = absurd h
-refused_before cmds old new Unready was now some h = absurd h
-refused_before cmds old new Broken was now some h = absurd h
-refused_before cmds old new Unformatted was now some h = absurd h
-refused_before cmds old new BadGeometry was now some h = absurd h
-refused_before cmds old new (Damaged at) was now some h = absurd h
+pub refused_before : {D : Type 0} (cmds : List G) (old new : StoreView Global D) (fault : StoreFault) (was now : Attempts) → (cmds ≡ [] → ⊥) → LacksRoom old.journal cmds → HasMadeRoom old new (Err fault) → IsRefusedBy cmds old new fault was now
+refused_before cmds old new DiskFault was now some lacks h = record { broken = h.1; some = some; in_checkpoint = true; register = inl h.0 }
+refused_before cmds old new EpochsUsedUp was now some lacks h = (h.0, h.1, lacks)
+refused_before cmds old new NoMemory was now some lacks h = absurd h
+refused_before cmds old new Unready was now some lacks h = absurd h
+refused_before cmds old new Broken was now some lacks h = absurd h
+refused_before cmds old new Unformatted was now some lacks h = absurd h
+refused_before cmds old new BadGeometry was now some lacks h = absurd h
+refused_before cmds old new (Damaged at) was now some lacks h = absurd h
 
 -- what is known of a commit that was unready
 pub unready_is : {D : Type 0} (cmds : List G) (old new : StoreView Global D) (r : Answers) → IsErrOf r Unready → HasTried cmds old new r → (new ≡ old) × LacksRoom old.journal cmds
@@ -226,11 +262,9 @@ not_again cs layout side count mid new r most is h unready =
     ok_unit = Ok tt
 
 -- no commands
-pub none_committed : {D : Type 0} (cmds : List G) (store : StoreView Global D) (v : Vec (Outcome Global) Global) (was now : Attempts) → cmds ≡ [] → v.items ≡ [] → store.broken ≡ false → HasCommitted cmds store store (Ok v) was now
-none_committed {D} cmds store v was now none empty sound = subst (λ (cs : List G). HasCommitted cs store store (Ok v) was now) (sym none) (record {
-  made_room = false;
-  room = λ e. absurd (true≢false (sym e));
-  answer = record {
+pub none_committed : {D : Type 0} (cmds : List G) (store : StoreView Global D) (v : Vec (Outcome Global) Global) (was now : Attempts) → cmds ≡ [] → v.items ≡ [] → store.broken ≡ false → IsAnswerOf cmds store store (Ok v) was now
+none_committed {D} cmds store v was now none empty sound = subst (λ (cs : List G). IsAnswerOf cs store store (Ok v) was now) (sym none) (
+  record {
     answered = record {
       applied = 0;
       end = record { most = omega arith; wants = λ c e. absurd cc };
@@ -238,5 +272,6 @@ none_committed {D} cmds store v was now none empty sound = subst (λ (cs : List 
       outcomes_are = empty;
     };
     sound = sound;
-  };
-})
+  },
+  record { made_room = false; lacks = λ e. absurd (true≢false (sym e)); record_is = none_recorded [] store },
+)

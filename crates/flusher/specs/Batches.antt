@@ -1,5 +1,5 @@
 -- What becomes of a batch.
-use Rattle.std.specs.Prelude.{◌≡◌, ◌⊎◌, ◌<◌, ◌≤◌, ◌-◌, ℕ, Bool, true, false, List, [], ◌∷◌, ◌++◌, length, map, None, slice_set, Result, Ok, Err, Vec}
+use Rattle.std.specs.Prelude.{◌≡◌, ◌⊎◌, ◌<◌, ◌≤◌, ◌-◌, ℕ, Bool, true, false, not, List, [], ◌∷◌, ◌++◌, length, map, slice_set, Result, Ok, Err, Vec}
 use Rattle.std.specs.List.{AllByRecursion}
 use Rattle.std.specs.declared.alloc.Global.{Global}
 use Rattle.centre_core.specs.Asked.{Asked}
@@ -21,10 +21,9 @@ use Rattle.recovery.specs.declared.outcome.Outcome.{Outcome}
 use Rattle.recovery.specs.declared.outcome.Outcome.TheVariants as outcome
 use Rattle.recovery.specs.declared.fault.StoreFault.{StoreFault}
 use Rattle.recovery.specs.declared.fault.StoreFault.TheVariants.{BadGeometry, Broken, Damaged, DiskFault, EpochsUsedUp, NoMemory, Unformatted, Unready}
-use Rattle.checkpoint.specs.Layout.{other_of}
-use Rattle.recovery.specs.Stored.{fresh_place}
+use Rattle.recovery.specs.GoneOn.{HasKept, HasRoom, with_room}
 use Rattle.recovery.specs.Lives.{StoreView, IsStoredIn}
-use Rattle.recovery.specs.Outcomes.{IsAnswered, IsAfterBatch, StandsForEither}
+use Rattle.recovery.specs.Outcomes.{AreRecorded, IsAnswered, IsAfterBatch, StandsForEither}
 
 -- ---- taking
 
@@ -69,9 +68,15 @@ module _ {D : Type 0} (old new : StoreView Global D) where
     pub register : new.register ≡ old.register
     pub sound : new.broken ≡ false
 
+  -- a checkpoint was made, and nothing was committed
+  pub record IsBehindCheckpoint : Type 0 where
+    pub undone : IsUndone
+    pub layout : new.layout ≡ old.layout
+    pub room : HasRoom old new false
+
   -- a checkpoint of a sound store was made, or why not
   abbrev pub HasMadeRoom : Result (Unit {0}) StoreFault → Type 0
-  HasMadeRoom (Ok done) = IsUndone × (new.beside ≡ None) × (new.journal ≡ fresh_place old.layout (other_of old.side) old.register.count)
+  HasMadeRoom (Ok done) = IsBehindCheckpoint
   HasMadeRoom (Err DiskFault) = (new.register ≡ old.register) × (new.broken ≡ true)
   HasMadeRoom (Err EpochsUsedUp) = (new ≡ old) × (last_epoch ≤ old.epoch)
   HasMadeRoom (Err NoMemory) = ⊥
@@ -87,6 +92,18 @@ module _ {D : Type 0} (commands : List (Asked Global)) (old new : StoreView Glob
     pub answered : IsAnswered old.register commands new.register outcomes
     pub sound : new.broken ≡ false
 
+  -- the commands that were accepted are kept as one record: where the store was, or behind a checkpoint that made room for it
+  pub record AreKept (fits : Bool) : Type 0 where
+    pub recorded : List (Asked Global)
+    pub these : AreRecorded Global old.register commands new.register recorded
+    pub kept : HasKept (with_room fits old) new recorded
+
+  -- so, and a checkpoint was made only where a record of all the commands would not fit
+  pub record HasRecorded : Type 0 where
+    pub made_room : Bool
+    pub lacks : made_room ≡ true → LacksRoom old.journal commands
+    pub record_is : AreKept (not made_room)
+
   -- the disk failed in the call, in a checkpoint before the commit or in the commit: the register is that from before, or that after
   -- the first of the commands
   pub record HasBroken : Type 0 where
@@ -98,8 +115,8 @@ module _ {D : Type 0} (commands : List (Asked Global)) (old new : StoreView Glob
   -- why a call on a sound store was refused, where commits were tried as was and now say
   abbrev pub IsRefusedBy : StoreFault → Attempts → Attempts → Type 0
   IsRefusedBy DiskFault was now = HasBroken
-  IsRefusedBy NoMemory was now = IsUndone old new × WasOutOfMemory was now
-  IsRefusedBy EpochsUsedUp was now = (new ≡ old) × (last_epoch ≤ old.epoch)
+  IsRefusedBy NoMemory was now = IsUndone old new × WasOutOfMemory was now × HasRecorded
+  IsRefusedBy EpochsUsedUp was now = (new ≡ old) × (last_epoch ≤ old.epoch) × LacksRoom old.journal commands
   IsRefusedBy Broken was now = ⊥
   IsRefusedBy Unready was now = ⊥
   IsRefusedBy Unformatted was now = ⊥
@@ -108,7 +125,7 @@ module _ {D : Type 0} (commands : List (Asked Global)) (old new : StoreView Glob
 
   -- what a commit of a sound store gives; where a record of all the commands would not fit, nothing is changed
   abbrev pub HasTried : Result (Vec (Outcome Global) Global) StoreFault → Type 0
-  HasTried (Ok outcomes) = IsDone outcomes.items
+  HasTried (Ok outcomes) = IsDone outcomes.items × AreKept true
   HasTried (Err DiskFault) = HasBroken
   HasTried (Err NoMemory) = new ≡ old
   HasTried (Err Unready) = (new ≡ old) × LacksRoom old.journal commands
@@ -120,14 +137,8 @@ module _ {D : Type 0} (commands : List (Asked Global)) (old new : StoreView Glob
 
   -- what a commit of a sound store gives that makes a checkpoint where a record would not fit
   abbrev pub IsAnswerOf : Result (Vec (Outcome Global) Global) StoreFault → Attempts → Attempts → Type 0
-  IsAnswerOf (Ok outcomes) was now = IsDone outcomes.items
+  IsAnswerOf (Ok outcomes) was now = IsDone outcomes.items × HasRecorded
   IsAnswerOf (Err fault) was now = IsRefusedBy fault was now
-
-  -- so, and whether a checkpoint was made, which is only where a record would not fit
-  pub record HasCommitted (result : Result (Vec (Outcome Global) Global) StoreFault) (was now : Attempts) : Type 0 where
-    pub made_room : Bool
-    pub room : made_room ≡ true → LacksRoom old.journal commands
-    pub answer : IsAnswerOf result was now
 
 module _ {D : Type 0} (view : D → View) where
   -- each stop in the call leaves the register on the disk, as before the call or as after it; there it is too if the disk has not failed

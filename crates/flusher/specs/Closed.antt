@@ -13,6 +13,13 @@ use Rattle.flusher.specs.Order.{of_station}
 use Rattle.flusher.specs.View.{FlusherView}
 use Rattle.flusher.specs.Runs.{HasTakenEnds}
 use Rattle.flusher.specs.declared.session.Ended.{Ended}
+use Rattle.flusher.specs.declared.session.Session.{Session}
+
+-- the session has ended: the same station, queue and channel
+pub record HasFinished {J : Type 0} (session : Session J) (end : Ended J) : Type 0 where
+  pub queue : end.sender.queue ≡ session.sender.queue
+  pub station : end.sender.station ≡ session.sender.station
+  pub channel : receives_on end.receiver.channel ≡ receives_on session.receiver.channel
 
 module _ {J D : Type 0} where
   -- this holds of each session with its place and its sender of answers, which has the same place
@@ -29,6 +36,17 @@ module _ {J D : Type 0} where
   pub record AreSessionsOf (f : FlusherView D) (ended : List (Ended J)) : Type 0 where
     pub count : length ended ≡ length f.senders
     pub each : IsTrueOfEach f ended (IsSessionOf f)
+
+  -- the session at place k is that of station k + 1, before its end
+  pub record IsOpenSessionOf (f : FlusherView D) (k : ℕ) (sender : AnswerSender Sent) (session : Session J) : Type 0 where
+    pub queue : session.sender.queue ≡ f.taker.queue
+    pub station : session.sender.station ≡ k + 1
+    pub channel : receives_on session.receiver.channel ≡ sends_on sender.channel
+
+  -- these are all the sessions of the flusher, in order of station, before their ends
+  pub record AreOpenSessionsOf (f : FlusherView D) (sessions : List (Session J)) : Type 0 where
+    pub count : length sessions ≡ length f.senders
+    pub each : (k : ℕ) (a : AnswerSender Sent) (s : Session J) → slice_get f.senders k ≡ Some a → slice_get sessions k ≡ Some s → IsOpenSessionOf f k a s
 
   -- what is known of one session and its sender of answers, once the centre is closed
   pub record IsClosedSession (base : State) (f : FlusherView D) (sender : AnswerSender Sent) (end : Ended J) : Type 0 where

@@ -1,5 +1,6 @@
 pub mod Shared
 pub mod Stages
+pub mod Short
 pub mod Attempts
 pub mod Batches
 pub mod Answerings

@@ -16,7 +16,7 @@ use Rattle.flusher.specs.declared.decision.Decision.{Decision}
 use Rattle.flusher.specs.declared.decision.Decision.TheVariants as decision
 use Rattle.flusher.specs.Stages.{Sent, HasRun, commands_of, sent_by, sent_to_all}
 use Rattle.flusher.specs.Attempts.{WasOutOfMemory}
-use Rattle.flusher.specs.Batches.{accepted_by}
+use Rattle.flusher.specs.Batches.{HasBroken, HasRecorded, LacksRoom, accepted_by}
 use Rattle.flusher.specs.Endings.{AreEnded}
 use Rattle.flusher.specs.Answerings.{HaveAnswered}
 use Rattle.flusher.specs.Borne.{AreSentInOrder}
@@ -47,7 +47,8 @@ decision_by (Damaged at) = decision.Fault (Damaged at)
 -- From one view to another, with these commands and their answers.
 module _ {D : Type 0} (base : State) (f g : Progress D) (commands : List (Asked Global)) (answers : List Sent) where
   -- The commands were committed, and each is answered by its outcome: its reply in its turn, and out of memory from the first one on
-  -- that needed memory. What is accepted is published; where memory did not allow that, an accepted one is answered as kept.
+  -- that needed memory. What is accepted is published; where memory did not allow that, an accepted one is answered as kept. A checkpoint
+  -- was made only where a record of all the commands would not fit.
   pub record AreCommitted : Type 0 where
     pub outcomes : List (Outcome Global)
     pub all : Bool
@@ -57,12 +58,13 @@ module _ {D : Type 0} (base : State) (f g : Progress D) (commands : List (Asked 
     pub some : all ≡ false → length f.durable < length g.durable
     pub sound : g.store.broken ≡ false
     pub each : answers ≡ sent_by g.published all commands outcomes
+    pub recorded : HasRecorded commands f.store g.store
 
-  -- why a commit was refused: it was itself out of memory, no epoch is left for a checkpoint, or the disk failed
+  -- why a commit was refused: it was itself out of memory, no epoch is left for a checkpoint that it needs, or the disk failed
   abbrev pub IsReason : StoreFault → Type 0
-  IsReason NoMemory = WasOutOfMemory f.attempts g.attempts × (g.store.broken ≡ false)
-  IsReason EpochsUsedUp = (last_epoch ≤ f.store.epoch) × (g.store.broken ≡ false)
-  IsReason DiskFault = g.store.broken ≡ true
+  IsReason NoMemory = WasOutOfMemory f.attempts g.attempts × (g.store.broken ≡ false) × HasRecorded commands f.store g.store
+  IsReason EpochsUsedUp = (last_epoch ≤ f.store.epoch) × LacksRoom f.store.journal commands × (g.store ≡ f.store)
+  IsReason DiskFault = HasBroken commands f.store g.store
   IsReason Broken = ⊥
   IsReason Unready = ⊥
   IsReason Unformatted = ⊥

@@ -1,6 +1,8 @@
 -- What the disk holds of what is durable.
-use Rattle.std.specs.Prelude.{◌≡◌, ℕ, true, false, List, ◌++◌, take}
+use Rattle.std.specs.Prelude.{◌≡◌, ◌⊎◌, ℕ, true, false, List, ◌++◌, take}
 use Rattle.std.specs.declared.alloc.Global.{Global}
+use mathlib.Core.List.{IsPrefix}
+use Rattle.identity.specs.Numbers.{Byte}
 use Rattle.sector_disk.specs.Disk.{View}
 use Rattle.centre_core.specs.Asked.{Asked}
 use Rattle.centre_core.specs.State.{State}
@@ -9,6 +11,7 @@ use Rattle.centre_core.specs.Batches.{taken}
 use Rattle.checkpoint.specs.Standing.{InEach}
 use Rattle.recovery.specs.Lives.{IsStoredIn}
 use Rattle.recovery.specs.Outcomes.{StandsForEither}
+use Rattle.recovery.specs.Standing.{StandsFor}
 use Rattle.flusher.specs.Shared.{commands_among}
 use Rattle.flusher.specs.Order.{AreInOrder}
 use Rattle.flusher.specs.View.{FlusherView}
@@ -33,3 +36,10 @@ pub record IsStoredFor {D : Type 0} (view : D → View) (base : State) (f : Flus
   pub sound : f.store.broken ≡ false → IsStoredIn Global view f.store
   pub failed : f.store.broken ≡ true → (more : List (Asked Global)) × AreUnderWay base f more
       × InEach (view f.store.disk) (StandsForEither Global (after base f.durable) (after base (f.durable ++ more)))
+
+-- The image stands for what was durable at some moment from one view to another. If the disk has failed then, it may also stand for that and
+-- further commands that were under way.
+abbrev pub StandsBetween : {D : Type 0} → State → FlusherView D → FlusherView D → List (List Byte) → Type 0
+StandsBetween base f g image =
+    ((list : List (Asked Global)) × IsPrefix f.durable list × IsPrefix list g.durable × StandsFor Global (after base list) image)
+    ⊎ ((more : List (Asked Global)) × (g.store.broken ≡ true) × AreUnderWay base g more × StandsFor Global (after base (g.durable ++ more)) image)

@@ -9,6 +9,8 @@ use Rattle.centre_core.specs.History.{after}
 use Rattle.centre_core.specs.Histories.{IsHistory}
 use Rattle.centre_core.specs.InTurn.{reply_to, Lands}
 use Rattle.centre_core.specs.declared.reply.Reply.TheVariants.{Accepted, Kept, Refused}
+use Rattle.centre_core.specs.Ranges.{IsShort}
+use Rattle.desk.specs.Replies.{HasShortReject}
 use Rattle.station_queue.specs.declared.entry.Entry.{Entry}
 use Rattle.station_queue.specs.declared.entry.Entry.TheVariants.{Submitted, Ended}
 use Rattle.station_queue.specs.declared.entry.Request.{Request}
@@ -98,3 +100,12 @@ module _ {J : Type 0} where
   -- one answer was received, or none; or memory ran out before the command was put into the queue
   abbrev pub HasReceived : State → Asked Global → SessionView → SessionView → Answer J → Type 0
   HasReceived base c old new a = IsAnswered base c old new a ⊎ IsUnanswered old new a ⊎ IsOutOfMemory old new a
+
+  -- the PDU of a reply has at most 2,048 bits, and so has the PDU that rejects a location update
+  abbrev pub HasShortAnswer : Answer J → Type 0
+  HasShortAnswer (answer.Accepted n p published) = IsShort p
+  HasShortAnswer (answer.Kept n p) = IsShort p
+  HasShortAnswer (answer.Refused r) = HasShortReject r
+  HasShortAnswer answer.NoMemory = Unit {0}
+  HasShortAnswer (answer.Fault f) = Unit {0}
+  HasShortAnswer answer.Closed = Unit {0}

@@ -3,6 +3,7 @@ ghost use Rattle.std.specs.Prelude.{◌≡◌, ◌≤◌, ◌<◌, [], ◌∷◌
 ghost use Rattle.std.specs.Arc.{arc_value};
 ghost use Rattle.std.specs.VecDeque.{deque_capacity};
 ghost use Rattle.flusher.specs.Shared.{commands_in};
+ghost use Rattle.flusher.specs.Short.{AreShort, HasShortDecision};
 ghost use Rattle.flusher.specs.Stages.{BearsOutDecision, BearsOutDecisions, sent, sent_by, sent_to_all, decision_for_all};
 ghost use Rattle.flusher.specs.Answerings.{HaveAnswered};
 ghost use Rattle.flusher.specs.Batches.{AreWithin};
@@ -28,6 +29,7 @@ fn answer_one<J: Centre, R: Wait>(
 )
     requires station { (0 < (arc_value command).station) × ((arc_value command).station ≤ length senders.old.items) }
     requires borne_out { BearsOutDecision J.base published.now (arc_value command) decision }
+    requires short { HasShortDecision decision }
     ensures { HaveAnswered senders.old.items (sent (arc_value command) published.now decision ∷ []) senders.new.items }
 {
     let station = usize::from(command.station.number());
@@ -50,6 +52,7 @@ pub(crate) fn answer_all<J: Centre, R: Wait>(
     requires stations { AreWithin (length senders.old.items) (commands_in batch.old.items) }
     requires borne_out { BearsOutDecisions J.base shown.now.published shown.now.all (commands_in batch.old.items) outcomes.items }
     requires each { length outcomes.items ≡ length batch.old.items }
+    requires short { AreShort outcomes.items }
     ensures answered { HaveAnswered senders.old.items
         (sent_by shown.now.published shown.now.all (commands_in batch.old.items) outcomes.items) senders.new.items }
     ensures done { batch.new.items ≡ [] }

@@ -1,5 +1,5 @@
 //! A batch: how it is taken, and how it is committed.
-ghost use Rattle.std.specs.Prelude.{◌≡◌, ◌≤◌, ◌<◌, ◌*◌, ◌++◌, ◌+◌, ◌∷◌, [], false, IsErrOf, List, MatchBool, length};
+ghost use Rattle.std.specs.Prelude.{◌≡◌, ◌≤◌, ◌<◌, ◌*◌, ◌++◌, ◌+◌, ◌∷◌, [], false, IfOk, IsErrOf, List, MatchBool, length};
 ghost use Rattle.recovery.specs.declared.fault.StoreFault.TheVariants.{Unready};
 ghost use Rattle.std.specs.VecDeque.{deque_capacity};
 ghost use Rattle.std.specs.List.{flat_map};
@@ -9,7 +9,8 @@ ghost use Rattle.station_queue.specs.Entries.{station_of};
 ghost use Rattle.recovery.specs.Lives.{view_of};
 ghost use Rattle.recovery.specs.Outcomes.{asked};
 ghost use Rattle.flusher.specs.Shared.{commands_in, commands_among};
-ghost use Rattle.flusher.specs.Batches.{AreWithin, FailsByDisk, HasCommitted, HasTaken, HoldsImages, ended_by};
+ghost use Rattle.flusher.specs.Short.{AreShort};
+ghost use Rattle.flusher.specs.Batches.{AreWithin, FailsByDisk, HasTaken, HoldsImages, IsAnswerOf, ended_by};
 
 use crate::committing::Committer;
 use centre_core::Command;
@@ -100,8 +101,9 @@ fn commit_with_room<D: Disk>(
     requires sound { committer.old.store.broken ≡ false }
     requires few { length commands.now ≤ 64 }
     requires some { 0 < length commands.now }
-    ensures committed { HasCommitted (asked commands.now) (view_of committer.old.store) (view_of committer.new.store)
+    ensures committed { IsAnswerOf (asked commands.now) (view_of committer.old.store) (view_of committer.new.store)
         result committer.old.attempts committer.new.attempts }
+    ensures short { IfOk result (λ outcomes. AreShort outcomes.items) }
     ensures images { HoldsImages D.view (view_of committer.old.store) (view_of committer.new.store) }
     ensures fails { FailsByDisk D.view (view_of committer.old.store) (view_of committer.new.store) }
 {
@@ -121,8 +123,9 @@ pub(crate) fn commit_batch<D: Disk>(
 ) -> Result<Vec<Outcome<Global>>, StoreFault>
     requires sound { committer.old.store.broken ≡ false }
     requires few { length batch.now.items ≤ 64 }
-    ensures committed { HasCommitted (commands_in batch.now.items) (view_of committer.old.store) (view_of committer.new.store)
+    ensures committed { IsAnswerOf (commands_in batch.now.items) (view_of committer.old.store) (view_of committer.new.store)
         result committer.old.attempts committer.new.attempts }
+    ensures short { IfOk result (λ outcomes. AreShort outcomes.items) }
     ensures images { HoldsImages D.view (view_of committer.old.store) (view_of committer.new.store) }
     ensures fails { FailsByDisk D.view (view_of committer.old.store) (view_of committer.new.store) }
 {

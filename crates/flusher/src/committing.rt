@@ -1,12 +1,15 @@
 //! The store that commits, and whether its last commit was out of memory.
-ghost use Rattle.std.specs.Prelude.{◌≡◌, ◌↔◌, ◌≤◌, ◌<◌, IsTrue, IsErrOf, MatchBool, true, false, length};
+ghost use Rattle.std.specs.Prelude.{◌≡◌, ◌↔◌, ◌≤◌, ◌<◌, All, IfOk, IsTrue, IsErrOf, MatchBool, true, false, length};
+ghost use Rattle.centre_core.specs.Ranges.{InRange};
 ghost use Rattle.recovery.specs.declared.fault.StoreFault.TheVariants.{NoMemory};
 ghost use Rattle.recovery.specs.Lives.{view_of};
 ghost use Rattle.recovery.specs.Outcomes.{asked};
 ghost use Rattle.flusher.specs.Attempts.{HasAttempted, IsNext};
+ghost use Rattle.flusher.specs.Short.{AreShort};
 ghost use Rattle.flusher.specs.Batches.{FailsByDisk, HasMadeRoom, HasTried, HoldsImages};
 
-use centre_core::Command;
+use centre_core::laws::{in_range, registers};
+use centre_core::{Command, Register};
 use recovery::{Outcome, Store, StoreFault};
 use sector_disk::Disk;
 use std::alloc::Global;
@@ -58,9 +61,12 @@ impl<D: Disk> Committer<D> {
         requires some { 0 < length commands.now }
         ensures tried { HasTried (asked commands.now) (view_of self.old.store) (view_of self.new.store) result }
         ensures attempted { HasAttempted self.old.attempts result self.new.attempts }
+        ensures short { IfOk result (λ outcomes. AreShort outcomes.items) }
         ensures images { HoldsImages D.view (view_of self.old.store) (view_of self.new.store) }
         ensures fails { FailsByDisk D.view (view_of self.old.store) (view_of self.new.store) }
     {
+        registers(register_of(&self.store));
+        hold_ranges(commands);
         let done = self.store.commit(self.alloc, commands);
         self.attempts = Attempts {
             count: next(self.attempts.count),
@@ -78,6 +84,26 @@ impl<D: Disk> Committer<D> {
         ensures fails { FailsByDisk D.view (view_of self.old.store) (view_of self.new.store) }
     {
         self.store.checkpoint()
+    }
+}
+
+/// The register of a store that is not broken.
+pub(crate) fn register_of<D: Disk>(store: &Store<Global, D>) -> &Register<Global>
+    requires { store.now.broken ≡ false }
+    ensures { result.now ≡ store.now.register }
+{
+    let Some(register) = store.register() else {
+        unreachable!()
+    };
+    register
+}
+
+// What each of these commands holds is in its range.
+fn hold_ranges(commands: &[&Command<Global>])
+    ensures { All (λ command. InRange command.now) commands.now }
+{
+    for command in commands {
+        in_range(command);
     }
 }
 

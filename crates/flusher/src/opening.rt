@@ -9,7 +9,7 @@ ghost use Rattle.flusher.specs.Served.{IsSettled};
 ghost use Rattle.flusher.specs.View.{view_of};
 
 use crate::batch::{MOST, Room};
-use crate::committing::Committer;
+use crate::committing::{Committer, register_of};
 use crate::flusher::Flusher;
 use crate::publishing::Publication;
 use crate::response::Response;
@@ -52,17 +52,6 @@ struct Buffers {
     unpublished: VecDeque<SharedCommand>,
     room: Room,
     ended: Vec<bool>,
-}
-
-// The register of a store that is not broken.
-fn register_of<D: Disk>(store: &Store<Global, D>) -> &Register<Global>
-    requires { store.now.broken ≡ false }
-    ensures { result.now ≡ store.now.register }
-{
-    let Some(register) = store.register() else {
-        unreachable!()
-    };
-    register
 }
 
 // Whether a register has a station for each of so many sessions, and there is one at least.

@@ -21,13 +21,15 @@ pub struct Response<J: Centre> {
 impl<J: Centre> Model for Response<J> {
     ghost use Rattle.std.specs.Arc.{arc_value};
     ghost use Rattle.centre_core.specs.Histories.{IsHistory};
+    ghost use Rattle.flusher.specs.Short.{HasShortDecision};
     ghost use Rattle.flusher.specs.Stages.{Sent, sent, BearsOutDecision};
 
     ghost Value = { Sent };
 
     ghost view = { λ r. sent (arc_value r.command) r.published r.decision };
 
-    ghost invariant = { λ r. IsHistory J.base r.published × BearsOutDecision J.base r.published (arc_value r.command) r.decision };
+    ghost invariant = { λ r. IsHistory J.base r.published × BearsOutDecision J.base r.published (arc_value r.command) r.decision
+        × HasShortDecision r.decision };
 }
 
 /// The decision by an outcome of a commit, where all that is durable is published, or not.

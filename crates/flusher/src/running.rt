@@ -1,8 +1,10 @@
 //! Rounds, until each session has ended.
-ghost use Rattle.std.specs.Prelude.{◌≤◌, ◌↔◌, All, IsTrue};
+ghost use Rattle.std.specs.Prelude.{◌≡◌, ◌≤◌, ◌↔◌, All, IsTrue, true, false};
+ghost use Rattle.sector_disk.specs.Disk.{HasFailed};
+ghost use Rattle.sector_disk.specs.Run.{LeavesOnly};
 ghost use Rattle.flusher.specs.View.{view_of};
 ghost use Rattle.flusher.specs.Served.{IsSettled};
-ghost use Rattle.flusher.specs.Stored.{IsStoredFor};
+ghost use Rattle.flusher.specs.Stored.{IsStoredFor, StandsBetween};
 ghost use Rattle.flusher.specs.Runs.{AreRounds, HasSameEnds, HasTakenEnds};
 
 use crate::flusher::{Flusher, Gate};
@@ -23,7 +25,18 @@ impl<J: Centre, D: Disk> Flusher<J, D> {
         requires settled { IsSettled J.base (view_of self.old) }
         ensures settled { IsSettled J.base (view_of self.new) }
         ensures rounds { AreRounds J.base (view_of self.old) (view_of self.new) }
+
+        // Each image of the disk stands for what is durable. A stop at any moment of the run leaves it standing for what was
+        // durable at some moment of it. Only a failure of the disk breaks the store.
         ensures stored { IsStoredFor D.view J.base (view_of self.old) → IsStoredFor D.view J.base (view_of self.new) }
+        ensures any_moment { IsStoredFor D.view J.base (view_of self.old) → self.old.committer.store.broken ≡ false
+            → LeavesOnly (D.view self.old.committer.store.disk) (D.view self.new.committer.store.disk)
+            (StandsBetween J.base (view_of self.old) (view_of self.new)) }
+        ensures later { (D.view self.old.committer.store.disk).failures ≤ (D.view self.new.committer.store.disk).failures }
+        ensures failed { self.old.committer.store.broken ≡ false → self.new.committer.store.broken ≡ true
+            → HasFailed (D.view self.old.committer.store.disk) (D.view self.new.committer.store.disk) }
+
+        // It ends where the end of each session was taken, with the queue and the channels that it had.
         ensures ended { HasTakenEnds (view_of self.new) }
         ensures same { HasSameEnds (view_of self.old) (view_of self.new) }
         ensures counted { self.old.rounds ≤ self.new.rounds }

@@ -9,6 +9,7 @@ ghost use Rattle.centre_core.specs.Histories.{IsHistory};
 ghost use Rattle.recovery.specs.Lives.{view_of as store_view};
 ghost use Rattle.recovery.specs.Outcomes.{IsAnswered};
 ghost use Rattle.flusher.specs.Shared.{commands_in};
+ghost use Rattle.flusher.specs.Short.{AreShort};
 ghost use Rattle.flusher.specs.Stages.{decision_for_all, sent_to_all};
 ghost use Rattle.flusher.specs.Answerings.{HaveAnswered};
 ghost use Rattle.flusher.specs.Batches.{AreWithin, FailsByDisk, HasBroken, HoldsImages, accepted_by};
@@ -41,6 +42,7 @@ fn publish_and_answer<J: Centre, R: Wait>(
     requires history { IsHistory J.base publication.old.publisher.appended }
     requires answered { IsAnswered (after J.base publication.old.publisher.appended) (commands_in batch.old.items)
         (after J.base (durable_of publication.old)) outcomes.items }
+    requires short { AreShort outcomes.items }
     requires kept { commands_in publication.old.unpublished.items ≡ accepted_by (commands_in batch.old.items) outcomes.items }
     requires stations { AreWithin (length senders.old.items) (commands_in batch.old.items) }
     ensures published { HavePublished publication.old.publisher.appended (durable_of publication.new) publication.new.publisher.published

@@ -2,7 +2,7 @@
 ghost use Rattle.std.specs.Prelude.{◌≡◌, ◌↔◌, true, IsTrue, IfSome};
 ghost use Rattle.std.specs.Arc.{arc_value};
 ghost use mathlib.Core.List.{IsPrefix};
-ghost use Rattle.flusher.specs.Submitted.{BearsOutAnswer, Fits, IsAlreadySeen, answer_by, are_submitted, is_ended};
+ghost use Rattle.flusher.specs.Submitted.{BearsOutAnswer, Fits, HasShortAnswer, IsAlreadySeen, answer_by, are_submitted, is_ended};
 
 use crate::answer::Answer;
 use crate::decision::Decision;
@@ -79,7 +79,8 @@ impl<J: Centre> Session<J> {
     ghost use Rattle.snapshots.specs.declared.viewer.ReadFault.TheVariants.{Closed, NoMemory};
     ghost use Rattle.station_queue.specs.Ends.{sending};
     ghost use Rattle.station_queue.specs.declared.entry.Entry.TheVariants as entry;
-    ghost use Rattle.flusher.specs.Submitted.{BearsOutAnswer, HasPut, HasReceived};
+    ghost use Rattle.flusher.specs.Closed.{HasFinished};
+    ghost use Rattle.flusher.specs.Submitted.{BearsOutAnswer, HasPut, HasReceived, HasShortAnswer};
     ghost use Rattle.flusher.specs.Sessions.{IsSameSession, view_of};
 
     /// Its station.
@@ -102,6 +103,9 @@ impl<J: Centre> Session<J> {
         // What the answer says. What was seen stays seen.
         ensures borne_out { BearsOutAnswer J.base command self.old.viewer self.new.viewer result }
         ensures seen { IsPrefix self.old.viewer self.new.viewer }
+
+        // The PDU that it gives has at most 2,048 bits.
+        ensures short { HasShortAnswer result }
 
         // It stays the session of its station.
         ensures same { IsSameSession self.old self.new }
@@ -151,6 +155,7 @@ impl<J: Centre> Session<J> {
     pub fn finish<R: Wait>(self, rt: &R) -> Ended<J>
         ensures sent { result.sender ≡ sending self.sender.queue self.sender.station (self.sender.sent ++ entry.Ended self.sender.station ∷ []) }
         ensures same { (result.receiver ≡ self.receiver) × (result.viewer ≡ self.viewer) }
+        ensures finished { HasFinished self result }
     {
         let Session {
             mut sender,
@@ -180,6 +185,7 @@ fn take_in<J: Centre>(
     ensures borne_out { BearsOutAnswer J.base command.now viewer.old viewer.new result }
     ensures seen { IsPrefix viewer.old viewer.new }
     ensures fits { Fits J.base command.now viewer.old response viewer.new result }
+    ensures short { HasShortAnswer result }
 {
     let Response {
         command: theirs,

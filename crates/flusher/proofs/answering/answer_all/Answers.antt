@@ -4,10 +4,12 @@ use Rattle.std.specs.declared.alloc.Global.{Global}
 use Rattle.centre_core.specs.Asked.{Asked}
 use Rattle.recovery.specs.declared.outcome.Outcome.{Outcome}
 use Rattle.flusher.specs.Shared.{commands_in}
+use Rattle.flusher.specs.Short.{AreShort, HasShortDecision}
 use Rattle.flusher.specs.Batches.{AreWithin}
 use Rattle.flusher.specs.Stages.{sent, decision_of, BearsOutDecisions, sent_by}
 use Rattle.flusher.specs.Answerings.{HaveAnswered}
 use Rattle.flusher.proofs.Answered.{answered_on, none_answered}
+use Rattle.flusher.proofs.Short.{decided_short}
 use Rattle.flusher.proofs.answering.answer_all.Goals as goal
 
 pub loop-command-init : goal.loop-command-init
@@ -16,6 +18,7 @@ loop-command-init g c =
       c.requires.stations,
       subst (BearsOutDecisions g.J.Centre.base c.args.shown.now.published c.args.shown.now.all (commands_in c.args.batch.now.items)) (sym e) c.requires.borne_out,
       ap length e ∙ c.requires.each,
+      subst AreShort (sym e) c.requires.short,
       ([], ap (sent_by c.args.shown.now.published c.args.shown.now.all (commands_in c.args.batch.now.items)) e, none_answered _),
       refl,
     )
@@ -40,10 +43,16 @@ loop-command-preserved g c =
       w.1,
       t.1,
       omega (arith, same, le, lf),
+      (subst AreShort f i.3).1,
       (
-        i.3.0 ++ x ∷ [],
-        append_assoc i.3.0 (x ∷ []) (sent_by published all cs os) ∙ (λ j. i.3.0 ++ sent_by published all (sym e j) (sym f j)) ∙ i.3.1,
-        answered_on _ _ _ _ _ i.3.2 (subst (λ s. HaveAnswered c.loop-command.senders.items (sent cmd published s ∷ []) c.answer_one.new.senders.items) c.decision_of-decision.ensures c.answer_one.ensures),
+        i.4.0 ++ x ∷ [],
+        append_assoc i.4.0 (x ∷ []) (sent_by published all cs os) ∙ (λ j. i.4.0 ++ sent_by published all (sym e j) (sym f j)) ∙ i.4.1,
+        answered_on _ _ _ _ _ i.4.2 (subst (λ s. HaveAnswered c.loop-command.senders.items (sent cmd published s ∷ []) c.answer_one.new.senders.items) c.decision_of-decision.ensures c.answer_one.ensures),
       ),
-      c.in-Some.ensures.capacity ∙ i.4,
+      c.in-Some.ensures.capacity ∙ i.5,
     )
+
+pub answer_one-requires-clause-short : goal.answer_one-requires-clause-short
+answer_one-requires-clause-short g c =
+    let short = (subst AreShort c.in-Some-next.ensures.items c.loop-command.invariant.3).0 in
+    subst HasShortDecision (sym c.decision_of-decision.ensures) (decided_short c.args.shown.now.all c.in-Some-next.outcome short)

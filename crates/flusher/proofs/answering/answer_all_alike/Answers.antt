@@ -2,10 +2,12 @@ use Rattle.std.proofs.Common.{◌≡◌, [], ◌∷◌, ◌++◌, length, rules,
 use Rattle.std.proofs.lemmas.List.{append-nil}
 use Rattle.std.specs.Arc.{arc_value}
 use Rattle.flusher.specs.Shared.{commands_in}
+use Rattle.flusher.specs.Short.{HasShortDecision}
 use Rattle.flusher.specs.Batches.{AreWithin}
 use Rattle.flusher.specs.Stages.{sent, decision_for_all, sent_to_all}
 use Rattle.flusher.specs.Answerings.{HaveAnswered}
 use Rattle.flusher.proofs.Answered.{answered_on, none_answered}
+use Rattle.flusher.proofs.Short.{alike_short}
 use Rattle.flusher.proofs.answering.answer_all_alike.Goals as goal
 
 pub loop-command-init : goal.loop-command-init
@@ -35,3 +37,6 @@ returns-clause-answered g c =
     let published = c.args.published.now in
     let s = decision_for_all c.args.fault in
     subst (λ xs. HaveAnswered c.args.senders.now.items xs c.loop-command.senders.items) (sym (append-nil i.1.0) ∙ ap (λ cs. i.1.0 ++ sent_to_all published s (commands_in cs)) (sym none) ∙ i.1.1) i.1.2
+
+pub answer_one-requires-clause-short : goal.answer_one-requires-clause-short
+answer_one-requires-clause-short g c = subst HasShortDecision (sym c.decision_for_all.ensures) (alike_short c.args.fault)

@@ -1,4 +1,4 @@
-use Rattle.std.proofs.Common.{true, false, true≢false, ap, sym, ◌∙◌, subst}
+use Rattle.std.proofs.Common.{true, ap, sym, ◌∙◌, subst}
 use Rattle.std.specs.Prelude.{Err}
 use Rattle.std.proofs.lemmas.Result.{err_from_is_err_and}
 use Rattle.std.specs.declared.alloc.Global.{Global}
@@ -7,21 +7,17 @@ use Rattle.recovery.specs.Lives.{StoreView, view_of}
 use Rattle.recovery.specs.Outcomes.{asked}
 use Rattle.flusher.specs.declared.committing.Attempts.{Attempts}
 use Rattle.flusher.specs.Attempts.{HasAttempted}
-use Rattle.flusher.specs.Batches.{HasMadeRoom, IsAnswerOf, IsUndone}
+use Rattle.flusher.specs.Batches.{HasMadeRoom, IsAnswerOf, IsBehindCheckpoint}
 use Rattle.flusher.proofs.Kept.{fails_from, fails_on, keeps_from, keeps_on}
 use Rattle.flusher.proofs.Published.{unless, when}
-use Rattle.flusher.proofs.Tried.{answered_after, few_sectors, out_after, out_at, length-asked, not_again, not_empty, refused_before, undone_self, unready_is}
+use Rattle.flusher.proofs.Tried.{answered_after, answered_at_once, few_sectors, out_after, out_at, length-asked, not_again, not_empty, refused_before, unready_is}
 use Rattle.flusher.proofs.batch.commit_with_room.Goals as goal
 
 pub returns-then-not-is_unready-clause-committed : goal.returns-then-not-is_unready-clause-committed
 returns-then-not-is_unready-clause-committed g c =
     let was = view_of c.args.committer.now.store in
-    record {
-      made_room = false;
-      room = λ e. absurd (true≢false (sym e));
-      answer = answered_after (asked c.args.commands.now) was was (view_of c.commit-first.new.self.store) c.commit-first.result c.args.committer.now.attempts c.commit-first.new.self.attempts (undone_self was c.requires.sound) (unless c.is_unready.result _ _ c.is_unready.ensures c.if-not-is_unready.true)
-          (out_at c.args.committer.now.attempts c.commit-first.new.self.attempts c.commit-first.result c.commit-first.ensures.attempted) c.commit-first.ensures.tried;
-    }
+    answered_at_once (asked c.args.commands.now) was (view_of c.commit-first.new.self.store) c.commit-first.result c.args.committer.now.attempts c.commit-first.new.self.attempts c.requires.sound (unless c.is_unready.result _ _ c.is_unready.ensures c.if-not-is_unready.true)
+    (out_at c.args.committer.now.attempts c.commit-first.new.self.attempts c.commit-first.result c.commit-first.ensures.attempted) c.commit-first.ensures.tried
 
 pub returns-in_err-make_room-clause-committed : goal.returns-in_err-make_room-clause-committed
 returns-in_err-make_room-clause-committed g c =
@@ -30,13 +26,9 @@ returns-in_err-make_room-clause-committed g c =
     let mid = view_of c.commit-first.new.self.store in
     let u = unready_is cmds was mid c.commit-first.result (when c.is_unready.result _ _ c.is_unready.ensures c.if-not-is_unready.false) c.commit-first.ensures.tried in
     let p = err_from_is_err_and c.from_residual.result c.from_residual.ensures.1 in
-    record {
-      made_room = false;
-      room = λ e. absurd (true≢false (sym e));
-      answer = subst (λ r. IsAnswerOf cmds was (view_of c.make_room.new.self.store) r c.args.committer.now.attempts c.make_room.new.self.attempts) (sym (p.1 ∙ ap Err p.2))
-          (refused_before cmds was (view_of c.make_room.new.self.store) c.in_err-make_room.field-0.0 c.args.committer.now.attempts c.make_room.new.self.attempts (not_empty c.args.commands.now cmds (length-asked c.args.commands.now) c.requires.some)
-          (subst (λ (s : StoreView Global g.row.D.Denot). HasMadeRoom s (view_of c.make_room.new.self.store) (Err c.in_err-make_room.field-0.0)) u.0 c.in_err-make_room.ensures.made));
-    }
+    subst (λ r. IsAnswerOf cmds was (view_of c.make_room.new.self.store) r c.args.committer.now.attempts c.make_room.new.self.attempts) (sym (p.1 ∙ ap Err p.2))
+    (refused_before cmds was (view_of c.make_room.new.self.store) c.in_err-make_room.field-0.0 c.args.committer.now.attempts c.make_room.new.self.attempts (not_empty c.args.commands.now cmds (length-asked c.args.commands.now) c.requires.some) u.1
+    (subst (λ (s : StoreView Global g.row.D.Denot). HasMadeRoom s (view_of c.make_room.new.self.store) (Err c.in_err-make_room.field-0.0)) u.0 c.in_err-make_room.ensures.made))
 
 pub returns-in_err-make_room-clause-images : goal.returns-in_err-make_room-clause-images
 returns-in_err-make_room-clause-images g c =
@@ -63,13 +55,10 @@ returns-clause-committed g c =
     let new = view_of c.commit.new.self.store in
     let u = unready_is cmds was first c.commit-first.result (when c.is_unready.result _ _ c.is_unready.ensures c.if-not-is_unready.false) c.commit-first.ensures.tried in
     let m = c.in_ok-make_room.ensures.made in
-    record {
-      made_room = true;
-      room = λ e. u.1;
-      answer = answered_after cmds was mid new c.commit.result c.args.committer.now.attempts c.commit.new.self.attempts (subst (λ (s : StoreView Global g.row.D.Denot). IsUndone s mid) u.0 m.0)
-          (not_again c.args.commands.now first.layout (other_of first.side) first.register.count mid new c.commit.result (few_sectors c.args.commands.now c.size_of-size.result c.requires.few c.size_of-size.ensures.size c.size_of-size.ensures.most) m.2 c.commit.ensures.tried)
-          (out_after c.args.committer.now.attempts c.commit-first.new.self.attempts c.commit.new.self.attempts c.commit-first.result c.commit.result c.commit-first.ensures.attempted (subst (λ (a : Attempts). HasAttempted a c.commit.result c.commit.new.self.attempts) c.make_room.ensures.attempts c.commit.ensures.attempted)) c.commit.ensures.tried;
-    }
+    let b : IsBehindCheckpoint was mid = subst (λ (s : StoreView Global g.row.D.Denot). IsBehindCheckpoint s mid) u.0 m in
+    answered_after cmds was mid new true (λ e. u.1) b.layout b.room b.undone c.commit.result c.args.committer.now.attempts c.commit.new.self.attempts
+    (not_again c.args.commands.now first.layout (other_of first.side) first.register.count mid new c.commit.result (few_sectors c.args.commands.now c.size_of-size.result c.requires.few c.size_of-size.ensures.size c.size_of-size.ensures.most) m.room.0.journal c.commit.ensures.tried)
+    (out_after c.args.committer.now.attempts c.commit-first.new.self.attempts c.commit.new.self.attempts c.commit-first.result c.commit.result c.commit-first.ensures.attempted (subst (λ (a : Attempts). HasAttempted a c.commit.result c.commit.new.self.attempts) c.make_room.ensures.attempts c.commit.ensures.attempted)) c.commit.ensures.tried
 
 pub returns-clause-images : goal.returns-clause-images
 returns-clause-images g c =
@@ -80,7 +69,7 @@ returns-clause-images g c =
     let new = view_of c.commit.new.self.store in
     let u = unready_is cmds was first c.commit-first.result (when c.is_unready.result _ _ c.is_unready.ensures c.if-not-is_unready.false) c.commit-first.ensures.tried in
     let m = c.in_ok-make_room.ensures.made in
-    keeps_from g.D.Disk.view was first new u.0 (keeps_on g.D.Disk.view first mid new m.0.register m.0.sound c.make_room.ensures.images c.commit.ensures.images)
+    keeps_from g.D.Disk.view was first new u.0 (keeps_on g.D.Disk.view first mid new m.undone.register m.undone.sound c.make_room.ensures.images c.commit.ensures.images)
 
 pub returns-clause-fails : goal.returns-clause-fails
 returns-clause-fails g c =
@@ -101,4 +90,4 @@ make_room-requires g c =
     record { sound = ap (λ (s : StoreView Global g.row.D.Denot). s.broken) u.0 ∙ c.requires.sound }
 
 pub commit-requires-clause-sound : goal.commit-requires-clause-sound
-commit-requires-clause-sound g c = c.in_ok-make_room.ensures.made.0.sound
+commit-requires-clause-sound g c = c.in_ok-make_room.ensures.made.undone.sound

@@ -29,7 +29,7 @@ publish_and_answer-requires-clause-answered g c =
     let old = c.args.publication.now in
     let log = old.publisher.appended ++ commands_in old.unpublished.items in
     let cmds = commands_in c.args.room.now.batch.items in
-    answered_on base (store_view c.args.committer.now.store) (store_view c.commit_batch.new.committer.store) log cmds c.in-Ok.outcomes.items c.requires.history c.requires.made c.in-Ok.ensures.committed.answer
+    answered_on base (store_view c.args.committer.now.store) (store_view c.commit_batch.new.committer.store) log cmds c.in-Ok.outcomes.items c.requires.history c.requires.made c.in-Ok.ensures.committed.0
     _ _ (ap (λ p. p.appended) c.keep.ensures.publisher ∙ sym (all_appended old.publisher.appended old.unpublished.items c.requires.all)) (c.keep.ensures.kept ∙ (λ j. accepted_by (c.args.room.now.same j) (c.as_slice.ensures.value j)))
 
 pub returns-in-Ok-clause-served : goal.returns-in-Ok-clause-served
@@ -43,8 +43,8 @@ returns-in-Ok-clause-served g c seen =
     let same : c.keep.new.self.publisher.appended ≡ log = ap (λ p. p.appended) c.keep.ensures.publisher ∙ sym (all_appended old.publisher.appended old.unpublished.items c.requires.all) in
     let is : new.publisher.appended ++ commands_in new.unpublished.items ≡ log ++ accepted_by cmds os = c.publish_and_answer.ensures.durable ∙ (λ j. same j ++ (c.keep.ensures.kept ∙ (λ j. accepted_by (c.args.room.now.same j) (c.as_slice.ensures.value j))) j) in
     let small = subst (λ n. n ≤ 64) (sym (length-commands_in c.args.room.now.batch.items)) c.args.room.now.few in
-    served_on base (store_view c.args.committer.now.store) (store_view c.commit_batch.new.committer.store) c.args.committer.now.attempts c.commit_batch.new.committer.attempts c.in-Ok.ensures.committed.made_room seen log
-    (new.publisher.appended ++ commands_in new.unpublished.items) new.publisher.published cmds os c.args.senders.now.items c.publish_and_answer.new.senders.items c.requires.history c.requires.made c.requires.sound small c.in-Ok.ensures.committed.answer is
+    served_on base (store_view c.args.committer.now.store) (store_view c.commit_batch.new.committer.store) c.args.committer.now.attempts c.commit_batch.new.committer.attempts seen log
+    (new.publisher.appended ++ commands_in new.unpublished.items) new.publisher.published cmds os c.args.senders.now.items c.publish_and_answer.new.senders.items c.requires.history c.requires.made c.requires.sound small c.in-Ok.ensures.committed.0 c.in-Ok.ensures.committed.1 is
     (subst (λ l. HavePublished l (new.publisher.appended ++ commands_in new.unpublished.items) new.publisher.published cmds os c.args.senders.now.items c.publish_and_answer.new.senders.items) same c.publish_and_answer.ensures.published)
 
 pub returns-in-Ok-clause-prefix : goal.returns-in-Ok-clause-prefix
@@ -61,7 +61,7 @@ returns-in-Ok-clause-history g c =
     let cmds = commands_in c.args.room.now.batch.items in
     let same : c.keep.new.self.publisher.appended ≡ log = ap (λ p. p.appended) c.keep.ensures.publisher ∙ sym (all_appended old.publisher.appended old.unpublished.items c.requires.all) in
     subst (IsHistory base) (sym (c.publish_and_answer.ensures.durable ∙ (λ j. same j ++ (c.keep.ensures.kept ∙ (λ j. accepted_by (c.args.room.now.same j) (c.as_slice.ensures.value j))) j)))
-    (history_on base (store_view c.args.committer.now.store) (store_view c.commit_batch.new.committer.store) log cmds c.in-Ok.outcomes.items c.requires.history c.requires.made c.in-Ok.ensures.committed.answer)
+    (history_on base (store_view c.args.committer.now.store) (store_view c.commit_batch.new.committer.store) log cmds c.in-Ok.outcomes.items c.requires.history c.requires.made c.in-Ok.ensures.committed.0)
 
 pub returns-in-Ok-clause-made : goal.returns-in-Ok-clause-made
 returns-in-Ok-clause-made g c up =
@@ -70,11 +70,11 @@ returns-in-Ok-clause-made g c up =
     let log = old.publisher.appended ++ commands_in old.unpublished.items in
     let cmds = commands_in c.args.room.now.batch.items in
     let same : c.keep.new.self.publisher.appended ≡ log = ap (λ p. p.appended) c.keep.ensures.publisher ∙ sym (all_appended old.publisher.appended old.unpublished.items c.requires.all) in
-    made_on base (store_view c.args.committer.now.store) (store_view c.commit_batch.new.committer.store) log cmds c.in-Ok.outcomes.items c.requires.history c.requires.made c.in-Ok.ensures.committed.answer
+    made_on base (store_view c.args.committer.now.store) (store_view c.commit_batch.new.committer.store) log cmds c.in-Ok.outcomes.items c.requires.history c.requires.made c.in-Ok.ensures.committed.0
     ∙ ap (after base) (sym (c.publish_and_answer.ensures.durable ∙ (λ j. same j ++ (c.keep.ensures.kept ∙ (λ j. accepted_by (c.args.room.now.same j) (c.as_slice.ensures.value j))) j)))
 
 pub returns-in-Ok-clause-under_way : goal.returns-in-Ok-clause-under_way
-returns-in-Ok-clause-under_way g c down = absurd (true≢false (sym down ∙ c.in-Ok.ensures.committed.answer.sound))
+returns-in-Ok-clause-under_way g c down = absurd (true≢false (sym down ∙ c.in-Ok.ensures.committed.0.sound))
 
 pub returns-in-Err-clause-served : goal.returns-in-Err-clause-served
 returns-in-Err-clause-served g c seen =
@@ -83,8 +83,8 @@ returns-in-Err-clause-served g c seen =
     let log = old.publisher.appended ++ commands_in old.unpublished.items in
     let cmds = commands_in c.args.room.now.batch.items in
     let small = subst (λ n. n ≤ 64) (sym (length-commands_in c.args.room.now.batch.items)) c.args.room.now.few in
-    served_not base (store_view c.args.committer.now.store) (store_view c.commit_batch.new.committer.store) c.args.committer.now.attempts c.commit_batch.new.committer.attempts c.in-Err.ensures.committed.made_room seen log log old.publisher.published cmds
-    c.in-Err.fault c.args.senders.now.items c.refuse.new.senders.items c.requires.sound small c.in-Err.ensures.committed.answer (c.requires.level ∙ sym (all_appended old.publisher.appended old.unpublished.items c.requires.all)) refl
+    served_not base (store_view c.args.committer.now.store) (store_view c.commit_batch.new.committer.store) c.args.committer.now.attempts c.commit_batch.new.committer.attempts seen log log old.publisher.published cmds
+    c.in-Err.fault c.args.senders.now.items c.refuse.new.senders.items c.requires.sound small c.in-Err.ensures.committed (c.requires.level ∙ sym (all_appended old.publisher.appended old.unpublished.items c.requires.all)) refl
     (subst (λ d. HaveAnswered c.args.senders.now.items (sent_to_all old.publisher.published d cmds) c.refuse.new.senders.items) c.reason_of.ensures c.refuse.ensures.answered)
 
 pub returns-in-Err-clause-prefix : goal.returns-in-Err-clause-prefix
@@ -94,10 +94,10 @@ returns-in-Err-clause-prefix g c =
 
 pub returns-in-Err-clause-made : goal.returns-in-Err-clause-made
 returns-in-Err-clause-made g c up =
-    refused_made (commands_in c.args.room.now.batch.items) (store_view c.args.committer.now.store) (store_view c.commit_batch.new.committer.store) c.in-Err.fault c.args.committer.now.attempts c.commit_batch.new.committer.attempts c.in-Err.ensures.committed.answer up ∙ c.requires.made
+    refused_made (commands_in c.args.room.now.batch.items) (store_view c.args.committer.now.store) (store_view c.commit_batch.new.committer.store) c.in-Err.fault c.args.committer.now.attempts c.commit_batch.new.committer.attempts c.in-Err.ensures.committed up ∙ c.requires.made
 
 pub returns-in-Err-clause-under_way : goal.returns-in-Err-clause-under_way
 returns-in-Err-clause-under_way g c down = (
-  refused_broken (commands_in c.args.room.now.batch.items) (store_view c.args.committer.now.store) (store_view c.commit_batch.new.committer.store) c.in-Err.fault c.args.committer.now.attempts c.commit_batch.new.committer.attempts c.requires.sound c.in-Err.ensures.committed.answer down,
+  refused_broken (commands_in c.args.room.now.batch.items) (store_view c.args.committer.now.store) (store_view c.commit_batch.new.committer.store) c.in-Err.fault c.args.committer.now.attempts c.commit_batch.new.committer.attempts c.requires.sound c.in-Err.ensures.committed down,
   refl,
 )

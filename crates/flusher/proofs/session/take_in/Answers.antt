@@ -1,8 +1,9 @@
 use Rattle.std.proofs.Common.{◌≡◌, true≢false, length, sym, ◌∙◌, subst}
 use Rattle.std.specs.Arc.{arc_value}
 use Rattle.std.specs.Prelude.{IsTrue}
-use Rattle.flusher.specs.Submitted.{BearsOutAnswer, IsAlreadySeen}
+use Rattle.flusher.specs.Submitted.{BearsOutAnswer, HasShortAnswer, IsAlreadySeen}
 use Rattle.flusher.proofs.Bearing.{when, bears_by}
+use Rattle.flusher.proofs.Short.{answer_short}
 use Rattle.flusher.proofs.session.take_in.Goals as goal
 
 pub returns-clause-borne_out : goal.returns-clause-borne_out
@@ -17,3 +18,7 @@ returns-clause-borne_out g c =
     true≢false (sym is ∙ c.if-is_already_seen.false) in
     subst (BearsOutAnswer base c.args.command.now seen c.follow.new.self) (sym c.answer_by.ensures)
     (bears_by _ base c.args.command.now (arc_value response.command) seen response.published c.follow.new.self response.decision same later c.follow.ensures c.response.invariant.1 new)
+
+pub returns-clause-short : goal.returns-clause-short
+returns-clause-short g c =
+    subst HasShortAnswer (sym c.answer_by.ensures) (answer_short _ c.response.inside.published c.response.inside.decision c.response.invariant.2)

@@ -1,6 +1,0 @@
-use Rattle.std.proofs.Common.{ap}
-use Rattle.answers.proofs.Turns.{receives, anything}
-use Rattle.answers.proofs.channel.AnswerReceiver.receive.Goals as goal
-
-pub recv_as-requires-clause-rule : goal.recv_as-requires-clause-rule
-recv_as-requires-clause-rule g c = (receives _ _ (ap (λ v. v.receives) c.args.self.now.view_is), anything _ _)
