@@ -1,0 +1,6 @@
+pub mod OneRun
+pub mod Zipped
+pub mod Places
+pub mod Runs
+pub mod Served
+pub mod Crossing

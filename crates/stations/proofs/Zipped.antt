@@ -1,0 +1,54 @@
+-- Two lists of which the items of one place belong together, made by a loop over the first.
+use Rattle.std.proofs.Common.{◌≡◌, ℕ, zero, suc, ◌+◌, ◌<◌, List, [], ◌∷◌, ◌++◌, length, refl, sym, ap, ◌∙◌, subst, arith, length-append}
+use Rattle.std.specs.Prelude.{Result, Ok, Err, MatchResult}
+use Rattle.std.specs.List.{AllZip}
+use Rattle.std.proofs.lemmas.List.{append-nil}
+
+-- the item that comes next is one of all
+pub fewer : {A : Type 0} (done : List A) (x : A) (rest all : List A) → done ++ x ∷ rest ≡ all → length done < length all
+fewer done x rest all e = omega (arith, ap length e, length-append done (x ∷ rest))
+
+-- where nothing comes next, all is done
+pub whole : {A : Type 0} (done rest all : List A) → done ++ rest ≡ all → length rest ≡ 0 → done ≡ all
+whole done [] all e none = sym (append-nil done) ∙ e
+whole done (x ∷ rest) all e none = absurd (omega (arith, none))
+
+-- a list without items
+pub nothing : {A : Type 0} (xs : List A) → length xs ≡ 0 → xs ≡ []
+nothing [] none = refl
+nothing (x ∷ xs) none = absurd (omega (arith, none))
+
+module _ {A B : Type 0} where
+  pushed : (R : A → B → Type 0) (xs : List A) (ys : List B) (x : A) (y : B) → AllZip R xs ys → R x y → AllZip R (xs ++ x ∷ []) (ys ++ y ∷ [])
+  pushed R [] [] x y all this = (this, tt)
+  pushed R [] (b ∷ ys) x y all this = absurd all
+  pushed R (a ∷ xs) [] x y all this = absurd all
+  pushed R (a ∷ xs) (b ∷ ys) x y all this = (all.0, pushed R xs ys x y all.1 this)
+
+  -- one more of each
+  pub one_more : (xs : List A) (ys new : List B) (x : A) (y : B) (R : A → B → Type 0) → new ≡ ys ++ y ∷ [] → AllZip R xs ys → R x y → AllZip R (xs ++ x ∷ []) new
+  one_more xs ys new x y R e all this = subst (λ l. AllZip R (xs ++ x ∷ []) l) (sym e) (pushed R xs ys x y all this)
+
+  -- at the end of the loop
+  pub of_all : (done rest all : List A) (ys : List B) (R : A → B → Type 0) → done ++ rest ≡ all → length rest ≡ 0 → AllZip R done ys → AllZip R all ys
+  of_all done rest all ys R e none zip = subst (λ l. AllZip R l ys) (whole done rest all e none) zip
+
+  -- before the loop
+  pub none : (ys : List B) (R : A → B → Type 0) → ys ≡ [] → AllZip R [] ys
+  none ys R e = subst (λ l. AllZip R [] l) (sym e) tt
+
+-- what belongs to what belongs to an item
+pub through : {A B C : Type 0} (xs : List A) (ys : List B) (zs : List C) (P : A → B → Type 0) (Q : B → C → Type 0) (R : A → C → Type 0) →
+    ((x : A) (y : B) (z : C) → P x y → Q y z → R x z) → AllZip P xs ys → AllZip Q ys zs → AllZip R xs zs
+through [] [] [] P Q R f p q = tt
+through [] [] (z ∷ zs) P Q R f p q = absurd q
+through [] (y ∷ ys) zs P Q R f p q = absurd p
+through (x ∷ xs) [] zs P Q R f p q = absurd p
+through (x ∷ xs) (y ∷ ys) [] P Q R f p q = absurd q
+through (x ∷ xs) (y ∷ ys) (z ∷ zs) P Q R f p q = (f x y z p.0 q.0, through xs ys zs P Q R f p.1 q.1)
+
+-- what follows from both facts of a result, whichever it is
+pub either_way : {H D : Type 0} (b : Result H D) {P Q : H → Type 0} {S T : D → Type 0} {goal : Type 0} →
+    ((h : H) → P h → Q h → goal) → ((d : D) → S d → T d → goal) → MatchResult b P S → MatchResult b Q T → goal
+either_way (Ok h) f e p q = f h p q
+either_way (Err d) f e p q = e d p q

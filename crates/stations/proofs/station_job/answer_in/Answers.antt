@@ -1,0 +1,16 @@
+use Rattle.std.proofs.Common.{List, ap, ◌∙◌, rules}
+use Rattle.std.specs.Prelude.{Some, Vec}
+use Rattle.std.specs.declared.alloc.Global.{Global}
+use Rattle.identity.specs.Numbers.{Byte}
+use Rattle.flusher.specs.Sessions.{view_of}
+use Rattle.stations.proofs.Runs.{run_of}
+use Rattle.stations.proofs.station_job.answer_in.Goals as goal
+
+pub returns : goal.returns
+returns g c =
+    let ran = c.run_session in
+    record {
+      answers = run_of g.row.J.Denot g.J.Centre.base c.args.session.sender.station (view_of c.args.session) (view_of ran.result.0) ran.result.1 ran.ensures.same.1
+          (ap g.I.Read.remaining c.new-input.ensures.reader_is) (ap (λ (v : Vec Byte Global). Some v.items) c.new-output.ensures.writer_is ∙ ap (λ (l : List Byte). Some l) c.requires.new) (ap (λ (l : List Byte). Some l) (search rules)) ran.ensures.answers;
+      same = ran.ensures.same;
+    }

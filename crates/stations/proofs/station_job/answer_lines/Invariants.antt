@@ -1,0 +1,11 @@
+use Rattle.stations.proofs.station_job.answer_lines.Given as goal
+
+-- the ledgers of the steps, the faults and the failures, which are not kept
+abbrev pub ghosts-answer_in-L-Ledger : goal.ghosts-answer_in-L-Ledger
+ghosts-answer_in-L-Ledger g a = record { name = a.blanks.steps.name; parts = a.blanks.steps.parts }
+
+abbrev pub ghosts-answer_in-F-Ledger : goal.ghosts-answer_in-F-Ledger
+ghosts-answer_in-F-Ledger g a = record { name = a.blanks.faults.name; parts = a.blanks.faults.parts }
+
+abbrev pub ghosts-answer_in-G-Ledger : goal.ghosts-answer_in-G-Ledger
+ghosts-answer_in-G-Ledger g a = record { name = a.blanks.failures.name; parts = a.blanks.failures.parts }

@@ -1,0 +1,26 @@
+use Rattle.std.proofs.Common.{◌≡◌, List, [], ◌∷◌, ◌++◌, ap, ◌∙◌, subst, rules}
+use Rattle.flusher.specs.Sessions.{view_of}
+use Rattle.atomic_table.specs.Seated.{TableId}
+use Rattle.registration.specs.Numbers.{Station}
+use Rattle.station_queue.specs.Ends.{sending}
+use Rattle.station_queue.specs.declared.entry.Entry.TheVariants as entry
+use Rattle.crossbeam_channel.specs.Ends.{receives_on}
+use Rattle.answers.specs.Views.{received_of}
+use Rattle.answers.specs.declared.channel.AnswerReceiver.{AnswerReceiver}
+use Rattle.flusher.specs.Stages.{Sent}
+use Rattle.stations.proofs.station_job.serve.Goals as goal
+
+pub returns : goal.returns
+returns g c =
+    let ran = c.run_station-session in
+    let session = ran.result.0 in
+    let end = c.finish-ended.ensures in (
+      view_of session,
+      record {
+        run = ran.ensures.answers;
+        sender = subst (λ (q : TableId × Station). c.finish-ended.result.sender ≡ sending q.0 q.1 (session.sender.sent ++ entry.Ended q.1 ∷ [])) (λ i. (ran.ensures.same.0 i, ran.ensures.same.1 i)) end.sent;
+        received = ap (λ (r : AnswerReceiver Sent). received_of r.pass) end.same.0;
+        channel = ap (λ (r : AnswerReceiver Sent). receives_on r.channel) end.same.0 ∙ ran.ensures.same.2;
+        seen = end.same.1;
+      },
+    )

@@ -1,0 +1,33 @@
+-- What stays in a session, whatever it is asked.
+use Rattle.std.specs.Prelude.{◌≡◌, List, Option, None, Some}
+use Rattle.std.specs.declared.alloc.Global.{Global}
+use mathlib.Core.List.{IsPrefix}
+use Rattle.crossbeam_channel.specs.Ends.{receives_on}
+use Rattle.centre_core.specs.Asked.{Asked}
+use Rattle.station_queue.specs.Ends.{Sending}
+use Rattle.answers.specs.declared.channel.AnswerReceiver.{AnswerReceiver}
+use Rattle.flusher.specs.Stages.{Sent}
+use Rattle.flusher.specs.declared.session.Session.{Session}
+
+-- a session when its run began: its ends, and what it had seen
+pub record Beginning : Type 0 where
+  pub sender : Sending
+  pub receiver : AnswerReceiver Sent
+  pub seen : List (Asked Global)
+
+module _ {J : Type 0} where
+  -- this session now
+  abbrev pub beginning_of : Session J → Beginning
+  beginning_of s = record { sender = s.sender; receiver = s.receiver; seen = s.viewer }
+
+  -- it is the session that began so: of the same station, on the same queue and channel; and what was seen then is still seen, first
+  pub record GoesOnFrom (b : Beginning) (s : Session J) : Type 0 where
+    pub queue : s.sender.queue ≡ b.sender.queue
+    pub station : s.sender.station ≡ b.sender.station
+    pub channel : receives_on s.receiver.channel ≡ receives_on b.receiver.channel
+    pub seen : IsPrefix b.seen s.viewer
+
+  -- the same, where it is known how the session began
+  abbrev pub GoesOn : Option Beginning → Session J → Type 0
+  GoesOn None s = Unit {0}
+  GoesOn (Some b) s = GoesOnFrom b s

@@ -1,0 +1,5 @@
+pub mod OfSession
+pub mod GoesOn
+pub mod OneRun
+pub mod Done
+pub mod Served

@@ -1,0 +1,14 @@
+//! Many stations over one store: each station's lines are answered in a thread of its own, by its session, beside one flusher.
+#![tactic(auto)]
+
+mod job;
+mod many_stations;
+mod one_station;
+mod session_desk;
+mod station_job;
+mod station_threads;
+mod watch;
+
+pub use many_stations::{Many, ManyTerms, run_many};
+pub use one_station::{Serving, run_session};
+pub use watch::Watch;

@@ -1,0 +1,274 @@
+//! Many stations over one store.
+ghost use Rattle.std.specs.Prelude.{◌≡◌, ◌⊎◌, ◌<◌, ◌≤◌, [], true, false, cond, Any, IfErr, IfOk, length, map, vec_capacity, vec_len};
+ghost use Rattle.recovery.specs.Lives.{view_of as store_view};
+ghost use Rattle.flusher.specs.declared.opening.CentreFault.TheVariants.{NoMemory, NoPlace};
+ghost use Rattle.flusher.specs.Closed.{AreSessionsOf, IsClosed};
+ghost use Rattle.flusher.specs.Opened.{AreNewSessions, IsNewFlusher, has_place};
+ghost use Rattle.flusher.specs.Runs.{HasTakenEnds};
+ghost use Rattle.flusher.specs.Served.{IsSettled};
+ghost use Rattle.flusher.specs.View.{view_of};
+ghost use Rattle.stations.specs.Served.{HasServed};
+
+use crate::job::{Done, Job};
+use crate::one_station::Serving;
+use crate::station_job::Shared;
+use crate::station_threads::{Held, ThreadRoom, serve_all};
+use crate::watch::Watch;
+use centre_core::Register;
+use console::{Ran, RunFault};
+use flusher::{CentreFault, Ended, Flusher, Session, close, open_centre};
+use recovery::Store;
+use sector_disk::Disk;
+use snapshots::{Centre, NewLog};
+use std::alloc::{AllocError, Global};
+use std::io::Read;
+use std::sync::Wait;
+use std::sync::atomic::AtomicU64;
+use std::thread::Threads;
+
+/// What a run of many stations is given beside its store and its readers.
+#[derive(Drop)]
+pub struct ManyTerms {
+    /// Where all that it needs lies.
+    pub alloc: Global,
+    /// The most calls of each reader.
+    pub turns: u32,
+    /// The log of its centre.
+    pub log: NewLog,
+}
+
+/// What came of a run of many stations.
+#[derive(Drop)]
+pub struct Many<D: Disk> {
+    /// The store. It is broken if the disk has failed.
+    pub store: Store<Global, D>,
+    /// Of each station in order, the text of its answers, and how its run ended.
+    pub runs: Vec<(Vec<u8>, Result<Ran, RunFault>)>,
+}
+
+/// Room for what comes of so many stations.
+#[derive(Drop)]
+struct Room<J: Centre, I: Read + Drop> {
+    stations: usize,
+    jobs: Vec<Job<J, I>>,
+    threads: ThreadRoom<J, I>,
+    ended: Vec<Ended<J>>,
+    runs: Vec<(Vec<u8>, Result<Ran, RunFault>)>,
+    pub ghost threads_room: { stations ≤ threads.stations },
+    pub ghost new: { (jobs.items ≡ []) × (ended.items ≡ []) × (runs.items ≡ []) },
+    pub ghost room: { (stations ≤ vec_capacity jobs) × (stations ≤ vec_capacity ended) × (stations ≤ vec_capacity runs) },
+}
+
+// Room for the threads of so many stations.
+fn thread_room<J: Centre, I: Read + Drop>(
+    alloc: Global,
+    stations: usize,
+) -> Result<ThreadRoom<J, I>, AllocError>
+    ensures { IfOk result (λ r. r.stations ≡ stations) }
+{
+    let begun = Vec::with_capacity(alloc, stations)?;
+    let done = Vec::with_capacity(alloc, stations)?;
+    Ok(ThreadRoom {
+        stations,
+        begun,
+        done,
+    })
+}
+
+// Room for so many stations.
+fn room_for<J: Centre, I: Read + Drop>(
+    alloc: Global,
+    stations: usize,
+) -> Result<Room<J, I>, AllocError>
+    ensures { IfOk result (λ r. r.stations ≡ stations) }
+{
+    let jobs = Vec::with_capacity(alloc, stations)?;
+    let threads = thread_room(alloc, stations)?;
+    let ended = Vec::with_capacity(alloc, stations)?;
+    let runs = Vec::with_capacity(alloc, stations)?;
+    Ok(Room {
+        stations,
+        jobs,
+        threads,
+        ended,
+        runs,
+    })
+}
+
+// The register of a store that is not broken.
+fn register_of<D: Disk>(store: &Store<Global, D>) -> &Register<Global>
+    requires { store.now.broken ≡ false }
+    ensures { result.now ≡ store.now.register }
+{
+    let Some(register) = store.register() else {
+        unreachable!()
+    };
+    register
+}
+
+// Whether a register has a station for each of so many readers, and there is one at least.
+fn has_place(register: &Register<Global>, readers: usize) -> bool
+    ensures { result ≡ has_place register.now.registered.limits.stations readers }
+{
+    0 < readers && readers <= register.limits().stations as usize
+}
+
+// Each session with its reader, in order.
+fn jobs_of<J: Centre, I: Read + Drop>(
+    sessions: Vec<Session<J>>,
+    readers: Vec<I>,
+    mut jobs: Vec<Job<J, I>>,
+) -> Vec<Job<J, I>>
+    requires count { length sessions.items ≡ length readers.items }
+    requires new { jobs.items ≡ [] }
+    requires room { vec_len sessions ≤ vec_capacity jobs }
+    ensures sessions { map (λ job. job.session) result.items ≡ sessions.items }
+    ensures readers { map (λ job. job.reader) result.items ≡ readers.items }
+    ensures count { vec_len result ≡ vec_len sessions }
+{
+    let mut readers = readers.into_iter();
+    for session in sessions {
+        let Some(reader) = readers.next() else {
+            unreachable!()
+        };
+        jobs.push_reserved(Job { session, reader });
+    }
+    jobs
+}
+
+// The ended sessions apart from what their runs gave, both in order.
+fn apart<J: Centre>(
+    done: Vec<Done<J>>,
+    mut ended: Vec<Ended<J>>,
+    mut runs: Vec<(Vec<u8>, Result<Ran, RunFault>)>,
+) -> (Vec<Ended<J>>, Vec<(Vec<u8>, Result<Ran, RunFault>)>)
+    requires new { (ended.items ≡ []) × (runs.items ≡ []) }
+    requires room { (vec_len done ≤ vec_capacity ended) × (vec_len done ≤ vec_capacity runs) }
+    ensures ended { result.0.items ≡ map (λ d. d.ended) done.items }
+    ensures runs { result.1.items ≡ map (λ d. (d.text, d.ran)) done.items }
+{
+    for one in done {
+        let Done {
+            ended: end,
+            text,
+            ran,
+        } = one;
+        ended.push_reserved(end);
+        runs.push_reserved((text, ran));
+    }
+    (ended, runs)
+}
+
+// The store of a flusher that has taken the end of each session. The centre is closed. Where that is refused, since a session has seen
+// more commands than are published, the flusher is given up.
+fn store_of<J: Centre, D: Disk, R: Wait>(
+    rt: &R,
+    flusher: Flusher<J, D>,
+    ended: Vec<Ended<J>>,
+) -> Store<Global, D>
+    requires settled { IsSettled J.base (view_of flusher) }
+    requires sessions { AreSessionsOf (view_of flusher) ended.items }
+    requires ended { HasTakenEnds (view_of flusher) }
+    ensures store { store_view result ≡ (view_of flusher).store }
+    ensures closed { IsClosed J.base (view_of flusher) ended.items ⊎ Any (λ end. length (view_of flusher).published < length end.viewer) ended.items }
+{
+    match close(rt, flusher, ended) {
+        Ok(store) => store,
+        Err((flusher, ended)) => {
+            drop(ended);
+            flusher.abandon(rt)
+        }
+    }
+}
+
+// Serves the stations of a centre that was opened, and closes it.
+fn serve_opened<
+    J: Centre + Send + Sync,
+    D: Disk + Drop,
+    R: Threads + Wait + Sync,
+    I: Read + Send + Drop,
+    V: Watch + Sync,
+>(
+    shared: &Shared<R, V>,
+    opened: (Flusher<J, D>, Vec<Session<J>>),
+    readers: Vec<I>,
+    room: Room<J, I>,
+) -> Many<D>
+    requires settled { IsSettled J.base (view_of opened.0) }
+    requires flusher { IsNewFlusher (vec_len readers) (view_of opened.0).store (view_of opened.0) }
+    requires sound { (view_of opened.0).store.broken ≡ false }
+    requires sessions { AreNewSessions (view_of opened.0).taker.queue (view_of opened.0).senders opened.1.items }
+    requires room { room.stations ≡ vec_len readers }
+    ensures { HasServed D.view J J.base I.remaining (view_of opened.0).store readers.items (store_view result.store) result.runs.items }
+{
+    let (flusher, sessions) = opened;
+    let Room {
+        stations: _,
+        jobs,
+        threads,
+        ended,
+        runs,
+    } = room;
+    let jobs = jobs_of(sessions, readers, jobs);
+    let rt = shared.serving.rt;
+    let (held, done) = serve_all(shared, Held { flusher, rt }, jobs, threads);
+    let (ended, runs) = apart(done, ended, runs);
+    let store = store_of(rt, held.into_flusher(), ended);
+    Many { store, runs }
+}
+
+/// Serves the readers as stations 1, 2 and so on over a store, which must not be broken: each in a thread of its own, by a session of
+/// its station, beside one flusher in this thread. It returns once each has ended.
+///
+/// A station whose run ends before its reader ends that station alone. Where no thread can be made for a station, its run ends for want
+/// of memory before its first line. `NoPlace` comes exactly if the number of readers is not from 1 to the register's limit of stations;
+/// else all that the run keeps is taken before the first thread begins, and `NoMemory` gives the store back as it was.
+pub fn run_many<
+    J: Centre + Send + Sync,
+    D: Disk + Drop,
+    R: Threads + Wait + Sync,
+    I: Read + Send + Drop,
+    V: Watch + Sync,
+>(
+    rt: &R,
+    terms: ManyTerms,
+    store: Store<Global, D>,
+    readers: Vec<I>,
+    watch: &V,
+) -> Result<Many<D>, (CentreFault, Store<Global, D>)>
+    requires sound { store.broken ≡ false }
+    requires centre { (terms.log.seen.book ≡ J.book) × (store.register ≡ J.base) }
+
+    // How each station's lines were answered, and what became of the store.
+    ensures served { IfOk result (λ many. HasServed D.view J J.base I.remaining (store_view store) readers.items (store_view many.store) many.runs.items) }
+
+    // Which fault comes, and that the store comes back as it was.
+    ensures place { IfOk result (λ many. has_place store.register.registered.limits.stations (vec_len readers) ≡ true) }
+    ensures fault { IfErr result (λ e. e.0 ≡ cond (has_place store.register.registered.limits.stations (vec_len readers)) NoMemory NoPlace) }
+    ensures same { IfErr result (λ e. e.1 ≡ store) }
+{
+    let stations = readers.len();
+    if !has_place(register_of(&store), stations) {
+        return Err((CentreFault::NoPlace, store));
+    }
+    let ManyTerms { alloc, turns, log } = terms;
+    let Ok(room) = room_for(alloc, stations) else {
+        return Err((CentreFault::NoMemory, store));
+    };
+    match open_centre::<J, D, R>(rt, alloc, log, store, stations) {
+        Ok(opened) => {
+            let serving = Serving {
+                rt,
+                watch,
+                alloc,
+                turns,
+            };
+            let shared = Shared {
+                serving,
+                refused: AtomicU64::new(0),
+            };
+            Ok(serve_opened(&shared, opened, readers, room))
+        }
+        Err(fault) => Err(fault),
+    }
+}

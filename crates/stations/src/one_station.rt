@@ -1,0 +1,108 @@
+//! The run of one station.
+ghost use Rattle.std.specs.Prelude.{◌≡◌, ◌⊎◌, ◌≤◌, ◌<◌, ◌+◌, IsErrOf, Some};
+ghost use mathlib.Core.List.{IsPrefix};
+ghost use Rattle.console.specs.Failures.{failures_told};
+ghost use Rattle.flusher.specs.Sessions.{IsSameSession};
+ghost use Rattle.stations.specs.GoesOn.{GoesOn};
+ghost use Rattle.stations.specs.OneRun.{IsRunBy};
+
+use crate::session_desk::{Began, SessionDesk};
+use crate::watch::Watch;
+use console::{Input, Output, Ran, RunFault, Terms, run_counted};
+use flusher::Session;
+use snapshots::Centre;
+use std::alloc::Global;
+use std::io::{Read, Write};
+use std::marker::Brand;
+use std::sync::Wait;
+use std::sync::ledger::Ledger;
+
+/// What each run of a station is given.
+#[derive(Clone, Copy)]
+pub struct Serving<'r, 'w, R, V> {
+    /// What lets it wait.
+    pub rt: &'r R,
+    /// What shows how it goes on.
+    pub watch: &'w V,
+    /// Where its lines, commands and answers lie.
+    pub alloc: Global,
+    /// The most calls of its reader.
+    pub turns: u32,
+}
+
+/// Answers the lines of a station by its session, as [`run_counted`] does: each line before the next is read. The session comes
+/// back; it is still the one of its station on its queue and its channel.
+pub fn run_session<
+    J: Centre,
+    R: Wait,
+    V: Watch,
+    I: Read,
+    O: Write,
+    L: Ledger,
+    F: Ledger,
+    G: Ledger,
+>(
+    serving: &Serving<R, V>,
+    input: &mut Input<I, L, F>,
+    output: &mut Output<O, G>,
+    session: Session<J>,
+) -> (Session<J>, Result<Ran, RunFault>)
+    ensures answers { IsRunBy J J.base session (I.remaining input.old.reader.now) (O.contents output.old.writer.now)
+        result.1 result.0 (O.contents output.new.writer.now) }
+    ensures same { IsSameSession session result.0 }
+    ensures seen { IsPrefix session.viewer result.0.viewer }
+    ensures calls { input.new.steps.now ≤ input.old.steps.now + serving.now.turns }
+    ensures read { IsErrOf result.1 RunFault.Read →
+        (input.new.steps.now ≡ input.old.steps.now + serving.now.turns) ⊎ (input.old.faults.now < input.new.faults.now) }
+    ensures write { output.new.failures.now ≡ output.old.failures.now + failures_told result.1 }
+    ensures memory { IsErrOf result.1 RunFault.NoMemory → (input.new.steps.now ≡ input.old.steps.now) × (result.0 ≡ session) }
+    ensures reader { input.new.reader.ghost_name ≡ input.old.reader.ghost_name }
+    ensures steps { input.new.steps.ghost_name ≡ input.old.steps.ghost_name }
+    ensures faults { input.new.faults.ghost_name ≡ input.old.faults.ghost_name }
+    ensures writer { output.new.writer.ghost_name ≡ output.old.writer.ghost_name }
+    ensures failures { output.new.failures.ghost_name ≡ output.old.failures.ghost_name }
+{
+    run_begun::<Brand, J, R, V, I, O, L, F, G>(serving, input, output, session)
+}
+
+// The same of a session of which it is said how its run begins.
+fn run_begun<
+    K: Began,
+    J: Centre,
+    R: Wait,
+    V: Watch,
+    I: Read,
+    O: Write,
+    L: Ledger,
+    F: Ledger,
+    G: Ledger,
+>(
+    serving: &Serving<R, V>,
+    input: &mut Input<I, L, F>,
+    output: &mut Output<O, G>,
+    session: Session<J>,
+) -> (Session<J>, Result<Ran, RunFault>)
+    requires { GoesOn K.began session }
+    ensures answers { IsRunBy J J.base session (I.remaining input.old.reader.now) (O.contents output.old.writer.now)
+        result.1 result.0 (O.contents output.new.writer.now) }
+    ensures goes_on { GoesOn K.began result.0 }
+    ensures calls { input.new.steps.now ≤ input.old.steps.now + serving.now.turns }
+    ensures read { IsErrOf result.1 RunFault.Read →
+        (input.new.steps.now ≡ input.old.steps.now + serving.now.turns) ⊎ (input.old.faults.now < input.new.faults.now) }
+    ensures write { output.new.failures.now ≡ output.old.failures.now + failures_told result.1 }
+    ensures memory { IsErrOf result.1 RunFault.NoMemory → (input.new.steps.now ≡ input.old.steps.now) × (result.0 ≡ session) }
+    ensures reader { input.new.reader.ghost_name ≡ input.old.reader.ghost_name }
+    ensures steps { input.new.steps.ghost_name ≡ input.old.steps.ghost_name }
+    ensures faults { input.new.faults.ghost_name ≡ input.old.faults.ghost_name }
+    ensures writer { output.new.writer.ghost_name ≡ output.old.writer.ghost_name }
+    ensures failures { output.new.failures.ghost_name ≡ output.old.failures.ghost_name }
+{
+    let terms = Terms {
+        alloc: serving.alloc,
+        station: session.station(),
+        turns: serving.turns,
+    };
+    let mut desk = SessionDesk::<K, J, R, V>::new(serving.rt, serving.watch, session);
+    let ran = run_counted(terms, input, output, &mut desk);
+    (desk.into_session(), ran)
+}

@@ -1,0 +1,171 @@
+//! A station's session as a desk.
+ghost use Rattle.std.specs.Prelude.{◌≡◌, IfOk};
+ghost use mathlib.Core.List.{IsPrefix};
+ghost use Rattle.desk.specs.Replies.{HasShortPdu};
+ghost use Rattle.flusher.specs.Sessions.{IsSameSession};
+ghost use Rattle.stations.specs.OfSession.{AtSession, Applies, Tells, at_session, of_session, result_of, word_of};
+
+use crate::watch::Watch;
+use centre_core::{Command, Query, Reply, Told};
+use desk::{Desk, Service};
+use flusher::{Answer, Session};
+use recovery::StoreFault;
+use snapshots::{Centre, ReadFault};
+use std::alloc::Global;
+use std::marker::{Brand, Model, PhantomData};
+use std::sync::Wait;
+
+/// What a session was when its run began. A run picks it, so that it is known what the session still is when the run ends.
+pub(crate) trait Began {
+    ghost use Rattle.std.specs.Prelude.{Option};
+    ghost use Rattle.stations.specs.GoesOn.{Beginning};
+
+    ghost began: { Option Beginning };
+}
+
+// A run names its session by `Brand`, and says in its proof which one is meant.
+impl Began for Brand {
+    ghost use Rattle.std.specs.Prelude.{None};
+
+    ghost began = { None };
+}
+
+/// A station's session as a desk: it submits commands of that station, and reads the register. Contracts see the session.
+#[derive(Drop)]
+pub(crate) struct SessionDesk<'r, 'w, K: Began, J: Centre, R: Wait, V: Watch> {
+    rt: &'r R,
+    watch: &'w V,
+    session: Session<J>,
+    of: PhantomData<K>,
+}
+
+impl<'r, 'w, K: Began, J: Centre, R: Wait, V: Watch> Model for SessionDesk<'r, 'w, K, J, R, V> {
+    ghost use Rattle.flusher.specs.declared.session.Session.{Session};
+    ghost use Rattle.stations.specs.GoesOn.{GoesOn};
+
+    ghost Value = { Session J };
+
+    ghost view = { λ d. d.session };
+
+    ghost invariant = { λ d. GoesOn K.began d.session };
+}
+
+impl<'r, 'w, K: Began, J: Centre, R: Wait, V: Watch> SessionDesk<'r, 'w, K, J, R, V> {
+    ghost use Rattle.std.specs.Prelude.{◌≡◌};
+    ghost use Rattle.stations.specs.GoesOn.{GoesOn};
+
+    /// The session as a desk, of which this is shown.
+    pub(crate) fn new(rt: &'r R, watch: &'w V, session: Session<J>) -> Self
+        requires { GoesOn K.began session }
+        ensures { result ≡ session }
+    {
+        SessionDesk {
+            rt,
+            watch,
+            session,
+            of: PhantomData,
+        }
+    }
+
+    /// The session.
+    pub(crate) fn into_session(self) -> Session<J>
+        ensures same { result ≡ self.entry }
+        ensures goes_on { GoesOn K.began result }
+    {
+        self.session
+    }
+}
+
+// The word for a fault.
+fn word_of(fault: StoreFault) -> Service
+    ensures { result ≡ word_of fault }
+{
+    match fault {
+        StoreFault::DiskFault => Service::Device,
+        StoreFault::NoMemory => Service::Memory,
+        StoreFault::EpochsUsedUp => Service::Epochs,
+        _ => Service::Broken,
+    }
+}
+
+// The reply in an answer, or the word for why there is none.
+fn result_of<J: Centre>(answer: Answer<J>) -> Result<Reply<Global>, Service>
+    ensures { result ≡ result_of answer }
+{
+    match answer {
+        Answer::Accepted {
+            number,
+            pdu,
+            published: _,
+        } => Ok(Reply::Accepted { number, pdu }),
+        Answer::Kept { number, pdu } => Ok(Reply::Kept { number, pdu }),
+        Answer::Refused(refusal) => Ok(Reply::Refused(refusal)),
+        Answer::NoMemory => Err(Service::Memory),
+        Answer::Fault(fault) => Err(word_of(fault)),
+        Answer::Closed => Err(Service::Closed),
+    }
+}
+
+// Submits a copy of a command, where it is of the session's station.
+fn submit<J: Centre, R: Wait>(
+    rt: &R,
+    session: &mut Session<J>,
+    alloc: Global,
+    command: &Command<Global>,
+) -> Result<Reply<Global>, Service>
+    ensures applies { Applies J J.base (at_session session.old) command.now result (at_session session.new) }
+    ensures short { IfOk result HasShortPdu }
+    ensures same { IsSameSession session.old session.new }
+    ensures seen { IsPrefix session.old.viewer session.new.viewer }
+{
+    if command.station != session.station() {
+        return Err(Service::Closed);
+    }
+    match command.try_copy(alloc) {
+        Ok(own) => result_of(session.submit(rt, own)),
+        Err(_) => Err(Service::Memory),
+    }
+}
+
+// Reads what the register tells.
+fn read<J: Centre>(
+    session: &mut Session<J>,
+    alloc: Global,
+    query: &Query,
+) -> Result<Told<Global>, Service>
+    ensures tells { Tells J J.base (at_session session.old) query.now result (at_session session.new) }
+    ensures same { IsSameSession session.old session.new }
+    ensures seen { IsPrefix session.old.viewer session.new.viewer }
+{
+    match session.read(alloc, query) {
+        Ok((told, _)) => Ok(told),
+        Err(ReadFault::NoMemory) => Err(Service::Memory),
+        Err(ReadFault::Closed) => Err(Service::Closed),
+    }
+}
+
+impl<'r, 'w, K: Began, J: Centre, R: Wait, V: Watch> Desk<Global>
+    for SessionDesk<'r, 'w, K, J, R, V> {
+    ghost World = { AtSession };
+
+    ghost world = { λ session. at_session session };
+
+    ghost rules = { of_session J J.base };
+
+    fn apply(
+        &mut self,
+        alloc: Global,
+        command: &Command<Global>,
+    ) -> Result<Reply<Global>, Service> {
+        let replied = submit(self.rt, &mut self.session, alloc, command);
+        let accepted = matches!(&replied, Ok(Reply::Accepted { .. }));
+        self.watch.answered(self.session.station(), accepted);
+        replied
+    }
+
+    fn query(&mut self, alloc: Global, query: &Query) -> Result<Told<Global>, Service> {
+        let told = read(&mut self.session, alloc, query);
+        self.watch.answered(self.session.station(), false);
+        told
+    }
+}

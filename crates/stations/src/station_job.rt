@@ -1,0 +1,133 @@
+//! What the thread of a station does.
+ghost use Rattle.std.specs.Prelude.{◌≡◌, ◌<◌, []};
+ghost use Rattle.flusher.specs.Sessions.{IsSameSession, view_of};
+ghost use Rattle.stations.specs.Done.{IsDone, IsRunOf};
+
+use crate::job::{Done, Job};
+use crate::one_station::{Serving, run_session};
+use crate::watch::Watch;
+use console::{Input, Output, Ran, RunFault};
+use flusher::Session;
+use prefix_tree::Steps;
+use registration::Station;
+use snapshots::Centre;
+use std::io::Read;
+use std::marker::Brand;
+use std::sync::Wait;
+use std::sync::atomic::{AtomicU64, Ordering};
+use std::sync::ledger::{Blank, Ledger};
+
+/// What the threads of a run share.
+#[derive(Drop)]
+pub(crate) struct Shared<'r, 'w, R: Wait, V: Watch> {
+    pub(crate) serving: Serving<'r, 'w, R, V>,
+    /// The station for which no thread could be made last; 0 while there is none.
+    pub(crate) refused: AtomicU64,
+}
+
+// What the ledgers of a run are made of.
+#[derive(Drop)]
+struct Blanks {
+    steps: Blank,
+    faults: Blank,
+    failures: Blank,
+}
+
+fn answer_in<L: Ledger, F: Ledger, G: Ledger, J: Centre, R: Wait, V: Watch, I: Read>(
+    blanks: Blanks,
+    serving: &Serving<R, V>,
+    reader: &mut I,
+    text: &mut Vec<u8>,
+    session: Session<J>,
+) -> (Session<J>, Result<Ran, RunFault>)
+    requires steps_name { blanks.steps.name ≡ L.name }
+    requires steps_parts { blanks.steps.parts ≡ L.parts }
+    requires steps_some { 0 < blanks.steps.parts }
+    requires faults_name { blanks.faults.name ≡ F.name }
+    requires faults_parts { blanks.faults.parts ≡ F.parts }
+    requires faults_some { 0 < blanks.faults.parts }
+    requires failures_name { blanks.failures.name ≡ G.name }
+    requires failures_parts { blanks.failures.parts ≡ G.parts }
+    requires failures_some { 0 < blanks.failures.parts }
+    requires new { text.old.items ≡ [] }
+    ensures answers { IsRunOf J J.base session.sender.station (I.remaining reader.old) (view_of session) (view_of result.0) text.new.items result.1 }
+    ensures same { IsSameSession session result.0 }
+{
+    let Blanks {
+        steps,
+        faults,
+        failures,
+    } = blanks;
+    let mut steps = Steps::<L>::new(steps);
+    let mut faults = Steps::<F>::new(faults);
+    let mut failures = Steps::<G>::new(failures);
+    let mut input = Input::new(reader, &mut steps, &mut faults);
+    let mut output = Output::new(text, &mut failures);
+    run_session(serving, &mut input, &mut output, session)
+}
+
+// Answers all lines of a reader by a session, or the first of them where the run ends early. The text is that and nothing else.
+fn answer_lines<J: Centre, R: Wait, V: Watch, I: Read>(
+    serving: &Serving<R, V>,
+    reader: &mut I,
+    text: &mut Vec<u8>,
+    session: Session<J>,
+) -> (Session<J>, Result<Ran, RunFault>)
+    requires new { text.old.items ≡ [] }
+    ensures answers { IsRunOf J J.base session.sender.station (I.remaining reader.old) (view_of session) (view_of result.0) text.new.items result.1 }
+    ensures same { IsSameSession session result.0 }
+{
+    let blanks = Blanks {
+        steps: Blank::new(1),
+        faults: Blank::new(1),
+        failures: Blank::new(1),
+    };
+    answer_in::<Brand, Brand, Brand, J, R, V, I>(blanks, serving, reader, text, session)
+}
+
+impl<'r, 'w, R: Wait, V: Watch> Shared<'r, 'w, R, V> {
+    /// Notes that no thread could be made for this station.
+    pub(crate) fn refuse(&self, station: Station) {
+        self.refused
+            .store(u64::from(station.number()), Ordering::SeqCst);
+    }
+
+    // Whether that was noted last.
+    fn is_refused(&self, station: Station) -> bool {
+        self.refused.load(Ordering::SeqCst) == u64::from(station.number())
+    }
+}
+
+// Answers the lines of a station. Where no thread could be made for it, memory is missing before its first line.
+fn run_station<J: Centre, R: Wait, V: Watch, I: Read>(
+    shared: &Shared<R, V>,
+    reader: &mut I,
+    text: &mut Vec<u8>,
+    session: Session<J>,
+) -> (Session<J>, Result<Ran, RunFault>)
+    requires new { text.old.items ≡ [] }
+    ensures answers { IsRunOf J J.base session.sender.station (I.remaining reader.old) (view_of session) (view_of result.0) text.new.items result.1 }
+    ensures same { IsSameSession session result.0 }
+{
+    if shared.is_refused(session.station()) {
+        return (session, Err(RunFault::NoMemory));
+    }
+    answer_lines(&shared.serving, reader, text, session)
+}
+
+/// Answers the lines of a station, and ends its session, whatever came of the run.
+pub(crate) fn serve<J: Centre, R: Wait, V: Watch, I: Read + Drop>(
+    shared: &Shared<R, V>,
+    job: Job<J, I>,
+) -> Done<J>
+    ensures { IsDone J J.base job.session (I.remaining job.reader) result }
+{
+    let Job {
+        session,
+        mut reader,
+    } = job;
+    let mut text = Vec::new(shared.serving.alloc);
+    let (session, ran) = run_station(shared, &mut reader, &mut text, session);
+    let ended = session.finish(shared.serving.rt);
+    Done { ended, text, ran }
+}

@@ -1,0 +1,243 @@
+//! A thread for each station, beside the flusher.
+ghost use Rattle.std.specs.Prelude.{◌≡◌, ◌≤◌, [], MatchResult, vec_capacity, vec_len};
+ghost use Rattle.std.specs.List.{AllZip};
+ghost use Rattle.flusher.specs.Runs.{AreRounds, HasSameEnds, HasTakenEnds};
+ghost use Rattle.flusher.specs.Served.{IsSettled};
+ghost use Rattle.flusher.specs.Stored.{IsStoredFor};
+ghost use Rattle.flusher.specs.View.{view_of};
+ghost use Rattle.stations.specs.Done.{IsDone};
+
+use crate::job::{Done, Job};
+use crate::station_job::{Shared, serve};
+use crate::watch::Watch;
+use flusher::Flusher;
+use sector_disk::Disk;
+use snapshots::Centre;
+use std::io::Read;
+use std::snapshot::Snapshot;
+use std::sync::Wait;
+use std::thread;
+use std::thread::{Promise, PromisedHandle, Scope, Threads};
+
+/// That what comes of a thread is what came of this job.
+#[derive(Drop)]
+pub(crate) struct DoneOf<J: Centre, I: Read + Drop> {
+    job: Snapshot<Job<J, I>>,
+}
+
+impl<J: Centre, I: Read + Drop> Promise<Done<J>> for DoneOf<J, I> {
+    ghost use Rattle.stations.specs.Done.{IsDone};
+
+    ghost kept_by = { λ p done. IsDone J J.base p.job.value.session (I.remaining p.job.value.reader) done };
+}
+
+/// A station that was begun: its thread, or what came of it where no thread could be made.
+pub(crate) type Begun<J, I> = Result<PromisedHandle<Done<J>, DoneOf<J, I>>, Done<J>>;
+
+/// A flusher that may be let go: its store is then dropped.
+pub(crate) struct Held<'r, R: Wait, J: Centre, D: Disk + Drop> {
+    pub(crate) flusher: Flusher<J, D>,
+    pub(crate) rt: &'r R,
+}
+
+impl<'r, R: Wait, J: Centre, D: Disk + Drop> Drop for Held<'r, R, J, D> {
+    fn drop(self) {
+        let Held { flusher, rt } = self;
+        drop(flusher.abandon(rt));
+    }
+}
+
+impl<'r, R: Wait, J: Centre, D: Disk + Drop> Held<'r, R, J, D> {
+    ghost use Rattle.std.specs.Prelude.{◌≡◌};
+
+    /// The flusher.
+    pub(crate) fn into_flusher(self) -> Flusher<J, D>
+        ensures { result ≡ self.entry.flusher }
+    {
+        let Held { flusher, rt: _ } = self;
+        flusher
+    }
+}
+
+// Begins a station in a thread of its own. Where none can be made its session is ended here, before its first line. That never
+// waits for a place in the queue: each session has one entry in it at most, and it has a place for each.
+fn begin<
+    's,
+    E,
+    J: Centre + Send + Sync + 's,
+    R: Wait + Sync + 's,
+    V: Watch + Sync + 's,
+    I: Read + Send + Drop + 's,
+>(scope: &Scope<'s, E>, shared: &'s Shared<'s, 's, R, V>, job: Job<J, I>) -> Begun<J, I>
+    ensures { MatchResult result (λ h. h.promise.job.value ≡ job) (λ done. IsDone J J.base job.session (I.remaining job.reader) done) }
+{
+    let station = job.session.station();
+    let promise = DoneOf {
+        job: Snapshot::of(&job),
+    };
+    match scope.spawn_with(promise, move || serve(shared, job)) {
+        Ok(thread) => Ok(thread),
+        Err(refused) => {
+            shared.refuse(station);
+            Err((refused.value)())
+        }
+    }
+}
+
+// Begins each, in order.
+fn begin_all<
+    's,
+    E,
+    J: Centre + Send + Sync + 's,
+    R: Wait + Sync + 's,
+    V: Watch + Sync + 's,
+    I: Read + Send + Drop + 's,
+>(
+    scope: &Scope<'s, E>,
+    shared: &'s Shared<'s, 's, R, V>,
+    jobs: Vec<Job<J, I>>,
+    mut begun: Vec<Begun<J, I>>,
+) -> Vec<Begun<J, I>>
+    requires new { begun.items ≡ [] }
+    requires room { vec_len jobs ≤ vec_capacity begun }
+    ensures begun { AllZip (λ job b. MatchResult b (λ h. h.promise.job.value ≡ job) (λ done. IsDone J J.base job.session (I.remaining job.reader) done)) jobs.items result.items }
+    ensures count { vec_len result ≡ vec_len jobs }
+{
+    for job in jobs {
+        begun.push_reserved(begin(scope, shared, job));
+    }
+    begun
+}
+
+// What came of a station, once its thread has returned.
+fn end<J: Centre, R: Threads, I: Read + Drop>(rt: &R, begun: Begun<J, I>) -> Done<J>
+    ensures { MatchResult begun (λ h. IsDone J J.base h.promise.job.value.session (I.remaining h.promise.job.value.reader) result) (λ done. result ≡ done) }
+{
+    match begun {
+        Ok(thread) => thread.join(rt),
+        Err(done) => done,
+    }
+}
+
+// The same of each, in order.
+fn end_all<J: Centre, R: Threads, I: Read + Drop>(
+    rt: &R,
+    begun: Vec<Begun<J, I>>,
+    mut done: Vec<Done<J>>,
+) -> Vec<Done<J>>
+    requires new { done.items ≡ [] }
+    requires room { vec_len begun ≤ vec_capacity done }
+    ensures { AllZip (λ b d. MatchResult b (λ h. IsDone J J.base h.promise.job.value.session (I.remaining h.promise.job.value.reader) d) (λ done. d ≡ done)) begun.items result.items }
+{
+    for one in begun {
+        done.push_reserved(end(rt, one));
+    }
+    done
+}
+
+/// Room for so many stations: for their threads, and for what comes of them.
+#[derive(Drop)]
+pub(crate) struct ThreadRoom<J: Centre, I: Read + Drop> {
+    pub(crate) stations: usize,
+    pub(crate) begun: Vec<Begun<J, I>>,
+    pub(crate) done: Vec<Done<J>>,
+    pub ghost new: { (begun.items ≡ []) × (done.items ≡ []) },
+    pub ghost room: { (stations ≤ vec_capacity begun) × (stations ≤ vec_capacity done) },
+}
+
+// Begins each job, flushes until each session has ended, and ends all threads.
+fn serve_in<
+    's,
+    E,
+    J: Centre + Send + Sync + 's,
+    D: Disk + Drop,
+    R: Threads + Wait + Sync + 's,
+    V: Watch + Sync + 's,
+    I: Read + Send + Drop + 's,
+>(
+    scope: &Scope<'s, E>,
+    shared: &'s Shared<'s, 's, R, V>,
+    flusher: &mut Flusher<J, D>,
+    jobs: Vec<Job<J, I>>,
+    room: ThreadRoom<J, I>,
+) -> Vec<Done<J>>
+    requires settled { IsSettled J.base (view_of flusher.old) }
+    requires room { vec_len jobs ≤ room.stations }
+    ensures settled { IsSettled J.base (view_of flusher.new) }
+    ensures rounds { AreRounds J.base (view_of flusher.old) (view_of flusher.new) }
+    ensures stored { IsStoredFor D.view J.base (view_of flusher.old) → IsStoredFor D.view J.base (view_of flusher.new) }
+    ensures ended { HasTakenEnds (view_of flusher.new) }
+    ensures same { HasSameEnds (view_of flusher.old) (view_of flusher.new) }
+    ensures done { AllZip (λ job done. IsDone J J.base job.session (I.remaining job.reader) done) jobs.items result.items }
+{
+    let begun = begin_all(scope, shared, jobs, room.begun);
+    flusher.run(shared.serving.rt, shared.serving.watch);
+    end_all(shared.serving.rt, begun, room.done)
+}
+
+// The same of a flusher that is passed on.
+fn serve_held<
+    's,
+    'r,
+    E,
+    J: Centre + Send + Sync + 's,
+    D: Disk + Drop,
+    R: Threads + Wait + Sync + 's,
+    V: Watch + Sync + 's,
+    I: Read + Send + Drop + 's,
+>(
+    scope: &Scope<'s, E>,
+    shared: &'s Shared<'s, 's, R, V>,
+    mut held: Held<'r, R, J, D>,
+    jobs: Vec<Job<J, I>>,
+    room: ThreadRoom<J, I>,
+) -> (Held<'r, R, J, D>, Vec<Done<J>>)
+    requires settled { IsSettled J.base (view_of held.flusher) }
+    requires room { vec_len jobs ≤ room.stations }
+    ensures settled { IsSettled J.base (view_of result.0.flusher) }
+    ensures rounds { AreRounds J.base (view_of held.entry.flusher) (view_of result.0.flusher) }
+    ensures stored { IsStoredFor D.view J.base (view_of held.entry.flusher) → IsStoredFor D.view J.base (view_of result.0.flusher) }
+    ensures ended { HasTakenEnds (view_of result.0.flusher) }
+    ensures same { HasSameEnds (view_of held.entry.flusher) (view_of result.0.flusher) }
+    ensures done { AllZip (λ job done. IsDone J J.base job.session (I.remaining job.reader) done) jobs.items result.1.items }
+{
+    let done = serve_in(scope, shared, &mut held.flusher, jobs, room);
+    (held, done)
+}
+
+/// Serves each job in a thread of its own, and flushes in this one until the session of each has ended. All threads have then
+/// returned.
+pub(crate) fn serve_all<
+    'r,
+    J: Centre + Send + Sync,
+    D: Disk + Drop,
+    R: Threads + Wait + Sync,
+    V: Watch + Sync,
+    I: Read + Send + Drop,
+>(
+    shared: &Shared<R, V>,
+    held: Held<'r, R, J, D>,
+    jobs: Vec<Job<J, I>>,
+    room: ThreadRoom<J, I>,
+) -> (Held<'r, R, J, D>, Vec<Done<J>>)
+    requires settled { IsSettled J.base (view_of held.flusher) }
+    requires room { vec_len jobs ≤ room.stations }
+    ensures settled { IsSettled J.base (view_of result.0.flusher) }
+    ensures rounds { AreRounds J.base (view_of held.entry.flusher) (view_of result.0.flusher) }
+    ensures stored { IsStoredFor D.view J.base (view_of held.entry.flusher) → IsStoredFor D.view J.base (view_of result.0.flusher) }
+    ensures ended { HasTakenEnds (view_of result.0.flusher) }
+    ensures same { HasSameEnds (view_of held.entry.flusher) (view_of result.0.flusher) }
+    ensures done { AllZip (λ job done. IsDone J J.base job.session (I.remaining job.reader) done) jobs.items result.1.items }
+{
+    thread::scope(
+        thread::scope_env(),
+        shared.serving.rt,
+        move |scope| -> (Held<R, J, D>, Vec<Done<J>>)
+            requires { IsSettled J.base (view_of held.flusher) × (vec_len jobs ≤ room.stations) }
+            ensures { IsSettled J.base (view_of result.0.flusher) × AreRounds J.base (view_of held.entry.flusher) (view_of result.0.flusher)
+                × (IsStoredFor D.view J.base (view_of held.entry.flusher) → IsStoredFor D.view J.base (view_of result.0.flusher))
+                × HasTakenEnds (view_of result.0.flusher) × HasSameEnds (view_of held.entry.flusher) (view_of result.0.flusher)
+                × AllZip (λ job done. IsDone J J.base job.session (I.remaining job.reader) done) jobs.items result.1.items }
+        { serve_held(scope, shared, held, jobs, room) },
+    )
+}

@@ -1,0 +1,222 @@
+//! Two stations: the second one asks while the gate holds the commit of the first. Then two of which the first can't be read.
+ghost use Rattle.std.specs.Prelude.{◌≡◌, false};
+
+use console::{Ran, RunFault};
+use flusher::Gate;
+use live_centre::{WatchedDisk, comes_to, opened, with_rule, worked_disk};
+use recovery::Store;
+use registration::Station;
+use snapshots::{Centre, NewLog};
+use stations::{Many, ManyTerms, Watch, run_many};
+use std::alloc::Global;
+use std::io;
+use std::io::{ErrorKind, Read};
+use std::marker::Brand;
+use std::sync::Wait;
+use std::sync::atomic::{AtomicU64, Ordering};
+use std::test::*;
+use std::thread::Threads;
+
+// The gate was entered with a command.
+const ENTERED: u64 = 1;
+// The second station has its answer.
+const ANSWERED: u64 = 2;
+
+const FIRST: &[u8] = b"2 10 mm 234-14-2001 7 10:260\n";
+
+const SECOND: &[u8] = b"where 234-14-2001\n";
+
+// How far both are, and how many answers were shown.
+#[derive(Drop)]
+struct Stages {
+    stage: AtomicU64,
+    held: AtomicU64,
+    shown: AtomicU64,
+}
+
+// Holds the first commit until the second station has its answer.
+impl Gate for Stages {
+    fn before_commit(&self, _round: u64, taken: usize) {
+        if taken == 0 || self.stage.load(Ordering::SeqCst) >= ENTERED {
+            return;
+        }
+        self.stage.store(ENTERED, Ordering::SeqCst);
+        if comes_to(&self.stage, ANSWERED) {
+            self.held.fetch_add(1, Ordering::SeqCst);
+        }
+    }
+}
+
+impl Watch for Stages {
+    fn answered(&self, _station: Station, _is_accepted: bool) {
+        self.shown.fetch_add(1, Ordering::SeqCst);
+    }
+}
+
+// What a reader does at its first call.
+#[derive(Clone, Copy, PartialEq, Eq)]
+enum First {
+    Gives,
+    Waits,
+    Fails,
+}
+
+// Gives its line at the first call and the end at the next: at once; once the gate holds the other station's commit, which it lets go
+// at the next call; or it fails.
+#[derive(Drop)]
+struct Line<'a> {
+    text: &'a [u8],
+    first: First,
+    stages: &'a Stages,
+}
+
+impl<'a> Read for Line<'a> {
+    fn read(&mut self, buf: &mut [u8]) -> io::Result<usize> {
+        if self.first == First::Fails {
+            return Err(io::Error::from(ErrorKind::ConnectionReset));
+        }
+        let text = self.text;
+        if text.is_empty() || buf.len() < text.len() {
+            self.stages.stage.fetch_add(1, Ordering::SeqCst);
+            return Ok(0);
+        }
+        if self.first == First::Waits && !comes_to(&self.stages.stage, ENTERED) {
+            return Err(io::Error::from(ErrorKind::TimedOut));
+        }
+        self.text = &[];
+        buf[..text.len()].copy_from_slice(text);
+        Ok(text.len())
+    }
+}
+
+// Whether this came of a station.
+fn is_run(
+    run: Option<&(Vec<u8>, Result<Ran, RunFault>)>,
+    text: &[u8],
+    ran: Result<Ran, RunFault>,
+) -> bool {
+    match run {
+        Some(it) => it.0.as_slice() == text && it.1 == ran,
+        None => false,
+    }
+}
+
+// One line without trouble.
+fn one_line() -> Result<Ran, RunFault> {
+    Ok(Ran {
+        lines: 1,
+        troubled: false,
+    })
+}
+
+// How many commands its register has accepted, and whether these two runs came of it.
+fn ends(
+    many: &Many<WatchedDisk>,
+    first: (&[u8], Result<Ran, RunFault>),
+    second: &[u8],
+) -> Option<u64> {
+    let register = many.store.register()?;
+    let runs = many.runs.as_slice();
+    let good = runs.len() == 2
+        && is_run(runs.first(), first.0, first.1)
+        && is_run(runs.get(1), second, one_line());
+    if good { Some(register.count()) } else { None }
+}
+
+// The runs of two stations, of which the first one's reader does this.
+fn both<J: Centre + Send + Sync, R: Threads + Wait + Sync>(
+    rt: &R,
+    terms: ManyTerms,
+    store: Store<Global, WatchedDisk>,
+    first: First,
+    stages: &Stages,
+) -> Option<Many<WatchedDisk>>
+    requires sound { store.broken ≡ false }
+    requires centre { (terms.log.seen.book ≡ J.book) × (store.register ≡ J.base) }
+{
+    let second = if first == First::Fails {
+        First::Gives
+    } else {
+        First::Waits
+    };
+    let readers = vec![in terms.alloc;
+        Line {
+            text: FIRST,
+            first,
+            stages
+        },
+        Line {
+            text: SECOND,
+            first: second,
+            stages
+        },
+    ]
+    .ok()?;
+    match run_many::<J, WatchedDisk, R, Line, Stages>(rt, terms, store, readers, stages) {
+        Ok(many) => Some(many),
+        Err(fault) => {
+            drop(fault);
+            None
+        }
+    }
+}
+
+// That of a new disk.
+fn served<R: Threads + Wait + Sync>(
+    rt: &R,
+    alloc: Global,
+    first: First,
+    stages: &Stages,
+) -> Option<Many<WatchedDisk>> {
+    let disk = with_rule(alloc, worked_disk(alloc, 4, 39, 4_000)?)?;
+    let store = opened(alloc, disk)?;
+    let terms = ManyTerms {
+        alloc,
+        turns: 1_000,
+        log: NewLog::new(),
+    };
+    both::<Brand, R>(rt, terms, store, first, stages)
+}
+
+fn new_stages() -> Stages {
+    Stages {
+        stage: AtomicU64::new(0),
+        held: AtomicU64::new(0),
+        shown: AtomicU64::new(0),
+    }
+}
+
+fn asked_while_held<R: Threads + Wait + Sync>(rt: &R, alloc: Global) -> Option<(u64, u64, u64)> {
+    let stages = new_stages();
+    let many = served(rt, alloc, First::Gives, &stages)?;
+    let count = ends(
+        &many,
+        (b"2 ok 2 8:56\n", one_line()),
+        b"where 234-14-2001 unknown\n",
+    );
+    drop(many);
+    let held = stages.held.load(Ordering::SeqCst);
+    Some((count?, held, stages.shown.load(Ordering::SeqCst)))
+}
+
+fn served_alone<R: Threads + Wait + Sync>(rt: &R, alloc: Global) -> Option<u64> {
+    let stages = new_stages();
+    let many = served(rt, alloc, First::Fails, &stages)?;
+    let count = ends(
+        &many,
+        (b"", Err(RunFault::Read)),
+        b"where 234-14-2001 unknown\n",
+    );
+    drop(many);
+    count
+}
+
+#[test]
+fn a_station_asks_while_the_commit_of_another_is_held(rt: HostRuntime) {
+    assert_eq!(rt; asked_while_held(&rt, rt.alloc()), Some((2, 1, 2)));
+}
+
+#[test]
+fn a_reader_that_fails_ends_its_station_alone(rt: HostRuntime) {
+    assert_eq!(rt; served_alone(&rt, rt.alloc()), Some(1));
+}

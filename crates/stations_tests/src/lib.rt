@@ -1,0 +1,5 @@
+//! Tests of a run of many stations, with real threads.
+#![tactic(auto)]
+
+#[cfg(test)]
+mod held;
