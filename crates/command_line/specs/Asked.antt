@@ -1,5 +1,7 @@
 -- What the words of a command line, the program's name first, ask for.
-use Rattle.std.specs.Prelude.{◌≡◌, ◌⊎◌, ℕ, Bool, true, false, List, [], Option, Some, None, codes, if◌then◌else◌, length, map, nat_le, option_and_then, option_map}
+use Rattle.std.specs.Prelude.{◌≡◌, ◌⊎◌, ℕ, Bool, true, false, List, [], Option, Some, None, codes, if◌then◌else◌, length, map, nat_le, option_and_then, option_map, Vec}
+use Rattle.std.specs.Borrow.{Bor}
+use Rattle.std.specs.declared.alloc.Global.{Global}
 use Rattle.std.specs.Str.{bytes_eq}
 use Rattle.std.specs.declared.io.ErrorKind as io_kind
 use Rattle.std.specs.declared.io.ErrorKind.TheVariants as fault
@@ -17,31 +19,39 @@ use Rattle.command_line.specs.declared.request.Refusal.TheVariants as refusal
 pub data Asked : Type 0 where
   serve : Asked
   format : Text → Text → Asked
-  run : Text → Text → Asked
+  run : Text → List Text → Asked
   show : Text → List Text → Asked
 
 -- what a request stands for
 abbrev pub asked_by : Request → Asked
 asked_by request.Serve = serve
 asked_by (request.Format settings disk) = format settings.now disk.now
-asked_by (request.Run disk file) = run disk.now file.now
+asked_by (request.Run disk files) = run disk.now (map (λ file. file.now) files.items)
 asked_by (request.Show disk words) = show disk.now (map (λ word. word.now) words.items)
 
 -- two parts of a request, where neither is missing
-abbrev pub both : {X : Type 0} → (Text → X → Asked) → Option Text → Option X → Option Asked
+abbrev pub both : {X Y : Type 0} → (Text → X → Y) → Option Text → Option X → Option Y
 both made first second = option_and_then (λ a. option_map (made a) second) first
+
+-- the disk, and all the words under a name
+abbrev pub disk_and_words : Text → List Row → Option (Text × List Text)
+disk_and_words name found = both (λ disk words. (disk, words)) (first_of (codes "DISK") found) (all_of name found)
+
+-- the texts of a disk and of words
+abbrev pub texts_of : Bor Text × Vec (Bor Text) Global → Text × List Text
+texts_of found = (found.0.now, map (λ word. word.now) found.1.items)
 
 -- what each subcommand asks for, by the words that clap found for it
 abbrev pub format_in : List Row → Option Asked
 format_in found = both format (first_of (codes "SETTINGS") found) (first_of (codes "DISK") found)
 
--- what `run` asks for: its disk and its file
+-- what `run` asks for: its disk and its files
 abbrev pub run_in : List Row → Option Asked
-run_in found = both run (first_of (codes "DISK") found) (first_of (codes "FILE") found)
+run_in found = option_map (λ (named : Text × List Text). run named.0 named.1) (disk_and_words (codes "FILE") found)
 
 -- what `show` asks for: its disk and its words
 abbrev pub show_in : List Row → Option Asked
-show_in found = both show (first_of (codes "DISK") found) (all_of (codes "WORD") found)
+show_in found = option_map (λ (named : Text × List Text). show named.0 named.1) (disk_and_words (codes "WORD") found)
 
 -- what a subcommand that clap found asks for, with its words
 abbrev pub asked_of : Text × List Row → Option Asked

@@ -20,7 +20,7 @@ some_words name = record (one_word name) {
   });
 }
 
--- a subcommand of two words
+-- a subcommand of two rules for its words
 abbrev pub with_two_words : Text → Rule → Rule → App
 with_two_words name first second = with_rule (with_rule (new_app name) first) second
 
@@ -28,9 +28,9 @@ with_two_words name first second = with_rule (with_rule (new_app name) first) se
 abbrev pub format : App
 format = with_two_words (codes "format") (one_word (codes "SETTINGS")) (one_word (codes "DISK"))
 
--- `run DISK FILE`
+-- `run DISK FILE...`
 abbrev pub run : App
-run = with_two_words (codes "run") (one_word (codes "DISK")) (one_word (codes "FILE"))
+run = with_two_words (codes "run") (one_word (codes "DISK")) (some_words (codes "FILE"))
 
 -- `show DISK WORD...`
 abbrev pub show : App

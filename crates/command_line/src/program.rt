@@ -50,8 +50,12 @@ fn run<'a>(alloc: Global) -> Result<Command<'a>, AllocError>
     ensures { IfOk result (spec.Tells spec.run) }
 {
     let disk = one_word(alloc, "DISK", DISK);
-    let file = one_word(alloc, "FILE", "The lines of station 1");
-    named(alloc, "run", RUN, AFTER_RUN).arg(disk)?.arg(file)
+    let files = some_words(
+        alloc,
+        "FILE",
+        "The lines of station 1, of station 2 and so on",
+    );
+    named(alloc, "run", RUN, AFTER_RUN).arg(disk)?.arg(files)
 }
 
 fn show<'a>(alloc: Global) -> Result<Command<'a>, AllocError>
@@ -87,7 +91,8 @@ const ABOUT: &str =
 const FORMAT: &str = "Makes a disk file for an empty register, and prints how many sectors it has.";
 
 const RUN: &str =
-    "Serves the lines of a file as station 1 on a disk file, and prints the answers when it has ended.";
+    "Serves the files of many stations at once on a disk file, and prints the answers when all have ended. The first file \
+     is station 1's, the second station 2's, and so on.";
 
 const SHOW: &str = "Answers one query of a disk file, and changes nothing.";
 
@@ -102,10 +107,11 @@ Exit status: 0 the disk file is made; 2 the command line is wrong; 3 the setting
      settings can't be read, or the disk file exists or can't be made; 5 no disk has these limits, the disk failed, or \
      no memory.";
 
-const AFTER_RUN: &str = "Example: tetra-switch run centre.disk station1.txt
+const AFTER_RUN: &str = "Example: tetra-switch run centre.disk station1.txt station2.txt
 
 Exit status: 0 each line was answered; 1 a line was bad, or an answer told of the service; 2 the command line is \
-     wrong; 4 a file can't be read or written; 5 the disk file holds no register or the disk failed, or no memory.";
+     wrong, a file is named twice, or there are more files than stations; 4 a file can't be read or written; 5 the \
+     disk file holds no register or the disk failed, or no memory.";
 
 const AFTER_SHOW: &str = "Example: tetra-switch show centre.disk where 234-14-2001
 

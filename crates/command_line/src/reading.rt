@@ -12,8 +12,8 @@ use std::alloc::{AllocError, Global};
 use std::convert::AsStr;
 
 /// What the words of a command line ask for; the first is the program's name. With no further word that is to serve
-/// standard input. Else clap reads them: `format SETTINGS DISK`, `run DISK FILE` or `show DISK WORD...`, where a word
-/// behind `--` is never taken for a flag.
+/// standard input. Else clap reads them: `format SETTINGS DISK`, `run DISK FILE...` or `show DISK WORD...`, where a word
+/// after `--` is never taken for a flag.
 ///
 /// # Errors
 /// `Help` and `Version` where these are asked for by `--help`, `-h`, `--version` or `-V`, of a subcommand by its own
@@ -79,7 +79,7 @@ fn request_of<'a>(
         return Ok(format_of(found));
     }
     if name == "run" {
-        return Ok(run_of(found));
+        return run_of(alloc, found);
     }
     if name == "show" {
         return show_of(alloc, found);
@@ -95,25 +95,40 @@ fn format_of<'a>(found: &ArgMatches<'a>) -> Option<Request<'a>>
     Some(Request::Format { settings, disk })
 }
 
-fn run_of<'a>(found: &ArgMatches<'a>) -> Option<Request<'a>>
-    ensures { option_map spec.asked_by result ≡ spec.run_in (rows_of (found_of found.now)) }
+fn run_of<'a>(alloc: Global, found: &ArgMatches<'a>) -> Result<Option<Request<'a>>, AllocError>
+    ensures { IfOk result (λ request. option_map spec.asked_by request ≡ spec.run_in (rows_of (found_of found.now))) }
 {
-    let disk = word(found, "DISK")?;
-    let file = word(found, "FILE")?;
-    Some(Request::Run { disk, file })
+    match disk_and_words(alloc, found, "FILE")? {
+        Some((disk, files)) => Ok(Some(Request::Run { disk, files })),
+        None => Ok(None),
+    }
 }
 
 fn show_of<'a>(alloc: Global, found: &ArgMatches<'a>) -> Result<Option<Request<'a>>, AllocError>
     ensures { IfOk result (λ request. option_map spec.asked_by request ≡ spec.show_in (rows_of (found_of found.now))) }
 {
+    match disk_and_words(alloc, found, "WORD")? {
+        Some((disk, words)) => Ok(Some(Request::Show { disk, words })),
+        None => Ok(None),
+    }
+}
+
+/// The disk that clap found, and all the words under a name.
+fn disk_and_words<'a>(
+    alloc: Global,
+    found: &ArgMatches<'a>,
+    name: &str,
+) -> Result<Option<(&'a str, Vec<&'a str>)>, AllocError>
+    ensures { IfOk result (λ words. option_map spec.texts_of words ≡ spec.disk_and_words name.now (rows_of (found_of found.now))) }
+{
     let Some(disk) = word(found, "DISK") else {
         return Ok(None);
     };
-    let Some(words) = all_words(found, "WORD") else {
+    let Some(words) = all_words(found, name) else {
         return Ok(None);
     };
     let words = Vec::from_slice(alloc, words)?;
-    Ok(Some(Request::Show { disk, words }))
+    Ok(Some((disk, words)))
 }
 
 /// The word that clap found under a name.

@@ -22,12 +22,12 @@ pub enum Request<'a> {
         /// The file that is made.
         disk: &'a str,
     },
-    /// `run DISK FILE`: serve a station's lines on a disk file.
+    /// `run DISK FILE...`: serve the lines of stations on a disk file.
     Run {
         /// The disk file.
         disk: &'a str,
-        /// The file of the lines.
-        file: &'a str,
+        /// The files of the lines in the order of their stations, one at least.
+        files: Vec<&'a str>,
     },
     /// `show DISK WORD...`: answer one query of a disk file.
     Show {

@@ -14,6 +14,9 @@ format  d = format  d
 run centre.disk station1.txt = run centre.disk station1.txt
 run run format = run run format
 run -- centre.disk -x = run centre.disk -x
+run d a b = run d a b
+run d a b a = run d a b a
+run d a -- -b = run d a -b
 show centre.disk count = show centre.disk count
 show centre.disk where 234-14-2001 = show centre.disk where 234-14-2001
 show d 1 0 rule 234-14-0/24 1 99 1 3600 = show d 1 0 rule 234-14-0/24 1 99 1 3600
@@ -59,7 +62,6 @@ format --version = wrong
 run = wrong
 run d = wrong
 run d -- = wrong
-run d a b = wrong
 run d -1 = wrong
 run d a --turns 3 = wrong
 show = wrong
@@ -85,9 +87,10 @@ fn request_text(alloc: Global, request: &Request<'_>) -> Result<String, AllocErr
             text.push_str("format")?;
             push_words(&mut text, &[*settings, *disk])?;
         }
-        Request::Run { disk, file } => {
+        Request::Run { disk, files } => {
             text.push_str("run")?;
-            push_words(&mut text, &[*disk, *file])?;
+            push_words(&mut text, &[*disk])?;
+            push_words(&mut text, files.as_slice())?;
         }
         Request::Show { disk, words } => {
             text.push_str("show")?;

@@ -54,7 +54,7 @@ fn help_of_each_subcommand(rt: HostRuntime) -> Result<(), Fail> {
         "Exit status:",
     ];
     let run = [
-        "Usage: tetra-switch run <DISK> <FILE>\n",
+        "Usage: tetra-switch run <DISK> <FILE>...\n",
         "Example: tetra-switch run ",
         "Exit status:",
     ];

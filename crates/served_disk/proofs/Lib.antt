@@ -1,3 +1,5 @@
 mod GivesWay
 mod Lacking
 mod Lent
+mod NotOpened
+mod Stations

@@ -22,8 +22,10 @@ fault_text (fault.Damaged sector) = codes "fault: damaged sector " ++ decimal se
 fault_text fault.Device = codes "fault: device\n"
 fault_text fault.Memory = codes "fault: memory\n"
 fault_text fault.Epochs = codes "fault: epochs\n"
+fault_text (fault.Twice name) = codes "fault: " ++ name.now ++ codes " is named twice\n"
+fault_text fault.TooMany = codes "fault: more files than stations\n"
 
--- 3 for settings, 4 for a file, 5 for what stands on a disk, the device and memory
+-- 2 for files that no run may have, 3 for settings, 4 for a file, 5 for what stands on a disk, the device and memory
 abbrev pub fault_status : Fault → ℕ
 fault_status fault.Settings = 3
 fault_status (fault.File name) = 4
@@ -33,6 +35,8 @@ fault_status (fault.Damaged sector) = 5
 fault_status fault.Device = 5
 fault_status fault.Memory = 5
 fault_status fault.Epochs = 5
+fault_status (fault.Twice name) = 2
+fault_status fault.TooMany = 2
 
 -- the fault names a file, this one
 abbrev pub Names : Fault → List Byte → Type 0

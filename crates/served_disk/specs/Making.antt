@@ -45,4 +45,6 @@ abbrev pub IsOfOpening : List Byte → Fault → Type 0
 IsOfOpening name (fault.File text) = text.now ≡ name
 IsOfOpening name fault.Settings = ⊥
 IsOfOpening name fault.Epochs = ⊥
+IsOfOpening name (fault.Twice text) = ⊥
+IsOfOpening name fault.TooMany = ⊥
 IsOfOpening name other = Unit {0}

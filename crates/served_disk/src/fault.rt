@@ -30,6 +30,10 @@ pub enum Fault<'a> {
     Memory,
     /// The register's image has the last epoch.
     Epochs,
+    /// The file of this name is named twice for a run.
+    Twice(&'a str),
+    /// The run has more files than the register has stations.
+    TooMany,
 }
 
 impl<'a> Fault<'a> {
@@ -79,11 +83,13 @@ impl<'a> Fault<'a> {
         }
     }
 
-    /// The exit status: 3 for settings, 4 for a file, 5 for what stands on a disk, the device and memory.
+    /// The exit status: 2 for files that no run may have, 3 for settings, 4 for a file, 5 for what stands on a disk, the device
+    /// and memory.
     pub fn status(&self) -> u8
         ensures { result ≡ fault_status self.now }
     {
         match self {
+            Fault::Twice(_) | Fault::TooMany => 2,
             Fault::Settings => 3,
             Fault::File(_) => 4,
             _ => 5,
@@ -103,6 +109,8 @@ impl<'a> Fault<'a> {
             Fault::Device => tell(out, &[Part::Text("fault: device\n")]),
             Fault::Memory => tell(out, &[Part::Text("fault: memory\n")]),
             Fault::Epochs => tell(out, &[Part::Text("fault: epochs\n")]),
+            Fault::Twice(name) => tell_twice(out, name),
+            Fault::TooMany => tell(out, &[Part::Text("fault: more files than stations\n")]),
         }
     }
 }
@@ -114,6 +122,17 @@ fn tell_named<W: Write>(out: &mut W, name: &str) -> io::Result<()>
         Part::Text("fault: file "),
         Part::Text(name),
         Part::Text("\n"),
+    ];
+    tell(out, &parts)
+}
+
+fn tell_twice<W: Write>(out: &mut W, name: &str) -> io::Result<()>
+    ensures { OnOk result (Appends (W.contents out.old) (W.contents out.new) (codes "fault: " ++ name.now ++ codes " is named twice\n")) }
+{
+    let parts = [
+        Part::Text("fault: "),
+        Part::Text(name),
+        Part::Text(" is named twice\n"),
     ];
     tell(out, &parts)
 }

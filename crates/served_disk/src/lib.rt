@@ -1,12 +1,14 @@
-//! What the program does with the disks and files that it is named: it makes a disk for an empty register, serves a station's
+//! What the program does with the disks and files that it is named: it makes a disk for an empty register, serves stations'
 //! lines over the register that is kept on a disk, and answers a query of one.
 #![tactic(auto)]
 
 mod fault;
+mod files;
 mod making;
 mod opening;
 mod progress;
 mod refused;
+mod running;
 mod serving;
 mod showing;
 mod showing_disk;
@@ -14,11 +16,13 @@ mod telling;
 mod watched;
 
 pub use fault::Fault;
+pub use files::{check_names, check_stations, not_read, open_files};
 pub use making::{format_disk, layout_of};
 pub use opening::open_disk;
 pub use progress::Progress;
 pub use refused::Refused;
-pub use serving::{Answered, TURNS, serve};
+pub use running::serve_stations;
+pub use serving::{Run, Served, TURNS, outcome, tell_stations};
 pub use showing::{Shown, show};
 pub use showing_disk::{show_disk, show_on};
 pub use telling::{tell_formatted, tell_station};

@@ -1,151 +1,165 @@
-//! How far a run has come, told to whoever watches.
+//! How far a run has come, reported to whoever watches.
 
 use console::{Ran, RunFault};
-use std::cell::Cell;
-use std::io;
+use flusher::Gate;
+use registration::Station;
+use stations::Watch;
+use std::alloc::{AllocError, Global};
 use std::rt::Clock;
+use std::sync::atomic::{AtomicU64, Ordering};
 use std::time::Instant;
+use std::{io, thread};
 
-/// How many seconds lie between two tellings at least.
-const PERIOD: u64 = 1;
-
-/// What has been counted.
-#[derive(Clone, Copy)]
-struct Figures {
-    /// Lines of the pieces that the reader gave, without the last one.
-    lines: u64,
-    /// Lines that end in the last piece.
-    ends: u64,
-    /// Commands and queries among these that have come to the desk.
-    asked: u64,
-    /// Commands that were accepted.
-    accepted: u64,
-}
-
-impl Figures {
-    /// The lines that are known to be answered.
-    fn answered(&self) -> u64 {
-        self.lines.saturating_add(self.asked)
-    }
-}
-
-/// When it is told.
-#[derive(Clone, Copy)]
-enum Telling {
-    /// Nobody watches, or there is no clock.
-    Never,
-    /// A second behind this; nothing has been told.
-    First(Instant),
-    /// A second behind this, when it was told last.
-    Next(Instant),
-}
-
-/// How far a run has come. Once a second it is told on standard error, over what was told before, as
-/// `12000 lines, 11998 accepted`: the lines that were served, and the commands among them that were accepted. A telling that
-/// fails changes nothing.
+/// How far a run has come. Once a second it is reported on standard error, over what was reported before, as
+/// `12000 lines, 11998 accepted`: the lines of all stations that were served, and the commands among them that were accepted.
+/// A report that fails changes nothing.
 ///
-/// Within a piece of the reader, of at most 65,536 bytes, only those lines are counted that come to the desk, and the others at
-/// its end.
+/// Within a piece of a reader, of at most 65,536 bytes, only those lines are counted that come to the desk, and the others at
+/// its end. Threads may share it: each counts the lines of its own station.
 #[derive(Drop)]
 pub struct Progress<'r, R> {
     rt: &'r R,
-    figures: Cell<Figures>,
-    telling: Cell<Telling>,
+    /// When the run began. `None` if nobody watches, or there is no clock.
+    began: Option<Instant>,
+    /// Whether no flusher makes rounds, so that it is reported where lines are counted.
+    is_alone: bool,
+    /// In which second of the run it was reported last; 0 before the first report.
+    reported: AtomicU64,
+    /// For each station in order, how many of its lines are known to be served.
+    lines: Vec<AtomicU64>,
+    /// How many commands were accepted.
+    accepted: AtomicU64,
+}
+
+/// No line of so many stations is served yet.
+fn no_lines(alloc: Global, stations: usize) -> Result<Vec<AtomicU64>, AllocError> {
+    let mut lines = Vec::with_capacity(alloc, stations)?;
+    for _ in 0..stations {
+        lines.push(AtomicU64::new(0))?;
+    }
+    Ok(lines)
 }
 
 impl<'r, R: Clock + Eprint> Progress<'r, R> {
-    /// Nothing is served yet. It is never told where nobody watches, nor where there is no clock.
-    pub fn new(rt: &'r R, watched: bool) -> Self {
-        let telling = match Instant::now(rt) {
-            Ok(now) if watched => Telling::First(now),
-            _ => Telling::Never,
+    /// Nothing is served yet. It is never reported if nobody watches or there is no clock.
+    fn new(rt: &'r R, watched: bool, is_alone: bool, lines: Vec<AtomicU64>) -> Self {
+        let began = match Instant::now(rt) {
+            Ok(now) if watched => Some(now),
+            _ => None,
         };
         Progress {
             rt,
-            figures: Cell::new(Figures {
-                lines: 0,
-                ends: 0,
-                asked: 0,
-                accepted: 0,
-            }),
-            telling: Cell::new(telling),
+            began,
+            is_alone,
+            reported: AtomicU64::new(0),
+            lines,
+            accepted: AtomicU64::new(0),
         }
     }
 
-    /// Nothing is told, so that nothing has to be counted.
-    fn is_silent(&self) -> bool {
-        matches!(self.telling.get(), Telling::Never)
+    /// The progress of station 1 alone, which no flusher serves.
+    pub fn of_one(rt: &'r R, alloc: Global, watched: bool) -> Result<Self, AllocError> {
+        let lines = no_lines(alloc, 1)?;
+        Ok(Progress::new(rt, watched, true, lines))
     }
 
-    /// The reader is called again: what it gave is served.
-    pub(crate) fn pass(&self) {
-        if self.is_silent() {
-            return;
+    /// The progress of so many stations, which a flusher serves. It is reported in the flusher's thread.
+    pub fn of_many(
+        rt: &'r R,
+        alloc: Global,
+        watched: bool,
+        stations: usize,
+    ) -> Result<Self, AllocError> {
+        let lines = no_lines(alloc, stations)?;
+        Ok(Progress::new(rt, watched, false, lines))
+    }
+
+    /// How many lines of a station are known to be served.
+    fn lines_of(&self, station: Station) -> Option<&AtomicU64> {
+        let place = usize::from(station.number()).checked_sub(1)?;
+        self.lines.get(place)
+    }
+
+    /// So many lines of a station are served.
+    pub(crate) fn serve(&self, station: Station, lines: u64) {
+        if let Some(known) = self.lines_of(station) {
+            known.store(lines, Ordering::SeqCst);
         }
-        let figures = self.figures.get();
-        self.figures.set(Figures {
-            lines: figures.lines.saturating_add(figures.ends),
-            ends: 0,
-            asked: 0,
-            ..figures
-        });
-        self.look();
-    }
-
-    /// The reader has given a piece.
-    pub(crate) fn take(&self, piece: &[u8]) {
-        if self.is_silent() {
-            return;
+        if self.is_alone {
+            self.look();
         }
-        let ends = piece.iter().filter(|byte| **byte == b'\n').count();
-        self.figures.set(Figures {
-            ends: ends as u64,
-            ..self.figures.get()
-        });
     }
 
-    /// The desk has answered.
-    pub(crate) fn count(&self, accepted: bool) {
-        if self.is_silent() {
-            return;
+    /// The desk has answered a line of a station.
+    pub(crate) fn count(&self, station: Station, is_accepted: bool) {
+        if let Some(known) = self.lines_of(station) {
+            known.fetch_add(1, Ordering::SeqCst);
         }
-        let figures = self.figures.get();
-        self.figures.set(Figures {
-            asked: figures.asked.saturating_add(1),
-            accepted: figures.accepted.saturating_add(u64::from(accepted)),
-            ..figures
-        });
-        self.look();
+        self.accepted
+            .fetch_add(u64::from(is_accepted), Ordering::SeqCst);
+        if self.is_alone {
+            self.look();
+        }
     }
 
-    /// Tells the figures where a second has gone by.
+    /// How many lines of all stations are known to be served.
+    fn served(&self) -> u64 {
+        let mut sum: u64 = 0;
+        for lines in &self.lines {
+            sum = sum.saturating_add(lines.load(Ordering::SeqCst));
+        }
+        sum
+    }
+
+    /// Reports the figures if a second of the run has begun in which they were not reported.
     fn look(&self) {
-        let (Telling::First(last) | Telling::Next(last)) = self.telling.get() else {
+        let Some(began) = self.began else {
             return;
         };
-        let Ok(now) = Instant::now(self.rt) else {
+        let Ok(passed) = began.elapsed(self.rt) else {
             return;
         };
-        if now.duration_since(last).as_secs() >= PERIOD {
-            self.telling.set(Telling::Next(now));
-            let _ = self.tell(self.figures.get().answered(), "");
+        let second = passed.as_secs();
+        if self.reported.load(Ordering::SeqCst) < second {
+            self.reported.store(second, Ordering::SeqCst);
+            let _ = self.report("");
         }
     }
 
-    fn tell(&self, lines: u64, end: &str) -> io::Result<()> {
-        let accepted = self.figures.get().accepted;
+    fn report(&self, end: &str) -> io::Result<()> {
+        let lines = self.served();
+        let accepted = self.accepted.load(Ordering::SeqCst);
         eprint!(self.rt; "\r{lines} lines, {accepted} accepted{end}")
     }
 
-    /// The run has ended: where something was told, the last figures are, and their line ends.
-    pub fn finish(&self, ended: &Result<Ran, RunFault>) {
-        let Telling::Next(_) = self.telling.get() else {
-            return;
-        };
-        let lines = match ended {
-            Ok(ran) => ran.lines,
-            Err(_) => self.figures.get().answered(),
-        };
-        let _ = self.tell(lines, "\n");
+    /// The run of the station at this place, counted from 0, has ended: if it came to the end of its text, all its lines are
+    /// served.
+    pub fn end(&self, place: usize, ended: &Result<Ran, RunFault>) {
+        if let (Ok(ran), Some(known)) = (ended, self.lines.get(place)) {
+            known.store(ran.lines, Ordering::SeqCst);
+        }
+    }
+
+    /// All runs have ended: if something was reported, the last figures are, and their line ends.
+    pub fn finish(&self) {
+        if self.reported.load(Ordering::SeqCst) > 0 {
+            let _ = self.report("\n");
+        }
+    }
+}
+
+impl<'r, R: Clock + Eprint> Gate for Progress<'r, R> {
+    /// A round that has taken nothing leaves the processor to the stations.
+    fn before_commit(&self, _round: u64, taken: usize) {
+        if taken == 0 {
+            thread::yield_now();
+        }
+        self.look();
+    }
+}
+
+impl<'r, R: Clock + Eprint> Watch for Progress<'r, R> {
+    fn answered(&self, station: Station, is_accepted: bool) {
+        self.count(station, is_accepted);
     }
 }

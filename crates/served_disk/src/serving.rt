@@ -1,35 +1,73 @@
-//! A station's lines served at a desk, with answers that wait in memory.
-ghost use Rattle.std.specs.Prelude.{[], Some};
-ghost use Rattle.console.specs.Runs.{IsRun};
+//! What the runs of stations have come to.
+ghost use Rattle.std.specs.Prelude.{◌≡◌, ◌≤◌, Err, MatchBool, OnOk, length};
+ghost use Rattle.std.specs.Io.KnownBytes.{Appends};
+ghost use Rattle.served_disk.specs.declared.fault.Fault.TheVariants.{Device};
+ghost use Rattle.served_disk.specs.Stations.{HaveEnded, HasEnded, stations_text};
 
-use console::{Desk, Ran, RunFault, run};
+use crate::{Fault, tell_station};
+use console::{Ran, RunFault};
 use registration::Station;
-use std::alloc::Allocator;
-use std::io::Read;
+use std::io;
+use std::io::Write;
 
-/// The most calls of the reader: a text that has no end by then is refused.
+/// The most calls of a reader: a text that has no end by then is refused.
 pub const TURNS: u32 = 1_073_741_824;
 
-/// What serving a station's lines has come to.
+/// A station's answers, or a prefix of them, and how its run has ended.
+pub type Run = (Vec<u8>, Result<Ran, RunFault>);
+
+/// What the runs of stations have come to.
 #[derive(Drop)]
-pub struct Answered<A: Allocator> {
-    /// The answers, or the front of them.
-    pub answers: Vec<u8, A>,
-    /// How the run has ended.
-    pub ended: Result<Ran, RunFault>,
+pub struct Served {
+    /// The run of each station, in order.
+    pub runs: Vec<Run>,
+    /// Whether the disk failed.
+    pub is_broken: bool,
 }
 
-/// Answers all lines of a station, or the first of them where it ends early; the answers wait in memory.
-pub fn serve<A: Allocator + Copy + Drop, R: Read, D: Desk>(
-    alloc: A,
-    reader: &mut R,
-    station: Station,
-    desk: &mut D,
-) -> Answered<A>
-    ensures answers { IsRun A D.rules (record { station = station; world = D.world desk.old; unread = R.remaining reader.old; written = Some [] })
-        (record { result = result.ended; world = D.world desk.new; written = Some result.answers.items }) }
+/// Writes the answers of stations 1, 2 and so on, each after the station and the name of its file.
+pub fn tell_stations<W: Write>(out: &mut W, names: &[&str], runs: &[Run]) -> io::Result<()>
+    requires same { length names.now ≡ length runs.now }
+    requires few { length runs.now ≤ 64 }
+    ensures { OnOk result (Appends (W.contents out.old) (W.contents out.new) (stations_text names.now runs.now)) }
 {
-    let mut answers = Vec::new(alloc);
-    let ended = run(alloc, reader, &mut answers, station, TURNS, desk);
-    Answered { answers, ended }
+    for index in 0..runs.len() {
+        let station = Station::new(index as u16 + 1);
+        tell_station(out, station, names[index], &runs[index].0)?;
+    }
+    Ok(())
+}
+
+/// How the run over the file of this name has ended: whether an answer reported trouble, or the fault.
+fn end_of<'a>(name: &'a str, ended: &Result<Ran, RunFault>) -> Result<bool, Fault<'a>>
+    ensures { HasEnded name.now ended.now result }
+{
+    match ended {
+        Ok(ran) => Ok(ran.troubled),
+        Err(fault) => Err(Fault::of_run(*fault, name)),
+    }
+}
+
+/// How all runs have ended: the first fault of one, in order; if there is none, whether an answer of one reported trouble.
+fn ended<'a>(names: &[&'a str], runs: &[Run]) -> Result<bool, Fault<'a>>
+    requires same { length names.now ≡ length runs.now }
+    ensures { HaveEnded names.now runs.now result }
+{
+    let mut troubled = false;
+    for index in 0..runs.len() {
+        troubled |= end_of(names[index], &runs[index].1)?;
+    }
+    Ok(troubled)
+}
+
+/// How a run of stations is reported, after all answers: a disk that failed; else the first fault of a station; else whether an
+/// answer reported trouble.
+pub fn outcome<'a>(names: &[&'a str], served: &Served) -> Result<bool, Fault<'a>>
+    requires same { length names.now ≡ length served.now.runs.items }
+    ensures { MatchBool served.now.is_broken (result ≡ Err Device) (HaveEnded names.now served.now.runs.items result) }
+{
+    if served.is_broken {
+        return Err(Fault::Device);
+    }
+    ended(names, &served.runs)
 }

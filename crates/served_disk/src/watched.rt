@@ -4,77 +4,92 @@ ghost use Rattle.std.specs.Prelude.{◌≡◌};
 use crate::Progress;
 use centre_core::{Command, Query, Reply, Told};
 use console::{Desk, Service};
+use registration::Station;
 use std::alloc::Allocator;
 use std::io;
 use std::io::Read;
 use std::rt::Clock;
 
-/// A reader whose pieces are counted as they are served.
+/// A station's reader whose lines are counted as they are served.
 #[derive(Drop)]
 pub struct WatchedReader<'p, 'r, R, C> {
     reader: R,
     progress: &'p Progress<'r, C>,
+    station: Station,
+    /// How many lines end in what the reader gave.
+    lines: u64,
 }
 
 impl<'p, 'r, R: Read, C: Clock + Eprint> WatchedReader<'p, 'r, R, C> {
-    /// The reader with its bytes, whose pieces count there.
-    pub fn new(reader: R, progress: &'p Progress<'r, C>) -> Self
+    /// The reader with its bytes, whose lines count there as this station's.
+    pub fn new(reader: R, station: Station, progress: &'p Progress<'r, C>) -> Self
         ensures { result.reader ≡ reader }
     {
-        WatchedReader { reader, progress }
+        WatchedReader {
+            reader,
+            progress,
+            station,
+            lines: 0,
+        }
     }
+}
+
+/// How many lines end in a piece.
+fn ends_in(piece: &[u8]) -> u64 {
+    piece.iter().filter(|byte| **byte == b'\n').count() as u64
 }
 
 impl<'p, 'r, R: Read, C: Clock + Eprint> Read for WatchedReader<'p, 'r, R, C> {
     ghost remaining = { λ watched. R.remaining watched.reader };
 
     fn read(&mut self, buffer: &mut [u8]) -> io::Result<usize> {
-        self.progress.pass();
+        self.progress.serve(self.station, self.lines);
         let given = self.reader.read(buffer);
         if let Ok(n) = &given {
-            self.progress.take(&buffer[..*n]);
+            self.lines = self.lines.saturating_add(ends_in(&buffer[..*n]));
         }
         given
     }
 }
 
-/// A desk whose answers are counted.
+/// A desk whose answers to a station are counted.
 #[derive(Drop)]
 pub struct WatchedDesk<'p, 'r, D, C> {
     desk: D,
+    station: Station,
     progress: &'p Progress<'r, C>,
 }
 
-impl<'p, 'r, D: Desk, C: Clock + Eprint> WatchedDesk<'p, 'r, D, C> {
-    /// The desk as it is, whose answers count there.
-    pub fn new(desk: D, progress: &'p Progress<'r, C>) -> Self
+impl<'p, 'r, D, C: Clock + Eprint> WatchedDesk<'p, 'r, D, C> {
+    /// The desk as it is, whose answers count there as this station's.
+    pub fn new(desk: D, station: Station, progress: &'p Progress<'r, C>) -> Self
         ensures { result.desk ≡ desk }
     {
-        WatchedDesk { desk, progress }
+        WatchedDesk {
+            desk,
+            station,
+            progress,
+        }
     }
 }
 
-impl<'p, 'r, D: Desk, C: Clock + Eprint> Desk for WatchedDesk<'p, 'r, D, C> {
+impl<'p, 'r, A: Allocator, D: Desk<A>, C: Clock + Eprint> Desk<A> for WatchedDesk<'p, 'r, D, C> {
     ghost World = { D.World };
 
     ghost world = { λ watched. D.world watched.desk };
 
     ghost rules = { D.rules };
 
-    fn apply<A: Allocator, B: Allocator + Copy>(
-        &mut self,
-        alloc: B,
-        command: &Command<A>,
-    ) -> Result<Reply<B>, Service> {
+    fn apply(&mut self, alloc: A, command: &Command<A>) -> Result<Reply<A>, Service> {
         let replied = self.desk.apply(alloc, command);
         let accepted = matches!(&replied, Ok(Reply::Accepted { .. }));
-        self.progress.count(accepted);
+        self.progress.count(self.station, accepted);
         replied
     }
 
-    fn query<B: Allocator + Copy>(&mut self, alloc: B, query: &Query) -> Result<Told<B>, Service> {
+    fn query(&mut self, alloc: A, query: &Query) -> Result<Told<A>, Service> {
         let told = self.desk.query(alloc, query);
-        self.progress.count(false);
+        self.progress.count(self.station, false);
         told
     }
 }

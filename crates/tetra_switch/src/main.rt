@@ -2,18 +2,30 @@
 //! on a disk.
 #![tactic(auto)]
 
+ghost use Rattle.std.specs.Prelude.{◌≡◌, ◌≤◌, IfOk, false, length};
+
 use centre_core::Register;
 use command_line::{Refusal, Request, read_command_line};
-use console::{Desk, RunFault, run};
+use console::{RunFault, run};
+use file_disk::{FileDisk, HostFile};
+use recovery::Store;
 use registration::{Limits, Station};
 use sector_disk::Disk;
 use served_disk::{
-    Fault, Progress, TURNS, WatchedDesk, WatchedReader, format_disk, layout_of, open_disk, serve,
-    show_disk, tell_formatted, tell_station,
+    Fault, Progress, Served, TURNS, WatchedDesk, WatchedReader, check_names, check_stations,
+    format_disk, layout_of, not_read, open_disk, open_files, outcome, serve_stations, show_disk,
+    tell_formatted, tell_stations,
 };
-use std::fs::File;
-use std::io::{ErrorKind, IsTerminal, Write};
+use snapshots::NewLog;
+use stations::ManyTerms;
+use std::alloc::Global;
+use std::fs::{File, Files};
+use std::io::{IsTerminal, Write};
+use std::marker::Brand;
 use std::process::ExitCode;
+use std::rt::Clock;
+use std::sync::Wait;
+use std::thread::Threads;
 use std::{env, fs, io};
 
 /// How much the register in memory holds at most.
@@ -29,10 +41,20 @@ fn main(rt: HostRuntime) -> ExitCode {
         Ok(words) => words,
         Err(refusal) => return tell_refusal(&rt, &refusal),
     };
-    match read_command_line(rt.alloc(), &words) {
-        Ok(request) => exit_code(&rt, carry_out(&rt, &request)),
-        Err(refusal) => tell_refusal(&rt, &refusal),
-    }
+    let request = match read_command_line(rt.alloc(), &words) {
+        Ok(request) => request,
+        Err(refusal) => return tell_refusal(&rt, &refusal),
+    };
+    let ended = match &request {
+        Request::Serve => serve_lines(&rt),
+        Request::Format { settings, disk } => make_disk(&rt, settings, disk),
+        Request::Run { disk, files } => {
+            let watched = rt.stderr().is_terminal();
+            run_files(&rt, rt.alloc(), disk, files, watched)
+        }
+        Request::Show { disk, words } => show_words(&rt, disk, words),
+    };
+    exit_code(&rt, ended)
 }
 
 /// The words that the program was started with; the first is its name.
@@ -67,27 +89,21 @@ fn exit_code(rt: &HostRuntime, ended: Result<bool, Fault<'_>>) -> ExitCode {
     }
 }
 
-/// Does what is asked, and tells whether an answer told of trouble.
-fn carry_out<'a>(rt: &HostRuntime, request: &Request<'a>) -> Result<bool, Fault<'a>> {
-    match request {
-        Request::Serve => serve_lines(rt),
-        Request::Format { settings, disk } => make_disk(rt, settings, disk),
-        Request::Run { disk, file } => run_file(rt, disk, file),
-        Request::Show { disk, words } => show_words(rt, disk, words),
-    }
-}
-
 /// Answers station 1's lines from standard input over a new register in memory.
 fn serve_lines<'a>(rt: &HostRuntime) -> Result<bool, Fault<'a>> {
     let Ok(register) = Register::new(rt.alloc(), LIMITS) else {
         return Err(Fault::Memory);
     };
     let talks = rt.stdin().is_terminal() || rt.stdout().is_terminal();
-    let progress = Progress::new(rt, rt.stderr().is_terminal() && !talks);
-    let mut desk = WatchedDesk::new(register, &progress);
-    let mut reader = WatchedReader::new(rt.stdin(), &progress);
-    let mut writer = io::writer(rt);
+    let watched = rt.stderr().is_terminal() && !talks;
+    let Ok(progress) = Progress::of_one(rt, rt.alloc(), watched) else {
+        drop(register);
+        return Err(Fault::Memory);
+    };
     let station = Station::new(1);
+    let mut desk = WatchedDesk::new(register, station, &progress);
+    let mut reader = WatchedReader::new(rt.stdin(), station, &progress);
+    let mut writer = io::writer(rt);
     let ended = run(
         rt.alloc(),
         &mut reader,
@@ -96,7 +112,8 @@ fn serve_lines<'a>(rt: &HostRuntime) -> Result<bool, Fault<'a>> {
         TURNS,
         &mut desk,
     );
-    progress.finish(&ended);
+    progress.end(0, &ended);
+    progress.finish();
     match ended {
         Ok(ran) => Ok(ran.troubled),
         Err(RunFault::Read | RunFault::Write) => Err(Fault::File("-")),
@@ -104,19 +121,11 @@ fn serve_lines<'a>(rt: &HostRuntime) -> Result<bool, Fault<'a>> {
     }
 }
 
-/// Why a file of this name was not opened or read.
-fn not_read(error: io::Error, name: &str) -> Fault<'_> {
-    match error.kind() {
-        ErrorKind::OutOfMemory => Fault::Memory,
-        _ => Fault::File(name),
-    }
-}
-
 /// Makes a disk for an empty register in a new file, by the settings in another.
 fn make_disk<'a>(rt: &HostRuntime, settings: &'a str, disk: &'a str) -> Result<bool, Fault<'a>> {
     let text = match fs::read(rt, settings) {
         Ok(text) => text,
-        Err(error) => return Err(not_read(error, settings)),
+        Err(error) => return Err(not_read(error.kind(), settings)),
     };
     let layout = layout_of(rt.alloc(), &text)?;
     let made = format_disk(rt, &layout, disk)?;
@@ -131,35 +140,74 @@ fn printed<'a>(told: io::Result<()>, troubled: bool) -> Result<bool, Fault<'a>> 
     }
 }
 
-/// Serves a file's lines as station 1 over the register on a disk.
-fn run_file<'a>(rt: &HostRuntime, disk: &'a str, name: &'a str) -> Result<bool, Fault<'a>> {
-    let store = open_disk(rt, rt.alloc(), disk)?;
-    let progress = Progress::new(rt, rt.stderr().is_terminal());
-    let mut desk = WatchedDesk::new(store, &progress);
-    let ended = serve_file(rt, &mut desk, name, &progress);
-    drop(desk);
-    ended
+/// Serves the lines of each file as those of stations 1, 2 and so on, over the register on a disk, and prints the answers.
+fn run_files<'a, R: Threads + Wait + Sync + Clock + Print + Eprint + Files<File = File>>(
+    rt: &R,
+    alloc: Global,
+    disk: &'a str,
+    names: &[&'a str],
+    watched: bool,
+) -> Result<bool, Fault<'a>> {
+    check_names(alloc, names)?;
+    let store = open_disk(rt, alloc, disk)?;
+    if let Err(fault) = check_stations(&store, names.len()) {
+        drop(store);
+        return Err(fault);
+    }
+    let Ok(progress) = Progress::of_many(rt, alloc, watched, names.len()) else {
+        drop(store);
+        return Err(Fault::Memory);
+    };
+    let readers = match open_files(rt, alloc, names, &progress) {
+        Ok(readers) => readers,
+        Err(fault) => {
+            drop(store);
+            return Err(fault);
+        }
+    };
+    let served = serve_readers(rt, alloc, store, readers, &progress)?;
+    report(rt, names, &served, &progress)
 }
 
-/// Serves a file's lines as station 1, and prints the answers.
-fn serve_file<'a, D: Desk>(
-    rt: &HostRuntime,
-    desk: &mut D,
-    name: &'a str,
-    progress: &Progress<'_, HostRuntime>,
-) -> Result<bool, Fault<'a>> {
-    let file = match File::open(rt, name) {
-        Ok(file) => file,
-        Err(error) => return Err(not_read(error, name)),
+/// Serves the lines of each reader as those of stations 1, 2 and so on, over the store.
+fn serve_readers<'a, 'p, 'r, R: Threads + Wait + Sync + Clock + Eprint>(
+    rt: &R,
+    alloc: Global,
+    store: Store<Global, FileDisk<HostFile>>,
+    readers: Vec<WatchedReader<'p, 'r, File, R>>,
+    progress: &Progress<'r, R>,
+) -> Result<Served, Fault<'a>>
+    requires sound { store.broken ≡ false }
+    ensures { IfOk result (λ served. length served.runs.items ≡ length readers.entry.items) }
+{
+    let terms = ManyTerms {
+        alloc,
+        turns: TURNS,
+        log: NewLog::new(),
     };
-    let mut reader = WatchedReader::new(file, progress);
-    let station = Station::new(1);
-    let answered = serve(rt.alloc(), &mut reader, station, desk);
-    progress.finish(&answered.ended);
-    let told = tell_station(&mut io::writer(rt), station, name, &answered.answers);
-    match answered.ended {
-        Ok(ran) => printed(told, ran.troubled),
-        Err(fault) => Err(Fault::of_run(fault, name)),
+    serve_stations::<Brand, FileDisk<HostFile>, R, WatchedReader<'p, 'r, File, R>, Progress<'r, R>>(
+        rt, terms, store, readers, progress,
+    )
+}
+
+/// Prints the last figures and the answers of each station, and says how all have ended.
+fn report<'a, R: Clock + Print + Eprint>(
+    rt: &R,
+    names: &[&'a str],
+    served: &Served,
+    progress: &Progress<'_, R>,
+) -> Result<bool, Fault<'a>>
+    requires same { length names.now ≡ length served.now.runs.items }
+    requires few { length names.now ≤ 64 }
+{
+    for index in 0..served.runs.len() {
+        progress.end(index, &served.runs[index].1);
+    }
+    progress.finish();
+    let told = tell_stations(&mut io::writer(rt), names, &served.runs);
+    match outcome(names, served) {
+        Ok(troubled) => printed(told, troubled),
+        Err(fault) => Err(fault),
     }
 }
 

@@ -1,0 +1,28 @@
+-- Why the files of the stations of a run are not served.
+use Rattle.std.specs.Prelude.{◌≡◌, ◌⊎◌, ◌-◌, List, None, Some, slice_get}
+use Rattle.std.specs.Borrow.{Bor}
+use Rattle.sector_disk.specs.Numbers.{Byte}
+use Rattle.settings.specs.Naming.{first_twice, texts}
+use Rattle.settings.specs.Numbers.{Place}
+use Rattle.served_disk.specs.declared.fault.Fault.{Fault}
+use Rattle.served_disk.specs.declared.fault.Fault.TheVariants as fault
+
+-- it is the name at this place, counted from 1
+abbrev pub IsAt : List (Bor (List Byte)) → Place → Bor (List Byte) → Type 0
+IsAt names place name = slice_get names (place - 1) ≡ Some name
+
+-- of their names: the first that was there before; where there is none, memory ran out
+abbrev pub IsOfNames : List (Bor (List Byte)) → Fault → Type 0
+IsOfNames names (fault.Twice name) = (place : Place) × (first_twice (texts names) ≡ Some place) × IsAt names place name
+IsOfNames names fault.Memory = first_twice (texts names) ≡ None
+IsOfNames names other = ⊥
+
+-- of opening or reading the file of this name
+abbrev pub IsNotRead : List Byte → Fault → Type 0
+IsNotRead name (fault.File text) = text.now ≡ name
+IsNotRead name fault.Memory = Unit {0}
+IsNotRead name other = ⊥
+
+-- of opening them: memory ran out, or this is why one of them was not opened
+abbrev pub IsOfFiles : List (Bor (List Byte)) → Fault → Type 0
+IsOfFiles names is = (is ≡ fault.Memory) ⊎ ((place : Place) × (name : Bor (List Byte)) × IsAt names place name × IsNotRead name.now is)

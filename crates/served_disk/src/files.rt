@@ -1,0 +1,90 @@
+//! The files of the stations of a run.
+ghost use Rattle.std.specs.Prelude.{◌≡◌, ◌≤◌, ◌<◌, None, OnOk, OnErr, IfErr, IfOk, length, false};
+ghost use Rattle.settings.specs.Naming.{first_twice, texts};
+ghost use Rattle.served_disk.specs.declared.fault.Fault.TheVariants.{TooMany};
+ghost use Rattle.served_disk.specs.Files.{IsNotRead, IsOfFiles, IsOfNames};
+
+use crate::{Fault, Progress, WatchedReader};
+use recovery::Store;
+use registration::Station;
+use sector_disk::Disk;
+use settings::{NameFault, name_files};
+use std::alloc::Global;
+use std::fs::{File, Files};
+use std::io::ErrorKind;
+use std::rt::Clock;
+
+/// Judges the names of the files: each is there once.
+///
+/// # Errors
+/// `Twice` with the first name that was there before; `Memory` only where there is none.
+pub fn check_names<'a>(alloc: Global, names: &[&'a str]) -> Result<(), Fault<'a>>
+    ensures distinct { OnOk result (first_twice (texts names.now) ≡ None) }
+    ensures refused { IfErr result (IsOfNames names.now) }
+{
+    match name_files(alloc, names) {
+        Ok(places) => {
+            drop(places);
+            Ok(())
+        }
+        Err(NameFault::Twice(place)) => Err(Fault::Twice(names[place - 1])),
+        Err(NameFault::NoMemory) => Err(Fault::Memory),
+    }
+}
+
+/// Judges the number of files: the register has a station for each.
+///
+/// # Errors
+/// `TooMany`, exactly if it has fewer.
+pub fn check_stations<'a, D: Disk>(store: &Store<Global, D>, files: usize) -> Result<(), Fault<'a>>
+    requires sound { store.now.broken ≡ false }
+    ensures enough { OnOk result (files ≤ store.now.register.registered.limits.stations) }
+    ensures most { OnOk result (files ≤ 64) }
+    ensures lacking { OnErr result (store.now.register.registered.limits.stations < files) }
+    ensures fault { IfErr result (λ fault. fault ≡ TooMany) }
+{
+    let stations = store.register().unwrap().limits().stations;
+    if files <= stations as usize {
+        Ok(())
+    } else {
+        Err(Fault::TooMany)
+    }
+}
+
+/// Why the file of this name was not opened or read.
+pub fn not_read<'a>(kind: ErrorKind, name: &'a str) -> Fault<'a>
+    ensures { IsNotRead name.now result }
+{
+    match kind {
+        ErrorKind::OutOfMemory => Fault::Memory,
+        _ => Fault::File(name),
+    }
+}
+
+/// Opens the files of stations 1, 2 and so on; their lines count there.
+///
+/// # Errors
+/// `File` with the first name whose file can't be opened, and `Memory`.
+pub fn open_files<'a, 'p, 'r, R: Files<File = File>, C: Clock + Eprint>(
+    rt: &R,
+    alloc: Global,
+    names: &[&'a str],
+    progress: &'p Progress<'r, C>,
+) -> Result<Vec<WatchedReader<'p, 'r, File, C>>, Fault<'a>>
+    requires few { length names.now ≤ 64 }
+    ensures all { IfOk result (λ readers. length readers.items ≡ length names.now) }
+    ensures refused { IfErr result (IsOfFiles names.now) }
+{
+    let Ok(mut readers) = Vec::with_capacity(alloc, names.len()) else {
+        return Err(Fault::Memory);
+    };
+    for index in 0..names.len() {
+        let file = match File::open(rt, names[index]) {
+            Ok(file) => file,
+            Err(error) => return Err(not_read(error.kind(), names[index])),
+        };
+        let station = Station::new(index as u16 + 1);
+        readers.push_reserved(WatchedReader::new(file, station, progress));
+    }
+    Ok(readers)
+}

@@ -1,0 +1,62 @@
+//! The runs of stations beside one another, on one disk.
+ghost use Rattle.std.specs.Prelude.{◌≡◌, IfErr, IfOk, false, length};
+ghost use Rattle.recovery.specs.Lives.{view_of as store_view};
+ghost use Rattle.served_disk.specs.declared.fault.Fault.TheVariants.{Memory};
+ghost use Rattle.served_disk.specs.Stations.{AreServed};
+
+use crate::Fault;
+use crate::serving::Served;
+use recovery::Store;
+use sector_disk::Disk;
+use snapshots::Centre;
+use stations::{ManyTerms, Watch, run_many};
+use std::alloc::Global;
+use std::io::Read;
+use std::sync::Wait;
+use std::thread::Threads;
+
+/// Closes the disk of a store; whether it failed.
+fn close_disk<D: Disk + Drop>(store: Store<Global, D>) -> bool
+    ensures { result ≡ store.broken }
+{
+    let is_broken = store.register().is_none();
+    drop(store);
+    is_broken
+}
+
+/// Answers all lines of stations 1, 2 and so on over the store, or the first of a station's lines if its run ends early; the
+/// answers wait in memory. The disk is closed when all have ended.
+///
+/// # Errors
+/// `Memory`, before any line is read.
+pub fn serve_stations<
+    'a,
+    J: Centre + Send + Sync,
+    D: Disk + Drop,
+    R: Threads + Wait + Sync,
+    I: Read + Send + Drop,
+    V: Watch + Sync,
+>(
+    rt: &R,
+    terms: ManyTerms,
+    store: Store<Global, D>,
+    readers: Vec<I>,
+    watch: &V,
+) -> Result<Served, Fault<'a>>
+    requires sound { store.broken ≡ false }
+    requires centre { (terms.log.seen.book ≡ J.book) × (store.register ≡ J.base) }
+    ensures served { IfOk result (AreServed D.view J J.base I.remaining (store_view store) readers.items) }
+    ensures all { IfOk result (λ served. length served.runs.items ≡ length readers.items) }
+    ensures fault { IfErr result (λ fault. fault ≡ Memory) }
+{
+    match run_many::<J, D, R, I, V>(rt, terms, store, readers, watch) {
+        Ok(many) => Ok(Served {
+            runs: many.runs,
+            is_broken: close_disk(many.store),
+        }),
+        Err((_, store)) => {
+            drop(store);
+            Err(Fault::Memory)
+        }
+    }
+}
