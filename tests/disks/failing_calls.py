@@ -1,26 +1,28 @@
 """Reads, writes and syncs of the disk file that fail while the program serves a station's file, one in each run. Where it opens the
-disk that is a fault; else the command at hand is answered `device`, each later one and each query `broken`. The file is left alone
-from there on. What it has stands for a front of the accepted commands, with all that were answered."""
+disk that is a fault; else the command at hand is answered `device`, each later one `broken`, each query as if nothing more was said.
+The file is left alone from there on. What it has stands for a prefix of the accepted commands, with all that were answered."""
+import reading
 from images import fault_of
 from running import compare
 from station_lines import printed
 
-RUNS = 20
+RUNS, ON_DEVICE = 20, b'fault: device\n'
 
 
-def when_broken(number, told):
-    """How a line is answered behind the fault, by its number and what it is answered else."""
+def when_broken(register, line, told):
+    """How a line is answered after the fault, by the register of that moment and what the line is answered else."""
     first = told[0].split(' ')[0] if told else ''
-    if not told or told[0].startswith('line '):
+    if first in ('', 'line'):
         return told
-    return [f'{first} no broken'] if first.isdigit() else [f'line {number} no broken']
+    return [f'{first} no broken'] if first.isdigit() else reading.answer(register, 1, line)
 
 
 def answers(serving, place):
     """The answers where the line at this place, from 0, meets the fault."""
     sequence = serving.answers[place][0].split(' ')[0]
-    behind = enumerate(serving.answers[place + 1:], place + 2)
-    return [*serving.answers[:place], [f'{sequence} no device'], *(when_broken(number, told) for number, told in behind)]
+    register = serving.registers[[0, *serving.counts][place]]
+    later = zip(serving.lines[place + 1:], serving.answers[place + 1:])
+    return [*serving.answers[:place], [f'{sequence} no device'], *(when_broken(register, line, told) for line, told in later)]
 
 
 def call(record, number):
@@ -34,9 +36,9 @@ def call(record, number):
 def run(recorder, serving, asked, number):
     """What the program does where that call fails while it opens the disk, or serves a line; and the registers that are allowed."""
     if asked is None:
-        return recorder.run(5, b'', b'fault: device\n', number), serving.registers[:1]
+        return recorder.run(5, b'', ON_DEVICE, number), serving.registers[:1]
     kept = [0, *serving.counts][asked]
-    return recorder.run(1, printed(answers(serving, asked)), fails=number), serving.registers[kept:kept + 2]
+    return recorder.run(5, printed(answers(serving, asked)), ON_DEVICE, number), serving.registers[kept:kept + 2]
 
 
 def calls_of(record):

@@ -284,7 +284,7 @@ def run_in_a_full_file_system(place):
         if made:
             name = f'small/{DISK}'
             with_holes(place, image, name)
-            place.gives(['run', name, LINES], 1, text([f'station 1 {LINES}', '1 no device', '2 no broken']))
+            place.gives(['run', name, LINES], 5, text([f'station 1 {LINES}', '1 no device', '2 no broken']), DEVICE)
             place.gives(['show', name, 'count'], 0, b'count 0\n')
 
 
@@ -304,9 +304,9 @@ def with_holes(place, image, name):
 def a_run_past_a_limit(place, form):
     ready(place, form)
     given = [RULE, 'count', ATTACH, 'count', '# a remark', '3 20 expire', 'where 234-14-2001', 'no such']
-    told = ['1 ok 1 -', 'count 1', '2 no device', 'line 4 no broken', '3 no broken', 'line 7 no broken', 'line 8 bad syntax']
+    told = ['1 ok 1 -', 'count 1', '2 no device', 'count 1', '3 no broken', 'where 234-14-2001 unknown', 'line 8 bad syntax']
     place.write(LINES, text(given))
-    place.gives(RUN, 1, HEAD + text(told), **at_most((GATE + 3) * SECTOR + 100))
+    place.gives(RUN, 5, HEAD + text(told), DEVICE, **at_most((GATE + 3) * SECTOR + 100))
     compare('the commands on the disk', register_of(place.image()).count, 1)
     place.gives(COUNT, 0, b'count 1\n')
     again = ['1 kept 1 -', 'count 1', ATTACHED, 'count 2', '3 ok 3 -', 'where 234-14-2001 station 1 la 7 present', 'line 8 bad syntax']

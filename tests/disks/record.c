@@ -1,40 +1,58 @@
 /* Preloaded into a program by recorder.py. It writes down to the file RECORD what is done with the file DISK, once the call has
    succeeded: `w`, offset and length and the bytes of each write, `p`, offset and 0 of each read, `t`, the length that the file is
    given, and 0, and for each sync `s` (fdatasync) or `a` (fsync); `d` is an fsync of the folder FOLDER. The FAILS-th of these calls,
-   from 1, fails and does nothing, which is `f`. It lets a read of the file LINES have one line at most, and writes down, before the
-   read, `r`, how many whole lines were read so far, and 0; where these are BREAKS or more, and BREAKS is not 0, the read fails.
-   Numbers have 8 bytes, in this machine's order. */
+   from 1, fails and does nothing, which is `f`; where ALWAYS is set, so does each later one. LINES names files, with a colon between
+   two. It lets a read of such a file have one line at most, and writes down, before the read, `r`, how many whole lines of the file
+   were read so far, 1, and the file's place in LINES, from 1, as a byte; where these lines are BREAKS or more, and BREAKS is not 0,
+   the read fails. Numbers have 8 bytes, in this machine's order. Threads may do all this at once, each file read by one of them. */
 #define _GNU_SOURCE
 #include <errno.h>
 #include <fcntl.h>
 #include <stdint.h>
 #include <stdlib.h>
+#include <string.h>
 #include <sys/stat.h>
 #include <sys/syscall.h>
+#include <sys/uio.h>
 #include <unistd.h>
+
+enum { MOST_FILES = 64 };
+
+static int is_named(int fd, const char *name)
+{
+    struct stat given, named;
+    return fstat(fd, &given) == 0 && stat(name, &named) == 0 && given.st_ino == named.st_ino && given.st_dev == named.st_dev;
+}
 
 static int is_file(int fd, const char *variable)
 {
     const char *name = getenv(variable);
-    struct stat given, named;
-    return name && fstat(fd, &given) == 0 && stat(name, &named) == 0 && given.st_ino == named.st_ino && given.st_dev == named.st_dev;
+    return name && is_named(fd, name);
 }
 
-static void put(int record, const void *bytes, size_t length)
+/* The place of a file in LINES, from 1; 0 where it is not there. */
+static int place_of(int fd)
 {
-    if (write(record, bytes, length) != (ssize_t)length)
-        abort();
+    const char *at = getenv("LINES");
+    for (int place = 1; at && *at && place <= MOST_FILES; place++) {
+        char name[4096] = "";
+        size_t length = strcspn(at, ":");
+        if (length < sizeof name)
+            memcpy(name, at, length);
+        if (is_named(fd, name))
+            return place;
+        at += length + (at[length] == ':');
+    }
+    return 0;
 }
 
+/* One write, so that the notes of threads do not mix. */
 static void note(char kind, uint64_t first, uint64_t second, const void *bytes, size_t length)
 {
     int before = errno, record = open(getenv("RECORD"), O_WRONLY | O_APPEND | O_CREAT, 0600);
-    if (record < 0)
+    struct iovec parts[] = {{&kind, 1}, {&first, 8}, {&second, 8}, {(void *)bytes, length}};
+    if (record < 0 || writev(record, parts, 4) != (ssize_t)(17 + length))
         abort();
-    put(record, &kind, 1);
-    put(record, &first, 8);
-    put(record, &second, 8);
-    put(record, bytes, length);
     close(record);
     errno = before;
 }
@@ -42,14 +60,15 @@ static void note(char kind, uint64_t first, uint64_t second, const void *bytes, 
 static int fails(int fd)
 {
     static long left;
-    static int is_known;
+    static int is_known, has_failed;
     if (!is_file(fd, "DISK") && !is_file(fd, "FOLDER"))
         return 0;
     if (!is_known)
         left = atol(getenv("FAILS"));
     is_known = 1;
-    if (left == 0 || --left > 0)
+    if (has_failed ? !getenv("ALWAYS") : left == 0 || --left > 0)
         return 0;
+    has_failed = 1;
     note('f', 0, 0, "", 0);
     errno = EIO;
     return 1;
@@ -122,12 +141,13 @@ int fsync(int fd)
     return synced(fd, SYS_fsync, 'a');
 }
 
-static ssize_t read_line(int fd, char *bytes, size_t length)
+static ssize_t read_line(int fd, char place, char *bytes, size_t length)
 {
-    static uint64_t lines;
+    static uint64_t all_lines[MOST_FILES];
+    uint64_t *lines = &all_lines[place - 1];
     size_t have = 0;
-    note('r', lines, 0, "", 0);
-    if (lines >= (uint64_t)atol(getenv("BREAKS")) && atol(getenv("BREAKS")) > 0) {
+    note('r', *lines, 1, &place, 1);
+    if (*lines >= (uint64_t)atol(getenv("BREAKS")) && atol(getenv("BREAKS")) > 0) {
         errno = EIO;
         return -1;
     }
@@ -137,11 +157,12 @@ static ssize_t read_line(int fd, char *bytes, size_t length)
             return have ? (ssize_t)have : got;
         have++;
     }
-    lines += have > 0 && bytes[have - 1] == '\n';
+    *lines += have > 0 && bytes[have - 1] == '\n';
     return have;
 }
 
 ssize_t read(int fd, void *bytes, size_t length)
 {
-    return length && is_file(fd, "LINES") ? read_line(fd, bytes, length) : syscall(SYS_read, fd, bytes, length);
+    int place = length ? place_of(fd) : 0;
+    return place ? read_line(fd, place, bytes, length) : syscall(SYS_read, fd, bytes, length);
 }

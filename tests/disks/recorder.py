@@ -1,5 +1,5 @@
 """What the program does with its disk file, written down by record.c, which is compiled and preloaded; and one of these calls
-failing, or a read of the station's file."""
+failing, or a read of a station's file."""
 import collections
 import contextlib
 import os
@@ -16,15 +16,18 @@ RECORD = 'record'
 HEAD = struct.Struct('=cQQ')
 
 # What the program did: a write of these bytes from an offset on, a read, a sync, a length given, the folder synced, a call that
-# failed, or that it asked for a line, having read so many
+# failed, or that it asked for a line of a file, having read so many; the byte is the file's place, from 1
 Done = collections.namedtuple('Done', 'kind number bytes', defaults=[0, b''])
 
 
 def record_in(data):
+    """A stop may have cut the last one."""
     done, at = [], 0
-    while at < len(data):
+    while at + HEAD.size <= len(data):
         kind, number, length = HEAD.unpack_from(data, at)
         at += HEAD.size
+        if at + length > len(data):
+            break
         done.append(Done(kind.decode(), number, data[at:at + length]))
         at += length
     return done
@@ -36,19 +39,27 @@ class Recorder:
     def __init__(self, place, made):
         self.place, self.made = place, made
 
-    def does(self, words, status, out=b'', err=b'', fails=0, breaks=0, disk=DISK):
-        """What the program does with this disk file, once what it writes is compared. The call of one number fails, from 1; and
-        the read of the station's file behind so many lines."""
+    def environment(self, fails=0, breaks=0, disk=DISK, files=(LINES,), **others):
+        """That in which a program writes an empty record. The call of one number fails, from 1; and the read of a station's file
+        after so many lines."""
         self.place.write(RECORD, b'')
-        names = {'RECORD': RECORD, 'DISK': disk, 'FOLDER': os.path.dirname(disk) or '.', 'LINES': LINES}
+        names = {'RECORD': RECORD, 'DISK': disk, 'FOLDER': os.path.dirname(disk) or '.'}
         paths = {name: self.place.path(file) for name, file in names.items()}
-        how = preloading.environment(self.made, FAILS=fails, BREAKS=breaks, **paths)
-        self.place.gives(words, status, out, err, env=how)
+        lines = ':'.join(str(self.place.path(file)) for file in files)
+        return preloading.environment(self.made, FAILS=fails, BREAKS=breaks, LINES=lines, **paths, **others)
+
+    def record(self):
+        """What the program did."""
         return record_in(self.place.path(RECORD).read_bytes())
+
+    def does(self, words, status, out=b'', err=b'', **how):
+        """What the program does with this disk file, once what it writes is compared."""
+        self.place.gives(words, status, out, err, env=self.environment(**how))
+        return self.record()
 
     def run(self, status, out, err=b'', fails=0):
         """What the program does while it serves the file, once its answers are compared; the call of that number fails, from 1."""
-        return self.does(['run', DISK, LINES], status, out, err, fails)
+        return self.does(['run', DISK, LINES], status, out, err, fails=fails)
 
 
 @contextlib.contextmanager

@@ -167,8 +167,9 @@ BUGS = {
 }
 
 
-def is_found(image, record, serving, dice):
-    return any(fault_of(torn, moment.registers) for moment in moments(image, record, serving) for torn in images(moment, dice))
+def any_fault(all_moments, dice):
+    """Whether a stop at one of these moments may leave what it must not."""
+    return any(fault_of(torn, moment.registers) for moment in all_moments for torn in images(moment, dice))
 
 
 def bug_found(whole, change, dice):
@@ -176,7 +177,7 @@ def bug_found(whole, change, dice):
     image, record, serving = whole
     planted = [done for turn in turns(record) for done in change(turn)]
     compare('the record changed', planted != record, True)
-    compare('found', is_found(image, planted, serving, dice), True)
+    compare('found', any_fault(moments(image, planted, serving), dice), True)
 
 
 # The whole

@@ -10,9 +10,11 @@ import signal
 import subprocess
 import tempfile
 
+import reading
 import refusing
 from disk_files import DISK, SECTORS, file_fault, run_cases, settings, untouched
 from made_disks import FORMS
+from many_files import Files, ordered, ran
 from program import TOP
 from running import SECONDS, Differs, compare
 
@@ -56,13 +58,21 @@ def the_sample(place):
 
 
 def the_readme(place):
-    """The first commands of README.md, in a folder with examples/: each prints what README.md shows."""
+    """The first commands of README.md, in a folder with examples/: each prints what README.md shows, but for the order of the two
+    stations' commands. Some order gives what README.md shows, and some order what is printed."""
     place.path('examples').symlink_to(TOP / 'examples')
     block = (TOP / 'README.md').read_text().split('```')[1]
     commands = re.findall(r'^\$ \./tetra-switch (.*)\n((?:[^$].*\n)+)', block, re.M)
     compare('commands', [words.split(' ')[0] for words, _ in commands], ['format', 'run', 'show'])
-    for words, shown in commands:
-        place.gives(words.split(' '), 0, shown.encode())
+    (first, formatted), (run, shown), (last, asked) = ((words.split(' '), shown.encode()) for words, shown in commands)
+    files = Files([reading.lines_of(place.path(name).read_bytes()) for name in run[2:]], run[2:], run[1])
+    compare('stations', len(files.names), 2)
+    place.gives(first, 0, formatted)
+    ordered(reading.Register(), files, shown)
+    done = ran(place, files)
+    ordered(reading.Register(), files, done.out)
+    compare('status and standard error', (done.status, done.err), (0, b''))
+    place.gives(last, 0, asked)
 
 
 def what_is_shown(place):
@@ -127,7 +137,7 @@ def wrong_words(place):
     place.format()
     place.write('a.txt', LINES)
     for words in (['format'], ['format', 's.toml'], ['format', 's.toml', 'e.img', 'x'], ['run'], ['run', 'd.img'],
-                  ['run', 'd.img', 'a.txt', 'b.txt'], ['show'], ['show', 'd.img'], ['no such'], [''], [b'show', b'd.img', b'\xff']):
+                  ['show'], ['show', 'd.img'], ['no such'], [''], [b'show', b'd.img', b'\xff']):
         with subprocess.Popen([*place.command, *words], stdin=subprocess.DEVNULL, stdout=subprocess.PIPE, stderr=subprocess.PIPE,
                               cwd=place.folder) as program:
             out, _ = program.communicate(timeout=20)
@@ -279,8 +289,10 @@ def no_memory(place):
 
 
 def said_before(out):
-    """The answers of a run up to the first that tells of no memory."""
-    return re.sub(rb'^[^\n]* no memory\n.*', b'', out, flags=re.M | re.S)
+    """The answers of a run up to the first that tells of no memory. A command that was kept, and could not be shown to the sessions
+    without memory, is answered `kept`."""
+    said = re.sub(rb'^[^\n]* no memory\n.*', b'', out, flags=re.M | re.S)
+    return re.sub(rb'^(\d+) kept ', rb'\1 ok ', said, flags=re.M)
 
 
 def memory_that_ends(place, form):

@@ -92,6 +92,17 @@ def over_a_disk(place):
     judged(text, ALL_LINES, ALL_ACCEPTED)
 
 
+def over_two_stations(place):
+    """The figures are those of both."""
+    piped(place)
+    place.write('b.txt', b'1 0 expire\n# a remark\n1 0 expire\n')
+    terminal = Terminal()
+    out, _, status = serving(place, ['run', 'd.img', 'a.txt', 'b.txt'], [FIRST, REST], stderr=terminal.slave)
+    text = terminal.ends()
+    compare('lines and status', (len(out.splitlines()), status), (9, 1))
+    judged(text, ALL_LINES + 3, ALL_ACCEPTED + 1)
+
+
 def over_standard_input(place):
     terminal = Terminal()
     ended = serving(place, [], [FIRST, REST], stdin=subprocess.PIPE, stderr=terminal.slave)
@@ -170,7 +181,7 @@ def a_fault_behind_it(place):
 
 
 CASES = [
-    over_a_disk, over_standard_input, no_terminal, less_than_a_second, a_dialogue, a_terminal_that_goes, a_fault_behind_it,
+    over_a_disk, over_two_stations, over_standard_input, no_terminal, less_than_a_second, a_dialogue, a_terminal_that_goes, a_fault_behind_it,
 ]
 
 

@@ -1,0 +1,78 @@
+"""Runs of many stations on a disk file: their files, and all that is printed and kept, judged by the independent reading."""
+import collections
+import subprocess
+
+import reading
+from disk_files import DISK, register_of, settings
+from images import are_same
+from reading_orders import NoOrder, is_troubled, judged
+from running import Differs, compare
+from station_lines import data_of, lines
+
+SECONDS = 120
+SHORTEST, LONG = 39, 16_384
+# The status and standard error of a run in which the disk failed
+WHEN_BROKEN = 5, b'fault: device\n'
+
+# What a run did: its status, output and standard error
+Ran = collections.namedtuple('Ran', 'status out err')
+
+
+class Files:
+    """The lines of many stations, and the names of their files and of their disk."""
+
+    def __init__(self, lines, names=None, disk=DISK):
+        self.lines = lines
+        self.names = names or [f's{station}.txt' for station in range(1, len(lines) + 1)]
+        self.words = ['run', disk, *self.names]
+
+    def write(self, place):
+        for name, lines in zip(self.names, self.lines):
+            place.write(name, data_of(lines))
+
+
+def by_chance(dice, stations, count):
+    """So many lines for each of so many stations."""
+    return Files([lines(dice, count) for _ in range(stations)])
+
+
+def empty(stations):
+    return reading.Register({'stations': stations})
+
+
+def formats(place, stations, journal, name=DISK):
+    """A new disk for so many stations."""
+    place.path(name).unlink(missing_ok=True)
+    place.write('s.toml', settings(stations=stations, journal=journal).encode())
+    sectors = 3 + 2 * (1 + sum(empty(stations).limits.values())) + 2 * journal
+    place.gives(['format', 's.toml', name], 0, f'formatted {sectors} sectors\n'.encode())
+
+
+def ran(place, files, **how):
+    """What the program does with these files."""
+    program = subprocess.run([*place.command, *files.words], stdin=subprocess.DEVNULL, capture_output=True, cwd=place.folder, timeout=SECONDS, **how)
+    return Ran(program.returncode, program.stdout, program.stderr)
+
+
+def ordered(base, files, out):
+    """The order of the commands of a run over this register."""
+    try:
+        return judged(base, files.lines, out, files.names)
+    except NoOrder as fault:
+        raise Differs(f'no order of the commands: {fault}')
+
+
+def stands_for(place, register):
+    """The disk stands for this register."""
+    compare('the commands on the disk', register_of(place.image()).count, register.count)
+    compare('the register on the disk is the one of the order', are_same(register_of(place.image()), register), True)
+
+
+def runs(place, files, base, **how):
+    """The order of a run without a fault over a disk that stands for this register, once all that it did is judged."""
+    done = ran(place, files, **how)
+    compare('standard error', done.err, b'')
+    order = ordered(base, files, done.out)
+    compare('status', done.status, int(is_troubled(done.out)))
+    stands_for(place, order.registers[-1])
+    return order

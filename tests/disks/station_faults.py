@@ -1,0 +1,204 @@
+#!/usr/bin/env python3
+"""One write or sync of the disk file fails while the program serves the files of 4 stations, in each run another one (record.c,
+compiled and preloaded): that one alone, or each later one too. The disk began in either layout. Where the call opens the disk that is
+a fault. Else the commands of that round are answered `device`, and all later ones `broken`; queries go on to be answered by what was
+acknowledged. The file is left alone from there on. It has every command that was acknowledged, and of those that were answered
+`device` what a whole record has. All is judged by the independent reading beside this file, which has to refuse runs that are changed
+here. Prints the seed, what was found, and last 'N passed, M failed'.
+Usage: tests/run station_faults PROGRAM [--runs N] [--lines N] [--seed N]"""
+import itertools
+import random
+
+from disk_files import DISK, MEMORY, place
+from images import fault_of
+from many_files import WHEN_BROKEN, Files, by_chance, empty, ran, runs
+from reading_disks import NUMBERED, PLAIN, copied
+from reading_orders import Answered, NoOrder, Order, answered, follows, is_command, order_of, parts
+from recorder import Done, recorder
+from running import Differs, compare
+from testing import Count, options
+
+STATIONS, READY = 4, 'ready.img'
+DEVICE, BROKEN = 'device', 'broken'
+
+
+# The answers
+
+def outage(pair):
+    """`device` or `broken`, where a command is answered so."""
+    words = pair.told[0].split(' ') if pair.told else []
+    return words[2] if len(words) == 3 and words[1] == 'no' and words[2] in (DEVICE, BROKEN) and is_command(pair.line) else None
+
+
+def acknowledged(stations):
+    """The order of what was acknowledged. Each other answer of a station is that of a prefix of it."""
+    kept = [[Answered(pair.line, None if outage(pair) else pair.told) for pair in pairs] for pairs in stations]
+    order = order_of(empty(STATIONS), [[pair for pair in pairs if pair.told is not None] for pairs in kept])
+    for station, pairs in enumerate(kept, 1):
+        follows(order, station, [pair if pair.told is not None else Answered(b'', []) for pair in pairs])
+    return order
+
+
+def asked_before(record):
+    """How many lines each station had answered when the call failed, and with that how many were asked for."""
+    asked = [-1] * STATIONS
+    for done in itertools.takewhile(lambda done: done.kind != 'f', record):
+        if done.kind == 'r':
+            asked[done.bytes[0] - 1] = done.number
+    return asked
+
+
+def outages(stations, record):
+    """Those answered before the fault have none; those asked for after it are `broken`; the one between may be either."""
+    for station, (pairs, asked) in enumerate(zip(stations, asked_before(record)), 1):
+        told = [(at, outage(pair)) for at, pair in enumerate(pairs) if is_command(pair.line) and not pair.told[0].startswith('line ')]
+        compare(f'of station {station} what was answered before the fault', [it for at, it in told if at < asked and it], [])
+        compare(f'of station {station} what was asked for after the fault', [it for at, it in told if at > asked and it != BROKEN], [])
+
+
+# What the disk has
+
+def on_device(stations):
+    """The commands that were answered `device`, each with its station."""
+    return [(station, pair.line) for station, pairs in enumerate(stations, 1) for pair in pairs if outage(pair) == DEVICE]
+
+
+def may_have(order, tried):
+    """The registers of all orders of some of these commands after what was acknowledged."""
+    for count in range(len(tried) + 1):
+        for some in itertools.permutations(tried, count):
+            try:
+                yield Order(copied(order.registers[-1]), some).registers[-1]
+            except NoOrder:
+                continue
+
+
+def left_alone(record):
+    """No call of the file after the fault that changes it."""
+    at = [done.kind for done in record].index('f')
+    compare('calls after the fault', [done.kind for done in record[at + 1:] if done.kind not in 'rf'], [])
+
+
+def failed(place, files, made, number, fails):
+    """What a run did in which that call fails, the record of its calls, and the disk that it left."""
+    place.copy(READY, DISK)
+    done = ran(place, files, env=made.environment(fails=number, files=files.names, **fails))
+    return done, made.record(), place.image()
+
+
+def while_opening(done, image):
+    compare('a fault while the disk is opened', done, (5, b'', b'fault: device\n'))
+    compare('the disk stands for', fault_of(image, [empty(STATIONS)]), None)
+    return 0
+
+
+def while_serving(files, done, record, image):
+    compare('status and standard error', (done.status, done.err), WHEN_BROKEN)
+    stations = [answered(lines, said) for lines, said in zip(files.lines, parts(done.out, files.names))]
+    order = acknowledged(stations)
+    outages(stations, record)
+    if not on_device(stations):
+        raise Differs('no command was answered `device`')
+    left_alone(record)
+    compare('the disk stands for', fault_of(image, list(may_have(order, on_device(stations)))), None)
+    return len(order.commands)
+
+
+def judged(files, done, record, image):
+    """The number of commands that were acknowledged; None where nothing failed."""
+    kinds = {one.kind for one in record}
+    try:
+        return None if 'f' not in kinds else while_serving(files, done, record, image) if 'r' in kinds else while_opening(done, image)
+    except NoOrder as fault:
+        raise Differs(f'no order of the commands: {fault}')
+
+
+def a_fault(place, files, *how):
+    return judged(files, *failed(place, files, *how))
+
+
+def beside_an_unread_file(place, made, number):
+    """The fault of the device is the one that is reported."""
+    files = Files([[b'1 0 expire', b'2 0 expire'], []], ['s1.txt', '.'])
+    place.write(files.names[0], b'1 0 expire\n2 0 expire\n')
+    done, _, _ = failed(place, files, made, number, {})
+    compare('what it did', done, (5, b'station 1 s1.txt\n1 no device\n2 no broken\nstation 2 .\n', b'fault: device\n'))
+
+
+# What the judge refuses
+
+def changed(out, word, other, last=False):
+    """The first answer, or the last, that ends in this word has another."""
+    lines = out.split(b'\n')
+    at = [k for k, line in enumerate(lines) if line.endswith(word)][-1 if last else 0]
+    lines[at] = lines[at][:-len(word)] + other
+    return b'\n'.join(lines)
+
+
+def changes(done, record, image, ready):
+    """What a run did, changed so that it is wrong."""
+    out = lambda *how: (done._replace(out=changed(done.out, *how)), record, image)
+    yield 'device as a refusal', out(b' no device', b' no no-such-message')
+    yield 'device after broken', out(b' no broken', b' no device', True)
+    yield 'a refusal after broken', out(b' no broken', b' no no-such-message', True)
+    yield 'what was acknowledged is not on the disk', (done, record, ready)
+    yield 'a write after the fault', (done, [*record, Done('w', 0, b'')], image)
+    yield 'another status', (done._replace(status=0), record, image)
+
+
+def refused(files, what):
+    try:
+        judged(files, *what)
+    except Differs:
+        return
+    raise Differs('the judge takes it')
+
+
+def changes_refused(place, files, made, number, count):
+    what = count.case('a fault', failed, place, files, made, number, {})
+    for name, other in changes(*what, place.image(READY)) if what else ():
+        count.case(f'the judge refuses {name}', refused, files, other)
+
+
+# The whole
+
+def the_calls(place, files, made):
+    """How many calls a run has while the disk is opened, and in all; each of these is a read, a write or a sync."""
+    place.copy(READY, DISK)
+    runs(place, files, empty(STATIONS), env=made.environment(files=files.names))
+    record = made.record()
+    opening = [done.kind for done in record].index('r')
+    return len(record[:opening]), sum(done.kind != 'r' for done in record)
+
+
+def numbers_of(place, files, made, dice, count, runs_of):
+    """The sync that opens the disk, the first calls of the first round, and others by chance."""
+    calls = count.case('a run without a fault', the_calls, place, files, made)
+    if not calls:
+        return []
+    opening, every = calls
+    first = range(opening + 1, opening + 6)
+    return [1, *first, *sorted(dice.sample(range(opening + 6, every * 3 // 4), runs_of))]
+
+
+def main():
+    words = options(__doc__, runs=20, lines=50)
+    print(f'seed {words.seed}', flush=True)
+    dice, count = random.Random(words.seed), Count()
+    files = by_chance(dice, STATIONS, words.lines)
+    with place(words.program, MEMORY) as folder, recorder(folder) as made:
+        files.write(folder)
+        for form, name, fails in ((PLAIN, 'once', {}), (NUMBERED, 'and each later one', {'ALWAYS': 1})):
+            folder.begins(form, READY)
+            numbers = numbers_of(folder, files, made, dice, count, words.runs)
+            told = [count.case(f'call {number} fails {name}', a_fault, folder, files, made, number, fails) for number in numbers]
+            count.case('faults within the runs', compare, 'faults', sum(bool(kept) for kept in told) * 2 >= words.runs, True)
+            count.case('beside an unread file', beside_an_unread_file, folder, made, numbers[1])
+            files.write(folder)
+            changes_refused(folder, files, made, numbers[len(numbers) // 2], count)
+            print(f'{name}: {len(told)} runs; commands acknowledged before the fault: {" ".join(map(str, told))}', flush=True)
+    count.end()
+
+
+if __name__ == '__main__':
+    main()

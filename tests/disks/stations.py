@@ -1,0 +1,289 @@
+#!/usr/bin/env python3
+"""Runs the files of many stations on one disk: the worked cases, each once and again; 8 stations of 500 lines and 64 stations, on
+disks where checkpoints go on beside and where none does; files that are named twice, too many, missing, or can't be read to their
+end. The independent reading beside this file judges what such a run prints and leaves on the disk, and has to refuse outputs and
+disks that are changed here. Prints the seed, the first cases that fail, and last 'N passed, M failed'.
+Usage: tests/run stations PROGRAM [--lines N] [--seed N] (the program itself, not a script that starts it)"""
+import contextlib
+import os
+import random
+import subprocess
+import time
+
+import reading
+import rows
+from changed_outputs import CHANGES, kept_of
+from disk_files import DISK, MEMORY, file_fault, place, register_of, shows_all, text, untouched
+from made_disks import FORMS
+from many_files import LONG, SHORTEST, Files, by_chance, empty, formats, ordered, ran, runs, stands_for
+from reading_disks import NUMBERED, opens
+from reading_orders import NoOrder, answered, is_troubled, judged, parts
+from recorder import recorder
+from running import SECONDS, Differs, compare
+from station_lines import data_of
+from testing import Count, options
+
+P, ATTACH = '1 0 rule 234-14-0/24 1 99 1 3600', '2 10 mm 234-14-2001 7 10:260'
+FIRST, SECOND = text([P, ATTACH]), text(['1 20 mm 234-14-2001 8 10:200', 'where 234-14-2001', 'count'])
+SHOWN = 'where 234-14-2001 station 2 la 8 present'
+ONCE = text(['station 1 a.txt', '1 ok 1 -', '2 ok 2 8:56', 'station 2 b.txt', '1 ok 3 8:50', SHOWN, 'count 3'])
+AGAIN = text(['station 1 a.txt', '1 no old-sequence 2', '2 kept 2 8:56', 'station 2 b.txt', '1 kept 3 8:50', SHOWN, 'count 3'])
+WATCHER = [b'count', b'# a remark', b'where 234-14-2001', b'mail 234-14-2002', b'groups 234-14-2001', b'members 234-14-1000', b'count']
+
+
+# Worked cases
+
+@contextlib.contextmanager
+def held_open(path):
+    """A pipe under this name, which a program can open at once and read once something is written."""
+    os.mkfifo(path)
+    pipe = os.open(path, os.O_RDWR)
+    try:
+        yield pipe
+    finally:
+        with contextlib.suppress(OSError):
+            os.close(pipe)
+
+
+def waits_for(place, count):
+    """Until so many commands are on the disk."""
+    until = time.monotonic() + SECONDS
+    while register_of(place.image()).count < count:
+        if time.monotonic() > until:
+            raise Differs(f'{count} commands are not on the disk')
+        time.sleep(0.01)
+
+
+def a_session(place):
+    """The first station's commands reach the disk while the second one's file has nothing to read yet."""
+    place.format()
+    place.write('a.txt', FIRST)
+    words = [*place.command, 'run', DISK, 'a.txt', 'b.txt']
+    how = {'cwd': place.folder, 'stdin': subprocess.DEVNULL, 'stdout': subprocess.PIPE, 'stderr': subprocess.PIPE}
+    with held_open(place.path('b.txt')) as pipe, subprocess.Popen(words, **how) as program:
+        try:
+            waits_for(place, 2)
+            os.write(pipe, SECOND)
+            waits_for(place, 3)
+            os.close(pipe)
+            compare('output', program.communicate(timeout=SECONDS), (ONCE, b''))
+            compare('status', program.returncode, 0)
+        finally:
+            program.kill()
+    place.path('b.txt').unlink()
+    place.write('b.txt', SECOND)
+    place.gives(['run', DISK, 'a.txt', 'b.txt'], 0, AGAIN)
+    place.gives(['show', DISK, 'where', '234-14-2001'], 0, text([SHOWN]))
+
+
+def a_worked_case(place, given, wanted):
+    """Its lines as station 1 are answered as the case says, beside a station that only asks; and again by the reading."""
+    formats(place, 4, SHORTEST)
+    files = Files([reading.lines_of(text(given)), WATCHER])
+    files.write(place)
+    place.write(files.names[0], text(given))
+    done = ran(place, files)
+    compare('the first station', parts(done.out, files.names)[0], wanted)
+    order = ordered(empty(4), files, done.out)
+    compare('status and standard error', (done.status, done.err), (int(is_troubled(done.out)), b''))
+    stands_for(place, order.registers[-1])
+    runs(place, files, order.registers[-1])
+
+
+# Many lines, many stations
+
+def checkpoints(place, least):
+    if opens(place.image()).epoch <= least:
+        raise Differs(f'{opens(place.image()).epoch - 1} checkpoints')
+
+
+def once_and_again(place, files):
+    """What was printed at first, and its order."""
+    files.write(place)
+    done = ran(place, files)
+    compare('standard error', done.err, b'')
+    order = ordered(empty(len(files.lines)), files, done.out)
+    compare('status', done.status, int(is_troubled(done.out)))
+    stands_for(place, order.registers[-1])
+    runs(place, files, order.registers[-1])
+    return done.out, order
+
+
+def beside_no_checkpoint(place, files):
+    formats(place, len(files.lines), LONG)
+    once_and_again(place, files)
+    compare('the epoch', opens(place.image()).epoch, 1)
+
+
+def beside_checkpoints(place, files):
+    formats(place, len(files.lines), SHORTEST)
+    out, order = once_and_again(place, files)
+    checkpoints(place, 2)
+    return out, order
+
+
+def from_layout_1(place, dice):
+    files = by_chance(dice, 4, 100)
+    for form in FORMS:
+        place.begins(form)
+        once_and_again(place, files)
+        compare('the layout of the current side', opens(place.image()).form, NUMBERED)
+
+
+def all_shown(place, dice):
+    """After a run of four stations `show` prints what the reading does."""
+    formats(place, 4, SHORTEST)
+    files = by_chance(dice, 4, 60)
+    files.write(place)
+    shows_all(place, runs(place, files, empty(4)).registers[-1])
+
+
+# What the judge refuses
+
+def is_given(files, out, kept):
+    """Whether some order gives this output and what the disk keeps."""
+    try:
+        return kept == kept_of(judged(empty(len(files.lines)), files.lines, out, files.names))
+    except NoOrder:
+        return False
+
+
+def changes_refused(count, dice, files, out, order):
+    for change in CHANGES:
+        count.case(f'the judge refuses {change.__name__}', refused, change, dice, files, out, order)
+
+
+def refused(change, dice, files, out, order):
+    stations = [answered(lines, said) for lines, said in zip(files.lines, parts(out, files.names))]
+    changed, kept = change(dice, stations, order)
+    compare('anything is changed', (changed, kept) != (out, kept_of(order)), True)
+    compare('some order gives it', is_given(files, changed, kept), False)
+
+
+# Faults
+
+def prepared(place):
+    formats(place, 4, SHORTEST)
+    for name in ('a.txt', 'b.txt', 'c.txt', 'e.txt'):
+        place.write(name, text(['1 0 expire']))
+
+
+def refuses(place, names, status, fault):
+    """Before a line is served."""
+    with untouched(place.path()):
+        place.gives(['run', DISK, *names], status, err=fault)
+
+
+def twice(name):
+    return f'fault: {name} is named twice\n'.encode()
+
+
+def named_twice(place):
+    prepared(place)
+    refuses(place, ['a.txt', 'a.txt'], 2, twice('a.txt'))
+    refuses(place, ['a.txt', 'b.txt', 'b.txt', 'a.txt'], 2, twice('b.txt'))
+    refuses(place, ['a.txt', 'b.txt', 'c.txt', 'e.txt', 'f.txt', 'a.txt'], 2, twice('a.txt'))
+    refuses(place, ['', 'no.txt', ''], 2, twice(''))
+    place.gives(['run', 'no.img', 'a.txt', 'a.txt'], 2, err=twice('a.txt'))
+
+
+def one_file_under_two_names(place):
+    prepared(place)
+    runs(place, Files([[b'1 0 expire'], [b'1 0 expire']], ['a.txt', './a.txt']), empty(4))
+
+
+def too_many(place):
+    """More files than stations: that is found once the disk is opened, and before a file is."""
+    prepared(place)
+    fault, names = b'fault: more files than stations\n', ['a.txt', 'b.txt', 'c.txt', 'e.txt', 'no.txt']
+    refuses(place, names, 2, fault)
+    place.gives(['run', 'no.img', *names], 4, err=file_fault('no.img'))
+    place.write('zeros.img', bytes(len(place.path().read_bytes())))
+    place.gives(['run', 'zeros.img', *names], 5, err=b'fault: unformatted\n')
+
+
+def not_opened(place):
+    """All files are opened before any is served; the first that can't be is reported."""
+    prepared(place)
+    for names in (['no.txt', 'a.txt'], ['a.txt', 'no.txt'], ['a.txt', 'no.txt', 'none.txt']):
+        refuses(place, names, 4, file_fault('no.txt'))
+
+
+def cut(lines, files, station, out):
+    """The order of a run in which this station's file could be read for so many lines."""
+    return ordered(empty(len(files.lines)), Files([one[:lines] if k == station else one for k, one in enumerate(files.lines, 1)]), out)
+
+
+def not_read(place):
+    """A folder opens, and can't be read. Its status comes before that of a bad line."""
+    formats(place, 4, SHORTEST)
+    files = Files([[b'1 0 expire', b'no such'], [], [b'1 0 expire', b'count'], []], ['s1.txt', '.', 's3.txt', '..'])
+    for station in (0, 2):
+        place.write(files.names[station], data_of(files.lines[station]))
+    done = ran(place, files)
+    compare('status and standard error', (done.status, done.err), (4, file_fault('.')))
+    stands_for(place, ordered(empty(4), files, done.out).registers[-1])
+
+
+def not_read_to_its_end(place, made, dice):
+    """The station's answers so far are printed, and the others are served to their ends."""
+    formats(place, 4, SHORTEST)
+    files = by_chance(dice, 4, 40)
+    files.write(place)
+    done = ran(place, files, env=made.environment(breaks=15, files=[files.names[1]]))
+    compare('status and standard error', (done.status, done.err), (4, file_fault(files.names[1])))
+    stands_for(place, cut(15, files, 2, done.out).registers[-1])
+
+
+# The whole
+
+def in_a_place(count, words, folder, name, call, *arguments):
+    with place(words.program, folder) as there:
+        return count.case(name, call, there, *arguments)
+
+
+def worked(count, words):
+    in_a_place(count, words, None, 'a session of two stations', a_session)
+    for file in sorted(rows.FOLDER.glob('*.txt')):
+        for name, given, wanted in rows.cases(file.read_text()):
+            in_a_place(count, words, MEMORY, f'{file.name}, {name}', a_worked_case, given, wanted)
+
+
+def many(count, words, dice):
+    eight, most = by_chance(dice, 8, words.lines), by_chance(dice, 64, 20)
+    for name, folder in (('on a device', None), ('in memory', MEMORY)):
+        in_a_place(count, words, folder, f'8 stations {name}', beside_no_checkpoint, eight)
+        in_a_place(count, words, folder, f'8 stations {name}, checkpoints beside', beside_checkpoints, eight)
+    in_a_place(count, words, None, '64 stations', beside_no_checkpoint, most)
+    in_a_place(count, words, MEMORY, '64 stations, checkpoints beside', beside_checkpoints, most)
+    in_a_place(count, words, MEMORY, 'disks of both layouts', from_layout_1, dice)
+    in_a_place(count, words, MEMORY, 'what is shown', all_shown, dice)
+
+
+def changed(count, words, dice):
+    files = by_chance(dice, 8, 60)
+    done = in_a_place(count, words, MEMORY, '8 stations whose output is changed', beside_checkpoints, files)
+    if done:
+        changes_refused(count, dice, files, *done)
+
+
+def faulty(count, words, dice):
+    for case in named_twice, one_file_under_two_names, too_many, not_opened, not_read:
+        in_a_place(count, words, MEMORY, case.__name__, case)
+    with place(words.program, MEMORY) as there, recorder(there) as made:
+        count.case('not_read_to_its_end', not_read_to_its_end, there, made, dice)
+
+
+def main():
+    words = options(__doc__, lines=500)
+    print(f'seed {words.seed}', flush=True)
+    dice, count = random.Random(words.seed), Count()
+    worked(count, words)
+    changed(count, words, dice)
+    faulty(count, words, dice)
+    many(count, words, dice)
+    count.end()
+
+
+if __name__ == '__main__':
+    main()
