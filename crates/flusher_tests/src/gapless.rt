@@ -11,11 +11,14 @@ use std::marker::Brand;
 use std::sync::Wait;
 use std::sync::atomic::{AtomicU64, Ordering};
 use std::test::*;
+use std::thread;
 use std::thread::Threads;
 
 const SESSIONS: usize = 64;
 // How many commands each submits.
 const EACH: u32 = 200;
+// How often the flusher lets other threads run before a round.
+const PAUSES: u32 = 64;
 // How many all submit.
 const ALL: usize = 12_800;
 
@@ -77,7 +80,12 @@ impl Gate for Numbers {
 }
 
 impl<J: Centre> Task<J> for Numbers {
-    fn before_round(&self) {}
+    // Lets the sessions run, so that each round finds the commands of several.
+    fn before_round(&self) {
+        for _ in 0..PAUSES {
+            thread::yield_now();
+        }
+    }
 
     fn act<R: Wait>(&self, rt: &R, session: &mut Session<J>) {
         if self.submit_all(rt, session) {
