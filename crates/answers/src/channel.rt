@@ -12,9 +12,9 @@ use std::alloc::{AllocError, Global};
 use std::sync::Wait;
 use std::thread;
 
-// How often a session asks for its answer, and lets other threads run, before it sleeps. Where many sessions share the
-// processors, a sleep and a wake-up cost more than the turns of those that wait.
-const TRIES: u32 = 32;
+// How often a session asks for its answer, and lets other threads run, before it sleeps. That takes longer than a quick
+// disk's commit: a sleep and a wake-up cost more than the turns of the sessions that wait.
+const TRIES: u32 = 512;
 
 /// The end that sends answers to one session.
 #[derive(Drop)]

@@ -184,7 +184,7 @@ undone_self store sound = record { register = refl; sound = sound }
 none_recorded : {D : Type 0} (cmds : List G) (store : StoreView Global D) → AreKept cmds store store true
 none_recorded cmds store = record { recorded = []; these = record { applied = 0; state = refl; these = refl }; kept = none_kept store }
 
--- the commit from the middle one, behind a checkpoint or where the store was
+-- the commit from the middle one, after a checkpoint or where the store was
 module _ {D : Type 0} (cmds : List G) (old mid new : StoreView Global D) (made_room : Bool) (lacks : made_room ≡ true → LacksRoom old.journal cmds) (layout : mid.layout ≡ old.layout) (room : HasRoom old mid (not made_room)) (u : IsUndone old mid) where
   recorded_after : AreKept cmds mid new true → HasRecorded cmds old new
   recorded_after k = record {

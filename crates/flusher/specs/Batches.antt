@@ -92,7 +92,7 @@ module _ {D : Type 0} (commands : List (Asked Global)) (old new : StoreView Glob
     pub answered : IsAnswered old.register commands new.register outcomes
     pub sound : new.broken ≡ false
 
-  -- the commands that were accepted are kept as one record: where the store was, or behind a checkpoint that made room for it
+  -- the commands that were accepted are kept as one record: where the store was, or after a checkpoint that made room for it
   pub record AreKept (fits : Bool) : Type 0 where
     pub recorded : List (Asked Global)
     pub these : AreRecorded Global old.register commands new.register recorded

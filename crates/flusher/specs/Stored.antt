@@ -29,15 +29,15 @@ pub record AreUnderWay {D : Type 0} (base : State) (f : FlusherView D) (more : L
   -- they were taken after all that is durable
   pub order : AreInOrder (f.durable ++ more) f.taker.taken
 
--- Each image that a stop may leave stands for what is durable. If the disk has failed, each stands for that, or for that and further
--- commands that were under way.
+-- Each image that a stop may leave opens to what is durable. If the disk has failed, each opens to that, or to that and further commands
+-- that were under way.
 pub record IsStoredFor {D : Type 0} (view : D → View) (base : State) (f : FlusherView D) : Type 0 where
   pub honest : (view f.store.disk).honest
   pub sound : f.store.broken ≡ false → IsStoredIn Global view f.store
   pub failed : f.store.broken ≡ true → (more : List (Asked Global)) × AreUnderWay base f more
       × InEach (view f.store.disk) (StandsForEither Global (after base f.durable) (after base (f.durable ++ more)))
 
--- The image stands for what was durable at some moment from one view to another. If the disk has failed then, it may also stand for that and
+-- The image opens to what was durable at some moment from one view to another. If the disk has failed then, it may also open to that and
 -- further commands that were under way.
 abbrev pub StandsBetween : {D : Type 0} → State → FlusherView D → FlusherView D → List (List Byte) → Type 0
 StandsBetween base f g image =

@@ -1,5 +1,5 @@
 //! A batch: how it is taken, and how it is committed.
-ghost use Rattle.std.specs.Prelude.{◌≡◌, ◌≤◌, ◌<◌, ◌*◌, ◌++◌, ◌+◌, ◌∷◌, [], false, IfOk, IsErrOf, List, MatchBool, length};
+ghost use Rattle.std.specs.Prelude.{◌≡◌, ◌≤◌, ◌<◌, ◌*◌, ◌++◌, ◌+◌, ◌∷◌, [], true, false, IfOk, IfSome, MatchOption, IsErrOf, List, MatchBool, length};
 ghost use Rattle.recovery.specs.declared.fault.StoreFault.TheVariants.{Unready};
 ghost use Rattle.std.specs.VecDeque.{deque_capacity};
 ghost use Rattle.std.specs.List.{flat_map};
@@ -21,9 +21,13 @@ use station_queue::{Entry, Request, SharedCommand, Taker};
 use std::alloc::Global;
 use std::collections::VecDeque;
 use std::sync::Wait;
+use std::thread;
 
 /// The most entries of a round.
 pub(crate) const MOST: usize = 64;
+
+// How often the flusher lets other threads run while no further command comes, before it commits those of a round.
+const TURNS: u32 = 4;
 
 /// The commands of a round, each with its copy: there is room for 64.
 #[derive(Drop)]
@@ -54,6 +58,32 @@ fn put(entry: Entry, room: &mut Room, ended: &mut Vec<bool>)
     }
 }
 
+// How often the flusher lets other threads run for the next command of a round, which has so many. A station has one at a
+// time, so none comes after one of each.
+fn turns_before(commands: usize, stations: usize) -> u32 {
+    if commands == 0 || commands >= stations {
+        0
+    } else {
+        TURNS
+    }
+}
+
+// Takes the oldest entry, and where the queue is empty lets other threads run so often. `None` only where it was empty then, too.
+fn take_within<R: Wait>(rt: &R, taker: &mut Taker, turns: u32) -> Option<Entry>
+    ensures same { (taker.new.queue ≡ taker.old.queue) × (taker.new.made ≡ taker.old.made) × (taker.new.settled ≡ taker.old.settled) }
+    ensures taken { MatchOption result ((taker.new.taken ≡ taker.old.taken) × (taker.new.empty ≡ true))
+        (λ x. (taker.new.taken ≡ taker.old.taken ++ x ∷ []) × (taker.new.empty ≡ false)) }
+    ensures station { IfSome result (λ x. (0 < station_of x) × (station_of x ≤ taker.old.made)) }
+{
+    for _ in 0..turns {
+        if let Some(entry) = taker.take(rt) {
+            return Some(entry);
+        }
+        thread::yield_now();
+    }
+    taker.take(rt)
+}
+
 /// Takes entries until there are 64 or the queue is empty: the commands among them, and the stations that ended.
 pub(crate) fn take_batch<R: Wait>(rt: &R, taker: &mut Taker, room: &mut Room, ended: &mut Vec<bool>)
     requires empty { room.old.batch.items ≡ [] }
@@ -63,7 +93,8 @@ pub(crate) fn take_batch<R: Wait>(rt: &R, taker: &mut Taker, room: &mut Room, en
     ensures stations { AreWithin taker.old.made (commands_in room.new.batch.items) }
 {
     for _ in 0..MOST {
-        let Some(entry) = taker.take(rt) else {
+        let turns = turns_before(room.batch.len(), ended.len());
+        let Some(entry) = take_within(rt, taker, turns) else {
             return;
         };
         put(entry, room, ended);

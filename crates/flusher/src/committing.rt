@@ -88,7 +88,7 @@ impl<D: Disk> Committer<D> {
 }
 
 /// The register of a store that is not broken.
-pub(crate) fn register_of<D: Disk>(store: &Store<Global, D>) -> &Register<Global>
+pub fn register_of<D: Disk>(store: &Store<Global, D>) -> &Register<Global>
     requires { store.now.broken ≡ false }
     ensures { result.now ≡ store.now.register }
 {

@@ -71,8 +71,8 @@ impl<J: Centre, D: Disk> Flusher<J, D> {
         ensures round { IsRound J.base (view_of self.old) (view_of self.new) }
         ensures counted { (self.new.rounds ≡ self.old.rounds + 1) ⊎ ((self.old.rounds ≡ 2 ^ 64 - 1) × (self.new.rounds ≡ self.old.rounds)) }
 
-        // Each image of the disk stands for what is durable. A stop at any moment of the round leaves it standing for the
-        // register before the round or for that after it. Only a failure of the disk breaks the store.
+        // Each image of the disk opens to what is durable. After a stop at any moment of the round it opens to the register
+        // before the round or to the one after it. Only a failure of the disk breaks the store.
         ensures stored { IsStoredFor D.view J.base (view_of self.old) → IsStoredFor D.view J.base (view_of self.new) }
         ensures any_moment { IsStoredFor D.view J.base (view_of self.old) → self.old.committer.store.broken ≡ false
             → LeavesOnly (D.view self.old.committer.store.disk) (D.view self.new.committer.store.disk)

@@ -18,8 +18,9 @@ mod session;
 
 pub use answer::Answer;
 pub use closing::close;
+pub use committing::register_of;
 pub use decision::Decision;
 pub use flusher::{Flusher, Gate};
-pub use opening::{CentreFault, open_centre};
+pub use opening::{CentreFault, has_place, open_centre};
 pub use response::Response;
 pub use session::{Ended, Session};

@@ -54,8 +54,8 @@ struct Buffers {
     ended: Vec<bool>,
 }
 
-// Whether a register has a station for each of so many sessions, and there is one at least.
-fn has_place(register: &Register<Global>, sessions: usize) -> bool
+/// Whether a register has a station for each of so many sessions, and there is one at least.
+pub fn has_place(register: &Register<Global>, sessions: usize) -> bool
     ensures { result ≡ has_place register.now.registered.limits.stations sessions }
 {
     0 < sessions && sessions <= register.limits().stations as usize

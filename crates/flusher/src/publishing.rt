@@ -84,7 +84,7 @@ impl<J: Centre> Publication<J> {
         publish_all(rt, &mut self.publisher, &mut self.unpublished)
     }
 
-    /// Keeps the copies of the commands that were accepted, and lets the others go.
+    /// Keeps the copies of the commands that were accepted, and drops the others.
     pub(crate) fn keep(
         &mut self,
         copies: &mut VecDeque<SharedCommand>,
@@ -118,7 +118,7 @@ impl<J: Centre> Publication<J> {
     }
 }
 
-// Keeps the copies of the commands that were accepted, for which there is room, and lets the others go.
+// Keeps the copies of the commands that were accepted, for which there is room, and drops the others.
 fn keep_accepted(
     unpublished: &mut VecDeque<SharedCommand>,
     copies: &mut VecDeque<SharedCommand>,

@@ -26,8 +26,8 @@ impl<J: Centre, D: Disk> Flusher<J, D> {
         ensures settled { IsSettled J.base (view_of self.new) }
         ensures rounds { AreRounds J.base (view_of self.old) (view_of self.new) }
 
-        // Each image of the disk stands for what is durable. A stop at any moment of the run leaves it standing for what was
-        // durable at some moment of it. Only a failure of the disk breaks the store.
+        // Each image of the disk opens to what is durable. After a stop at any moment of the run it opens to what was durable
+        // at some moment of the run. Only a failure of the disk breaks the store.
         ensures stored { IsStoredFor D.view J.base (view_of self.old) → IsStoredFor D.view J.base (view_of self.new) }
         ensures any_moment { IsStoredFor D.view J.base (view_of self.old) → self.old.committer.store.broken ≡ false
             → LeavesOnly (D.view self.old.committer.store.disk) (D.view self.new.committer.store.disk)

@@ -55,7 +55,7 @@ fn publish_and_answer<J: Centre, R: Wait>(
     answer_all(rt, senders, &shown, batch, outcomes);
 }
 
-/// Answers each command of the batch alike, and lets its copy go.
+/// Answers each command of the batch alike, and drops its copy.
 pub(crate) fn refuse<J: Centre, R: Wait>(
     rt: &R,
     publication: &Publication<J>,
