@@ -1,0 +1,9 @@
+mod Short
+mod Spaces
+mod Again
+mod Only
+mod Groups
+mod Texts
+mod Walks
+mod Taking
+mod WordGroups

@@ -1,0 +1,5 @@
+pub mod Lines
+pub mod Reading
+pub mod Text
+pub mod Faults
+pub mod Inside

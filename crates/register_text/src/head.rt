@@ -1,0 +1,118 @@
+//! The first line of a register's text.
+ghost use Rattle.std.specs.Prelude.{◌≡◌, ◌++◌, IfOk, OnOk, OnErr, map, option_map};
+ghost use Rattle.identity.specs.NumberText.{IsFrontOf};
+ghost use Rattle.console.specs.Reading.{words};
+ghost use Rattle.register_text.specs.Reading.{most_4, number_in};
+ghost use Rattle.register_text.specs.Text.{head_in, head_line, head_of, head_text, is_head, limits_in};
+
+use crate::fields::number_in;
+use crate::parsing::words;
+use crate::words::{Word, put_words};
+use identity::put_whole;
+use registration::Limits;
+use std::alloc::{AllocError, Allocator};
+
+/// The numbers of a first line: the limits of the register that was printed.
+#[derive(Clone, Copy)]
+struct Numbers {
+    rules: u64,
+    radios: u64,
+    mail: u64,
+    stations: u64,
+}
+
+#[tactic(auto, using(std::proofs::Common::append_assoc))]
+fn put_head<A: Allocator>(out: &mut Vec<u8, A>, numbers: &Numbers) -> Result<(), AllocError>
+    ensures ok { OnOk result (out.new.items ≡ out.old.items ++ head_text numbers.now.rules numbers.now.radios numbers.now.mail numbers.now.stations) }
+    ensures err { OnErr result (IsFrontOf out.old.items out.new.items) }
+{
+    out.extend_from_slice(b"tetra-switch register 1")?;
+    let words: [Word; 8] = [
+        Word::Text("rules"),
+        Word::Number(numbers.rules),
+        Word::Text("radios"),
+        Word::Number(numbers.radios),
+        Word::Text("items"),
+        Word::Number(numbers.mail),
+        Word::Text("stations"),
+        Word::Number(numbers.stations),
+    ];
+    put_words(out, &words)
+}
+
+/// Appends the first line of the text of a register with these limits, without its line feed. If it is out of memory, `out`
+/// is as before.
+pub fn print_head<A: Allocator>(out: &mut Vec<u8, A>, limits: &Limits) -> Result<(), AllocError>
+    ensures ok { OnOk result (out.new.items ≡ out.old.items ++ head_line limits.now) }
+    ensures err { OnErr result (out.new.items ≡ out.old.items) }
+{
+    let before = out.len();
+    let numbers = Numbers {
+        rules: u64::from(limits.rules),
+        radios: u64::from(limits.radios),
+        mail: u64::from(limits.mail),
+        stations: u64::from(limits.stations),
+    };
+    let put = put_head(out, &numbers);
+    put_whole(out, before, put)
+}
+
+fn numbers_from(rules: &[u8], radios: &[u8], mail: &[u8], stations: &[u8]) -> Option<Numbers>
+    ensures { option_map (λ n. head_text n.rules n.radios n.mail n.stations) result ≡ head_of (number_in most_4 rules.now) (number_in most_4 radios.now) (number_in most_4 mail.now) (number_in most_4 stations.now) }
+{
+    let most = u64::from(u32::MAX);
+    let (Some(rules), Some(radios), Some(mail), Some(stations)) = (
+        number_in(rules, most),
+        number_in(radios, most),
+        number_in(mail, most),
+        number_in(stations, most),
+    ) else {
+        return None;
+    };
+    Some(Numbers {
+        rules,
+        radios,
+        mail,
+        stations,
+    })
+}
+
+// `rules N radios N items N stations N`
+fn limits_in(words: &[&[u8]]) -> Option<Numbers>
+    ensures { option_map (λ n. head_text n.rules n.radios n.mail n.stations) result ≡ limits_in (map (λ w. w.now) words.now) }
+{
+    match words {
+        [_, rules, _, radios, _, mail, _, stations] => numbers_from(rules, radios, mail, stations),
+        _ => None,
+    }
+}
+
+// The numbers of a first line's words.
+fn numbers_in(words: &[&[u8]]) -> Option<Numbers>
+    ensures { option_map (λ n. head_text n.rules n.radios n.mail n.stations) result ≡ head_in (map (λ w. w.now) words.now) }
+{
+    match words {
+        [_, _, _, numbers @ ..] => limits_in(numbers),
+        _ => None,
+    }
+}
+
+fn numbers_of<A: Allocator>(alloc: A, line: &[u8]) -> Result<Option<Numbers>, AllocError>
+    ensures { IfOk result (λ numbers. option_map (λ n. head_text n.rules n.radios n.mail n.stations) numbers ≡ head_in (words line.now)) }
+{
+    let words = words(alloc, line)?;
+    Ok(numbers_in(&words))
+}
+
+/// Whether a line may be the first: it is the first line of some register's text, byte by byte.
+#[tactic(auto, unfolding(crate::specs::Text::is_head))]
+pub(crate) fn is_head<A: Allocator + Clone>(alloc: &A, line: &[u8]) -> Result<bool, AllocError>
+    ensures { IfOk result (λ is. is ≡ is_head line.now) }
+{
+    let Some(numbers) = numbers_of(alloc.clone()?, line)? else {
+        return Ok(false);
+    };
+    let mut text = Vec::new(alloc.clone()?);
+    put_head(&mut text, &numbers)?;
+    Ok(text.as_slice() == line)
+}
