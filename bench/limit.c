@@ -7,28 +7,9 @@
 #include <stdlib.h>
 #include <string.h>
 #include <sys/stat.h>
-#include <time.h>
 #include <unistd.h>
 
-enum { SECTOR = 512 };
-
-static double now(void)
-{
-    struct timespec time;
-    clock_gettime(CLOCK_MONOTONIC, &time);
-    return time.tv_sec + time.tv_nsec / 1e9;
-}
-
-static int syncs(int file, long sectors, long count)
-{
-    char bytes[SECTOR];
-    for (long done = 0; done < count; done++) {
-        memset(bytes, (int)done, SECTOR);
-        if (pwrite(file, bytes, SECTOR, done % sectors * SECTOR) != SECTOR || fdatasync(file) != 0)
-            return 1;
-    }
-    return 0;
-}
+#include "measuring.h"
 
 static int reads(int file, long length, long size)
 {
@@ -42,13 +23,13 @@ static int reads(int file, long length, long size)
 
 int main(int argc, char **argv)
 {
-    struct stat told;
+    struct stat found;
     int file = argc == 4 ? open(argv[2], O_RDWR) : -1;
-    if (file < 0 || fstat(file, &told) != 0)
+    if (file < 0 || fstat(file, &found) != 0)
         return 2;
-    double start = now();
+    int64_t start = now();
     int is_sync = strcmp(argv[1], "sync") == 0;
-    int status = is_sync ? syncs(file, told.st_size / SECTOR, atol(argv[3])) : reads(file, told.st_size, atol(argv[3]));
-    printf("%.6f\n", now() - start);
+    int status = is_sync ? syncs(file, found.st_size / SECTOR, 0, atol(argv[3])) : reads(file, found.st_size, atol(argv[3]));
+    printf("%.6f\n", (now() - start) / 1e9);
     return status;
 }

@@ -7,12 +7,13 @@
 #include <stdio.h>
 #include <stdlib.h>
 #include <string.h>
-#include <sys/stat.h>
 #include <sys/syscall.h>
-#include <time.h>
 #include <unistd.h>
 
-enum { MOST_FILES = 64, MOST_NUMBERS = 1024, PIECE = 65536 };
+#include "../tests/disks/named_files.h"
+#include "measuring.h"
+
+enum { MOST_NUMBERS = 1024, PIECE = 65536 };
 
 struct lines {
     char bytes[PIECE];
@@ -23,34 +24,6 @@ struct lines {
 static struct lines files[MOST_FILES];
 /* By the number of an open file its place in LINES, from 1; 0 where it is not there, or that is not known yet. */
 static signed char places[MOST_NUMBERS];
-
-static int64_t now(void)
-{
-    struct timespec time;
-    clock_gettime(CLOCK_MONOTONIC, &time);
-    return time.tv_sec * 1000000000LL + time.tv_nsec;
-}
-
-static int is_named(int fd, const char *name)
-{
-    struct stat given, named;
-    return fstat(fd, &given) == 0 && stat(name, &named) == 0 && given.st_ino == named.st_ino && given.st_dev == named.st_dev;
-}
-
-static int place_in_lines(int fd)
-{
-    const char *at = getenv("LINES");
-    for (int place = 1; at && *at && place <= MOST_FILES; place++) {
-        char name[4096] = "";
-        size_t length = strcspn(at, ":");
-        if (length < sizeof name)
-            memcpy(name, at, length);
-        if (is_named(fd, name))
-            return place;
-        at += length + (at[length] == ':');
-    }
-    return 0;
-}
 
 static void answered(struct lines *file, int64_t time)
 {
@@ -87,7 +60,7 @@ ssize_t read(int fd, void *bytes, size_t length)
     if (length == 0 || fd < 0 || fd >= MOST_NUMBERS)
         return syscall(SYS_read, fd, bytes, length);
     if (places[fd] == 0)
-        places[fd] = place_in_lines(fd);
+        places[fd] = place_of(fd, "LINES");
     return places[fd] > 0 ? read_line(fd, &files[places[fd] - 1], bytes, length) : syscall(SYS_read, fd, bytes, length);
 }
 

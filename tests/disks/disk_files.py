@@ -55,6 +55,12 @@ class Place:
         """Runs a subcommand, and compares all that it does."""
         gives([*self.command, *words], status, out, err, **{'stdin': subprocess.DEVNULL, 'cwd': self.folder, **how})
 
+    def prints(self, line, shown):
+        """Runs a command that a document shows: the program's name, its words, and perhaps `<` and the file on standard input."""
+        words, _, name = line.partition(' < ')
+        data = self.path(name).read_bytes() if name else b''
+        self.gives(words.split(' ')[1:], 0, shown.encode(), stdin=subprocess.PIPE, data=data)
+
     def format(self, name=DISK):
         self.write('s.toml', settings().encode())
         self.gives(['format', 's.toml', name], 0, f'formatted {SECTORS} sectors\n'.encode())

@@ -4,46 +4,24 @@
    from 1, fails and does nothing, which is `f`; where ALWAYS is set, so does each later one. LINES names files, with a colon between
    two. It lets a read of such a file have one line at most, and writes down, before the read, `r`, how many whole lines of the file
    were read so far, 1, and the file's place in LINES, from 1, as a byte; where these lines are BREAKS or more, and BREAKS is not 0,
-   the read fails. Numbers have 8 bytes, in this machine's order. Threads may do all this at once, each file read by one of them. */
+   the read fails. ANSWERS names files in the same way: of each write to one of them it writes down, before the write, `o`, the file's
+   place in ANSWERS, from 1, and length and the bytes. Numbers have 8 bytes, in this machine's order. Threads may do all this at once,
+   each file read by one of them. */
 #define _GNU_SOURCE
 #include <errno.h>
 #include <fcntl.h>
 #include <stdint.h>
 #include <stdlib.h>
-#include <string.h>
-#include <sys/stat.h>
 #include <sys/syscall.h>
 #include <sys/uio.h>
 #include <unistd.h>
 
-enum { MOST_FILES = 64 };
-
-static int is_named(int fd, const char *name)
-{
-    struct stat given, named;
-    return fstat(fd, &given) == 0 && stat(name, &named) == 0 && given.st_ino == named.st_ino && given.st_dev == named.st_dev;
-}
+#include "named_files.h"
 
 static int is_file(int fd, const char *variable)
 {
     const char *name = getenv(variable);
     return name && is_named(fd, name);
-}
-
-/* The place of a file in LINES, from 1; 0 where it is not there. */
-static int place_of(int fd)
-{
-    const char *at = getenv("LINES");
-    for (int place = 1; at && *at && place <= MOST_FILES; place++) {
-        char name[4096] = "";
-        size_t length = strcspn(at, ":");
-        if (length < sizeof name)
-            memcpy(name, at, length);
-        if (is_named(fd, name))
-            return place;
-        at += length + (at[length] == ':');
-    }
-    return 0;
 }
 
 /* One write, so that the notes of threads do not mix. */
@@ -163,6 +141,14 @@ static ssize_t read_line(int fd, char place, char *bytes, size_t length)
 
 ssize_t read(int fd, void *bytes, size_t length)
 {
-    int place = length ? place_of(fd) : 0;
+    int place = length ? place_of(fd, "LINES") : 0;
     return place ? read_line(fd, place, bytes, length) : syscall(SYS_read, fd, bytes, length);
+}
+
+ssize_t write(int fd, const void *bytes, size_t length)
+{
+    int place = place_of(fd, "ANSWERS");
+    if (place)
+        note('o', place, length, bytes, length);
+    return syscall(SYS_write, fd, bytes, length);
 }

@@ -94,7 +94,12 @@ def while_opening(done, image):
 
 def while_serving(files, done, record, image):
     compare('status and standard error', (done.status, done.err), WHEN_BROKEN)
-    stations = [answered(lines, said) for lines, said in zip(files.lines, parts(done.out, files.names))]
+    return when_broken([answered(lines, said) for lines, said in zip(files.lines, parts(done.out, files.names))], record, image)
+
+
+def when_broken(stations, record, image):
+    """Judges the answers of stations in a run in which a call failed, its record and the disk that it left; the number of commands
+    that were acknowledged."""
     order = acknowledged(stations)
     outages(stations, record)
     if not on_device(stations):

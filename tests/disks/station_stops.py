@@ -171,9 +171,9 @@ def falls_within(told):
     compare('a stop fell between the first command and the last', any(left and rest for left, rest in told), True)
 
 
-def begins(place, form, journal, name):
+def begins(place, form, journal, name, stations=STATIONS):
     """A new disk in either layout."""
-    formats(place, STATIONS, journal, name)
+    formats(place, stations, journal, name)
     if form == PLAIN:
         place.put(as_plain(place.image(name)), name)
 
@@ -244,12 +244,12 @@ def gates_with_their_data(record):
     return [done for done, then in zip(record, record[1:]) if not (done.kind == 's' and is_gate(then))]
 
 
-def answers_before_the_last_sync(record):
-    """A line is asked for before the gates are synced."""
+def answers_before_the_last_sync(record, kind='r'):
+    """A line is asked for before the gates are synced; or what else is of this kind is done."""
     changed = list(record)
     for at in range(1, len(changed)):
         before = at
-        while changed[before].kind == 'r' and before > 0 and changed[before - 1].kind in 's':
+        while changed[before].kind == kind and before > 0 and changed[before - 1].kind in 's':
             changed[before - 1:before + 1] = changed[before - 1:before + 1][::-1]
             before -= 1
     return changed

@@ -93,10 +93,12 @@ def the_manual(command):
     compare('examples', len(examples) > 4, True)
     with disk_files.place(command) as folder:
         folder.write('settings.toml', (TOP / 'examples' / 'settings.toml').read_bytes())
-        for words, shown in examples:
-            name, *rest = words.split(' ')
-            shown = re.sub('^    ', '', shown, flags=re.M).encode()
-            folder.write(rest[0], shown) if name == 'cat' else folder.gives(rest, 0, shown)
+        for line, shown in examples:
+            shown = re.sub('^    ', '', shown, flags=re.M)
+            if line.startswith('cat '):
+                folder.write(line[len('cat '):], shown.encode())
+            else:
+                folder.prints(line, shown)
 
 
 # The statuses

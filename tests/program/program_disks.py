@@ -10,11 +10,9 @@ import signal
 import subprocess
 import tempfile
 
-import reading
 import refusing
 from disk_files import DISK, SECTORS, file_fault, run_cases, settings, untouched
 from made_disks import FORMS
-from many_files import Files, ordered, ran
 from program import TOP
 from running import SECONDS, Differs, compare
 
@@ -58,21 +56,13 @@ def the_sample(place):
 
 
 def the_readme(place):
-    """The first commands of README.md, in a folder with examples/: each prints what README.md shows, but for the order of the two
-    stations' commands. Some order gives what README.md shows, and some order what is printed."""
+    """The first commands of README.md, in a folder with examples/: each prints what README.md shows."""
     place.path('examples').symlink_to(TOP / 'examples')
     block = (TOP / 'README.md').read_text().split('```')[1]
-    commands = re.findall(r'^\$ \./tetra-switch (.*)\n((?:[^$].*\n)+)', block, re.M)
-    compare('commands', [words.split(' ')[0] for words, _ in commands], ['format', 'run', 'show'])
-    (first, formatted), (run, shown), (last, asked) = ((words.split(' '), shown.encode()) for words, shown in commands)
-    files = Files([reading.lines_of(place.path(name).read_bytes()) for name in run[2:]], run[2:], run[1])
-    compare('stations', len(files.names), 2)
-    place.gives(first, 0, formatted)
-    ordered(reading.Register(), files, shown)
-    done = ran(place, files)
-    ordered(reading.Register(), files, done.out)
-    compare('status and standard error', (done.status, done.err), (0, b''))
-    place.gives(last, 0, asked)
+    commands = re.findall(r'^\$ (\./tetra-switch .*)\n((?:[^$].*\n)+)', block, re.M)
+    compare('commands', [line.split(' ')[1] for line, _ in commands], ['format', 'serve', 'run', 'show'])
+    for line, shown in commands:
+        place.prints(line, shown)
 
 
 def what_is_shown(place):
@@ -117,9 +107,10 @@ def long_text(program, lines):
 
 def a_long_file(place):
     answers = FIRST + b'2 kept 2 8:56\n' * 1010
-    place.format()
     os.mkfifo(place.path('a.txt'))
-    for words, title in (['run', 'd.img', 'a.txt'], b'station 1 a.txt\n'), ([], b''):
+    for words, title in (['run', 'd.img', 'a.txt'], b'station 1 a.txt\n'), (['serve', 'd.img', 'a.txt', '/dev/stdout'], b''), ([], b''):
+        place.path().unlink(missing_ok=True)
+        place.format()
         with tempfile.TemporaryFile() as out:
             how = {'cwd': place.folder, 'stdin': subprocess.PIPE, 'stdout': out, 'stderr': subprocess.PIPE}
             with subprocess.Popen([*place.command, *words], **how) as program:
@@ -137,12 +128,12 @@ def wrong_words(place):
     place.format()
     place.write('a.txt', LINES)
     for words in (['format'], ['format', 's.toml'], ['format', 's.toml', 'e.img', 'x'], ['run'], ['run', 'd.img'],
-                  ['show'], ['show', 'd.img'], ['no such'], [''], [b'show', b'd.img', b'\xff']):
+                  ['serve'], ['serve', 'd.img', 'a.txt'], ['show'], ['show', 'd.img'], ['no such'], [''], [b'show', b'd.img', b'\xff']):
         with subprocess.Popen([*place.command, *words], stdin=subprocess.DEVNULL, stdout=subprocess.PIPE, stderr=subprocess.PIPE,
                               cwd=place.folder) as program:
-            out, _ = program.communicate(timeout=20)
+            out, err = program.communicate(timeout=20)
             compare(f'status of {words}', program.returncode, 2)
-            compare('output', out, b'')
+            compare('output, and another name of the program', (out, b'tetra_switch' in err), (b'', False))
     compare('files', sorted(os.listdir(place.folder)), ['a.txt', 'd.img', 's.toml'])
 
 
@@ -154,13 +145,15 @@ def told(place, *words):
 
 
 def help_and_version(place):
-    for words, parts in (([], [b'format', b'run', b'show', b'--help', b'--version', b'\nExample: tetra-switch < ']),
+    for words, parts in (([], [b'format', b'run', b'serve', b'show', b'--help', b'--version', b'\nExample: tetra-switch < ']),
                          (['format'], [b'SETTINGS', b'DISK', b'\nExample: tetra-switch format ']),
                          (['run'], [b'DISK', b'FILE', b'\nExample: tetra-switch run ']),
+                         (['serve'], [b'DISK', b'IN', b'OUT', b'\nExample: tetra-switch serve ']),
                          (['show'], [b'DISK', b'WORD', b'\nExample: tetra-switch show '])):
         for flag in '--help', '-h':
-            text = told(place, *words, flag)
-            compare(f'parts of the help of {words}', [part for part in [b'Usage: ', *parts, b'\nExit status: 0 '] if part not in text], [])
+            text, usage = told(place, *words, flag), b'Usage: tetra-switch ' + ''.join(words).encode()
+            compare(f'parts of the help of {words}', [part for part in [usage, *parts, b'\nExit status: 0 '] if part not in text], [])
+            compare('another name of the program', b'tetra_switch' in text, False)
     for flag in '--version', '-V':
         compare('version', told(place, flag), b'tetra-switch 0.1.0 (disk layouts 1 and 2)\n')
     with open('/dev/full', 'wb') as full:
@@ -295,14 +288,14 @@ def said_before(out):
     return re.sub(rb'^(\d+) kept ', rb'\1 ok ', said, flags=re.M)
 
 
-def memory_that_ends(place, form):
+def memory_that_ends(place, form, title, words):
     place.begins(form, 'new.img')
-    good, statuses = b'station 1 a.txt\n' + FIRST + WHERE, []
+    good, statuses = title + FIRST + WHERE, []
     with refusing.library() as made:
         while statuses[-1:] != [0]:
             place.copy('new.img', 'd.img')
-            program = subprocess.run([*place.command, 'run', 'd.img', 'a.txt'], stdin=subprocess.DEVNULL, capture_output=True,
-                                     timeout=SECONDS, cwd=place.folder, env=refusing.environment(made, len(statuses) + 1))
+            program = subprocess.run([*place.command, *words], stdin=subprocess.DEVNULL, capture_output=True, timeout=SECONDS,
+                                     cwd=place.folder, env=refusing.environment(made, len(statuses) + 1))
             statuses.append(program.returncode)
             compare('standard error', program.stderr, fault('memory') if program.returncode == 5 else b'')
             compare(f'{program.stdout!r} is a front of the answers', good.startswith(said_before(program.stdout)), True)
@@ -316,7 +309,8 @@ def memory_that_ends_between(place):
     """Each allocation in turn is refused: that is a fault, or the answer to a line; then all is answered as if nothing had been."""
     place.write('a.txt', LINES + b'where 234-14-2001\n')
     for form in FORMS:
-        memory_that_ends(place, form)
+        memory_that_ends(place, form, b'station 1 a.txt\n', ['run', 'd.img', 'a.txt'])
+        memory_that_ends(place, form, b'', ['serve', 'd.img', 'a.txt', '/dev/stdout'])
 
 
 CASES = [

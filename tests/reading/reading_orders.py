@@ -157,13 +157,17 @@ def follows(order, station, pairs, after=0):
     return after
 
 
-def judged(base, lines, out, names):
-    """The order that a run had over this register, with its last register; NoOrder where there is none."""
-    stations = [answered(one, said) for one, said in zip(lines, parts(out, names))]
+def order_that_answers(base, stations):
+    """The order over this register that gives all answers: of each station, in turn, its lines with these; NoOrder where there is none."""
     order = order_of(base, stations)
     for station, pairs in enumerate(stations, 1):
         follows(order, station, pairs)
     return order
+
+
+def judged(base, lines, out, names):
+    """The order that a run had over this register, with its last register; NoOrder where there is none."""
+    return order_that_answers(base, [answered(one, said) for one, said in zip(lines, parts(out, names))])
 
 
 def is_troubled(out):

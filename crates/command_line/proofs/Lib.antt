@@ -1,2 +1,4 @@
-mod Found
+mod Adds
 mod Flags
+mod Found
+mod Paired

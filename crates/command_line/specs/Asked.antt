@@ -1,5 +1,5 @@
 -- What the words of a command line, the program's name first, ask for.
-use Rattle.std.specs.Prelude.{◌≡◌, ◌⊎◌, ℕ, Bool, true, false, List, [], Option, Some, None, codes, if◌then◌else◌, length, map, nat_le, option_and_then, option_map, Vec}
+use Rattle.std.specs.Prelude.{◌≡◌, ◌⊎◌, ℕ, Bool, true, false, List, [], ◌∷◌, Option, Some, None, codes, if◌then◌else◌, length, map, nat_le, option_and_then, option_map, unwrap_or, Vec}
 use Rattle.std.specs.Borrow.{Bor}
 use Rattle.std.specs.declared.alloc.Global.{Global}
 use Rattle.std.specs.Str.{bytes_eq}
@@ -17,16 +17,22 @@ use Rattle.command_line.specs.declared.request.Refusal.TheVariants as refusal
 
 -- what is asked for, with the texts of its words
 pub data Asked : Type 0 where
-  serve : Asked
+  memory : Asked
   format : Text → Text → Asked
   run : Text → List Text → Asked
+  serve : Text → List (Text × Text) → Asked
   show : Text → List Text → Asked
+
+-- the texts of pairs of words
+abbrev pub pair_texts : List (Bor Text × Bor Text) → List (Text × Text)
+pair_texts pairs = map (λ (pair : Bor Text × Bor Text). (pair.0.now, pair.1.now)) pairs
 
 -- what a request stands for
 abbrev pub asked_by : Request → Asked
-asked_by request.Serve = serve
+asked_by request.Memory = memory
 asked_by (request.Format settings disk) = format settings.now disk.now
 asked_by (request.Run disk files) = run disk.now (map (λ file. file.now) files.items)
+asked_by (request.Serve disk pairs) = serve disk.now (pair_texts pairs.items)
 asked_by (request.Show disk words) = show disk.now (map (λ word. word.now) words.items)
 
 -- two parts of a request, where neither is missing
@@ -49,6 +55,16 @@ format_in found = both format (first_of (codes "SETTINGS") found) (first_of (cod
 abbrev pub run_in : List Row → Option Asked
 run_in found = option_map (λ (named : Text × List Text). run named.0 named.1) (disk_and_words (codes "FILE") found)
 
+-- the words two by two, where their number is even
+unfoldable pub paired : List Text → Option (List (Text × Text))
+paired [] = Some []
+paired (input ∷ []) = None
+paired (input ∷ output ∷ rest) = option_map (λ pairs. (input, output) ∷ pairs) (paired rest)
+
+-- what `serve` asks for: its disk, and IN and OUT of each station
+abbrev pub serve_in : List Row → Option Asked
+serve_in found = both serve (first_of (codes "DISK") found) (paired (unwrap_or (all_of (codes "END") found) []))
+
 -- what `show` asks for: its disk and its words
 abbrev pub show_in : List Row → Option Asked
 show_in found = option_map (λ (named : Text × List Text). show named.0 named.1) (disk_and_words (codes "WORD") found)
@@ -58,8 +74,9 @@ abbrev pub asked_of : Text × List Row → Option Asked
 asked_of found =
     if bytes_eq found.0 (codes "format") then format_in found.1
     else (if bytes_eq found.0 (codes "run") then run_in found.1
+    else (if bytes_eq found.0 (codes "serve") then serve_in found.1
     else (if bytes_eq found.0 (codes "show") then show_in found.1
-    else None))
+    else None)))
 
 -- no word stands behind the program's name
 abbrev pub is_bare : List Text → Bool
@@ -76,7 +93,7 @@ taken words = option_and_then asked_of (subcommand_of program words)
 -- the words ask for this
 abbrev pub Asks : List Text → Asked → Type 0
 Asks words asked =
-    ((is_bare words ≡ true) × (asked ≡ serve))
+    ((is_bare words ≡ true) × (asked ≡ memory))
     ⊎ ((is_bare words ≡ false) × (faults words ≡ []) × (taken words ≡ Some asked))
 
 -- how an error of clap's is told
@@ -96,7 +113,7 @@ abbrev pub TellsOne : Kinds → Refusal → Type 0
 TellsOne kinds told = (told ≡ refusal.NoMemory)
     ⊎ ((error : Error) × (told ≡ told_by (kind_of error) error) × IsAmong (kind_of error) kinds)
 
--- clap takes the words, and yet a word is missing among what it found
+-- clap takes the words, and yet one is missing among what it found: the OUT of the last IN
 abbrev pub LacksOne : List Text → Type 0
 LacksOne words = (faults words ≡ []) × (taken words ≡ None)
 

@@ -1,4 +1,4 @@
--- The program's words as clap is told of them: three subcommands, each with its words in order. What clap makes of
+-- The program's words as clap is told of them: four subcommands, each with its words in order. What clap makes of
 -- words that are given is `subcommand_of` and `fault_of` of its own definitions.
 use Rattle.std.specs.Prelude.{◌≡◌, false, true, Some, codes}
 use Rattle.clap.specs.Words.{App, Rule, Text, app_of, new_app, new_rule, with_rule, with_subcommand}
@@ -11,14 +11,18 @@ use Rattle.clap.specs.declared.builder.command.Command.TheViews.{out-Command as 
 abbrev pub one_word : Text → Rule
 one_word name = record (new_rule name) { required = true }
 
--- one word or more
-abbrev pub some_words : Text → Rule
-some_words name = record (one_word name) {
+-- any number of words, also none
+abbrev pub any_words : Text → Rule
+any_words name = record (new_rule name) {
   range = Some (record {
     start_inclusive = 1;
     end_inclusive = usize_max;
   });
 }
+
+-- one word or more
+abbrev pub some_words : Text → Rule
+some_words name = record (any_words name) { required = true }
 
 -- a subcommand of two rules for its words
 abbrev pub with_two_words : Text → Rule → Rule → App
@@ -31,6 +35,14 @@ format = with_two_words (codes "format") (one_word (codes "SETTINGS")) (one_word
 -- `run DISK FILE...`
 abbrev pub run : App
 run = with_two_words (codes "run") (one_word (codes "DISK")) (some_words (codes "FILE"))
+
+-- the words after DISK have one name in help
+abbrev pub ends : Rule
+ends = record (any_words (codes "END")) { value_names = 1 }
+
+-- `serve DISK [IN OUT]...`
+abbrev pub serve : App
+serve = with_two_words (codes "serve") (one_word (codes "DISK")) ends
 
 -- `show DISK WORD...`
 abbrev pub show : App
@@ -46,7 +58,7 @@ bare = on_top (λ top. record top {
 
 -- the program
 abbrev pub program : App
-program = with_subcommand (with_subcommand (with_subcommand bare format.top) run.top) show.top
+program = with_subcommand (with_subcommand (with_subcommand (with_subcommand bare format.top) run.top) serve.top) show.top
 
 -- clap is told of this command, and none of its arguments is passed down to subcommands
 abbrev pub Tells : App → Command → Type 0

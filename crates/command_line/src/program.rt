@@ -6,23 +6,34 @@ ghost use Rattle.command_line.specs.Program as spec;
 use clap::{Arg, Command};
 use std::alloc::{AllocError, Global};
 
+/// The program's name in each usage line, whatever its file is called.
+const NAME: &str = "tetra-switch";
+
 const DISK: &str = "The disk file";
 
 /// The program with its subcommands.
 pub(crate) fn program<'a>(alloc: Global) -> Result<Command<'a>, AllocError>
     ensures { IfOk result (spec.Tells spec.program) }
 {
-    bare(alloc)
+    under_name(alloc)?
         .subcommand(format(alloc)?)?
         .subcommand(run(alloc)?)?
+        .subcommand(serve(alloc)?)?
         .subcommand(show(alloc)?)
+}
+
+/// The program without its subcommands, under its name.
+fn under_name<'a>(alloc: Global) -> Result<Command<'a>, AllocError>
+    ensures { IfOk result (spec.Tells spec.bare) }
+{
+    bare(alloc).bin_name(NAME)
 }
 
 /// The program without its subcommands.
 fn bare<'a>(alloc: Global) -> Command<'a>
     ensures { spec.Tells spec.bare result }
 {
-    named(alloc, "tetra-switch", ABOUT, AFTER)
+    named(alloc, NAME, ABOUT, AFTER)
         .override_usage("tetra-switch [COMMAND]")
         .version(VERSION)
         .subcommand_required(true)
@@ -58,6 +69,17 @@ fn run<'a>(alloc: Global) -> Result<Command<'a>, AllocError>
     named(alloc, "run", RUN, AFTER_RUN).arg(disk)?.arg(files)
 }
 
+fn serve<'a>(alloc: Global) -> Result<Command<'a>, AllocError>
+    ensures { IfOk result (spec.Tells spec.serve) }
+{
+    let disk = one_word(alloc, "DISK", DISK);
+    let ends = any_words(alloc, "END", SERVE_ENDS).value_name("IN OUT");
+    named(alloc, "serve", SERVE, AFTER_SERVE)
+        .override_usage(SERVE_USAGE)
+        .arg(disk)?
+        .arg(ends)
+}
+
 fn show<'a>(alloc: Global) -> Result<Command<'a>, AllocError>
     ensures { IfOk result (spec.Tells spec.show) }
 {
@@ -79,8 +101,19 @@ fn some_words<'a>(alloc: Global, name: &'a str, help: &'a str) -> Arg<'a>
     ensures rule { rule_of result ≡ spec.some_words name.now }
     ensures local { result.global ≡ false }
 {
-    one_word(alloc, name, help).num_args(1..)
+    any_words(alloc, name, help).required(true)
 }
+
+/// Any number of words, also none.
+fn any_words<'a>(alloc: Global, name: &'a str, help: &'a str) -> Arg<'a>
+    ensures rule { rule_of result ≡ spec.any_words name.now }
+    ensures local { result.global ≡ false }
+{
+    Arg::new(alloc, name).help(help).num_args(1..)
+}
+
+/// How `serve` is called.
+pub(crate) const SERVE_USAGE: &str = "tetra-switch serve <DISK> [<IN> <OUT>]...";
 
 const VERSION: &str = "0.1.0 (disk layouts 1 and 2)";
 
@@ -93,6 +126,13 @@ const FORMAT: &str = "Makes a disk file for an empty register, and prints how ma
 const RUN: &str =
     "Serves the files of many stations at once on a disk file, and prints the answers when all have ended. The first file \
      is station 1's, the second station 2's, and so on.";
+
+const SERVE: &str =
+    "Serves stations on a disk file: each answer is written as soon as its command is durable. The first IN and OUT are \
+     station 1's, the second station 2's, and so on. Without them station 1's lines come from standard input, and the \
+     answers go to standard output.";
+
+const SERVE_ENDS: &str = "The lines of a station, and its answers: a FIFO, a device or a file";
 
 const SHOW: &str = "Answers one query of a disk file, and changes nothing.";
 
@@ -112,6 +152,12 @@ const AFTER_RUN: &str = "Example: tetra-switch run centre.disk station1.txt stat
 Exit status: 0 each line was answered; 1 a line was bad, or an answer told of the service; 2 the command line is \
      wrong, a file is named twice, or there are more files than stations; 4 a file can't be read or written; 5 the \
      disk file holds no register or the disk failed, or no memory.";
+
+const AFTER_SERVE: &str = "Example: tetra-switch serve centre.disk station1.in station1.out
+
+Exit status: 0 each line was answered; 1 a line was bad, or an answer told of the service; 2 the command line is \
+     wrong, an IN is named twice, or there are more pairs than stations; 4 a file can't be read or written; 5 the disk \
+     file holds no register or the disk failed, or no memory.";
 
 const AFTER_SHOW: &str = "Example: tetra-switch show centre.disk where 234-14-2001
 

@@ -1,5 +1,5 @@
 //! The words of a command line, read by clap.
-ghost use Rattle.std.specs.Prelude.{◌≡◌, ◌⊎◌, [], IfOk, IfErr, None, Some, map, option_and_then, option_map};
+ghost use Rattle.std.specs.Prelude.{◌≡◌, ◌⊎◌, ◌*◌, ◌/◌, [], IfOk, IfErr, None, Some, length, map, option_and_then, option_map, take};
 ghost use Rattle.clap.specs.Words.{all_of, first_of, found_of, rows_of, subcommand_of, subcommand_rows_of};
 ghost use Rattle.command_line.specs.Asked as spec;
 ghost use Rattle.command_line.specs.Program.{program};
@@ -12,8 +12,8 @@ use std::alloc::{AllocError, Global};
 use std::convert::AsStr;
 
 /// What the words of a command line ask for; the first is the program's name. With no further word that is to serve
-/// standard input. Else clap reads them: `format SETTINGS DISK`, `run DISK FILE...` or `show DISK WORD...`, where a word
-/// after `--` is never taken for a flag.
+/// standard input over a register in memory. Else clap reads them: `format SETTINGS DISK`, `run DISK FILE...`,
+/// `serve DISK [IN OUT]...` or `show DISK WORD...`, where a word after `--` is never taken for a flag.
 ///
 /// # Errors
 /// `Help` and `Version` where these are asked for by `--help`, `-h`, `--version` or `-V`, of a subcommand by its own
@@ -26,7 +26,7 @@ pub fn read_command_line<'a, S: AsStr>(
     ensures refused { IfErr result (spec.Refuses (map S.text words.now)) }
 {
     if words.len() <= 1 {
-        return Ok(Request::Serve);
+        return Ok(Request::Memory);
     }
     let matches = matches_of(alloc, words)?;
     requested(alloc, &matches)
@@ -81,6 +81,9 @@ fn request_of<'a>(
     if name == "run" {
         return run_of(alloc, found);
     }
+    if name == "serve" {
+        return serve_of(alloc, found);
+    }
     if name == "show" {
         return show_of(alloc, found);
     }
@@ -102,6 +105,44 @@ fn run_of<'a>(alloc: Global, found: &ArgMatches<'a>) -> Result<Option<Request<'a
         Some((disk, files)) => Ok(Some(Request::Run { disk, files })),
         None => Ok(None),
     }
+}
+
+fn serve_of<'a>(alloc: Global, found: &ArgMatches<'a>) -> Result<Option<Request<'a>>, AllocError>
+    ensures { IfOk result (λ request. option_map spec.asked_by request ≡ spec.serve_in (rows_of (found_of found.now))) }
+{
+    let Some(disk) = word(found, "DISK") else {
+        return Ok(None);
+    };
+    match paired(alloc, all_words(found, "END").unwrap_or(&[]))? {
+        Some(pairs) => Ok(Some(Request::Serve { disk, pairs })),
+        None => Ok(None),
+    }
+}
+
+/// The words two by two. `None` if their number is odd.
+fn paired<'a>(
+    alloc: Global,
+    words: &[&'a str],
+) -> Result<Option<Vec<(&'a str, &'a str)>>, AllocError>
+    ensures { IfOk result (λ pairs. option_map (λ p. spec.pair_texts p.items) pairs ≡ spec.paired (map (λ word. word.now) words.now)) }
+{
+    let pairs = whole_pairs(alloc, words)?;
+    if words.len() % 2 == 0 {
+        Ok(Some(pairs))
+    } else {
+        Ok(None)
+    }
+}
+
+/// The words two by two; the last is left out if their number is odd.
+fn whole_pairs<'a>(alloc: Global, words: &[&'a str]) -> Result<Vec<(&'a str, &'a str)>, AllocError>
+    ensures { IfOk result (λ pairs. spec.paired (map (λ word. word.now) (take (2 * (length words.now / 2)) words.now)) ≡ Some (spec.pair_texts pairs.items)) }
+{
+    let mut pairs = Vec::new(alloc);
+    for index in 0..words.len() / 2 {
+        pairs.push((words[2 * index], words[2 * index + 1]))?;
+    }
+    Ok(pairs)
 }
 
 fn show_of<'a>(alloc: Global, found: &ArgMatches<'a>) -> Result<Option<Request<'a>>, AllocError>

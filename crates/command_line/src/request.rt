@@ -5,6 +5,7 @@ ghost use Rattle.clap.specs.Words.{kind_of};
 ghost use Rattle.command_line.specs.Asked.{status_of, told_by, unread_by};
 ghost use Rattle.command_line.specs.declared.request.Refusal.TheVariants.{NoMemory};
 
+use crate::program::SERVE_USAGE;
 use clap::Error;
 use clap::error::ErrorKind;
 use std::alloc::AllocError;
@@ -13,8 +14,8 @@ use std::{fmt, io};
 /// What the words ask for.
 #[derive(Debug, Drop)]
 pub enum Request<'a> {
-    /// No words: serve standard input to standard output.
-    Serve,
+    /// No words: serve standard input to standard output, over an empty register in memory.
+    Memory,
     /// `format SETTINGS DISK`: make a disk file for the settings in a file.
     Format {
         /// The file of the settings.
@@ -28,6 +29,13 @@ pub enum Request<'a> {
         disk: &'a str,
         /// The files of the lines in the order of their stations, one at least.
         files: Vec<&'a str>,
+    },
+    /// `serve DISK [IN OUT]...`: serve stations on a disk file, each answer as it comes.
+    Serve {
+        /// The disk file.
+        disk: &'a str,
+        /// IN and OUT of station 1, of station 2 and so on; none for standard input and standard output.
+        pairs: Vec<(&'a str, &'a str)>,
     },
     /// `show DISK WORD...`: answer one query of a disk file.
     Show {
@@ -47,7 +55,7 @@ pub enum Refusal {
     Version(Error),
     /// The command line is wrong.
     Wrong(Error),
-    /// The command line lacks a word, though clap takes it. (clap tells this itself; so no word is ever made up.)
+    /// The command line lacks a word, though clap takes it: the OUT of the last IN. (clap reports each other word that is missing.)
     Missing,
     /// A word of the command line is no text (UTF-8).
     NoText,
@@ -90,11 +98,18 @@ impl fmt::Display for Refusal {
     fn fmt<W: fmt::Write>(&self, f: &mut fmt::Formatter<W>) -> fmt::Result {
         match self {
             Refusal::Help(error) | Refusal::Version(error) | Refusal::Wrong(error) => error.fmt(f),
-            Refusal::Missing => f.write_str("error: a word is missing\n"),
+            Refusal::Missing => write_missing(f),
             Refusal::NoText => f.write_str("error: a word is no text\n"),
             Refusal::NoMemory => f.write_str("fault: memory\n"),
         }
     }
+}
+
+/// Writes that the last IN has no OUT, as clap writes its errors.
+fn write_missing<W: fmt::Write>(f: &mut fmt::Formatter<W>) -> fmt::Result {
+    f.write_str("error: the last IN has no OUT\n\nUsage: ")?;
+    f.write_str(SERVE_USAGE)?;
+    f.write_str("\n\nFor more information, try '--help'.\n")
 }
 
 /// An error of clap's, by its kind.

@@ -17,6 +17,14 @@ run -- centre.disk -x = run centre.disk -x
 run d a b = run d a b
 run d a b a = run d a b a
 run d a -- -b = run d a -b
+serve d = serve d
+serve centre.disk 1.in 1.out = serve centre.disk 1.in 1.out
+serve d a b c d = serve d a b c d
+serve d a a a a = serve d a a a a
+serve d - - = serve d - -
+serve -- d -a -b = serve d -a -b
+serve d a b -- -c -d = serve d a b -c -d
+serve d  b = serve d  b
 show centre.disk count = show centre.disk count
 show centre.disk where 234-14-2001 = show centre.disk where 234-14-2001
 show d 1 0 rule 234-14-0/24 1 99 1 3600 = show d 1 0 rule 234-14-0/24 1 99 1 3600
@@ -31,6 +39,8 @@ format --help = help
 format -h = help
 format s d --help = help
 run --help = help
+serve --help = help
+serve d a --help = help
 show --help = help
 show d where --help = help
 --version = version
@@ -64,11 +74,25 @@ run d = wrong
 run d -- = wrong
 run d -1 = wrong
 run d a --turns 3 = wrong
+serve -x = wrong
+serve d -x = wrong
+serve d a b -x = wrong
+serve d a = missing
+serve d a b c = missing
+serve d a -- b c = missing
 show = wrong
 show d = wrong
 show d -- = wrong
 show d where -x = wrong
 show --disk d count = wrong";
+
+/// The names of each pair.
+fn push_pairs(text: &mut String, pairs: &[(&str, &str)]) -> Result<(), AllocError> {
+    for (input, output) in pairs {
+        push_words(text, &[*input, *output])?;
+    }
+    Ok(())
+}
 
 fn push_words(text: &mut String, words: &[&str]) -> Result<(), AllocError> {
     for word in words {
@@ -82,7 +106,7 @@ fn push_words(text: &mut String, words: &[&str]) -> Result<(), AllocError> {
 fn request_text(alloc: Global, request: &Request<'_>) -> Result<String, AllocError> {
     let mut text = String::new(alloc);
     match request {
-        Request::Serve => text.push_str("serve")?,
+        Request::Memory => text.push_str("memory")?,
         Request::Format { settings, disk } => {
             text.push_str("format")?;
             push_words(&mut text, &[*settings, *disk])?;
@@ -91,6 +115,11 @@ fn request_text(alloc: Global, request: &Request<'_>) -> Result<String, AllocErr
             text.push_str("run")?;
             push_words(&mut text, &[*disk])?;
             push_words(&mut text, files.as_slice())?;
+        }
+        Request::Serve { disk, pairs } => {
+            text.push_str("serve")?;
+            push_words(&mut text, &[*disk])?;
+            push_pairs(&mut text, pairs.as_slice())?;
         }
         Request::Show { disk, words } => {
             text.push_str("show")?;
@@ -150,7 +179,7 @@ fn words_and_requests(rt: HostRuntime) -> Result<(), Fail> {
 #[test]
 fn no_words(rt: HostRuntime) -> Result<(), Fail> {
     let alloc = rt.alloc();
-    assert!(rt; answer(alloc, &[])?.as_str() == "serve");
-    assert!(rt; answer(alloc, &["--help"])?.as_str() == "serve");
+    assert!(rt; answer(alloc, &[])?.as_str() == "memory");
+    assert!(rt; answer(alloc, &["--help"])?.as_str() == "memory");
     Ok(())
 }

@@ -36,6 +36,7 @@ fn help_of_the_program(rt: HostRuntime) -> Result<(), Fail> {
         "Usage: tetra-switch [COMMAND]\n",
         "format",
         "run",
+        "serve",
         "show",
         "--version",
         "Example: tetra-switch < ",
@@ -58,14 +59,36 @@ fn help_of_each_subcommand(rt: HostRuntime) -> Result<(), Fail> {
         "Example: tetra-switch run ",
         "Exit status:",
     ];
+    let serve = [
+        "Usage: tetra-switch serve <DISK> [<IN> <OUT>]...\n",
+        "Example: tetra-switch serve ",
+        "Exit status:",
+    ];
     let show = [
         "Usage: tetra-switch show <DISK> <WORD>...\n",
         "Example: tetra-switch show ",
         "Exit status:",
     ];
     assert!(rt; tells(alloc, &["bin/tetra-switch", "format", "--help"], &format)?);
+    assert!(rt; tells(alloc, &["tetra-switch", "serve", "--help"], &serve)?);
     assert!(rt; tells(alloc, &["tetra-switch", "run", "--help"], &run)?);
     assert!(rt; tells(alloc, &["tetra-switch", "show", "--help"], &show)?);
+    Ok(())
+}
+
+#[test]
+fn usage_names_the_program(rt: HostRuntime) -> Result<(), Fail> {
+    let run = ["\n\nUsage: tetra-switch run <DISK> <FILE>...\n\n"];
+    assert!(rt; tells(rt.alloc(), &["/a/tetra_switch.old", "run", "d"], &run)?);
+    Ok(())
+}
+
+#[test]
+fn last_in_without_out(rt: HostRuntime) -> Result<(), Fail> {
+    let text = text_of(rt.alloc(), &["t", "serve", "d", "1.in", "1.out", "2.in"])?;
+    let wanted =
+        "error: the last IN has no OUT\n\nUsage: tetra-switch serve <DISK> [<IN> <OUT>]...\n\nFor more information, try '--help'.\n";
+    assert!(rt; text.as_str() == wanted);
     Ok(())
 }
 

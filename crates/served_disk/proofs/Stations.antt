@@ -1,7 +1,7 @@
 -- The texts and the ends of stations, one station more.
-use Rattle.std.proofs.Common.{◌≡◌, ◌∙◌, ℕ, ◌+◌, ◌<◌, ◌++◌, ◌∷◌, ◌||◌, [], Bool, List, Option, Some, Result, Ok, Err, length, take, get_or, refl, ap, sym, subst, append_assoc, append-nil, length-take-le, arith}
+use Rattle.std.proofs.Common.{◌≡◌, ◌∙◌, ℕ, ◌+◌, ◌<◌, ◌++◌, ◌∷◌, ◌||◌, [], Bool, List, Option, Some, Result, Ok, Err, Vec, length, take, get_or, refl, ap, sym, subst, append_assoc, append-nil, length-take-le, arith}
 use Rattle.std.specs.Prelude.{All, slice_get}
-use Rattle.std.specs.Borrow.{Bor}
+use Rattle.std.specs.declared.alloc.Global.{Global}
 use Rattle.std.specs.List.{list_any}
 use Rattle.std.specs.Io.KnownBytes.{Appends}
 use Rattle.std.proofs.KnownBytes.{Appends-trans}
@@ -11,16 +11,21 @@ use Rattle.std.proofs.lemmas.List.Folds.{list_any_more}
 use Rattle.std.proofs.lemmas.Option.{slice_get-get_or}
 use Rattle.registration.specs.Numbers.{Station}
 use Rattle.served_disk.specs.declared.fault.Fault.{Fault}
+use Rattle.served_disk.specs.declared.port_names.PortNames.{PortNames}
 use Rattle.served_disk.specs.Faults.{IsOfRun}
 use Rattle.served_disk.specs.Stations.{HasEnded, HaveEnded, IsFirst, IsWhole, Run, is_troubled, text_from}
 use Rattle.served_disk.specs.Telling.{station_text}
 
+-- a run whose answers wait in memory
+abbrev Answered : Type 0
+Answered = Run (Vec ℕ Global)
+
 -- of one station
-abbrev text_of : Station → Bor (List ℕ) → Run → List ℕ
-text_of station name run = station_text station name.now ++ run.0.items
+abbrev text_of : Station → PortNames → Answered → List ℕ
+text_of station name run = station_text station name.input.now ++ run.0.items
 
 -- one station more
-text_more : (s : Station) (names : List (Bor (List ℕ))) (runs : List Run) (name : Bor (List ℕ)) (run : Run) → length names ≡ length runs
+text_more : (s : Station) (names : List PortNames) (runs : List Answered) (name : PortNames) (run : Answered) → length names ≡ length runs
     → text_from s (names ++ name ∷ []) (runs ++ run ∷ []) ≡ text_from s names runs ++ text_of (length names + s) name run
 text_more s [] [] name run same = append-nil (text_of s name run) ∙ ap (λ k. text_of k name run) (omega arith)
 text_more s (first ∷ names) [] name run same = absurd (omega (arith, same))
@@ -32,70 +37,71 @@ text_more s (n ∷ names) (r ∷ runs) name run same =
     ∙ ap (λ k. (text_of s n r ++ text_from (s + 1) names runs) ++ text_of k name run) (omega arith)
 
 -- the same of the first stations
-pub one_more : (a b c : Option (List ℕ)) (names : List (Bor (List ℕ))) (runs : List Run) (i : ℕ) (d : Bor (List ℕ)) (e : Run) (s : Station) (answers : List ℕ)
+pub one_more : (a b c : Option (List ℕ)) (names : List PortNames) (runs : List Answered) (i : ℕ) (d : PortNames) (e : Answered) (s : Station) (answers : List ℕ)
     → length names ≡ length runs → i < length runs → s ≡ i + 1 → answers ≡ (get_or runs i e).0.items → Appends a b (text_from 1 (take i names) (take i runs))
-    → Appends b c (station_text s (get_or names i d).now ++ answers) → Appends a c (text_from 1 (take (i + 1) names) (take (i + 1) runs))
+    → Appends b c (station_text s (get_or names i d).input.now ++ answers) → Appends a c (text_from 1 (take (i + 1) names) (take (i + 1) runs))
 one_more a b c names runs i d e s answers same within is given before more =
-    let text = station_text s (get_or names i d).now ++ answers in
+    let text = station_text s (get_or names i d).input.now ++ answers in
     let many : length (take i names) ≡ i = length-take-le i names (omega (arith, within, same)) in
     let as_many : length (take i names) ≡ length (take i runs) = many ∙ sym (length-take-le i runs (omega (arith, within))) in
     let whole : text_from 1 (take (i + 1) names) (take (i + 1) runs) ≡ text_from 1 (take i names) (take i runs) ++ text =
     (λ j. text_from 1 (take_more names i d (omega (arith, within, same)) j) (take_more runs i e within j))
     ∙ text_more 1 (take i names) (take i runs) (get_or names i d) (get_or runs i e) as_many
     ∙ ap (λ k. text_from 1 (take i names) (take i runs) ++ text_of k (get_or names i d) (get_or runs i e)) (ap (λ k. k + 1) many ∙ sym is)
-    ∙ ap (λ t. text_from 1 (take i names) (take i runs) ++ (station_text s (get_or names i d).now ++ t)) (sym given) in
+    ∙ ap (λ t. text_from 1 (take i names) (take i runs) ++ (station_text s (get_or names i d).input.now ++ t)) (sym given) in
     subst (λ t. Appends a c t) (sym whole) (Appends-trans a b c (text_from 1 (take i names) (take i runs)) text before more)
 
--- the run with the first fault
-first_fault : (names : List (Bor (List ℕ))) (runs : List Run) (i : ℕ) (name : Bor (List ℕ)) (run : Run) (end : Result Bool Fault) (told : Fault)
-    → All IsWhole (take i runs) → slice_get names i ≡ Some name → slice_get runs i ≡ Some run → HasEnded name.now run.1 end → end ≡ Err told
-    → IsFirst names runs told
-first_fault names runs i name (answers, Ok ran) end told whole named here is failed = absurd (not_both _ _ (sym is ∙ failed))
-  where
-    not_both : (b : Bool) (f : Fault) → ◌≡◌ {A = Result Bool Fault} (Ok b) (Err f) → ⊥
-    not_both b f same = cc
-first_fault names runs i name (answers, Err fault) end told whole named here (said, is, of) failed =
-    record {
-      place = i;
-      name = name;
-      run = (answers, Err fault);
-      fault = fault;
-      whole = whole;
-      named = named;
-      here = here;
-      failed = refl;
-      is = subst (λ f. IsOfRun fault name.now f) (same_fault _ _ (sym is ∙ failed)) of;
-    }
-  where
-    same_fault : (f g : Fault) → ◌≡◌ {A = Result Bool Fault} (Err f) (Err g) → f ≡ g
-    same_fault f g same = cc
+module _ {O : Type 0} where
+  -- the run with the first fault
+  first_fault : (names : List PortNames) (runs : List (Run O)) (i : ℕ) (name : PortNames) (run : Run O) (end : Result Bool Fault) (told : Fault)
+      → All IsWhole (take i runs) → slice_get names i ≡ Some name → slice_get runs i ≡ Some run → HasEnded name run.1 end → end ≡ Err told
+      → IsFirst names runs told
+  first_fault names runs i name (answers, Ok ran) end told whole named here is failed = absurd (not_both _ _ (sym is ∙ failed))
+    where
+      not_both : (b : Bool) (f : Fault) → ◌≡◌ {A = Result Bool Fault} (Ok b) (Err f) → ⊥
+      not_both b f same = cc
+  first_fault names runs i name (answers, Err fault) end told whole named here (said, is, of) failed =
+      record {
+        place = i;
+        name = name;
+        run = (answers, Err fault);
+        fault = fault;
+        whole = whole;
+        named = named;
+        here = here;
+        failed = refl;
+        is = subst (λ f. IsOfRun fault name f) (same_fault _ _ (sym is ∙ failed)) of;
+      }
+    where
+      same_fault : (f g : Fault) → ◌≡◌ {A = Result Bool Fault} (Err f) (Err g) → f ≡ g
+      same_fault f g same = cc
 
--- where a run has a fault, and none did before
-pub is_fault : (names : List (Bor (List ℕ))) (runs : List Run) (i : ℕ) (d : Bor (List ℕ)) (e : Run) (end result : Result Bool Fault) (told : Fault)
-    → length names ≡ length runs → i < length runs → All IsWhole (take i runs) → HasEnded (get_or names i d).now (get_or runs i e).1 end → end ≡ Err told → result ≡ Err told
-    → HaveEnded names runs result
-is_fault names runs i d e end result told same within whole is failed out =
-    let named = slice_get-get_or names i d (omega (arith, within, same)) in
-    let here = slice_get-get_or runs i e within in
-    subst (λ r. HaveEnded names runs r) (sym out) (first_fault names runs i (get_or names i d) (get_or runs i e) end told whole named here is failed)
+  -- where a run has a fault, and none did before
+  pub is_fault : (names : List PortNames) (runs : List (Run O)) (i : ℕ) (d : PortNames) (e : Run O) (end result : Result Bool Fault) (told : Fault)
+      → length names ≡ length runs → i < length runs → All IsWhole (take i runs) → HasEnded (get_or names i d) (get_or runs i e).1 end → end ≡ Err told → result ≡ Err told
+      → HaveEnded names runs result
+  is_fault names runs i d e end result told same within whole is failed out =
+      let named = slice_get-get_or names i d (omega (arith, within, same)) in
+      let here = slice_get-get_or runs i e within in
+      subst (λ r. HaveEnded names runs r) (sym out) (first_fault names runs i (get_or names i d) (get_or runs i e) end told whole named here is failed)
 
--- a run without one
-no_fault : (name : List ℕ) (run : Run) (end : Result Bool Fault) (b : Bool) → HasEnded name run.1 end → end ≡ Ok b → IsWhole run × (b ≡ is_troubled run)
-no_fault name (answers, Ok ran) end b is ended = (refl, same_bool _ _ (sym ended ∙ is))
-  where
-    same_bool : (c d : Bool) → ◌≡◌ {A = Result Bool Fault} (Ok c) (Ok d) → c ≡ d
-    same_bool c d same = cc
-no_fault name (answers, Err fault) end b (said, is, of) ended = absurd (not_both _ _ (sym ended ∙ is))
-  where
-    not_both : (c : Bool) (f : Fault) → ◌≡◌ {A = Result Bool Fault} (Ok c) (Err f) → ⊥
-    not_both c f same = cc
+  -- a run without one
+  no_fault : (name : PortNames) (run : Run O) (end : Result Bool Fault) (b : Bool) → HasEnded name run.1 end → end ≡ Ok b → IsWhole run × (b ≡ is_troubled run)
+  no_fault name (answers, Ok ran) end b is ended = (refl, same_bool _ _ (sym ended ∙ is))
+    where
+      same_bool : (c d : Bool) → ◌≡◌ {A = Result Bool Fault} (Ok c) (Ok d) → c ≡ d
+      same_bool c d same = cc
+  no_fault name (answers, Err fault) end b (said, is, of) ended = absurd (not_both _ _ (sym ended ∙ is))
+    where
+      not_both : (c : Bool) (f : Fault) → ◌≡◌ {A = Result Bool Fault} (Ok c) (Err f) → ⊥
+      not_both c f same = cc
 
--- one run more without a fault
-pub none_more : (runs : List Run) (i : ℕ) (e : Run) (name : List ℕ) (end : Result Bool Fault) (troubled b : Bool)
-    → i < length runs → HasEnded name (get_or runs i e).1 end → end ≡ Ok b → All IsWhole (take i runs) × (troubled ≡ list_any is_troubled (take i runs))
-    → All IsWhole (take (i + 1) runs) × ((troubled || b) ≡ list_any is_troubled (take (i + 1) runs))
-none_more runs i e name end troubled b within is ended (whole, so_far) =
-    let one = no_fault name (get_or runs i e) end b is ended in (
-      All-more IsWhole runs i e within whole one.0,
-      (λ j. so_far j || one.1 j) ∙ sym (list_any_more is_troubled runs i e within),
-    )
+  -- one run more without a fault
+  pub none_more : (runs : List (Run O)) (i : ℕ) (e : Run O) (name : PortNames) (end : Result Bool Fault) (troubled b : Bool)
+      → i < length runs → HasEnded name (get_or runs i e).1 end → end ≡ Ok b → All IsWhole (take i runs) × (troubled ≡ list_any is_troubled (take i runs))
+      → All IsWhole (take (i + 1) runs) × ((troubled || b) ≡ list_any is_troubled (take (i + 1) runs))
+  none_more runs i e name end troubled b within is ended (whole, so_far) =
+      let one = no_fault name (get_or runs i e) end b is ended in (
+        All-more IsWhole runs i e within whole one.0,
+        (λ j. so_far j || one.1 j) ∙ sym (list_any_more is_troubled runs i e within),
+      )

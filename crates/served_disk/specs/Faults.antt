@@ -1,5 +1,6 @@
 -- The lines and the exit statuses of faults, and which fault is told of what the parts answer.
-use Rattle.std.specs.Prelude.{◌≡◌, ℕ, List, ◌++◌, codes, decimal}
+use Rattle.std.specs.Prelude.{◌≡◌, ℕ, List, ◌++◌, None, Option, Some, codes, decimal}
+use Rattle.std.specs.Borrow.{Bor}
 use Rattle.console.specs.declared.running.RunFault.{RunFault}
 use Rattle.console.specs.declared.running.RunFault.TheVariants as run
 use Rattle.sector_disk.specs.Numbers.{Byte}
@@ -10,6 +11,7 @@ use Rattle.recovery.specs.declared.fault.StoreFault.TheVariants as store
 use Rattle.settings.specs.declared.reading.SettingsFault.{SettingsFault}
 use Rattle.settings.specs.declared.reading.SettingsFault.TheVariants as settings
 use Rattle.served_disk.specs.declared.fault.Fault.{Fault}
+use Rattle.served_disk.specs.declared.port_names.PortNames.{PortNames}
 use Rattle.served_disk.specs.declared.fault.Fault.TheVariants as fault
 
 -- the line of a fault
@@ -67,8 +69,13 @@ of_store store.NoMemory = fault.Memory
 of_store store.EpochsUsedUp = fault.Epochs
 of_store store.Unready = fault.Device
 
--- of the lines in the file of this name, whose answers wait in memory: these find no room, and so are not written
-abbrev pub IsOfRun : RunFault → List Byte → Fault → Type 0
-IsOfRun run.Read name is = Names is name
-IsOfRun run.Write name is = is ≡ fault.Memory
-IsOfRun run.NoMemory name is = is ≡ fault.Memory
+-- of writing a station's answers: to a file, or into memory, where they find no room
+abbrev pub IsOfWriting : Option (Bor (List Byte)) → Fault → Type 0
+IsOfWriting (Some name) is = Names is name.now
+IsOfWriting None is = is ≡ fault.Memory
+
+-- of the lines of a station whose files are called so
+abbrev pub IsOfRun : RunFault → PortNames → Fault → Type 0
+IsOfRun run.Read names is = Names is names.input.now
+IsOfRun run.Write names is = IsOfWriting names.output is
+IsOfRun run.NoMemory names is = is ≡ fault.Memory

@@ -1,6 +1,5 @@
 -- What is printed of the runs of stations, and how they have ended.
-use Rattle.std.specs.Prelude.{◌≡◌, ◌+◌, ◌++◌, ◌∷◌, [], ℕ, Bool, true, false, All, List, Option, Some, Ok, Err, Result, Vec, is_ok, slice_get, take}
-use Rattle.std.specs.Borrow.{Bor}
+use Rattle.std.specs.Prelude.{◌≡◌, ◌+◌, ◌++◌, ◌∷◌, [], ℕ, Bool, true, false, All, List, Option, Some, Ok, Err, Result, Vec, cond, is_ok, slice_get, take}
 use Rattle.std.specs.declared.alloc.Global.{Global}
 use Rattle.std.specs.List.{list_any}
 use Rattle.console.specs.declared.running.Ran.{Ran}
@@ -10,61 +9,73 @@ use Rattle.sector_disk.specs.Numbers.{Byte}
 use Rattle.sector_disk.specs.Disk.{View}
 use Rattle.centre_core.specs.State.{State}
 use Rattle.recovery.specs.Lives.{StoreView}
+use Rattle.stations.specs.declared.port.Port.{Port}
 use Rattle.stations.specs.Served.{HasServed}
 use Rattle.served_disk.specs.declared.fault.Fault.{Fault}
 use Rattle.served_disk.specs.declared.serving.Served.{Served}
-use Rattle.served_disk.specs.Faults.{IsOfRun}
+use Rattle.served_disk.specs.declared.port_names.PortNames.{PortNames}
+use Rattle.served_disk.specs.Faults.{IsOfRun, fault_status}
 use Rattle.served_disk.specs.Telling.{station_text}
 
--- a station's answers, and how its run has ended
-abbrev pub Run : Type 0
-Run = Vec Byte Global × Result Ran RunFault
+-- what a station's answers were written to, and how its run has ended
+abbrev pub Run : Type 0 → Type 0
+Run O = O × Result Ran RunFault
 
--- stations 1, 2 and so on were served over a store that was opened, each with the lines of its reader; and it is said whether that
--- broke the store
-pub record AreServed {D I : Type 0} (disk : D → View) (J : Type 0) (base : State) (unread : I → Option (List Byte)) (opened : StoreView Global D)
-    (readers : List I) (served : Served) : Type 0 where
+-- stations 1, 2 and so on were served over a store that was opened, each with the lines and to the writer of its port; and it is said
+-- whether that broke the store
+pub record AreServed {D I O : Type 0} (disk : D → View) (J : Type 0) (base : State) (unread : I → Option (List Byte)) (written : O → Option (List Byte))
+    (opened : StoreView Global D) (ports : List (Port I O)) (served : Served O) : Type 0 where
   pub store : StoreView Global D
-  pub runs : HasServed disk J base unread opened readers store served.runs.items
+  pub runs : HasServed disk J base unread written opened ports store served.runs.items
   pub broken : served.is_broken ≡ store.broken
 
--- of this station and those after it, each with its name and its run
-abbrev pub text_from : Station → List (Bor (List Byte)) → List Run → List Byte
+-- of this station and those after it, each with its name and its answers
+abbrev pub text_from : Station → List PortNames → List (Run (Vec Byte Global)) → List Byte
 text_from station [] runs = []
 text_from station (name ∷ names) [] = []
-text_from station (name ∷ names) (run ∷ runs) = (station_text station name.now ++ run.0.items) ++ text_from (station + 1) names runs
+text_from station (name ∷ names) (run ∷ runs) = (station_text station name.input.now ++ run.0.items) ++ text_from (station + 1) names runs
 
 -- the text of all stations, the first of which is station 1
-abbrev pub stations_text : List (Bor (List Byte)) → List Run → List Byte
+abbrev pub stations_text : List PortNames → List (Run (Vec Byte Global)) → List Byte
 stations_text names runs = text_from 1 names runs
 
 -- one run has ended: it says whether an answer reported trouble, or it has this fault
-abbrev pub HasEnded : List Byte → Result Ran RunFault → Result Bool Fault → Type 0
+abbrev pub HasEnded : PortNames → Result Ran RunFault → Result Bool Fault → Type 0
 HasEnded name (Ok ran) end = end ≡ Ok ran.troubled
 HasEnded name (Err fault) end = (told : Fault) × (end ≡ Err told) × IsOfRun fault name told
 
--- an answer of this run reported trouble
-abbrev pub is_troubled : Run → Bool
-is_troubled (answers, Ok ran) = ran.troubled
-is_troubled (answers, Err fault) = false
+-- the exit status of stations that have ended so
+abbrev pub end_status : Result Bool Fault → ℕ
+end_status (Ok troubled) = cond troubled 1 0
+end_status (Err fault) = fault_status fault
 
--- the run came to the end of its text
-abbrev pub IsWhole : Run → Type 0
-IsWhole run = is_ok run.1 ≡ true
+module _ {O : Type 0} where
+  -- an answer of this run reported trouble
+  abbrev pub is_troubled : Run O → Bool
+  is_troubled (answers, Ok ran) = ran.troubled
+  is_troubled (answers, Err fault) = false
 
--- the fault is that of the first run that has one
-pub record IsFirst (names : List (Bor (List Byte))) (runs : List Run) (told : Fault) : Type 0 where
-  pub place : ℕ
-  pub name : Bor (List Byte)
-  pub run : Run
-  pub fault : RunFault
-  pub whole : All IsWhole (take place runs)
-  pub named : slice_get names place ≡ Some name
-  pub here : slice_get runs place ≡ Some run
-  pub failed : run.1 ≡ Err fault
-  pub is : IsOfRun fault name.now told
+  -- the run came to the end of its text
+  abbrev pub IsWhole : Run O → Type 0
+  IsWhole run = is_ok run.1 ≡ true
 
--- all runs have ended: with the fault of the first that has one; else each is whole, and it is said whether one is troubled
-abbrev pub HaveEnded : List (Bor (List Byte)) → List Run → Result Bool Fault → Type 0
-HaveEnded names runs (Ok troubled) = All IsWhole runs × (troubled ≡ list_any is_troubled runs)
-HaveEnded names runs (Err told) = IsFirst names runs told
+  -- the fault is that of the first run that has one
+  pub record IsFirst (names : List PortNames) (runs : List (Run O)) (told : Fault) : Type 0 where
+    pub place : ℕ
+    pub name : PortNames
+    pub run : Run O
+    pub fault : RunFault
+    pub whole : All IsWhole (take place runs)
+    pub named : slice_get names place ≡ Some name
+    pub here : slice_get runs place ≡ Some run
+    pub failed : run.1 ≡ Err fault
+    pub is : IsOfRun fault name told
+
+  -- all runs have ended: with the fault of the first that has one; else each is whole, and it is said whether one is troubled
+  abbrev pub HaveEnded : List PortNames → List (Run O) → Result Bool Fault → Type 0
+  HaveEnded names runs (Ok troubled) = All IsWhole runs × (troubled ≡ list_any is_troubled runs)
+  HaveEnded names runs (Err told) = IsFirst names runs told
+
+  -- a service over a sound disk has ended: with the exit status of how its runs have ended
+  abbrev pub HasServiceEnded : List PortNames → List (Run O) → Result ℕ Fault → Type 0
+  HasServiceEnded names runs result = (end : Result Bool Fault) × HaveEnded names runs end × (result ≡ Ok (end_status end))

@@ -3,6 +3,7 @@ ghost use Rattle.std.specs.Prelude.{◌≡◌, ◌++◌, OnOk, codes, decimal};
 ghost use Rattle.std.specs.Io.KnownBytes.{Appends};
 ghost use Rattle.served_disk.specs.Faults.{IsOfFile, IsOfRun, fault_status, fault_text, of_settings, of_store};
 
+use crate::PortNames;
 use crate::telling::{Part, tell};
 use console::RunFault;
 use file_disk::FileFault;
@@ -73,13 +74,14 @@ impl<'a> Fault<'a> {
         }
     }
 
-    /// Why the lines of the file of this name were not all answered, where the answers wait in memory.
-    pub fn of_run(fault: RunFault, name: &'a str) -> Fault<'a>
-        ensures { IsOfRun fault name.now result }
+    /// Why the lines of a station with these files were not all answered. Answers that wait in memory find none.
+    pub fn of_run(fault: RunFault, names: &PortNames<'a>) -> Fault<'a>
+        ensures { IsOfRun fault names.now result }
     {
-        match fault {
-            RunFault::Read => Fault::File(name),
-            RunFault::Write | RunFault::NoMemory => Fault::Memory,
+        match (fault, names.output) {
+            (RunFault::Read, _) => Fault::File(names.input),
+            (RunFault::Write, Some(output)) => Fault::File(output),
+            (RunFault::Write, None) | (RunFault::NoMemory, _) => Fault::Memory,
         }
     }
 

@@ -1,18 +1,22 @@
 //! The files of the stations of a run.
 ghost use Rattle.std.specs.Prelude.{◌≡◌, ◌≤◌, ◌<◌, None, OnOk, OnErr, IfErr, IfOk, length, false};
 ghost use Rattle.settings.specs.Naming.{first_twice, texts};
-ghost use Rattle.served_disk.specs.declared.fault.Fault.TheVariants.{TooMany};
+ghost use Rattle.served_disk.specs.declared.fault.Fault.TheVariants.{Memory, TooMany};
 ghost use Rattle.served_disk.specs.Files.{IsNotRead, IsOfFiles, IsOfNames};
 
-use crate::{Fault, Progress, WatchedReader};
+use crate::{Fault, PortNames, Progress, WatchedReader};
 use recovery::Store;
 use registration::Station;
 use sector_disk::Disk;
 use settings::{NameFault, name_files};
+use stations::Port;
 use std::alloc::Global;
 use std::fs::{File, Files};
 use std::io::ErrorKind;
 use std::rt::Clock;
+
+/// The port of a station whose lines are in a file, and whose answers wait in memory.
+pub type FilePort<'p, 'r, C> = Port<WatchedReader<'p, 'r, File, C>, Vec<u8>>;
 
 /// Judges the names of the files: each is there once.
 ///
@@ -61,7 +65,27 @@ pub fn not_read<'a>(kind: ErrorKind, name: &'a str) -> Fault<'a>
     }
 }
 
-/// Opens the files of stations 1, 2 and so on; their lines count there.
+/// What the files of stations 1, 2 and so on are called, whose answers wait in memory.
+///
+/// # Errors
+/// `Memory`.
+pub fn file_names<'a>(alloc: Global, files: &[&'a str]) -> Result<Vec<PortNames<'a>>, Fault<'a>>
+    ensures all { IfOk result (λ names. length names.items ≡ length files.now) }
+    ensures refused { IfErr result (λ fault. fault ≡ Memory) }
+{
+    let Ok(mut names) = Vec::with_capacity(alloc, files.len()) else {
+        return Err(Fault::Memory);
+    };
+    for file in files {
+        names.push_reserved(PortNames {
+            input: *file,
+            output: None,
+        });
+    }
+    Ok(names)
+}
+
+/// Opens the files of stations 1, 2 and so on; their lines count there, and the answers wait in memory.
 ///
 /// # Errors
 /// `File` with the first name whose file can't be opened, and `Memory`.
@@ -70,12 +94,12 @@ pub fn open_files<'a, 'p, 'r, R: Files<File = File>, C: Clock + Eprint>(
     alloc: Global,
     names: &[&'a str],
     progress: &'p Progress<'r, C>,
-) -> Result<Vec<WatchedReader<'p, 'r, File, C>>, Fault<'a>>
+) -> Result<Vec<FilePort<'p, 'r, C>>, Fault<'a>>
     requires few { length names.now ≤ 64 }
-    ensures all { IfOk result (λ readers. length readers.items ≡ length names.now) }
+    ensures all { IfOk result (λ ports. length ports.items ≡ length names.now) }
     ensures refused { IfErr result (IsOfFiles names.now) }
 {
-    let Ok(mut readers) = Vec::with_capacity(alloc, names.len()) else {
+    let Ok(mut ports) = Vec::with_capacity(alloc, names.len()) else {
         return Err(Fault::Memory);
     };
     for index in 0..names.len() {
@@ -84,7 +108,10 @@ pub fn open_files<'a, 'p, 'r, R: Files<File = File>, C: Clock + Eprint>(
             Err(error) => return Err(not_read(error.kind(), names[index])),
         };
         let station = Station::new(index as u16 + 1);
-        readers.push_reserved(WatchedReader::new(file, station, progress));
+        ports.push_reserved(Port {
+            reader: WatchedReader::new(file, station, progress),
+            writer: Vec::new(alloc),
+        });
     }
-    Ok(readers)
+    Ok(ports)
 }

@@ -2,13 +2,17 @@
 //! lines over the register that is kept on a disk, and answers a query of one.
 #![tactic(auto)]
 
+mod doorbell;
 mod fault;
 mod files;
 mod making;
 mod opening;
+mod pairs;
+mod port_names;
 mod progress;
 mod refused;
 mod running;
+mod service_watch;
 mod serving;
 mod showing;
 mod showing_disk;
@@ -16,13 +20,18 @@ mod telling;
 mod watched;
 
 pub use fault::Fault;
-pub use files::{check_names, check_stations, not_read, open_files};
+pub use files::{FilePort, check_names, check_stations, file_names, not_read, open_files};
 pub use making::{format_disk, layout_of};
 pub use opening::open_disk;
+pub use pairs::{
+    Pair, PairPort, PairReader, PairWriter, inputs_of, name_ended, names_of, pairs_of, ports_of,
+};
+pub use port_names::PortNames;
 pub use progress::Progress;
 pub use refused::Refused;
 pub use running::serve_stations;
-pub use serving::{Run, Served, TURNS, outcome, tell_stations};
+pub use service_watch::ServiceWatch;
+pub use serving::{Run, Served, TURNS, outcome, service_outcome, tell_stations};
 pub use showing::{Shown, show};
 pub use showing_disk::{show_disk, show_on};
 pub use telling::{tell_formatted, tell_station};

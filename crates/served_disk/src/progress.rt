@@ -1,14 +1,16 @@
 //! How far a run has come, reported to whoever watches.
 
+use crate::doorbell::Doorbell;
 use console::{Ran, RunFault};
 use flusher::Gate;
 use registration::Station;
 use stations::Watch;
 use std::alloc::{AllocError, Global};
+use std::io;
 use std::rt::Clock;
+use std::sync::Wait;
 use std::sync::atomic::{AtomicU64, Ordering};
-use std::time::Instant;
-use std::{io, thread};
+use std::time::{Duration, Instant};
 
 /// How far a run has come. Once a second it is reported on standard error, over what was reported before, as
 /// `12000 lines, 11998 accepted`: the lines of all stations that were served, and the commands among them that were accepted.
@@ -29,7 +31,11 @@ pub struct Progress<'r, R> {
     lines: Vec<AtomicU64>,
     /// How many commands were accepted.
     accepted: AtomicU64,
+    doorbell: Doorbell,
 }
+
+/// While figures are reported the flusher sleeps at most so many seconds.
+const BETWEEN_REPORTS: u64 = 1;
 
 /// No line of so many stations is served yet.
 fn no_lines(alloc: Global, stations: usize) -> Result<Vec<AtomicU64>, AllocError> {
@@ -54,6 +60,7 @@ impl<'r, R: Clock + Eprint> Progress<'r, R> {
             reported: AtomicU64::new(0),
             lines,
             accepted: AtomicU64::new(0),
+            doorbell: Doorbell::new(began.map(|_| Duration::from_secs(BETWEEN_REPORTS))),
         }
     }
 
@@ -148,18 +155,27 @@ impl<'r, R: Clock + Eprint> Progress<'r, R> {
     }
 }
 
-impl<'r, R: Clock + Eprint> Gate for Progress<'r, R> {
+impl<'r, R: Clock + Eprint + Wait> Gate for Progress<'r, R> {
     /// A round that has taken nothing leaves the processor to the stations.
     fn before_commit(&self, _round: u64, taken: usize) {
-        if taken == 0 {
-            thread::yield_now();
-        }
         self.look();
+        self.doorbell.rest(self.rt, taken);
     }
 }
 
-impl<'r, R: Clock + Eprint> Watch for Progress<'r, R> {
+impl<'r, R: Clock + Eprint + Wait> Watch for Progress<'r, R> {
+    fn before_entry(&self, _station: Station) {
+        self.doorbell.announce();
+    }
+
+    fn after_entry(&self, _station: Station) {
+        self.doorbell.settle();
+    }
+
     fn answered(&self, station: Station, is_accepted: bool) {
         self.count(station, is_accepted);
     }
+
+    /// Faults are reported after all answers.
+    fn ended(&self, _station: Station, _ran: &Result<Ran, RunFault>) {}
 }

@@ -9,9 +9,9 @@ use crate::serving::Served;
 use recovery::Store;
 use sector_disk::Disk;
 use snapshots::Centre;
-use stations::{ManyTerms, Watch, run_many};
+use stations::{ManyTerms, Port, Watch, run_many};
 use std::alloc::Global;
-use std::io::Read;
+use std::io::{Read, Write};
 use std::sync::Wait;
 use std::thread::Threads;
 
@@ -24,8 +24,8 @@ fn close_disk<D: Disk + Drop>(store: Store<Global, D>) -> bool
     is_broken
 }
 
-/// Answers all lines of stations 1, 2 and so on over the store, or the first of a station's lines if its run ends early; the
-/// answers wait in memory. The disk is closed when all have ended.
+/// Answers all lines of stations 1, 2 and so on over the store, each to the writer of its port, or the first of a station's
+/// lines if its run ends early. The disk is closed when all have ended.
 ///
 /// # Errors
 /// `Memory`, before any line is read.
@@ -35,21 +35,22 @@ pub fn serve_stations<
     D: Disk + Drop,
     R: Threads + Wait + Sync,
     I: Read + Send + Drop,
+    O: Write + Send + Drop,
     V: Watch + Sync,
 >(
     rt: &R,
     terms: ManyTerms,
     store: Store<Global, D>,
-    readers: Vec<I>,
+    ports: Vec<Port<I, O>>,
     watch: &V,
-) -> Result<Served, Fault<'a>>
+) -> Result<Served<O>, Fault<'a>>
     requires sound { store.broken ≡ false }
     requires centre { (terms.log.seen.book ≡ J.book) × (store.register ≡ J.base) }
-    ensures served { IfOk result (AreServed D.view J J.base I.remaining (store_view store) readers.items) }
-    ensures all { IfOk result (λ served. length served.runs.items ≡ length readers.items) }
+    ensures served { IfOk result (AreServed D.view J J.base I.remaining O.contents (store_view store) ports.items) }
+    ensures all { IfOk result (λ served. length served.runs.items ≡ length ports.items) }
     ensures fault { IfErr result (λ fault. fault ≡ Memory) }
 {
-    match run_many::<J, D, R, I, V>(rt, terms, store, readers, watch) {
+    match run_many::<J, D, R, I, O, V>(rt, terms, store, ports, watch) {
         Ok(many) => Ok(Served {
             runs: many.runs,
             is_broken: close_disk(many.store),

@@ -2,67 +2,71 @@
 ghost use Rattle.std.specs.Prelude.{◌≡◌, ◌≤◌, Err, MatchBool, OnOk, length};
 ghost use Rattle.std.specs.Io.KnownBytes.{Appends};
 ghost use Rattle.served_disk.specs.declared.fault.Fault.TheVariants.{Device};
-ghost use Rattle.served_disk.specs.Stations.{HaveEnded, HasEnded, stations_text};
+ghost use Rattle.served_disk.specs.Stations.{HasEnded, HasServiceEnded, HaveEnded, end_status, stations_text};
 
-use crate::{Fault, tell_station};
+use crate::{Fault, PortNames, tell_station};
 use console::{Ran, RunFault};
 use registration::Station;
 use std::io;
 use std::io::Write;
 
 /// The most calls of a reader: a text that has no end by then is refused.
-pub const TURNS: u32 = 1_073_741_824;
+pub const TURNS: u32 = u32::MAX;
 
-/// A station's answers, or a prefix of them, and how its run has ended.
-pub type Run = (Vec<u8>, Result<Ran, RunFault>);
+/// What a station's answers, or a prefix of them, were written to, and how its run has ended.
+pub type Run<O> = (O, Result<Ran, RunFault>);
 
 /// What the runs of stations have come to.
 #[derive(Drop)]
-pub struct Served {
+pub struct Served<O: Drop> {
     /// The run of each station, in order.
-    pub runs: Vec<Run>,
+    pub runs: Vec<Run<O>>,
     /// Whether the disk failed.
     pub is_broken: bool,
 }
 
 /// Writes the answers of stations 1, 2 and so on, each after the station and the name of its file.
-pub fn tell_stations<W: Write>(out: &mut W, names: &[&str], runs: &[Run]) -> io::Result<()>
+pub fn tell_stations<W: Write>(
+    out: &mut W,
+    names: &[PortNames<'_>],
+    runs: &[Run<Vec<u8>>],
+) -> io::Result<()>
     requires same { length names.now ≡ length runs.now }
     requires few { length runs.now ≤ 64 }
     ensures { OnOk result (Appends (W.contents out.old) (W.contents out.new) (stations_text names.now runs.now)) }
 {
     for index in 0..runs.len() {
         let station = Station::new(index as u16 + 1);
-        tell_station(out, station, names[index], &runs[index].0)?;
+        tell_station(out, station, names[index].input, &runs[index].0)?;
     }
     Ok(())
 }
 
-/// How the run over the file of this name has ended: whether an answer reported trouble, or the fault.
-fn end_of<'a>(name: &'a str, ended: &Result<Ran, RunFault>) -> Result<bool, Fault<'a>>
-    ensures { HasEnded name.now ended.now result }
+/// How the run of a station with these files has ended: whether an answer reported trouble, or the fault.
+fn end_of<'a>(names: &PortNames<'a>, ended: &Result<Ran, RunFault>) -> Result<bool, Fault<'a>>
+    ensures { HasEnded names.now ended.now result }
 {
     match ended {
         Ok(ran) => Ok(ran.troubled),
-        Err(fault) => Err(Fault::of_run(*fault, name)),
+        Err(fault) => Err(Fault::of_run(*fault, names)),
     }
 }
 
 /// How all runs have ended: the first fault of one, in order; if there is none, whether an answer of one reported trouble.
-fn ended<'a>(names: &[&'a str], runs: &[Run]) -> Result<bool, Fault<'a>>
+fn ended<'a, O>(names: &[PortNames<'a>], runs: &[Run<O>]) -> Result<bool, Fault<'a>>
     requires same { length names.now ≡ length runs.now }
     ensures { HaveEnded names.now runs.now result }
 {
     let mut troubled = false;
     for index in 0..runs.len() {
-        troubled |= end_of(names[index], &runs[index].1)?;
+        troubled |= end_of(&names[index], &runs[index].1)?;
     }
     Ok(troubled)
 }
 
 /// How a run of stations is reported, after all answers: a disk that failed; else the first fault of a station; else whether an
 /// answer reported trouble.
-pub fn outcome<'a>(names: &[&'a str], served: &Served) -> Result<bool, Fault<'a>>
+pub fn outcome<'a, O: Drop>(names: &[PortNames<'a>], served: &Served<O>) -> Result<bool, Fault<'a>>
     requires same { length names.now ≡ length served.now.runs.items }
     ensures { MatchBool served.now.is_broken (result ≡ Err Device) (HaveEnded names.now served.now.runs.items result) }
 {
@@ -70,4 +74,29 @@ pub fn outcome<'a>(names: &[&'a str], served: &Served) -> Result<bool, Fault<'a>
         return Err(Fault::Device);
     }
     ended(names, &served.runs)
+}
+
+/// The exit status of stations that have ended so: 0, or 1 if an answer reported trouble; else that of the fault.
+fn end_status(ended: &Result<bool, Fault<'_>>) -> u8
+    ensures { result ≡ end_status ended.now }
+{
+    match ended {
+        Ok(troubled) => u8::from(*troubled),
+        Err(fault) => fault.status(),
+    }
+}
+
+/// How a service ends, whose stations have reported their faults: with a disk that failed, which is to be reported last; else
+/// with the exit status of the first station, in order, that has a fault; else with 1 if an answer reported trouble, or 0.
+pub fn service_outcome<'a, O: Drop>(
+    names: &[PortNames<'a>],
+    served: &Served<O>,
+) -> Result<u8, Fault<'a>>
+    requires same { length names.now ≡ length served.now.runs.items }
+    ensures { MatchBool served.now.is_broken (result ≡ Err Device) (HasServiceEnded names.now served.now.runs.items result) }
+{
+    if !served.is_broken {
+        return Ok(end_status(&ended(names, &served.runs)));
+    }
+    Err(Fault::Device)
 }

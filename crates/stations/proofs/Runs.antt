@@ -1,6 +1,6 @@
 -- Runs of one station.
-use Rattle.std.proofs.Common.{◌≡◌, List, [], ap, ◌∙◌, subst}
-use Rattle.std.specs.Prelude.{Option, Some, Result, Err}
+use Rattle.std.proofs.Common.{◌≡◌, List, subst}
+use Rattle.std.specs.Prelude.{Option, Result, Err}
 use Rattle.std.specs.declared.alloc.Global.{Global}
 use Rattle.identity.specs.Numbers.{Byte}
 use Rattle.registration.specs.Numbers.{Station}
@@ -11,7 +11,7 @@ use Rattle.console.specs.declared.running.RunFault.{RunFault}
 use Rattle.console.specs.declared.running.RunFault.TheVariants.{NoMemory}
 use Rattle.console.proofs.Going.{short_at_once}
 use Rattle.flusher.specs.Submitted.{SessionView}
-use Rattle.stations.specs.OfSession.{AtSession, of_session}
+use Rattle.stations.specs.OfSession.{of_session}
 use Rattle.stations.specs.Done.{IsRunOf}
 
 module _ (J : Type 0) (base : State) where
@@ -28,7 +28,6 @@ module _ (J : Type 0) (base : State) where
       (record { result = r; world = record { station = q.0; view = t }; written = q.3 })) (λ i. (same i, gives i, holds i, leaves i)) run
 
   -- nothing was done for want of memory
-  pub refused : (station : Station) (unread : Option (List Byte)) (s : SessionView) (text : List Byte) → text ≡ [] → IsRunOf J base station unread s s text (Err NoMemory)
-  refused station unread s text none = λ input before known held.
-      short_at_once (of_session J base) (record { station = station; world = record { station = station; view = s }; unread = unread; written = Some [] }) before input NoMemory (Some text)
-      (ap (λ (l : List Byte). Some l) none ∙ held)
+  pub refused : (station : Station) (unread written : Option (List Byte)) (s : SessionView) → IsRunOf J base station unread written s s written (Err NoMemory)
+  refused station unread written s = λ input before known held.
+      short_at_once (of_session J base) (record { station = station; world = record { station = station; view = s }; unread = unread; written = written }) before input NoMemory written held

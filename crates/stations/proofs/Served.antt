@@ -1,5 +1,5 @@
 -- What is known of a run of many stations, from what its parts say.
-use Rattle.std.proofs.Common.{◌≡◌, ◌⊎◌, inl, inr, ℕ, zero, suc, ◌+◌, ◌<◌, List, [], ◌∷◌, ◌++◌, length, refl, sym, ap, ◌∙◌, subst, arith}
+use Rattle.std.proofs.Common.{◌≡◌, ◌⊎◌, inl, inr, ℕ, zero, suc, ◌+◌, ◌<◌, ◌≤◌, List, [], ◌∷◌, ◌++◌, length, refl, sym, ap, ◌∙◌, subst}
 use Rattle.std.specs.Prelude.{Any, Option, Some, map, slice_get, false, true}
 use Rattle.std.specs.declared.alloc.Global.{Global}
 use Rattle.std.specs.List.{AllZip}
@@ -7,25 +7,23 @@ use Rattle.std.proofs.lemmas.List.{append-nil}
 use mathlib.Core.List.{IsPrefix, Sublist}
 use Rattle.identity.specs.Numbers.{Byte}
 use Rattle.registration.specs.Numbers.{Station}
-use Rattle.sector_disk.specs.Disk.{View}
-use Rattle.answers.specs.declared.channel.AnswerSender.{AnswerSender}
-use Rattle.answers.specs.Views.{received_of}
+use Rattle.sector_disk.specs.Disk.{HasFailed, View}
+use Rattle.sector_disk.specs.Run.{LeavesOnly}
 use Rattle.centre_core.specs.Asked.{Asked}
 use Rattle.centre_core.specs.State.{State}
 use Rattle.recovery.specs.Lives.{StoreView, IsStoredIn}
-use Rattle.station_queue.specs.Ends.{Sending, sending}
+use Rattle.station_queue.specs.Ends.{Sending}
 use Rattle.station_queue.specs.declared.entry.Entry.{Entry}
 use Rattle.station_queue.specs.declared.entry.Entry.TheVariants as entry
 use Rattle.flusher.specs.Closed.{AreSessionsOf, HasFinished, IsClosed}
 use Rattle.flusher.specs.Borne.{AreBorneOut}
 use Rattle.flusher.specs.Opened.{AreNewSessions, IsNewFlusher}
 use Rattle.flusher.specs.Order.{of_station}
-use Rattle.flusher.specs.Runs.{AreRounds, HasSameEnds, HasTakenEnds}
-use Rattle.flusher.specs.Served.{IsSettled}
+use Rattle.flusher.specs.Runs.{HasSameEnds}
 use Rattle.flusher.specs.Sessions.{view_of as session_view}
 use Rattle.flusher.specs.Shared.{commands_among}
 use Rattle.flusher.specs.Stages.{Sent}
-use Rattle.flusher.specs.Stored.{IsStoredFor}
+use Rattle.flusher.specs.Stored.{IsStoredFor, StandsBetween}
 use Rattle.flusher.specs.Submitted.{SessionView}
 use Rattle.flusher.specs.View.{FlusherView}
 use Rattle.flusher.specs.declared.session.Ended.{Ended}
@@ -34,7 +32,9 @@ use Rattle.flusher.proofs.Batched.{commands_among-append}
 use Rattle.flusher.proofs.Sessions.{finished_sessions, opened_sessions, still_sessions}
 use Rattle.stations.specs.declared.job.Done.{Done}
 use Rattle.stations.specs.declared.job.Job.{Job}
+use Rattle.stations.specs.declared.port.Port.{Port}
 use Rattle.stations.specs.Done.{EndsAs, IsDone, IsRunOf}
+use Rattle.stations.specs.Flushed.{HasFlushed}
 use Rattle.stations.specs.Served.{Given, HasServed, IsBorneOut, new_view}
 use Rattle.stations.proofs.Places.{at_index, beside, map_length, mapped, one_only, zip_length, zip_mapped}
 
@@ -63,54 +63,54 @@ where_taken taken (inr more) = inr more
 pub new_of_its_own : {D : Type 0} (n : ℕ) (opened : StoreView Global D) (f : FlusherView D) → IsNewFlusher n opened f → IsNewFlusher n f.store f
 new_of_its_own n opened f new = record { queue = new.queue; count = new.count; published = new.published; durable = new.durable; store = refl; ended = new.ended }
 
-module _ {J I : Type 0} (base : State) (unread : I → Option (List Byte)) where
-  abbrev pub IsOf : Job J I → Done J → Type 0
-  IsOf job done = IsDone J base job.session (unread job.reader) done
+module _ {J I O : Type 0} (base : State) (unread : I → Option (List Byte)) (written : O → Option (List Byte)) where
+  abbrev pub IsOf : Job J I O → Done J O → Type 0
+  IsOf = IsDone J base unread written
 
   -- what each session did
-  abbrev pub views_of : (jobs : List (Job J I)) (done : List (Done J)) → AllZip IsOf jobs done → List SessionView
+  abbrev pub views_of : (jobs : List (Job J I O)) (done : List (Done J O)) → AllZip IsOf jobs done → List SessionView
   views_of [] [] all = []
   views_of [] (d ∷ ds) all = absurd all
   views_of (j ∷ js) [] all = absurd all
   views_of (j ∷ js) (d ∷ ds) all = all.0.0 ∷ views_of js ds all.1
 
-  pub views_length : (jobs : List (Job J I)) (done : List (Done J)) (all : AllZip IsOf jobs done) → length (views_of jobs done all) ≡ length jobs
+  pub views_length : (jobs : List (Job J I O)) (done : List (Done J O)) (all : AllZip IsOf jobs done) → length (views_of jobs done all) ≡ length jobs
   views_length [] [] all = refl
   views_length [] (d ∷ ds) all = absurd all
   views_length (j ∷ js) [] all = absurd all
   views_length (j ∷ js) (d ∷ ds) all = ap suc (views_length js ds all.1)
 
-  pub ends_at : (jobs : List (Job J I)) (done : List (Done J)) (all : AllZip IsOf jobs done) (k : ℕ) (j : Job J I) (v : SessionView) (d : Done J) →
-      slice_get jobs k ≡ Some j → slice_get (views_of jobs done all) k ≡ Some v → slice_get done k ≡ Some d → EndsAs J base j.session (unread j.reader) v d
+  pub ends_at : (jobs : List (Job J I O)) (done : List (Done J O)) (all : AllZip IsOf jobs done) (k : ℕ) (j : Job J I O) (v : SessionView) (d : Done J O) →
+      slice_get jobs k ≡ Some j → slice_get (views_of jobs done all) k ≡ Some v → slice_get done k ≡ Some d → EndsAs J base unread written j v d
   ends_at [] [] all k j v d e f h = absurd cc
   ends_at [] (y ∷ ys) all k j v d e f h = absurd all
   ends_at (x ∷ xs) [] all k j v d e f h = absurd all
   ends_at (x ∷ xs) (y ∷ ys) all zero j v d e f h =
-      subst (λ (q : Job J I × SessionView × Done J). EndsAs J base q.0.session (unread q.0.reader) q.1 q.2) (λ i. (one x j e i, one all.0.0 v f i, one y d h i)) all.0.1
+      subst (λ (q : Job J I O × SessionView × Done J O). EndsAs J base unread written q.0 q.1 q.2) (λ i. (one x j e i, one all.0.0 v f i, one y d h i)) all.0.1
     where
       one : {Z : Type 0} (p q : Z) → Some p ≡ Some q → p ≡ q
       one p q e = cc
   ends_at (x ∷ xs) (y ∷ ys) all (suc k) j v d e f h = ends_at xs ys all.1 k j v d e f h
 
   -- each session is still the one of its station
-  pub finished : (jobs : List (Job J I)) (done : List (Done J)) → AllZip IsOf jobs done → AllZip HasFinished (map (λ (j : Job J I). j.session) jobs) (map (λ (d : Done J). d.ended) done)
-  finished jobs done all = zip_mapped (λ (j : Job J I). j.session) (λ (d : Done J). d.ended) IsOf HasFinished
+  pub finished : (jobs : List (Job J I O)) (done : List (Done J O)) → AllZip IsOf jobs done → AllZip HasFinished (map (λ (j : Job J I O). j.session) jobs) (map (λ (d : Done J O). d.ended) done)
+  finished jobs done all = zip_mapped (λ (j : Job J I O). j.session) (λ (d : Done J O). d.ended) IsOf HasFinished
       (λ j d is. record { queue = ap (λ (s : Sending). s.queue) is.1.sender; station = ap (λ (s : Sending). s.station) is.1.sender; channel = is.1.channel }) jobs done all
 
-  module _ {D : Type 0} (first last : FlusherView D) (sessions : List (Session J)) (readers : List I) (jobs : List (Job J I)) (done : List (Done J))
-      (with_sessions : map (λ (j : Job J I). j.session) jobs ≡ sessions) (with_readers : map (λ (j : Job J I). j.reader) jobs ≡ readers)
+  module _ {D : Type 0} (first last : FlusherView D) (sessions : List (Session J)) (ports : List (Port I O)) (jobs : List (Job J I O)) (done : List (Done J O))
+      (with_sessions : map (λ (j : Job J I O). j.session) jobs ≡ sessions) (with_ports : map (λ (j : Job J I O). j.port) jobs ≡ ports)
       (new : AreNewSessions first.taker.queue first.senders sessions) (all : AllZip IsOf jobs done) where
     -- the ended sessions are those of the flusher
-    pub sessions_ended : HasSameEnds first last → AreSessionsOf last (map (λ (d : Done J). d.ended) done)
+    pub sessions_ended : HasSameEnds first last → AreSessionsOf last (map (λ (d : Done J O). d.ended) done)
     sessions_ended same =
         let open_all = opened_sessions first sessions new in
-        let fin = subst (λ (l : List (Session J)). AllZip HasFinished l (map (λ (d : Done J). d.ended) done)) with_sessions (finished jobs done all) in
-        still_sessions first last same (map (λ (d : Done J). d.ended) done) (finished_sessions first sessions (map (λ (d : Done J). d.ended) done) fin open_all)
+        let fin = subst (λ (l : List (Session J)). AllZip HasFinished l (map (λ (d : Done J O). d.ended) done)) with_sessions (finished jobs done all) in
+        still_sessions first last same (map (λ (d : Done J O). d.ended) done) (finished_sessions first sessions (map (λ (d : Done J O). d.ended) done) fin open_all)
 
     -- the session at a place was new, of the station of that place
-    new_at : (k : ℕ) (j : Job J I) → slice_get jobs k ≡ Some j → (j.session.sender.station ≡ k + 1) × (session_view j.session ≡ new_view)
+    new_at : (k : ℕ) (j : Job J I O) → slice_get jobs k ≡ Some j → (j.session.sender.station ≡ k + 1) × (session_view j.session ≡ new_view)
     new_at k j at =
-        let here = subst (λ (l : List (Session J)). slice_get l k ≡ Some j.session) with_sessions (mapped (λ (x : Job J I). x.session) jobs k j at) in
+        let here = subst (λ (l : List (Session J)). slice_get l k ≡ Some j.session) with_sessions (mapped (λ (x : Job J I O). x.session) jobs k j at) in
         let a = beside first.senders sessions k j.session new.count here in
         let n = new.each k a.0 j.session a.1 here in (
           ap (λ (s : Sending). s.station) n.sender,
@@ -118,30 +118,30 @@ module _ {J I : Type 0} (base : State) (unread : I → Option (List Byte)) where
         )
 
     -- what each run gave
-    abbrev pub given_of : Done J → Given
-    given_of d = (d.text, d.ran)
+    abbrev pub given_of : Done J O → Given O
+    given_of d = (d.writer, d.ran)
 
-    pub each_run : (k : ℕ) (reader : I) (run : Given) (view : SessionView) → slice_get readers k ≡ Some reader → slice_get (map given_of done) k ≡ Some run →
-        slice_get (views_of jobs done all) k ≡ Some view → IsRunOf J base (k + 1) (unread reader) new_view view run.0.items run.1
-    each_run k reader run view at_reader at_run at_view =
+    pub each_run : (k : ℕ) (port : Port I O) (run : Given O) (view : SessionView) → slice_get ports k ≡ Some port → slice_get (map given_of done) k ≡ Some run →
+        slice_get (views_of jobs done all) k ≡ Some view → IsRunOf J base (k + 1) (unread port.reader) (written port.writer) new_view view (written run.0) run.1
+    each_run k port run view at_port at_run at_view =
         let j = beside jobs (views_of jobs done all) k view (views_length jobs done all) at_view in
         let d = beside done jobs k j.0 (sym (zip_length IsOf jobs done all)) j.1 in
         let e = ends_at jobs done all k j.0 view d.0 j.1 at_view d.1 in
         let n = new_at k j.0 j.1 in
-        let same_reader = one_only readers k j.0.reader reader (subst (λ (l : List I). slice_get l k ≡ Some j.0.reader) with_readers (mapped (λ (x : Job J I). x.reader) jobs k j.0 j.1)) at_reader in
+        let same_port = one_only ports k j.0.port port (subst (λ (l : List (Port I O)). slice_get l k ≡ Some j.0.port) with_ports (mapped (λ (x : Job J I O). x.port) jobs k j.0 j.1)) at_port in
         let same_run = one_only (map given_of done) k (given_of d.0) run (mapped given_of done k d.0 d.1) at_run in
-        subst (λ (q : Station × I × SessionView × Given). IsRunOf J base q.0 (unread q.1) q.2 view q.3.0.items q.3.1) (λ i. (n.0 i, same_reader i, n.1 i, same_run i)) e.run
+        subst (λ (q : Station × Port I O × SessionView × Given O). IsRunOf J base q.0 (unread q.1.reader) (written q.1.writer) q.2 view (written q.3.0) q.3.1) (λ i. (n.0 i, same_port i, n.1 i, same_run i)) e.run
 
     -- what is known of each session, by what is known of its end
-    pub each_borne : IsClosed base last (map (λ (d : Done J). d.ended) done) → AreSessionsOf last (map (λ (d : Done J). d.ended) done) →
+    pub each_borne : IsClosed base last (map (λ (d : Done J O). d.ended) done) → AreSessionsOf last (map (λ (d : Done J O). d.ended) done) →
         (k : ℕ) (view : SessionView) → slice_get (views_of jobs done all) k ≡ Some view → IsBorneOut base last.durable (k + 1) view
     each_borne closed are k view at_view =
         let j = beside jobs (views_of jobs done all) k view (views_length jobs done all) at_view in
         let d = beside done jobs k j.0 (sym (zip_length IsOf jobs done all)) j.1 in
         let e = ends_at jobs done all k j.0 view d.0 j.1 at_view d.1 in
         let n = new_at k j.0 j.1 in
-        let there = mapped (λ (x : Done J). x.ended) done k d.0 d.1 in
-        let a = beside last.senders (map (λ (x : Done J). x.ended) done) k d.0.ended are.count there in
+        let there = mapped (λ (x : Done J O). x.ended) done k d.0 d.1 in
+        let a = beside last.senders (map (λ (x : Done J O). x.ended) done) k d.0.ended are.count there in
         let c = closed.each k a.0 d.0.ended a.1 there in
         let station = ap (λ (s : Sending). s.station) e.sender ∙ n.0 in
         let sent = ap (λ (s : Sending). commands_among s.sent) e.sender ∙ commands_before_end view.sent j.0.session.sender.station in
@@ -152,44 +152,52 @@ module _ {J I : Type 0} (base : State) (unread : I → Option (List Byte)) where
         }
 
     -- a session that has seen more
-    pub more_seen : Any (λ (e : Ended J). length last.published < length e.viewer) (map (λ (d : Done J). d.ended) done) →
+    pub more_seen : Any (λ (e : Ended J). length last.published < length e.viewer) (map (λ (d : Done J O). d.ended) done) →
         (k : ℕ) × (view : SessionView) × (slice_get (views_of jobs done all) k ≡ Some view) × (length last.published < length view.seen)
     more_seen any =
         let k = any.0 in
-        let there = at_index (map (λ (x : Done J). x.ended) done) k any.1 any.2 any.3 in
-        let d = beside done (map (λ (x : Done J). x.ended) done) k any.1 (map_length (λ (x : Done J). x.ended) done) there in
-        let same = one_only (map (λ (x : Done J). x.ended) done) k any.1 d.0.ended there (mapped (λ (x : Done J). x.ended) done k d.0 d.1) in
+        let there = at_index (map (λ (x : Done J O). x.ended) done) k any.1 any.2 any.3 in
+        let d = beside done (map (λ (x : Done J O). x.ended) done) k any.1 (map_length (λ (x : Done J O). x.ended) done) there in
+        let same = one_only (map (λ (x : Done J O). x.ended) done) k any.1 d.0.ended there (mapped (λ (x : Done J O). x.ended) done k d.0 d.1) in
         let v = beside (views_of jobs done all) done k d.0 (zip_length IsOf jobs done all ∙ sym (views_length jobs done all)) d.1 in
         let j = beside jobs done k d.0 (zip_length IsOf jobs done all) d.1 in
         let e = ends_at jobs done all k j.0 v.0 d.0 j.1 v.1 d.1 in
         (k, v.0, v.1, subst (λ n. length last.published < n) (ap (λ (x : Ended J). length x.viewer) same ∙ ap length e.seen) any.4)
 
     -- all of it
-    pub has_served : (disk : D → View) (opened store : StoreView Global D) (n : ℕ) → opened.broken ≡ false → n ≡ length readers → IsNewFlusher n opened first → AreRounds base first last →
-        HasTakenEnds last → IsSettled base last → (IsStoredFor disk base first → IsStoredFor disk base last) → HasSameEnds first last → store ≡ last.store →
-        (ended : List (Ended J)) (runs : List Given) → ended ≡ map (λ (d : Done J). d.ended) done → runs ≡ map given_of done →
+    pub has_served : (disk : D → View) (opened store : StoreView Global D) (n : ℕ) → opened.broken ≡ false → n ≡ length ports → IsNewFlusher n opened first → HasFlushed disk base first last → store ≡ last.store →
+        (ended : List (Ended J)) (runs : List (Given O)) → ended ≡ map (λ (d : Done J O). d.ended) done → runs ≡ map given_of done →
         (IsClosed base last ended ⊎ Any (λ (e : Ended J). length last.published < length e.viewer) ended) →
-        HasServed disk J base unread opened readers store runs
-    has_served disk opened store n whole count begun rounds ends settled stored same store_is ended runs is_ended is_runs closed =
-        let jobs_length : length jobs ≡ length readers = sym (map_length (λ (x : Job J I). x.reader) jobs) ∙ ap length with_readers in
-        let runs_length : length runs ≡ length readers = ap length is_runs ∙ map_length given_of done ∙ zip_length IsOf jobs done all ∙ jobs_length in
+        HasServed disk J base unread written opened ports store runs
+    has_served disk opened store n whole count begun flushed store_is ended runs is_ended is_runs closed =
+        let jobs_length : length jobs ≡ length ports = sym (map_length (λ (x : Job J I O). x.port) jobs) ∙ ap length with_ports in
+        let sound_first : first.store.broken ≡ false = ap (λ (s : StoreView Global D). s.broken) begun.store ∙ whole in
+        let runs_length : length runs ≡ length ports = ap length is_runs ∙ map_length given_of done ∙ zip_length IsOf jobs done all ∙ jobs_length in
         record {
           first = first;
           last = last;
           begun = subst (λ m. IsNewFlusher m opened first) count begun;
-          rounds = rounds;
-          ended = ends;
-          settled = settled;
+          rounds = flushed.rounds;
+          ended = flushed.ended;
+          settled = flushed.settled;
           store_is = store_is;
-          stored = λ honest kept. stored (stored_first disk base opened n first whole begun honest kept);
+          stored = λ honest kept. flushed.stored (stored_first disk base opened n first whole begun honest kept);
+          any_moment = λ honest kept. at_ends (λ s t. LeavesOnly (disk s.disk) (disk t.disk) (StandsBetween base first last))
+              (flushed.any_moment (stored_first disk base opened n first whole begun honest kept) sound_first);
+          later = at_ends (λ s t. (disk s.disk).failures ≤ (disk t.disk).failures) flushed.later;
+          failed = λ broken. at_ends (λ s t. HasFailed (disk s.disk) (disk t.disk)) (flushed.failed sound_first (sym (ap (λ (s : StoreView Global D). s.broken) store_is) ∙ broken));
           views = views_of jobs done all;
           count = (runs_length, views_length jobs done all ∙ jobs_length);
-          each = λ k reader run view at_reader at_run at_view. each_run k reader run view at_reader (subst (λ (l : List Given). slice_get l k ≡ Some run) is_runs at_run) at_view;
+          each = λ k port run view at_port at_run at_view. each_run k port run view at_port (subst (λ (l : List (Given O)). slice_get l k ≡ Some run) is_runs at_run) at_view;
           closed = either ended is_ended closed;
         }
       where
-        either : (ended : List (Ended J)) → ended ≡ map (λ (d : Done J). d.ended) done → (IsClosed base last ended ⊎ Any (λ (e : Ended J). length last.published < length e.viewer) ended) →
+        -- what is known of the stores of the first and the last flusher is known of these two
+        at_ends : (P : StoreView Global D → StoreView Global D → Type 0) → P first.store last.store → P opened store
+        at_ends P h = subst (λ t. P opened t) (sym store_is) (subst (λ s. P s last.store) begun.store h)
+
+        either : (ended : List (Ended J)) → ended ≡ map (λ (d : Done J O). d.ended) done → (IsClosed base last ended ⊎ Any (λ (e : Ended J). length last.published < length e.viewer) ended) →
             ((k : ℕ) (view : SessionView) → slice_get (views_of jobs done all) k ≡ Some view → IsBorneOut base last.durable (k + 1) view)
             ⊎ ((k : ℕ) × (view : SessionView) × (slice_get (views_of jobs done all) k ≡ Some view) × (length last.published < length view.seen))
-        either ended is (inl closed) = inl (each_borne (subst (λ l. IsClosed base last l) is closed) (sessions_ended same))
+        either ended is (inl closed) = inl (each_borne (subst (λ l. IsClosed base last l) is closed) (sessions_ended flushed.same))
         either ended is (inr any) = inr (more_seen (subst (λ l. Any (λ (e : Ended J). length last.published < length e.viewer) l) is any))

@@ -1,5 +1,5 @@
 -- What comes of the run of one station.
-use Rattle.std.specs.Prelude.{◌≡◌, List, [], ◌∷◌, ◌++◌, Option, Some, Result}
+use Rattle.std.specs.Prelude.{◌≡◌, List, [], ◌∷◌, ◌++◌, Option, Result}
 use Rattle.std.specs.declared.alloc.Global.{Global}
 use Rattle.identity.specs.Numbers.{Byte}
 use Rattle.registration.specs.Numbers.{Station}
@@ -11,28 +11,29 @@ use Rattle.station_queue.specs.declared.entry.Entry.TheVariants as entry
 use Rattle.console.specs.Runs.{IsRun}
 use Rattle.console.specs.declared.running.Ran.{Ran}
 use Rattle.console.specs.declared.running.RunFault.{RunFault}
-use Rattle.flusher.specs.declared.session.Session.{Session}
 use Rattle.flusher.specs.Sessions.{view_of}
 use Rattle.flusher.specs.Submitted.{SessionView}
 use Rattle.stations.specs.OfSession.{of_session}
 use Rattle.stations.specs.declared.job.Done.{Done}
+use Rattle.stations.specs.declared.job.Job.{Job}
 
 module _ (J : Type 0) (base : State) where
-  -- the lines of a station that a reader has left were answered by its session: what it had sent, received and seen before and after,
-  -- the whole text of the answers, and how the run ended
-  abbrev pub IsRunOf : Station → Option (List Byte) → SessionView → SessionView → List Byte → Result Ran RunFault → Type 0
-  IsRunOf station unread s t text ran =
-      IsRun Global (of_session J base) (record { station = station; world = record { station = station; view = s }; unread = unread; written = Some [] })
-      (record { result = ran; world = record { station = station; view = t }; written = Some text })
+  -- the lines of a station were answered by its session: what its reader had left and its writer held before, what the session had sent,
+  -- received and seen before and after, how the run ended, and what the writer holds after it
+  abbrev pub IsRunOf : Station → Option (List Byte) → Option (List Byte) → SessionView → SessionView → Option (List Byte) → Result Ran RunFault → Type 0
+  IsRunOf station unread written s t after ran =
+      IsRun Global (of_session J base) (record { station = station; world = record { station = station; view = s }; unread = unread; written = written })
+      (record { result = ran; world = record { station = station; view = t }; written = after })
 
-  -- a session answered such lines and then ended, and this came of it: so it was after the run, and then it sent its end alone
-  pub record EndsAs (session : Session J) (unread : Option (List Byte)) (last : SessionView) (done : Done J) : Type 0 where
-    pub run : IsRunOf session.sender.station unread (view_of session) last done.text.items done.ran
-    pub sender : done.ended.sender ≡ sending session.sender.queue session.sender.station (last.sent ++ entry.Ended session.sender.station ∷ [])
-    pub received : received_of done.ended.receiver.pass ≡ last.received
-    pub channel : receives_on done.ended.receiver.channel ≡ receives_on session.receiver.channel
-    pub seen : done.ended.viewer ≡ last.seen
+  module _ {I O : Type 0} (unread : I → Option (List Byte)) (written : O → Option (List Byte)) where
+    -- a session answered the lines of its port and then ended, and this came of it: so it was after the run, and then it sent its end alone
+    pub record EndsAs (job : Job J I O) (last : SessionView) (done : Done J O) : Type 0 where
+      pub run : IsRunOf job.session.sender.station (unread job.port.reader) (written job.port.writer) (view_of job.session) last (written done.writer) done.ran
+      pub sender : done.ended.sender ≡ sending job.session.sender.queue job.session.sender.station (last.sent ++ entry.Ended job.session.sender.station ∷ [])
+      pub received : received_of done.ended.receiver.pass ≡ last.received
+      pub channel : receives_on done.ended.receiver.channel ≡ receives_on job.session.receiver.channel
+      pub seen : done.ended.viewer ≡ last.seen
 
-  -- the same, whatever it did
-  abbrev pub IsDone : Session J → Option (List Byte) → Done J → Type 0
-  IsDone session unread done = (last : SessionView) × EndsAs session unread last done
+    -- the same, whatever it did
+    abbrev pub IsDone : Job J I O → Done J O → Type 0
+    IsDone job done = (last : SessionView) × EndsAs job last done

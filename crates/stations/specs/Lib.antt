@@ -2,4 +2,5 @@ pub mod OfSession
 pub mod GoesOn
 pub mod OneRun
 pub mod Done
+pub mod Flushed
 pub mod Served

@@ -1,10 +1,11 @@
 -- What a run of many stations does.
-use Rattle.std.specs.Prelude.{◌≡◌, ◌⊎◌, ◌+◌, ◌<◌, ℕ, List, [], length, Option, Result, slice_get, Some, Vec}
+use Rattle.std.specs.Prelude.{◌≡◌, ◌⊎◌, ◌+◌, ◌<◌, ◌≤◌, ℕ, List, [], length, Option, Result, slice_get, Some, true}
 use Rattle.std.specs.declared.alloc.Global.{Global}
 use mathlib.Core.List.{IsPrefix, Sublist}
 use Rattle.identity.specs.Numbers.{Byte}
 use Rattle.registration.specs.Numbers.{Station}
-use Rattle.sector_disk.specs.Disk.{View}
+use Rattle.sector_disk.specs.Disk.{HasFailed, View}
+use Rattle.sector_disk.specs.Run.{LeavesOnly}
 use Rattle.centre_core.specs.Asked.{Asked}
 use Rattle.centre_core.specs.State.{State}
 use Rattle.recovery.specs.Lives.{StoreView, IsStoredIn}
@@ -16,14 +17,15 @@ use Rattle.flusher.specs.Order.{of_station}
 use Rattle.flusher.specs.Runs.{AreRounds, HasTakenEnds}
 use Rattle.flusher.specs.Served.{IsSettled}
 use Rattle.flusher.specs.Shared.{commands_among}
-use Rattle.flusher.specs.Stored.{IsStoredFor}
+use Rattle.flusher.specs.Stored.{IsStoredFor, StandsBetween}
 use Rattle.flusher.specs.Submitted.{SessionView}
 use Rattle.flusher.specs.View.{FlusherView}
 use Rattle.stations.specs.Done.{IsRunOf}
+use Rattle.stations.specs.declared.port.Port.{Port}
 
--- what the run of a station gives: the text of its answers, and how it ended
-abbrev pub Given : Type 0
-Given = Vec Byte Global × Result Ran RunFault
+-- what the run of a station gives: the writer of its port, and how it ended
+abbrev pub Given : Type 0 → Type 0
+Given O = O × Result Ran RunFault
 
 -- a session that has sent, received and seen nothing
 abbrev pub new_view : SessionView
@@ -37,15 +39,14 @@ pub record IsBorneOut (base : State) (durable : List (Asked Global)) (station : 
   pub answers : AreBorneOut base durable 0 view.received
   pub order : Sublist (of_station station durable) (commands_among view.sent)
 
--- Stations 1, 2 and so on were served over a store that was opened, each with the lines of its reader, and this store and these runs
--- came of it.
-pub record HasServed {D I : Type 0} (disk : D → View) (J : Type 0) (base : State) (unread : I → Option (List Byte)) (opened : StoreView Global D)
-    (readers : List I) (store : StoreView Global D) (runs : List Given) : Type 0 where
+-- Stations 1, 2 and so on were served over a store that was opened, each with its port, and this store and these runs came of it.
+pub record HasServed {D I O : Type 0} (disk : D → View) (J : Type 0) (base : State) (unread : I → Option (List Byte)) (written : O → Option (List Byte))
+    (opened : StoreView Global D) (ports : List (Port I O)) (store : StoreView Global D) (runs : List (Given O)) : Type 0 where
   -- a new flusher of the store has done rounds until it had taken the end of each session; what is durable then is a history, and the
   -- register of a sound store is what it makes of the base
   pub first : FlusherView D
   pub last : FlusherView D
-  pub begun : IsNewFlusher (length readers) opened first
+  pub begun : IsNewFlusher (length ports) opened first
   pub rounds : AreRounds base first last
   pub ended : HasTakenEnds last
   pub settled : IsSettled base last
@@ -53,11 +54,16 @@ pub record HasServed {D I : Type 0} (disk : D → View) (J : Type 0) (base : Sta
   -- if each image of the disk stood for the register at first, it stands for what is durable, or for that and what was under way
   -- when the disk failed
   pub stored : (disk opened.disk).honest → IsStoredIn Global disk opened → IsStoredFor disk base last
-  -- one run for each reader, in order of station: its lines were answered by a new session of its station
+  -- a stop at any moment of the run leaves the disk standing for what was durable at some moment of it
+  pub any_moment : (disk opened.disk).honest → IsStoredIn Global disk opened → LeavesOnly (disk opened.disk) (disk store.disk) (StandsBetween base first last)
+  -- only a failure of the disk breaks the store
+  pub later : (disk opened.disk).failures ≤ (disk store.disk).failures
+  pub failed : store.broken ≡ true → HasFailed (disk opened.disk) (disk store.disk)
+  -- one run for each port, in order of station: its lines were answered by a new session of its station, after what its writer held
   pub views : List SessionView
-  pub count : (length runs ≡ length readers) × (length views ≡ length readers)
-  pub each : (k : ℕ) (reader : I) (run : Given) (view : SessionView) → slice_get readers k ≡ Some reader → slice_get runs k ≡ Some run → slice_get views k ≡ Some view →
-      IsRunOf J base (k + 1) (unread reader) new_view view run.0.items run.1
+  pub count : (length runs ≡ length ports) × (length views ≡ length ports)
+  pub each : (k : ℕ) (port : Port I O) (run : Given O) (view : SessionView) → slice_get ports k ≡ Some port → slice_get runs k ≡ Some run → slice_get views k ≡ Some view →
+      IsRunOf J base (k + 1) (unread port.reader) (written port.writer) new_view view (written run.0) run.1
   -- each session is borne out by what is durable; or one has seen more commands than are published, which never happens
   pub closed : ((k : ℕ) (view : SessionView) → slice_get views k ≡ Some view → IsBorneOut base last.durable (k + 1) view)
       ⊎ ((k : ℕ) × (view : SessionView) × (slice_get views k ≡ Some view) × (length last.published < length view.seen))

@@ -1,19 +1,20 @@
 //! What the thread of a station begins with, and what comes of it.
+use crate::port::Port;
 use console::{Ran, RunFault};
 use flusher::{Ended, Session};
 use snapshots::Centre;
 
-/// The session of a station, and what its lines are read from.
+/// The session of a station, and its port.
 #[derive(Drop)]
-pub(crate) struct Job<J: Centre, I: Drop> {
+pub(crate) struct Job<J: Centre, I: Drop, O: Drop> {
     pub(crate) session: Session<J>,
-    pub(crate) reader: I,
+    pub(crate) port: Port<I, O>,
 }
 
-/// The session of a station at its end, all that was answered, and how the run ended.
+/// The session of a station at its end, the writer of its port, and how the run ended.
 #[derive(Drop)]
-pub(crate) struct Done<J: Centre> {
+pub(crate) struct Done<J: Centre, O: Drop> {
     pub(crate) ended: Ended<J>,
-    pub(crate) text: Vec<u8>,
+    pub(crate) writer: O,
     pub(crate) ran: Result<Ran, RunFault>,
 }

@@ -4,6 +4,7 @@
 mod job;
 mod many_stations;
 mod one_station;
+mod port;
 mod session_desk;
 mod station_job;
 mod station_threads;
@@ -11,4 +12,5 @@ mod watch;
 
 pub use many_stations::{Many, ManyTerms, run_many};
 pub use one_station::{Serving, run_session};
+pub use port::Port;
 pub use watch::Watch;

@@ -11,22 +11,22 @@ ghost use Rattle.stations.specs.Served.{HasServed};
 
 use crate::job::{Done, Job};
 use crate::one_station::Serving;
+use crate::port::Port;
 use crate::station_job::Shared;
 use crate::station_threads::{Held, ThreadRoom, serve_all};
 use crate::watch::Watch;
-use centre_core::Register;
 use console::{Ran, RunFault};
-use flusher::{CentreFault, Ended, Flusher, Session, close, open_centre};
+use flusher::{CentreFault, Ended, Flusher, Session, close, has_place, open_centre, register_of};
 use recovery::Store;
 use sector_disk::Disk;
 use snapshots::{Centre, NewLog};
 use std::alloc::{AllocError, Global};
-use std::io::Read;
+use std::io::{Read, Write};
 use std::sync::Wait;
 use std::sync::atomic::AtomicU64;
 use std::thread::Threads;
 
-/// What a run of many stations is given beside its store and its readers.
+/// What a run of many stations is given beside its store and its ports.
 #[derive(Drop)]
 pub struct ManyTerms {
     /// Where all that it needs lies.
@@ -39,31 +39,31 @@ pub struct ManyTerms {
 
 /// What came of a run of many stations.
 #[derive(Drop)]
-pub struct Many<D: Disk> {
+pub struct Many<D: Disk, O: Drop> {
     /// The store. It is broken if the disk has failed.
     pub store: Store<Global, D>,
-    /// Of each station in order, the text of its answers, and how its run ended.
-    pub runs: Vec<(Vec<u8>, Result<Ran, RunFault>)>,
+    /// Of each station in order, the writer of its port, and how its run ended.
+    pub runs: Vec<(O, Result<Ran, RunFault>)>,
 }
 
 /// Room for what comes of so many stations.
 #[derive(Drop)]
-struct Room<J: Centre, I: Read + Drop> {
+struct Room<J: Centre, I: Read + Drop, O: Write + Drop> {
     stations: usize,
-    jobs: Vec<Job<J, I>>,
-    threads: ThreadRoom<J, I>,
+    jobs: Vec<Job<J, I, O>>,
+    threads: ThreadRoom<J, I, O>,
     ended: Vec<Ended<J>>,
-    runs: Vec<(Vec<u8>, Result<Ran, RunFault>)>,
+    runs: Vec<(O, Result<Ran, RunFault>)>,
     pub ghost threads_room: { stations ≤ threads.stations },
     pub ghost new: { (jobs.items ≡ []) × (ended.items ≡ []) × (runs.items ≡ []) },
     pub ghost room: { (stations ≤ vec_capacity jobs) × (stations ≤ vec_capacity ended) × (stations ≤ vec_capacity runs) },
 }
 
 // Room for the threads of so many stations.
-fn thread_room<J: Centre, I: Read + Drop>(
+fn thread_room<J: Centre, I: Read + Drop, O: Write + Drop>(
     alloc: Global,
     stations: usize,
-) -> Result<ThreadRoom<J, I>, AllocError>
+) -> Result<ThreadRoom<J, I, O>, AllocError>
     ensures { IfOk result (λ r. r.stations ≡ stations) }
 {
     let begun = Vec::with_capacity(alloc, stations)?;
@@ -76,10 +76,10 @@ fn thread_room<J: Centre, I: Read + Drop>(
 }
 
 // Room for so many stations.
-fn room_for<J: Centre, I: Read + Drop>(
+fn room_for<J: Centre, I: Read + Drop, O: Write + Drop>(
     alloc: Global,
     stations: usize,
-) -> Result<Room<J, I>, AllocError>
+) -> Result<Room<J, I, O>, AllocError>
     ensures { IfOk result (λ r. r.stations ≡ stations) }
 {
     let jobs = Vec::with_capacity(alloc, stations)?;
@@ -95,66 +95,48 @@ fn room_for<J: Centre, I: Read + Drop>(
     })
 }
 
-// The register of a store that is not broken.
-fn register_of<D: Disk>(store: &Store<Global, D>) -> &Register<Global>
-    requires { store.now.broken ≡ false }
-    ensures { result.now ≡ store.now.register }
-{
-    let Some(register) = store.register() else {
-        unreachable!()
-    };
-    register
-}
-
-// Whether a register has a station for each of so many readers, and there is one at least.
-fn has_place(register: &Register<Global>, readers: usize) -> bool
-    ensures { result ≡ has_place register.now.registered.limits.stations readers }
-{
-    0 < readers && readers <= register.limits().stations as usize
-}
-
-// Each session with its reader, in order.
-fn jobs_of<J: Centre, I: Read + Drop>(
+// Each session with its port, in order.
+fn jobs_of<J: Centre, I: Read + Drop, O: Write + Drop>(
     sessions: Vec<Session<J>>,
-    readers: Vec<I>,
-    mut jobs: Vec<Job<J, I>>,
-) -> Vec<Job<J, I>>
-    requires count { length sessions.items ≡ length readers.items }
+    ports: Vec<Port<I, O>>,
+    mut jobs: Vec<Job<J, I, O>>,
+) -> Vec<Job<J, I, O>>
+    requires count { length sessions.items ≡ length ports.items }
     requires new { jobs.items ≡ [] }
     requires room { vec_len sessions ≤ vec_capacity jobs }
     ensures sessions { map (λ job. job.session) result.items ≡ sessions.items }
-    ensures readers { map (λ job. job.reader) result.items ≡ readers.items }
+    ensures ports { map (λ job. job.port) result.items ≡ ports.items }
     ensures count { vec_len result ≡ vec_len sessions }
 {
-    let mut readers = readers.into_iter();
+    let mut ports = ports.into_iter();
     for session in sessions {
-        let Some(reader) = readers.next() else {
+        let Some(port) = ports.next() else {
             unreachable!()
         };
-        jobs.push_reserved(Job { session, reader });
+        jobs.push_reserved(Job { session, port });
     }
     jobs
 }
 
 // The ended sessions apart from what their runs gave, both in order.
-fn apart<J: Centre>(
-    done: Vec<Done<J>>,
+fn apart<J: Centre, O: Drop>(
+    done: Vec<Done<J, O>>,
     mut ended: Vec<Ended<J>>,
-    mut runs: Vec<(Vec<u8>, Result<Ran, RunFault>)>,
-) -> (Vec<Ended<J>>, Vec<(Vec<u8>, Result<Ran, RunFault>)>)
+    mut runs: Vec<(O, Result<Ran, RunFault>)>,
+) -> (Vec<Ended<J>>, Vec<(O, Result<Ran, RunFault>)>)
     requires new { (ended.items ≡ []) × (runs.items ≡ []) }
     requires room { (vec_len done ≤ vec_capacity ended) × (vec_len done ≤ vec_capacity runs) }
     ensures ended { result.0.items ≡ map (λ d. d.ended) done.items }
-    ensures runs { result.1.items ≡ map (λ d. (d.text, d.ran)) done.items }
+    ensures runs { result.1.items ≡ map (λ d. (d.writer, d.ran)) done.items }
 {
     for one in done {
         let Done {
             ended: end,
-            text,
+            writer,
             ran,
         } = one;
         ended.push_reserved(end);
-        runs.push_reserved((text, ran));
+        runs.push_reserved((writer, ran));
     }
     (ended, runs)
 }
@@ -187,19 +169,20 @@ fn serve_opened<
     D: Disk + Drop,
     R: Threads + Wait + Sync,
     I: Read + Send + Drop,
+    O: Write + Send + Drop,
     V: Watch + Sync,
 >(
     shared: &Shared<R, V>,
     opened: (Flusher<J, D>, Vec<Session<J>>),
-    readers: Vec<I>,
-    room: Room<J, I>,
-) -> Many<D>
+    ports: Vec<Port<I, O>>,
+    room: Room<J, I, O>,
+) -> Many<D, O>
     requires settled { IsSettled J.base (view_of opened.0) }
-    requires flusher { IsNewFlusher (vec_len readers) (view_of opened.0).store (view_of opened.0) }
+    requires flusher { IsNewFlusher (vec_len ports) (view_of opened.0).store (view_of opened.0) }
     requires sound { (view_of opened.0).store.broken ≡ false }
     requires sessions { AreNewSessions (view_of opened.0).taker.queue (view_of opened.0).senders opened.1.items }
-    requires room { room.stations ≡ vec_len readers }
-    ensures { HasServed D.view J J.base I.remaining (view_of opened.0).store readers.items (store_view result.store) result.runs.items }
+    requires room { room.stations ≡ vec_len ports }
+    ensures { HasServed D.view J J.base I.remaining O.contents (view_of opened.0).store ports.items (store_view result.store) result.runs.items }
 {
     let (flusher, sessions) = opened;
     let Room {
@@ -209,7 +192,7 @@ fn serve_opened<
         ended,
         runs,
     } = room;
-    let jobs = jobs_of(sessions, readers, jobs);
+    let jobs = jobs_of(sessions, ports, jobs);
     let rt = shared.serving.rt;
     let (held, done) = serve_all(shared, Held { flusher, rt }, jobs, threads);
     let (ended, runs) = apart(done, ended, runs);
@@ -217,37 +200,38 @@ fn serve_opened<
     Many { store, runs }
 }
 
-/// Serves the readers as stations 1, 2 and so on over a store, which must not be broken: each in a thread of its own, by a session of
+/// Serves the ports as stations 1, 2 and so on over a store, which must not be broken: each in a thread of its own, by a session of
 /// its station, beside one flusher in this thread. It returns once each has ended.
 ///
 /// A station whose run ends before its reader ends that station alone. Where no thread can be made for a station, its run ends for want
-/// of memory before its first line. `NoPlace` comes exactly if the number of readers is not from 1 to the register's limit of stations;
+/// of memory before its first line. `NoPlace` comes exactly if the number of ports is not from 1 to the register's limit of stations;
 /// else all that the run keeps is taken before the first thread begins, and `NoMemory` gives the store back as it was.
 pub fn run_many<
     J: Centre + Send + Sync,
     D: Disk + Drop,
     R: Threads + Wait + Sync,
     I: Read + Send + Drop,
+    O: Write + Send + Drop,
     V: Watch + Sync,
 >(
     rt: &R,
     terms: ManyTerms,
     store: Store<Global, D>,
-    readers: Vec<I>,
+    ports: Vec<Port<I, O>>,
     watch: &V,
-) -> Result<Many<D>, (CentreFault, Store<Global, D>)>
+) -> Result<Many<D, O>, (CentreFault, Store<Global, D>)>
     requires sound { store.broken ≡ false }
     requires centre { (terms.log.seen.book ≡ J.book) × (store.register ≡ J.base) }
 
     // How each station's lines were answered, and what became of the store.
-    ensures served { IfOk result (λ many. HasServed D.view J J.base I.remaining (store_view store) readers.items (store_view many.store) many.runs.items) }
+    ensures served { IfOk result (λ many. HasServed D.view J J.base I.remaining O.contents (store_view store) ports.items (store_view many.store) many.runs.items) }
 
     // Which fault comes, and that the store comes back as it was.
-    ensures place { IfOk result (λ many. has_place store.register.registered.limits.stations (vec_len readers) ≡ true) }
-    ensures fault { IfErr result (λ e. e.0 ≡ cond (has_place store.register.registered.limits.stations (vec_len readers)) NoMemory NoPlace) }
+    ensures place { IfOk result (λ many. has_place store.register.registered.limits.stations (vec_len ports) ≡ true) }
+    ensures fault { IfErr result (λ e. e.0 ≡ cond (has_place store.register.registered.limits.stations (vec_len ports)) NoMemory NoPlace) }
     ensures same { IfErr result (λ e. e.1 ≡ store) }
 {
-    let stations = readers.len();
+    let stations = ports.len();
     if !has_place(register_of(&store), stations) {
         return Err((CentreFault::NoPlace, store));
     }
@@ -267,7 +251,7 @@ pub fn run_many<
                 serving,
                 refused: AtomicU64::new(0),
             };
-            Ok(serve_opened(&shared, opened, readers, room))
+            Ok(serve_opened(&shared, opened, ports, room))
         }
         Err(fault) => Err(fault),
     }

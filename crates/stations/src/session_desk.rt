@@ -157,9 +157,12 @@ impl<'r, 'w, K: Began, J: Centre, R: Wait, V: Watch> Desk<Global>
         alloc: Global,
         command: &Command<Global>,
     ) -> Result<Reply<Global>, Service> {
+        let station = self.session.station();
+        self.watch.before_entry(station);
         let replied = submit(self.rt, &mut self.session, alloc, command);
+        self.watch.after_entry(station);
         let accepted = matches!(&replied, Ok(Reply::Accepted { .. }));
-        self.watch.answered(self.session.station(), accepted);
+        self.watch.answered(station, accepted);
         replied
     }
 

@@ -1,17 +1,18 @@
 //! What the thread of a station does.
-ghost use Rattle.std.specs.Prelude.{◌≡◌, ◌<◌, []};
+ghost use Rattle.std.specs.Prelude.{◌≡◌, ◌<◌};
 ghost use Rattle.flusher.specs.Sessions.{IsSameSession, view_of};
 ghost use Rattle.stations.specs.Done.{IsDone, IsRunOf};
 
 use crate::job::{Done, Job};
 use crate::one_station::{Serving, run_session};
+use crate::port::Port;
 use crate::watch::Watch;
 use console::{Input, Output, Ran, RunFault};
 use flusher::Session;
 use prefix_tree::Steps;
 use registration::Station;
 use snapshots::Centre;
-use std::io::Read;
+use std::io::{Read, Write};
 use std::marker::Brand;
 use std::sync::Wait;
 use std::sync::atomic::{AtomicU64, Ordering};
@@ -33,11 +34,11 @@ struct Blanks {
     failures: Blank,
 }
 
-fn answer_in<L: Ledger, F: Ledger, G: Ledger, J: Centre, R: Wait, V: Watch, I: Read>(
+fn answer_in<L: Ledger, F: Ledger, G: Ledger, J: Centre, R: Wait, V: Watch, I: Read, O: Write>(
     blanks: Blanks,
     serving: &Serving<R, V>,
     reader: &mut I,
-    text: &mut Vec<u8>,
+    writer: &mut O,
     session: Session<J>,
 ) -> (Session<J>, Result<Ran, RunFault>)
     requires steps_name { blanks.steps.name ≡ L.name }
@@ -49,8 +50,8 @@ fn answer_in<L: Ledger, F: Ledger, G: Ledger, J: Centre, R: Wait, V: Watch, I: R
     requires failures_name { blanks.failures.name ≡ G.name }
     requires failures_parts { blanks.failures.parts ≡ G.parts }
     requires failures_some { 0 < blanks.failures.parts }
-    requires new { text.old.items ≡ [] }
-    ensures answers { IsRunOf J J.base session.sender.station (I.remaining reader.old) (view_of session) (view_of result.0) text.new.items result.1 }
+    ensures answers { IsRunOf J J.base session.sender.station (I.remaining reader.old) (O.contents writer.old) (view_of session) (view_of result.0)
+        (O.contents writer.new) result.1 }
     ensures same { IsSameSession session result.0 }
 {
     let Blanks {
@@ -62,19 +63,19 @@ fn answer_in<L: Ledger, F: Ledger, G: Ledger, J: Centre, R: Wait, V: Watch, I: R
     let mut faults = Steps::<F>::new(faults);
     let mut failures = Steps::<G>::new(failures);
     let mut input = Input::new(reader, &mut steps, &mut faults);
-    let mut output = Output::new(text, &mut failures);
+    let mut output = Output::new(writer, &mut failures);
     run_session(serving, &mut input, &mut output, session)
 }
 
-// Answers all lines of a reader by a session, or the first of them where the run ends early. The text is that and nothing else.
-fn answer_lines<J: Centre, R: Wait, V: Watch, I: Read>(
+// Answers all lines of a reader by a session, or the first of them where the run ends early. Nothing else is written.
+fn answer_lines<J: Centre, R: Wait, V: Watch, I: Read, O: Write>(
     serving: &Serving<R, V>,
     reader: &mut I,
-    text: &mut Vec<u8>,
+    writer: &mut O,
     session: Session<J>,
 ) -> (Session<J>, Result<Ran, RunFault>)
-    requires new { text.old.items ≡ [] }
-    ensures answers { IsRunOf J J.base session.sender.station (I.remaining reader.old) (view_of session) (view_of result.0) text.new.items result.1 }
+    ensures answers { IsRunOf J J.base session.sender.station (I.remaining reader.old) (O.contents writer.old) (view_of session) (view_of result.0)
+        (O.contents writer.new) result.1 }
     ensures same { IsSameSession session result.0 }
 {
     let blanks = Blanks {
@@ -82,7 +83,7 @@ fn answer_lines<J: Centre, R: Wait, V: Watch, I: Read>(
         faults: Blank::new(1),
         failures: Blank::new(1),
     };
-    answer_in::<Brand, Brand, Brand, J, R, V, I>(blanks, serving, reader, text, session)
+    answer_in::<Brand, Brand, Brand, J, R, V, I, O>(blanks, serving, reader, writer, session)
 }
 
 impl<'r, 'w, R: Wait, V: Watch> Shared<'r, 'w, R, V> {
@@ -99,35 +100,40 @@ impl<'r, 'w, R: Wait, V: Watch> Shared<'r, 'w, R, V> {
 }
 
 // Answers the lines of a station. Where no thread could be made for it, memory is missing before its first line.
-fn run_station<J: Centre, R: Wait, V: Watch, I: Read>(
+fn run_station<J: Centre, R: Wait, V: Watch, I: Read, O: Write>(
     shared: &Shared<R, V>,
     reader: &mut I,
-    text: &mut Vec<u8>,
+    writer: &mut O,
     session: Session<J>,
 ) -> (Session<J>, Result<Ran, RunFault>)
-    requires new { text.old.items ≡ [] }
-    ensures answers { IsRunOf J J.base session.sender.station (I.remaining reader.old) (view_of session) (view_of result.0) text.new.items result.1 }
+    ensures answers { IsRunOf J J.base session.sender.station (I.remaining reader.old) (O.contents writer.old) (view_of session) (view_of result.0)
+        (O.contents writer.new) result.1 }
     ensures same { IsSameSession session result.0 }
 {
     if shared.is_refused(session.station()) {
         return (session, Err(RunFault::NoMemory));
     }
-    answer_lines(&shared.serving, reader, text, session)
+    answer_lines(&shared.serving, reader, writer, session)
 }
 
 /// Answers the lines of a station, and ends its session, whatever came of the run.
-pub(crate) fn serve<J: Centre, R: Wait, V: Watch, I: Read + Drop>(
+pub(crate) fn serve<J: Centre, R: Wait, V: Watch, I: Read + Drop, O: Write + Drop>(
     shared: &Shared<R, V>,
-    job: Job<J, I>,
-) -> Done<J>
-    ensures { IsDone J J.base job.session (I.remaining job.reader) result }
+    job: Job<J, I, O>,
+) -> Done<J, O>
+    ensures { IsDone J J.base I.remaining O.contents job result }
 {
-    let Job {
-        session,
+    let Job { session, port } = job;
+    let Port {
         mut reader,
-    } = job;
-    let mut text = Vec::new(shared.serving.alloc);
-    let (session, ran) = run_station(shared, &mut reader, &mut text, session);
+        mut writer,
+    } = port;
+    let (session, ran) = run_station(shared, &mut reader, &mut writer, session);
+    let station = session.station();
+    let watch = shared.serving.watch;
+    watch.ended(station, &ran);
+    watch.before_entry(station);
     let ended = session.finish(shared.serving.rt);
-    Done { ended, text, ran }
+    watch.after_entry(station);
+    Done { ended, writer, ran }
 }

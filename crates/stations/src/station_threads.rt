@@ -1,11 +1,10 @@
 //! A thread for each station, beside the flusher.
 ghost use Rattle.std.specs.Prelude.{◌≡◌, ◌≤◌, [], MatchResult, vec_capacity, vec_len};
 ghost use Rattle.std.specs.List.{AllZip};
-ghost use Rattle.flusher.specs.Runs.{AreRounds, HasSameEnds, HasTakenEnds};
 ghost use Rattle.flusher.specs.Served.{IsSettled};
-ghost use Rattle.flusher.specs.Stored.{IsStoredFor};
 ghost use Rattle.flusher.specs.View.{view_of};
 ghost use Rattle.stations.specs.Done.{IsDone};
+ghost use Rattle.stations.specs.Flushed.{HasFlushed};
 
 use crate::job::{Done, Job};
 use crate::station_job::{Shared, serve};
@@ -13,7 +12,7 @@ use crate::watch::Watch;
 use flusher::Flusher;
 use sector_disk::Disk;
 use snapshots::Centre;
-use std::io::Read;
+use std::io::{Read, Write};
 use std::snapshot::Snapshot;
 use std::sync::Wait;
 use std::thread;
@@ -21,18 +20,18 @@ use std::thread::{Promise, PromisedHandle, Scope, Threads};
 
 /// That what comes of a thread is what came of this job.
 #[derive(Drop)]
-pub(crate) struct DoneOf<J: Centre, I: Read + Drop> {
-    job: Snapshot<Job<J, I>>,
+pub(crate) struct DoneOf<J: Centre, I: Read + Drop, O: Write + Drop> {
+    job: Snapshot<Job<J, I, O>>,
 }
 
-impl<J: Centre, I: Read + Drop> Promise<Done<J>> for DoneOf<J, I> {
+impl<J: Centre, I: Read + Drop, O: Write + Drop> Promise<Done<J, O>> for DoneOf<J, I, O> {
     ghost use Rattle.stations.specs.Done.{IsDone};
 
-    ghost kept_by = { λ p done. IsDone J J.base p.job.value.session (I.remaining p.job.value.reader) done };
+    ghost kept_by = { λ p done. IsDone J J.base I.remaining O.contents p.job.value done };
 }
 
 /// A station that was begun: its thread, or what came of it where no thread could be made.
-pub(crate) type Begun<J, I> = Result<PromisedHandle<Done<J>, DoneOf<J, I>>, Done<J>>;
+pub(crate) type Begun<J, I, O> = Result<PromisedHandle<Done<J, O>, DoneOf<J, I, O>>, Done<J, O>>;
 
 /// A flusher that may be let go: its store is then dropped.
 pub(crate) struct Held<'r, R: Wait, J: Centre, D: Disk + Drop> {
@@ -68,8 +67,9 @@ fn begin<
     R: Wait + Sync + 's,
     V: Watch + Sync + 's,
     I: Read + Send + Drop + 's,
->(scope: &Scope<'s, E>, shared: &'s Shared<'s, 's, R, V>, job: Job<J, I>) -> Begun<J, I>
-    ensures { MatchResult result (λ h. h.promise.job.value ≡ job) (λ done. IsDone J J.base job.session (I.remaining job.reader) done) }
+    O: Write + Send + Drop + 's,
+>(scope: &Scope<'s, E>, shared: &'s Shared<'s, 's, R, V>, job: Job<J, I, O>) -> Begun<J, I, O>
+    ensures { MatchResult result (λ h. h.promise.job.value ≡ job) (λ done. IsDone J J.base I.remaining O.contents job done) }
 {
     let station = job.session.station();
     let promise = DoneOf {
@@ -92,15 +92,16 @@ fn begin_all<
     R: Wait + Sync + 's,
     V: Watch + Sync + 's,
     I: Read + Send + Drop + 's,
+    O: Write + Send + Drop + 's,
 >(
     scope: &Scope<'s, E>,
     shared: &'s Shared<'s, 's, R, V>,
-    jobs: Vec<Job<J, I>>,
-    mut begun: Vec<Begun<J, I>>,
-) -> Vec<Begun<J, I>>
+    jobs: Vec<Job<J, I, O>>,
+    mut begun: Vec<Begun<J, I, O>>,
+) -> Vec<Begun<J, I, O>>
     requires new { begun.items ≡ [] }
     requires room { vec_len jobs ≤ vec_capacity begun }
-    ensures begun { AllZip (λ job b. MatchResult b (λ h. h.promise.job.value ≡ job) (λ done. IsDone J J.base job.session (I.remaining job.reader) done)) jobs.items result.items }
+    ensures begun { AllZip (λ job b. MatchResult b (λ h. h.promise.job.value ≡ job) (λ done. IsDone J J.base I.remaining O.contents job done)) jobs.items result.items }
     ensures count { vec_len result ≡ vec_len jobs }
 {
     for job in jobs {
@@ -110,8 +111,11 @@ fn begin_all<
 }
 
 // What came of a station, once its thread has returned.
-fn end<J: Centre, R: Threads, I: Read + Drop>(rt: &R, begun: Begun<J, I>) -> Done<J>
-    ensures { MatchResult begun (λ h. IsDone J J.base h.promise.job.value.session (I.remaining h.promise.job.value.reader) result) (λ done. result ≡ done) }
+fn end<J: Centre, R: Threads, I: Read + Drop, O: Write + Drop>(
+    rt: &R,
+    begun: Begun<J, I, O>,
+) -> Done<J, O>
+    ensures { MatchResult begun (λ h. IsDone J J.base I.remaining O.contents h.promise.job.value result) (λ done. result ≡ done) }
 {
     match begun {
         Ok(thread) => thread.join(rt),
@@ -120,14 +124,14 @@ fn end<J: Centre, R: Threads, I: Read + Drop>(rt: &R, begun: Begun<J, I>) -> Don
 }
 
 // The same of each, in order.
-fn end_all<J: Centre, R: Threads, I: Read + Drop>(
+fn end_all<J: Centre, R: Threads, I: Read + Drop, O: Write + Drop>(
     rt: &R,
-    begun: Vec<Begun<J, I>>,
-    mut done: Vec<Done<J>>,
-) -> Vec<Done<J>>
+    begun: Vec<Begun<J, I, O>>,
+    mut done: Vec<Done<J, O>>,
+) -> Vec<Done<J, O>>
     requires new { done.items ≡ [] }
     requires room { vec_len begun ≤ vec_capacity done }
-    ensures { AllZip (λ b d. MatchResult b (λ h. IsDone J J.base h.promise.job.value.session (I.remaining h.promise.job.value.reader) d) (λ done. d ≡ done)) begun.items result.items }
+    ensures { AllZip (λ b d. MatchResult b (λ h. IsDone J J.base I.remaining O.contents h.promise.job.value d) (λ done. d ≡ done)) begun.items result.items }
 {
     for one in begun {
         done.push_reserved(end(rt, one));
@@ -137,10 +141,10 @@ fn end_all<J: Centre, R: Threads, I: Read + Drop>(
 
 /// Room for so many stations: for their threads, and for what comes of them.
 #[derive(Drop)]
-pub(crate) struct ThreadRoom<J: Centre, I: Read + Drop> {
+pub(crate) struct ThreadRoom<J: Centre, I: Read + Drop, O: Write + Drop> {
     pub(crate) stations: usize,
-    pub(crate) begun: Vec<Begun<J, I>>,
-    pub(crate) done: Vec<Done<J>>,
+    pub(crate) begun: Vec<Begun<J, I, O>>,
+    pub(crate) done: Vec<Done<J, O>>,
     pub ghost new: { (begun.items ≡ []) × (done.items ≡ []) },
     pub ghost room: { (stations ≤ vec_capacity begun) × (stations ≤ vec_capacity done) },
 }
@@ -154,21 +158,18 @@ fn serve_in<
     R: Threads + Wait + Sync + 's,
     V: Watch + Sync + 's,
     I: Read + Send + Drop + 's,
+    O: Write + Send + Drop + 's,
 >(
     scope: &Scope<'s, E>,
     shared: &'s Shared<'s, 's, R, V>,
     flusher: &mut Flusher<J, D>,
-    jobs: Vec<Job<J, I>>,
-    room: ThreadRoom<J, I>,
-) -> Vec<Done<J>>
+    jobs: Vec<Job<J, I, O>>,
+    room: ThreadRoom<J, I, O>,
+) -> Vec<Done<J, O>>
     requires settled { IsSettled J.base (view_of flusher.old) }
     requires room { vec_len jobs ≤ room.stations }
-    ensures settled { IsSettled J.base (view_of flusher.new) }
-    ensures rounds { AreRounds J.base (view_of flusher.old) (view_of flusher.new) }
-    ensures stored { IsStoredFor D.view J.base (view_of flusher.old) → IsStoredFor D.view J.base (view_of flusher.new) }
-    ensures ended { HasTakenEnds (view_of flusher.new) }
-    ensures same { HasSameEnds (view_of flusher.old) (view_of flusher.new) }
-    ensures done { AllZip (λ job done. IsDone J J.base job.session (I.remaining job.reader) done) jobs.items result.items }
+    ensures flushed { HasFlushed D.view J.base (view_of flusher.old) (view_of flusher.new) }
+    ensures done { AllZip (λ job done. IsDone J J.base I.remaining O.contents job done) jobs.items result.items }
 {
     let begun = begin_all(scope, shared, jobs, room.begun);
     flusher.run(shared.serving.rt, shared.serving.watch);
@@ -185,21 +186,18 @@ fn serve_held<
     R: Threads + Wait + Sync + 's,
     V: Watch + Sync + 's,
     I: Read + Send + Drop + 's,
+    O: Write + Send + Drop + 's,
 >(
     scope: &Scope<'s, E>,
     shared: &'s Shared<'s, 's, R, V>,
     mut held: Held<'r, R, J, D>,
-    jobs: Vec<Job<J, I>>,
-    room: ThreadRoom<J, I>,
-) -> (Held<'r, R, J, D>, Vec<Done<J>>)
+    jobs: Vec<Job<J, I, O>>,
+    room: ThreadRoom<J, I, O>,
+) -> (Held<'r, R, J, D>, Vec<Done<J, O>>)
     requires settled { IsSettled J.base (view_of held.flusher) }
     requires room { vec_len jobs ≤ room.stations }
-    ensures settled { IsSettled J.base (view_of result.0.flusher) }
-    ensures rounds { AreRounds J.base (view_of held.entry.flusher) (view_of result.0.flusher) }
-    ensures stored { IsStoredFor D.view J.base (view_of held.entry.flusher) → IsStoredFor D.view J.base (view_of result.0.flusher) }
-    ensures ended { HasTakenEnds (view_of result.0.flusher) }
-    ensures same { HasSameEnds (view_of held.entry.flusher) (view_of result.0.flusher) }
-    ensures done { AllZip (λ job done. IsDone J J.base job.session (I.remaining job.reader) done) jobs.items result.1.items }
+    ensures flushed { HasFlushed D.view J.base (view_of held.entry.flusher) (view_of result.0.flusher) }
+    ensures done { AllZip (λ job done. IsDone J J.base I.remaining O.contents job done) jobs.items result.1.items }
 {
     let done = serve_in(scope, shared, &mut held.flusher, jobs, room);
     (held, done)
@@ -214,30 +212,25 @@ pub(crate) fn serve_all<
     R: Threads + Wait + Sync,
     V: Watch + Sync,
     I: Read + Send + Drop,
+    O: Write + Send + Drop,
 >(
     shared: &Shared<R, V>,
     held: Held<'r, R, J, D>,
-    jobs: Vec<Job<J, I>>,
-    room: ThreadRoom<J, I>,
-) -> (Held<'r, R, J, D>, Vec<Done<J>>)
+    jobs: Vec<Job<J, I, O>>,
+    room: ThreadRoom<J, I, O>,
+) -> (Held<'r, R, J, D>, Vec<Done<J, O>>)
     requires settled { IsSettled J.base (view_of held.flusher) }
     requires room { vec_len jobs ≤ room.stations }
-    ensures settled { IsSettled J.base (view_of result.0.flusher) }
-    ensures rounds { AreRounds J.base (view_of held.entry.flusher) (view_of result.0.flusher) }
-    ensures stored { IsStoredFor D.view J.base (view_of held.entry.flusher) → IsStoredFor D.view J.base (view_of result.0.flusher) }
-    ensures ended { HasTakenEnds (view_of result.0.flusher) }
-    ensures same { HasSameEnds (view_of held.entry.flusher) (view_of result.0.flusher) }
-    ensures done { AllZip (λ job done. IsDone J J.base job.session (I.remaining job.reader) done) jobs.items result.1.items }
+    ensures flushed { HasFlushed D.view J.base (view_of held.entry.flusher) (view_of result.0.flusher) }
+    ensures done { AllZip (λ job done. IsDone J J.base I.remaining O.contents job done) jobs.items result.1.items }
 {
     thread::scope(
         thread::scope_env(),
         shared.serving.rt,
-        move |scope| -> (Held<R, J, D>, Vec<Done<J>>)
+        move |scope| -> (Held<R, J, D>, Vec<Done<J, O>>)
             requires { IsSettled J.base (view_of held.flusher) × (vec_len jobs ≤ room.stations) }
-            ensures { IsSettled J.base (view_of result.0.flusher) × AreRounds J.base (view_of held.entry.flusher) (view_of result.0.flusher)
-                × (IsStoredFor D.view J.base (view_of held.entry.flusher) → IsStoredFor D.view J.base (view_of result.0.flusher))
-                × HasTakenEnds (view_of result.0.flusher) × HasSameEnds (view_of held.entry.flusher) (view_of result.0.flusher)
-                × AllZip (λ job done. IsDone J J.base job.session (I.remaining job.reader) done) jobs.items result.1.items }
+            ensures { HasFlushed D.view J.base (view_of held.entry.flusher) (view_of result.0.flusher)
+                × AllZip (λ job done. IsDone J J.base I.remaining O.contents job done) jobs.items result.1.items }
         { serve_held(scope, shared, held, jobs, room) },
     )
 }

@@ -1,10 +1,24 @@
 //! What is shown of a run while it goes on.
 
+use console::{Ran, RunFault};
 use flusher::Gate;
 use registration::Station;
 
 /// What is shown of a run while it goes on. It is the gate of the flusher's rounds too.
+///
+/// Each call is made in the station's thread. If no thread could be made for the station, `ended` and the calls for the end of its
+/// session are made in the thread of the run, before its first round.
 pub trait Watch: Gate {
-    /// A command or query of this station was answered; whether that accepted a command. It is called in the station's thread.
+    /// An entry of this station is about to be put into the queue: a command, or the end of its session. A command that is out of
+    /// memory is not put.
+    fn before_entry(&self, station: Station);
+
+    /// The entry was put. A command was answered, too.
+    fn after_entry(&self, station: Station);
+
+    /// A command or query of this station was answered; whether that accepted a command.
     fn answered(&self, station: Station, is_accepted: bool);
+
+    /// The run of this station has ended so. Its session ends next.
+    fn ended(&self, station: Station, ran: &Result<Ran, RunFault>);
 }

@@ -1,13 +1,14 @@
 //! Two stations: the second one asks while the gate holds the commit of the first. Then two of which the first can't be read.
 ghost use Rattle.std.specs.Prelude.{◌≡◌, false};
 
+use crate::stores::new_store;
 use console::{Ran, RunFault};
 use flusher::Gate;
-use live_centre::{WatchedDisk, comes_to, opened, with_rule, worked_disk};
+use live_centre::{WatchedDisk, comes_to};
 use recovery::Store;
 use registration::Station;
 use snapshots::{Centre, NewLog};
-use stations::{Many, ManyTerms, Watch, run_many};
+use stations::{Many, ManyTerms, Port, Watch, run_many};
 use std::alloc::Global;
 use std::io;
 use std::io::{ErrorKind, Read};
@@ -48,9 +49,15 @@ impl Gate for Stages {
 }
 
 impl Watch for Stages {
+    fn before_entry(&self, _station: Station) {}
+
+    fn after_entry(&self, _station: Station) {}
+
     fn answered(&self, _station: Station, _is_accepted: bool) {
         self.shown.fetch_add(1, Ordering::SeqCst);
     }
+
+    fn ended(&self, _station: Station, _ran: &Result<Ran, RunFault>) {}
 }
 
 // What a reader does at its first call.
@@ -111,7 +118,7 @@ fn one_line() -> Result<Ran, RunFault> {
 
 // How many commands its register has accepted, and whether these two runs came of it.
 fn ends(
-    many: &Many<WatchedDisk>,
+    many: &Many<WatchedDisk, Vec<u8>>,
     first: (&[u8], Result<Ran, RunFault>),
     second: &[u8],
 ) -> Option<u64> {
@@ -123,6 +130,23 @@ fn ends(
     if good { Some(register.count()) } else { None }
 }
 
+// A port of this line, whose answers wait in memory.
+fn port_of<'a>(
+    alloc: Global,
+    text: &'a [u8],
+    first: First,
+    stages: &'a Stages,
+) -> Port<Line<'a>, Vec<u8>> {
+    Port {
+        reader: Line {
+            text,
+            first,
+            stages,
+        },
+        writer: Vec::new(alloc),
+    }
+}
+
 // The runs of two stations, of which the first one's reader does this.
 fn both<J: Centre + Send + Sync, R: Threads + Wait + Sync>(
     rt: &R,
@@ -130,7 +154,7 @@ fn both<J: Centre + Send + Sync, R: Threads + Wait + Sync>(
     store: Store<Global, WatchedDisk>,
     first: First,
     stages: &Stages,
-) -> Option<Many<WatchedDisk>>
+) -> Option<Many<WatchedDisk, Vec<u8>>>
     requires sound { store.broken ≡ false }
     requires centre { (terms.log.seen.book ≡ J.book) × (store.register ≡ J.base) }
 {
@@ -139,20 +163,12 @@ fn both<J: Centre + Send + Sync, R: Threads + Wait + Sync>(
     } else {
         First::Waits
     };
-    let readers = vec![in terms.alloc;
-        Line {
-            text: FIRST,
-            first,
-            stages
-        },
-        Line {
-            text: SECOND,
-            first: second,
-            stages
-        },
+    let ports = vec![in terms.alloc;
+        port_of(terms.alloc, FIRST, first, stages),
+        port_of(terms.alloc, SECOND, second, stages),
     ]
     .ok()?;
-    match run_many::<J, WatchedDisk, R, Line, Stages>(rt, terms, store, readers, stages) {
+    match run_many::<J, WatchedDisk, R, Line, Vec<u8>, Stages>(rt, terms, store, ports, stages) {
         Ok(many) => Some(many),
         Err(fault) => {
             drop(fault);
@@ -167,9 +183,8 @@ fn served<R: Threads + Wait + Sync>(
     alloc: Global,
     first: First,
     stages: &Stages,
-) -> Option<Many<WatchedDisk>> {
-    let disk = with_rule(alloc, worked_disk(alloc, 4, 39, 4_000)?)?;
-    let store = opened(alloc, disk)?;
+) -> Option<Many<WatchedDisk, Vec<u8>>> {
+    let store = new_store(alloc)?;
     let terms = ManyTerms {
         alloc,
         turns: 1_000,

@@ -3,3 +3,7 @@
 
 #[cfg(test)]
 mod held;
+#[cfg(test)]
+mod stores;
+#[cfg(test)]
+mod writers;

@@ -2,7 +2,7 @@
 //! on a disk.
 #![tactic(auto)]
 
-ghost use Rattle.std.specs.Prelude.{◌≡◌, ◌≤◌, IfOk, false, length};
+ghost use Rattle.std.specs.Prelude.{◌≡◌, ◌≤◌, IfOk, OnOk, false, length};
 
 use centre_core::Register;
 use command_line::{Refusal, Request, read_command_line};
@@ -12,15 +12,16 @@ use recovery::Store;
 use registration::{Limits, Station};
 use sector_disk::Disk;
 use served_disk::{
-    Fault, Progress, Served, TURNS, WatchedDesk, WatchedReader, check_names, check_stations,
-    format_disk, layout_of, not_read, open_disk, open_files, outcome, serve_stations, show_disk,
-    tell_formatted, tell_stations,
+    Fault, PortNames, Progress, Served, ServiceWatch, TURNS, WatchedDesk, WatchedReader,
+    check_names, check_stations, file_names, format_disk, inputs_of, layout_of, name_ended,
+    names_of, not_read, open_disk, open_files, outcome, pairs_of, ports_of, serve_stations,
+    service_outcome, show_disk, tell_formatted, tell_stations,
 };
 use snapshots::NewLog;
-use stations::ManyTerms;
+use stations::{ManyTerms, Port, Watch};
 use std::alloc::Global;
 use std::fs::{File, Files};
-use std::io::{IsTerminal, Write};
+use std::io::{IsTerminal, Read, Write};
 use std::marker::Brand;
 use std::process::ExitCode;
 use std::rt::Clock;
@@ -46,13 +47,21 @@ fn main(rt: HostRuntime) -> ExitCode {
         Err(refusal) => return tell_refusal(&rt, &refusal),
     };
     let ended = match &request {
-        Request::Serve => serve_lines(&rt),
-        Request::Format { settings, disk } => make_disk(&rt, settings, disk),
+        Request::Memory => status_of(serve_memory(&rt)),
+        Request::Format { settings, disk } => status_of(make_disk(&rt, settings, disk)),
         Request::Run { disk, files } => {
             let watched = rt.stderr().is_terminal();
-            run_files(&rt, rt.alloc(), disk, files, watched)
+            status_of(run_files(&rt, rt.alloc(), disk, files, watched))
         }
-        Request::Show { disk, words } => show_words(&rt, disk, words),
+        Request::Serve { disk, pairs } if pairs.is_empty() => {
+            let port = Port {
+                reader: rt.stdin(),
+                writer: rt.stdout(),
+            };
+            serve_port(&rt, rt.alloc(), disk, port)
+        }
+        Request::Serve { disk, pairs } => serve_pairs(&rt, rt, disk, pairs),
+        Request::Show { disk, words } => status_of(show_words(&rt, disk, words)),
     };
     exit_code(&rt, ended)
 }
@@ -78,10 +87,15 @@ fn tell_refusal(rt: &HostRuntime, refusal: &Refusal) -> ExitCode {
     }
 }
 
-/// Tells a fault on standard error.
-fn exit_code(rt: &HostRuntime, ended: Result<bool, Fault<'_>>) -> ExitCode {
+/// The exit status of a request that was carried out: 1 if an answer reported trouble.
+fn status_of<'a>(ended: Result<bool, Fault<'a>>) -> Result<u8, Fault<'a>> {
+    ended.map(u8::from)
+}
+
+/// Reports a fault on standard error.
+fn exit_code(rt: &HostRuntime, ended: Result<u8, Fault<'_>>) -> ExitCode {
     match ended {
-        Ok(troubled) => ExitCode::from(u8::from(troubled)),
+        Ok(status) => ExitCode::from(status),
         Err(fault) => {
             let _ = fault.tell(&mut rt.stderr());
             ExitCode::from(fault.status())
@@ -90,7 +104,7 @@ fn exit_code(rt: &HostRuntime, ended: Result<bool, Fault<'_>>) -> ExitCode {
 }
 
 /// Answers station 1's lines from standard input over a new register in memory.
-fn serve_lines<'a>(rt: &HostRuntime) -> Result<bool, Fault<'a>> {
+fn serve_memory<'a>(rt: &HostRuntime) -> Result<bool, Fault<'a>> {
     let Ok(register) = Register::new(rt.alloc(), LIMITS) else {
         return Err(Fault::Memory);
     };
@@ -140,61 +154,82 @@ fn printed<'a>(told: io::Result<()>, troubled: bool) -> Result<bool, Fault<'a>> 
     }
 }
 
+/// The register that is kept on a disk, which has a station for each of so many.
+fn open_for<'a, R: Files<File = File>>(
+    rt: &R,
+    alloc: Global,
+    disk: &'a str,
+    stations: usize,
+) -> Result<Store<Global, FileDisk<HostFile>>, Fault<'a>>
+    ensures sound { IfOk result (λ store. store.broken ≡ false) }
+    ensures most { OnOk result (stations ≤ 64) }
+{
+    let store = open_disk(rt, alloc, disk)?;
+    match check_stations(&store, stations) {
+        Ok(()) => Ok(store),
+        Err(fault) => {
+            drop(store);
+            Err(fault)
+        }
+    }
+}
+
 /// Serves the lines of each file as those of stations 1, 2 and so on, over the register on a disk, and prints the answers.
 fn run_files<'a, R: Threads + Wait + Sync + Clock + Print + Eprint + Files<File = File>>(
     rt: &R,
     alloc: Global,
     disk: &'a str,
-    names: &[&'a str],
+    files: &[&'a str],
     watched: bool,
 ) -> Result<bool, Fault<'a>> {
-    check_names(alloc, names)?;
-    let store = open_disk(rt, alloc, disk)?;
-    if let Err(fault) = check_stations(&store, names.len()) {
-        drop(store);
-        return Err(fault);
-    }
-    let Ok(progress) = Progress::of_many(rt, alloc, watched, names.len()) else {
+    check_names(alloc, files)?;
+    let names = file_names(alloc, files)?;
+    let store = open_for(rt, alloc, disk, files.len())?;
+    let Ok(progress) = Progress::of_many(rt, alloc, watched, files.len()) else {
         drop(store);
         return Err(Fault::Memory);
     };
-    let readers = match open_files(rt, alloc, names, &progress) {
-        Ok(readers) => readers,
+    let ports = match open_files(rt, alloc, files, &progress) {
+        Ok(ports) => ports,
         Err(fault) => {
             drop(store);
             return Err(fault);
         }
     };
-    let served = serve_readers(rt, alloc, store, readers, &progress)?;
-    report(rt, names, &served, &progress)
+    let served = serve_ports(rt, alloc, store, ports, &progress)?;
+    report(rt, &names, &served, &progress)
 }
 
-/// Serves the lines of each reader as those of stations 1, 2 and so on, over the store.
-fn serve_readers<'a, 'p, 'r, R: Threads + Wait + Sync + Clock + Eprint>(
+/// Serves the lines of each port as those of stations 1, 2 and so on, over the store.
+fn serve_ports<
+    'a,
+    R: Threads + Wait + Sync,
+    I: Read + Send + Drop,
+    O: Write + Send + Drop,
+    V: Watch + Sync,
+>(
     rt: &R,
     alloc: Global,
     store: Store<Global, FileDisk<HostFile>>,
-    readers: Vec<WatchedReader<'p, 'r, File, R>>,
-    progress: &Progress<'r, R>,
-) -> Result<Served, Fault<'a>>
+    ports: Vec<Port<I, O>>,
+    watch: &V,
+) -> Result<Served<O>, Fault<'a>>
     requires sound { store.broken ≡ false }
-    ensures { IfOk result (λ served. length served.runs.items ≡ length readers.entry.items) }
+    ensures { IfOk result (λ served. length served.runs.items ≡ length ports.items) }
 {
     let terms = ManyTerms {
         alloc,
         turns: TURNS,
         log: NewLog::new(),
     };
-    serve_stations::<Brand, FileDisk<HostFile>, R, WatchedReader<'p, 'r, File, R>, Progress<'r, R>>(
-        rt, terms, store, readers, progress,
-    )
+    serve_stations::<Brand, FileDisk<HostFile>, R, I, O, V>(rt, terms, store, ports, watch)
 }
 
 /// Prints the last figures and the answers of each station, and says how all have ended.
 fn report<'a, R: Clock + Print + Eprint>(
     rt: &R,
-    names: &[&'a str],
-    served: &Served,
+    names: &[PortNames<'a>],
+    served: &Served<Vec<u8>>,
     progress: &Progress<'_, R>,
 ) -> Result<bool, Fault<'a>>
     requires same { length names.now ≡ length served.now.runs.items }
@@ -209,6 +244,67 @@ fn report<'a, R: Clock + Print + Eprint>(
         Ok(troubled) => printed(told, troubled),
         Err(fault) => Err(fault),
     }
+}
+
+/// Serves station 1 over the register on a disk by this port, standard input and standard output. `Ok` has the exit status.
+fn serve_port<
+    'a,
+    R: Threads + Wait + Sync + Eprint + Files<File = File>,
+    I: Read + Send + Drop,
+    O: Write + Send + Drop,
+>(rt: &R, alloc: Global, disk: &'a str, port: Port<I, O>) -> Result<u8, Fault<'a>> {
+    let named: [(&'a str, &'a str); 1] = [("-", "-")];
+    let pairs = pairs_of(alloc, &named)?;
+    let Ok(mut ports) = Vec::with_capacity(alloc, 1) else {
+        return Err(Fault::Memory);
+    };
+    ports.push_reserved(port);
+    let store = open_for(rt, alloc, disk, 1)?;
+    let watch = ServiceWatch::new(rt, alloc, &pairs);
+    serve_watched(rt, store, ports, &watch)
+}
+
+/// Serves each pair of files as those of stations 1, 2 and so on, over the register on a disk. `Ok` has the exit status.
+fn serve_pairs<'a, R: Threads + Wait + Sync + Eprint>(
+    rt: &R,
+    host: HostRuntime,
+    disk: &'a str,
+    named: &[(&'a str, &'a str)],
+) -> Result<u8, Fault<'a>> {
+    let alloc = host.alloc();
+    check_names(alloc, &inputs_of(alloc, named)?)?;
+    let pairs = pairs_of(alloc, named)?;
+    let ports = ports_of(rt, host, alloc, &pairs)?;
+    let store = open_for(&host, alloc, disk, named.len())?;
+    let watch = ServiceWatch::new(rt, alloc, &pairs);
+    serve_watched(rt, store, ports, &watch)
+}
+
+/// Serves the ports of the stations that are watched; each answer is written as it comes. `Ok` has the exit status.
+fn serve_watched<
+    'a,
+    R: Threads + Wait + Sync + Eprint,
+    I: Read + Send + Drop,
+    O: Write + Send + Drop,
+>(
+    rt: &R,
+    store: Store<Global, FileDisk<HostFile>>,
+    ports: Vec<Port<I, O>>,
+    watch: &ServiceWatch<'_, '_, 'a, R>,
+) -> Result<u8, Fault<'a>>
+    requires sound { store.broken ≡ false }
+    requires same { length ports.items ≡ length watch.now.pairs.now }
+{
+    let mut names = match names_of(rt, watch.alloc(), watch.pairs()) {
+        Ok(names) => names,
+        Err(fault) => {
+            drop(store);
+            return Err(fault);
+        }
+    };
+    let served = serve_ports(rt, watch.alloc(), store, ports, watch)?;
+    name_ended(rt, &mut names, watch.pairs());
+    service_outcome(&names, &served)
 }
 
 /// Prints the answer to the query that the words are, of the register on a disk.

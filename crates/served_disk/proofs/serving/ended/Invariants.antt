@@ -6,4 +6,4 @@ use Rattle.served_disk.proofs.serving.ended.Given as goal
 
 -- no run has a fault so far
 abbrev pub invariant-loop-index : goal.invariant-loop-index
-invariant-loop-index l = All IsWhole (take l.index l.runs) × (l.troubled ≡ list_any is_troubled (take l.index l.runs))
+invariant-loop-index g l = All IsWhole (take l.index l.runs) × (l.troubled ≡ list_any is_troubled (take l.index l.runs))

@@ -6,8 +6,8 @@ abbrev pub invariant-loop-session : goal.invariant-loop-session
 invariant-loop-session g l = record {
   in_turn : l.yielded ++ l.session-iterator.rest.items ≡ l.fn.sessions.items;
   rest : length l.session-iterator.rest.items ≡ l.session-iterator.rest.len;
-  readers : map (λ job. job.reader) l.jobs.items ++ l.readers.rest.items ≡ l.fn.readers.items;
-  readers_rest : length l.readers.rest.items ≡ l.readers.rest.len;
+  ports : map (λ job. job.port) l.jobs.items ++ l.ports.rest.items ≡ l.fn.ports.items;
+  ports_rest : length l.ports.rest.items ≡ l.ports.rest.len;
   sessions : map (λ job. job.session) l.jobs.items ≡ l.yielded;
   room : length l.fn.sessions.items ≤ vec_capacity l.jobs;
 }

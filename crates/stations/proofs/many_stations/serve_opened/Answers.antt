@@ -2,17 +2,17 @@ use Rattle.std.proofs.Common.{List, length, refl, sym, subst, arith}
 use Rattle.recovery.specs.Lives.{view_of as store_view}
 use Rattle.flusher.specs.Closed.{AreSessionsOf}
 use Rattle.flusher.specs.Opened.{IsNewFlusher}
-use Rattle.flusher.specs.Runs.{AreRounds, HasSameEnds, HasTakenEnds}
+use Rattle.flusher.specs.Runs.{HasSameEnds, HasTakenEnds}
 use Rattle.flusher.specs.Served.{IsSettled}
-use Rattle.flusher.specs.Stored.{IsStoredFor}
 use Rattle.flusher.specs.View.{view_of}
 use Rattle.flusher.specs.declared.session.Ended.{Ended}
+use Rattle.stations.specs.Flushed.{HasFlushed}
 use Rattle.stations.proofs.Places.{zip_length}
 use Rattle.stations.proofs.Served.{has_served, sessions_ended}
 use Rattle.stations.proofs.many_stations.serve_opened.Goals as goal
 
 pub jobs_of-jobs-requires-clause-count : goal.jobs_of-jobs-requires-clause-count
-jobs_of-jobs-requires-clause-count g c = omega (arith, c.requires.sessions.count, c.requires.flusher.count, c.args.readers.ok.0)
+jobs_of-jobs-requires-clause-count g c = omega (arith, c.requires.sessions.count, c.requires.flusher.count, c.args.ports.ok.0)
 
 pub jobs_of-jobs-requires-clause-room : goal.jobs_of-jobs-requires-clause-room
 jobs_of-jobs-requires-clause-room g c = omega (arith, c.requires.sessions.count, c.requires.flusher.count, c.args.opened.1.ok.0, c.requires.room, c.args.room.room.0)
@@ -28,31 +28,26 @@ apart-ended-requires-clause-room g c =
     )
 
 pub store_of-store-requires-clause-settled : goal.store_of-store-requires-clause-settled
-store_of-store-requires-clause-settled g c = subst (λ f. IsSettled g.J.Centre.base (view_of f)) (sym c.into_flusher.ensures) c.serve_all-held.ensures.settled
+store_of-store-requires-clause-settled g c = subst (λ f. IsSettled g.J.Centre.base (view_of f)) (sym c.into_flusher.ensures) c.serve_all-held.ensures.flushed.settled
 
 pub store_of-store-requires-clause-ended : goal.store_of-store-requires-clause-ended
-store_of-store-requires-clause-ended g c = subst (λ f. HasTakenEnds (view_of f)) (sym c.into_flusher.ensures) c.serve_all-held.ensures.ended
+store_of-store-requires-clause-ended g c = subst (λ f. HasTakenEnds (view_of f)) (sym c.into_flusher.ensures) c.serve_all-held.ensures.flushed.ended
 
 pub store_of-store-requires-clause-sessions : goal.store_of-store-requires-clause-sessions
 store_of-store-requires-clause-sessions g c =
     let first = view_of c.args.opened.0 in
     let last = view_of c.into_flusher.result in
-    let same = subst (λ f. HasSameEnds first (view_of f)) (sym c.into_flusher.ensures) c.serve_all-held.ensures.same in
+    let same = subst (λ f. HasSameEnds first (view_of f)) (sym c.into_flusher.ensures) c.serve_all-held.ensures.flushed.same in
     subst (λ (l : List (Ended g.row.J.Denot)). AreSessionsOf last l) (sym c.apart-ended.ensures.ended)
-    (sessions_ended g.J.Centre.base g.I.Read.remaining first last c.args.opened.1.items c.args.readers.items c.jobs_of-jobs.result.items
-    c.serve_all-held.result.1.items c.jobs_of-jobs.ensures.sessions c.jobs_of-jobs.ensures.readers c.requires.sessions c.serve_all-held.ensures.done same)
+    (sessions_ended g.J.Centre.base g.I.Read.remaining g.O.Write.contents first last c.args.opened.1.items c.args.ports.items c.jobs_of-jobs.result.items
+    c.serve_all-held.result.1.items c.jobs_of-jobs.ensures.sessions c.jobs_of-jobs.ensures.ports c.requires.sessions c.serve_all-held.ensures.done same)
 
 pub returns : goal.returns
 returns g c =
     let first = view_of c.args.opened.0 in
     let last = view_of c.into_flusher.result in
-    let back = sym c.into_flusher.ensures in
-    has_served g.J.Centre.base g.I.Read.remaining first last c.args.opened.1.items c.args.readers.items c.jobs_of-jobs.result.items
-    c.serve_all-held.result.1.items c.jobs_of-jobs.ensures.sessions c.jobs_of-jobs.ensures.readers c.requires.sessions c.serve_all-held.ensures.done
-    g.D.Disk.view first.store (store_view c.store_of-store.result) (length c.args.readers.items) c.requires.sound refl (subst (λ n. IsNewFlusher n first.store first) c.args.readers.ok.0 c.requires.flusher)
-    (subst (λ f. AreRounds g.J.Centre.base first (view_of f)) back c.serve_all-held.ensures.rounds)
-    (subst (λ f. HasTakenEnds (view_of f)) back c.serve_all-held.ensures.ended)
-    (subst (λ f. IsSettled g.J.Centre.base (view_of f)) back c.serve_all-held.ensures.settled)
-    (subst (λ f. IsStoredFor g.D.Disk.view g.J.Centre.base first → IsStoredFor g.D.Disk.view g.J.Centre.base (view_of f)) back c.serve_all-held.ensures.stored)
-    (subst (λ f. HasSameEnds first (view_of f)) back c.serve_all-held.ensures.same)
+    has_served g.J.Centre.base g.I.Read.remaining g.O.Write.contents first last c.args.opened.1.items c.args.ports.items c.jobs_of-jobs.result.items
+    c.serve_all-held.result.1.items c.jobs_of-jobs.ensures.sessions c.jobs_of-jobs.ensures.ports c.requires.sessions c.serve_all-held.ensures.done
+    g.D.Disk.view first.store (store_view c.store_of-store.result) (length c.args.ports.items) c.requires.sound refl (subst (λ n. IsNewFlusher n first.store first) c.args.ports.ok.0 c.requires.flusher)
+    (subst (λ f. HasFlushed g.D.Disk.view g.J.Centre.base first (view_of f)) (sym c.into_flusher.ensures) c.serve_all-held.ensures.flushed)
     c.store_of-store.ensures.store c.apart-ended.result.0.items c.apart-ended.result.1.items c.apart-ended.ensures.ended c.apart-ended.ensures.runs c.store_of-store.ensures.closed

@@ -1,7 +1,4 @@
-use Rattle.std.proofs.Common.{List, ap, ◌∙◌, rules}
-use Rattle.std.specs.Prelude.{Some, Vec}
-use Rattle.std.specs.declared.alloc.Global.{Global}
-use Rattle.identity.specs.Numbers.{Byte}
+use Rattle.std.proofs.Common.{ap, rules}
 use Rattle.flusher.specs.Sessions.{view_of}
 use Rattle.stations.proofs.Runs.{run_of}
 use Rattle.stations.proofs.station_job.answer_in.Goals as goal
@@ -11,6 +8,6 @@ returns g c =
     let ran = c.run_session in
     record {
       answers = run_of g.row.J.Denot g.J.Centre.base c.args.session.sender.station (view_of c.args.session) (view_of ran.result.0) ran.result.1 ran.ensures.same.1
-          (ap g.I.Read.remaining c.new-input.ensures.reader_is) (ap (λ (v : Vec Byte Global). Some v.items) c.new-output.ensures.writer_is ∙ ap (λ (l : List Byte). Some l) c.requires.new) (ap (λ (l : List Byte). Some l) (search rules)) ran.ensures.answers;
+          (ap g.I.Read.remaining c.new-input.ensures.reader_is) (ap g.O.Write.contents c.new-output.ensures.writer_is) (ap g.O.Write.contents (search rules)) ran.ensures.answers;
       same = ran.ensures.same;
     }

@@ -1,4 +1,4 @@
-use Rattle.std.proofs.Common.{◌≡◌, List, [], ◌∷◌, ◌++◌, ap, ◌∙◌, subst, rules}
+use Rattle.std.proofs.Common.{◌≡◌, [], ◌∷◌, ◌++◌, ap, ◌∙◌, subst}
 use Rattle.flusher.specs.Sessions.{view_of}
 use Rattle.atomic_table.specs.Seated.{TableId}
 use Rattle.registration.specs.Numbers.{Station}

@@ -10,5 +10,5 @@ invariant-loop-job g l = record {
   rest : length l.job-iterator.rest.items ≡ l.job-iterator.rest.len;
   count : length l.begun.items ≡ length l.yielded;
   room : length l.fn.jobs.items ≤ vec_capacity l.begun;
-  made : AllZip (λ job b. MatchResult b (λ h. h.promise.job.value ≡ job) (λ done. IsDone g.row.J.Denot g.J.Centre.base job.session (g.I.Read.remaining job.reader) done)) l.yielded l.begun.items;
+  made : AllZip (λ job b. MatchResult b (λ h. h.promise.job.value ≡ job) (λ done. IsDone g.row.J.Denot g.J.Centre.base g.I.Read.remaining g.O.Write.contents job done)) l.yielded l.begun.items;
 }

@@ -10,5 +10,5 @@ invariant-loop-one g l = record {
   rest : length l.one-iterator.rest.items ≡ l.one-iterator.rest.len;
   count : length l.done.items ≡ length l.yielded;
   room : length l.fn.begun.items ≤ vec_capacity l.done;
-  made : AllZip (λ b d. MatchResult b (λ h. IsDone g.row.J.Denot g.J.Centre.base h.promise.job.value.session (g.I.Read.remaining h.promise.job.value.reader) d) (λ done. d ≡ done)) l.yielded l.done.items;
+  made : AllZip (λ b d. MatchResult b (λ h. IsDone g.row.J.Denot g.J.Centre.base g.I.Read.remaining g.O.Write.contents h.promise.job.value d) (λ done. d ≡ done)) l.yielded l.done.items;
 }

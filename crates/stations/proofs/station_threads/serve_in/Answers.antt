@@ -1,4 +1,4 @@
-use Rattle.std.proofs.Common.{◌≡◌, ◌≤◌, refl, sym, ap, ◌∙◌, subst, rules, arith}
+use Rattle.std.proofs.Common.{sym, subst, arith}
 use Rattle.stations.specs.Done.{IsDone}
 use Rattle.stations.specs.declared.job.Job.{Job}
 use Rattle.stations.specs.declared.job.Done.{Done}
@@ -11,7 +11,7 @@ end_all-requires-clause-room g c = omega (arith, c.begin_all-begun.ensures.count
 pub returns-clause-done : goal.returns-clause-done
 returns-clause-done g c =
     through c.args.jobs.items c.begin_all-begun.result.items c.end_all.result.items _ _ _
-    (λ (job : Job g.row.J.Denot g.row.I.Denot) b (done : Done g.row.J.Denot). either_way b
-    (λ h same kept. subst (λ (j : Job g.row.J.Denot g.row.I.Denot). IsDone g.row.J.Denot g.J.Centre.base j.session (g.I.Read.remaining j.reader) done) same kept)
-    (λ d made same. subst (λ (x : Done g.row.J.Denot). IsDone g.row.J.Denot g.J.Centre.base job.session (g.I.Read.remaining job.reader) x) (sym same) made))
+    (λ (job : Job g.row.J.Denot g.row.I.Denot g.row.O.Denot) b (done : Done g.row.J.Denot g.row.O.Denot). either_way b
+    (λ h same kept. subst (λ (j : Job g.row.J.Denot g.row.I.Denot g.row.O.Denot). IsDone g.row.J.Denot g.J.Centre.base g.I.Read.remaining g.O.Write.contents j done) same kept)
+    (λ d made same. subst (λ (x : Done g.row.J.Denot g.row.O.Denot). IsDone g.row.J.Denot g.J.Centre.base g.I.Read.remaining g.O.Write.contents job x) (sym same) made))
     c.begin_all-begun.ensures.begun c.end_all.ensures

@@ -1,0 +1,6 @@
+use Rattle.std.proofs.Common.{◌≡◌, length}
+use Rattle.std.specs.Prelude.{◌≤◌, vec_capacity}
+use Rattle.served_disk.proofs.files.file_names.Given as goal
+
+abbrev pub invariant-loop-file : goal.invariant-loop-file
+invariant-loop-file l = (length l.names.items ≡ l.file-index) × (length l.files ≤ vec_capacity l.names)

@@ -1,0 +1,82 @@
+//! What wakes the flusher's thread.
+use std::sync::Wait;
+use std::sync::atomic::{AtomicU64, Ordering};
+use std::thread;
+use std::thread::Parker;
+use std::time::Duration;
+
+/// After so many rounds in a row that took no command, the flusher's thread is about to sleep.
+const PATIENCE: u64 = 64;
+
+/// Lets the flusher's thread sleep while no station has anything for it. No wake-up is lost:
+///
+/// - A command is announced until it is answered, and while one is announced the flusher does not sleep. Whoever announces one
+///   when the flusher is about to sleep rings.
+/// - The end of a session is not answered. If it was put before the flusher was about to sleep, the next round takes it, and
+///   the flusher sleeps in the round after that at the earliest, unless this end was the last. If it was put later, whoever
+///   put it rings: then the flusher's sleep ends, or does not begin.
+#[derive(Drop)]
+pub(crate) struct Doorbell {
+    /// How many entries are announced: each is about to be put into the queue, or waits for its answer.
+    announced: AtomicU64,
+    /// How many rounds in a row took no command. From `PATIENCE` on the flusher sleeps, or is about to.
+    idle: AtomicU64,
+    parker: Parker,
+    /// How long a sleep may be. `None`: until it rings.
+    longest: Option<Duration>,
+}
+
+impl Doorbell {
+    /// The flusher is awake, and nothing is announced.
+    pub(crate) fn new(longest: Option<Duration>) -> Doorbell {
+        Doorbell {
+            announced: AtomicU64::new(0),
+            idle: AtomicU64::new(0),
+            parker: Parker::new(),
+            longest,
+        }
+    }
+
+    /// Wakes the flusher if it sleeps or is about to.
+    fn ring(&self) {
+        if self.idle.load(Ordering::SeqCst) >= PATIENCE {
+            self.parker.unpark();
+        }
+    }
+
+    /// An entry is about to be put into the queue.
+    pub(crate) fn announce(&self) {
+        self.announced.fetch_add(1, Ordering::SeqCst);
+        self.ring();
+    }
+
+    /// An entry that was announced was put, and answered if it is a command.
+    pub(crate) fn settle(&self) {
+        self.announced.fetch_sub(1, Ordering::SeqCst);
+        self.ring();
+    }
+
+    /// In the flusher's thread: a round has taken so many commands. After many that took none it sleeps.
+    pub(crate) fn rest<R: Wait>(&self, rt: &R, taken: usize) {
+        if taken > 0 {
+            self.idle.store(0, Ordering::SeqCst);
+            return;
+        }
+        if self.idle.fetch_add(1, Ordering::SeqCst) <= PATIENCE {
+            thread::yield_now();
+            return;
+        }
+        if self.announced.load(Ordering::SeqCst) == 0 {
+            self.sleep(rt);
+        }
+        self.idle.store(0, Ordering::SeqCst);
+    }
+
+    /// Sleeps until it rings, at once if it has rung since the last sleep.
+    fn sleep<R: Wait>(&self, rt: &R) {
+        match self.longest {
+            Some(longest) => self.parker.park_timeout(rt, longest),
+            None => self.parker.park(rt),
+        }
+    }
+}

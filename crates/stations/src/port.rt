@@ -1,0 +1,10 @@
+//! Where a station's lines come from, and where its answers go.
+
+/// A station's port: what its lines are read from, and what its answers are written to.
+#[derive(Drop)]
+pub struct Port<I: Drop, O: Drop> {
+    /// What its lines are read from.
+    pub reader: I,
+    /// What its answers are written to. Each answer is flushed before the station's next line is served.
+    pub writer: O,
+}

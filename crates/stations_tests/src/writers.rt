@@ -1,0 +1,209 @@
+//! Two stations with writers of their own, of which the first one's fails at its second answer.
+ghost use Rattle.std.specs.Prelude.{◌≡◌, false};
+
+use crate::stores::new_store;
+use console::{Ran, RunFault};
+use flusher::Gate;
+use live_centre::WatchedDisk;
+use recovery::Store;
+use registration::Station;
+use snapshots::{Centre, NewLog};
+use stations::{Many, ManyTerms, Port, Watch, run_many};
+use std::alloc::Global;
+use std::io;
+use std::io::{ErrorKind, Write};
+use std::marker::Brand;
+use std::sync::Wait;
+use std::sync::atomic::{AtomicU64, Ordering};
+use std::test::*;
+use std::thread::Threads;
+
+// Station 1 has the sequence 1 already. Its third command isn't read.
+const FIRST: &[u8] = b"2 10 expire\n3 10 expire\n4 10 expire\n";
+
+const SECOND: &[u8] = b"1 10 expire\n2 10 expire\n";
+
+// Keeps what is written, and fails once it has taken so many writes.
+#[derive(Drop)]
+struct Failing {
+    text: Vec<u8>,
+    left: u32,
+}
+
+impl Write for Failing {
+    fn write(&mut self, buf: &[u8]) -> io::Result<usize> {
+        if self.left == 0 {
+            return Err(io::Error::from(ErrorKind::BrokenPipe));
+        }
+        self.left -= 1;
+        self.text.write(buf)
+    }
+
+    fn flush(&mut self) -> io::Result<()> {
+        Ok(())
+    }
+}
+
+// The calls of a station in order, a digit each: an entry begins (1), is put (2), an answer (3), the end of the run (4).
+#[derive(Drop)]
+struct Calls {
+    digits: AtomicU64,
+}
+
+impl Calls {
+    fn add(&self, digit: u64) {
+        let before = self.digits.load(Ordering::SeqCst);
+        self.digits.store(
+            before.wrapping_mul(10).wrapping_add(digit),
+            Ordering::SeqCst,
+        );
+    }
+}
+
+// The calls of two stations.
+#[derive(Drop)]
+struct Shown {
+    first: Calls,
+    second: Calls,
+}
+
+impl Shown {
+    fn of(&self, station: Station) -> &Calls {
+        if station.number() == 1 {
+            &self.first
+        } else {
+            &self.second
+        }
+    }
+}
+
+impl Gate for Shown {
+    fn before_commit(&self, _round: u64, _taken: usize) {}
+}
+
+impl Watch for Shown {
+    fn before_entry(&self, station: Station) {
+        self.of(station).add(1);
+    }
+
+    fn after_entry(&self, station: Station) {
+        self.of(station).add(2);
+    }
+
+    fn answered(&self, station: Station, is_accepted: bool) {
+        if is_accepted {
+            self.of(station).add(3);
+        }
+    }
+
+    fn ended(&self, station: Station, _ran: &Result<Ran, RunFault>) {
+        self.of(station).add(4);
+    }
+}
+
+// The runs of two stations, of which the first one's writer takes one write.
+fn both<J: Centre + Send + Sync, R: Threads + Wait + Sync>(
+    rt: &R,
+    terms: ManyTerms,
+    store: Store<Global, WatchedDisk>,
+    shown: &Shown,
+) -> Option<Many<WatchedDisk, Failing>>
+    requires sound { store.broken ≡ false }
+    requires centre { (terms.log.seen.book ≡ J.book) × (store.register ≡ J.base) }
+{
+    let alloc = terms.alloc;
+    let ports = vec![in alloc;
+        Port {
+            reader: FIRST,
+            writer: Failing {
+                text: Vec::new(alloc),
+                left: 1
+            },
+        },
+        Port {
+            reader: SECOND,
+            writer: Failing {
+                text: Vec::new(alloc),
+                left: 9
+            },
+        },
+    ]
+    .ok()?;
+    match run_many::<J, WatchedDisk, R, &[u8], Failing, Shown>(rt, terms, store, ports, shown) {
+        Ok(many) => Some(many),
+        Err(fault) => {
+            drop(fault);
+            None
+        }
+    }
+}
+
+// That of a new disk.
+fn served<R: Threads + Wait + Sync>(
+    rt: &R,
+    alloc: Global,
+    shown: &Shown,
+) -> Option<Many<WatchedDisk, Failing>> {
+    let store = new_store(alloc)?;
+    let terms = ManyTerms {
+        alloc,
+        turns: 1_000,
+        log: NewLog::new(),
+    };
+    both::<Brand, R>(rt, terms, store, shown)
+}
+
+// Whether a run ended so, after answers of so many bytes that begin so.
+fn is_run(
+    run: Option<&(Failing, Result<Ran, RunFault>)>,
+    (begins, bytes): (&[u8], usize),
+    ran: Result<Ran, RunFault>,
+) -> bool {
+    match run {
+        Some(it) => {
+            let text = it.0.text.as_slice();
+            text.starts_with(begins) && text.len() == bytes && it.1 == ran
+        }
+        None => false,
+    }
+}
+
+// How many commands the register of both has accepted. The numbers in their answers depend on which of them was first.
+fn accepted(many: &Many<WatchedDisk, Failing>) -> Option<u64> {
+    let register = many.store.register()?;
+    let runs = many.runs.as_slice();
+    let whole = Ok(Ran {
+        lines: 2,
+        troubled: false,
+    });
+    let good = runs.len() == 2
+        && is_run(runs.first(), (b"2 ok ", 9), Err(RunFault::Write))
+        && is_run(runs.get(1), (b"1 ok ", 18), whole);
+    if good { Some(register.count()) } else { None }
+}
+
+fn written_apart<R: Threads + Wait + Sync>(rt: &R, alloc: Global) -> Option<(u64, u64, u64)> {
+    let shown = Shown {
+        first: Calls {
+            digits: AtomicU64::new(0),
+        },
+        second: Calls {
+            digits: AtomicU64::new(0),
+        },
+    };
+    let many = served(rt, alloc, &shown)?;
+    let count = accepted(&many);
+    drop(many);
+    let first = shown.first.digits.load(Ordering::SeqCst);
+    let second = shown.second.digits.load(Ordering::SeqCst);
+    Some((count?, first, second))
+}
+
+// The second command of station 1 is accepted, though its answer can't be written.
+#[test]
+fn a_writer_that_fails_ends_its_station_alone(rt: HostRuntime) {
+    assert_eq!(rt;
+        written_apart(&rt, rt.alloc()),
+        Some((5, 123_123_412, 123_123_412))
+    );
+}

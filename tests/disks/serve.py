@@ -1,0 +1,557 @@
+#!/usr/bin/env python3
+"""Runs `serve` of the built program on disks: one station on standard input and output; several over named pipes, files and devices.
+Each line is answered within a time limit before the next is sent. A pipe whose other end is missing, a reader that stalls or goes away,
+a file that can't be opened and a device that fails harm no other station. It judges stops by a signal, the processor time of stations
+that wait, and commands after random pauses. The independent reading beside this file judges all answers and disks. Prints the seed, the
+first cases that fail, and last 'N passed, M failed'.
+Usage: tests/run serve PROGRAM [--lines N] [--commands N] [--seed N] (the program itself, not a script that starts it)"""
+import contextlib
+import fcntl
+import functools
+import os
+import pathlib
+import random
+import select
+import signal
+import subprocess
+import time
+
+import refusing
+from base_stations import (STATIONS, Resending, Station, at_once, ends_by, finish, go_on, judge, make_pipes, names_of, on_streams, reader_of,
+                           serving, serving_pipes, status_of, stop, with_default, writer_of)
+from disk_files import DISK, MEMORY, file_fault, place, register_of, text, untouched
+from many_files import LONG, SHORTEST, WHEN_BROKEN, formats
+from program import queued, receives, waits, without
+from program_disks import peak
+from reading_orders import Answered, NoOrder, number_of
+from recorded_orders import Written
+from recorder import recorder
+from running import SECONDS, Differs, compare, ends
+from station_faults import when_broken
+from station_lines import data_of, lines
+from stations import FIRST, held_open, twice
+from testing import Count, options
+
+FIRST_TOLD, AGAIN_TOLD = text(['1 ok 1 -', '2 ok 2 8:56']), text(['1 no old-sequence 2', '2 kept 2 8:56'])
+# The processor time that programs may take in two seconds in which nothing is asked of them, in hundredths of a second
+MOST_TICKS = 3
+
+
+def some(count=STATIONS):
+    return [Station(number) for number in range(1, count + 1)]
+
+
+def talk(place, program, station, said):
+    """A station sends these lines over its pipes, and ends."""
+    station.connect_pipes(place, program).ask_all(said).end()
+
+
+def talk_at_once(place, program, stations, dice, count):
+    """All stations, each so many lines."""
+    said = [lines(dice, count) for _ in stations]
+    at_once([functools.partial(talk, place, program, station, one) for station, one in zip(stations, said)])
+
+
+def a_command(number):
+    return b'%d 0 expire' % number
+
+
+def commands(first, count):
+    """So many commands from this sequence on, which every register accepts."""
+    return [a_command(number) for number in range(first, first + count)]
+
+
+# Standard input and output
+
+def on_standard_streams(place, dice, count):
+    """A command is on the disk once it is answered."""
+    place.format()
+    with serving(place, ['serve', DISK], stdin=subprocess.PIPE) as program:
+        station = on_streams(program)
+        for line in lines(dice, count):
+            number = number_of(station.ask(line))
+            compare('the command is on the disk', number is None or register_of(place.image()).count == number, True)
+        station.end()
+        finish(program, status_of([station]))
+    judge(place, [station])
+
+
+def in_pieces(place):
+    """Lines that come in one piece are answered at once, half a line is not, and the last line needs no end."""
+    place.format()
+    pieces = [(FIRST + b'cou', FIRST_TOLD), (b'nt\nno such\n3 0 exp', b'count 2\nline 4 bad syntax\n'), (b'ire', b'')]
+    with serving(place, ['serve', DISK], stdin=subprocess.PIPE) as program:
+        for piece, wanted in pieces:
+            os.write(program.stdin.fileno(), piece)
+            receives(program.stdout, wanted)
+            compare('an answer within half a line', select.select([program.stdout], [], [], 0.1)[0], [])
+        compare('the answer to the last line', ends(program, 1), b'3 ok 3 -\n')
+
+
+def as_they_come(place, made):
+    """Of a whole file each answer is written before the next command is."""
+    formats(place, STATIONS, LONG)
+    place.write('a.txt', data_of(commands(1, 50)))
+    written, said = Written(place.image()), 0
+    place.gives(['serve', DISK, 'a.txt', 'a.out'], 0, env=made.environment(files=(), answers=['a.out']))
+    for done in made.record():
+        said += done.bytes.count(b'\n') if done.kind == 'o' else 0
+        written.follow(done)
+        compare('answers are written late', len(written.commands) <= said + 1, True)
+    compare('answers and commands', (said, len(written.commands)), (50, 50))
+
+
+# Named pipes
+
+def over_pipes(place, dice, stations, count):
+    formats(place, STATIONS, SHORTEST)
+    with serving_pipes(place, len(stations)) as program:
+        talk_at_once(place, program, stations, dice, count)
+        finish(program, status_of(stations))
+    judge(place, stations)
+
+
+def nobody_at_a_pipe(place, dice):
+    """The first pair waits for the other end of IN, and then of OUT. The others are served to their ends meanwhile."""
+    formats(place, STATIONS, SHORTEST)
+    first, second, third = some(3)
+    with serving_pipes(place, 3) as program:
+        talk(place, program, second, lines(dice, 50))
+        to, back = (place.path(name) for name in names_of(1))
+        writer = writer_of(to, program)
+        talk(place, program, third, lines(dice, 50))
+        compare('the program goes on', program.poll(), None)
+        first.connect(program, writer, reader_of(back)).ask_all(lines(dice, 50)).end()
+        finish(program, status_of([first, second, third]))
+    judge(place, [first, second, third])
+
+
+# Files and devices
+
+def regular_files(place):
+    """OUT is appended to, or made where it is missing, also where IN is empty."""
+    place.format()
+    for name, data in ('a.txt', FIRST), ('a.out', b'as it was\n'), ('b.txt', b''):
+        place.write(name, data)
+    words, outs = ['serve', DISK, 'a.txt', 'a.out', 'b.txt', 'b.out'], lambda: [place.path(name).read_bytes() for name in ('a.out', 'b.out')]
+    place.gives(words, 0)
+    compare('OUT of both', outs(), [b'as it was\n' + FIRST_TOLD, b''])
+    place.write('b.txt', b'count\nx')
+    place.gives(words, 1)
+    compare('OUT of both', outs(), [b'as it was\n' + FIRST_TOLD + AGAIN_TOLD, b'count 2\nline 2 bad syntax\n'])
+
+
+def one_out_for_two(place):
+    """One file may be the OUT of two stations."""
+    place.format()
+    for name in 'a.txt', 'b.txt':
+        place.write(name, data_of(commands(1, 50)))
+    place.gives(['serve', DISK, 'a.txt', 'all.out', 'b.txt', 'all.out'], 0)
+    said = place.path('all.out').read_text().splitlines()
+    compare('the numbers', sorted(number_of([line]) or 0 for line in said), list(range(1, 101)))
+
+
+def devices(place):
+    place.format()
+    place.gives(['serve', DISK, '/dev/stdin', '/dev/stdout'], 0, FIRST_TOLD, data=FIRST, stdin=subprocess.PIPE)
+    place.write('a.txt', FIRST)
+    place.gives(['serve', DISK, '/dev/null', '/dev/null', 'a.txt', '/dev/stdout'], 0, text(['1 ok 3 -', '2 ok 4 8:56']))
+    place.gives(['serve', DISK, 'a.txt', '/dev/null'], 0)
+    place.gives(['serve', DISK, 'a.txt', '/dev/full'], 4, err=file_fault('/dev/full'))
+    place.gives(['serve', DISK, '.', 'b.out'], 4, err=file_fault('.'))
+    place.gives(['show', DISK, 'count'], 0, b'count 4\n')
+
+
+# Refused before a line is served
+
+def refuses(place, words, status, fault):
+    """No file is made, and none is changed."""
+    before = sorted(os.listdir(place.folder))
+    with untouched(place.path()):
+        place.gives(['serve', *words], status, err=fault)
+    compare('files', sorted(os.listdir(place.folder)), before)
+
+
+def odd_words(place):
+    place.format()
+    for words in [], [DISK, 'a.txt'], [DISK, 'a.txt', 'a.out', 'b.txt']:
+        done = subprocess.run([*place.command, 'serve', *words], stdin=subprocess.DEVNULL, capture_output=True, cwd=place.folder, timeout=SECONDS)
+        compare(f'status and output of {words}', (done.returncode, done.stdout), (2, b''))
+        first = done.stderr.split(b'\n')[0]
+        compare(f'{first!r} says what is wrong', first.startswith(b'error: ') and (not words or b'OUT' in first), True)
+    compare('files', sorted(os.listdir(place.folder)), [DISK, 's.toml'])
+
+
+def refused(place):
+    place.format()
+    place.write('a.txt', FIRST)
+    most = [name for number in range(STATIONS) for name in (f'{number}.txt', 'all.out')]
+    refuses(place, [DISK, *most, 'a.txt', 'a.out'], 2, b'fault: more files than stations\n')
+    refuses(place, [DISK, 'a.txt', 'a.out', 'b.txt', 'b.out', 'a.txt', 'c.out'], 2, twice('a.txt'))
+    refuses(place, ['no.img', 'a.txt', 'a.out', 'a.txt', 'b.out'], 2, twice('a.txt'))
+    refuses(place, ['no.img', 'a.txt', 'a.out'], 4, file_fault('no.img'))
+    refuses(place, ['a.txt', 'a.txt', 'a.out'], 5, b'fault: unformatted\n')
+
+
+def a_disk_that_is_served(place):
+    place.format()
+    with serving(place, ['serve', DISK], stdin=subprocess.PIPE) as program:
+        station = on_streams(program)
+        station.ask(b'count')
+        for words in ['serve', DISK], ['serve', DISK, 'a.txt', 'a.out'], ['run', DISK, 'a.txt'], ['show', DISK, 'count']:
+            place.gives(words, 4, err=file_fault(DISK))
+        station.end()
+        finish(program, 0)
+
+
+def no_memory(place):
+    place.format()
+    with refusing.library() as made:
+        for words in ['serve', DISK], ['serve', DISK, 'a.txt', 'a.out']:
+            place.gives(words, 5, err=b'fault: memory\n', env=refusing.environment(made, 1))
+
+
+# A station's fault
+
+def receive_all(stream, count):
+    """So many bytes, as they come."""
+    got = b''
+    while len(got) < count and select.select([stream], [], [], SECONDS)[0]:
+        piece = os.read(stream.fileno(), count - len(got))
+        if not piece:
+            break
+        got += piece
+    return got
+
+
+def files_that_can_not_be_opened(place, dice):
+    """Their stations end alone, each with its fault as it happens. Status 4 comes before 1."""
+    formats(place, STATIONS, SHORTEST)
+    make_pipes(place, STATIONS)
+    for name in 'a.txt', 'b.txt':
+        place.write(name, FIRST)
+    last, faults = Station(4), [file_fault(name) for name in ('.', 'no.in', 'no/a.out')]
+    with serving(place, ['serve', DISK, 'no.in', 'no.out', 'a.txt', 'no/a.out', 'b.txt', '.', *names_of(4)]) as program:
+        said = receive_all(program.stderr, len(b''.join(faults)))
+        compare('faults', sorted(said.splitlines(True)), faults)
+        talk(place, program, last, [b'no such', *lines(dice, 50)])
+        finish(program, 4)
+    judge(place, [*some(3), last])
+
+
+def is_refused(station):
+    """Whether nobody reads its lines any more."""
+    try:
+        return os.write(station.to, b'count\n') < 0
+    except BrokenPipeError:
+        return True
+
+
+def a_reader_goes(place, dice, restore):
+    """Its station ends alone with its fault, at once, and its IN is closed. The program starts with SIGPIPE at its default, or ignored."""
+    formats(place, STATIONS, SHORTEST)
+    first, second = some(2)
+    with serving_pipes(place, 2, restore_signals=restore) as program:
+        for station in first, second:
+            station.connect_pipes(place, program).ask_all(lines(dice, 20))
+        os.close(first.back)
+        first.back = None
+        first.send(b'count')
+        receives(program.stderr, file_fault('1.out'))
+        waits(lambda: is_refused(first))
+        second.ask_all([b'no such', *commands(1000, 20)]).end()
+        first.leave()
+        finish(program, 4)
+    judge(place, [first, second])
+
+
+def standard_streams_that_fail(place):
+    place.format()
+    fault = file_fault('-')
+    with open('/dev/full', 'wb') as full:
+        place.gives(['serve', DISK], 4, err=fault, data=b'count\n', stdin=subprocess.PIPE, stdout=full)
+    place.gives(['serve', DISK], 4, err=fault, stdin=None, **without(0))
+    with serving(place, ['serve', DISK], stdin=subprocess.PIPE) as program:
+        station = on_streams(program)
+        station.ask(b'1 0 expire')
+        os.close(station.back)
+        station.back = None
+        station.send(b'2 0 expire')
+        finish(program, 4, fault)
+        station.leave()
+    place.gives(['show', DISK, 'count'], 0, b'count 2\n')
+
+
+# The device fails
+
+def while_failing(place, made, dice, number, **fails):
+    """Serves all stations while the call of that number fails; the record, and the stations."""
+    formats(place, STATIONS, SHORTEST)
+    stations, files = some(), [names_of(number)[0] for number in range(1, STATIONS + 1)]
+    with serving_pipes(place, STATIONS, env=made.environment(fails=number, files=files, **fails)) as program:
+        talk_at_once(place, program, stations, dice, 40)
+        finish(program, *(WHEN_BROKEN if number else (status_of(stations), b'')))
+    return made.record(), stations
+
+
+def the_device_fails(place, made, dice, number, **fails):
+    record, stations = while_failing(place, made, dice, number, **fails)
+    try:
+        when_broken([station.pairs for station in stations], record, place.image())
+    except NoOrder as fault:
+        raise Differs(f'no order of the commands: {fault}')
+
+
+def faults_of_the_device(place, made, dice, count):
+    """Some calls after those that open the disk."""
+    record, _ = count.case('a run without a fault', while_failing, place, made, dice, 0) or ([], [])
+    kinds = [done.kind for done in record]
+    opening, every = kinds.index('r') if record else 0, len(kinds) - kinds.count('r')
+    for number in [opening + 1, opening + 3, *dice.sample(range(opening + 4, every // 2), 2)] if record else ():
+        count.case(f'call {number} fails', the_device_fails, place, made, dice, number)
+        count.case(f'calls from {number} on fail', functools.partial(the_device_fails, ALWAYS=1), place, made, dice, number)
+
+
+# A stalled reader
+
+def queries_mostly(number):
+    """Of 250 lines one is a command."""
+    return b'count' if number % 250 else a_command(number)
+
+
+def send_until_full(station, line, most=100_000):
+    """Sends lines, of which each is that of its number, until the pipe of the answers is full and the program takes no line for half a
+    second; all that were sent."""
+    sent, until = [], time.monotonic() + SECONDS
+    for pipe in station.to, station.back:
+        size = fcntl.fcntl(pipe, fcntl.F_SETPIPE_SZ, 4096)
+    while True:
+        if select.select([], [station.to], [], 0.5)[1]:
+            piece = [line(len(station.pairs) + len(sent) + place) for place in range(1, 201)]
+            with contextlib.suppress(BlockingIOError):
+                os.write(station.to, data_of(piece))
+                sent += piece
+        elif queued(station.back) > size - 64:
+            return sent
+        compare(f'the program reads {len(sent)} lines whose answers nobody reads', len(sent) < most and time.monotonic() < until, True)
+
+
+def a_stalled_reader(place, line):
+    """Nobody reads the first station's answers: once its OUT is full it is read no more, and takes no memory. The second one is
+    served meanwhile. Then the first one gets all its answers."""
+    formats(place, STATIONS, LONG)
+    first, second = some(2)
+    with serving_pipes(place, 2) as program:
+        for station in first, second:
+            station.connect_pipes(place, program).ask_all([line(number) for number in range(1, 201)])
+        before = peak(program)
+        sent = send_until_full(first, line)
+        second.ask_all(commands(201, 300))
+        compare(f'{peak(program) - before} KiB more of memory', peak(program) <= before + 512, True)
+        compare(f'{second.slowest:.3f} seconds for an answer', second.slowest < 1, True)
+        first.pairs += [Answered(line, first.answer(line)) for line in sent]
+        for station in first, second:
+            station.end()
+        finish(program, 0)
+    judge(place, [first, second])
+
+
+# Signals
+
+def ended_by(place, dice, number):
+    """The signal ends it at once, while stations talk. What they were answered is on the disk, and they go on."""
+    formats(place, STATIONS, SHORTEST)
+    stations = [Resending(station, lines(dice, 1000)) for station in range(1, STATIONS + 1)]
+    for _ in range(3):
+        stop(place, stations, number, dice.uniform(0.05, 0.15))
+    go_on(place, stations)
+    judge(place, stations)
+
+
+def ended_while_it_waits(place, number):
+    """For the other ends of a pair, and for a station's next line."""
+    formats(place, STATIONS, SHORTEST)
+    second = Station(2)
+    with serving_pipes(place, 2, **with_default(number)) as program:
+        second.connect_pipes(place, program).ask_all(commands(1, 5))
+        time.sleep(0.1)
+        ends_by(program, number)
+        second.leave()
+    judge(place, [Station(1), second])
+
+
+# Stations that wait
+
+def ticks(program):
+    """The processor time that it has taken, in hundredths of a second."""
+    words = pathlib.Path(f'/proc/{program.pid}/stat').read_text().rpartition(') ')[2].split(' ')
+    return int(words[11]) + int(words[12])
+
+
+def answered_at_once(stations, first):
+    for station in stations:
+        for line in b'count', *commands(first, 1):
+            station.ask(line, 1)
+
+
+@contextlib.contextmanager
+def nobody_is_there(place):
+    station = Station(1)
+    with serving_pipes(place, 2) as program:
+        yield program
+        answered_at_once([station.connect_pipes(place, program)], 1)
+        station.leave()
+
+
+@contextlib.contextmanager
+def all_wait(place, **how):
+    stations = some()
+    with serving_pipes(place, STATIONS, **how) as program:
+        for station in stations:
+            station.connect_pipes(place, program).ask_all(commands(1, 20))
+        yield program
+        answered_at_once(stations, 21)
+        for station in stations:
+            station.leave()
+
+
+@contextlib.contextmanager
+def one_has_ended(place):
+    first, second = some(2)
+    with serving_pipes(place, 2) as program:
+        second.connect_pipes(place, program).ask_all(commands(1, 20))
+        talk(place, program, first, commands(1, 20))
+        yield program
+        answered_at_once([second], 21)
+        second.leave()
+
+
+@contextlib.contextmanager
+def one_is_stalled(place):
+    first, second = some(2)
+    with serving_pipes(place, 2) as program:
+        for station in first, second:
+            station.connect_pipes(place, program).ask_all(commands(1, 10))
+        send_until_full(first, queries_mostly)
+        yield program
+        answered_at_once([second], 11)
+        for station in first, second:
+            station.leave()
+
+
+@contextlib.contextmanager
+def the_disk_has_failed(place):
+    with recorder(place) as made, all_wait(place, env=made.environment(fails=40, files=())) as program:
+        yield program
+
+
+@contextlib.contextmanager
+def a_run_waits(place):
+    """`run`, for the second file."""
+    place.write('a.txt', FIRST)
+    with held_open(place.path('b.txt')), serving(place, ['run', DISK, 'a.txt', 'b.txt']) as program:
+        waits(lambda: register_of(place.image()).count == 2)
+        yield program
+
+
+WAITING = [nobody_is_there, all_wait, one_has_ended, one_is_stalled, the_disk_has_failed, a_run_waits]
+
+
+def no_processor_time(command):
+    """Of programs that wait, over two seconds; then stations are answered at once."""
+    with contextlib.ExitStack() as stack:
+        programs = {}
+        for state in WAITING:
+            folder = stack.enter_context(place(command, MEMORY))
+            formats(folder, STATIONS, LONG)
+            programs[state.__name__] = stack.enter_context(state(folder))
+        time.sleep(0.3)
+        before = {name: ticks(program) for name, program in programs.items()}
+        time.sleep(2)
+        taken = {name: ticks(program) - before[name] for name, program in programs.items()}
+        compare('processor time taken', {name: count for name, count in taken.items() if count > MOST_TICKS}, {})
+
+
+def talk_with_pauses(place, program, station, seed, count):
+    """So many commands with pauses of 0 to 3 milliseconds, each answered within a second."""
+    dice = random.Random(seed)
+    station.connect_pipes(place, program)
+    for line in commands(1, count):
+        time.sleep(dice.uniform(0, 0.003))
+        station.ask(line, 1)
+    time.sleep(dice.uniform(0, 0.003))
+    station.end()
+
+
+def after_pauses(place, dice, stations, count):
+    """No pause is such that a command waits for another one."""
+    formats(place, STATIONS, LONG)
+    with serving_pipes(place, len(stations)) as program:
+        at_once([functools.partial(talk_with_pauses, place, program, station, dice.random(), count) for station in stations])
+        finish(program, 0)
+    judge(place, stations)
+
+
+def short_runs(place, dice, count):
+    """The end of a session comes after a pause, too."""
+    formats(place, STATIONS, LONG)
+    for number in range(1, count + 1):
+        station = Station(1)
+        with serving_pipes(place, 1) as program:
+            station.connect_pipes(place, program).ask_all(commands(number, 1))
+            time.sleep(dice.uniform(0, 0.003))
+            station.end()
+            finish(program, 0)
+
+
+# The whole
+
+def in_a_place(count, words, name, call, *arguments, folder=MEMORY):
+    with place(words.program, folder) as there:
+        return count.case(name, call, there, *arguments)
+
+
+def answered(count, words, dice):
+    in_a_place(count, words, 'on_standard_streams', on_standard_streams, dice, words.lines)
+    for number in 1, 2, 4:
+        in_a_place(count, words, f'{number} stations over pipes', over_pipes, dice, some(number), words.lines)
+    in_a_place(count, words, '4 stations on a device', over_pipes, dice, some(), words.lines, folder=None)
+    in_a_place(count, words, 'nobody_at_a_pipe', nobody_at_a_pipe, dice)
+
+
+def faulty(count, words, dice):
+    in_a_place(count, words, 'files_that_can_not_be_opened', files_that_can_not_be_opened, dice)
+    for restore in True, False:
+        in_a_place(count, words, f'a reader goes, SIGPIPE at its default: {restore}', a_reader_goes, dice, restore)
+    with place(words.program, MEMORY) as there, recorder(there) as made:
+        count.case('as_they_come', as_they_come, there, made)
+        faults_of_the_device(there, made, dice, count)
+
+
+def waiting(count, words, dice):
+    for line in a_command, queries_mostly:
+        in_a_place(count, words, f'a_stalled_reader, {line.__name__}', a_stalled_reader, line)
+    for number in signal.SIGTERM, signal.SIGINT:
+        in_a_place(count, words, f'ended by {number.name}', ended_by, dice, number)
+        in_a_place(count, words, f'ended by {number.name} while it waits', ended_while_it_waits, number)
+    count.case('no_processor_time', no_processor_time, words.program)
+    in_a_place(count, words, 'four stations with pauses', after_pauses, dice, some(), words.commands // 4)
+    in_a_place(count, words, 'one station with pauses', after_pauses, dice, some(1), words.commands // 4)
+    in_a_place(count, words, 'short_runs', short_runs, dice, 50)
+
+
+def main():
+    words = options(__doc__, lines=150, commands=2000)
+    print(f'seed {words.seed}', flush=True)
+    dice, count = random.Random(words.seed), Count()
+    for case in (in_pieces, regular_files, one_out_for_two, devices, odd_words, refused, a_disk_that_is_served, no_memory,
+                 standard_streams_that_fail):
+        in_a_place(count, words, case.__name__, case)
+    answered(count, words, dice)
+    faulty(count, words, dice)
+    waiting(count, words, dice)
+    count.end()
+
+
+if __name__ == '__main__':
+    main()
