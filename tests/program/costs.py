@@ -1,9 +1,11 @@
 #!/usr/bin/env python3
-"""Counts what a line costs the program on a small register and on a full one: its instructions, where valgrind is installed, and its
-allocations (count.c, preloaded). No line's cost may grow with the whole of a table, so a full table may cost a line a few times as much
-and not hundreds of times. A checkpoint may make a few allocations for each entry of the register, for its copy. Every figure is the difference of two runs,
-so that starting and opening the disk cost nothing. Prints the figures, the cases that fail, and last 'N passed, M failed'.
-Usage: tests/run costs PROGRAM (the program itself, not a script that starts it)"""
+"""Counts what a line costs on a small register and on a full one: its allocations in a run of the program on a disk (count.c, preloaded),
+and its instructions, where valgrind is installed. Threads of a run that wait would count too, so these are counted of LINES, which answers
+lines of standard input by one thread over a register in memory (crates/benchmarks). No line's cost may grow with the whole of a table, so a
+full table may cost a line a few times as much and not hundreds of times. A checkpoint may make a few allocations for each entry of the
+register, for its copy. Every figure is the difference of two runs, so that starting and opening the disk cost nothing. Prints the figures,
+the cases that fail, and last 'N passed, M failed'.
+Usage: tests/run costs PROGRAM LINES (the programs themselves, not a script that starts them)"""
 import pathlib
 import re
 import shutil
@@ -71,39 +73,52 @@ class Costs:
         self.serve(filling(size))
         there.copy(DISK, 'full.img')
 
-    def run(self, words, tool=()):
-        ran = subprocess.run([*tool, *self.there.command, *words], cwd=self.there.folder, capture_output=True, text=True, timeout=120,
-                             env=preloading.environment(self.made, COUNTED='allocations') if not tool else None)
+    def run(self, words):
+        ran = subprocess.run([*self.there.command, *words], cwd=self.there.folder, capture_output=True, text=True, timeout=120,
+                             env=preloading.environment(self.made, COUNTED='allocations'))
         if ran.returncode not in (0, 1):
             raise Differs(f'{words} ended with status {ran.returncode}: {ran.stderr[:200]}')
         return ran
 
-    def serve(self, bodies, tool=()):
-        """Serves these commands of station 1, all of which have to be accepted, and returns what the tool said."""
+    def serve(self, bodies):
+        """Serves these commands of station 1, all of which have to be accepted."""
         self.there.write(LINES, commands(bodies, self.next_sequence()))
-        ran = self.run(['run', DISK, LINES], tool)
-        refused = [line for line in ran.stdout.split('\n')[1:-1] if ' ok ' not in line]
-        compare('lines that were not accepted', refused[:3], [])
-        return ran.stderr
+        are_accepted(self.run(['run', DISK, LINES]).stdout.split('\n')[1:-1])
 
     def next_sequence(self):
         return int(self.run(['show', DISK, 'count']).stdout.split()[1]) + 1
 
-    def counted(self, kind, count, tool):
+    def counted(self, kind, count):
         self.there.copy('full.img', DISK)
-        said = self.serve(kind(self.size, count), tool)
-        if tool:
-            return int(re.search(r'Collected : (\d+)', said)[1])
+        self.serve(kind(self.size, count))
         return int(self.there.path('allocations').read_text())
 
-    def a_line(self, kind, tool=()):
-        """What one line of the kind costs."""
-        few, many = (self.counted(kind, count, tool) for count in (LINES_EACH, 3 * LINES_EACH))
-        return (many - few) / (2 * LINES_EACH)
+
+class Instructions:
+    """Lines over a register of one size in memory, whose instructions are counted."""
+
+    def __init__(self, program, size):
+        self.command, self.size = ['valgrind', '--tool=callgrind', '--callgrind-out-file=/dev/null', *program], size
+
+    def counted(self, kind, count):
+        lines = commands([*filling(self.size), *kind(self.size, count)])
+        ran = subprocess.run(self.command, input=lines, capture_output=True, timeout=120)
+        are_accepted(ran.stdout.decode().split('\n')[:-1])
+        return int(re.search(r'Collected : (\d+)', ran.stderr.decode())[1])
 
 
-def a_line_over_full_tables(small, full, kind, what, tool):
-    costs = [of.a_line(kind, tool) for of in (small, full)]
+def are_accepted(answers):
+    compare('lines that were not accepted', [line for line in answers if ' ok ' not in line][:3], [])
+
+
+def a_line(of, kind):
+    """What one line of the kind costs."""
+    few, many = (of.counted(kind, count) for count in (LINES_EACH, 3 * LINES_EACH))
+    return (many - few) / (2 * LINES_EACH)
+
+
+def a_line_over_full_tables(small, full, kind, what):
+    costs = [a_line(of, kind) for of in (small, full)]
     print(f'{kind.__name__}: {costs[0]:,.1f} and {costs[1]:,.1f} {what} a line', flush=True)
     if costs[1] > MOST_TIMES * max(costs[0], 1):
         raise Differs(f'a line costs {costs[1]:,.1f} {what} on a full register, {costs[0]:,.1f} on a small one')
@@ -113,7 +128,7 @@ def a_checkpoint(there, made, full):
     """Lines on a full register, with a half that is full after each 18 of them, and with one that has room for all. In the small half
     a checkpoint begins with a copy of the register, and has no time to end; a whole one then makes room."""
     small_half = Costs(there, made, FULL, 38)
-    each = (small_half.a_line(expiries) - full.a_line(expiries)) * 18
+    each = (a_line(small_half, expiries) - a_line(full, expiries)) * 18
     print(f'a checkpoint: {each:,.1f} allocations', flush=True)
     if each > MOST_PER_CHECKPOINT:
         raise Differs(f'a checkpoint makes {each:,.1f} allocations')
@@ -121,14 +136,15 @@ def a_checkpoint(there, made, full):
 
 def main():
     words, count = options(__doc__), Count()
-    tools = [('allocations', ())]
-    if shutil.which('valgrind'):
-        tools.append(('instructions', ('valgrind', '--tool=callgrind', '--callgrind-out-file=/dev/null')))
-    with preloading.library(COUNTER) as made, place(words.program, MEMORY) as one, place(words.program, MEMORY) as other:
+    program, lines = words.program[:1], words.program[1:]
+    with preloading.library(COUNTER) as made, place(program, MEMORY) as one, place(program, MEMORY) as other:
         small, full = Costs(one, made, SMALL), Costs(other, made, FULL)
-        for what, tool in tools:
+        measured = [('allocations', small, full)]
+        if shutil.which('valgrind'):
+            measured.append(('instructions', Instructions(lines, SMALL), Instructions(lines, FULL)))
+        for what, few, many in measured:
             for kind in (rules, attaches, messages, expiries):
-                count.case(f'{kind.__name__}, {what}', a_line_over_full_tables, small, full, kind, what, tool)
+                count.case(f'{kind.__name__}, {what}', a_line_over_full_tables, few, many, kind, what)
         count.case('a checkpoint', a_checkpoint, one, made, full)
     count.end()
 
