@@ -40,7 +40,7 @@ class Stations:
 
 
 def is_command(words):
-    """Whether a line can tell a command by these."""
+    """Whether a line of these words is a command."""
     try:
         reading.answer(reading.Register(), 1, f'1 0 {words}'.encode())
     except reading.BadLine:

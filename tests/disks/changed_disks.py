@@ -1,5 +1,5 @@
-"""Images of disks that differ from a good one in what tells how the rest is read: a byte of the label, a root, a row at the head of
-a slot, a gate or the head of a record; or in whole sectors."""
+"""Images of disks that differ from a good one. Either one byte that determines how the rest is read is changed, or whole sectors are.
+Such bytes are in the label, the roots, the header rows of the slots, the gates and the heads of the records."""
 import faulty_disks
 from made_disks import FORMS
 from reading_disks import LABEL, RECORD_HEAD, ROOTS, data_sectors, is_open, layout_in, opens
@@ -28,7 +28,7 @@ def gates(image, layout, opening):
 
 
 def telling(image):
-    """The sectors that tell how others are read, each with how many of its bytes do. The disk has two open sides."""
+    """The sectors that determine how others are read, each with the number of its bytes that do. Both sides of the disk are open."""
     layout, opening = layout_in(image[LABEL], len(image)), opens(image)
     yield LABEL, LABEL_BYTES
     yield from ((root, ROOT_BYTES) for root in ROOTS)
@@ -45,7 +45,7 @@ def other_bytes(byte):
 
 
 def bytes_changed(image):
-    """Each byte that tells something, changed."""
+    """Images in which one of these bytes has another value."""
     for at, count in telling(image):
         for place in range(count):
             for byte in other_bytes(image[at][place]):
@@ -53,7 +53,7 @@ def bytes_changed(image):
 
 
 def tails_changed(image, dice):
-    """The other bytes of these sectors, each changed once: those behind a record's head are its commands."""
+    """Images in which other bytes of these sectors change, each byte in one image. The bytes after a record's head are its commands."""
     for at, count in telling(image):
         for first in range(TAILS):
             sector = bytearray(image[at])

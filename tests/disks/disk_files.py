@@ -125,7 +125,7 @@ def queries(register):
 
 
 def shows_all(place, register, name=DISK):
-    """The program's `show` tells of a disk what the independent reading does; how many queries that took."""
+    """Checks that `show` prints what the independent reading answers to each query. Returns the number of queries."""
     asked = list(queries(register))
     for query in asked:
         place.shows(register, query, name)
@@ -133,7 +133,7 @@ def shows_all(place, register, name=DISK):
 
 
 def run_cases(told, cases):
-    """Runs each case in a place of its own; the words of the command line are told so."""
+    """Runs each case in a place of its own. `--help` prints `told`."""
     words, count = options(told), Count()
     for case in cases:
         with place(words.program) as there:

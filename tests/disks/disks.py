@@ -1,11 +1,11 @@
 #!/usr/bin/env python3
-"""Gives a program (crates/stops) batches of lines for a register that is kept on a disk, and follows each call that the disk
-gets: over a disk that it makes ready, and over one of layout 1, which is written here and moves at its first checkpoint. The calls of
-each batch have to be those of the independent reading beside this file, also where a checkpoint goes on beside. At every
-stop, after each call and within each write, the image has to stand for the register before the batch or after it,
-by that reading, and once the batch is answered only for that after it. The reading has to tell the
-faults of images put together by hand, and bugs planted in the calls have to be found. Prints a line for each part, the first
-case of a part that is wrong, and last 'N passed, M failed'.
+"""Gives a program (crates/stops) batches of lines for a register on a disk, and follows each call to the disk. The program makes
+one disk ready. The test itself writes another one, of layout 1, which moves to layout 2 at its first checkpoint.
+- The calls of each batch must be those of the independent reading (tests/reading/), also while a checkpoint goes on beside.
+- The disk is stopped after each call and within each write. By the reading, the image must open to the register before the batch or
+  after it. Once the batch is answered, it must open to the register after it.
+- The reading must report the faults of images put together by hand, and the test must find bugs planted in the calls.
+Prints a line for each part, the first case of a part that is wrong, and last 'N passed, M failed'.
 Usage: tests/run disks COMMAND..."""
 import collections
 import functools
@@ -48,7 +48,7 @@ def commit_in(lines):
 
 
 def stream_in(text, form):
-    """The first line tells how many sectors the disk has; an empty line ends each commit."""
+    """The first line gives the number of sectors of the disk. An empty line ends each commit."""
     first, *lines = text.split('\n')[:-1]
     ends = [k for k, line in enumerate(lines) if line == '']
     parts = [lines[start:end] for start, end in zip([0] + [end + 1 for end in ends], ends)]
@@ -93,7 +93,7 @@ class Script:
 
 
 def new_disk(sectors, dice):
-    """It holds anything, with a 1 in front, so that each root and gate that is not written is open."""
+    """A disk of random bytes. Each sector begins with the byte 1, so that each root and gate that is not written is open."""
     return Disk([b'\1' + dice.randbytes(SECTOR - 1) for _ in range(sectors)])
 
 
@@ -265,7 +265,7 @@ def is_found(script, stream, bug):
     return any(fault for _, fault in faults(script, stream._replace(commits=stream.commits[:2] + changed)))
 
 
-# The parts of the test: each tells what it is, how many cases there were, and what is wrong
+# The parts of the test: each returns its name, the number of its cases, and what is wrong
 
 def the_answers(script, stream):
     got = [commit.answers for commit in stream.commits[2:]]

@@ -1,6 +1,7 @@
-"""Reads, writes and syncs of the disk file that fail while the program serves a station's file, one in each run. Where it opens the
-disk that is a fault; else the command at hand is answered `device`, each later one `broken`, each query as if nothing more was said.
-The file is left alone from there on. What it has stands for a prefix of the accepted commands, with all that were answered."""
+"""Reads, writes and syncs of the disk file that fail while the program serves a station's file, one in each run. If the call fails
+while the program opens the disk, the program ends with a fault. Otherwise it answers the current command `device` and each later
+command `broken`. It answers each query as if no more commands had come. From then on it leaves the file alone. The file opens to a
+prefix of the accepted commands that contains every answered one."""
 import reading
 from images import fault_of
 from running import compare

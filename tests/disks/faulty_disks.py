@@ -1,5 +1,5 @@
-"""Images of disks of both layouts that stand for nothing, put together by hand, and the fault that each has: the first one in the
-order in which a disk is opened."""
+"""Images of disks of both layouts that open to no register, put together by hand, and the fault of each: the first one in the order in
+which a disk is opened."""
 import itertools
 
 from made_disks import (CLOSED, FORMS, GATE, NONE, OPEN, OTHER_GATE, OTHER_SLOT, SLOT, expire, head, image, label, record, records,
@@ -8,7 +8,7 @@ from reading_disks import NUMBERED, PLAIN, BadGeometry, Damaged, Unformatted
 from reading_rows import LAST_EPOCH, SECTOR, header_row, number, rule_row
 
 JUNK = b'\xa5' * SECTOR
-# A copy of a message to a group that is told to be a report, with the PDU of a report: item 5 for 234-14-2002
+# A copy of a group message that is wrongly marked as a report, and has the PDU of a report: item 5 for 234-14-2002
 COPY_OF_A_REPORT = '15 0000000000000005 0000000000000e74 3a800e0007d2 3a800e0007d1 05 01 3a800e0003e8 0020 82100005'
 
 
@@ -97,7 +97,7 @@ def first_numbers():
 
 
 def other_forms():
-    """The records of a half in another form than its slot tells, and as the other slot tells it."""
+    """Records of another form than the header in their side's slot gives. The last disk's record has the form of the other side."""
     one = [expire(1)]
     for form, other in (PLAIN, NUMBERED), (NUMBERED, PLAIN):
         yield image(record(GATE, text_of(other, one)), form), Damaged(GATE + 1)

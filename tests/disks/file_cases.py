@@ -208,7 +208,7 @@ def without(closed):
 
 
 def with_closed(place, words, closed, out):
-    """Where standard output is closed that is a fault, which is told where it can be."""
+    """A closed standard output is a fault. The program reports it unless standard error is closed too."""
     if 1 in closed:
         place.gives(words, 4, b'', b'' if 2 in closed else file_fault('-'), **without(closed))
     else:
@@ -314,7 +314,7 @@ def a_run_past_a_limit(place, form):
 
 
 def run_past_a_limit(place):
-    """The first record is within the limit, and the second one's data begin before it and end behind."""
+    """The first record is within the limit. The data of the second one begin before the limit and end after it."""
     for form in FORMS:
         a_run_past_a_limit(place, form)
 

@@ -19,7 +19,8 @@ from testing import Count, options
 LAYOUT, ZEROS = Layout(tuple(MOST.values()), MOST_SECTORS), bytes(SECTOR)
 WHOLE_LABEL = label(**MOST, journal=MOST_SECTORS)
 STATIONS, FOR_ONE, COUNT, EPOCH = MOST['stations'], 128, 1_000_000, 5
-# The records of a half: the first has two data sectors and the others one, so that the gate behind one more is the last sector
+# The number of records in a half. The first has two data sectors and each other one has one. After one more record, the gate is the
+# last sector
 RECORDS = (MOST_SECTORS - 6) // 2
 
 
@@ -88,7 +89,7 @@ def serves(place, sequence):
 
 
 def is_record(sectors, gate, form, sequence):
-    """The record of this command, and a closed gate behind it."""
+    """Checks the record of this command, and that a closed gate follows it."""
     compare('the gate, and the one behind', (sectors[gate][0], sectors[gate + 2][0]), (OPEN[0], CLOSED[0]))
     compare('the record', sectors[gate + 1], text(form, sequence).ljust(SECTOR, b'\0'))
 

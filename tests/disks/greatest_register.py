@@ -27,7 +27,7 @@ ATTACH, ACCEPTED, CONGESTION, DETACH, LEAVE, LEFT = '10:260', '8:56', 6, '5:10',
 ITSI_ATTACH, CLASS = 3, 4
 # When all is sent, and the group to which the first radios belong, and its sender
 MOMENT, GROUP, SENDER = 10, 5 * 4096 + 4095, 0
-# The first radio behind the members of the group, and the radio that sends to those
+# The first radio that is not in the group, and the radio that sends to the radios from there on
 FIRST, SOURCE = MEMBERS, 1
 
 
@@ -294,7 +294,7 @@ def made(place):
 
 
 class Timed(Count):
-    """Tells how long each case took."""
+    """Prints how long each case took."""
 
     def part(self, name, call, *arguments):
         start = time.monotonic()

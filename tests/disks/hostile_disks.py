@@ -1,8 +1,8 @@
 #!/usr/bin/env python3
-"""Gives the program disks of both layouts that stand for nothing, files that are no disks, and command files and settings that
-can't be read (file_cases.py). It has to tell the fault that the independent reading beside this file finds, or that the case names,
-with its status, and `show` has to write nothing. Prints the seed, a line for each part, the first cases that fail, and last
-'N passed, M failed'.
+"""Gives the program disks of both layouts that open to no register, files that are no disks, and command files and settings that
+can't be read (file_cases.py). The program must report the fault that the independent reading (tests/reading/) finds, or that the
+case names, and end with its status. `show` must write nothing to the disk. Prints the seed, a line for each part, the first cases
+that fail, and last 'N passed, M failed'.
 Usage: tests/run hostile_disks PROGRAM [--seed N]"""
 import random
 
@@ -30,7 +30,7 @@ def told_of(image):
 
 
 def shown(place):
-    """`show` tells what the disk stands for, and writes nothing. Answers the fault."""
+    """Checks that `show` prints what the disk opens to, or its fault, and writes nothing to the disk. Returns the line of the fault."""
     status, out, err = told_of(place.image())
     with untouched(place.path()):
         place.gives(['show', DISK, 'count'], status, out, err)
@@ -60,7 +60,7 @@ def the_images(place, disks, dice, count):
 
 
 def lengths(data):
-    """Files that end within a sector or behind one."""
+    """Files that end within a sector or at its end."""
     for length in (0, 1, 511, 512, 513, 1023, 4 * SECTOR, len(data) - SECTOR, len(data) - 1):
         yield data[:length]
     yield from (data + b'\1', data + b'\1' * SECTOR)

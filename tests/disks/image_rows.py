@@ -135,7 +135,7 @@ def other_tags():
 
 
 def behind_the_end():
-    """Bytes behind each row: they are ignored."""
+    """Bytes after the end of each row. They are ignored."""
     sectors = sectors_of(WORKED)
     for place, row in enumerate(texts(WORKED)):
         for at in (len(row), len(row) + 1, 300, SECTOR - 1):
@@ -160,7 +160,7 @@ def orders():
 
 
 def behind_the_image():
-    """What stands behind the image is not looked at."""
+    """Sectors after the image. They are ignored."""
     for limits, sectors in BY_HAND:
         yield limits, sectors + [b'\0' * SECTOR]
         yield limits, sectors + [b'\xff' * SECTOR] * 3
@@ -193,7 +193,7 @@ def limits():
 # Images of a few rows, whose values and orders are tried one by one
 
 def image_of(*behind):
-    """These rows behind a header that tells of them, with 10 accepted commands."""
+    """An image of these rows. Its header gives their numbers, and 10 accepted commands."""
     numbers = [sum(row[0] in tags for row in behind) for tags in ((RULE,), (RADIO,), (MAIL, COPY), (SERVED,))]
     return SMALL, [header_row(1, 10, numbers), *behind]
 
@@ -331,8 +331,8 @@ def answers(command, cases):
 
 
 def tells_images():
-    """Whether the reading takes images for images, and writes them as they stand, those by hand too; and takes a header of layout 1
-    for the same, though it tells the other tag."""
+    """Whether the reading accepts each good image, also those written by hand, and writes the same bytes back. With a header of
+    layout 1 it must give the same result, though the tag differs."""
     return (all(wanted(*case).split('\n')[1:] == list(map(digits, case[1])) for case in whole())
             and all(wanted(limits, plain(sectors)) == wanted(limits, sectors) for limits, sectors in whole())
             and all(row_in(sectors[0]).tag != row_in(plain(sectors)[0]).tag for _, sectors in BY_HAND))

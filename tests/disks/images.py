@@ -1,4 +1,4 @@
-"""What an image of a disk stands for, beside what it has to stand for."""
+"""What an image of a disk opens to, compared with what it must open to."""
 import functools
 
 from reading_disks import BadGeometry, Damaged, Unformatted, opens

@@ -1,8 +1,9 @@
 #!/usr/bin/env python3
-"""Worked disks of both layouts, their bytes written here by hand: what the independent reading beside this file takes them for, and
-then what the program's `show` and `run` do with each. A disk of layout 1 goes on in its form until its first checkpoint, at once or
-beside its commits, which moves it. Records of another form than their slot tells, records out of place and records of another image are damage. Prints the
-cases that fail, and last 'N passed, M failed'. Without a program only the reading is tried.
+"""Worked disks of both layouts, whose bytes are written here by hand. The test checks what the independent reading (tests/reading/)
+opens each to, and then what the program's `show` and `run` do with it. A disk of layout 1 keeps its form until its first checkpoint,
+which moves it to layout 2. That checkpoint is made at once, or beside the commits. A record is damage if its form differs from that
+of its slot, if it is out of place, or if it belongs to another image. Prints the cases that fail, and last 'N passed, M failed'.
+Without a program only the reading is tried.
 Usage: tests/run layouts [PROGRAM]"""
 import itertools
 import sys

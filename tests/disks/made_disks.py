@@ -44,7 +44,7 @@ def expire(sequence, station=1, tag=6):
 
 
 def text_of(form, commands, first=1, count=None, size=None):
-    """The bytes of a record, the first of whose commands has this number; its other numbers may be told wrong."""
+    """The bytes of a record whose first command has this number. `count` and `size` replace its true numbers."""
     text = b''.join(commands)
     told = number(len(commands) if count is None else count, 2), number(len(text) if size is None else size, 4)
     return told[0] + (number(first, 8) if form == NUMBERED else b'') + told[1] + text

@@ -116,7 +116,8 @@ def numbers(dice):
 
 
 def a_call_fails(made, record, number):
-    """Nothing is done behind it. The file is left, and is not made anew; only where the label was written has it one."""
+    """After the failed call `format` does nothing more. The file stays, and a second `format` refuses it. It has a label only if the label
+    was written."""
     made.place.path().unlink()
     failed = made.does([*WORDS, DISK], 5, err=ON_DEVICE, fails=number)
     compare('the calls before', failed[:-1], record[:number - 1])

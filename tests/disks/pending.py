@@ -40,21 +40,21 @@ class Disk:
 
 
 def torn(dice, held):
-    """What may stand in a pending sector: what it held, or got; the first bytes of the last write and old ones behind, or old
-    ones and then those of the write; or anything."""
+    """What a pending sector may hold after a stop: what it held at the last sync, or a later write; the first bytes of the last
+    write and then old bytes, or old bytes and then those of the last write; or anything."""
     kind, old, new = dice.randrange(6), held[0], held[-1]
     cut = dice.randrange(SECTOR)
     return (dice.choice(held), old, new, new[:cut] + old[cut:], old[:cut] + new[cut:], dice.randbytes(SECTOR))[kind]
 
 
 def beginning(dice, held, byte):
-    """A torn sector with this byte in front."""
+    """A torn sector that begins with this byte."""
     return bytes([byte]) + torn(dice, held)[1:]
 
 
 def choices(disk, dice, draws):
-    """What may stand in the pending sectors: nothing that was written; all; the last write alone; all but that; with each byte
-    that makes or spoils a gate in front of it; and so many by chance."""
+    """What the pending sectors may hold after a stop: none of the writes; all; the last write alone; all but the last one; random
+    choices where the sector written last begins with a byte that makes or spoils a gate; and `draws` other random choices."""
     yield {}
     if not disk.pending:
         return

@@ -57,7 +57,7 @@ class Written:
 
 
 def command_lines(lines):
-    """By its bytes each command that a station's file can tell, with the station."""
+    """The commands in the stations' files: the bytes of each give its station and its line."""
     told = {}
     for station, one in enumerate(lines, 1):
         for line in filter(is_command, one):

@@ -1,11 +1,14 @@
 #!/usr/bin/env python3
-"""Writes down each read, write and sync of the disk file while the program serves a station's file, with two checkpoints or more
-beside its commits (record.c, compiled and preloaded), on a disk that began in either layout; and takes the moments between these calls, drawn anew each
-time. At each one the writes since the last sync are done, left out or torn in 20 ways: the independent reading beside this file
-opens each image to what a front of the accepted commands made, all that were answered by then among them, and for one of the ways
-the program's `show` tells the same. On some of the images the file is served again, and that run stopped in turn. Bugs planted in
-the record have to be found, and some of the calls fail (failing_calls.py). Prints the seed, what was done, and last 'N passed,
-M failed'.
+"""Records each read, write and sync of the disk file while the program serves a station's file (record.c, compiled and preloaded).
+The disk begins in either layout, and two checkpoints or more go on beside the commits. The moments between these calls are drawn
+anew each time. At each moment the writes since the last sync are done, left out or torn, in 20 ways.
+- The independent reading (tests/reading/) must open each image to a prefix of the accepted commands that contains every one
+  answered by then.
+- For one of the ways, the program's `show` must print the same.
+- On some of the images the program serves the file again, and that run is stopped in turn.
+- Bugs planted in the record must be found.
+- Some of the calls fail (failing_calls.py).
+Prints the seed, what was done, and last 'N passed, M failed'.
 Usage: tests/run recording PROGRAM [--seconds N] [--lines N] [--seed N]"""
 import collections
 import random
@@ -30,7 +33,7 @@ DRAWS, CHECKPOINTS = 13, 2
 # How many of the stops are followed by a second run, and how many moments of each of these are taken
 TWICE, SECOND = 15, 20
 
-# A disk between two calls, and the registers that its images may stand for
+# A disk between two calls, and the registers that its images may open to
 Moment = collections.namedtuple('Moment', 'disk registers')
 
 
@@ -58,7 +61,7 @@ def images(moment, dice):
 
 
 def shown(place, image, dice):
-    """The program's `show` tells what the reading does of this image: the number of commands, and one thing more."""
+    """Checks that `show` prints of this image what the reading answers: to `count`, and to one more query."""
     register = register_of(image)
     place.put(image, TORN)
     for query in ('count', dice.choice(list(queries(register)))):

@@ -1,12 +1,14 @@
 #!/usr/bin/env python3
-"""Stops `serve` (kill -9) at random moments, again and again, while 4 stations talk over named pipes: on disks that began in either
-layout, on a device and in memory, with checkpoints beside. A station sends a line, waits for its answer, and sends the next. After each
-stop it sends the line again that was not answered. All answers have to be those of a run that nothing stops: each command gets its PDU,
-the numbers have no gap, and none comes twice but as `kept`. The disk of each stop has to stand for a prefix of these commands.
-Then it writes down the calls of such a run (record.c, compiled and preloaded), and takes moments between them: at each one the writes
-since the last sync are done, left out or torn, and each image has to stand for a prefix of the commands that has all whose answers were
-written. Bugs planted in the record have to be found. All is judged by the independent reading beside this file. Prints the seed, what
-was found, and last 'N passed, M failed'.
+"""Stops `serve` (kill -9) at random moments, again and again, while 4 stations talk over named pipes. The disks begin in either layout,
+on a device and in memory, and checkpoints go on beside. A station sends a line, waits for its answer, and sends the next. After each
+stop it sends the unanswered line again.
+- All answers must be those of a run that nothing stops: each command gets its PDU, the numbers have no gap, and none comes twice
+  except as `kept`.
+- After each stop the disk must open to a prefix of these commands.
+Then the test records the calls of such a run (record.c, compiled and preloaded), and takes moments between them. At each moment the
+writes since the last sync are done, left out or torn. Each image must open to a prefix of the commands that contains every one whose
+answer was written. Bugs planted in the record must be found. The independent reading (tests/reading/) judges all of this. Prints the
+seed, what was found, and last 'N passed, M failed'.
 Usage: tests/run serve_stops PROGRAM [--moments N] [--lines N] [--seconds N] [--seed N]"""
 import functools
 import random

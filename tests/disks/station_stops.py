@@ -1,12 +1,14 @@
 #!/usr/bin/env python3
 """Stops the program (kill -9) at random moments while it serves the files of 8 stations on a disk of either layout, with checkpoints
-beside and without. Each time the disk has to stand for an order of commands in which each station's are a prefix of those of its file
-that are accepted, and `show` has to print the same. The same run again has to answer `kept` or `old-sequence` to these and the rest as
-it comes then; and the end has to be one that a run without a stop can give. Then it writes down the calls of such a run (record.c,
-compiled and preloaded), and takes moments between them: at each one the writes since the last sync are done, left out or torn, and
-each image has to stand for a prefix of the order that has all that was answered by then. Bugs planted in the record have to be found,
-and orders that are changed refused. All is judged by the independent reading beside this file. Prints the seed, what was found, and
-last 'N passed, M failed'.
+beside and without.
+- After each stop the disk must open to an order of commands. Each station's commands in it are a prefix of the accepted ones of its
+  file. `show` must print the same.
+- The same run again must answer these commands `kept` or `old-sequence`, and the rest as they come then. It must end as a run without
+  a stop can end.
+Then the test records the calls of such a run (record.c, compiled and preloaded), and takes moments between them. At each moment the
+writes since the last sync are done, left out or torn. Each image must open to a prefix of the order that contains everything answered
+by then. Bugs planted in the record must be found, and changed orders refused. The independent reading (tests/reading/) judges all of
+this. Prints the seed, what was found, and last 'N passed, M failed'.
 Usage: tests/run station_stops PROGRAM [--moments N] [--lines N] [--seconds N] [--seed N]"""
 import random
 import subprocess

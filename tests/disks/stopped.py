@@ -1,9 +1,10 @@
 #!/usr/bin/env python3
-"""Stops the program (kill -9) at random moments while it serves a station's file on a disk, which began in either layout. Each
-time the disk has to stand for what a front of the file's accepted commands made, by the independent reading beside this file, and
-`show` has to tell the same of every radio, group, item and rule. The same run again has to answer `kept` or `old-sequence` to the
-commands of that front and the rest as a run that nothing stopped; then the disk stands for all commands. Prints the seed, what was
-found, and last 'N passed, M failed'.
+"""Stops the program (kill -9) at random moments while it serves a station's file on a disk, which began in either layout.
+- After each stop the disk must open, by the independent reading (tests/reading/), to a prefix of the file's accepted commands. `show`
+  must print the same of every radio, group, item and rule.
+- The same run again must answer the commands of that prefix `kept` or `old-sequence`, and the rest as a run that nothing stopped.
+  Then the disk opens to all commands.
+Prints the seed, what was found, and last 'N passed, M failed'.
 Usage: tests/run stopped PROGRAM [--moments N] [--lines N] [--seed N]"""
 import random
 import subprocess
@@ -55,7 +56,7 @@ def stops(place, moment):
 # What is left
 
 def front_on(place, script):
-    """The register that the disk stands for: that of a front of the file's accepted commands."""
+    """The register that the disk opens to. It must be that of a prefix of the file's accepted commands."""
     register = register_of(place.image())
     if register.count > script.total or not are_same(register, script.whole.registers[register.count]):
         raise Differs(f'a register of {register.count} commands that no front of the file makes')
@@ -67,7 +68,8 @@ def is_of_the_front(words):
 
 
 def resent(script, again, count):
-    """The commands that a front of so many made are answered as such, and all lines behind it as in a run that nothing stopped."""
+    """Checks the answers of the run after a stop. The first `count` commands are answered `kept` or `old-sequence`, and each later line as
+    in a run that nothing stopped."""
     counts, before = script.whole.counts, [0, *script.whole.counts]
     for place, (first, told) in enumerate(zip(script.whole.answers, again.answers)):
         if before[place] >= count and told != first:
@@ -116,7 +118,8 @@ def falls_within(told, total):
 
 
 def stops_in(place, script, dice, count, moments):
-    """What was found at so many stops. They are drawn from a time that is shorter behind one that came too late, and else longer."""
+    """What was found at so many stops. Each moment is drawn from a span. A stop that came too late shortens the span; any other one
+    lengthens it."""
     span, told = count.case('a run that nothing stops', whole_run, place, script), []
     for number in range(1, moments + 1 if span else 0):
         moment = dice.uniform(0, span)

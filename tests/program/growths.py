@@ -1,9 +1,9 @@
 #!/usr/bin/env python3
 """Refuses each allocation of the program in turn (refuse.c, preloaded) over the lines of growths.txt,
-which have every form. Each run has to answer as the independent reading beside this file does, with at
-most one line answered by want of memory and what follows as if that line had not come; or it ends before
-its first line with `fault: memory` and status 5. The first run in which no answer changed and the
-two after it end the test. Prints 'N passed, M failed' last.
+which have every form. Each run must answer as the independent reading (tests/reading/) does, except that
+at most one line is answered `no memory`. The answers after it must be as if that line had not come.
+Or the run ends before its first line with `fault: memory` and status 5. The test ends with the first
+run in which no answer changed and the two after it. Prints 'N passed, M failed' last.
 Usage: tests/run growths PROGRAM (the program itself, not a script that starts it; a proved build by either
 compiler. What `rt try` builds has a heap of its own, which nothing preloaded can refuse, and is kept in no
 file: its own --fail-alloc N refuses one allocation, and compiles it anew, a minute, for each N)"""
@@ -32,7 +32,7 @@ def run(command, library, refused):
 
 
 def wanting(at):
-    """The answers where the line at this place finds no memory."""
+    """The answers when the program is out of memory for the line at this place."""
     before, after = answers(LINES[:at]), answers(LINES[:at] + [b'#'] + LINES[at + 1:])
     word = LINES[at].split(b' ')
     told = word[0] + b' no memory\n' if len(word) > 2 else b'line %d no memory\n' % (at + 1)

@@ -28,7 +28,7 @@ EXAMPLE = (TOP / 'examples' / 'commands.txt').read_bytes()
 ANSWERS = (TOP / 'examples' / 'answers.txt').read_bytes()
 EVERY_FORM = (HERE / 'growths.txt').read_bytes()
 ON_FILE, ON_MEMORY = b'fault: file -\n', b'fault: memory\n'
-# 100 messages of 2,040 bits for one radio: its mail is told in 55,000 bytes, by one answer
+# 100 messages of 2,040 bits for one radio: one answer lists its mail, in 55,000 bytes
 MESSAGES = [b'%d 3 sds 234-14-1 234-14-2 2040:8200%02X' % (k + 3, k) + b'A5' * 252 for k in range(100)]
 LONG = b'\n'.join([b'1 0 rule 234-14-0/24 1 99 1 3600', b'2 1 mm 234-14-1 7 10:260', *MESSAGES, *[b'mail 234-14-2'] * 3, b''])
 
@@ -77,7 +77,7 @@ def the_example(command):
 
 
 def the_readme(_):
-    """The sample of README.md stands in examples/ in this order: each line beside its answer, or the first line of it."""
+    """Each line of the sample in README.md is in examples/, in the same order and with the same answer, or the first line of it."""
     pairs = iter([(line, told) for line, (answer, _) in zip(EXAMPLE.decode().splitlines(), reading.answers(EXAMPLE))
                   for line, told in zip([line, *[''] * len(answer)], answer)])
     for row in (TOP / 'README.md').read_text().split('```')[3].splitlines()[1:]:
@@ -162,7 +162,7 @@ def output_that_is_only_read(command):
 
 
 def output_that_ends_between(command):
-    """Its reader goes: what it had is a front of the answers."""
+    """The reader of the output closes it. What it received is a prefix of the answers."""
     with started(command, stdin=subprocess.PIPE, stdout=subprocess.PIPE) as program:
         front = reading.serve(EXAMPLE)[0]
         program.stdin.write(EXAMPLE)

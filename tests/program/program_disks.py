@@ -1,6 +1,6 @@
 #!/usr/bin/env python3
 """Runs format, run and show of the built program: the sample, each fault line with its status, and what is left of the files.
-Tells the cases that fail, and last 'N passed, M failed'.
+Prints the cases that fail, and last 'N passed, M failed'.
 Usage: tests/run program_disks PROGRAM (the program itself, not a script that starts it)"""
 import os
 import pathlib
@@ -138,7 +138,7 @@ def wrong_words(place):
 
 
 def told(place, *words):
-    """What is told on standard output where nothing is asked of a disk."""
+    """What the program prints on standard output for words that use no disk."""
     program = subprocess.run([*place.command, *words], stdin=subprocess.DEVNULL, capture_output=True, timeout=SECONDS, cwd=place.folder)
     compare(f'status and standard error of {words}', (program.returncode, program.stderr), (0, b''))
     return program.stdout
@@ -282,8 +282,8 @@ def no_memory(place):
 
 
 def said_before(out):
-    """The answers of a run up to the first that tells of no memory. A command that was kept, and could not be shown to the sessions
-    without memory, is answered `kept`."""
+    """The answers of a run before the first `no memory`. A command is answered `kept` if it was kept and memory then ran out before
+    the sessions could see it. Here such an answer counts as `ok`."""
     said = re.sub(rb'^[^\n]* no memory\n.*', b'', out, flags=re.M | re.S)
     return re.sub(rb'^(\d+) kept ', rb'\1 ok ', said, flags=re.M)
 

@@ -1,6 +1,6 @@
 #!/usr/bin/env python3
-"""What the built program tells on a terminal while it serves: standard error is a pseudo terminal, and the lines come over a pipe,
-with a second between. Tells the cases that fail, and last 'N passed, M failed'.
+"""What the built program prints on a terminal while it serves. Standard error is a pseudo terminal, and the lines come over a pipe,
+with a second between them. Prints the cases that fail, and last 'N passed, M failed'.
 Usage: tests/run progress PROGRAM (the program itself, not a script that starts it)"""
 import contextlib
 import os
@@ -130,7 +130,7 @@ def less_than_a_second(place):
 
 
 def a_dialogue(place):
-    """Where the answers, or the lines, stand on a terminal too, nothing is mixed into them."""
+    """If the answers or the lines are on a terminal too, the program prints no figures between them."""
     terminal = Terminal()
     with subprocess.Popen(place.command, stdin=subprocess.PIPE, stdout=terminal.slave, stderr=terminal.slave) as program:
         for piece in FIRST, REST:
@@ -150,7 +150,7 @@ def a_dialogue(place):
 
 
 def a_terminal_that_goes(place):
-    """What can't be told changes nothing."""
+    """The terminal closes. That the figures can't be printed changes nothing else."""
     piped(place)
     master, slave = pty.openpty()
     with subprocess.Popen([*place.command, 'run', 'd.img', 'a.txt'], cwd=place.folder, stdin=subprocess.DEVNULL,
@@ -167,7 +167,7 @@ def a_terminal_that_goes(place):
 
 
 def a_fault_behind_it(place):
-    """A full output: the fault's line comes behind the figures."""
+    """Standard output is full. The fault's line comes after the figures."""
     piped(place)
     terminal = Terminal()
     with open('/dev/full', 'wb') as full, subprocess.Popen(

@@ -15,15 +15,15 @@ def library():
 
 
 def environment(made, number, refusals=1, held='', also=0):
-    """The environment in which a program's allocation of that number, counted from 1, gets no memory, nor do those
-    behind it, so many in all, nor that of the number `also`. At its end the program writes into the file `held` how
-    many blocks it did not give back, and for how many it asked."""
+    """The environment in which some of a program's allocations get no memory: `refusals` of them from this number on,
+    counted from 1, and the one of the number `also`. At its end the program writes into the file `held` how many
+    blocks it did not free, and how many it asked for."""
     named = {'HELD': held} if held else {}
     return preloading.environment(made, REFUSED=number, REFUSALS=refusals, ALSO=also, **named)
 
 
 def held_blocks(held):
-    """How many blocks the program did not give back, and for how many it asked."""
+    """How many blocks the program did not free, and how many it asked for."""
     return tuple(map(int, held.read_text().split()))
 
 

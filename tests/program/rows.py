@@ -1,8 +1,8 @@
 #!/usr/bin/env python3
-"""Runs a program on the worked cases of rows/*.txt, each from an empty register, and compares. There
-`== NAME` begins a case, `< LINE` is a line that the program gets and `> ANSWER` one that it has to answer
-with, right below the line that is answered; lines that begin with # are remarks. Between `< ` and the end
-`\\r` and `\\x20` are the bytes 13 and 32. The status has to be 1 where an answer tells of a bad line, else 0.
+"""Runs a program on the worked cases of rows/*.txt, each from an empty register, and compares its answers. In these files
+`== NAME` begins a case. `< LINE` is a line that the program gets. `> ANSWER`, right below it, is an answer that the program
+must give to that line. Lines that begin with # are remarks. Between `< ` and the end, `\\r` and `\\x20` are the bytes 13
+and 32. The status must be 1 if an answer reports a bad line, and else 0.
 Prints the first difference of each case that fails, and last 'N passed, M failed'.
 Usage: tests/run rows COMMAND..."""
 import pathlib

@@ -1,4 +1,4 @@
-"""What scripts of tests share: cases run one after another, counted, and told in one last line."""
+"""What the test scripts share. Cases run one after another and are counted, and one last line gives the counts."""
 import argparse
 import random
 import subprocess
@@ -8,7 +8,7 @@ from running import Differs
 
 
 class Count:
-    """How many cases passed, and how many failed; the first few that fail are told."""
+    """Counts the cases that passed and those that failed. Prints the first few that fail."""
     MOST_TOLD = 5
 
     def __init__(self):

@@ -18,8 +18,9 @@ LABEL, ROOTS, SLOTS = 0, (1, 2), 3
 PLAIN, NUMBERED = PLAIN_HEADER, HEADER
 RECORD_HEAD = {PLAIN: 6, NUMBERED: 14}
 
-# A record, by its first data sector, its form and its data; and what its data say. What an image stands for: by which side (0 for
-# A, 1 for B), in which form, of which epoch, behind how many records (the first closed gate), and the register
+# A record: its first data sector, its form and its data. Told: the number of its first command, and its commands. Opening: what an
+# image opens to. It has the side that counts (0 for A, 1 for B), the form of its records, its epoch, the first closed gate, which
+# follows the last record, and the register
 Record = collections.namedtuple('Record', 'at form data')
 Told = collections.namedtuple('Told', 'first commands')
 Opening = collections.namedtuple('Opening', 'side form epoch gate register')
@@ -31,7 +32,7 @@ class Unformatted(Exception):
 
 
 class BadGeometry(Exception):
-    """A label that tells of no layout, or of one that the disk has no room for."""
+    """A label that gives no valid layout, or one that the disk has no room for."""
 
 
 class Damaged(Exception):
@@ -62,7 +63,7 @@ class Layout(collections.namedtuple('Layout', 'limits journal')):
 
 @functools.lru_cache(maxsize=256)
 def layout_in(label, sectors):
-    """The layout that a label tells, on a disk of so many sectors."""
+    """The layout that a label gives, on a disk of so many sectors."""
     if not label.startswith(NAME):
         raise Unformatted
     fields = Fields(label[len(NAME):])

@@ -12,11 +12,11 @@ HEADER, RULE, RADIO, MAIL, SERVED, COPY = 22, 17, 18, 19, 20, 21
 PLAIN_HEADER = 16
 LAST_EPOCH, LATEST, LAST_AREA, LAST_SEQUENCE = 2 ** 62, 8_589_934_590, 16_383, 2 ** 32 - 1
 MOST_BITS = 2048
-# The kinds of what waits: how each is told in bytes, and as what PDU
+# The kinds of waiting items: the letter that names each, and the class of its PDU
 KINDS = {0: (b'm', Message), 1: (b'r', Report)}
 
-# Rows as values: what a register keeps, under its key. A radio's groups are pairs, in the order in which they stand; of a header the
-# tag is told with which it was read.
+# Rows as values: a key, and what a register keeps under it. A radio's groups are pairs, in the order of the row. A header has the tag
+# with which it was read.
 Header = collections.namedtuple('Header', 'epoch count numbers tag')
 Rule = collections.namedtuple('Rule', 'prefix kept')
 Radio = collections.namedtuple('Radio', 'itsi kept groups')
@@ -25,7 +25,7 @@ Served = collections.namedtuple('Served', 'station kept')
 
 
 class NoRow(Exception):
-    """Bytes that are no row, or a row that may not stand where it does."""
+    """Bytes that are no row, or a row that may not be at its place."""
 
 
 class BadSector(Exception):
@@ -187,7 +187,7 @@ class Image:
         return 1 <= number <= self.register.count
 
 
-# The kinds of rows behind the header, in their order
+# The kinds of rows after the header, in their order
 ORDER = {Rule: Image.rule, Radio: Image.radio, Mail: Image.mail, Served: Image.served}
 
 
@@ -199,7 +199,7 @@ def row_of(kind, sectors, place):
 
 
 def read_image(sectors, limits):
-    """The epoch and the register that sectors hold, from the first on, or BadSector. What stands behind the image is not looked at."""
+    """The epoch and the register in these sectors, from the first on, or BadSector. Sectors after the image are ignored."""
     place = 0
     try:
         header = row_of(Header, sectors, 0)
@@ -220,7 +220,7 @@ def number(value, count):
 
 
 def left(bits, count):
-    """Bits in so many bytes, zeros behind them."""
+    """These bits in so many bytes, with zeros after them."""
     return number(int(bits.ljust(8 * count, '0') or '0', 2), count)
 
 

@@ -23,7 +23,7 @@ class EpochsUsedUp(Exception):
     """There is no next epoch."""
 
 
-# Commands as bytes: the tag, and what is behind the head
+# Commands as bytes: the tag, which ends the head, and the bytes after the head
 
 def rule(under, low, high, life, keep):
     bits = reading.prefix(under)
@@ -55,14 +55,14 @@ BODIES = {b'rule': rule, b'unrule': unrule, b'mm': mobility, b'sds': short_data(
 
 
 def command_text(station, line):
-    """The bytes of the command that a line tells."""
+    """The bytes of the command in a line."""
     sequence, moment, word, *words = line.split(b' ')
     tag, body = BODIES[word](*words)
     return number(station, 2) + number(int(sequence), 4) + number(int(moment), 4) + number(tag, 1) + body
 
 
 def record_text(form, before, commands):
-    """The bytes of a record of these commands, behind so many that were accepted."""
+    """The bytes of a record of these commands. `before` commands were accepted earlier."""
     text = b''.join(commands)
     return number(len(commands), 2) + (number(before + 1, 8) if form == NUMBERED else b'') + number(len(text), 4) + text
 
@@ -75,9 +75,11 @@ def data_of(text):
 # What is written
 
 class Parts(collections.namedtuple('Parts', 'closed image switch record also gates rows end begun form', defaults=[()] * 9 + [None])):
-    """The calls of a batch, and the form of its record: of a checkpoint that made room, what closes the other side, its rows, and the switch; the record in the
-    current half, and in the other one, each with the gate behind it; a sync, the gates, a sync; the next rows of a checkpoint under
-    way, and the switch behind the last of them; what closes the other side where one begins."""
+    """The calls of a batch, in their order, and the form of its record.
+    - Of a checkpoint that makes room: `closed` closes the other side; then its rows, `image`, and the `switch`.
+    - The record: `record` in the current half and `also` in the other one, each with the gate after it; a sync, the `gates`, a sync.
+    - Of a checkpoint under way: the next `rows`, and after the last of them the switch, `end`.
+    - Of a checkpoint that begins: `begun` closes the other side."""
 
     def joined(self):
         kept = [*self.record, *self.also, SYNC, *self.gates, SYNC] if self.record else []
@@ -146,7 +148,7 @@ class Store:
         return self.kept(before, accepted) if accepted else Parts(), told
 
     def kept(self, before, accepted):
-        """The parts of these commands, behind so many others."""
+        """The parts of these commands. `before` commands were accepted earlier."""
         record, gate, self.gate = record_calls(self.gate, record_text(self.form, before, accepted))
         parts = Parts(record=record, gates=[gate], form=self.form)
         if self.beside:
@@ -157,7 +159,7 @@ class Store:
         return self.goes_on(parts) if self.beside else self.begins(parts)
 
     def goes_on(self, parts):
-        """The next rows, and behind the last of them the switch."""
+        """A checkpoint under way goes on: the next rows, and after the last of them the switch."""
         image, written, gate = self.beside
         end, slot = min(written + ROWS, len(image)), self.layout.slot(1 - self.side)
         parts = parts._replace(rows=self.follow([Write(slot + k, image[k]) for k in range(written, end)]))
@@ -169,7 +171,7 @@ class Store:
         return parts
 
     def begins(self, parts):
-        """One begins where half of the sectors are used, and there is a next epoch."""
+        """A checkpoint begins if half of the sectors are used and there is a next epoch."""
         if 2 * (self.gate - self.layout.half(self.side)) < self.layout.journal or self.epoch == LAST_EPOCH:
             return parts
         begun = self.closing()

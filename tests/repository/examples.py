@@ -1,6 +1,6 @@
 #!/usr/bin/env python3
-"""Looks whether a test runs each example in the documentation: the lines between two ``` of a `///` comment stand one behind another in
-a file of a crate of tests, crates/NAME_tests. Prints 'N passed, M failed' last.
+"""Checks that a test runs each example in the documentation. The lines between two ``` of a `///` comment must be consecutive lines of
+a file in a crate of tests, crates/NAME_tests. Prints 'N passed, M failed' last.
 Usage: tests/run examples"""
 import pathlib
 import re

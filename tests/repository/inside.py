@@ -1,8 +1,8 @@
 #!/usr/bin/env python3
-"""That what must be believed stands apart from what only helps: no definition of a crate's specs/ cites one of
-its or another's specs/Inside/, but from there, and no clause of a public function or of a trait does. And that each
-definition of specs/ has a comment line above it, which says it in words. Cases for each crate with definitions. Tells
-the cases that fail, and last 'N passed, M failed'.
+"""Checks that what must be believed is separate from what only helps. No definition of a crate's specs/ cites one of its
+own or another crate's specs/Inside/, except from within specs/Inside/. No clause of a public function or of a trait
+cites one either. Each definition of specs/ has a comment line above it, which says it in words. There are cases for
+each crate with definitions. Prints the cases that fail, and last 'N passed, M failed'.
 Usage: tests/run inside"""
 import pathlib
 import re

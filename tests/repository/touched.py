@@ -14,7 +14,7 @@ def said(*words):
 
 
 def crates():
-    """Returns each crate with those that it stands on directly, in the order of crates.txt: from the bottom up."""
+    """Returns each crate with the crates that it depends on directly, in the order of crates.txt: from the bottom up."""
     lines = [line.partition("#")[0].partition(":") for line in (TOP / "crates.txt").read_text().split("\n")]
     return {name.split()[0]: below.split() for name, _, below in lines if name.strip()}
 

@@ -3,20 +3,20 @@
 
 Usage: tests/run wrong_bodies [--all] [--kept] [--proved] [CRATE..]    at the top of the repository; the last line is 'N passed, M failed'
 
-Why: `rt must-fail` plants one edit a check, and each check reads all libraries anew and judges again what stands on the changed
+Why: `rt must-fail` plants one edit a check, and each check reads all libraries anew and judges again what depends on the changed
 function. Here many edits, each in the body of another function, are planted in one copy of their crate, and one check
-(--allow-holes, --only each function) goes on behind each refusal. The files have the form of must-fail edits (`rt help`); a line
-'only: NAME' names the function whose proof has to refuse an edit that stands in no function's body.
+(--allow-holes, --only each function) goes on after each refusal. The files have the form of must-fail edits (`rt help`); a line
+'only: NAME' names the function whose proof has to refuse an edit that is in no function's body.
 
 A verdict is kept: tests/refused_edits.txt has a line for each crate whose edits were all refused, with a sum over what these verdicts
 depend on: the crate's own text and edits, the definitions, lemmas and contracts of the crates below it, the kit's logic, and this script.
-A crate whose sum stands there is not tried again; --all tries every crate, and so does naming them. The script writes the file.
+A crate whose sum is there is not tried again; --all tries every crate, and so does naming them. The script writes the file.
 
---proved says that `rt ci` has just proved these crates as they stand. Without it each is proved first, for the edited functions.
+--proved says that `rt ci` has just proved these crates, unchanged. Without it each is proved first, for the edited functions.
 --kept starts from the work in out/, which is quick but trusts it: no verdict is then kept. RT_JOBS says how many crates are tried at a time.
 
 Why 'refused' is never said of an edit whose function is still proved:
- 1. The crate as it stands is proved, by `rt ci` or first thing here.
+ 1. The unchanged crate is proved, by `rt ci` or first thing here.
  2. Only edits whole within bodies of plain functions share a check (no const fn, no cycle of calls), so contracts, types, constants
     and specs/ stay, and a goal is made of its own function's body and others' contracts. No two edits change one function. A plain
     function that a check doesn't ask for has a hole for its proof there, and, in no cycle of calls, `unreachable!()` for its body:
@@ -178,7 +178,7 @@ def is_of(symbol, names):
 
 
 def place_of(source, f):
-    """Returns the path of the proof of a function, or of the cycle of calls that it stands in, and "" where that is not clear."""
+    """Returns the path of the proof of a function, or of the cycle of calls that it is in, and "" where that is not clear."""
     kind, _, inside = named(f.block.ty) if f.block else ("", "", [])
     homes = [place for place, word, *_ in source.declared[kind] if word in ("struct", "enum")] if f.block else [f.module]
     is_plain = f.has_body and not (f.in_trait or is_constant(source, f)) and all(re.fullmatch("[A-Z]", "".join(it)) for it in inside)
@@ -242,18 +242,18 @@ def proof_of(name):
 
 
 def places_in(crate, line):
-    """Returns the refused answers that a line says its function stands on."""
+    """Returns the refused answers that, as a line says, its function depends on."""
     return [it.removeprefix(f"Rattle.{crate.name}.proofs.").replace(".", "::") for it in re.findall(r"`(Rattle\.[^`]*)`", line)]
 
 
 def is_echo(crate, line, names):
-    """Returns whether a line says no more than that its function stands on refused answers of these functions."""
+    """Returns whether a line says no more than that its function depends on refused answers of these functions."""
     places, of_names = places_in(crate, line), "|".join(rf"(^|::){proof_of(it)}" for it in names)
     return bool(places) and "`search` did not prove" not in line and all(re.search(of_names, it) for it in places)
 
 
 def own_answers(crate, symbol, line, lines):
-    """Returns what was said of the answers that a function stands on, where all are its own and none is refused for a name that is gone."""
+    """Returns what was said of the answers that a function depends on, where all are its own and none is refused for a name that is gone."""
     inside, places = proof_of("::".join(symbol.split("::")[1:])), places_in(crate, line)
     said = [(it, re.match(r"(?:\./)?proofs/(.*)/\w+\.antt:.*?: error: `([^`]*)`", it)) for it in lines]
     told = [it for it, at in said if at and re.match(inside, f"{at[1].replace('/', '::')}::") and any(place.endswith(f"::{at[2]}") for place in places)]
@@ -334,7 +334,7 @@ def tried_all(crate, over_out, is_proved):
         batches = grouped(edits)
         for batch in batches:
             said.update(tried(crate, batch, kept))
-        # what these can't tell (an edited function calls another) batches of the rest may
+        # what these can't show (an edited function calls another) batches of the rest may
         more = grouped([it for it in edits if it.is_shared and it.file not in said])
         for batch in more:
             said.update(tried(crate, batch, kept))

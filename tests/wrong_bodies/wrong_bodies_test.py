@@ -69,7 +69,7 @@ pub fn most() -> u32
     "crates/high/wrong-bodies/one_further.edit": "file: src/lib.rt\nold: low::after(low::after(n))\nnew: low::after(n)\n",
     "crates/high/wrong-bodies/another_most.edit": "only: most\nfile: src/lib.rt\nold: u32 = 7;\nnew: u32 = 8;\n",
 }
-# (what it calls stands without its body there)
+# (what it calls has no body there)
 NO_BUG = "file: src/lib.rt\nold: greater(a, b)\nnew: greater(b, a)\n"
 NO_BUG_ALONE = "only: most\nfile: src/lib.rt\nold: u32 = 7;\nnew: u32 = 3 + 4;\n"
 LOW = "crates/low/src/lib.rt"

@@ -12,8 +12,8 @@ use std::alloc::{AllocError, Global};
 use std::sync::Wait;
 use std::thread;
 
-// How often a session asks for its answer, and lets other threads run, before it sleeps. That takes longer than a quick
-// disk's commit: a sleep and a wake-up cost more than the turns of the sessions that wait.
+// How often a session asks for its answer before it sleeps. Between two tries it lets other threads run. All tries take
+// longer than a commit on a quick disk, since a sleep and a wake-up cost more than the turns of the waiting sessions.
 const TRIES: u32 = 512;
 
 /// The end that sends answers to one session.
@@ -56,7 +56,7 @@ pub fn open_channel<T: Drop>(
     ))
 }
 
-/// So many channels.
+/// As many channels as `count`.
 pub fn open_channels<T: Drop>(
     alloc: Global,
     count: usize,
@@ -76,8 +76,8 @@ pub fn open_channels<T: Drop>(
 }
 
 impl<T: Drop> AnswerSender<T> {
-    /// Sends an answer, and waits while the channel is full. Where the session's end is gone, the answer is dropped, and
-    /// so is every later one.
+    /// Sends an answer, and waits while the channel is full. If the session's end is gone, this answer and all later ones
+    /// are dropped.
     pub fn send<R: Wait>(&mut self, rt: &R, answer: T)
         ensures same { sends_on self.new.channel ≡ sends_on self.old.channel }
         ensures sent { HasSent (sent_of self.old.pass) self.old.gone answer (sent_of self.new.pass) self.new.gone }
@@ -91,7 +91,7 @@ impl<T: Drop> AnswerSender<T> {
         }
     }
 
-    /// Whether an answer was dropped since the session's end is gone.
+    /// Whether an answer was dropped because the session's end is gone.
     pub fn is_gone(&self) -> bool
         ensures { result ≡ self.now.gone }
     {
@@ -118,7 +118,7 @@ impl<T: Drop> AnswerSender<T> {
 }
 
 impl<T: Drop> AnswerReceiver<T> {
-    /// Waits for the next answer. `None` where the channel is empty and its sender gone.
+    /// Waits for the next answer. `None` if the channel is empty and its sender gone.
     pub fn receive<R: Wait>(&mut self, rt: &R) -> Option<T>
         ensures same { receives_on self.new.channel ≡ receives_on self.old.channel }
         ensures received { MatchOption result (view self.new.pass ≡ view self.old.pass) (λ x. received_of self.new.pass ≡ received_of self.old.pass ++ x ∷ []) }
@@ -132,7 +132,7 @@ impl<T: Drop> AnswerReceiver<T> {
         self.sleep(rt)
     }
 
-    // The next answer, if it is there.
+    // The next answer, if it has come.
     fn ask<R: Wait>(&mut self, rt: &R) -> Option<T>
         ensures same { receives_on self.new.channel ≡ receives_on self.old.channel }
         ensures received { MatchOption result (view self.new.pass ≡ view self.old.pass) (λ x. received_of self.new.pass ≡ received_of self.old.pass ++ x ∷ []) }
@@ -143,7 +143,7 @@ impl<T: Drop> AnswerReceiver<T> {
         }
     }
 
-    // The next answer, for which it sleeps.
+    // Sleeps until the next answer comes. `None` as at `receive`.
     fn sleep<R: Wait>(&mut self, rt: &R) -> Option<T>
         ensures same { receives_on self.new.channel ≡ receives_on self.old.channel }
         ensures received { MatchOption result (view self.new.pass ≡ view self.old.pass) (λ x. received_of self.new.pass ≡ received_of self.old.pass ++ x ∷ []) }

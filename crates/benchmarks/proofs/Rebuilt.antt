@@ -1,4 +1,4 @@
--- What one register lends, another that is built of it can take.
+-- What one register gives by reference, another that is built of it can take.
 use Rattle.std.proofs.Common.{◌≡◌, ℕ, true, false, List, [], ◌∷◌, map, Option, Some, None, refl, sym, ◌∙◌, ap, subst}
 use Rattle.std.specs.Prelude.{◌==◌, IsTrue}
 use Rattle.std.specs.List.{All}
@@ -20,15 +20,15 @@ use Rattle.mailbox.specs.Mail.{with_item}
 use Rattle.mailbox.proofs.Keys.{named_total}
 use Rattle.mailbox.proofs.Lists.{found_passes}
 use Rattle.prefix_tree.specs.Following.{is_after}
-use Rattle.prefix_tree.proofs.Places.{less_of}
+use Rattle.prefix_tree.proofs.Order.{less_of}
 use Rattle.benchmarks.specs.Building.{EndsBy}
 
 abbrev Entry : Type 0
 Entry = Pair × Usage
 
 -- a radio's attachments are its own
-pub lent_own : (m : Attached) (itsi : ℕ) → All (λ a. a.itsi ≡ itsi) (groups_of m itsi)
-lent_own m itsi =
+pub borrowed_own : (m : Attached) (itsi : ℕ) → All (λ a. a.itsi ≡ itsi) (groups_of m itsi)
+borrowed_own m itsi =
     let es : List Entry = finite.entries (of_radio m itsi) in
     let own : All (λ e. (e.0.0 == itsi) ≡ true) es =
     subst (λ xs. All (λ (e : Entry). (e.0.0 == itsi) ≡ true) xs) (sym (entries_retained (λ pair. pair.0 == itsi) m)) (filter_passes (λ e. e.0.0 == itsi) (finite.entries m)) in
@@ -39,8 +39,8 @@ each_back [] = refl
 each_back (e ∷ es) = ap (λ r. e ∷ r) (each_back es)
 
 -- they are in order
-pub lent_in_order : (m : Attached) (itsi : ℕ) → IsInOrder (groups_of m itsi)
-lent_in_order m itsi =
+pub borrowed_in_order : (m : Attached) (itsi : ℕ) → IsInOrder (groups_of m itsi)
+borrowed_in_order m itsi =
     ap (finite.is_sorted pair_cmp) (each_back (finite.entries (of_radio m itsi))) ∙ from_T _ (finite.entries_sorted (of_radio m itsi))
 
 at_most : (o : Ordering) → is_lt o ≡ false → IsTrue (is_le (ordering_reverse o))
@@ -65,13 +65,13 @@ comes_last full m last x copy is same ends =
     subst (λ (w : Item). ComesLast m w.number w.key) (sym same)
     (All-weaker (λ w. is_after named_cmp named last w ≡ false) (λ w. named_cmp (named w) (named x) ≡ Less) (λ w h. before last w x after h) m.items ends)
 
-not_behind : (x w : Item) → named_cmp (named w) (named x) ≡ Less → is_after named_cmp named (Some (named x)) w ≡ false
-not_behind x w less = ap is_lt (named_total.antisymm (named x) (named w) ∙ ap ordering_reverse less)
+none_after : (x w : Item) → named_cmp (named w) (named x) ≡ Less → is_after named_cmp named (Some (named x)) w ≡ false
+none_after x w less = ap is_lt (named_total.antisymm (named x) (named w) ∙ ap ordering_reverse less)
 
 -- and once it is put, it is the last
 pub ends_by : (m n : Mailed) (x : Item) → ComesLast m x.number x.key → n ≡ with_item m x → EndsBy n (Some (named x))
 ends_by m n x last is =
     subst (λ ws. All (λ w. is_after named_cmp named (Some (named x)) w ≡ false) ws) (ap (λ k. k.items) (sym is))
     (All-append (λ w. is_after named_cmp named (Some (named x)) w ≡ false) m.items (x ∷ [])
-    (All-weaker (λ w. named_cmp (named w) (named x) ≡ Less) (λ w. is_after named_cmp named (Some (named x)) w ≡ false) (not_behind x) m.items last)
+    (All-weaker (λ w. named_cmp (named w) (named x) ≡ Less) (λ w. is_after named_cmp named (Some (named x)) w ≡ false) (none_after x) m.items last)
     (All-cons (λ w. is_after named_cmp named (Some (named x)) w ≡ false) x [] (ap is_lt (tied_itself named_total (named x))) (All-nil (λ w. is_after named_cmp named (Some (named x)) w ≡ false))))

@@ -1,4 +1,4 @@
-// The tables of a register built anew, each entry put by the call that a loader of images uses.
+// Builds the tables of a register anew. Each entry is put by the call that a loader of images uses.
 ghost use Rattle.std.specs.Prelude.{◌≡◌, [], IfSome, Some};
 ghost use Rattle.std.specs.List.{All};
 ghost use Rattle.group_attach.specs.Attached.{groups_of};
@@ -22,7 +22,7 @@ pub(crate) struct Tables {
 }
 
 impl Tables {
-    // Nothing in them yet.
+    // Empty tables.
     pub(crate) fn new(alloc: Global, limits: Limits) -> Option<Tables>
         ensures { IfSome result (λ tables. tables.mail.items ≡ []) }
     {
@@ -36,7 +36,7 @@ impl Tables {
         })
     }
 
-    // Puts the entries of the register's tables, as its next calls tell them; whether all were put.
+    // Puts all entries of the register's tables, in order; whether all were put.
     pub(crate) fn fill(&mut self, alloc: Global, from: &Register<Global>) -> bool
         requires { self.old.mail.items ≡ [] }
     {
@@ -53,13 +53,13 @@ impl Tables {
     }
 }
 
-// The attachments that a radio has are its own and in order, as they are wanted to restore them.
-fn lent_can_be_restored(groups: &Groups<Global>, itsi: Itsi)
+// The attachments of a radio are its own and in order, as `restore` requires.
+fn borrowed_can_be_restored(groups: &Groups<Global>, itsi: Itsi)
     ensures own { All (λ a. a.itsi ≡ itsi) (groups_of groups.now itsi) }
     ensures in_order { IsInOrder (groups_of groups.now itsi) }
 {}
 
-// The radio with its attachments, which are lent.
+// Puts the radio with its attachments, which are borrowed.
 fn put_radio(
     from: &Groups<Global>,
     itsi: Itsi,
@@ -67,7 +67,7 @@ fn put_radio(
     registry: &mut Registry<Global>,
     groups: &mut Groups<Global>,
 ) -> bool {
-    lent_can_be_restored(from, itsi);
+    borrowed_can_be_restored(from, itsi);
     let own = from.attachments(itsi);
     registry.restore(itsi, radio).is_ok() && groups.restore(itsi, own).is_ok()
 }
@@ -117,7 +117,7 @@ fn put_items(alloc: Global, from: &Mail<Global>, to: &mut Mail<Global>) -> bool
     true
 }
 
-// Puts a copy of the item after this number and key, where there is one. Its number and key.
+// Puts a copy of the item after this number and key, if there is one, and returns its number and key.
 fn put_item(
     alloc: Global,
     from: &Mail<Global>,

@@ -33,7 +33,7 @@ fn serve(register: &mut Register<Global>, alloc: Global, body: Body<Global>) -> 
     Some(())
 }
 
-// The first rule serves all; the others stand under identities, each 16 behind the one before.
+// The first rule serves all; the others are under identities, each 16 after the one before.
 fn set_rules(register: &mut Register<Global>, alloc: Global, rules: u32) -> Option<()> {
     let area = LocationArea::new(7)?;
     let rule = Rule::new(area, area, Lifetime::NextItsiAttach, 60)?;

@@ -1,4 +1,4 @@
-// A half of a disk in memory filled with records and read back, again and again, with how long each took.
+// Times how a half of a disk in memory is filled with records and read back, again and again.
 ghost use Rattle.std.specs.Prelude.{◌≡◌, ◌≤◌, length};
 ghost use Rattle.gated_journal.specs.Record.{most_commands};
 
@@ -38,7 +38,7 @@ fn update(alloc: Global) -> Option<Command<Global>> {
     )
 }
 
-// Adds records of these commands while there is room. How many they were.
+// Adds records of these commands while there is room, and returns how many.
 fn fill<D: Disk>(journal: &mut Journal<Global>, disk: &mut D, commands: &[&Command<Global>]) -> u64
     requires end { journal.old.end ≡ 39 }
     requires count { journal.old.count ≡ 0 }
@@ -61,7 +61,7 @@ fn is_empty<D: Disk>(disk: &mut D) -> bool {
     disk.write(0, &[0; 512]).is_ok() && disk.sync().is_ok()
 }
 
-// Reads the half. How many records it has.
+// Reads the half, and returns how many records it has.
 fn read<D: Disk>(alloc: Global, disk: &mut D) -> u64 {
     if disk.sectors() < 39 {
         return 0;
@@ -135,8 +135,8 @@ fn measured(rt: &HostRuntime, commands: &[&Command<Global>]) -> Option<Timed>
     Some(all)
 }
 
-// Tells records, and nanoseconds of each way, with records of one command and of 64.
-fn told(rt: &HostRuntime) -> Option<()> {
+// Prints the records and the nanoseconds of each way, for records of one command and of 64.
+fn reported(rt: &HostRuntime) -> Option<()> {
     let update = update(rt.alloc())?;
     let one = measured(rt, &[&update])?;
     let many = measured(rt, &[&update; 64])?;
@@ -148,7 +148,7 @@ fn told(rt: &HostRuntime) -> Option<()> {
     Some(())
 }
 
-// The status: 0, or 5 where something failed.
-pub(crate) fn tell(rt: &HostRuntime) -> u8 {
-    if told(rt).is_some() { 0 } else { 5 }
+// The exit status: 0, or 5 if something failed.
+pub(crate) fn report(rt: &HostRuntime) -> u8 {
+    if reported(rt).is_some() { 0 } else { 5 }
 }

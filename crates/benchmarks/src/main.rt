@@ -1,6 +1,8 @@
-//! What the benchmarks run: with no word behind its name it answers lines over a large register, for `bench/large` and
-//! `bench/groups`, with one it times the journal, for `bench/journal`, with two the rows of registers, for `bench/rows`,
-//! and with more a register on a disk, for `bench/store`.
+//! What the benchmarks run. All its disks are in memory: it opens no file, and prints answers and times.
+//!
+//! With no word after its name it answers lines over a large register, for `bench/large` and `bench/groups`. With one word it
+//! times the journal, for `bench/journal`; with two the rows of registers, for `bench/rows`; with more a register on a disk, for
+//! `bench/store`.
 #![tactic(auto)]
 
 mod building;
@@ -20,9 +22,9 @@ fn main(rt: HostRuntime) -> ExitCode {
     match env::args(&rt) {
         Ok(words) => match words.count() {
             0 | 1 => ExitCode::from(register::serve(&rt)),
-            2 => ExitCode::from(journal::tell(&rt)),
-            3 => ExitCode::from(rows::tell(&rt)),
-            _ => ExitCode::from(store::tell(&rt)),
+            2 => ExitCode::from(journal::report(&rt)),
+            3 => ExitCode::from(rows::report(&rt)),
+            _ => ExitCode::from(store::report(&rt)),
         },
         Err(_) => ExitCode::from(5),
     }

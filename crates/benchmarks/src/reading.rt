@@ -1,5 +1,5 @@
-// The register read back from the image on a disk, and its tables built by the calls of the tables alone, each timed
-// until it is there: what is made is let go behind that.
+// Times how a register is read back from the image on a disk, and how its tables are built by the calls of the tables alone.
+// What is made is dropped after the time is taken.
 use crate::building::Tables;
 use crate::register::LIMITS;
 use centre_core::Register;
@@ -8,7 +8,7 @@ use sector_disk::Disk;
 use std::alloc::Global;
 use std::time::{Duration, Instant};
 
-// How long reading the image of side B takes, of a register of so many commands.
+// How long reading the image of side B takes. Its register has accepted `count` commands.
 pub(crate) fn read<D: Disk>(rt: &HostRuntime, disk: &mut D, count: u64) -> Option<Duration> {
     let layout = Layout::new(LIMITS, 38)?;
     if disk.sectors() < layout.sectors() {

@@ -15,7 +15,7 @@ pub(crate) const LIMITS: Limits = Limits {
 // The most calls of the reader.
 const TURNS: u32 = 1_073_741_824;
 
-// The status: 0, 1 where a line was bad, 5 where the run could not end.
+// The exit status: 0; 1 if an answer reported trouble; 5 if the run failed.
 pub(crate) fn serve(rt: &HostRuntime) -> u8 {
     let Ok(mut desk) = Register::new(rt.alloc(), LIMITS) else {
         return 5;

@@ -1,8 +1,8 @@
-// The rows of registers walked, written, built again and read, again and again, with how long each took.
+// Times how the rows of registers are walked, written, built again and read, again and again.
 use crate::filling::{Filling, is_filled};
 use crate::reading::{built, read};
 use crate::register::LIMITS;
-use crate::walking::{MOST, bare, told};
+use crate::walking::{MOST, bare, row_by_row};
 use crate::writing::{disk, is_written};
 use centre_core::Register;
 use sector_disk::MemoryDisk;
@@ -12,7 +12,7 @@ use std::time::{Duration, Instant};
 // How many rounds there are.
 const ROUNDS: u32 = 5;
 
-// The greatest register, the same in small, and one with as few radios beside the greatest rules and items.
+// The greatest register, the same in small, and one with few radios beside the most rules and items.
 const FILLINGS: [Filling; 3] = [
     Filling {
         radios: 65_536,
@@ -31,21 +31,21 @@ const FILLINGS: [Filling; 3] = [
     },
 ];
 
-// How often each way is gone in a round: a small register so often that the time can be read.
+// How often each way is run in a round. A small register is done so often that the time can be read.
 fn repeats(filling: &Filling) -> u32 {
     if filling.items > 16 { 1 } else { 1500 }
 }
 
-// How many rows were gone through, and the time of each way that only goes through them.
+// How many rows were walked, and the time of each way that only walks or writes them.
 #[derive(Clone, Copy, Drop)]
 struct Walked {
     rows: usize,
     bare: Duration,
-    told: Duration,
+    row_by_row: Duration,
     written: Duration,
 }
 
-// The time of each way that makes tables of them, and of the walk alone that building them takes.
+// The time of each way that makes tables of them, and of the walk that building them includes.
 #[derive(Clone, Copy, Drop)]
 struct Made {
     walked: Duration,
@@ -64,20 +64,20 @@ fn walk(
     let rows = bare(register, list);
     let bare = start.elapsed(rt).ok()?;
     let start = Instant::now(rt).ok()?;
-    let again = told(register, list);
-    let told = start.elapsed(rt).ok()?;
+    let again = row_by_row(register, list);
+    let row_by_row = start.elapsed(rt).ok()?;
     let start = Instant::now(rt).ok()?;
     let is_done = is_written(disk, register);
     let written = start.elapsed(rt).ok()?;
     (is_done && again == rows).then_some(Walked {
         rows,
         bare,
-        told,
+        row_by_row,
         written,
     })
 }
 
-// Goes through the rows, builds the tables and reads the image once.
+// Walks the rows, builds the tables and reads the image once.
 fn make(
     rt: &HostRuntime,
     register: &Register<Global>,
@@ -95,7 +95,7 @@ fn make(
     })
 }
 
-// Walks and writes so often, with the rows and times of all added up.
+// Walks and writes `repeats` times, and adds up rows and times.
 fn walk_again(
     rt: &HostRuntime,
     register: &Register<Global>,
@@ -109,14 +109,14 @@ fn walk_again(
         all = Walked {
             rows: all.rows.checked_add(one.rows)?,
             bare: all.bare.checked_add(one.bare)?,
-            told: all.told.checked_add(one.told)?,
+            row_by_row: all.row_by_row.checked_add(one.row_by_row)?,
             written: all.written.checked_add(one.written)?,
         };
     }
     Some(all)
 }
 
-// Makes tables so often, with the times added up.
+// Makes tables `repeats` times, and adds up the times.
 fn make_again(
     rt: &HostRuntime,
     register: &Register<Global>,
@@ -135,20 +135,20 @@ fn make_again(
     Some(all)
 }
 
-// A line with what the register is filled with, how many rows were gone through, and the nanoseconds of each way.
-fn tell_round(rt: &HostRuntime, filling: &Filling, one: &Walked, other: &Made) -> Option<()> {
-    let (bare, told) = (one.bare.as_nanos(), one.told.as_nanos());
+// Prints a line: what the register is filled with, how many rows were walked, and the nanoseconds of each way.
+fn report_round(rt: &HostRuntime, filling: &Filling, one: &Walked, other: &Made) -> Option<()> {
+    let (bare, row_by_row) = (one.bare.as_nanos(), one.row_by_row.as_nanos());
     let written = one.written.as_nanos();
     let (walked, built) = (other.walked.as_nanos(), other.built.as_nanos());
     let read = other.read.as_nanos();
     println!(rt;
-        "{} {} {} {} {bare} {told} {written} {walked} {built} {read}",
+        "{} {} {} {} {bare} {row_by_row} {written} {walked} {built} {read}",
         filling.radios, filling.rules, filling.items, one.rows
     )
     .ok()
 }
 
-// Tells a line a round. The disk forgets its calls before each way that calls it.
+// Prints a line a round. The disk forgets its calls before each way that calls it.
 fn rounds(
     rt: &HostRuntime,
     register: &Register<Global>,
@@ -162,7 +162,7 @@ fn rounds(
         let one = walk_again(rt, register, list, &mut disk, repeats)?;
         disk = disk.crash(&[]);
         let other = make_again(rt, register, &mut disk, repeats)?;
-        tell_round(rt, filling, &one, &other)?;
+        report_round(rt, filling, &one, &other)?;
     }
     Some(())
 }
@@ -177,20 +177,20 @@ fn measured(
     is_filled(register, rt.alloc(), filling) && rounds(rt, register, list, filling).is_some()
 }
 
-fn is_told(rt: &HostRuntime, list: &mut [[u8; 512]], filling: &Filling) -> bool {
+fn is_reported(rt: &HostRuntime, list: &mut [[u8; 512]], filling: &Filling) -> bool {
     match Register::new(rt.alloc(), LIMITS) {
         Ok(mut register) => measured(rt, &mut register, list, filling),
         Err(_) => false,
     }
 }
 
-// The status: 0, or 5 where something failed.
-pub(crate) fn tell(rt: &HostRuntime) -> u8 {
+// The exit status: 0, or 5 if something failed.
+pub(crate) fn report(rt: &HostRuntime) -> u8 {
     let Ok(mut list) = vec![in rt.alloc(); [0; 512]; MOST] else {
         return 5;
     };
     for filling in &FILLINGS {
-        if !is_told(rt, &mut list, filling) {
+        if !is_reported(rt, &mut list, filling) {
             return 5;
         }
     }

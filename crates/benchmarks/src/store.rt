@@ -1,5 +1,5 @@
-// A register that is kept on a disk in memory: commits, timed beside the same commands applied to a register in memory,
-// and a whole disk opened, timed beside its sectors read and its tables built by the calls of the tables alone.
+// A register that is kept on a disk in memory. Commits are timed beside the same commands applied to a register in memory. The
+// opening of a whole disk is timed beside reading its sectors and building its tables by the calls of the tables alone.
 ghost use Rattle.std.specs.Prelude.{◌≤◌, length};
 
 use crate::building::Tables;
@@ -88,7 +88,7 @@ fn body(alloc: Global, asked: Asked, k: u32) -> Option<Body<Global>> {
     }
 }
 
-// A batch for a register that has accepted so many commands, from this radio or item on.
+// A batch for a register that has accepted `count` commands, from this radio or item on.
 fn batch(
     alloc: Global,
     asked: Asked,
@@ -120,7 +120,7 @@ fn apply_all(
     Some(())
 }
 
-// How long applying the commands takes. The replies lie in a list that is made before, and are let go behind it.
+// How long applying the commands takes. The list of replies is made before the time is taken, and dropped after it.
 fn applied(
     rt: &HostRuntime,
     register: &mut Register<Global>,
@@ -132,8 +132,8 @@ fn applied(
     start.elapsed(rt).ok()
 }
 
-// References to the commands, where they are not too many.
-fn lent<'a>(
+// References to the commands.
+fn borrowed<'a>(
     alloc: Global,
     commands: &'a [Command<Global>],
 ) -> Option<Vec<&'a Command<Global>, Global>> {
@@ -144,13 +144,13 @@ fn lent<'a>(
     Some(list)
 }
 
-// How long committing the commands takes. The outcomes are let go behind it.
+// How long committing the commands takes. The outcomes are dropped after the time is taken.
 fn committed<D: Disk>(
     rt: &HostRuntime,
     store: &mut Store<Global, D>,
     commands: &[Command<Global>],
 ) -> Option<Duration> {
-    let list = lent(rt.alloc(), commands)?;
+    let list = borrowed(rt.alloc(), commands)?;
     if list.len() > 64 {
         return None;
     }
@@ -160,7 +160,7 @@ fn committed<D: Disk>(
     outcomes.is_ok().then_some(took)
 }
 
-// Commits the commands, behind a checkpoint where they find no room.
+// Commits the commands, after a checkpoint if there is no room for them.
 fn commit<D: Disk>(
     alloc: Global,
     store: &mut Store<Global, D>,
@@ -173,7 +173,7 @@ fn commit<D: Disk>(
             store.checkpoint()?;
             store.commit(alloc, commands)
         }
-        told => told,
+        done => done,
     }
 }
 
@@ -212,7 +212,7 @@ fn give<D: Disk>(
     })
 }
 
-// So many batches, from the first radio or item on, and again where all of so many came.
+// This many batches, from the first radio or item on. After the last radio they begin with the first again.
 fn give_all<D: Disk>(
     rt: &HostRuntime,
     store: &mut Store<Global, D>,
@@ -238,7 +238,7 @@ fn give_all<D: Disk>(
     Some(all)
 }
 
-// Adds the rule, so many batches of radios and of items, and makes a checkpoint: how long that takes.
+// Adds the rule and these batches of radios and of items, and then makes a checkpoint. It returns how long the checkpoint takes.
 fn prepare<D: Disk>(
     rt: &HostRuntime,
     store: &mut Store<Global, D>,
@@ -254,8 +254,8 @@ fn prepare<D: Disk>(
     start.elapsed(rt).ok()
 }
 
-// Opens the disk, prepares it, and adds so many batches of attaches behind the checkpoint. The disk, which then forgets
-// its calls, the time of the longest commit behind the checkpoint, and that of the checkpoint.
+// Opens the disk, prepares it, and adds batches of attaches after the checkpoint. It returns the disk, which then forgets its
+// calls, the time of the longest commit after the checkpoint, and the time of the checkpoint.
 fn prepared(
     rt: &HostRuntime,
     disk: MemoryDisk<Global>,
@@ -283,8 +283,8 @@ fn commits<D: Disk>(
     Some(all)
 }
 
-// Opens the disk, fills its half once, and tells the nanoseconds of its commits and of the same commands applied.
-fn tell_commits(
+// Opens the disk, fills its half once, and prints the nanoseconds of its commits and of the same commands applied.
+fn report_commits(
     rt: &HostRuntime,
     disk: MemoryDisk<Global>,
     register: &mut Register<Global>,
@@ -309,16 +309,16 @@ fn ready(alloc: Global, limits: Limits, journal: u32, calls: usize) -> Option<Me
 }
 
 // All rounds of commits.
-fn told_commits(rt: &HostRuntime, register: &mut Register<Global>) -> Option<()> {
+fn reported_commits(rt: &HostRuntime, register: &mut Register<Global>) -> Option<()> {
     let disk = ready(rt.alloc(), FEW, SHORT, FEW_CALLS)?;
     let (mut disk, _, _) = prepared(rt, disk, register, (1, 0, 0))?;
     for _ in 0..COMMITS {
-        disk = tell_commits(rt, disk, register)?;
+        disk = report_commits(rt, disk, register)?;
     }
     Some(())
 }
 
-// How long opening the disk takes, which then forgets its calls. The register is let go behind it.
+// How long opening the disk takes. It then forgets its calls. The register is dropped after the time is taken.
 fn opened(rt: &HostRuntime, disk: MemoryDisk<Global>) -> Option<(Duration, MemoryDisk<Global>)> {
     let start = Instant::now(rt).ok()?;
     let Ok(store) = Store::open(rt.alloc(), disk) else {
@@ -329,7 +329,7 @@ fn opened(rt: &HostRuntime, disk: MemoryDisk<Global>) -> Option<(Duration, Memor
     Some((took.ok()?, disk))
 }
 
-// Reads so many sectors. How many of them begin with a byte that is not 0.
+// Reads this many sectors, and returns how many of them begin with a byte that is not 0.
 fn read_sectors<D: Disk>(disk: &mut D, first: u64, count: u64) -> Option<u64> {
     let mut bytes = [0; 512];
     let mut seen = 0_u64;
@@ -340,7 +340,7 @@ fn read_sectors<D: Disk>(disk: &mut D, first: u64, count: u64) -> Option<u64> {
     Some(seen)
 }
 
-// Reads the sectors that opening reads: those in front of the slots, the image of side B, and its half.
+// Reads the sectors that opening reads: those before the slots, the image of side B, and its half.
 fn read_all<D: Disk>(disk: &mut D, register: &Register<Global>) -> Option<u64> {
     let layout = Layout::new(MANY, LONG)?;
     let registry = register.registry();
@@ -353,7 +353,7 @@ fn read_all<D: Disk>(disk: &mut D, register: &Register<Global>) -> Option<u64> {
     read_sectors(disk, layout.half(Side::B), u64::from(LONG))
 }
 
-// The attaches of the records in the half, each as the tables take it.
+// Makes the attaches of the records in the half, by the calls of the tables.
 fn attach_all(tables: &mut Tables) -> Option<()> {
     let area = LocationArea::new(7)?;
     for k in 0..LONG_FULL * BATCH {
@@ -364,7 +364,7 @@ fn attach_all(tables: &mut Tables) -> Option<()> {
     Some(())
 }
 
-// How long reading the same sectors and building the same tables takes. The tables are let go behind it.
+// How long reading the same sectors and building the same tables takes. The tables are dropped after the time is taken.
 fn built<D: Disk>(rt: &HostRuntime, disk: &mut D, register: &Register<Global>) -> Option<Duration> {
     let start = Instant::now(rt).ok()?;
     read_all(disk, register)?;
@@ -375,8 +375,8 @@ fn built<D: Disk>(rt: &HostRuntime, disk: &mut D, register: &Register<Global>) -
     if is_done { took.ok() } else { None }
 }
 
-// Opens the disk once, and tells the nanoseconds of that and of reading and building by themselves.
-fn tell_opening(
+// Opens the disk once, and prints the nanoseconds of that and of reading and building by themselves.
+fn report_opening(
     rt: &HostRuntime,
     disk: MemoryDisk<Global>,
     register: &Register<Global>,
@@ -390,26 +390,27 @@ fn tell_opening(
 }
 
 // All openings.
-fn told_openings(rt: &HostRuntime, register: &mut Register<Global>) -> Option<()> {
+fn reported_openings(rt: &HostRuntime, register: &mut Register<Global>) -> Option<()> {
     let disk = ready(rt.alloc(), MANY, LONG, MANY_CALLS)?;
     let filling = (FILLING, FILLING, LONG_FULL);
     let (mut disk, longest, checkpoint) = prepared(rt, disk, register, filling)?;
     let (longest, checkpoint) = (longest.as_nanos(), checkpoint.as_nanos());
     println!(rt; "longest 1 {longest} {checkpoint}").ok()?;
     for _ in 0..OPENINGS {
-        disk = tell_opening(rt, disk, register)?;
+        disk = report_opening(rt, disk, register)?;
     }
     Some(())
 }
 
-// The status: 0, or 5 where something failed.
-pub(crate) fn tell(rt: &HostRuntime) -> u8 {
+// The exit status: 0, or 5 if something failed.
+pub(crate) fn report(rt: &HostRuntime) -> u8 {
     let (Ok(mut few), Ok(mut many)) = (
         Register::new(rt.alloc(), FEW),
         Register::new(rt.alloc(), MANY),
     ) else {
         return 5;
     };
-    let is_done = told_commits(rt, &mut few).is_some() && told_openings(rt, &mut many).is_some();
+    let is_done = reported_commits(rt, &mut few).is_some()
+        && reported_openings(rt, &mut many).is_some();
     if is_done { 0 } else { 5 }
 }

@@ -1,4 +1,4 @@
-// The rows of a register gone through, copied to a list in memory as far as that has places.
+// Walks the rows of a register, and copies them to a list in memory as far as that has places.
 use centre_core::Register;
 use group_attach::Groups;
 use image_rows::row_after;
@@ -9,7 +9,7 @@ use std::alloc::Global;
 // The most rows of an image.
 pub(crate) const MOST: usize = 135_233;
 
-// Copies a row to this place, where there is one. The next place.
+// Copies a row to this place, if the list has it, and returns the next place.
 fn put(list: &mut [[u8; 512]], at: usize, row: &[u8; 512]) -> usize {
     if let Some(place) = list.get_mut(at) {
         place.copy_from_slice(row);
@@ -63,8 +63,8 @@ fn put_items(mail: &Mail<Global>, list: &mut [[u8; 512]], first: usize) -> usize
     at
 }
 
-// The bare walk: goes through the tables by their next calls, and copies 512 bytes for each row that has a place in the
-// list. How many rows.
+// The bare walk: goes through the tables by their calls for the next entry, and copies 512 bytes for each row that has a place in
+// the list. It returns the number of rows.
 pub(crate) fn bare(register: &Register<Global>, list: &mut [[u8; 512]]) -> usize {
     let mut at = put(list, 0, &[0x10; 512]);
     at = put_rules(register.registry(), list, at);
@@ -78,16 +78,16 @@ pub(crate) fn bare(register: &Register<Global>, list: &mut [[u8; 512]]) -> usize
     at
 }
 
-// All rows, each copied to the list. How many.
-pub(crate) fn told(register: &Register<Global>, list: &mut [[u8; 512]]) -> usize {
+// Makes each row by `row_after` and copies it to the list. It returns the number of rows.
+pub(crate) fn row_by_row(register: &Register<Global>, list: &mut [[u8; 512]]) -> usize {
     let mut at = 0;
-    let mut told = row_after(register, 1, None);
+    let mut coming = row_after(register, 1, None);
     for _ in 0..MOST {
-        let Some(next) = &told else {
+        let Some(next) = &coming else {
             return at;
         };
         at = put(list, at, &next.1);
-        told = row_after(register, 1, Some(next.0));
+        coming = row_after(register, 1, Some(next.0));
     }
     at
 }

@@ -107,7 +107,7 @@ module _ {K X : Type 0} {R : K → K → Ordering} (total : IsTotalOrder R) (exa
         | false ↦ λ t there. found q v es (All-tail (λ e. P e.0 e.1) e es all) there
       ]) refl is
 
-  -- what stands at a key is an entry
+  -- what is at a key is an entry
   pub found_in : (m : map.FinMap R X) (q : K) (v : X) → AllEntries P m → map.get m q ≡ Some v → P q v
   found_in m q v all is = found q v (map.entries m) all (sym (map.get-entries m q) ∙ is)
 

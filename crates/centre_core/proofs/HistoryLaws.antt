@@ -17,9 +17,9 @@ if_so false x y e = cc
 
 module _ {A : Type 0} where
   -- the first commands of a history are one, and the next is accepted
-  front : (base : State) (bs : List (Command A)) (c : Command A) (cs : List (Command A)) → IsHistory base (bs ++ c ∷ cs) → IsHistory base bs × (accepts (after base bs) c ≡ true)
-  front base [] c cs h = (tt, h.0)
-  front base (b ∷ bs) c cs h = let rest = front (next base b) bs c cs h.1 in ((h.0, rest.0), rest.1)
+  prefix : (base : State) (bs : List (Command A)) (c : Command A) (cs : List (Command A)) → IsHistory base (bs ++ c ∷ cs) → IsHistory base bs × (accepts (after base bs) c ≡ true)
+  prefix base [] c cs h = (tt, h.0)
+  prefix base (b ∷ bs) c cs h = let rest = prefix (next base b) bs c cs h.1 in ((h.0, rest.0), rest.1)
 
   pub counted_next : (s : State) (c : Command A) → accepts s c ≡ true → (next s c).count ≡ s.count + 1
   counted_next s c ok = let a = advanced s c ok in ap (λ t. t.count) a.0.is ∙ ap (λ n. n + 1) a.0.change.count
@@ -34,7 +34,7 @@ module _ {A : Type 0} where
 
   pub histories_are_numbered : HistoriesAreNumbered A
   histories_are_numbered base bs c cs h =
-      let parts = front base bs c cs h in
+      let parts = prefix base bs c cs h in
       let above : nat_lt base.count (base.count + length bs + 1) ≡ true = grind (arith, nat_tests) in
       let place : base.count + length bs + 1 - base.count - 1 ≡ length bs = omega arith in (
         if_so (nat_lt base.count (base.count + length bs + 1)) _ None above ∙ ap (slice_get (bs ++ c ∷ cs)) place ∙ here bs c cs,

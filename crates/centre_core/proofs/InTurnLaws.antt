@@ -34,9 +34,9 @@ module _ {A : Type 0} where
   history-append s [] ys a b = b
   history-append s (x ∷ xs) ys a b = (a.0, history-append (next s x) xs ys a.1 b)
 
-  pub history-front : (s : State) (xs ys : List (Command A)) → IsHistory s (xs ++ ys) → IsHistory s xs
-  history-front s [] ys a = tt
-  history-front s (x ∷ xs) ys a = (a.0, history-front (next s x) xs ys a.1)
+  pub history-prefix : (s : State) (xs ys : List (Command A)) → IsHistory s (xs ++ ys) → IsHistory s xs
+  history-prefix s [] ys a = tt
+  history-prefix s (x ∷ xs) ys a = (a.0, history-prefix (next s x) xs ys a.1)
 
   pub history-rest : (s : State) (xs ys : List (Command A)) → IsHistory s (xs ++ ys) → IsHistory (after s xs) ys
   history-rest s [] ys a = a
@@ -45,7 +45,7 @@ module _ {A : Type 0} where
   lands_later : (s : State) (c : Command A) (l : List (Command A)) (x : Command A) (n : ℕ) (p : Option (List Bool)) → accepts s c ≡ true → Lands (next s c) l x n p → Lands s (c ∷ l) x n p
   lands_later s c l x n p a h =
       let one = counted_next s c a in
-      record { place = suc h.place; numbered = let m = h.numbered in omega arith; stands = h.stands; replied = h.replied }
+      record { place = suc h.place; numbered = let m = h.numbered in omega arith; is_there = h.is_there; replied = h.replied }
 
   left_by_first : (s : State) (c : Command A) (l : List (Command A)) (k : ℕ) (last : LastAccepted) → 0 < k → (r : Reply A) → reply_to s c ≡ r → Replied s c (next s c) r → is_acceptance r ≡ true
       → last_at (next s c) k ≡ Some last → IsLeftBy s (c ∷ l) k last ⊎ (last_at s k ≡ Some last)
@@ -56,18 +56,18 @@ module _ {A : Type 0} where
           of_station = sym q.0;
           of_sequence = sym (ap (λ (z : LastAccepted). z.sequence) q.1);
           lands =
-              subst (λ (z : LastAccepted). Lands s (c ∷ l) c z.number z.pdu) (sym q.1) (record { place = 0; numbered = let m = says.1 in omega arith; stands = refl; replied = is });
+              subst (λ (z : LastAccepted). Lands s (c ∷ l) c z.number z.pdu) (sym q.1) (record { place = 0; numbered = let m = says.1 in omega arith; is_there = refl; replied = is });
         })
         | inr q ↦ inr q
       ]
   left_by_first s c l k last pos (Kept n p) is says a h = absurd (true≢false (sym a))
   left_by_first s c l k last pos (Refused r) is says a h = absurd (true≢false (sym a))
 
-  pub kept_stands : (s : State) (cs : List (Command A)) → IsHistory s cs → (k : ℕ) (last : LastAccepted) → 0 < k → last_at (after s cs) k ≡ Some last → IsLeftBy s cs k last ⊎ (last_at s k ≡ Some last)
-  kept_stands s [] a k last pos h = inr h
-  kept_stands s (c ∷ cs) a k last pos h =
+  pub kept_is_there : (s : State) (cs : List (Command A)) → IsHistory s cs → (k : ℕ) (last : LastAccepted) → 0 < k → last_at (after s cs) k ≡ Some last → IsLeftBy s cs k last ⊎ (last_at s k ≡ Some last)
+  kept_is_there s [] a k last pos h = inr h
+  kept_is_there s (c ∷ cs) a k last pos h =
       let here = a.0 in
-      elim (kept_stands (next s c) cs a.1 k last pos h) [
+      elim (kept_is_there (next s c) cs a.1 k last pos h) [
         | inl q ↦ inl (record { first = q.first; of_station = q.of_station; of_sequence = q.of_sequence; lands = lands_later s c cs q.first last.number last.pdu here q.lands })
         | inr q ↦ left_by_first s c cs k last pos (reply_to s c) refl (replies_say A s c) here q
       ]
@@ -81,16 +81,16 @@ module _ {A : Type 0} where
   ended_are_named s [] m a = refl
   ended_are_named s (c ∷ cs) m a = ended_by s c cs m (accepts s c) a.0 (ended_are_named (next s c) cs m a.1)
 
-  -- what stands in a list stands in a longer one
+  -- what is in a list is in a longer one
   pub lands_more : (base : State) (l m : List (Command A)) (c : Command A) (n : ℕ) (p : Option (List Bool)) → Lands base l c n p → Lands base (l ++ m) c n p
   lands_more base l m c n p h =
-      let within : h.place < length l = get_within l h.place c h.stands in
-      let front : h.place ≤ length l = omega arith in
+      let within : h.place < length l = get_within l h.place c h.is_there in
+      let prefix : h.place ≤ length l = omega arith in
       record {
         place = h.place;
         numbered = h.numbered;
-        stands = get_more l m h.place c h.stands;
-        replied = subst (λ t. reply_to (after base t) c ≡ Accepted n p) (sym (take-append-le h.place l m front)) h.replied;
+        is_there = get_more l m h.place c h.is_there;
+        replied = subst (λ t. reply_to (after base t) c ≡ Accepted n p) (sym (take-append-le h.place l m prefix)) h.replied;
       }
 
   pub left_more : (base : State) (l m : List (Command A)) (k : ℕ) (last : LastAccepted) → IsLeftBy base l k last → IsLeftBy base (l ++ m) k last

@@ -25,7 +25,7 @@ module _ {A : Type 0} where
       record {
         place = h.place;
         numbered = h.numbered;
-        stands = get_prefix xs ys h.place c h.stands place;
+        is_there = get_prefix xs ys h.place c h.is_there place;
         replied = subst (λ l. reply_to (after base l) c ≡ Accepted number pdu) (take-append-le h.place xs ys (omega arith)) h.replied;
       }
 

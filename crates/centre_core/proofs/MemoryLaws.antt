@@ -1,4 +1,4 @@
--- Where a PDU of a radio finds no memory, its command needs it.
+-- Where a PDU of a radio runs out of memory, its command needs it.
 use Rattle.std.proofs.Common.{◌≡◌, ℕ, Bool, true, false, List, refl, sym, ap, ◌∙◌, subst, Result, Ok, Err}
 use Rattle.std.specs.Prelude.{IsTrue, ◌||◌}
 use Rattle.mm_pdus.specs.declared.fault.MmFault.{MmFault}

@@ -57,9 +57,9 @@ pub record IsShortData (pdu : List Bool) (reference : ℕ) : Type 0 where
   pub short : length pdu ≤ most_bits
   pub written_short : length (cleared pdu) ≤ most_bits
 
-read_by : (pdu : List Bool) (head : Head) (none : Option SdsFault) → fault pdu ≡ none → unless none (head_value pdu) ≡ Ok head → IsShortData pdu (reference_in head)
-read_by pdu head (Some f) is e = cc
-read_by pdu head None is e =
+read_as : (pdu : List Bool) (head : Head) (none : Option SdsFault) → fault pdu ≡ none → unless none (head_value pdu) ≡ Ok head → IsShortData pdu (reference_in head)
+read_as pdu head (Some f) is e = cc
+read_as pdu head None is e =
     let spells : Spells (value pdu) pdu = value_takes (Unit {0}) pdu is in
     let agrees : Ok head ≡ result_map_both head_of (λ (f : SdsFault). f) (unless None (value {A = Unit {0}} pdu)) =
     sym e ∙ ap (λ n. unless n (head_value pdu)) (sym is) ∙ heads_agree (Unit {0}) pdu ∙ ap (λ n. result_map_both head_of (λ (f : SdsFault). f) (unless n (value {A = Unit {0}} pdu))) is in
@@ -71,7 +71,7 @@ read_by pdu head None is e =
     }
 
 pub head_read : (pdu : List Bool) (head : Head) → heading pdu ≡ Ok head → IsShortData pdu (reference_in head)
-head_read pdu head is = read_by pdu head (fault pdu) refl is
+head_read pdu head is = read_as pdu head (fault pdu) refl is
 
 transfer_by : (head : Result Head SdsFault) (reference : ℕ) → transfer_reference head ≡ Ok reference → (request : DeliveryReportRequest) × (head ≡ Ok (heads.Transfer request reference))
 transfer_by (Err fault) reference e = cc
@@ -88,14 +88,14 @@ all_of_append : {X : Type 0} (P : X → Type 0) (xs ys : List X) → AllByRecurs
 all_of_append P [] ys h k = k
 all_of_append P (x ∷ xs) ys h k = (h.0, all_of_append P xs ys h.1 k)
 
-of_element : (b : Bool) (front : List GroupUp) (body : Type 0) → MatchBool b (AllByRecursion IsGroupUp front × body) (front ≡ []) → AllByRecursion IsGroupUp front
-of_element true front body h = h.0
-of_element false front body none = subst (AllByRecursion IsGroupUp) (sym none) tt
+of_element : (b : Bool) (prefix : List GroupUp) (body : Type 0) → MatchBool b (AllByRecursion IsGroupUp prefix × body) (prefix ≡ []) → AllByRecursion IsGroupUp prefix
+of_element true prefix body h = h.0
+of_element false prefix body none = subst (AllByRecursion IsGroupUp) (sym none) tt
 
 groups_are : (es : List Element) (items : List GroupUp) → GroupsOf es items → AllByRecursion IsGroupUp items
 groups_are [] items none = subst (AllByRecursion IsGroupUp) (sym none) tt
-groups_are (e ∷ es) items (front, back, is, body, later) =
-    subst (AllByRecursion IsGroupUp) (sym is) (all_of_append IsGroupUp front back (of_element (e.identifier == identity_uplink) front (e.body ≡ groups_body group_up front) body) (groups_are es back later))
+groups_are (e ∷ es) items (prefix, back, is, body, later) =
+    subst (AllByRecursion IsGroupUp) (sym is) (all_of_append IsGroupUp prefix back (of_element (e.identifier == identity_uplink) prefix (e.body ≡ groups_body group_up prefix) body) (groups_are es back later))
 
 -- there are at most 32 groups in a PDU, each in its range
 pub groups_read : {A : Type 0} (pdu : List Bool) (mode : GroupMode) (items : List GroupUp) → reading_up {A = A} pdu ≡ Ok (up.Groups mode items) → (length items ≤ most_groups) × AllByRecursion IsGroupUp items
@@ -155,11 +155,11 @@ pub accept_fits : (o : Option AcceptType) → IsReply (option_map accept_text o)
 accept_fits None = tt
 accept_fits (Some a) =
     let n = update_number (update_accepted a) in
-    let front = length-append (num 4 5) (num 3 n) in
+    let prefix = length-append (num 4 5) (num 3 n) in
     let all = length-append (num 4 5 ++ num 3 n) (false ∷ []) in
     let kind = length-num 4 5 in
     let update = length-num 3 n in
-    (omega (arith, front, all, kind, update), omega (arith, front, all, kind, update))
+    (omega (arith, prefix, all, kind, update), omega (arith, prefix, all, kind, update))
 
 one_by_one : {Y : Type 0} (o : Option Y) (ys : List Y) (n : ℕ) → length ys ≤ n → length (cons_option o ys) ≤ n + 1
 one_by_one None ys n h = omega (arith, h)

@@ -110,11 +110,11 @@ radio_located_ranges s itsi station area update above known small h = record {
 detached_by : (s : State) (itsi : ℕ) (radio : Option Radio) → radio_of s.registered itsi ≡ radio → StateInRange s → StateInRange (record s { registered = detached_at s.registered itsi radio })
 detached_by s itsi None is h = h
 detached_by s itsi (Some radio) is h =
-    let stood : RadioInRange s.registered.limits.stations (id_path itsi) radio = found_in paths_total paths_exact (RadioInRange s.registered.limits.stations) s.registered.radios (id_path itsi) radio h.radios is in
+    let is_ranged : RadioInRange s.registered.limits.stations (id_path itsi) radio = found_in paths_total paths_exact (RadioInRange s.registered.limits.stations) s.registered.radios (id_path itsi) radio h.radios is in
     record {
       limits = h.limits;
       rules = h.rules;
-      radios = insert_all paths_total paths_exact (RadioInRange s.registered.limits.stations) s.registered.radios (id_path itsi) (absent radio) stood h.radios;
+      radios = insert_all paths_total paths_exact (RadioInRange s.registered.limits.stations) s.registered.radios (id_path itsi) (absent radio) is_ranged h.radios;
       attachments = h.attachments;
       mail = h.mail;
       served = h.served;

@@ -21,34 +21,34 @@ module _ (B C : Type 0) where
   moved (Ok pdu) = Ok (moved_pdu pdu)
   moved (Err fault) = Err fault
 
-  -- so too with the bits behind it
-  abbrev moved_front : Result (MmUp B × List Bool) MmFault → Result (MmUp C × List Bool) MmFault
-  moved_front (Ok p) = Ok (moved_pdu p.0, p.1)
-  moved_front (Err fault) = Err fault
+  -- so too with the bits after it
+  abbrev moved_prefix : Result (MmUp B × List Bool) MmFault → Result (MmUp C × List Bool) MmFault
+  moved_prefix (Ok p) = Ok (moved_pdu p.0, p.1)
+  moved_prefix (Err fault) = Err fault
 
-  moved_bind : {X : Type 0} (r : Result X MmFault) (k : X → Result (MmUp B × List Bool) MmFault) (l : X → Result (MmUp C × List Bool) MmFault) → ((x : X) → l x ≡ moved_front (k x)) → (r >>= l) ≡ moved_front (r >>= k)
+  moved_bind : {X : Type 0} (r : Result X MmFault) (k : X → Result (MmUp B × List Bool) MmFault) (l : X → Result (MmUp C × List Bool) MmFault) → ((x : X) → l x ≡ moved_prefix (k x)) → (r >>= l) ≡ moved_prefix (r >>= k)
   moved_bind (Ok x) k l h = h x
   moved_bind (Err fault) k l h = refl
 
-  moved_if : (b : Bool) (x y : Result (MmUp B × List Bool) MmFault) (v w : Result (MmUp C × List Bool) MmFault) → v ≡ moved_front x → w ≡ moved_front y → (if b then v else w) ≡ moved_front (if b then x else y)
+  moved_if : (b : Bool) (x y : Result (MmUp B × List Bool) MmFault) (v w : Result (MmUp C × List Bool) MmFault) → v ≡ moved_prefix x → w ≡ moved_prefix y → (if b then v else w) ≡ moved_prefix (if b then x else y)
   moved_if true x y v w h k = h
   moved_if false x y v w h k = k
 
-  detach_moved : (bits : List Bool) → detach_at {A = C} bits ≡ moved_front (detach_at {A = B} bits)
+  detach_moved : (bits : List Bool) → detach_at {A = C} bits ≡ moved_prefix (detach_at {A = B} bits)
   unfolding detach_at
   detach_moved bits = moved_bind (extension_at detach_widths bits) _ _ (λ rest. refl)
 
-  demand_moved : (bits : List Bool) → demand_at {A = C} bits ≡ moved_front (demand_at {A = B} bits)
+  demand_moved : (bits : List Bool) → demand_at {A = C} bits ≡ moved_prefix (demand_at {A = B} bits)
   unfolding demand_at
   demand_moved bits = moved_bind (field_at 3 bits) _ _ (λ number. moved_bind (known (update_of number.0)) _ _ (λ update. moved_bind (bit_at number.1) _ _ (λ append. moved_bind (optional_at 10 append.1) _ _ (λ rest. moved_bind (extension_at demand_widths rest) _ _ (λ end. refl)))))
 
   -- each group is read by this function
   module _ (group_at : List Bool → Result (GroupUp × List Bool) MmFault) where
-    groups_moved : (bits : List Bool) → groups_up_at {A = C} group_at bits ≡ moved_front (groups_up_at {A = B} group_at bits)
+    groups_moved : (bits : List Bool) → groups_up_at {A = C} group_at bits ≡ moved_prefix (groups_up_at {A = B} group_at bits)
     unfolding groups_up_at
     groups_moved bits = moved_bind (bit_at bits) _ _ (λ report. moved_bind (bit_at report.1) _ _ (λ mode. moved_bind (all_groups_at group_at mode.1) _ _ (λ items. refl)))
 
-    up_moved : (bits : List Bool) → up_at {A = C} group_at bits ≡ moved_front (up_at {A = B} group_at bits)
+    up_moved : (bits : List Bool) → up_at {A = C} group_at bits ≡ moved_prefix (up_at {A = B} group_at bits)
     unfolding up_at
     up_moved bits =
         moved_bind (field_at 4 bits) _ _
@@ -58,7 +58,7 @@ module _ (B C : Type 0) where
   moved_if_whole true pdu f = refl
   moved_if_whole false pdu f = refl
 
-  moved_whole : (r : Result (MmUp B × List Bool) MmFault) → whole (moved_front r) ≡ moved (whole r)
+  moved_whole : (r : Result (MmUp B × List Bool) MmFault) → whole (moved_prefix r) ≡ moved (whole r)
   moved_whole (Ok p) = moved_if_whole (length p.1 == 0) p.0 _
   moved_whole (Err fault) = refl
 

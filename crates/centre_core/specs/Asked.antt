@@ -1,4 +1,4 @@
--- A command as a value. A is the allocator that the bits in it lie under: nothing depends on it.
+-- A command as a value. A is the allocator of its bits; nothing depends on it.
 use Rattle.registration.specs.Numbers.{Station}
 use Rattle.mailbox.specs.Numbers.{Moment}
 use Rattle.centre_core.specs.Numbers.{Sequence}

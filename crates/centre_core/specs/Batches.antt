@@ -7,7 +7,7 @@ use Rattle.centre_core.specs.Step.{step}
 use Rattle.centre_core.specs.History.{is_acceptance, next}
 
 module _ {A : Type 0} where
-  -- the commands of a batch, each with its reply in its turn, which is kept under the allocator C
+  -- the commands of a batch, each with its reply in turn; C is the allocator of the replies
   abbrev pub with_replies : (C : Type 0) → State → List (Command A) → List (Command A × Reply C)
   with_replies C s [] = []
   with_replies C s (c ∷ cs) = (c, (step {B = C} s c).1) ∷ with_replies C (next s c) cs
@@ -21,6 +21,6 @@ module _ {A : Type 0} where
   accepted_of [] = []
   accepted_of (x ∷ xs) = cond (is_acceptance x.1) (x.0 ∷ accepted_of xs) (accepted_of xs)
 
-  -- the commands of a batch that are accepted, each in its turn
+  -- the commands of a batch that are accepted, each in turn
   abbrev pub taken : State → List (Command A) → List (Command A)
   taken s cs = accepted_of (with_replies A s cs)

@@ -30,13 +30,13 @@ is_at_least sequence (Some last) = nat_le sequence last.sequence
 abbrev pub has_reached : State → Station → Sequence → Bool
 has_reached s station sequence = is_station s station && is_at_least sequence (last_at s station)
 
--- the reply accepts its command; a kept reply and a refusal do not
+-- the reply accepts its command; a kept reply and a refusal do not accept it
 abbrev pub is_acceptance : {B : Type 0} → Reply B → Bool
 is_acceptance (Accepted number pdu) = true
 is_acceptance (Kept number pdu) = false
 is_acceptance (Refused refusal) = false
 
--- a report ends the message that it is on, where its status says so
+-- a report ends the message that it reports on, if its status says so
 abbrev pub names_by_head : Itsi → Itsi → Result Head SdsFault → Item → Bool
 names_by_head source destination (Err fault) m = false
 names_by_head source destination (Ok (heads.Transfer request reference)) m = false
@@ -45,14 +45,14 @@ names_by_head source destination (Ok (heads.Ack status reference)) m = false
 
 -- A command of this moment that the state accepts.
 module _ (s : State) (moment : Moment) where
-  -- the messages that a short data PDU makes: one, where it is an SDS-TRANSFER
+  -- the messages that a short data PDU makes: one if it is an SDS-TRANSFER, else none
   abbrev pub made_by_head : Itsi → Itsi → List Bool → Result Head SdsFault → List Item
   made_by_head source destination pdu (Err fault) = []
   made_by_head source destination pdu (Ok (heads.Transfer request reference)) = message_of s moment (envelope source destination reference) pdu ∷ []
   made_by_head source destination pdu (Ok (heads.Report acknowledge status reference)) = []
   made_by_head source destination pdu (Ok (heads.Ack status reference)) = []
 
-  -- those that a message to a group makes: its copies
+  -- the messages that a message to a group makes: its copies
   abbrev pub made_by_reference : Itsi → Gtsi → List Bool → Result Reference SdsFault → List Item
   made_by_reference source group pdu (Err fault) = []
   made_by_reference source group pdu (Ok reference) = copies_of s moment (group_envelope source group reference) pdu
@@ -71,7 +71,8 @@ module _ {A : Type 0} where
   after s [] = s
   after s (c ∷ cs) = after (next s c) cs
 
-  -- the command ends this message: a report from its destination that says so, a `sent` where no report is asked for, an expiry at its deadline or later, a deletion
+  -- the command ends this message: a report from its destination that says so, a `sent` where no report is asked for,
+  -- an expiry at its deadline or later, a deletion
   abbrev pub names_in : Moment → Body A → Item → Bool
   names_in moment (RuleSet prefix rule) m = false
   names_in moment (RuleClear prefix) m = false
@@ -86,7 +87,7 @@ module _ {A : Type 0} where
   abbrev pub names : Command A → Item → Bool
   names c m = names_in c.moment c.body m
 
-  -- some command of the list is accepted in its turn and ends the message
+  -- some command of the list is accepted in turn and ends the message
   abbrev pub ended : State → List (Command A) → Item → Bool
   ended s [] m = false
   ended s (c ∷ cs) m = (accepts s c && names c m) || ended (next s c) cs m
@@ -110,23 +111,23 @@ module _ {A : Type 0} where
   abbrev pub is_no_later : Command A → Command A → Bool
   is_no_later c d = (d.station == c.station) && nat_le c.sequence d.sequence
 
-  -- its station has an accepted command of its sequence or a greater one, in the state s or among those done since
+  -- its station has an accepted command of its sequence or a greater one: in the state s, or among those done since
   abbrev pub is_resend : State → List (Command A) → Command A → Bool
   is_resend s done c = has_reached s c.station c.sequence || list_any (is_no_later c) done
 
-  -- what is done after a command: it too, where the state that was reached accepts it
+  -- the accepted commands after one more command: it is added if the state that was reached accepts it
   abbrev pub done_after : State → List (Command A) → Command A → List (Command A)
   done_after now done c = cond (accepts now c) (c ∷ done) done
 
-  -- the command and these behind it, or these alone where it is left out
+  -- the command and these after it, or these alone where it is left out
   abbrev pub unless : Bool → Command A → List (Command A) → List (Command A)
   unless left_out c cs = cond left_out cs (c ∷ cs)
 
-  -- the commands that are no resends: s is the state at the start, done what was accepted since, and now the state that is reached
+  -- the commands that are no resends; s is the state at the start, done what was accepted since, now the state that is reached
   abbrev pub fresh_from : State → List (Command A) → State → List (Command A) → List (Command A)
   fresh_from s done now [] = []
   fresh_from s done now (c ∷ cs) = unless (is_resend s done c) c (fresh_from s (done_after now done c) (next now c) cs)
 
-  -- the commands that are no resends, in their turn from this state on
+  -- the commands that are no resends, from this state on
   abbrev pub fresh : State → List (Command A) → List (Command A)
   fresh s cs = fresh_from s [] s cs

@@ -1,4 +1,4 @@
--- Lists of commands that are put one after the other, and the first commands of a list.
+-- Lists of commands one after the other, and prefixes of a list.
 use Rattle.std.specs.Prelude.{◌≡◌, ◌+◌, ◌≤◌, Bool, List, ◌++◌, length, Option}
 use Rattle.registration.specs.Numbers.{Station}
 use Rattle.mailbox.specs.Numbers.{Number}
@@ -10,19 +10,19 @@ use Rattle.centre_core.specs.InTurn.{Lands, IsLeftBy}
 use Rattle.centre_core.specs.Batches.{taken}
 
 module _ (A : Type 0) where
-  -- two lists lead where the second leads from the state that the first one leads to
+  -- the state after two lists is the state after the second, from the state after the first
   abbrev pub AfterIsJoined : Type 0
   AfterIsJoined = (s : State) (xs ys : List (Command A)) → after s (xs ++ ys) ≡ after (after s xs) ys
 
-  -- a history, and one from the state after it, are one history
+  -- a history followed by one from the state after it is a history
   abbrev pub HistoriesAreJoined : Type 0
   HistoriesAreJoined = (s : State) (xs ys : List (Command A)) → IsHistory s xs → IsHistory (after s xs) ys → IsHistory s (xs ++ ys)
 
-  -- the first commands of a history are one
+  -- a prefix of a history is a history
   abbrev pub PrefixesAreHistories : Type 0
   PrefixesAreHistories = (s : State) (xs ys : List (Command A)) → IsHistory s (xs ++ ys) → IsHistory s xs
 
-  -- the commands after them are one from the state that they lead to
+  -- the rest of a history is one, from the state after the prefix
   abbrev pub RestsAreHistories : Type 0
   RestsAreHistories = (s : State) (xs ys : List (Command A)) → IsHistory s (xs ++ ys) → IsHistory (after s xs) ys
 
@@ -30,7 +30,7 @@ module _ (A : Type 0) where
   abbrev pub TakenAreAll : Type 0
   TakenAreAll = (s : State) (cs : List (Command A)) → after s (taken s cs) ≡ after s cs
 
-  -- those that are accepted are a history
+  -- the accepted commands of a batch are a history
   abbrev pub TakenAreHistory : Type 0
   TakenAreHistory = (s : State) (cs : List (Command A)) → IsHistory s (taken s cs)
 
@@ -39,17 +39,17 @@ module _ (A : Type 0) where
   LandsInLonger = (base : State) (xs ys : List (Command A)) (c : Command A) (number : Number) (pdu : Option (List Bool))
       → Lands base xs c number pdu → Lands base (xs ++ ys) c number pdu
 
-  -- it has them among the first commands, where its number is within their count
+  -- it has them in a prefix, if its number is within the count of the prefix
   abbrev pub LandsInPrefix : Type 0
   LandsInPrefix = (base : State) (xs ys : List (Command A)) (c : Command A) (number : Number) (pdu : Option (List Bool))
       → Lands base (xs ++ ys) c number pdu → number ≤ base.count + length xs → Lands base xs c number pdu
 
-  -- what a command of a list leaves of its station, a command of a longer list leaves
+  -- an entry that is left by a command of a list is left by one of a longer list
   abbrev pub LeftByLonger : Type 0
   LeftByLonger = (base : State) (xs ys : List (Command A)) (station : Station) (last : LastAccepted)
       → IsLeftBy base xs station last → IsLeftBy base (xs ++ ys) station last
 
-  -- one of the first commands leaves it, where its number is within their count
+  -- it is left by a command of a prefix, if its number is within the count of the prefix
   abbrev pub LeftByPrefix : Type 0
   LeftByPrefix = (base : State) (xs ys : List (Command A)) (station : Station) (last : LastAccepted)
       → IsLeftBy base (xs ++ ys) station last → last.number ≤ base.count + length xs → IsLeftBy base xs station last

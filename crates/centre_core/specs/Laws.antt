@@ -1,4 +1,4 @@
--- What holds of the register over all commands and lists of commands.
+-- Laws of the register for all commands and lists of commands.
 use Rattle.std.specs.Prelude.{◌≡◌, ◌+◌, ◌<◌, ◌↔◌, ◌⊎◌, IsTrue, Bool, false, List, ◌∷◌, ◌++◌, length, map, Option, Some, None}
 use Rattle.std.specs.List.{Contains}
 use Rattle.mm_pdus.specs.declared.update.LocationUpdateType.{LocationUpdateType}
@@ -27,15 +27,15 @@ pub record IsAnswered (update : LocationUpdateType) : Type 0 where
   pub same : update_accepted accept ≡ update
   pub pdu : accept_pdu update ≡ Some (accept_text accept)
 
--- each update whose type is not refused is answered so
+-- each update whose type is not refused gets such an answer
 abbrev pub AcceptedAreAnswered : Type 0
 AcceptedAreAnswered = (update : LocationUpdateType) → type_refusal update ≡ None → IsAnswered update
 
--- what holds of every state holds of an empty one
+-- an empty state is a state
 abbrev pub EmptyIsState : Type 0
 EmptyIsState = (limits : Limits) → IsState (empty limits)
 
--- each part of an empty state is in its range
+-- an empty state is in range
 abbrev pub EmptyIsInRange : Type 0
 EmptyIsInRange = (limits : Limits) → StateInRange (empty limits)
 
@@ -52,15 +52,15 @@ abbrev pub Waits : State → Item → Type 0
 Waits s m = Contains s.mail.items m
 
 module _ (A : Type 0) where
-  -- what holds of every state still holds after a command
+  -- after a command a state is a state
   abbrev pub NextIsState : Type 0
   NextIsState = (s : State) (c : Command A) → IsState s → IsState (next s c)
 
-  -- a state in its range is still in it after a command in its range
+  -- after a command in range a state in range is in range
   abbrev pub NextIsInRange : Type 0
   NextIsInRange = (s : State) (c : Command A) → InRange c → StateInRange s → StateInRange (next s c)
 
-  -- a message that waits is missing after a list of commands exactly where one of them is accepted and ends it
+  -- a waiting message is missing after a list of commands exactly if one of them is accepted and ends it
   abbrev pub NoneLost : Type 0
   NoneLost =
       (s : State)
@@ -70,7 +70,7 @@ module _ (A : Type 0) where
       → Waits s m
       → (¬ Waits (after s cs) m) ↔ IsTrue (ended s cs m)
 
-  -- so too a message that an accepted command makes: it is missing exactly where a later command is accepted and ends it
+  -- a message that an accepted command makes is missing afterwards exactly if a later command is accepted and ends it
   abbrev pub NoneLostMade : Type 0
   NoneLostMade =
       (s : State)
@@ -84,7 +84,7 @@ module _ (A : Type 0) where
   abbrev pub AcceptedHaveRoom : Type 0
   AcceptedHaveRoom = (s : State) (c : Command A) → IsTrue (accepts s c) → s.count < last_number
 
-  -- what an accepted command is answered is kept of its station, and of the others what was kept of them
+  -- an accepted command becomes its station's entry; the other stations keep theirs
   abbrev pub AcceptedAreLast : Type 0
   AcceptedAreLast =
       (s : State)
@@ -98,7 +98,9 @@ module _ (A : Type 0) where
   abbrev pub HistoriesAreNumbered : Type 0
   HistoriesAreNumbered =
       (base : State) (bs : List (Command A)) (c : Command A) (cs : List (Command A)) → IsHistory base (bs ++ c ∷ cs)
-      → (numbered base (bs ++ c ∷ cs) (base.count + length bs + 1) ≡ Some c) × IsTrue (accepts (after base bs) c) × ((accepted_by (after base bs) c).number ≡ base.count + length bs + 1)
+      → (numbered base (bs ++ c ∷ cs) (base.count + length bs + 1) ≡ Some c)
+      × IsTrue (accepts (after base bs) c)
+      × ((accepted_by (after base bs) c).number ≡ base.count + length bs + 1)
 
   -- each station's entry after a history is the base's, or that of its last command in it
   abbrev pub LastAcceptedAreLast : Type 0
@@ -110,16 +112,16 @@ module _ (A : Type 0) where
       → (station : Station)
       → last_at (after base cs) station ≡ last_accepted_of station (last_at base station) base cs
 
-  -- resends may be left out
+  -- without its resends a list leads to the same state
   abbrev pub ResendsAreIdle : Type 0
   ResendsAreIdle = (s : State) → IsState s → (cs : List (Command A)) → after s cs ≡ after s (fresh s cs)
 
 module _ (A B : Type 0) where
-  -- a command that is refused, and one that comes again, change nothing
+  -- a refused command and a resend change nothing
   abbrev pub OnlyAcceptedChange : Type 0
   OnlyAcceptedChange = (s : State) (c : Command A) → is_acceptance (step {B = B} s c).1 ≡ false → (step {B = B} s c).0 ≡ s
 
-  -- the state after a command is one, wherever its reply is kept
+  -- the state after a command does not depend on the allocator of its reply
   abbrev pub StepIsNext : Type 0
   StepIsNext = (s : State) (c : Command A) → (step {B = B} s c).0 ≡ next s c
 
@@ -130,13 +132,13 @@ module _ (A B : Type 0) where
       → (step {B = B} s c).1 ≡ Accepted number pdu
       → (number ≡ s.count + 1) × ((next s c).count ≡ number)
 
-  -- once more, and whatever its body is then, it gets the same number and PDU, and changes nothing
+  -- its resend, with any body, gets the same number and PDU, and changes nothing
   abbrev pub ResendsAreAnswered : Type 0
   ResendsAreAnswered =
       (s : State) → IsState s → (c again : Command A) (number : Number) (pdu : Option (List Bool)) → (step {B = B} s c).1 ≡ Accepted number pdu
       → again.station ≡ c.station → again.sequence ≡ c.sequence → step {B = B} (next s c) again ≡ (next s c, Kept number pdu)
 
-  -- under another allocator a command is the same, and so is all that is made of it
+  -- a copy under another allocator, copied back, is the same command
   abbrev pub SameAgain : Type 0
   SameAgain = (c : Command A) → under A (under B c) ≡ c
 
@@ -152,7 +154,7 @@ module _ (A B : Type 0) where
   abbrev pub AfterIsSame : Type 0
   AfterIsSame = (s : State) (cs : List (Command A)) → after s (map (under B) cs) ≡ after s cs
 
-  -- the same of them are no resends
+  -- the same commands among them are no resends
   abbrev pub FreshIsSame : Type 0
   FreshIsSame = (s : State) (cs : List (Command A)) → fresh s (map (under B) cs) ≡ map (under B) (fresh s cs)
 
@@ -160,6 +162,6 @@ module _ (A B : Type 0) where
   abbrev pub HistoriesAreSame : Type 0
   HistoriesAreSame = (base : State) (cs : List (Command A)) → IsHistory base cs → IsHistory base (map (under B) cs)
 
--- wherever the reply is kept
+-- a command under another allocator does the same step, with any allocator of the reply
 abbrev pub StepIsSame : (A B C : Type 0) → Type 0
 StepIsSame A B C = (s : State) (c : Command A) → step {B = C} s (under B c) ≡ step {B = C} s c

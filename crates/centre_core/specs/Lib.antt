@@ -5,7 +5,7 @@ pub mod State
 pub mod StateRanges
 pub mod Step
 pub mod Memory
-pub mod Tell
+pub mod Queries
 pub mod History
 pub mod Histories
 pub mod Same

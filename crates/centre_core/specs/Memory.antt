@@ -1,4 +1,6 @@
--- Which commands need memory; every other one is answered without it. Memory is for the PDU of a reply, for a rule under a new prefix, for a message or a report that is accepted, for the groups that are read of a PDU, and for the list of the radios attached to a group.
+-- Which commands need memory; every other one is answered without it. Memory is for the PDU of a reply, for a rule under a
+-- new prefix, for a message or a report that is accepted, for the groups that are read of a PDU, and for the list of the
+-- radios attached to a group.
 use Rattle.std.specs.Prelude.{nat_lt, ◌==◌, Bool, true, false, not, ◌&&◌, ◌||◌, List, Option, Some, None, Result, Ok, Err, if◌then◌else◌}
 use Rattle.std.specs.Option.{is_some, is_none}
 use Rattle.identity.specs.Numbers.{Itsi}
@@ -31,12 +33,12 @@ use Rattle.centre_core.specs.Step.{is_station, last_at, cause_of, envelope, mess
 abbrev pub needs_rule : State → Path → Bool
 needs_rule s prefix = not (has_rule s.registered prefix) && is_none (set_refusal s.registered prefix)
 
--- a location update that is accepted, or refused with a cause: its reply has a PDU
+-- a location update that is accepted, or refused with a cause: then its reply has a PDU
 abbrev pub needs_update : Option RegFault → Bool
 needs_update None = true
 needs_update (Some refusal) = is_some (cause_of refusal)
 
--- of a PDU's reading that can keep no group: it ends in want of memory, so a group is read before any fault
+-- a PDU has a group before any fault: a reading of it that can keep no group ends in out of memory
 abbrev pub reads_group : {B : Type 0} → Result (MmUp B) MmFault → Bool
 reads_group (Ok pdu) = false
 reads_group (Err fault.Short) = false
@@ -47,7 +49,8 @@ reads_group (Err fault.UnsupportedAddress) = false
 reads_group (Err fault.TooMany) = false
 reads_group (Err fault.NoMemory) = true
 
--- of a PDU's reading: a location update whose reply has a PDU, a change of groups that is accepted; no detach, and no bits at fault
+-- of a PDU's reading: a location update whose reply has a PDU, or a change of groups that is accepted; no detach, no bits
+-- at fault
 abbrev pub needs_read : {B : Type 0} → State → Itsi → Area → Result (MmUp B) MmFault → Bool
 needs_read s itsi area (Err fault) = false
 needs_read s itsi area (Ok (up.Demand update)) = needs_update (locate_refusal s.registered itsi area update)
@@ -64,20 +67,20 @@ module _ (s : State) (moment : Moment) where
   abbrev pub needs_report : Envelope → Status → List Bool → Bool
   needs_report e status pdu = is_none (report_refusal s.registered s.mail e status (report_of s moment e pdu))
 
-  -- of a short data PDU's head: a message or a report that is accepted; no acknowledgement, and no bits at fault
+  -- of a short data PDU's head: a message or a report that is accepted; no acknowledgement, no bits at fault
   abbrev pub needs_head : Itsi → Itsi → List Bool → Result Head SdsFault → Bool
   needs_head source destination pdu (Err fault) = false
   needs_head source destination pdu (Ok (heads.Transfer request reference)) = needs_message (envelope source destination reference) pdu
   needs_head source destination pdu (Ok (heads.Report acknowledge status reference)) = needs_report (envelope source destination reference) status pdu
   needs_head source destination pdu (Ok (heads.Ack status reference)) = false
 
--- a message to a group, be it accepted or refused; no bits at fault, and no other PDU
+-- a message to a group, accepted or refused; no bits at fault, no other PDU
 abbrev pub needs_reference : Result Reference SdsFault → Bool
 needs_reference (Err fault) = false
 needs_reference (Ok reference) = true
 
 module _ {A : Type 0} where
-  -- by its body, as said above; no clearing of a rule, no `sent`, `expire` or `delete`
+  -- by the body, as above; never for the clearing of a rule, `sent`, `expire` and `delete`
   abbrev pub needs_body : State → Moment → Body A → Bool
   needs_body s moment (RuleSet prefix rule) = needs_rule s prefix
   needs_body s moment (RuleClear prefix) = false
@@ -88,11 +91,11 @@ module _ {A : Type 0} where
   needs_body s moment Expire = false
   needs_body s moment (Delete key) = false
 
-  -- a command that is new to its station, while there are numbers left
+  -- a command whose sequence is new to its station, while there are numbers left
   abbrev pub needs_new : State → Command A → Bool
   needs_new s c = nat_lt s.count last_number && needs_body s c.moment c.body
 
-  -- none with an old sequence; the last one again where the kept reply has a PDU
+  -- a command with an old sequence needs none; a resend of the last one needs it if the kept reply has a PDU
   abbrev pub needs_after : State → Command A → Option LastAccepted → Bool
   needs_after s c None = needs_new s c
   needs_after s c (Some last) =
@@ -100,6 +103,6 @@ module _ {A : Type 0} where
       else if c.sequence == last.sequence then is_some last.pdu
       else needs_new s c
 
-  -- whether a command needs memory in this state; none of an unknown station does
+  -- whether a command needs memory in this state; of an unknown station none does
   unfoldable pub needs_memory : State → Command A → Bool
   needs_memory s c = is_station s c.station && needs_after s c (last_at s c.station)

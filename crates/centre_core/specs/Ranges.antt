@@ -1,4 +1,4 @@
--- What a command can hold.
+-- The ranges of a command.
 use Rattle.std.specs.Prelude.{◌<◌, ◌≤◌, ◌^◌, length, Bool, List, Option, Some, None}
 use Rattle.identity.specs.BitsText.{most_bits}
 use Rattle.registration.specs.declared.rule.Rule.{Rule}
@@ -11,7 +11,7 @@ use Rattle.centre_core.specs.Asked.{Asked}
 abbrev pub RuleInRange : Rule → Type 0
 RuleInRange rule = (rule.low ≤ rule.high) × (rule.high < 2 ^ 14) × (rule.keep < 2 ^ 32)
 
--- the bits of a PDU, if there is one, are at most 2,048
+-- a PDU, if there is one, has at most 2,048 bits
 abbrev pub IsShort : Option (List Bool) → Type 0
 IsShort None = Unit {0}
 IsShort (Some bits) = length bits ≤ most_bits

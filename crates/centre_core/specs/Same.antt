@@ -1,10 +1,10 @@
--- One command under two allocators: the same values, the bits in them kept elsewhere.
+-- A command under two allocators: the same values, with the bits allocated elsewhere.
 use Rattle.std.specs.Prelude.{◌≡◌}
 use Rattle.centre_core.specs.declared.command.Command.{Command}
 use Rattle.centre_core.specs.declared.command.Body.{Body}
 use Rattle.centre_core.specs.declared.command.Body.TheVariants.{RuleSet, RuleClear, Mm, Sds, GroupSds, Sent, Expire, Delete}
 
--- the same body with its bits under the allocator B
+-- the same body, with its bits under the allocator B
 abbrev pub body_under : {A : Type 0} (B : Type 0) → Body A → Body B
 body_under B (RuleSet prefix rule) = RuleSet prefix rule
 body_under B (RuleClear prefix) = RuleClear prefix
@@ -19,6 +19,6 @@ body_under B (Delete key) = Delete key
 abbrev pub under : {A : Type 0} (B : Type 0) → Command A → Command B
 under B c = record { station = c.station; sequence = c.sequence; moment = c.moment; body = body_under B c.body }
 
--- the two are one command
+-- the two are the same command
 abbrev pub IsSame : {A B : Type 0} → Command A → Command B → Type 0
 IsSame {A} {B} c d = under B c ≡ d

@@ -12,7 +12,7 @@ use Rattle.mailbox.specs.Values.{Mailed, coded_mailed, empty_mailed}
 use Rattle.mailbox.specs.Sound.{IsMail}
 use Rattle.centre_core.specs.Numbers.{Sequence}
 
--- what is kept of a station's last accepted command: its sequence, its number and the PDU of its reply
+-- the entry of a station's last accepted command: its sequence, its number and the PDU of its reply
 pub record LastAccepted : Type 0 where
   pub sequence : Sequence
   pub number : Number
@@ -24,7 +24,8 @@ coded_last_accepted =
     code_by (ℕ × (ℕ × Option (List Bool))) (coded× coded_ℕ (coded× coded_ℕ (coded_option (coded_list coded_bool))))
     (λ k. (k.sequence, (k.number, k.pdu))) (λ p. record { sequence = p.0; number = p.1.0; pdu = p.1.1 }) (λ _. refl)
 
--- the limits, rules and radios; how each radio is attached to its groups; what waits in the mail; of each station in order what is kept of its last accepted command; and how many commands were accepted
+-- the limits, rules and radios; how each radio is attached to its groups; the mail; the entry of each station's last accepted
+-- command, that of station 1 first; and how many commands were accepted
 pub record State : Type 0 where
   pub registered : Registered
   pub groups : Attached
@@ -40,7 +41,7 @@ coded_state =
     (λ s. (s.registered, (s.groups, (s.mail, (s.served, s.count)))))
     (λ p. record { registered = p.0; groups = p.1.0; mail = p.1.1.0; served = p.1.1.1.0; count = p.1.1.1.1 }) (λ _. refl)
 
--- what is kept of a station is of one of the commands that were accepted
+-- a station's entry, if it has one, has the number of one of the commands that were accepted
 abbrev pub IsOfAccepted : Count → Option LastAccepted → Type 0
 IsOfAccepted count None = Unit {0}
 IsOfAccepted count (Some last) = (0 < last.number) × (last.number ≤ count)
@@ -59,7 +60,8 @@ pub record IsMailOf (r : Registered) (count : Count) (m : Mailed) : Type 0 where
 abbrev pub last_number : Number
 last_number = 4611686018427387904
 
--- what holds of every state: the limits are kept, the attachments are of its radios, the mail is in order, each station has its place, and what is kept of it is of a command that was accepted
+-- what holds of every state: the limits are kept, the attachments are allowed, the mail is in order, each station has an
+-- entry, and the entries are of commands that were accepted
 pub record IsState (s : State) : Type 0 where
   pub within : IsWithin s.registered
   pub attachments : AreAllowed s.registered s.groups
@@ -68,7 +70,7 @@ pub record IsState (s : State) : Type 0 where
   pub count : s.count ≤ last_number
   pub last : All (IsOfAccepted s.count) s.served
 
--- no rule, no radio, no attachment, nothing that waits, and no command accepted from any station
+-- no rule, no radio, no attachment, no waiting item, and no accepted command of any station
 abbrev pub empty : Limits → State
 empty limits = record {
   registered = empty_registered limits;

@@ -1,4 +1,4 @@
--- What a state can hold.
+-- The ranges of a state.
 use Rattle.std.specs.Prelude.{◌<◌, ◌≤◌, ◌^◌, ℕ, Bool, List, length, Option, Some, None, IfSome, ◌≡◌}
 use Rattle.std.specs.List.{All}
 use Rattle.std.specs.declared.cmp.Ordering.{Ordering}
@@ -14,23 +14,23 @@ use Rattle.identity.specs.BitsText.{most_bits as most_of_pdu}
 use Rattle.centre_core.specs.Ranges.{RuleInRange}
 use Rattle.centre_core.specs.State.{State, LastAccepted}
 
--- of each entry of a map this holds
+-- P holds of each entry of a map
 abbrev pub AllEntries : {K X : Type 0} {R : K → K → Ordering} → (K → X → Type 0) → map.FinMap R X → Type 0
 AllEntries P m = All (λ e. P e.0 e.1) (map.entries m)
 
--- a prefix of at most 48 bits, and a rule in its range; its lifetime is one of the four
+-- a prefix of at most 48 bits, and a rule in its range
 abbrev pub RuleEntryInRange : Path → Rule → Type 0
 RuleEntryInRange prefix rule = (length prefix ≤ 48) × RuleInRange rule
 
--- the 48 bits of an identity, one of so many stations, and a location area of 14 bits
+-- the 48 bits of an identity, a station from 1 to the number of stations, and a location area of 14 bits
 abbrev pub RadioInRange : ℕ → Path → Radio → Type 0
 RadioInRange stations path radio = (length path ≡ 48) × (0 < radio.station) × (radio.station ≤ stations) × (radio.area < 2 ^ 14)
 
--- a radio and a group of 48 bits, and a class of usage of 3; the lifetime is one of the four
+-- a radio and a group of 48 bits, and a class of usage of 3 bits
 abbrev pub AttachmentInRange : Pair → Usage → Type 0
 AttachmentInRange pair usage = (pair.0 < 2 ^ 48) × (pair.1 < 2 ^ 48) × (usage.0 < 2 ^ 3)
 
--- what waits: its key, a deadline within the greatest moment and the greatest keep, at most 2,047 bits, and a group of 48
+-- an item: its key, a deadline of at most the greatest moment and the greatest keep, at most 2,047 bits, and a group of 48
 pub record ItemInRange (w : Item) : Type 0 where
   pub key : KeyInRange w.key
   pub deadline : w.deadline ≤ latest_deadline
@@ -42,13 +42,13 @@ abbrev pub IsReply : Option (List Bool) → Type 0
 IsReply None = Unit {0}
 IsReply (Some bits) = (0 < length bits) × (length bits ≤ most_of_pdu)
 
--- what is kept of a station: a sequence from 1, of 32 bits, and its reply
+-- a station's entry: a sequence from 1, of 32 bits, and the PDU of the reply
 pub record LastAcceptedInRange (last : LastAccepted) : Type 0 where
   pub above : 0 < last.sequence
   pub sequence : last.sequence < 2 ^ 32
   pub pdu : IsReply last.pdu
 
--- each part of a state is in its range; its numbers are from 1 to the count, as what holds of every state says
+-- each part of a state is in its range; IsState gives the range of the numbers
 pub record StateInRange (s : State) : Type 0 where
   pub limits : AreLimits s.registered.limits.rules s.registered.limits.radios s.registered.limits.mail s.registered.limits.stations
   pub rules : AllEntries RuleEntryInRange s.registered.rules

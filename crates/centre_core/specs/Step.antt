@@ -1,5 +1,6 @@
--- The register as a machine: what a command makes of a state, and the reply.
-use Rattle.std.specs.Prelude.{◌<◌, ◌≤◌, zero, suc, ◌+◌, ◌-◌, ◌==◌, nat_lt, nat_le, Bool, false, ◌&&◌, List, map, slice_index_or, slice_set, Option, Some, None, Result, Ok, Err, if◌then◌else◌}
+-- The register as a machine: the state after a command, and the reply.
+use Rattle.std.specs.Prelude.{◌<◌, ◌≤◌, zero, suc, ◌+◌, ◌-◌, ◌==◌, nat_lt, nat_le, Bool, false, ◌&&◌}
+use Rattle.std.specs.Prelude.{List, map, slice_index_or, slice_set, Option, Some, None, Result, Ok, Err, if◌then◌else◌}
 use Rattle.std.specs.Option.{option_map}
 use Rattle.identity.specs.Numbers.{Itsi, Gtsi}
 use Rattle.identity.specs.Path.{Path}
@@ -16,7 +17,8 @@ use Rattle.mm_pdus.specs.Downlink.{accept_text, reject_text, acknowledge_text}
 use Rattle.registration.specs.Numbers.{Area, Station}
 use Rattle.registration.specs.declared.rule.Rule.{Rule}
 use Rattle.registration.specs.declared.fault.RegFault.{RegFault}
-use Rattle.registration.specs.declared.fault.RegFault.TheVariants.{UnknownIdentity, LaNotAllowed, Congestion, Migration, UnsupportedType, NotAttached, RulesFull, NoMemory}
+use Rattle.registration.specs.declared.fault.RegFault.TheVariants.{UnknownIdentity, LaNotAllowed, Congestion, Migration}
+use Rattle.registration.specs.declared.fault.RegFault.TheVariants.{UnsupportedType, NotAttached, RulesFull, NoMemory}
 use Rattle.registration.specs.Registered.{Registered, set_refusal, with_rule, without_rule, locate_refusal, located, detach_refusal, detached}
 use Rattle.group_attach.specs.Attached.{members_of}
 use Rattle.group_attach.specs.Applied.{after_update, applied, answers, apply_refusal}
@@ -44,19 +46,20 @@ use Rattle.centre_core.specs.declared.command.Body.TheVariants.{RuleSet, RuleCle
 use Rattle.centre_core.specs.declared.reply.Reply.{Reply}
 use Rattle.centre_core.specs.declared.reply.Reply.TheVariants.{Accepted, Kept, Refused}
 use Rattle.centre_core.specs.declared.reply.Refusal.{Refusal}
-use Rattle.centre_core.specs.declared.reply.Refusal.TheVariants.{UnknownStation, OldSequence, NumbersUsedUp, Pdu, ShortData, Registration, Location, Groups, Mail}
+use Rattle.centre_core.specs.declared.reply.Refusal.TheVariants.{UnknownStation, OldSequence, NumbersUsedUp, Pdu, ShortData}
+use Rattle.centre_core.specs.declared.reply.Refusal.TheVariants.{Registration, Location, Groups, Mail}
 use Rattle.centre_core.specs.State.{State, LastAccepted, last_number}
 
--- the register has a station of this number: they count from 1 to its limit
+-- the register has a station of this number, from 1 to its limit
 abbrev pub is_station : State → Station → Bool
 is_station s station = nat_lt 0 station && nat_le station s.registered.limits.stations
 
--- what is kept of a station: nothing where there is no such station
+-- the entry of a station; none where there is no such station
 abbrev pub last_at : State → Station → Option LastAccepted
 last_at s zero = None
 last_at s (suc before) = slice_index_or s.served before None
 
--- the cause that a D-LOCATION UPDATE REJECT gives (clause 16.10, reject cause); the other refusals have no PDU
+-- the cause in a D-LOCATION UPDATE REJECT (clause 16.10, reject cause); the other refusals have no PDU
 abbrev pub cause_of : RegFault → Option Cause
 cause_of UnknownIdentity = Some 1
 cause_of LaNotAllowed = Some 3
@@ -75,11 +78,11 @@ accept_pdu update = option_map accept_text (accept_of update)
 abbrev pub acknowledge_pdu : Registered → Itsi → List GroupUp → List Bool
 acknowledge_pdu r itsi items = acknowledge_text false (answers r itsi items)
 
--- what the bodies make of a state: a rule is set, or goes, a radio is located and loses attachments, it goes, and its groups change
+-- the rule is set under the prefix
 abbrev pub rule_set : State → Path → Rule → State
 rule_set s prefix rule = record s { registered = with_rule s.registered prefix rule }
 
--- the rule under the prefix goes
+-- the rule under the prefix is removed
 abbrev pub rule_cleared : State → Path → State
 rule_cleared s prefix = record s { registered = without_rule s.registered prefix }
 
@@ -98,19 +101,19 @@ radio_detached s itsi = record s { registered = detached s.registered itsi }
 abbrev pub groups_changed : State → Itsi → GroupMode → List GroupUp → State
 groups_changed s itsi mode items = record s { groups = applied s.registered s.groups itsi mode items }
 
--- the mail is this, and all else is as it was
+-- the mail is this, and all else is unchanged
 abbrev pub mail_changed : State → Mailed → State
 mail_changed s mail = record s { mail = mail }
 
--- the number of the next accepted command, with this moment
+-- the number of the next accepted command, and this moment
 abbrev pub next_stamp : State → Moment → Stamp
 next_stamp s moment = record { number = s.count + 1; moment = moment }
 
--- the message that the next accepted command makes of a PDU in this envelope
+-- the message that the next accepted command makes: a PDU in this envelope
 abbrev pub message_of : State → Moment → Envelope → List Bool → Item
 message_of s moment e pdu = item_for s.registered (key_of e kind.Message) (next_stamp s moment) pdu
 
--- the item of a report, its PDU in the written form
+-- the item of a report, its PDU in canonical form
 abbrev pub report_of : State → Moment → Envelope → List Bool → Item
 report_of s moment e pdu = item_for s.registered (key_of e kind.Report) (next_stamp s moment) (cleared pdu)
 
@@ -130,19 +133,19 @@ copies_of s moment e pdu = copies s.registered e (members s e.group) (next_stamp
 abbrev pub group_envelope : Itsi → Gtsi → Reference → GroupEnvelope
 group_envelope source group reference = record { source = source; group = group; reference = reference }
 
--- A and B are the allocators that a command's and a reply's bits are kept under. Nothing here depends on them.
+-- A and B are the allocators of a command's and a reply's bits. Nothing here depends on them.
 module _ {B : Type 0} where
-  -- the refusal of a location update: with a D-LOCATION UPDATE REJECT where there is a cause for one
+  -- the refusal of a location update, with a D-LOCATION UPDATE REJECT where there is a cause
   abbrev pub rejected : LocationUpdateType → RegFault → Option Cause → Refusal B
   rejected update fault None = Registration fault
   rejected update fault (Some cause) = Location fault (reject_text update cause)
 
-  -- how a location update of this type is refused
+  -- the refusal of a location update of this type
   abbrev pub location_refusal : LocationUpdateType → RegFault → Refusal B
   location_refusal update fault = rejected update fault (cause_of fault)
 
 module _ {A : Type 0} where
-  -- what is kept of the next accepted command, whose reply has this PDU
+  -- the entry of the next accepted command, whose reply has this PDU
   abbrev pub kept_of : State → Command A → Option (List Bool) → LastAccepted
   kept_of s c pdu = record { sequence = c.sequence; number = s.count + 1; pdu = pdu }
 
@@ -153,26 +156,26 @@ module _ {A : Type 0} where
     count = s.count + 1;
   }
 
-  -- it comes from a station of the register
+  -- the command comes from a station of the register
   abbrev pub IsOfStation : State → Command A → Type 0
   IsOfStation s c = (0 < c.station) × (c.station ≤ s.registered.limits.stations)
 
-  -- there is a place for its reply, and a number for it
+  -- the command comes from a station, and there is a number left for it
   abbrev pub CanBeAccepted : State → Command A → Type 0
   CanBeAccepted s c = IsOfStation s c × (s.count < last_number)
 
 -- A command that comes to this state.
 module _ {A B : Type 0} (s : State) (c : Command A) where
-  -- a command is refused, or makes this state and is answered by this PDU
+  -- the command is refused, or makes this state and is answered with this PDU
   abbrev pub step_made : State → Option (List Bool) → Option (Refusal B) → State × Reply B
   step_made made pdu (Some refusal) = (s, Refused refusal)
   step_made made pdu None = (accepted made c pdu, Accepted (s.count + 1) pdu)
 
-  -- a rule is set, where it replaces one or there is room for it
+  -- a rule is set, if it replaces one or there is room for it
   abbrev pub step_rule : Path → Rule → State × Reply B
   step_rule prefix rule = step_made (rule_set s prefix rule) None (option_map Registration (set_refusal s.registered prefix))
 
-  -- the rule under a prefix goes; this is never refused
+  -- the rule under a prefix is removed; this is never refused
   abbrev pub step_clear : Path → State × Reply B
   step_clear prefix = step_made (rule_cleared s prefix) None None
 
@@ -184,7 +187,7 @@ module _ {A B : Type 0} (s : State) (c : Command A) where
       (accept_pdu update)
       (option_map (location_refusal update) (locate_refusal s.registered itsi area update))
 
-  -- a radio detaches, and the reply has no PDU; refused where the radio is not present
+  -- a radio detaches, and the reply has no PDU; refused if the radio is not present
   abbrev pub step_detach : Itsi → State × Reply B
   step_detach itsi = step_made (radio_detached s itsi) None (option_map Registration (detach_refusal s.registered itsi))
 
@@ -196,14 +199,14 @@ module _ {A B : Type 0} (s : State) (c : Command A) where
       (Some (acknowledge_pdu s.registered itsi items))
       (option_map Groups (apply_refusal s.registered s.groups itsi mode items))
 
-  -- a PDU that was read, or its first fault
+  -- a mobility management PDU by its reading, or its first fault
   abbrev pub step_mm : Itsi → Area → Result (MmUp B) MmFault → State × Reply B
   step_mm itsi area (Err fault) = (s, Refused (Pdu fault))
   step_mm itsi area (Ok (up.Demand update)) = step_locate itsi area update
   step_mm itsi area (Ok up.Detach) = step_detach itsi
   step_mm itsi area (Ok (up.Groups mode items)) = step_groups itsi mode items
 
-  -- the mail is changed so, or this refuses it
+  -- the mail becomes this, or the command is refused for this
   abbrev pub step_mail : Mailed → Option MailFault → State × Reply B
   step_mail mail refusal = step_made (mail_changed s mail) None (option_map Mail refusal)
 
@@ -211,11 +214,11 @@ module _ {A B : Type 0} (s : State) (c : Command A) where
   abbrev pub step_message : Item → State × Reply B
   step_message w = step_mail (posted s.mail w) (post_refusal s.registered s.mail w)
 
-  -- a report waits as the last item, and its message goes where it ends that, or it is refused
+  -- a report waits as the last item, and its message is removed if it ends that; or the report is refused
   abbrev pub step_report : Envelope → Status → Item → State × Reply B
   step_report e status w = step_mail (reported s.mail e status w) (report_refusal s.registered s.mail e status w)
 
-  -- an acknowledgement: the report that it answers goes, or it is refused
+  -- an acknowledgement: the report that it answers is removed, or it is refused
   abbrev pub step_ack : Envelope → State × Reply B
   step_ack e = step_mail (acknowledged s.mail e) (ack_refusal s.registered s.mail e)
 
@@ -237,19 +240,19 @@ module _ {A B : Type 0} (s : State) (c : Command A) where
   step_group_sds source group pdu (Ok reference) =
       step_copies (group_envelope source group reference) (copies_of s c.moment (group_envelope source group reference) pdu)
 
-  -- the item at the key was sent, and goes where it waits for no answer; refused where nothing waits there
+  -- the item at the key was sent, and is removed if it waits for no answer; refused if nothing waits there
   abbrev pub step_sent : Key → State × Reply B
   step_sent key = step_mail (confirmed s.mail key) (sent_refusal s.registered s.mail key)
 
-  -- what has ended by the command's moment goes; this is never refused
+  -- the items that have ended by the command's moment are removed; this is never refused
   abbrev pub step_expire : State × Reply B
   step_expire = step_mail (expired s.mail c.moment) None
 
-  -- what waits at the key goes; refused where nothing does
+  -- the item at the key is removed; refused if nothing waits there
   abbrev pub step_delete : Key → State × Reply B
   step_delete key = step_mail (deleted s.mail key) (delete_refusal s.mail key)
 
-  -- each kind of body in its own way; a PDU is read first
+  -- by the kind of body; a PDU is read first
   abbrev pub step_body : Body A → State × Reply B
   step_body (RuleSet prefix rule) = step_rule prefix rule
   step_body (RuleClear prefix) = step_clear prefix
@@ -260,11 +263,11 @@ module _ {A B : Type 0} (s : State) (c : Command A) where
   step_body Expire = step_expire
   step_body (Delete key) = step_delete key
 
-  -- a command that is new to its station
+  -- a command whose sequence is new to its station
   abbrev pub step_new : State × Reply B
   step_new = if nat_lt s.count last_number then step_body c.body else (s, Refused NumbersUsedUp)
 
-  -- a command from a station of which this is kept: an older one is refused, the last one again is answered as before
+  -- a command from a station with this entry: an older one is refused, a resend of the last one is answered as before
   abbrev pub step_after : Option LastAccepted → State × Reply B
   step_after None = step_new
   step_after (Some last) =

@@ -1,4 +1,4 @@
-//! The PDUs that answer a radio, and how its PDUs are refused.
+//! The PDUs that answer a radio, and the refusals of its PDUs.
 ghost use Rattle.std.specs.Prelude.{◌≡◌, ◌≢◌, IfOk, OnErr, None};
 ghost use Rattle.mm_pdus.specs.Downlink.{canon_down, accept_text};
 ghost use Rattle.registration.specs.declared.fault.RegFault.TheVariants as registration;
@@ -14,7 +14,7 @@ use mm_pdus::{
 use registration::{RegFault, Registry};
 use std::alloc::{AllocError, Allocator};
 
-/// The D-LOCATION UPDATE ACCEPT of an update that is accepted so.
+/// The D-LOCATION UPDATE ACCEPT of an update of this type.
 pub(crate) fn accept_pdu<A: Allocator>(alloc: A, update: AcceptType) -> Result<Bits<A>, AllocError>
     ensures { IfOk result (λ pdu. pdu ≡ accept_text update) }
 {
@@ -22,8 +22,8 @@ pub(crate) fn accept_pdu<A: Allocator>(alloc: A, update: AcceptType) -> Result<B
     written(alloc, &pdu)
 }
 
-/// The refusal of a location update, with its D-LOCATION UPDATE REJECT where it has a cause; that alone
-/// needs memory. Want of memory is no refusal.
+/// The refusal of a location update, with a D-LOCATION UPDATE REJECT where there is a cause. Only that PDU needs
+/// memory. Out of memory is no refusal.
 pub(crate) fn location_refusal<A: Allocator>(
     alloc: A,
     update: LocationUpdateType,
@@ -40,7 +40,7 @@ pub(crate) fn location_refusal<A: Allocator>(
     Ok(Refusal::Location { fault, reject })
 }
 
-/// The refusal of a change of rules or radios that has no PDU. Want of memory is no refusal.
+/// A refusal without PDU, of a change of rules or radios. Out of memory is no refusal.
 pub(crate) fn registration_refusal<A: Allocator>(fault: RegFault) -> Result<Refusal<A>, AllocError>
     ensures ok { IfOk result (λ refusal. (fault ≢ registration.NoMemory) × (refusal ≡ Registration fault)) }
     ensures memory { OnErr result (fault ≡ registration.NoMemory) }
@@ -51,7 +51,7 @@ pub(crate) fn registration_refusal<A: Allocator>(fault: RegFault) -> Result<Refu
     Ok(Refusal::Registration(fault))
 }
 
-// The cause that the radio is told.
+// The reject cause that the radio gets.
 fn cause_of(fault: RegFault) -> Option<RejectCause>
     ensures { result ≡ cause_of fault }
 {
@@ -67,8 +67,8 @@ fn cause_of(fault: RegFault) -> Option<RejectCause>
     }
 }
 
-/// The D-ATTACH/DETACH GROUP IDENTITY ACKNOWLEDGEMENT of what a radio asks of groups. The items lie
-/// under `scratch`.
+/// The D-ATTACH/DETACH GROUP IDENTITY ACKNOWLEDGEMENT of a radio's group items. Its items are allocated in
+/// `scratch` meanwhile.
 pub(crate) fn acknowledge_pdu<A: Allocator, R: Allocator + Clone, B: Allocator, C: Allocator>(
     alloc: A,
     scratch: C,

@@ -11,13 +11,13 @@ use registration::{LocationArea, Rule, Station};
 use std::alloc::{AllocError, Allocator};
 use std::marker::Model;
 
-/// What a station asks of the register.
+/// A command of a station to the register.
 #[derive(Drop)]
 pub struct Command<A: Allocator> {
     /// The station that it comes from.
     pub station: Station,
-    /// Its place among the commands of that station. A sequence that was accepted before marks a
-    /// resend.
+    /// Its place among the commands of that station. A command with a sequence that was accepted
+    /// before is a resend.
     pub sequence: Sequence,
     /// When it was given. Moments need not rise.
     pub moment: Moment,
@@ -61,7 +61,7 @@ impl<A: Allocator> Command<A> {
         })
     }
 
-    /// The same command with its bits under `alloc`.
+    /// A copy of the command, with its bits allocated in `alloc`.
     pub fn try_copy<B: Allocator>(&self, alloc: B) -> Result<Command<B>, AllocError>
         ensures ok { IfOk result (λ copy. copy ≡ under B self.now) }
         ensures err { OnErr result (IsSome (pdu_of self.now.body)) }
@@ -85,7 +85,7 @@ impl<A: Allocator> Command<A> {
             && self.body.same(&other.body)
     }
 
-    // What its fields keep, as a clause.
+    // States that its fields are in range.
     pub(crate) fn hold_ranges(&self)
         ensures { InRange self.now }
     {
@@ -96,12 +96,12 @@ impl<A: Allocator> Command<A> {
 /// What a command asks.
 #[derive(Drop)]
 pub enum Body<A: Allocator> {
-    /// Sets the rule under a prefix, or puts it in the place of the one that is there.
+    /// Sets the rule under a prefix, or replaces the rule that is there.
     RuleSet {
         prefix: Prefix,
         rule: Rule,
     },
-    /// Removes the rule under just this prefix, if there is one.
+    /// Removes the rule under exactly this prefix, if there is one.
     RuleClear {
         prefix: Prefix,
     },
@@ -118,8 +118,8 @@ pub enum Body<A: Allocator> {
         destination: Itsi,
         pdu: Bits<A>,
     },
-    /// A message (SDS-TRANSFER) from a radio for the members of a group: each that is present gets a
-    /// copy, but not the radio itself.
+    /// A message (SDS-TRANSFER) from a radio to the members of a group. Each other member that is
+    /// present gets a copy.
     GroupSds {
         source: Itsi,
         group: Gtsi,
@@ -127,7 +127,7 @@ pub enum Body<A: Allocator> {
     },
     /// The item of this key was sent to its destination.
     Sent(Key),
-    /// Removes all that waits and ends at the command's moment or before.
+    /// Removes all waiting items whose deadline is the command's moment or earlier.
     Expire,
     /// Removes the item of this key.
     Delete(Key),
@@ -187,7 +187,7 @@ impl<A: Allocator> Body<A> {
         }
     }
 
-    // Whether its PDU, if it has one, has at most 2,048 bits: then all of it is in range.
+    // Whether its PDU, if it has one, has at most 2,048 bits. If so, the whole body is in range.
     fn is_short(&self) -> bool
         ensures short { IsTrue result ↔ IsShort (pdu_of self.now) }
         ensures ranges { IsTrue result → BodyInRange self.now }
@@ -226,7 +226,7 @@ impl<A: Allocator> Body<A> {
         }
     }
 
-    /// The same body with its bits under `alloc`.
+    /// A copy of the body, with its bits allocated in `alloc`.
     pub fn try_copy<B: Allocator>(&self, alloc: B) -> Result<Body<B>, AllocError>
         ensures ok { IfOk result (λ copy. copy ≡ body_under B self.now) }
         ensures err { OnErr result (IsSome (pdu_of self.now)) }
@@ -263,7 +263,7 @@ impl<A: Allocator> Body<A> {
     }
 }
 
-// What the types of their parts keep, as clauses.
+// These two state the ranges that the types of the parts keep.
 fn hold_rule(rule: &Rule)
     ensures { RuleInRange rule.now }
 {

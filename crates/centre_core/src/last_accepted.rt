@@ -14,7 +14,7 @@ use std::marker::Model;
 pub struct LastAccepted<A: Allocator> {
     /// Its sequence.
     pub sequence: Sequence,
-    /// Under which number it was accepted.
+    /// The number under which it was accepted.
     pub number: u64,
     /// The PDU of its reply.
     pub pdu: Option<Bits<A>>,
@@ -31,8 +31,8 @@ impl<A: Allocator> Model for LastAccepted<A> {
 }
 
 impl<A: Allocator> LastAccepted<A> {
-    /// The reply to the same command once more. Only its PDU takes memory.
-    pub(crate) fn again<B: Allocator>(&self, alloc: B) -> Result<Reply<B>, AllocError>
+    /// The reply to a resend of that command. Only its PDU takes memory.
+    pub(crate) fn kept_reply<B: Allocator>(&self, alloc: B) -> Result<Reply<B>, AllocError>
         ensures ok { IfOk result (λ reply. reply ≡ Kept self.now.number self.now.pdu) }
         ensures memory { OnErr result (IsTrue (is_some self.now.pdu)) }
     {
@@ -67,7 +67,7 @@ pub fn none_accepted<A: Allocator + Clone>(
     Ok(served)
 }
 
-/// Counts an accepted command, and keeps what it is answered in the place of its station. It takes no
+/// Counts an accepted command, and keeps its sequence, number and PDU in the entry of its station. It takes no
 /// memory.
 pub(crate) fn count_accepted<A: Allocator, B: Allocator>(
     served: &mut Vec<Option<LastAccepted<A>>, A>,
@@ -79,7 +79,8 @@ pub(crate) fn count_accepted<A: Allocator, B: Allocator>(
     requires station { 0 < command.now.station }
     requires place { command.now.station ≤ vec_len served.old }
     ensures count { count.new ≡ count.old + 1 }
-    ensures kept { served.new.items ≡ slice_set served.old.items (command.now.station - 1) (Some (record { sequence = command.now.sequence; number = count.old + 1; pdu = pdu })) }
+    ensures kept { served.new.items ≡ slice_set served.old.items (command.now.station - 1)
+        (Some (record { sequence = command.now.sequence; number = count.old + 1; pdu = pdu })) }
 {
     *count += 1;
     served[usize::from(command.station.number()) - 1] = Some(LastAccepted {
@@ -89,7 +90,7 @@ pub(crate) fn count_accepted<A: Allocator, B: Allocator>(
     });
 }
 
-/// The entries once more.
+/// A copy of the entries.
 pub(crate) fn copied<A: Allocator + Clone>(
     alloc: &A,
     served: &[Option<LastAccepted<A>>],
@@ -115,7 +116,7 @@ fn copied_entry<A: Allocator, B: Allocator>(
     }
 }
 
-/// A PDU once more, where there is one.
+/// A copy of a PDU, if there is one.
 pub(crate) fn copy_of<A: Allocator, B: Allocator>(
     alloc: B,
     pdu: &Option<Bits<A>>,
@@ -129,7 +130,7 @@ pub(crate) fn copy_of<A: Allocator, B: Allocator>(
     }
 }
 
-/// Bits once more.
+/// A copy of bits.
 pub(crate) fn bits_copy<A: Allocator, B: Allocator>(
     alloc: B,
     bits: &Bits<A>,

@@ -7,18 +7,18 @@ use registration::Registry;
 use std::alloc::Allocator;
 use std::marker::Model;
 
-/// The parts of a register, each by itself: what ties them is asked for where a register is made of them.
+/// The parts of a register. Each is sound by itself; `Register::from_parts` requires that they fit together.
 #[derive(Drop)]
 pub struct Parts<A: Allocator> {
-    /// Under which the register takes memory.
+    /// The allocator of the register.
     pub alloc: A,
     /// The rules and radios.
     pub registry: Registry<A>,
-    /// To which groups the radios are attached.
+    /// The groups to which the radios are attached.
     pub groups: Groups<A>,
-    /// What waits.
+    /// The waiting items.
     pub mail: Mail<A>,
-    /// What is kept of each station's last accepted command, that of station 1 first.
+    /// Each station's last accepted command, if there is one. The entry of station 1 comes first.
     pub served: Vec<Option<LastAccepted<A>>, A>,
     /// How many commands were accepted.
     pub count: u64,

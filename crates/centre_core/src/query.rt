@@ -18,7 +18,7 @@ pub enum Query {
     GroupsOf(Itsi),
     /// Which radios that are present are attached to a group.
     MembersOf(Gtsi),
-    /// What waits for a radio.
+    /// The items that wait for a radio.
     Waiting(Itsi),
     /// How many commands were accepted.
     Total,
@@ -26,13 +26,13 @@ pub enum Query {
 
 /// The answer to a query.
 #[derive(Drop)]
-pub enum Told<A: Allocator> {
-    /// The radio as the register knows it, if it does.
+pub enum QueryAnswer<A: Allocator> {
+    /// The radio, if the register has it.
     Whereabouts {
         itsi: Itsi,
         radio: Option<Radio>,
     },
-    /// The rule that serves the identity, if there is one, and the prefix that it is under.
+    /// The rule that serves the identity, if there is one, and its prefix.
     Look {
         itsi: Itsi,
         rule: Option<(Prefix, Rule)>,
@@ -47,7 +47,7 @@ pub enum Told<A: Allocator> {
         gtsi: Gtsi,
         members: Attachments<A>,
     },
-    /// What waits for a radio, in order of number, then of key.
+    /// The items that wait for a radio, in order of number, then of key.
     Waiting {
         itsi: Itsi,
         items: Items<A>,
@@ -58,7 +58,7 @@ pub enum Told<A: Allocator> {
 
 /// Attachments in order.
 ///
-/// Clauses see the list alone.
+/// Clauses model the list alone.
 #[derive(Drop)]
 pub struct Attachments<A: Allocator> {
     pub(crate) items: Vec<Attachment, A>,
@@ -82,9 +82,9 @@ impl<A: Allocator> Attachments<A> {
     }
 }
 
-/// Copies of what waits, in order.
+/// Copies of waiting items, in order.
 ///
-/// Clauses see the list alone.
+/// Clauses model the list alone.
 #[derive(Drop)]
 pub struct Items<A: Allocator> {
     pub(crate) items: Vec<Item<A>, A>,

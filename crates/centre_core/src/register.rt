@@ -4,12 +4,12 @@ ghost use Rattle.centre_core.specs.State.{empty, IsState};
 ghost use Rattle.centre_core.specs.StateRanges.{StateInRange};
 ghost use Rattle.centre_core.specs.Step.{step};
 ghost use Rattle.centre_core.specs.Memory.{needs_memory};
-ghost use Rattle.centre_core.specs.Tell.{AsksForList, tell};
+ghost use Rattle.centre_core.specs.Queries.{AsksForList, answer_to};
 ghost use Rattle.centre_core.specs.History.{is_acceptance, names};
 ghost use Rattle.centre_core.specs.Laws.{MessagesStay};
 
 use crate::tables::Tables;
-use crate::{Command, LastAccepted, Parts, Query, Reply, Told};
+use crate::{Command, LastAccepted, Parts, Query, QueryAnswer, Reply};
 use group_attach::Groups;
 use mailbox::Mail;
 use prefix_tree::TryCopy;
@@ -17,9 +17,9 @@ use registration::{Limits, Registry};
 use std::alloc::{AllocError, Allocator};
 use std::marker::Model;
 
-/// The location register and message centre as one value: rules, radios and their groups, what waits
-/// in the mail, and of each station what was answered to its last accepted command. It keeps
-/// everything under its own allocator. Each part is in its range (`laws::registers`).
+/// The location register and message centre as one value: rules, radios and their groups, the waiting items of
+/// the mail, and each station's last accepted command. It keeps everything in its own allocator. Each part is in
+/// its range (`laws::registers`).
 #[derive(Drop)]
 pub struct Register<A: Allocator> {
     tables: Tables<A>,
@@ -39,7 +39,7 @@ impl<A: Allocator> Model for Register<A> {
 }
 
 impl<A: Allocator> Register<A> {
-    /// The register of these parts, which make a state; each is in its range.
+    /// The register of these parts, which make a state and are in range.
     pub fn from_parts(parts: Parts<A>) -> Self
         requires state { IsState parts }
         requires ranges { StateInRange parts }
@@ -57,28 +57,28 @@ impl<A: Allocator> Register<A> {
         self.tables.registry()
     }
 
-    /// To which groups its radios are attached.
+    /// The groups to which its radios are attached.
     pub fn groups(&self) -> &Groups<A>
         ensures { result.now ≡ self.now.groups }
     {
         self.tables.groups()
     }
 
-    /// What waits.
+    /// The waiting items.
     pub fn mail(&self) -> &Mail<A>
         ensures { result.now ≡ self.now.mail }
     {
         self.tables.mail()
     }
 
-    /// What is kept of each station's last accepted command, that of station 1 first.
+    /// Each station's last accepted command, if there is one. The entry of station 1 comes first.
     pub fn served(&self) -> &[Option<LastAccepted<A>>]
         ensures { result.now ≡ self.now.served }
     {
         self.tables.served()
     }
 
-    // What its tables keep, as clauses.
+    // States what its tables keep.
     pub(crate) fn hold_state(&self)
         ensures state { IsState self.now }
         ensures ranges { StateInRange self.now }
@@ -110,23 +110,27 @@ impl<A: Allocator + Clone> Register<A> {
         self.tables.count()
     }
 
-    /// The answer to a query, kept under `alloc`. Only a list takes memory.
-    pub fn query<C: Allocator + Copy>(&self, alloc: C, query: &Query) -> Result<Told<C>, AllocError>
-        ensures ok { IfOk result (λ told. told ≡ tell self.now query.now) }
+    /// The answer to a query, allocated in `alloc`. Only a list takes memory.
+    pub fn query<C: Allocator + Copy>(
+        &self,
+        alloc: C,
+        query: &Query,
+    ) -> Result<QueryAnswer<C>, AllocError>
+        ensures ok { IfOk result (λ answer. answer ≡ answer_to self.now query.now) }
         ensures memory { OnErr result (AsksForList query.now) }
     {
         self.tables.query(alloc, query)
     }
 
-    /// The reply to a command, kept under `alloc`. For want of memory nothing is changed; only a command
-    /// that needs memory is answered so.
+    /// The reply to a command, allocated in `alloc`. When memory runs out, nothing is changed. Only a command that
+    /// needs memory can fail so.
     pub fn apply<B: Allocator, C: Allocator + Copy>(
         &mut self,
         alloc: C,
         command: &Command<B>,
     ) -> Result<Reply<C>, AllocError>
         ensures ok { IfOk result (λ reply. (self.new, reply) ≡ step self.old command.now) }
-        // No message is lost, but for what the command ends.
+        // No message is lost but those that the command ends.
         ensures messages { IfOk result (λ reply. MessagesStay self.old.mail self.new.mail (is_acceptance reply) (names command.now)) }
         ensures err { OnErr result (self.new ≡ self.old) }
         ensures memory { OnErr result (IsTrue (needs_memory self.old command.now)) }

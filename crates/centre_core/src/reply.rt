@@ -10,10 +10,10 @@ use std::alloc::Allocator;
 /// The answer to a command.
 #[derive(Drop)]
 pub enum Reply<A: Allocator> {
-    /// The command was accepted as the one of this number, counted from 1 over all stations. The
-    /// PDU goes back to the radio.
+    /// The command was accepted under this number, counted from 1 over all stations. The PDU goes
+    /// back to the radio.
     Accepted { number: u64, pdu: Option<Bits<A>> },
-    /// The station's last accepted command came again: its number and PDU, and nothing changed.
+    /// A resend of the station's last accepted command: its number and PDU. Nothing changed.
     Kept { number: u64, pdu: Option<Bits<A>> },
     /// Nothing changed.
     Refused(Refusal<A>),
@@ -26,13 +26,13 @@ pub enum Refusal<A: Allocator> {
     UnknownStation,
     /// The sequence is below that of the station's last accepted command.
     OldSequence { last: Sequence },
-    /// All 2 to the 62nd numbers of accepted commands are given out.
+    /// All 2 to the 62nd numbers of accepted commands are used.
     NumbersUsedUp,
-    /// The bits are no mobility management PDU that is supported.
+    /// The bits are no supported mobility management PDU.
     Pdu(MmFault),
-    /// The bits are no short data PDU that is supported.
+    /// The bits are no supported short data PDU.
     ShortData(SdsFault),
-    /// The rules or radios refuse it, and there is no PDU for the radio.
+    /// The rules or radios are not changed, and there is no PDU for the radio.
     Registration(RegFault),
     /// A location update is refused, with a D-LOCATION UPDATE REJECT for the radio.
     Location { fault: RegFault, reject: Bits<A> },

@@ -1,4 +1,4 @@
-//! Places of commands.
+//! Places of commands among those of their station.
 
 ghost use Rattle.std.specs.Prelude.{◌≡◌, ◌<◌, ◌^◌, ◌↔◌, IsSome, IfSome};
 

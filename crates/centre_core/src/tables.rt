@@ -1,4 +1,4 @@
-//! What a register holds, and what its calls make of it.
+//! The tables of a register, and the calls that change them.
 
 mod group_messages;
 mod messages;
@@ -12,16 +12,17 @@ ghost use Rattle.registration.specs.declared.fault.RegFault.TheVariants.{NoMemor
 ghost use Rattle.group_attach.specs.Attached.{groups_of};
 ghost use Rattle.group_attach.specs.Applied.{apply_refusal};
 ghost use Rattle.centre_core.specs.State.{empty, IsState};
-ghost use Rattle.centre_core.specs.Step.{step, step_new, step_mm, step_rule, step_clear, step_locate, step_detach, step_groups, accept_pdu, acknowledge_pdu, accepted, radio_located, IsOfStation, CanBeAccepted};
+ghost use Rattle.centre_core.specs.Step.{step, step_new, step_mm, step_rule, step_clear, step_locate, step_detach, step_groups};
+ghost use Rattle.centre_core.specs.Step.{accept_pdu, acknowledge_pdu, accepted, radio_located, IsOfStation, CanBeAccepted};
 ghost use Rattle.centre_core.specs.declared.command.Body.TheVariants.{Mm};
 ghost use Rattle.centre_core.specs.Memory.{needs_rule, needs_update, needs_body, needs_new, needs_memory};
-ghost use Rattle.centre_core.specs.Tell.{AsksForList, present_members, tell};
+ghost use Rattle.centre_core.specs.Queries.{AsksForList, present_members, answer_to};
 ghost use Rattle.centre_core.specs.History.{is_acceptance, names};
 ghost use Rattle.centre_core.specs.Laws.{MessagesStay};
 
 use crate::answers::{accept_pdu, acknowledge_pdu, location_refusal, registration_refusal};
 use crate::last_accepted::{LastAccepted, bits_copy, copied, count_accepted, none_accepted};
-use crate::{Attachments, Body, Command, Parts, Query, Refusal, Reply, Told};
+use crate::{Attachments, Body, Command, Parts, Query, QueryAnswer, Refusal, Reply};
 use group_attach::{Attachment, Groups};
 use identity::{Bits, Gtsi, Itsi, Prefix};
 use mailbox::Mail;
@@ -34,16 +35,16 @@ use std::marker::Model;
 /// The greatest number of an accepted command, 2 to the 62nd.
 pub const LAST_NUMBER: u64 = 1 << 62;
 
-/// What a register holds: rules, radios and their groups, what waits in the mail, and of each station
-/// what was answered to its last accepted command.
+/// The tables of a register: rules, radios and their groups, the waiting items of the mail, and each station's
+/// last accepted command.
 #[derive(Drop)]
 pub(crate) struct Tables<A: Allocator> {
     alloc: A,
     registry: Registry<A>,
     groups: Groups<A>,
     mail: Mail<A>,
-    // The entry of station 1 comes first. There is one for each station from the start, so that an
-    // accepted command is written without memory.
+    // The entry of station 1 comes first. Each station has one from the start, so that an accepted
+    // command is kept without memory.
     served: Vec<Option<LastAccepted<A>>, A>,
     count: u64,
 }
@@ -61,7 +62,7 @@ impl<A: Allocator> Model for Tables<A> {
 }
 
 impl<A: Allocator> Tables<A> {
-    // Of these parts, which make a state.
+    // The tables of these parts, which make a state.
     pub(crate) fn of(parts: Parts<A>) -> Self
         requires { IsState parts }
         ensures { result ≡ parts }
@@ -100,7 +101,7 @@ impl<A: Allocator> Tables<A> {
         &self.served
     }
 
-    // What its fields keep, as a clause.
+    // States what its fields keep.
     pub(crate) fn hold_state(&self)
         ensures { IsState self.now }
     {
@@ -109,7 +110,7 @@ impl<A: Allocator> Tables<A> {
 }
 
 impl<A: Allocator + Clone> Tables<A> {
-    // No rules, no radios, no attachments, nothing that waits and no command accepted.
+    // No rules, no radios, no attachments, no waiting items and no accepted command.
     pub(crate) fn new(alloc: A, limits: Limits) -> Result<Self, AllocError>
         ensures { IfOk result (λ tables. tables ≡ empty limits) }
     {
@@ -139,36 +140,36 @@ impl<A: Allocator + Clone> Tables<A> {
         &self,
         alloc: C,
         query: &Query,
-    ) -> Result<Told<C>, AllocError>
-        ensures ok { IfOk result (λ told. told ≡ tell self.now query.now) }
+    ) -> Result<QueryAnswer<C>, AllocError>
+        ensures ok { IfOk result (λ answer. answer ≡ answer_to self.now query.now) }
         ensures memory { OnErr result (AsksForList query.now) }
     {
         match *query {
-            Query::Whereabouts(itsi) => Ok(Told::Whereabouts {
+            Query::Whereabouts(itsi) => Ok(QueryAnswer::Whereabouts {
                 itsi,
                 radio: self.registry.where_is(itsi),
             }),
-            Query::Look(itsi) => Ok(Told::Look {
+            Query::Look(itsi) => Ok(QueryAnswer::Look {
                 itsi,
                 rule: self.registry.longest_rule(itsi.number()),
             }),
-            Query::GroupsOf(itsi) => Ok(Told::Groups {
+            Query::GroupsOf(itsi) => Ok(QueryAnswer::Groups {
                 itsi,
                 groups: Attachments {
                     items: self.attachments_of(alloc, itsi)?,
                 },
             }),
-            Query::MembersOf(gtsi) => Ok(Told::Members {
+            Query::MembersOf(gtsi) => Ok(QueryAnswer::Members {
                 gtsi,
                 members: Attachments {
                     items: self.present_members(alloc, gtsi)?,
                 },
             }),
-            Query::Waiting(itsi) => Ok(Told::Waiting {
+            Query::Waiting(itsi) => Ok(QueryAnswer::Waiting {
                 itsi,
                 items: self.waiting(alloc, itsi)?,
             }),
-            Query::Total => Ok(Told::Total(self.count)),
+            Query::Total => Ok(QueryAnswer::Total(self.count)),
         }
     }
 
@@ -202,7 +203,7 @@ impl<A: Allocator + Clone> Tables<A> {
         command: &Command<B>,
     ) -> Result<Reply<C>, AllocError>
         ensures ok { IfOk result (λ reply. (self.new, reply) ≡ step self.old command.now) }
-        // No message is lost, but for what the command ends.
+        // No message is lost but those that the command ends.
         ensures messages { IfOk result (λ reply. MessagesStay self.old.mail self.new.mail (is_acceptance reply) (names command.now)) }
         ensures err { OnErr result (self.new ≡ self.old) }
         ensures memory { OnErr result (IsTrue (needs_memory self.old command.now)) }
@@ -231,13 +232,13 @@ impl<A: Allocator + Clone> Tables<A> {
                 }));
             }
             if command.sequence == last.sequence {
-                return last.again(alloc);
+                return last.kept_reply(alloc);
             }
         }
         self.apply_new(alloc, command)
     }
 
-    // A command that is new to its station.
+    // A command whose sequence is new to its station.
     fn apply_new<B: Allocator, C: Allocator + Copy>(
         &mut self,
         alloc: C,
@@ -349,8 +350,8 @@ impl<A: Allocator + Clone> Tables<A> {
         Ok(Reply::Accepted { number, pdu })
     }
 
-    // A radio that is served is located, and its update ends attachments, of which a new radio has none. No more is
-    // asked than whether there is room for it.
+    // Locates a radio that a rule serves, where there is room for it. The update ends attachments, of which a new radio
+    // has none.
     fn place(
         &mut self,
         itsi: Itsi,
@@ -368,8 +369,8 @@ impl<A: Allocator + Clone> Tables<A> {
         Ok(())
     }
 
-    // A location update's acceptance, once to keep and once to answer; none for a type that is never
-    // accepted.
+    // The PDU that accepts a location update, twice: one copy to keep and one to answer. None for a type that is
+    // never accepted.
     fn accept_pdus<C: Allocator>(
         &self,
         alloc: C,
@@ -413,7 +414,7 @@ impl<A: Allocator + Clone> Tables<A> {
         })
     }
 
-    // An acknowledgement, once to keep and once to answer.
+    // The acknowledgement, twice: one copy to keep and one to answer.
     fn acknowledge_pdus<C: Allocator + Copy>(
         &self,
         alloc: C,
@@ -439,7 +440,7 @@ impl<A: Allocator + Clone> Tables<A> {
         Reply::Accepted { number, pdu: None }
     }
 
-    // Counts an accepted command and keeps its reply, without memory. The number is its own.
+    // Counts an accepted command and keeps its entry, without memory. The result is its number.
     fn accept<B: Allocator>(&mut self, command: &Command<B>, pdu: Option<Bits<A>>) -> u64
         requires { CanBeAccepted self.old command.now }
         ensures number { result ≡ self.old.count + 1 }

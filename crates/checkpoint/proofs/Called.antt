@@ -17,30 +17,30 @@ use Rattle.checkpoint.specs.Calls.{root_calls, root_calls_by}
 -- ---- the root is read, and closed where it is open
 
 module _ (side : Side) (old : View) where
-  abbrev looks : List Call
-  looks = Read (root_at side) ∷ []
+  abbrev read_calls : List Call
+  read_calls = Read (root_at side) ∷ []
 
-  where_open : IsOpen (sector old.reads (root_at side)) → root_calls side old.reads ≡ looks ++ Write (root_at side) closed_gate ∷ []
+  where_open : IsOpen (sector old.reads (root_at side)) → root_calls side old.reads ≡ read_calls ++ Write (root_at side) closed_gate ∷ []
   where_open is = let b : eqb (slice_index (sector old.reads (root_at side)) 0) 1 ≡ true = grind (arith, nat_tests) in rw b refl
 
-  where_closed : IsClosed (sector old.reads (root_at side)) → root_calls side old.reads ≡ looks
+  where_closed : IsClosed (sector old.reads (root_at side)) → root_calls side old.reads ≡ read_calls
   where_closed is = let b : eqb (slice_index (sector old.reads (root_at side)) 0) 1 ≡ false = grind (arith, nat_tests) in rw b refl
 
   pub calls_in_read : (new : View) (result : Result Unit DiskError) → IsCalled old new (Read (root_at side)) result → HasMade old new (root_calls side old.reads)
   calls_in_read new result called = made_on old old new [] _ (Read (root_at side)) result (sym (append-nil old.calls)) called
 
-  pub calls_at_closed : (new : View) → IsClosed (sector old.reads (root_at side)) → new.calls ≡ old.calls ++ looks → new.calls ≡ old.calls ++ root_calls side old.reads
+  pub calls_at_closed : (new : View) → IsClosed (sector old.reads (root_at side)) → new.calls ≡ old.calls ++ read_calls → new.calls ≡ old.calls ++ root_calls side old.reads
   calls_at_closed new closed is = rw (where_closed closed) is
 
-  pub made_at_closed : (new : View) → IsClosed (sector old.reads (root_at side)) → new.calls ≡ old.calls ++ looks → HasMade old new (root_calls side old.reads)
-  made_at_closed new closed is = rw (where_closed closed) (record { made = looks; left = []; front = refl; now = is })
+  pub made_at_closed : (new : View) → IsClosed (sector old.reads (root_at side)) → new.calls ≡ old.calls ++ read_calls → HasMade old new (root_calls side old.reads)
+  made_at_closed new closed is = rw (where_closed closed) (record { made = read_calls; left = []; prefix = refl; now = is })
 
-  module _ (mid : View) (opened : IsOpen (sector old.reads (root_at side))) (were : mid.calls ≡ old.calls ++ looks) where
+  module _ (mid : View) (opened : IsOpen (sector old.reads (root_at side))) (were : mid.calls ≡ old.calls ++ read_calls) where
     pub calls_in_root : (new : View) (result : Result Unit DiskError) → IsCalled mid new (Write (root_at side) closed_gate) result → HasMade old new (root_calls side old.reads)
-    calls_in_root new result called = rw (where_open opened) (made_on old mid new looks [] (Write (root_at side) closed_gate) result were called)
+    calls_in_root new result called = rw (where_open opened) (made_on old mid new read_calls [] (Write (root_at side) closed_gate) result were called)
 
     pub calls_at_root : (new : View) → new.calls ≡ mid.calls ++ Write (root_at side) closed_gate ∷ [] → new.calls ≡ old.calls ++ root_calls side old.reads
-    calls_at_root new is = rw (where_open opened) (all_made old.calls mid.calls new.calls looks (Write (root_at side) closed_gate) were is)
+    calls_at_root new is = rw (where_open opened) (all_made old.calls mid.calls new.calls read_calls (Write (root_at side) closed_gate) were is)
 
 -- ---- whatever the root reads as
 
@@ -59,7 +59,7 @@ module _ (side : Side) (old : View) where
   root_left new is = (false, is)
 
   pub root_left_made : (new : View) → new.calls ≡ old.calls ++ Read (root_at side) ∷ [] → MayMakeRoot new
-  root_left_made new is = (false, record { made = Read (root_at side) ∷ []; left = []; front = refl; now = is })
+  root_left_made new is = (false, record { made = Read (root_at side) ∷ []; left = []; prefix = refl; now = is })
 
   module _ (mid : View) (were : mid.calls ≡ old.calls ++ Read (root_at side) ∷ []) where
     pub root_written : (new : View) (result : Result Unit DiskError) → IsCalled mid new (Write (root_at side) closed_gate) result → MayMakeRoot new
@@ -68,7 +68,7 @@ module _ (side : Side) (old : View) where
     pub root_shut : (new : View) → new.calls ≡ mid.calls ++ Write (root_at side) closed_gate ∷ [] → MakesRoot new
     root_shut new is = (true, all_made old.calls mid.calls new.calls (Read (root_at side) ∷ []) (Write (root_at side) closed_gate) were is)
 
--- ---- a call, and a sync behind it
+-- ---- a call, and a sync after it
 
 module _ (old mid : View) (before : List Call) (call : Call) (were : mid.calls ≡ old.calls ++ before) where
   pub calls_in_call : (new : View) (result : Result Unit DiskError) → IsCalled mid new call result → HasMade old new (before ++ call ∷ Sync ∷ [])
@@ -95,7 +95,7 @@ module _ (old mid : View) (before rows : List Call) where
     calls_in_rows new has = made_of_more old new (before ++ rows) (Sync ∷ []) (record {
       made = before ++ has.made;
       left = has.left;
-      front = ap (λ (some : List Call). before ++ some) has.front ∙ sym (append_assoc before has.made has.left);
+      prefix = ap (λ (some : List Call). before ++ some) has.prefix ∙ sym (append_assoc before has.made has.left);
       now = has.now ∙ ap (λ (some : List Call). some ++ has.made) were ∙ append_assoc old.calls before has.made;
     })
 

@@ -10,16 +10,16 @@ use Rattle.gated_journal.specs.Calls.{closed_gate}
 use Rattle.checkpoint.specs.declared.layout.Layout.{Layout}
 use Rattle.checkpoint.specs.declared.side.Side.{Side}
 use Rattle.checkpoint.specs.Layout.{disk_size, half_at, other_of, root_at, slot_at}
-use Rattle.checkpoint.specs.Standing.{Base, Held, InEach, IsShut, Stands}
+use Rattle.checkpoint.specs.OnSide.{Base, Held, InEach, IsShut, IsOnSide}
 use Rattle.checkpoint.proofs.Apart.{lies}
-use Rattle.checkpoint.proofs.Spared.{below_older, below_same, closed_as, gate_torn, left_each, older_each, root_torn, stands_on}
+use Rattle.checkpoint.proofs.Spared.{below_older, below_same, closed_as, gate_torn, left_each, older_each, root_torn, stays_on_side}
 
 closed_zeros : IsClosed closed_gate
 closed_zeros is = cc
 
 module _ {A : Type 0} (layout : Layout) (s : Side) (form : Form) (base : Base) (held : Held A) where
   abbrev P : List (List ℕ) → Type 0
-  P = Stands layout s form base held
+  P = IsOnSide layout s form base held
 
   abbrev o : Side
   o = other_of s
@@ -38,7 +38,7 @@ module _ {A : Type 0} (layout : Layout) (s : Side) (form : Form) (base : Base) (
         let older = older_each layout s form base held mid sound_mid (omega (arith, room, same)) each_mid opened_mid in
         write_on old mid new P (root_at o) one result (in_read (Ok tt) has) sound_mid (omega (arith, room, same, places.root_in)) wrote (λ image torn.
         let slot : sector image (slot_at layout o) ≡ sector torn.0 (slot_at layout o) = torn.2.others (slot_at layout o) (inr (omega (arith, places.root))) in
-        stands_on layout s form base held torn.0 image (each_mid torn.0 torn.1) (root_torn layout o torn.0 image torn.2) (below_older layout o base.0 torn.0 image slot (older torn.0 torn.1)))
+        stays_on_side layout s form base held torn.0 image (each_mid torn.0 torn.1) (root_torn layout o torn.0 image torn.2) (below_older layout o base.0 torn.0 image slot (older torn.0 torn.1)))
 
   -- ---- the gate
 
@@ -49,7 +49,7 @@ module _ {A : Type 0} (layout : Layout) (s : Side) (form : Form) (base : Base) (
         let was = left_each old mid P before sound torn.0 torn.1 in
         let root : sector image (root_at o) ≡ sector torn.0 (root_at o) = torn.2.others (root_at o) (inl (omega (arith, places.root, places.slot))) in
         let slot : sector image (slot_at layout o) ≡ sector torn.0 (slot_at layout o) = torn.2.others (slot_at layout o) (inl (omega (arith, places.slot, places.some))) in
-        stands_on layout s form base held torn.0 image was (gate_torn layout o torn.0 image torn.2) (below_same layout o base.0 torn.0 image root slot was.below)
+        stays_on_side layout s form base held torn.0 image was (gate_torn layout o torn.0 image torn.2) (below_same layout o base.0 torn.0 image root slot was.below)
 
     inside : half_at layout o < mid.sectors
     inside = let places = lies layout o in let some = layout.in_range.fewest in omega (arith, places.half, room, some)

@@ -1,4 +1,4 @@
--- A slot that begins with an image tells its epoch in its first sector.
+-- A slot that begins with an image states its epoch in its first sector.
 use Rattle.std.proofs.Common.{◌≡◌, ℕ, suc, ◌+◌, ◌-◌, ◌<◌, Bool, true, false, cond, List, [], ◌∷◌, Option, Some, None, Result, Ok, refl, sym, ap, ◌∙◌, arith}
 use Rattle.std.specs.Prelude.{map as each}
 use Rattle.registration.specs.declared.limits.Limits.{Limits}
@@ -12,7 +12,7 @@ use Rattle.image_rows.specs.Image.{slot_of}
 use Rattle.checkpoint.specs.declared.layout.Layout.{Layout}
 use Rattle.checkpoint.specs.declared.side.Side.{Side}
 use Rattle.checkpoint.specs.Layout.{slot_at, slot_size}
-use Rattle.checkpoint.specs.Standing.{Base, IsInSlot, epoch_of, sectors_from, slot_epoch}
+use Rattle.checkpoint.specs.OnSide.{Base, IsInSlot, epoch_of, sectors_from, slot_epoch}
 
 some_is : {X : Type 0} (x y : X) → Some x ≡ Some y → x ≡ y
 some_is x y e = cc
@@ -77,9 +77,9 @@ first_epoch limits (Some row) rows image e =
           rw header.1 (ap Some (sym (on_epoch header.0 n (read_from 1 n rows) image header.2 (read_epoch 1 header.0 n rows image header.2) on)))
     ] refl e
 
-pub slot_tells : (layout : Layout) (s : Side) (base : Base) (image : List (List ℕ)) → 0 < slot_size layout → IsInSlot layout s base image → slot_epoch layout s image ≡ Some base.0
+pub slot_has_epoch : (layout : Layout) (s : Side) (base : Base) (image : List (List ℕ)) → 0 < slot_size layout → IsInSlot layout s base image → slot_epoch layout s image ≡ Some base.0
 unfolding sectors_from
-slot_tells layout s base image some is =
+slot_has_epoch layout s base image some is =
     let size : slot_size layout ≡ suc (slot_size layout - 1) = omega (arith, some) in
     first_epoch layout.limits (row_in (sector image (slot_at layout s))) (each row_in (sectors_from image (slot_at layout s + 1) (slot_size layout - 1))) base
     (ap (λ (n : ℕ). slot_of layout.limits (sectors_from image (slot_at layout s) n)) (sym size) ∙ is)

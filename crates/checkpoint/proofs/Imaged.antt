@@ -1,4 +1,4 @@
--- An image is written behind a closed root.
+-- An image is written after a closed root.
 use Rattle.std.proofs.Common.{◌≡◌, ◌⊎◌, inl, inr, ℕ, zero, suc, ◌+◌, ◌-◌, ◌<◌, ◌≤◌, List, [], ◌∷◌, ◌++◌, length, Result, Ok, refl, sym, ap, ◌∙◌, arith}
 use Rattle.sector_disk.specs.Disk.{IsSound, View, HasSynced, sector}
 use Rattle.sector_disk.specs.Run.{IsTornImage, LeavesOnly}
@@ -19,12 +19,12 @@ use Rattle.checkpoint.specs.declared.layout.Layout.{Layout}
 use Rattle.checkpoint.specs.declared.side.Side.{Side}
 use Rattle.checkpoint.specs.Layout.{half_at, half_end, other_of, root_at, slot_at, slot_size}
 use Rattle.checkpoint.specs.Calls.{row_sector}
-use Rattle.checkpoint.specs.Standing.{Base, Held, InEach, IsReady, IsShut, Stands, form_told, fresh, sectors_from}
+use Rattle.checkpoint.specs.OnSide.{Base, Held, InEach, IsReady, IsShut, IsOnSide, stated_form, fresh, sectors_from}
 use Rattle.gated_journal.specs.declared.form.Form.{Form}
 use Rattle.gated_journal.specs.declared.form.Form.TheVariants.{Numbered}
 use Rattle.gated_journal.proofs.Chain.{last_gate}
 use Rattle.checkpoint.proofs.Apart.{lies}
-use Rattle.checkpoint.proofs.Spared.{closed_as, left_each, slot_torn, stands_on}
+use Rattle.checkpoint.proofs.Spared.{closed_as, left_each, slot_torn, stays_on_side}
 
 -- the rows of an image have room in a slot
 pub rows_have_room : (layout : Layout) (epoch : ℕ) (state : State) → IsState state → state.registered.limits ≡ layout.limits → length (rows_of epoch state) ≤ slot_size layout
@@ -51,26 +51,26 @@ sectors_are image at (x ∷ xs) are =
     let rest : sectors_from image (at + 1) (length xs) ≡ xs = sectors_are image (at + 1) xs (λ k lt. let there : at + suc k ≡ at + 1 + k = omega arith in rw there at (are (suc k) (omega (arith, lt)))) in
     rw (first, rest) refl
 
--- behind the header that is written the records are numbered
-header_tells : (epoch : ℕ) (state : State) → form_told (row_sector (epoch, state) 0) ≡ Numbered
-header_tells epoch state = rw (header_is_tagged (header_of epoch state)) refl
+-- after the header that is written the records are numbered
+header_form : (epoch : ℕ) (state : State) → stated_form (row_sector (epoch, state) 0) ≡ Numbered
+header_form epoch state = rw (header_is_tagged (header_of epoch state)) refl
 
--- sectors that were written are the image, and behind it the records are numbered
+-- sectors that were written are the image, and after it the records are numbered
 pub written_slot : (layout : Layout) (at epoch : ℕ) (state : State) (image : List (List ℕ)) → IsState state → StateInRange state → state.registered.limits ≡ layout.limits → 0 < epoch → epoch ≤ last_epoch
-    → ((k : ℕ) → k < length (rows_of epoch state) → sector image (at + k) ≡ row_sector (epoch, state) k) → (slot_of layout.limits (sectors_from image at (slot_size layout)) ≡ Ok (epoch, state)) × (form_told (sector image at) ≡ Numbered)
+    → ((k : ℕ) → k < length (rows_of epoch state) → sector image (at + k) ≡ row_sector (epoch, state) k) → (slot_of layout.limits (sectors_from image at (slot_size layout)) ≡ Ok (epoch, state)) × (stated_form (sector image at) ≡ Numbered)
 written_slot layout at epoch state image is ranges limits some most are =
     let n = length (rows_of epoch state) in
     let fit = rows_have_room layout epoch state is limits in
     let long : length (sectors_of epoch state) ≡ n = length_each sector_of (rows_of epoch state) in
     let size : slot_size layout ≡ length (sectors_of epoch state) + (slot_size layout - n) = omega (arith, fit, long) in
-    let front : sectors_from image at (length (sectors_of epoch state)) ≡ sectors_of epoch state = sectors_are image at (sectors_of epoch state) (λ k lt. are k (omega (arith, lt, long))) in
-    let behind = sectors_from image (at + length (sectors_of epoch state)) (slot_size layout - n) in
-    let whole : sectors_from image at (slot_size layout) ≡ sectors_of epoch state ++ behind =
-    ap (sectors_from image at) size ∙ sectors_split image at (length (sectors_of epoch state)) (slot_size layout - n) ∙ ap (λ (l : List (List ℕ)). l ++ behind) front in
-    let read : slot_of state.registered.limits (sectors_of epoch state ++ behind) ≡ Ok (epoch, state) = written_is_image epoch state behind some most is ranges in
+    let prefix : sectors_from image at (length (sectors_of epoch state)) ≡ sectors_of epoch state = sectors_are image at (sectors_of epoch state) (λ k lt. are k (omega (arith, lt, long))) in
+    let following = sectors_from image (at + length (sectors_of epoch state)) (slot_size layout - n) in
+    let whole : sectors_from image at (slot_size layout) ≡ sectors_of epoch state ++ following =
+    ap (sectors_from image at) size ∙ sectors_split image at (length (sectors_of epoch state)) (slot_size layout - n) ∙ ap (λ (l : List (List ℕ)). l ++ following) prefix in
+    let read : slot_of state.registered.limits (sectors_of epoch state ++ following) ≡ Ok (epoch, state) = written_is_image epoch state following some most is ranges in
     let here : at + 0 ≡ at = omega arith in
     let header : sector image at ≡ row_sector (epoch, state) 0 = rw here at (are 0 (omega arith)) in
-    (ap (slot_of layout.limits) whole ∙ ap (λ (l : Limits). slot_of l (sectors_of epoch state ++ behind)) (sym limits) ∙ read, ap form_told header ∙ header_tells epoch state)
+    (ap (slot_of layout.limits) whole ∙ ap (λ (l : Limits). slot_of l (sectors_of epoch state ++ following)) (sym limits) ∙ read, ap stated_form header ∙ header_form epoch state)
 
 -- ---- the rows are written
 
@@ -78,16 +78,16 @@ module _ (layout : Layout) (s : Side) (old mid : View) (shut : IsShut layout (ot
   abbrev o : Side
   o = other_of s
 
-  module _ {A : Type 0} (form : Form) (base : Base) (held : Held A) (before : LeavesOnly old mid (Stands layout s form base held)) (sound : IsSound mid) where
+  module _ {A : Type 0} (form : Form) (base : Base) (held : Held A) (before : LeavesOnly old mid (IsOnSide layout s form base held)) (sound : IsSound mid) where
     abbrev P : List (List ℕ) → Type 0
-    P = Stands layout s form base held
+    P = IsOnSide layout s form base held
 
     at_slot : (image : List (List ℕ)) → IsTornImage mid (slot_at layout o) n image → P image
     at_slot image torn =
         let places = lies layout o in
         let was = left_each old mid P before sound torn.0 torn.1 in
         let root : sector image (root_at o) ≡ sector mid.reads (root_at o) = torn.2.others (root_at o) (inl places.root) ∙ durable_image mid shut.durable torn.0 torn.1 (root_at o) in
-        stands_on layout s form base held torn.0 image was (slot_torn layout o torn.0 image n few torn.2) (inl (closed_as (sector mid.reads (root_at o)) (sector image (root_at o)) root shut.root))
+        stays_on_side layout s form base held torn.0 image was (slot_torn layout o torn.0 image n few torn.2) (inl (closed_as (sector mid.reads (root_at o)) (sector image (root_at o)) root shut.root))
 
     pub in_rows : (result : Result Unit DiskError) → HasFilled mid new (slot_at layout o) n bytes result → LeavesOnly old new P
     in_rows result filled = run_on old mid new P (IsTornImage mid (slot_at layout o) n) before filled.crash at_slot

@@ -9,5 +9,5 @@ pub mod Switched
 pub mod Walked
 pub mod Worked
 pub mod Readback
-pub mod Looks
+pub mod ReadCalls
 pub mod NextRows

@@ -1,4 +1,4 @@
--- Rows written behind those that are written.
+-- Rows written after those that are written.
 use Rattle.std.proofs.Common.{◌≡◌, ℕ, ◌+◌, ◌-◌, ◌<◌, ◌≤◌, List, [], ◌∷◌, ◌++◌, length, Result, Ok, sym, ap, subst, ◌∙◌, arith}
 use Rattle.std.specs.Result.{IsErr}
 use Rattle.std.proofs.lemmas.List.{append-nil}
@@ -70,4 +70,4 @@ module _ (epoch : ℕ) (state : State) (at first : ℕ) where
     pub all_have : (old new : View) → new.calls ≡ old.calls ++ writes (at + first) (written - first) bytes → HasMade old new (writes (at + first) (next_rows epoch state first) bytes)
     all_have old new has =
         let calls = writes (at + first) (next_rows epoch state first) bytes in
-        record { made = calls; left = []; front = sym (append-nil calls); now = all_called old.calls new.calls has }
+        record { made = calls; left = []; prefix = sym (append-nil calls); now = all_called old.calls new.calls has }

@@ -10,10 +10,10 @@ use Rattle.registration.specs.declared.limits.Limits.{Limits}
 use Rattle.centre_core.specs.State.{State}
 use Rattle.image_rows.specs.Rows.{Row, HeaderRow, RuleRow, RadioRow, MailRow, ServedRow, Header, RowInRange, rows_of}
 use Rattle.image_rows.specs.RowReading.{row_in}
-use Rattle.image_rows.specs.Loading.{◌>>=◌, Loading, all_done, all_taken, begin, begun, finished, finished_by, header_may, mail_may, put, radio_may, row_taken, rule_may, served_may, stood_for, take_by, taken_mail, taken_radio, taken_rule, taken_served}
+use Rattle.image_rows.specs.Loading.{◌>>=◌, Loading, all_done, all_taken, begin, begun, finished, finished_by, header_may, mail_may, put, radio_may, row_taken, rule_may, served_may, state_of_rows, take_by, taken_mail, taken_radio, taken_rule, taken_served}
 use Rattle.image_rows.specs.Slot.{or_later, read_from, with_row}
 use Rattle.command_bytes.proofs.Steps.{some_where}
-use Rattle.image_rows.proofs.Exactly.{bind_some, some_is, stood_only}
+use Rattle.image_rows.proofs.Exactly.{bind_some, some_is, only_these_rows}
 use Rattle.image_rows.proofs.Rules.{all_taken-append}
 use Rattle.image_rows.proofs.Settled.{row_is_spelt}
 use Rattle.image_rows.specs.Image.{slot_of}
@@ -22,7 +22,7 @@ use Rattle.checkpoint.specs.declared.read_fault.ReadFault.{ReadFault}
 use Rattle.checkpoint.specs.declared.read_fault.ReadFault.TheVariants.{Damaged}
 use Rattle.checkpoint.specs.declared.side.Side.{Side}
 use Rattle.checkpoint.specs.Layout.{disk_size, slot_at, slot_size}
-use Rattle.checkpoint.specs.Standing.{Base, sectors_from, slot_in}
+use Rattle.checkpoint.specs.OnSide.{Base, sectors_from, slot_in}
 use Rattle.image_rows.specs.Held.{taken_from}
 use Rattle.checkpoint.proofs.Apart.{lies}
 
@@ -36,7 +36,7 @@ pub some_whole : (o : Option Base) → true ≡ is_some o → (image : Base) × 
 some_whole None e = absurd cc
 some_whole (Some image) e = (image, refl)
 
--- the image of which it is told
+-- the image of which it is stated
 pub of_whole : (o : Option Base) (image : Base) (P : Base → Type 0) → o ≡ Some image → IfSome o P → P image
 of_whole None image P e has = absurd cc
 of_whole (Some last) image P e has = subst P (some_is last image e) has
@@ -122,8 +122,8 @@ module _ (reads : List (List ℕ)) (first size : ℕ) where
     rest_next n is = stepped ∙ ap (λ r. with_row k r (λ m. read_from (k + 1) m (each row_in (sectors_from reads (first + (k + 1)) (size - (k + 1)))))) is
 
     -- where the next one is good, no bad one lies before or at it
-    pub bad_behind : IsSome (next_taken k l) → (place : ℕ) → rest_of k l ≡ Err place → k + 1 ≤ place
-    bad_behind good place e =
+    pub bad_after : IsSome (next_taken k l) → (place : ℕ) → rest_of k l ≡ Err place → k + 1 ≤ place
+    bad_after good place e =
         elim (next_taken k l) as (λ r. IsSome r → with_row k r (λ n. read_from (k + 1) n (each row_in (sectors_from reads (first + (k + 1)) (size - (k + 1))))) ≡ Err place → k + 1 ≤ place) [
           | None ↦ λ none on. absurd cc
           | Some n ↦ λ some on. not_before_or (k + 1) n (each row_in (sectors_from reads (first + (k + 1)) (size - (k + 1)))) place on
@@ -216,6 +216,6 @@ whole_limits l image e = finished_state l.header l.state image e
 -- once all rows came, they are those of the image
 pub all_came : (limits : Limits) (k : ℕ) (l : Loading) (image : Base) → finished l ≡ Some image → HasTaken limits k l → k ≡ length (rows_of image.0 image.1)
 all_came limits k l image whole has =
-    let stands : stood_for limits has.rows ≡ Some image = ap (λ r. r >>= finished) has.taken ∙ whole in
-    let only = stood_only limits has.rows image.0 image.1 has.in_range stands in
+    let on_side : state_of_rows limits has.rows ≡ Some image = ap (λ r. r >>= finished) has.taken ∙ whole in
+    let only = only_these_rows limits has.rows image.0 image.1 has.in_range on_side in
     sym has.so_many ∙ ap (λ (rows : List Row). length rows) only.0

@@ -13,7 +13,7 @@ use Rattle.image_rows.specs.Image.{sectors_of}
 use Rattle.checkpoint.specs.declared.layout.Layout.{Layout}
 use Rattle.checkpoint.specs.declared.side.Side.{Side}
 use Rattle.checkpoint.specs.Layout.{half_at, root_at, slot_at}
-use Rattle.checkpoint.specs.Standing.{Base}
+use Rattle.checkpoint.specs.OnSide.{Base}
 
 -- ---- a side is closed
 

@@ -1,8 +1,8 @@
--- How large a half of a journal may be.
+-- How large a half of the journal may be.
 use Rattle.std.specs.Prelude.{◌≤◌}
 use Rattle.sector_disk.specs.Numbers.{Sectors}
 
--- the fewest and the most sectors of a half
+-- the fewest sectors of a half
 abbrev pub fewest_sectors : Sectors
 fewest_sectors = 38
 
@@ -10,7 +10,7 @@ fewest_sectors = 38
 abbrev pub most_sectors : Sectors
 most_sectors = 65536
 
--- a half has so many
+-- a half may have so many sectors
 pub record IsHalfSize (journal : Sectors) : Type 0 where
   pub fewest : fewest_sectors ≤ journal
   pub most : journal ≤ most_sectors

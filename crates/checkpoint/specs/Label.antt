@@ -20,8 +20,9 @@ label_size = 30
 -- the name, the number of the layout, the limits, and how many sectors a half has
 unfoldable pub label_text : Layout → List Byte
 label_text layout =
-    name ++ big 2 layout_number ++ big 4 layout.limits.rules ++ big 4 layout.limits.radios ++ big 4 layout.limits.mail ++ big 4 layout.limits.stations ++ big 4 layout.journal
+    name ++ big 2 layout_number ++ big 4 layout.limits.rules ++ big 4 layout.limits.radios ++ big 4 layout.limits.mail
+    ++ big 4 layout.limits.stations ++ big 4 layout.journal
 
--- a sector begins with the label of this layout; what stands behind it is ignored
+-- a sector begins with the label of this layout; what follows it is ignored
 abbrev pub IsLabel : Layout → List Byte → Type 0
 IsLabel layout bytes = take label_size bytes ≡ label_text layout

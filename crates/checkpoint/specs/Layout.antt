@@ -33,10 +33,10 @@ abbrev pub half_at : Layout → Side → Sector
 half_at layout side.A = 3 + 2 * slot_size layout
 half_at layout side.B = 3 + 2 * slot_size layout + layout.journal
 
--- the sector after its last
+-- the sector after the last one of a side's half
 abbrev pub half_end : Layout → Side → Sector
 half_end layout side = half_at layout side + layout.journal
 
--- how many sectors a disk has at least
+-- the fewest sectors that a disk may have
 abbrev pub disk_size : Layout → Sectors
 disk_size layout = 3 + 2 * slot_size layout + 2 * layout.journal

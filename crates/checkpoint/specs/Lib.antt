@@ -1,7 +1,7 @@
 pub mod Half
 pub mod Layout
 pub mod Label
-pub mod Standing
+pub mod OnSide
 pub mod Worked
 pub mod Calls
 pub mod Progress

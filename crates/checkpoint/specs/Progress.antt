@@ -1,8 +1,12 @@
 -- How far the rows of an image are written, and the calls of the disk that write the next ones.
-use Rattle.std.specs.Prelude.{◌≡◌, ℕ, ◌+◌, ◌-◌, ◌≤◌, List, drop, length, min}
+use Rattle.std.specs.Prelude.{◌≡◌, ℕ, ◌+◌, ◌-◌, ◌≤◌, List, Result, drop, length, min}
 use Rattle.identity.specs.Numbers.{Byte}
 use Rattle.prefix_tree.specs.Following.{one_by_one}
+use Rattle.sector_disk.specs.Numbers.{Sector}
+use Rattle.sector_disk.specs.Disk.{View}
+use Rattle.sector_disk.specs.Filling.{HasFilled}
 use Rattle.sector_disk.specs.Run.{writes}
+use Rattle.sector_disk.specs.declared.disk.DiskError.{DiskError}
 use Rattle.sector_disk.specs.declared.record.Call.{Call}
 use Rattle.centre_core.specs.State.{State}
 use Rattle.image_rows.specs.Numbers.{Epoch}
@@ -10,7 +14,7 @@ use Rattle.image_rows.specs.Rows.{rows_of}
 use Rattle.image_rows.specs.Walking.{place_of, row_after}
 use Rattle.checkpoint.specs.Calls.{row_sector}
 use Rattle.checkpoint.specs.Layout.{slot_at}
-use Rattle.checkpoint.specs.Standing.{Base}
+use Rattle.checkpoint.specs.OnSide.{Base}
 use Rattle.checkpoint.specs.declared.layout.Layout.{Layout}
 use Rattle.checkpoint.specs.declared.progress.Progress.{Progress}
 use Rattle.checkpoint.specs.declared.side.Side.{Side}
@@ -22,7 +26,8 @@ most_rows = 8
 -- So many rows of the register's image are written, and the others follow the place of the last one.
 pub record IsProgress (epoch : Epoch) (state : State) (progress : Progress) : Type 0 where
   pub few : progress.written ≤ length (rows_of epoch state)
-  pub on : one_by_one (row_after epoch state) place_of (length (rows_of epoch state) + 1 - progress.written) progress.last ≡ drop progress.written (rows_of epoch state)
+  pub on : one_by_one (row_after epoch state) place_of (length (rows_of epoch state) + 1 - progress.written) progress.last
+      ≡ drop progress.written (rows_of epoch state)
 
 -- how many rows are written after the next call
 abbrev pub written_after : Epoch → State → ℕ → ℕ
@@ -36,6 +41,14 @@ next_rows epoch state written = written_after epoch state written - written
 abbrev pub next_row : Base → ℕ → ℕ → List Byte
 next_row base written k = row_sector base (written + k)
 
--- each of them is written once to the side's slot, in order
+-- each of them is written once, in order, to the slot that begins with this sector
+abbrev pub next_calls_at : Sector → Base → ℕ → List Call
+next_calls_at at base written = writes (at + written) (next_rows base.0 base.1 written) (next_row base written)
+
+-- and to the slot of a side
 abbrev pub next_calls : Layout → Side → Base → ℕ → List Call
-next_calls layout side base written = writes (slot_at layout side + written) (next_rows base.0 base.1 written) (next_row base written)
+next_calls layout side base written = next_calls_at (slot_at layout side) base written
+
+-- what a stop leaves of these writes, and what a read then gives
+abbrev pub HasFilledNext : View → View → Sector → Base → ℕ → Result Unit DiskError → Type 0
+HasFilledNext old new at base written result = HasFilled old new (at + written) (next_rows base.0 base.1 written) (next_row base written) result

@@ -1,4 +1,4 @@
--- A disk as it is worked out by hand.
+-- A disk worked out by hand.
 use Rattle.std.specs.Prelude.{◌≡◌, [], ◌∷◌, ◌+◌}
 use Rattle.checkpoint.specs.declared.layout.Layout.{Layout}
 use Rattle.checkpoint.specs.declared.side.Side.TheVariants as side
@@ -21,7 +21,8 @@ pub record IsWorkedDisk (layout : Layout) : Type 0 where
   pub half_a : half_at layout side.A ≡ 589
   pub half_b : half_at layout side.B ≡ 628
   pub all : disk_size layout ≡ 667
-  pub label : label_text layout ≡ 84 ∷ 69 ∷ 84 ∷ 82 ∷ 65 ∷ 76 ∷ 79 ∷ 67 ∷ 0 ∷ 1 ∷ 0 ∷ 0 ∷ 0 ∷ 16 ∷ 0 ∷ 0 ∷ 0 ∷ 16 ∷ 0 ∷ 0 ∷ 1 ∷ 0 ∷ 0 ∷ 0 ∷ 0 ∷ 4 ∷ 0 ∷ 0 ∷ 0 ∷ 39 ∷ []
+  pub label : label_text layout
+      ≡ 84 ∷ 69 ∷ 84 ∷ 82 ∷ 65 ∷ 76 ∷ 79 ∷ 67 ∷ 0 ∷ 1 ∷ 0 ∷ 0 ∷ 0 ∷ 16 ∷ 0 ∷ 0 ∷ 0 ∷ 16 ∷ 0 ∷ 0 ∷ 1 ∷ 0 ∷ 0 ∷ 0 ∷ 0 ∷ 4 ∷ 0 ∷ 0 ∷ 0 ∷ 39 ∷ []
 
 -- each part begins where the one before it ends: the label, the roots, the slots and the halves
 pub record AreSideBySide (layout : Layout) : Type 0 where

@@ -1,31 +1,30 @@
 //! The other side of a disk, closed before an image is written there.
-ghost use Rattle.std.specs.Prelude.{◌≡◌, ◌≤◌, ◌++◌, Bool, IsErrOf, OnOk};
+ghost use Rattle.std.specs.Prelude.{◌≤◌, Bool, IsErrOf, OnOk};
 ghost use Rattle.sector_disk.specs.Disk.{HasCause, sector};
-ghost use Rattle.sector_disk.specs.Run.{HasMade, LeavesOnly};
+ghost use Rattle.sector_disk.specs.Run.{HasCalled, HasMade};
 ghost use Rattle.sector_disk.specs.declared.disk.DiskError.TheVariants.{OutOfRange};
-ghost use Rattle.gated_journal.specs.declared.form.Form.{Form};
 ghost use Rattle.gated_journal.specs.Half.{IsClosed};
 ghost use Rattle.checkpoint.specs.Layout.{disk_size, other_of, root_at};
-ghost use Rattle.checkpoint.specs.Standing.{Base, Held, InEach, IsShut, Stands};
+ghost use Rattle.checkpoint.specs.OnSide.{IsShut, KeepsSide};
 ghost use Rattle.checkpoint.specs.Calls.{close_calls, close_calls_by, root_calls, root_calls_by};
 
 use crate::{Layout, Side};
 use sector_disk::{Disk, DiskError};
 use std::alloc::Allocator;
 
-// Closes the other side's root. It is written only where it reads open: a torn write could open it.
+// Closes the other side's root. It is written only where it reads as open: a torn write could open it.
 fn close_root<A: Allocator, D: Disk>(
     disk: &mut D,
     layout: &Layout,
     current: Side,
 ) -> Result<(), DiskError>
     requires room { disk_size layout.now ≤ (D.view disk.old).sectors }
-    ensures any_moment { (form : Form) (base : Base) (held : Held A) → (D.view disk.old).honest → InEach (D.view disk.old) (Stands layout.now current form base held)
-        → LeavesOnly (D.view disk.old) (D.view disk.new) (Stands layout.now current form base held) }
+    ensures any_moment { KeepsSide A layout.now current (D.view disk.old) (D.view disk.new) }
     ensures closed { OnOk result ((D.view disk.old).honest → IsClosed (sector (D.view disk.new).reads (root_at (other_of current)))) }
-    ensures calls { OnOk result ((D.view disk.old).honest → (D.view disk.new).calls ≡ (D.view disk.old).calls ++ root_calls (other_of current) (D.view disk.old).reads) }
+    ensures calls { OnOk result ((D.view disk.old).honest
+        → HasCalled (D.view disk.old) (D.view disk.new) (root_calls (other_of current) (D.view disk.old).reads)) }
     ensures some_calls { (D.view disk.old).honest → HasMade (D.view disk.old) (D.view disk.new) (root_calls (other_of current) (D.view disk.old).reads) }
-    ensures calls_on_any_disk { OnOk result ((was_open : Bool) × ((D.view disk.new).calls ≡ (D.view disk.old).calls ++ root_calls_by (other_of current) was_open)) }
+    ensures calls_on_any_disk { OnOk result ((was_open : Bool) × HasCalled (D.view disk.old) (D.view disk.new) (root_calls_by (other_of current) was_open)) }
     ensures some_calls_on_any_disk { (was_open : Bool) × HasMade (D.view disk.old) (D.view disk.new) (root_calls_by (other_of current) was_open) }
     ensures cause { HasCause (D.view disk.old) (D.view disk.new) result }
     ensures in_range { IsErrOf result OutOfRange → ⊥ }
@@ -44,7 +43,7 @@ fn close_root<A: Allocator, D: Disk>(
 /// Begins a checkpoint: closes the root of the side that is not current, and the first gate of its half. Takes no memory.
 ///
 /// At `Ok` nothing is pending, and rows and records can be written to that side. A stop at any moment, also after a
-/// `DiskFault`, leaves what the current side stood for.
+/// `DiskFault`, leaves what the current side held.
 pub fn begin<A: Allocator, D: Disk>(
     disk: &mut D,
     layout: &Layout,
@@ -52,17 +51,19 @@ pub fn begin<A: Allocator, D: Disk>(
 ) -> Result<(), DiskError>
     requires room { disk_size layout.now ≤ (D.view disk.old).sectors }
 
-    // A stop at any moment of the call leaves the disk standing by the current side for what it stood for.
-    ensures any_moment { (form : Form) (base : Base) (held : Held A) → (D.view disk.old).honest → InEach (D.view disk.old) (Stands layout.now current form base held)
-        → LeavesOnly (D.view disk.old) (D.view disk.new) (Stands layout.now current form base held) }
+    // A stop at any moment of the call leaves the disk on the current side, with the same register and records.
+    ensures any_moment { KeepsSide A layout.now current (D.view disk.old) (D.view disk.new) }
     ensures shut { OnOk result ((D.view disk.old).honest → IsShut layout.now (other_of current) (D.view disk.new)) }
 
-    // The root is read, and written only where it reads open; then the gate is closed. A call that fails is the last.
-    ensures calls { OnOk result ((D.view disk.old).honest → (D.view disk.new).calls ≡ (D.view disk.old).calls ++ close_calls layout.now (other_of current) (D.view disk.old).reads) }
-    ensures some_calls { (D.view disk.old).honest → HasMade (D.view disk.old) (D.view disk.new) (close_calls layout.now (other_of current) (D.view disk.old).reads) }
+    // The root is read, and written only where it reads as open. Then the gate is closed. A call that fails is the last.
+    ensures calls { OnOk result ((D.view disk.old).honest
+        → HasCalled (D.view disk.old) (D.view disk.new) (close_calls layout.now (other_of current) (D.view disk.old).reads)) }
+    ensures some_calls { (D.view disk.old).honest
+        → HasMade (D.view disk.old) (D.view disk.new) (close_calls layout.now (other_of current) (D.view disk.old).reads) }
 
-    // So too on a disk that is not honest, with the root's write or without it.
-    ensures calls_on_any_disk { OnOk result ((was_open : Bool) × ((D.view disk.new).calls ≡ (D.view disk.old).calls ++ close_calls_by layout.now (other_of current) was_open)) }
+    // The same on a disk that is not honest, with the root's write or without it.
+    ensures calls_on_any_disk { OnOk result ((was_open : Bool)
+        × HasCalled (D.view disk.old) (D.view disk.new) (close_calls_by layout.now (other_of current) was_open)) }
     ensures some_calls_on_any_disk { (was_open : Bool) × HasMade (D.view disk.old) (D.view disk.new) (close_calls_by layout.now (other_of current) was_open) }
 
     // It does not give up by itself.

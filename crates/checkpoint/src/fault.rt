@@ -11,7 +11,7 @@ pub enum CheckpointError {
     /// The device failed.
     #[error("the disk has failed")]
     DiskFault,
-    /// The image at hand has the last epoch. Nothing was done.
+    /// The current image has the last epoch. Nothing was done.
     #[error("the epochs are used up")]
     EpochsUsedUp,
 }

@@ -1,13 +1,13 @@
-// The form of the records behind an image.
+// The form of the records after an image.
 ghost use Rattle.std.specs.Prelude.{◌≡◌};
-ghost use Rattle.checkpoint.specs.Standing.{form_told};
+ghost use Rattle.checkpoint.specs.OnSide.{stated_form};
 
 use gated_journal::Form;
 use image_rows::HEADER_TAG;
 
-/// The form of the records behind an image, as its first sector tells it: numbered behind a header of layout 2, else plain.
-pub fn form_told(header: &[u8; 512]) -> Form
-    ensures { result ≡ form_told header.now }
+/// The form of the records after an image, as its first sector states it: numbered after a header of layout 2, else plain.
+pub fn stated_form(header: &[u8; 512]) -> Form
+    ensures { result ≡ stated_form header.now }
 {
     if header[0] == HEADER_TAG {
         Form::Numbered

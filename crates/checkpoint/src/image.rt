@@ -1,15 +1,14 @@
 // The image of a register written to the other side of a disk.
-ghost use Rattle.std.specs.Prelude.{◌≡◌, ◌≤◌, ◌<◌, ◌+◌, ◌^◌, ◌++◌, Bool, Err, IsErr, IsErrOf, OnOk, length};
+ghost use Rattle.std.specs.Prelude.{◌≡◌, ◌≤◌, ◌<◌, ◌+◌, ◌^◌, Bool, Err, IsErr, IsErrOf, OnOk, length};
 ghost use Rattle.sector_disk.specs.Disk.{HasFailed};
-ghost use Rattle.sector_disk.specs.Run.{HasMade, LeavesOnly};
+ghost use Rattle.sector_disk.specs.Run.{HasCalled, HasMade};
 ghost use Rattle.sector_disk.specs.Filling.{HasFilled};
 ghost use Rattle.sector_disk.specs.declared.disk.DiskError.TheVariants.{OutOfRange};
-ghost use Rattle.gated_journal.specs.declared.form.Form.{Form};
 ghost use Rattle.gated_journal.specs.declared.form.Form.TheVariants.{Numbered};
 ghost use Rattle.image_rows.specs.Rows.{last_epoch, rows_of};
 ghost use Rattle.checkpoint.specs.declared.fault.CheckpointError.TheVariants.{DiskFault, EpochsUsedUp};
 ghost use Rattle.checkpoint.specs.Layout.{disk_size, other_of};
-ghost use Rattle.checkpoint.specs.Standing.{Base, Held, InEach, IsReady, Stands, fresh};
+ghost use Rattle.checkpoint.specs.OnSide.{EachIsReady, KeepsSide, fresh};
 ghost use Rattle.checkpoint.specs.Calls.{image_calls, image_calls_by, row_calls, row_sector};
 
 use crate::{CheckpointError, Layout, Side, begin};
@@ -18,8 +17,9 @@ use image_rows::{LAST_EPOCH, row_after};
 use sector_disk::{Disk, DiskError};
 use std::alloc::Allocator;
 
-// Writes the rows of a register's image from a sector on, one a sector.
-fn write_rows<A: Allocator + Clone, D: Disk>(
+/// Writes the rows of a register's image, of this epoch, from a sector on, one a sector. Takes no memory, reads nothing,
+/// and syncs nothing: a stop may tear these rows until the next sync.
+pub fn write_rows<A: Allocator + Clone, D: Disk>(
     disk: &mut D,
     at: u64,
     epoch: u64,
@@ -27,8 +27,9 @@ fn write_rows<A: Allocator + Clone, D: Disk>(
 ) -> Result<(), DiskError>
     requires room { at + length (rows_of epoch register.now) ≤ (D.view disk.old).sectors }
     requires fits { at + length (rows_of epoch register.now) < 2 ^ 64 }
-    ensures effect { (D.view disk.old).honest → HasFilled (D.view disk.old) (D.view disk.new) at (length (rows_of epoch register.now)) (row_sector (epoch, register.now)) result }
-    ensures calls { OnOk result ((D.view disk.new).calls ≡ (D.view disk.old).calls ++ row_calls at (epoch, register.now)) }
+    ensures effect { (D.view disk.old).honest → HasFilled (D.view disk.old) (D.view disk.new)
+        at (length (rows_of epoch register.now)) (row_sector (epoch, register.now)) result }
+    ensures calls { OnOk result (HasCalled (D.view disk.old) (D.view disk.new) (row_calls at (epoch, register.now))) }
     ensures some_calls { HasMade (D.view disk.old) (D.view disk.new) (row_calls at (epoch, register.now)) }
     ensures sectors { (D.view disk.new).sectors ≡ (D.view disk.old).sectors }
     ensures later { (D.view disk.old).failures ≤ (D.view disk.new).failures }
@@ -37,20 +38,20 @@ fn write_rows<A: Allocator + Clone, D: Disk>(
 {
     centre_core::laws::registers(register);
     let mut written = 0;
-    let mut told = row_after(register, epoch, None);
-    while let Some(next) = &told {
+    let mut coming = row_after(register, epoch, None);
+    while let Some(next) = &coming {
         disk.write(at + written, &next.1)?;
         written += 1;
-        told = row_after(register, epoch, Some(next.0));
+        coming = row_after(register, epoch, Some(next.0));
     }
     Ok(())
 }
 
-/// Writes the image of the register, with the epoch after this one, to the other side of the disk, in layout 2: the
-/// side that is current, whose image has the epoch, stays so until `switch`. Takes no memory.
+/// Writes the image of the register to the other side of the disk, in layout 2. `epoch` is that of the current side's image,
+/// and the new image has the next one. The current side stays so until `switch`. Takes no memory.
 ///
-/// The register has the layout's limits. A stop at any moment, also after a `DiskFault`, leaves what stood there
-/// before. `EpochsUsedUp` comes where the epoch is the last one, 2 to the 62nd.
+/// The register has the layout's limits. A stop at any moment, also after a `DiskFault`, leaves what was there before.
+/// `EpochsUsedUp` comes where `epoch` is the last one, 2 to the 62nd.
 pub fn write_image<A: Allocator + Clone, D: Disk>(
     disk: &mut D,
     layout: &Layout,
@@ -61,21 +62,25 @@ pub fn write_image<A: Allocator + Clone, D: Disk>(
     requires room { disk_size layout.now ≤ (D.view disk.old).sectors }
     requires limits { register.now.registered.limits ≡ layout.now.limits }
 
-    // A stop at any moment of the call leaves the disk standing by the current side for what it stood for.
-    ensures any_moment { (form : Form) (base : Base) (held : Held A) → (D.view disk.old).honest → InEach (D.view disk.old) (Stands layout.now current form base held)
-        → LeavesOnly (D.view disk.old) (D.view disk.new) (Stands layout.now current form base held) }
+    // A stop at any moment of the call leaves the disk on the current side, with the same register and records.
+    ensures any_moment { KeepsSide A layout.now current (D.view disk.old) (D.view disk.new) }
 
-    // At `Ok` each stop leaves the image in the other side's slot, with the next epoch, and only its root is missing.
-    ensures ready { OnOk result ((D.view disk.old).honest → InEach (D.view disk.new) (IsReady {A = A} layout.now (other_of current) Numbered (epoch + 1, register.now) (fresh layout.now (other_of current)))) }
+    // At `Ok` each stop leaves the image in the other side's slot, with the next epoch. Only that side's root is not open yet.
+    ensures ready { OnOk result ((D.view disk.old).honest → EachIsReady {A = A} (D.view disk.new) layout.now (other_of current) Numbered
+        (epoch + 1, register.now) (fresh layout.now (other_of current))) }
 
-    // The other side's root is read, and written only where it reads open; its first gate is closed; then each row is
+    // The other side's root is read, and written only where it reads as open. Its first gate is closed, and then each row is
     // written once. A call that fails is the last.
-    ensures calls { OnOk result ((D.view disk.old).honest → (D.view disk.new).calls ≡ (D.view disk.old).calls ++ image_calls layout.now (other_of current) (D.view disk.old).reads (epoch + 1, register.now)) }
-    ensures some_calls { (D.view disk.old).honest → HasMade (D.view disk.old) (D.view disk.new) (image_calls layout.now (other_of current) (D.view disk.old).reads (epoch + 1, register.now)) }
+    ensures calls { OnOk result ((D.view disk.old).honest → HasCalled (D.view disk.old) (D.view disk.new)
+        (image_calls layout.now (other_of current) (D.view disk.old).reads (epoch + 1, register.now))) }
+    ensures some_calls { (D.view disk.old).honest → HasMade (D.view disk.old) (D.view disk.new)
+        (image_calls layout.now (other_of current) (D.view disk.old).reads (epoch + 1, register.now)) }
 
-    // So too on a disk that is not honest, with the root's write or without it.
-    ensures calls_on_any_disk { OnOk result ((was_open : Bool) × ((D.view disk.new).calls ≡ (D.view disk.old).calls ++ image_calls_by layout.now (other_of current) was_open (epoch + 1, register.now))) }
-    ensures some_calls_on_any_disk { (was_open : Bool) × HasMade (D.view disk.old) (D.view disk.new) (image_calls_by layout.now (other_of current) was_open (epoch + 1, register.now)) }
+    // The same on a disk that is not honest, with the root's write or without it.
+    ensures calls_on_any_disk { OnOk result ((was_open : Bool) × HasCalled (D.view disk.old) (D.view disk.new)
+        (image_calls_by layout.now (other_of current) was_open (epoch + 1, register.now))) }
+    ensures some_calls_on_any_disk { (was_open : Bool) × HasMade (D.view disk.old) (D.view disk.new)
+        (image_calls_by layout.now (other_of current) was_open (epoch + 1, register.now)) }
 
     // It does not give up by itself.
     ensures fault { IsErrOf result DiskFault → HasFailed (D.view disk.old) (D.view disk.new) }

@@ -4,15 +4,15 @@ ghost use Rattle.checkpoint.specs.Half.{IsHalfSize};
 use crate::Side;
 use registration::Limits;
 
-/// The least number of sectors of a half.
+/// The fewest sectors of a half.
 const FEWEST: u32 = 38;
 
-/// The greatest.
+/// The most sectors of a half.
 const MOST: u32 = 65_536;
 
 /// Where the parts of a disk lie, by the limits of its register and the number of sectors in a half of its journal.
 ///
-/// Sector 0 holds the label, 1 and 2 the roots of the sides A and B. Behind them lie the slots of A and B, each with a
+/// Sector 0 holds the label, and sectors 1 and 2 the roots of the sides A and B. The slots of A and B follow, each with a
 /// sector for every row that the limits allow, and then the halves of A and B.
 #[derive(Clone, Copy, Debug, PartialEq, Eq, Drop)]
 pub struct Layout {
@@ -63,7 +63,7 @@ impl Layout {
             + u64::from(limits.stations)
     }
 
-    /// How many sectors a disk has at least.
+    /// The fewest sectors that a disk may have.
     pub fn sectors(&self) -> u64
         ensures { result ≡ disk_size self.now }
     {

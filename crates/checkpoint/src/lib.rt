@@ -1,4 +1,6 @@
 //! The image of a register on one side of a disk, and the switch to that side.
+//!
+//! It calls the disk and reads a register. It changes no register, and knows nothing of batches, desks, files or threads.
 #![tactic(auto)]
 
 mod closing;
@@ -15,8 +17,8 @@ mod switching;
 
 pub use closing::begin;
 pub use fault::CheckpointError;
-pub use form::form_told;
-pub use image::write_image;
+pub use form::stated_form;
+pub use image::{write_image, write_rows};
 pub use layout::Layout;
 pub use progress::{Progress, write_next_rows};
 pub use read_fault::ReadFault;

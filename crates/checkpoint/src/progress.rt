@@ -1,11 +1,10 @@
 //! The image of a register, written a few rows at a time.
-ghost use Rattle.std.specs.Prelude.{◌≡◌, ◌≤◌, ◌<◌, ◌+◌, ◌-◌, ◌^◌, ◌++◌, IsErr, IsErrOf, OnOk, length, nat_eq};
+ghost use Rattle.std.specs.Prelude.{◌≡◌, ◌≤◌, ◌<◌, ◌+◌, ◌^◌, IsErr, IsErrOf, OnOk, length, nat_eq};
 ghost use Rattle.sector_disk.specs.Disk.{HasFailed};
-ghost use Rattle.sector_disk.specs.Run.{HasMade, writes};
-ghost use Rattle.sector_disk.specs.Filling.{HasFilled};
+ghost use Rattle.sector_disk.specs.Run.{HasCalled, HasMade};
 ghost use Rattle.sector_disk.specs.declared.disk.DiskError.TheVariants.{OutOfRange};
 ghost use Rattle.image_rows.specs.Rows.{rows_of};
-ghost use Rattle.checkpoint.specs.Progress.{IsProgress, next_calls, next_row, next_rows, written_after};
+ghost use Rattle.checkpoint.specs.Progress.{HasFilledNext, IsProgress, next_calls, next_calls_at, written_after};
 ghost use Rattle.checkpoint.specs.Layout.{disk_size, other_of, slot_at};
 
 use crate::{Layout, Side};
@@ -17,7 +16,7 @@ use std::alloc::Allocator;
 /// The most rows that one call writes.
 const MOST_ROWS: u64 = 8;
 
-/// How far the image of a register is written: its epoch, how many of its rows, and the place of the last one.
+/// How far the image of a register is written: its epoch, how many of its rows are, and the place of the last one.
 #[derive(Clone, Copy, Debug, Drop)]
 pub struct Progress {
     pub(crate) epoch: u64,
@@ -26,7 +25,7 @@ pub struct Progress {
 }
 
 impl Progress {
-    /// No row of the register's image with this epoch is written yet.
+    /// A begin: no row of the register's image with this epoch is written yet.
     pub fn begun<A: Allocator + Clone>(epoch: u64, register: &Register<A>) -> Progress
         ensures epoch { result.epoch ≡ epoch }
         ensures none { result.written ≡ 0 }
@@ -56,7 +55,7 @@ impl Progress {
     }
 }
 
-// Writes the next rows to the slot that begins with this sector, behind those that are written.
+// Writes the next rows to the slot that begins with the sector `at`, after those that are written.
 fn put_rows<A: Allocator + Clone, D: Disk>(
     disk: &mut D,
     at: u64,
@@ -67,12 +66,13 @@ fn put_rows<A: Allocator + Clone, D: Disk>(
     requires room { at + length (rows_of epoch register.now) ≤ (D.view disk.old).sectors }
     requires fits { at + length (rows_of epoch register.now) < 2 ^ 64 }
     requires begun { IsProgress epoch register.now progress.old }
-    ensures effect { (D.view disk.old).honest → HasFilled (D.view disk.old) (D.view disk.new) (at + progress.old.written) (next_rows epoch register.now progress.old.written) (next_row (epoch, register.now) progress.old.written) result }
+    ensures effect { (D.view disk.old).honest
+        → HasFilledNext (D.view disk.old) (D.view disk.new) at (epoch, register.now) progress.old.written result }
     ensures written { OnOk result (progress.new.written ≡ written_after epoch register.now progress.old.written) }
     ensures progress { IsProgress epoch register.now progress.new }
     ensures epoch { progress.new.epoch ≡ progress.old.epoch }
-    ensures calls { OnOk result ((D.view disk.new).calls ≡ (D.view disk.old).calls ++ writes (at + progress.old.written) (next_rows epoch register.now progress.old.written) (next_row (epoch, register.now) progress.old.written)) }
-    ensures some_calls { HasMade (D.view disk.old) (D.view disk.new) (writes (at + progress.old.written) (next_rows epoch register.now progress.old.written) (next_row (epoch, register.now) progress.old.written)) }
+    ensures calls { OnOk result (HasCalled (D.view disk.old) (D.view disk.new) (next_calls_at at (epoch, register.now) progress.old.written)) }
+    ensures some_calls { HasMade (D.view disk.old) (D.view disk.new) (next_calls_at at (epoch, register.now) progress.old.written) }
     ensures sectors { (D.view disk.new).sectors ≡ (D.view disk.old).sectors }
     ensures later { (D.view disk.old).failures ≤ (D.view disk.new).failures }
     ensures fault { IsErr result → HasFailed (D.view disk.old) (D.view disk.new) }
@@ -81,8 +81,8 @@ fn put_rows<A: Allocator + Clone, D: Disk>(
     centre_core::laws::registers(register);
     let mut left = MOST_ROWS;
     while left > 0 {
-        let told = row_after(register, epoch, progress.last);
-        let Some(next) = &told else {
+        let coming = row_after(register, epoch, progress.last);
+        let Some(next) = &coming else {
             return Ok(());
         };
         disk.write(at + progress.written, &next.1)?;
@@ -93,8 +93,8 @@ fn put_rows<A: Allocator + Clone, D: Disk>(
     Ok(())
 }
 
-/// Writes the next rows of a register's image, at most 8, one a sector, to the side that is not current, from where
-/// `progress` is. Takes no memory, reads nothing, and syncs nothing: a stop may tear these rows until the next sync.
+/// Writes the next rows of a register's image, at most 8, one a sector, to the side that is not current. `progress` says where
+/// they begin. Takes no memory, reads nothing, and syncs nothing: a stop may tear these rows until the next sync.
 ///
 /// The register has the layout's limits, and is the one that `progress` was begun with.
 pub fn write_next_rows<A: Allocator + Clone, D: Disk>(
@@ -109,7 +109,8 @@ pub fn write_next_rows<A: Allocator + Clone, D: Disk>(
     requires begun { IsProgress progress.old.epoch register.now progress.old }
 
     // A stop at any moment of the call leaves all but these rows' sectors as they were. At `Ok` these read as the rows.
-    ensures effect { (D.view disk.old).honest → HasFilled (D.view disk.old) (D.view disk.new) (slot_at layout.now (other_of current) + progress.old.written) (next_rows progress.old.epoch register.now progress.old.written) (next_row (progress.old.epoch, register.now) progress.old.written) result }
+    ensures effect { (D.view disk.old).honest → HasFilledNext (D.view disk.old) (D.view disk.new)
+        (slot_at layout.now (other_of current)) (progress.old.epoch, register.now) progress.old.written result }
 
     // Eight more are written, or all that were left.
     ensures written { OnOk result (progress.new.written ≡ written_after progress.old.epoch register.now progress.old.written) }
@@ -117,8 +118,10 @@ pub fn write_next_rows<A: Allocator + Clone, D: Disk>(
     ensures epoch { progress.new.epoch ≡ progress.old.epoch }
 
     // Each of these rows is written once, in order. A call that fails is the last.
-    ensures calls { OnOk result ((D.view disk.new).calls ≡ (D.view disk.old).calls ++ next_calls layout.now (other_of current) (progress.old.epoch, register.now) progress.old.written) }
-    ensures some_calls { HasMade (D.view disk.old) (D.view disk.new) (next_calls layout.now (other_of current) (progress.old.epoch, register.now) progress.old.written) }
+    ensures calls { OnOk result (HasCalled (D.view disk.old) (D.view disk.new)
+        (next_calls layout.now (other_of current) (progress.old.epoch, register.now) progress.old.written)) }
+    ensures some_calls { HasMade (D.view disk.old) (D.view disk.new)
+        (next_calls layout.now (other_of current) (progress.old.epoch, register.now) progress.old.written) }
 
     // It does not give up by itself.
     ensures fault { IsErr result → HasFailed (D.view disk.old) (D.view disk.new) }

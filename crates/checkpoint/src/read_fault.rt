@@ -12,10 +12,10 @@ pub enum ReadFault {
     /// The device failed.
     #[error("the disk has failed")]
     DiskFault,
-    /// The sector of that number is the first of the slot with no row, or with one that can't come there.
+    /// That sector is the first of the slot that holds no row, or one that can't come there.
     #[error("sector {0} of the disk is no row of its image")]
     Damaged(u64),
-    /// There was no memory.
+    /// Memory ran out.
     #[error("no memory for the register")]
     NoMemory,
 }

@@ -1,15 +1,15 @@
-// The register of a side's slot, read back.
-ghost use Rattle.std.specs.Prelude.{◌≡◌, ◌<◌, ◌≤◌, ◌++◌, ◌∷◌, [], ℕ, IfOk, IfSome, IsErrOf, IsSome, None, OnOk, Some};
+// The register in a side's slot, read back.
+ghost use Rattle.std.specs.Prelude.{◌≡◌, ◌<◌, ◌≤◌, ◌∷◌, [], ℕ, IfOk, IfSome, IsErrOf, IsSome, None, OnOk, Some};
 ghost use Rattle.sector_disk.specs.Disk.{HasFailed, sector};
 ghost use Rattle.sector_disk.specs.Reading.{before_reads};
-ghost use Rattle.sector_disk.specs.Run.{HasLooked, HasMade};
+ghost use Rattle.sector_disk.specs.Run.{HasCalled, HasMade, HasOnlyRead};
 ghost use Rattle.sector_disk.specs.declared.record.Call.TheVariants.{Read};
 ghost use Rattle.image_rows.specs.Loading.{begun, finished};
 ghost use Rattle.image_rows.specs.Held.{taken_from};
 ghost use Rattle.checkpoint.specs.declared.read_fault.ReadFault.TheVariants.{Damaged, DiskFault, NoMemory};
 ghost use Rattle.checkpoint.specs.Layout.{disk_size, slot_at, slot_size};
-ghost use Rattle.checkpoint.specs.Standing.{IsInSlot};
-ghost use Rattle.checkpoint.specs.Reading.{IsBadSector, IsGoodSoFar, image_looks, looks};
+ghost use Rattle.checkpoint.specs.OnSide.{IsInSlot};
+ghost use Rattle.checkpoint.specs.Reading.{IsBadSector, IsGoodSoFar, image_reads, read_calls};
 
 use crate::{Layout, ReadFault, Side};
 use centre_core::Register;
@@ -17,7 +17,7 @@ use image_rows::Loader;
 use sector_disk::Disk;
 use std::alloc::Allocator;
 
-// Takes the row in a sector.
+// Reads a sector, and gives its row to the loader.
 #[tactic(auto, using(sector_disk::proofs::Reading::one_read))]
 fn take_row<A: Allocator + Clone, D: Disk>(
     disk: &mut D,
@@ -26,11 +26,13 @@ fn take_row<A: Allocator + Clone, D: Disk>(
 ) -> Result<(), ReadFault>
     requires inside { at < (D.view disk.old).sectors }
     ensures taken { OnOk result ((D.view disk.old).honest → taken_from loader.old (sector (D.view disk.old).reads at) ≡ Some loader.new) }
-    ensures damaged { (s : ℕ) → IsErrOf result (Damaged s) → (s ≡ at) × ((D.view disk.old).honest → taken_from loader.old (sector (D.view disk.old).reads at) ≡ None) }
-    ensures memory { IsErrOf result NoMemory → ((D.view disk.new).calls ≡ (D.view disk.old).calls ++ Read at ∷ []) × ((D.view disk.old).honest → IsSome (taken_from loader.old (sector (D.view disk.old).reads at))) }
-    ensures looked { (D.view disk.old).honest → HasLooked (D.view disk.old) (D.view disk.new) }
+    ensures damaged { (s : ℕ) → IsErrOf result (Damaged s)
+        → (s ≡ at) × ((D.view disk.old).honest → taken_from loader.old (sector (D.view disk.old).reads at) ≡ None) }
+    ensures memory { IsErrOf result NoMemory → HasCalled (D.view disk.old) (D.view disk.new) (Read at ∷ [])
+        × ((D.view disk.old).honest → IsSome (taken_from loader.old (sector (D.view disk.old).reads at))) }
+    ensures only_read { (D.view disk.old).honest → HasOnlyRead (D.view disk.old) (D.view disk.new) }
     ensures only_reads { before_reads (D.view disk.new).calls ≡ before_reads (D.view disk.old).calls }
-    ensures calls { OnOk result ((D.view disk.new).calls ≡ (D.view disk.old).calls ++ Read at ∷ []) }
+    ensures calls { OnOk result (HasCalled (D.view disk.old) (D.view disk.new) (Read at ∷ [])) }
     ensures some_calls { HasMade (D.view disk.old) (D.view disk.new) (Read at ∷ []) }
     ensures fault { IsErrOf result DiskFault → HasFailed (D.view disk.old) (D.view disk.new) }
     ensures sectors { (D.view disk.new).sectors ≡ (D.view disk.old).sectors }
@@ -45,7 +47,7 @@ fn take_row<A: Allocator + Clone, D: Disk>(
     Ok(())
 }
 
-// Takes the rows of a slot, up to the last one of its image.
+// Gives the rows of a slot to the loader, up to the last one of the image.
 fn take_rows<A: Allocator + Clone, D: Disk>(
     disk: &mut D,
     layout: &Layout,
@@ -59,10 +61,11 @@ fn take_rows<A: Allocator + Clone, D: Disk>(
     ensures damaged { (at : ℕ) → IsErrOf result (Damaged at) → (D.view disk.old).honest → IsBadSector layout.now side at (D.view disk.old).reads }
     ensures on_disk { (at : ℕ) → IsErrOf result (Damaged at) → at < (D.view disk.old).sectors }
     ensures memory { IsErrOf result NoMemory → (D.view disk.old).honest → IsGoodSoFar layout.now side (D.view disk.old) (D.view disk.new) }
-    ensures looked { (D.view disk.old).honest → HasLooked (D.view disk.old) (D.view disk.new) }
+    ensures only_read { (D.view disk.old).honest → HasOnlyRead (D.view disk.old) (D.view disk.new) }
     ensures only_reads { before_reads (D.view disk.new).calls ≡ before_reads (D.view disk.old).calls }
-    ensures calls { OnOk result ((D.view disk.old).honest → IfSome (finished loader.new) (λ image. (D.view disk.new).calls ≡ (D.view disk.old).calls ++ image_looks (slot_at layout.now side) image)) }
-    ensures some_calls { HasMade (D.view disk.old) (D.view disk.new) (looks (slot_at layout.now side) (slot_size layout.now)) }
+    ensures calls { OnOk result ((D.view disk.old).honest
+        → IfSome (finished loader.new) (λ image. HasCalled (D.view disk.old) (D.view disk.new) (image_reads (slot_at layout.now side) image))) }
+    ensures some_calls { HasMade (D.view disk.old) (D.view disk.new) (read_calls (slot_at layout.now side) (slot_size layout.now)) }
     ensures fault { IsErrOf result DiskFault → HasFailed (D.view disk.old) (D.view disk.new) }
     ensures sectors { (D.view disk.new).sectors ≡ (D.view disk.old).sectors }
     ensures later { (D.view disk.old).failures ≤ (D.view disk.new).failures }
@@ -81,11 +84,11 @@ fn take_rows<A: Allocator + Clone, D: Disk>(
     Ok(())
 }
 
-/// Reads the image of a register back from the slot of a side: its epoch, 1 to 2 to the 62nd, and the register, under
-/// the layout's limits. Its sectors are read one after another, up to its last one, and held one at a time.
+/// Reads the image of a register back from a side's slot: its epoch, 1 to 2 to the 62nd, and the register, under the layout's
+/// limits. Its sectors are read in order, up to its last one. One of them is in memory at a time.
 ///
-/// `Damaged` names the sector of the disk that is the first one of the slot with no row, or with one that can't come
-/// there. `NoMemory` comes before any such sector was read. Nothing is written, and what was read is let go.
+/// `Damaged` names the first sector of the slot that holds no row, or one that can't come there. `NoMemory` comes before any
+/// such sector is read. Nothing is written. After an error what was read is dropped.
 pub fn read_image<A: Allocator + Clone, D: Disk>(
     disk: &mut D,
     layout: &Layout,
@@ -94,21 +97,22 @@ pub fn read_image<A: Allocator + Clone, D: Disk>(
 ) -> Result<(u64, Register<A>), ReadFault>
     requires room { disk_size layout.now ≤ (D.view disk.old).sectors }
 
-    // What is answered is the image in the slot, and the sector that is told is its first bad one.
+    // `Ok` returns the image in the slot, and `Damaged` the slot's first bad sector.
     ensures exact { IfOk result (λ image. (D.view disk.old).honest → IsInSlot layout.now side image (D.view disk.old).reads) }
     ensures damaged { (at : ℕ) → IsErrOf result (Damaged at) → (D.view disk.old).honest → IsBadSector layout.now side at (D.view disk.old).reads }
     ensures on_disk { (at : ℕ) → IsErrOf result (Damaged at) → at < (D.view disk.old).sectors }
     ensures limits { IfOk result (λ image. image.1.registered.limits ≡ layout.now.limits) }
 
-    // Want of memory hides no damage: all that was read is good.
+    // Out of memory never masks damage: all sectors that were read are good.
     ensures memory { IsErrOf result NoMemory → (D.view disk.old).honest → IsGoodSoFar layout.now side (D.view disk.old) (D.view disk.new) }
 
-    // It only reads, the sectors of the slot from the first on, each once; at `Ok` just those of the image.
-    ensures looked { (D.view disk.old).honest → HasLooked (D.view disk.old) (D.view disk.new) }
+    // It only reads: the sectors of the slot from the first on, each once. At `Ok` these are the image's.
+    ensures only_read { (D.view disk.old).honest → HasOnlyRead (D.view disk.old) (D.view disk.new) }
     ensures only_reads { before_reads (D.view disk.new).calls ≡ before_reads (D.view disk.old).calls }
     ensures honest { (D.view disk.old).honest → (D.view disk.new).honest }
-    ensures calls { IfOk result (λ image. (D.view disk.old).honest → (D.view disk.new).calls ≡ (D.view disk.old).calls ++ image_looks (slot_at layout.now side) image) }
-    ensures some_calls { HasMade (D.view disk.old) (D.view disk.new) (looks (slot_at layout.now side) (slot_size layout.now)) }
+    ensures calls { IfOk result (λ image. (D.view disk.old).honest
+        → HasCalled (D.view disk.old) (D.view disk.new) (image_reads (slot_at layout.now side) image)) }
+    ensures some_calls { HasMade (D.view disk.old) (D.view disk.new) (read_calls (slot_at layout.now side) (slot_size layout.now)) }
 
     // It does not give up by itself.
     ensures fault { IsErrOf result DiskFault → HasFailed (D.view disk.old) (D.view disk.new) }

@@ -11,7 +11,7 @@ impl Side {
     ghost use Rattle.std.specs.Prelude.{◌≡◌};
     ghost use Rattle.checkpoint.specs.Layout.{other_of};
 
-    /// The other one.
+    /// The other side.
     pub fn other(self) -> Side
         ensures { result ≡ other_of self }
     {

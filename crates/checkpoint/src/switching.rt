@@ -1,11 +1,11 @@
 // The switch from one side of a disk to the other.
-ghost use Rattle.std.specs.Prelude.{◌≡◌, ◌⊎◌, ◌≤◌, ◌<◌, ◌++◌, IsErrOf, OnOk};
+ghost use Rattle.std.specs.Prelude.{◌≡◌, ◌≤◌, ◌<◌, IsErrOf, OnOk};
 ghost use Rattle.sector_disk.specs.Disk.{HasFailed};
-ghost use Rattle.sector_disk.specs.Run.{HasMade, LeavesOnly};
+ghost use Rattle.sector_disk.specs.Run.{HasCalled, HasMade, LeavesOnly};
 ghost use Rattle.gated_journal.specs.declared.form.Form.{Form};
 ghost use Rattle.checkpoint.specs.declared.fault.CheckpointError.TheVariants.{DiskFault, EpochsUsedUp};
 ghost use Rattle.checkpoint.specs.Layout.{disk_size, other_of};
-ghost use Rattle.checkpoint.specs.Standing.{Base, Held, InEach, IsEither, IsReady, Stands};
+ghost use Rattle.checkpoint.specs.OnSide.{Base, EachIsOnSide, EachIsReady, Held, IsEither};
 ghost use Rattle.checkpoint.specs.Calls.{switch_calls};
 
 use crate::{CheckpointError, Layout, Side};
@@ -15,8 +15,8 @@ use std::alloc::Allocator;
 /// Makes the other side of the disk the current one, once `write_image` has answered `Ok`: opens its root. Takes no
 /// memory.
 ///
-/// A stop at any moment, also after a `DiskFault`, leaves what stood there before, or the image that was written with
-/// the records behind it; at `Ok` each stop leaves the latter.
+/// A stop at any moment, also after a `DiskFault`, leaves what was there before, or the new image with the records after it.
+/// At `Ok` each stop leaves the latter.
 pub fn switch<A: Allocator, D: Disk>(
     disk: &mut D,
     layout: &Layout,
@@ -24,16 +24,20 @@ pub fn switch<A: Allocator, D: Disk>(
 ) -> Result<(), CheckpointError>
     requires room { disk_size layout.now ≤ (D.view disk.old).sectors }
 
-    // A stop at any moment of the call leaves the disk standing by the one side or by the other.
-    ensures any_moment { (form also : Form) (base next : Base) (held more : Held A) → base.0 < next.0 → (D.view disk.old).honest → InEach (D.view disk.old) (Stands layout.now current form base held) → InEach (D.view disk.old) (IsReady layout.now (other_of current) also next more)
+    // A stop at any moment of the call leaves the disk on one side or on the other.
+    ensures any_moment { (form also : Form) (base next : Base) (held more : Held A) → base.0 < next.0 → (D.view disk.old).honest
+        → EachIsOnSide (D.view disk.old) layout.now current form base held
+        → EachIsReady (D.view disk.old) layout.now (other_of current) also next more
         → LeavesOnly (D.view disk.old) (D.view disk.new) (IsEither layout.now current form also base next held more) }
 
-    // At `Ok` each stop leaves it standing by the other, with the records there.
-    ensures switched { OnOk result ((form also : Form) (base next : Base) (held more : Held A) → base.0 < next.0 → (D.view disk.old).honest → InEach (D.view disk.old) (Stands layout.now current form base held) → InEach (D.view disk.old) (IsReady layout.now (other_of current) also next more)
-        → InEach (D.view disk.new) (Stands layout.now (other_of current) also next more)) }
+    // At `Ok` each stop leaves it on the other side, with the records there.
+    ensures switched { OnOk result ((form also : Form) (base next : Base) (held more : Held A) → base.0 < next.0 → (D.view disk.old).honest
+        → EachIsOnSide (D.view disk.old) layout.now current form base held
+        → EachIsReady (D.view disk.old) layout.now (other_of current) also next more
+        → EachIsOnSide (D.view disk.new) layout.now (other_of current) also next more) }
 
-    // The other side's root is opened, and that is made to last. A call that fails is the last.
-    ensures calls { OnOk result ((D.view disk.new).calls ≡ (D.view disk.old).calls ++ switch_calls (other_of current)) }
+    // The other side's root is opened, and synced. A call that fails is the last.
+    ensures calls { OnOk result (HasCalled (D.view disk.old) (D.view disk.new) (switch_calls (other_of current))) }
     ensures some_calls { HasMade (D.view disk.old) (D.view disk.new) (switch_calls (other_of current)) }
 
     // It does not give up by itself.

@@ -1,16 +1,16 @@
-//! Calls of the disk that fail, and stops behind them.
-use crate::made::{begins, formatted, is_image, layout, register, standing, turn, write};
+//! Calls of the disk that fail, and stops after them.
+use crate::made::{begins, current_epoch, formatted, is_image, layout, register, turn, write};
 use centre_core::Register;
 use checkpoint::{Layout, Side};
 use sector_disk::{Disk, DiskError, Failing, FailingDisk, MemoryDisk};
 use std::alloc::{AllocError, Global};
 
-/// Writes the image to side B and switches to it; whether both succeed.
+/// Writes the image to side B, switches to it, and returns whether both succeed.
 fn both<D: Disk>(disk: &mut D, layout: &Layout, register: &Register<Global>) -> bool {
     write(disk, layout, Side::A, 1, register).is_none() && turn(disk, layout, Side::A).is_none()
 }
 
-/// Fills each pending sector with a byte; whether the root of side B is one of them.
+/// Fills each pending sector with a byte, and returns whether the root of side B is one of them.
 fn fill_pending(
     alloc: Global,
     disk: &MemoryDisk<Global>,
@@ -25,16 +25,16 @@ fn fill_pending(
     Ok(torn)
 }
 
-/// Whether the disk stands by its first image, or by the second one where that may be.
-fn stands<D: Disk>(disk: &mut D, second: bool) -> Result<bool, DiskError> {
+/// Whether the current image is the second one, or still the first.
+fn is_current<D: Disk>(disk: &mut D, second: bool) -> Result<bool, DiskError> {
     if second {
         let image = is_image(disk, 296, 2)? && begins(disk, 628, &[0])?;
-        return Ok(standing(disk)? == 2 && image);
+        return Ok(current_epoch(disk)? == 2 && image);
     }
-    Ok(standing(disk)? == 1 && begins(disk, 3, &[22, 0, 0, 0, 0, 0, 0, 0, 1])?)
+    Ok(current_epoch(disk)? == 1 && begins(disk, 3, &[22, 0, 0, 0, 0, 0, 0, 0, 1])?)
 }
 
-/// Whether a stop behind the failing call number leaves one of the two images.
+/// Whether a stop after this failing call leaves the image that it should.
 fn is_safe(
     alloc: Global,
     layout: &Layout,
@@ -51,9 +51,9 @@ fn is_safe(
     let mut left = disk.crash(&fill);
     drop(fill);
     let second = done || (torn == Ok(true) && byte == 1);
-    let stands = stands(&mut left, second) == Ok(true);
+    let is_current = is_current(&mut left, second) == Ok(true);
     drop(left);
-    Some(torn.is_ok() && stands && done == (call > 10))
+    Some(torn.is_ok() && is_current && done == (call > 10))
 }
 
 const BYTES: [u8; 3] = [0, 1, 77];
@@ -92,7 +92,7 @@ fn each_call_fails_with_all_later_ones(rt: HostRuntime) {
     assert!(rt; are_safe(rt.alloc(), Failing::Always) == Some(true));
 }
 
-/// Fails at this call of writing the image; the disk then, where it failed.
+/// The disk after this call of `write_image` has failed, if it has.
 fn failed(
     disk: MemoryDisk<Global>,
     layout: &Layout,
@@ -106,7 +106,7 @@ fn failed(
     failed.then_some(inner)
 }
 
-/// Whether these sectors are pending, and no other.
+/// Whether exactly these sectors are pending.
 fn are_pending(alloc: Global, disk: Option<MemoryDisk<Global>>, want: &[u64]) -> Option<bool> {
     let disk = disk?;
     let pending = disk.pending(alloc);
@@ -114,7 +114,7 @@ fn are_pending(alloc: Global, disk: Option<MemoryDisk<Global>>, want: &[u64]) ->
     Some(pending.ok()?.as_slice() == want)
 }
 
-/// A disk on which side A and then side B was made current, its root A still open.
+/// A disk on which side A and then side B was made current. The root of A is still open.
 fn switched(
     alloc: Global,
     layout: &Layout,

@@ -2,14 +2,16 @@
 ghost use Rattle.std.specs.Prelude.{◌≡◌};
 ghost use Rattle.checkpoint.specs.Progress.{IsProgress};
 
-use crate::made::{begun, expiry, formatted_for, layout, sixteen_rules, standing, turn, write};
+use crate::made::{
+    begun, current_epoch, expiry, formatted_for, layout, sixteen_rules, turn, write,
+};
 use centre_core::{Command, Register};
 use checkpoint::{Layout, Progress, Side, write_next_rows};
 use gated_journal::{Form, Journal, Place};
 use sector_disk::{Disk, DiskError, Failing, FailingDisk, MemoryDisk};
 use std::alloc::{AllocError, Global};
 
-/// Writes the next rows to side B; how many are written then.
+/// Writes the next rows to side B, and returns how many are then written.
 fn next<D: Disk>(
     disk: &mut D,
     layout: &Layout,
@@ -27,7 +29,7 @@ fn next<D: Disk>(
     Some(progress.written())
 }
 
-/// Writes the image with epoch 2 to side B in three calls, and syncs it; how many rows are written after each.
+/// Writes the image with epoch 2 to side B in three calls, and syncs it. Returns how many rows are written after each call.
 fn in_three_calls<D: Disk>(
     disk: &mut D,
     layout: &Layout,
@@ -93,7 +95,7 @@ fn add_to<D: Disk>(
 ) -> Option<bool>
     requires end { first.old.end ≡ 628 }
     requires none { first.old.count ≡ 0 }
-    requires behind { second.old.first ≡ 628 }
+    requires other_first { second.old.first ≡ 628 }
     requires other_end { second.old.end ≡ 667 }
     requires sixteen { second.old.count ≡ 16 }
 {
@@ -104,15 +106,15 @@ fn add_to<D: Disk>(
     Some(first.append_both(disk, second, &commands).is_ok())
 }
 
-/// Adds one record to both halves, each still empty: one behind no command, the other behind the register's 16.
+/// Adds one record to both halves, which are still empty: the first after no command, the second after the register's 16.
 fn add<D: Disk>(alloc: Global, disk: &mut D, command: &Command<Global>) -> Option<bool> {
     let mut first = Journal::start(alloc, 589, 39, Form::Numbered, 0).ok()?;
     let mut second = Journal::start(alloc, 628, 39, Form::Numbered, 16).ok()?;
     add_to(disk, &mut first, &mut second, command)
 }
 
-/// A checkpoint beside one record: begun (3 calls), the record added to both halves (8), the rows written and synced
-/// (19), and switched to (2).
+/// Makes a checkpoint beside one record: begins it (3 calls), adds the record to both halves (8), writes and syncs the rows
+/// (19), and switches to the other side (2).
 fn beside<D: Disk>(
     alloc: Global,
     disk: &mut D,
@@ -126,7 +128,7 @@ fn beside<D: Disk>(
         && turn(disk, layout, Side::A).is_none()
 }
 
-/// How many records a half of 39 sectors has behind so many commands.
+/// How many records a half of 39 sectors has, which come after so many commands.
 fn records<D: Disk>(alloc: Global, disk: &mut D, first: u32, before: u32) -> Option<usize> {
     let first = u64::from(first);
     if disk.sectors() < first + 39 {
@@ -143,7 +145,7 @@ fn records<D: Disk>(alloc: Global, disk: &mut D, first: u32, before: u32) -> Opt
     Some(records.len())
 }
 
-/// Fills each pending sector with a byte.
+/// A stop that fills each pending sector with a byte.
 fn stopped(
     alloc: Global,
     disk: MemoryDisk<Global>,
@@ -156,7 +158,7 @@ fn stopped(
     Ok(disk.crash(&fill))
 }
 
-/// The epoch of the side that counts after a stop behind the failing call, and how many records its half has.
+/// After a stop after the failing call: the epoch of the current side, and how many records its half has.
 fn left(
     alloc: Global,
     layout: &Layout,
@@ -169,7 +171,7 @@ fn left(
     let done = beside(alloc, &mut disk, layout, register, &command);
     drop(command);
     let mut left = stopped(alloc, disk.into_inner(), byte).ok()?;
-    let epoch = standing(&mut left).unwrap_or(0);
+    let epoch = current_epoch(&mut left).unwrap_or(0);
     let (first, before) = if epoch == 2 { (628, 16) } else { (589, 0) };
     let held = records(alloc, &mut left, first, before);
     drop(left);
@@ -177,7 +179,7 @@ fn left(
     (done == (call > 32)).then_some((epoch, held))
 }
 
-/// What is left there: the second image once its root is open, and the record once the current side's gate is.
+/// What the stop should leave: the second image once its root is open, and the record once the current side's gate is.
 fn wanted(call: u64, byte: u8) -> (u8, usize) {
     let epoch = if call > 32 || (call == 32 && byte == 1) {
         2

@@ -20,7 +20,7 @@ const FORMATTED: [u8; 33] = [
     0, 0,
 ];
 
-/// The rows of a register after a rule and a location update, the first without its tag and its epoch.
+/// The rows of a register after a rule and a location update. The header is without its tag and its epoch.
 const HEADER: [u8; 24] = [
     0, 0, 0, 0, 0, 0, 0, 2, 0, 0, 0, 1, 0, 0, 0, 1, 0, 0, 0, 0, 0, 0, 0, 1,
 ];
@@ -62,7 +62,7 @@ fn update(alloc: Global) -> Option<Command<Global>> {
     made(2, Moment::new(10), Body::Mm { itsi, area, pdu })
 }
 
-/// Gives the register the command.
+/// Applies the command, if there is one.
 fn apply(alloc: Global, register: &mut Register<Global>, command: Option<Command<Global>>) {
     if let Some(command) = command {
         drop(register.apply(alloc, &command));
@@ -78,7 +78,7 @@ pub fn register(alloc: Global, limits: Limits) -> Option<Register<Global>> {
     Some(register)
 }
 
-/// A rule for the radios of the network of this number after the first one's.
+/// A rule for the radios of a network, the one of this number after the network of `rule`.
 fn rule_after(number: u32) -> Option<Command<Global>> {
     let prefix = Prefix::new(0x3a80_0e00_0000 + (u64::from(number) << 24), 24)?;
     let low = LocationArea::new(1)?;
@@ -96,21 +96,21 @@ pub fn sixteen_rules(alloc: Global, limits: Limits) -> Option<Register<Global>> 
     Some(register)
 }
 
-/// A command without a reply's PDU.
+/// A command whose reply has no PDU.
 pub fn expiry(sequence: u32) -> Option<Command<Global>> {
     made(sequence, Moment::new(11), Body::Expire)
 }
 
-/// A sector that begins with these bytes, with zeros behind them.
-pub fn sector(front: &[u8]) -> [u8; 512] {
+/// A sector that begins with these bytes, with zeros after them.
+pub fn sector(prefix: &[u8]) -> [u8; 512] {
     let mut bytes = [0; 512];
-    for (byte, given) in bytes.iter_mut().zip(front) {
+    for (byte, given) in bytes.iter_mut().zip(prefix) {
         *byte = *given;
     }
     bytes
 }
 
-/// Makes a disk of zeros one that stands by side A for an empty register with epoch 1.
+/// Formats a disk of zeros: it is then on side A, with an empty register and epoch 1.
 fn format<D: Disk>(disk: &mut D) -> Result<(), DiskError> {
     disk.write(3, &sector(&FORMATTED))?;
     disk.write(1, &sector(&[1]))?;
@@ -123,7 +123,7 @@ pub fn formatted(alloc: Global) -> Option<MemoryDisk<Global>> {
     formatted_for(alloc, 99)
 }
 
-/// The worked disk, after it was formatted, which records so many calls.
+/// The same with room for a record of so many calls.
 pub fn formatted_for(alloc: Global, calls: u32) -> Option<MemoryDisk<Global>> {
     let mut disk = MemoryDisk::new(alloc, 667, calls as usize).ok()?;
     let formatted = format(&mut disk).is_ok();
@@ -186,8 +186,8 @@ fn epoch_at<D: Disk>(disk: &mut D, at: u64) -> Result<u8, DiskError> {
     Ok(if is_header { bytes[8] } else { 0 })
 }
 
-/// The epoch of the side whose root is open, the greater one where both are.
-pub fn standing<D: Disk>(disk: &mut D) -> Result<u8, DiskError> {
+/// The epoch of the side whose root is open, or the greater one where both roots are.
+pub fn current_epoch<D: Disk>(disk: &mut D) -> Result<u8, DiskError> {
     let first = if begins(disk, 1, &[1])? {
         epoch_at(disk, 3)?
     } else {

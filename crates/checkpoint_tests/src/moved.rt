@@ -1,9 +1,9 @@
 //! A disk of layout 1, put together by hand, whose next image is of layout 2.
 use crate::made::{
-    begins, begun, formatted_for, is_image, layout, register, sector, standing, turn, write,
+    begins, begun, current_epoch, formatted_for, is_image, layout, register, sector, turn, write,
 };
 use centre_core::Register;
-use checkpoint::{Layout, Side, form_told};
+use checkpoint::{Layout, Side, stated_form};
 use gated_journal::{Form, Journal, Place};
 use sector_disk::{Disk, DiskError, MemoryDisk};
 use std::alloc::Global;
@@ -22,7 +22,7 @@ fn put<D: Disk>(disk: &mut D) -> Result<(), DiskError> {
     disk.sync()
 }
 
-/// A disk that stands by side A, of layout 1, with one record.
+/// A disk of layout 1 that is on side A, with one record.
 fn plain(alloc: Global) -> Option<MemoryDisk<Global>> {
     let mut disk = formatted_for(alloc, 199)?;
     let is_put = put(&mut disk).is_ok();
@@ -36,11 +36,11 @@ fn is_kept<D: Disk>(disk: &mut D) -> Result<bool, DiskError> {
     Ok(image && record && begins(disk, 591, &[0; 512])?)
 }
 
-/// The form of the records behind the image whose header is in this sector.
+/// The form of the records after the image whose header is in this sector.
 fn form<D: Disk>(disk: &mut D, at: u64) -> Result<Form, DiskError> {
     let mut bytes = [7; 512];
     disk.read(at, &mut bytes)?;
-    Ok(form_told(&bytes))
+    Ok(stated_form(&bytes))
 }
 
 /// How many records half A has in this form.
@@ -59,29 +59,29 @@ fn records<D: Disk>(alloc: Global, disk: &mut D, form: Form) -> Option<usize> {
     Some(records.len())
 }
 
-/// Whether side A still stands, with its record, in its form.
-fn stands<D: Disk>(alloc: Global, disk: &mut D) -> Result<bool, DiskError> {
-    let plain = standing(disk)? == 1 && form(disk, 3)? == Form::Plain;
+/// Whether side A is still current, with its record, in its form.
+fn is_current<D: Disk>(alloc: Global, disk: &mut D) -> Result<bool, DiskError> {
+    let plain = current_epoch(disk)? == 1 && form(disk, 3)? == Form::Plain;
     Ok(plain && is_kept(disk)? && records(alloc, disk, Form::Plain) == Some(1))
 }
 
-/// Whether side B stands, with the image of the register and the tag of layout 2, and side A is left as it was.
+/// Whether side B is current, with the image of the register and the tag of layout 2, and side A is left as it was.
 fn is_moved<D: Disk>(disk: &mut D) -> Result<bool, DiskError> {
     let image = is_image(disk, 296, 2)? && begins(disk, 296, &[22])?;
-    let numbered = standing(disk)? == 2 && form(disk, 296)? == Form::Numbered;
+    let numbered = current_epoch(disk)? == 2 && form(disk, 296)? == Form::Numbered;
     Ok(image && numbered && begins(disk, 628, &[0; 512])? && is_kept(disk)?)
 }
 
-/// Whether each call but the last one leaves side A standing, and the last one makes side B count.
+/// Whether each call but the last one leaves side A current, and the last one makes side B current.
 fn moves<D: Disk>(
     alloc: Global,
     disk: &mut D,
     layout: &Layout,
     register: &Register<Global>,
 ) -> Result<bool, DiskError> {
-    let before = stands(alloc, disk)?;
-    let closed = begun(disk, layout) && stands(alloc, disk)?;
-    let written = write(disk, layout, Side::A, 1, register).is_none() && stands(alloc, disk)?;
+    let before = is_current(alloc, disk)?;
+    let closed = begun(disk, layout) && is_current(alloc, disk)?;
+    let written = write(disk, layout, Side::A, 1, register).is_none() && is_current(alloc, disk)?;
     let moved = turn(disk, layout, Side::A).is_none() && is_moved(disk)?;
     Ok(before && closed && written && moved)
 }

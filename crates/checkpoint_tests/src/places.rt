@@ -3,7 +3,7 @@ use checkpoint::{Layout, Side};
 use registration::Limits;
 use std::test::Fail;
 
-/// Whether the side's root, slot and half lie there.
+/// Whether the side's root, slot and half begin at these sectors.
 fn are(layout: &Layout, side: Side, want: [u64; 3]) -> bool {
     [layout.root(side), layout.slot(side), layout.half(side)] == want
 }

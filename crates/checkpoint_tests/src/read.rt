@@ -9,7 +9,7 @@ use sector_disk::{Disk, DiskError, Failing, FailingDisk, MemoryDisk};
 use std::alloc::{Allocator, Global};
 
 /// The image of a register with a rule, two radios and an item, which has accepted six commands. Its epoch is 7, and its
-/// header of layout 2.
+/// header is of layout 2.
 const ROWS: [&[u8]; 6] = [
     &[
         22, 0, 0, 0, 0, 0, 0, 0, 7, 0, 0, 0, 0, 0, 0, 0, 6, 0, 0, 0, 1, 0, 0, 0, 2, 0, 0, 0, 1, 0,
@@ -30,7 +30,7 @@ const ROWS: [&[u8]; 6] = [
 /// The header of an empty register with epoch 1, of layout 1.
 const EMPTY: [u8; 9] = [16, 0, 0, 0, 0, 0, 0, 0, 1];
 
-/// Puts the empty register into the slot of side A and the rows into that of side B, and no row behind either.
+/// Puts the empty register into the slot of side A and the rows into that of side B. No row follows either image.
 fn put<D: Disk>(disk: &mut D) -> Result<(), DiskError> {
     for at in 1..7 {
         disk.write(3 + at, &[255; 512])?;
@@ -141,7 +141,7 @@ fn is_empty(alloc: Global, layout: &Layout) -> Option<bool> {
     Some(is_empty && limited)
 }
 
-/// Whether both images are.
+/// Whether each of the two images is read as it was put.
 fn are_read(alloc: Global) -> Option<[bool; 2]> {
     let layout = layout()?;
     Some([is_read(alloc, &layout)?, is_empty(alloc, &layout)?])
@@ -152,12 +152,12 @@ fn rows_by_hand_are_read_back(rt: HostRuntime) {
     assert!(rt; are_read(rt.alloc()) == Some([true, true]));
 }
 
-/// Why the image of side B is not read; nothing where it is.
+/// Why the image of side B is not read; `None` where it is.
 fn fault<D: Disk>(alloc: Global, layout: &Layout, disk: &mut D) -> Option<ReadFault> {
     read(disk, layout, Side::B, alloc).err()
 }
 
-/// Why it is not read with these bytes in that sector; nothing where it is.
+/// The same with these bytes in that sector.
 fn fault_with(alloc: Global, layout: &Layout, at: u64, bytes: &[u8]) -> Option<Option<ReadFault>> {
     let mut disk = disk(alloc)?;
     let _written = disk.write(at, &sector(bytes));
@@ -166,30 +166,36 @@ fn fault_with(alloc: Global, layout: &Layout, at: u64, bytes: &[u8]) -> Option<O
     Some(fault)
 }
 
-/// Whether the sector is told with no row in it, and with this row, which is out of its place.
-fn is_told(alloc: Global, layout: &Layout, at: u64, row: &[u8]) -> Option<bool> {
-    let told = Some(ReadFault::Damaged(at));
-    Some(fault_with(alloc, layout, at, &[])? == told && fault_with(alloc, layout, at, row)? == told)
+/// Whether the sector is reported where it holds no row, and where it holds this row, which is out of place.
+fn is_reported(alloc: Global, layout: &Layout, at: u64, row: &[u8]) -> Option<bool> {
+    let damaged = Some(ReadFault::Damaged(at));
+    Some(
+        fault_with(alloc, layout, at, &[])? == damaged
+            && fault_with(alloc, layout, at, row)? == damaged,
+    )
 }
 
-/// Whether each row is told that is no row, or the header once more, and none behind them.
-fn are_told(alloc: Global) -> Option<bool> {
+/// Whether each sector of the image is reported where it holds no row or a row out of place, and no sector after the image is.
+fn are_reported(alloc: Global) -> Option<bool> {
     let layout = layout()?;
     let [header, rule, _, _, _, _] = ROWS;
     for at in 297..302 {
-        if !is_told(alloc, &layout, at, header)? {
+        if !is_reported(alloc, &layout, at, header)? {
             return Some(false);
         }
     }
-    Some(is_told(alloc, &layout, 296, rule)? && fault_with(alloc, &layout, 302, header)?.is_none())
+    Some(
+        is_reported(alloc, &layout, 296, rule)?
+            && fault_with(alloc, &layout, 302, header)?.is_none(),
+    )
 }
 
 #[test]
-fn the_first_bad_sector_is_told(rt: HostRuntime) {
-    assert!(rt; are_told(rt.alloc()) == Some(true));
+fn the_first_bad_sector_is_reported(rt: HostRuntime) {
+    assert!(rt; are_reported(rt.alloc()) == Some(true));
 }
 
-/// Why it is not read where the call of this number fails, and how many calls within it failed.
+/// Why it is not read where the call of this number fails, and how many calls have failed.
 fn fault_at(
     alloc: Global,
     layout: &Layout,
@@ -203,7 +209,7 @@ fn fault_at(
     Some((fault, failures))
 }
 
-/// Whether each of six reads that fails is told, and there is no seventh.
+/// Whether each of six reads is reported where it fails, and there is no seventh read.
 fn are_six(alloc: Global, layout: &Layout, failing: Failing) -> Option<bool> {
     for call in 1..7 {
         if fault_at(alloc, layout, call, failing)?.0 != Some(ReadFault::DiskFault) {
@@ -213,7 +219,7 @@ fn are_six(alloc: Global, layout: &Layout, failing: Failing) -> Option<bool> {
     Some(fault_at(alloc, layout, 7, failing)? == (None, 0))
 }
 
-/// Whether they are, with one failing call and with all later ones.
+/// The same where one call fails, and where all later ones do too.
 fn are_six_reads(alloc: Global) -> Option<[bool; 2]> {
     let layout = layout()?;
     let once = are_six(alloc, &layout, Failing::Once)?;
@@ -225,12 +231,12 @@ fn six_rows_are_six_reads(rt: HostRuntime) {
     assert!(rt; are_six_reads(rt.alloc()) == Some([true, true]));
 }
 
-/// Why the image is not read in a heap, which gets all of its memory back; nothing where it is read.
+/// Why the image is not read in a heap, which gets all of its memory back; `None` where it is read.
 fn in_heap<'a, D: Disk>(heap: &'a LocalHeap, layout: &Layout, disk: &mut D) -> Option<ReadFault> {
     read(disk, layout, Side::B, heap).err()
 }
 
-/// The same in a heap of this size, and how much of it is then in use.
+/// The same in a heap of this size, with how much of it is then in use.
 fn in_heap_of<D: Disk>(
     alloc: Global,
     size: usize,
@@ -242,7 +248,7 @@ fn in_heap_of<D: Disk>(
     Some((fault, heap.used()))
 }
 
-/// How many heaps were too small before the image was read; nothing where one didn't get all of its memory back.
+/// How many heaps were too small before the image was read; `None` where a heap didn't get all of its memory back.
 fn refused<D: Disk>(alloc: Global, layout: &Layout, disk: &mut D) -> Option<usize> {
     for k in 0..200 {
         match in_heap_of(alloc, 200 + 32 * k, layout, disk)? {

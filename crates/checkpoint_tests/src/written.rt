@@ -1,13 +1,13 @@
-//! Images that are written, and counted once the sides are switched.
-use crate::made::{begins, formatted, is_image, layout, register, standing, turn, write};
+//! Images that are written, and count once the sides are switched.
+use crate::made::{begins, current_epoch, formatted, is_image, layout, register, turn, write};
 use centre_core::Register;
 use checkpoint::{CheckpointError, Layout, Side};
 use sector_disk::{Disk, DiskError};
 use std::alloc::Global;
 
-/// Whether side A still stands, with its first image, and side B has one with epoch 2 and no record.
+/// Whether side A is still current, with its first image, and side B has one with epoch 2 and no record.
 fn is_ready<D: Disk>(disk: &mut D) -> Result<bool, DiskError> {
-    let old = standing(disk)? == 1 && begins(disk, 3, &[22, 0, 0, 0, 0, 0, 0, 0, 1])?;
+    let old = current_epoch(disk)? == 1 && begins(disk, 3, &[22, 0, 0, 0, 0, 0, 0, 0, 1])?;
     Ok(old && is_image(disk, 296, 2)? && begins(disk, 628, &[0; 512])?)
 }
 
@@ -18,10 +18,10 @@ fn goes_round<D: Disk>(
     register: &Register<Global>,
 ) -> Result<bool, DiskError> {
     let first = write(disk, layout, Side::A, 1, register).is_none() && is_ready(disk)?;
-    let second = turn(disk, layout, Side::A).is_none() && standing(disk)? == 2;
-    let third = write(disk, layout, Side::B, 2, register).is_none() && standing(disk)? == 2;
+    let second = turn(disk, layout, Side::A).is_none() && current_epoch(disk)? == 2;
+    let third = write(disk, layout, Side::B, 2, register).is_none() && current_epoch(disk)? == 2;
     let back = is_image(disk, 3, 3)? && begins(disk, 1, &[0])? && begins(disk, 589, &[0; 512])?;
-    let last = turn(disk, layout, Side::B).is_none() && standing(disk)? == 3;
+    let last = turn(disk, layout, Side::B).is_none() && current_epoch(disk)? == 3;
     Ok(first && second && third && back && last)
 }
 
@@ -46,7 +46,7 @@ fn from_side_to_side(rt: HostRuntime) {
     assert!(rt; is_round(rt.alloc()) == Some(true));
 }
 
-/// Whether an image with this epoch is refused, and no sector touched.
+/// Whether an image with this epoch is refused, and no sector changed.
 fn is_refused(
     alloc: Global,
     layout: &Layout,
@@ -55,7 +55,8 @@ fn is_refused(
 ) -> Option<bool> {
     let mut disk = formatted(alloc)?;
     let refused = write(&mut disk, layout, Side::A, epoch, register);
-    let untouched = standing(&mut disk) == Ok(1) && begins(&mut disk, 296, &[0; 512]) == Ok(true);
+    let untouched = current_epoch(&mut disk) == Ok(1)
+        && begins(&mut disk, 296, &[0; 512]) == Ok(true);
     drop(disk);
     Some(refused == Some(CheckpointError::EpochsUsedUp) && untouched)
 }

@@ -13,11 +13,11 @@ use Rattle.command_bytes.specs.Fields.{◌>>=◌, big, number_at}
 use Rattle.command_bytes.specs.Text.{prefix_text, rule_text, bits_text, tag_of, body_text, command_text, IsCommand}
 use Rattle.command_bytes.specs.Reading.{Read, prefix_at, rule_at, bits_at, area_at, key_at, rule_set_at, rule_clear_at, mm_at, sds_at, sent_at, delete_at, group_sds_at, body_at, first_command}
 use Rattle.command_bytes.proofs.Numbers.{number_small, number_again}
-use Rattle.command_bytes.proofs.Steps.{Takes, behind, bind_some, some_is, some_unless, then_again, last_again}
+use Rattle.command_bytes.proofs.Steps.{Takes, takes_both, bind_some, some_is, some_unless, then_again, last_again}
 use Rattle.command_bytes.proofs.PartLaws.{number_read, prefix_takes, prefix_again, bits_takes, bits_again, area_takes, area_again, rule_takes, rule_again, key_takes, key_again}
 
 module _ {A : Type 0} where
-  -- what was read of a body behind a tag
+  -- what was read of a body after a tag
   record Reads (tag : ℕ) (bytes : List ℕ) (x : Body A × List ℕ) : Type 0 where
     pub named : tag_of x.0 ≡ tag
     pub takes : Takes bytes (body_text x.0) x.1
@@ -35,7 +35,7 @@ module _ {A : Type 0} where
       let rule : Rule × List ℕ = b.0 in
       let second = rule_takes prefix.1 rule first.0.are b.1 in
       subst (λ (y : Body A × List ℕ). Reads 1 bytes y) (some_is (RuleSet prefix.0 rule.0, rule.1) x b.2)
-      (record { named = refl; takes = behind (prefix_text prefix.0) (rule_text rule.0) first.0 second.0; fits = (first.1, second.1) })
+      (record { named = refl; takes = takes_both (prefix_text prefix.0) (rule_text rule.0) first.0 second.0; fits = (first.1, second.1) })
 
   rule_clear_takes : (bytes : List ℕ) (x : Body A × List ℕ) → AreBytes bytes → rule_clear_at bytes ≡ Some x → Reads 2 bytes x
   unfolding rule_clear_at
@@ -58,7 +58,7 @@ module _ {A : Type 0} where
       let pdu : List Bool × List ℕ = c.0 in
       let third = bits_takes area.1 pdu second.0.are c.1 in
       subst (λ (y : Body A × List ℕ). Reads 3 bytes y) (some_is (Mm itsi.0 area.0 pdu.0, pdu.1) x c.2)
-      (record { named = refl; takes = behind (big 6 itsi.0) (big 2 area.0 ++ bits_text pdu.0) first (behind (big 2 area.0) (bits_text pdu.0) second.0 third.0); fits = (number_small 6 bytes itsi are a.1, second.1, third.1) })
+      (record { named = refl; takes = takes_both (big 6 itsi.0) (big 2 area.0 ++ bits_text pdu.0) first (takes_both (big 2 area.0) (bits_text pdu.0) second.0 third.0); fits = (number_small 6 bytes itsi are a.1, second.1, third.1) })
 
   -- two identities and a PDU
   three_takes : (make : ℕ → ℕ → List Bool → Body A) (tag : ℕ) (bytes : List ℕ) (x : Body A × List ℕ)
@@ -75,7 +75,7 @@ module _ {A : Type 0} where
       let c = bind_some (bits_at other.1) (λ pdu. Some (make source.0 other.0 pdu.0, pdu.1)) x b.2 in
       let pdu : List Bool × List ℕ = c.0 in
       let third = bits_takes other.1 pdu second.are c.1 in
-      let text : Takes bytes (big 6 source.0 ++ (big 6 other.0 ++ bits_text pdu.0)) pdu.1 = behind (big 6 source.0) (big 6 other.0 ++ bits_text pdu.0) first (behind (big 6 other.0) (bits_text pdu.0) second third.0) in
+      let text : Takes bytes (big 6 source.0 ++ (big 6 other.0 ++ bits_text pdu.0)) pdu.1 = takes_both (big 6 source.0) (big 6 other.0 ++ bits_text pdu.0) first (takes_both (big 6 other.0) (bits_text pdu.0) second third.0) in
       subst (λ (y : Body A × List ℕ). Reads tag bytes y) (some_is (make source.0 other.0 pdu.0, pdu.1) x c.2)
       (record {
         named = (is source.0 other.0 pdu.0).0;
@@ -217,10 +217,10 @@ module _ {A : Type 0} where
       let named : Takes moment.1 (big 1 (tag_of body.0)) tag.1 = subst (λ (n : ℕ). Takes moment.1 (big 1 n) tag.1) (sym fifth.named) fourth in
       let h = some_unless (eqb sequence.0 0) (Some (record { station = station.0; sequence = sequence.0; moment = moment.0; body = body.0 }, body.1)) (c, rest) g.2 in
       let above : 0 < sequence.0 = not_zero sequence.0 h.0 in
-      let text = behind (big 2 station.0) (big 4 sequence.0 ++ (big 4 moment.0 ++ (big 1 (tag_of body.0) ++ body_text body.0))) first
-      (behind (big 4 sequence.0) (big 4 moment.0 ++ (big 1 (tag_of body.0) ++ body_text body.0)) second
-      (behind (big 4 moment.0) (big 1 (tag_of body.0) ++ body_text body.0) third
-      (behind (big 1 (tag_of body.0)) (body_text body.0) named fifth.takes))) in
+      let text = takes_both (big 2 station.0) (big 4 sequence.0 ++ (big 4 moment.0 ++ (big 1 (tag_of body.0) ++ body_text body.0))) first
+      (takes_both (big 4 sequence.0) (big 4 moment.0 ++ (big 1 (tag_of body.0) ++ body_text body.0)) second
+      (takes_both (big 4 moment.0) (big 1 (tag_of body.0) ++ body_text body.0) third
+      (takes_both (big 1 (tag_of body.0)) (body_text body.0) named fifth.takes))) in
       subst (λ (y : Asked A × List ℕ). IsCommand y.0 × (bytes ≡ command_text y.0 ++ y.1) × AreBytes y.1) (some_is (record { station = station.0; sequence = sequence.0; moment = moment.0; body = body.0 }, body.1) (c, rest) h.1) (
         record {
           station = number_small 2 bytes station are a.1;

@@ -1,7 +1,7 @@
 pub mod Numbers
 pub mod Lefts
 pub mod Steps
-pub mod Fronts
+pub mod Prefixes
 pub mod Packed
 pub mod Putting
 pub mod PartLaws

@@ -73,7 +73,7 @@ some_of : {A : Type 0} (b : Bool) (x y : A) → cond b None (Some x) ≡ Some y 
 some_of true x y e = absurd cc
 some_of false x y e = (refl, cc)
 
--- what was read is the number's text and what is behind it
+-- what was read is the number's text and what is after it
 pub number_takes : (w : ℕ) (bytes : List ℕ) (x : ℕ × List ℕ) → AreBytes bytes → number_at w bytes ≡ Some x → (bytes ≡ big w x.0 ++ x.1) × AreBytes x.1
 unfolding number_at
 number_takes w bytes x are e =

@@ -1,4 +1,4 @@
--- Bits in bytes: the front of some bytes, what fills the last one, and bytes as one number.
+-- Bits in bytes: the prefix of some bytes, what fills the last one, and bytes as one number.
 use Rattle.std.proofs.Common.{◌≡◌, ℕ, zero, suc, ◌+◌, ◌-◌, ◌*◌, ◌/◌, ◌%◌, ◌^◌, ◌<◌, ◌≤◌, min, Bool, true, false, List, [], ◌∷◌, ◌++◌, length, slice_index, take, drop, replicate, Some, None, refl, sym, ap, subst, ◌∙◌, arith, append_assoc, inl, inr}
 use Rattle.std.specs.Prelude.{not, ◌==◌}
 use Rattle.std.specs.List.{list_all, flat_map}
@@ -14,7 +14,7 @@ use Rattle.identity.specs.Inside.NumberLaws.{length-num, num-append, num-mod, ta
 use Rattle.identity.specs.Packed.{AreBytes, bits_of}
 use Rattle.identity.proofs.Bytes.{length-bits_of}
 use Rattle.identity.proofs.SameBytes.{bytes_from_bits}
-use Rattle.command_bytes.specs.Fields.{◌>>=◌, big, left, front, number_at, left_at}
+use Rattle.command_bytes.specs.Fields.{◌>>=◌, big, left, unpadded, number_at, left_at}
 use Rattle.command_bytes.proofs.Numbers.{are-big, big-read}
 use Rattle.command_bytes.proofs.Lefts.{all_zeros, zeros_all, pow_256}
 
@@ -47,9 +47,9 @@ is_left w bytes bits are long le is =
 
 -- ---- the first bits of bytes, as a number
 
-pub front_bytes : (bytes : List ℕ) (left width value v : ℕ) → AreBytes bytes → value ≡ big_number (length bytes) bytes → width ≡ min left (8 * length bytes) → v ≡ value / 2 ^ (8 * length bytes - width)
+pub prefix_bytes : (bytes : List ℕ) (left width value v : ℕ) → AreBytes bytes → value ≡ big_number (length bytes) bytes → width ≡ min left (8 * length bytes) → v ≡ value / 2 ^ (8 * length bytes - width)
     → (num width v ≡ take left (bits_of bytes)) × (v < 2 ^ width)
-front_bytes bytes left width value v are is_value is_width is_v = (
+prefix_bytes bytes left width value v are is_value is_width is_v = (
   rw is_v (sym (take-num width (8 * length bytes) value (omega (arith, is_width)))) ∙ ap (take width) bits ∙ same,
   rw is_v (shr_below value width (8 * length bytes - width) (subst (λ (n : ℕ). value < 2 ^ n) whole small)),
 )
@@ -77,23 +77,23 @@ take_as n m bits e = ap (λ (k : ℕ). take k bits) e
 drop_as : (n m : ℕ) (bits : List Bool) → n ≡ m → drop n bits ≡ drop m bits
 drop_as n m bits e = ap (λ (k : ℕ). drop k bits) e
 
-take_behind : (n : ℕ) (ahead behind : List Bool) → take n (ahead ++ behind) ≡ take n ahead ++ take (n - length ahead) behind
-take_behind zero [] behind = take_as 0 (0 - 0) behind (omega arith)
-take_behind (suc n) [] behind = take_as (suc n) (suc n - 0) behind (omega arith)
-take_behind zero (b ∷ ahead) behind = take_as 0 (0 - suc (length ahead)) behind (omega arith)
-take_behind (suc n) (b ∷ ahead) behind = ap (λ (l : List Bool). b ∷ l) (take_behind n ahead behind ∙ ap (λ (l : List Bool). take n ahead ++ l) (take_as (n - length ahead) (suc n - suc (length ahead)) behind (omega arith)))
+take_after : (n : ℕ) (ahead following : List Bool) → take n (ahead ++ following) ≡ take n ahead ++ take (n - length ahead) following
+take_after zero [] following = take_as 0 (0 - 0) following (omega arith)
+take_after (suc n) [] following = take_as (suc n) (suc n - 0) following (omega arith)
+take_after zero (b ∷ ahead) following = take_as 0 (0 - suc (length ahead)) following (omega arith)
+take_after (suc n) (b ∷ ahead) following = ap (λ (l : List Bool). b ∷ l) (take_after n ahead following ∙ ap (λ (l : List Bool). take n ahead ++ l) (take_as (n - length ahead) (suc n - suc (length ahead)) following (omega arith)))
 
--- what was put of the first bytes, and what is still to be put of those behind them
-pub next_bits : (out now : List Bool) (bytes front behind : List ℕ) (k n m : ℕ) → front ≡ take k bytes → behind ≡ drop k bytes → m ≡ n - 8 * length front → now ≡ out ++ take n (bits_of front)
-    → now ++ take m (bits_of behind) ≡ out ++ take n (bits_of bytes)
+-- what was put of the first bytes, and what is still to be put of those after them
+pub next_bits : (out now : List Bool) (bytes prefix following : List ℕ) (k n m : ℕ) → prefix ≡ take k bytes → following ≡ drop k bytes → m ≡ n - 8 * length prefix → now ≡ out ++ take n (bits_of prefix)
+    → now ++ take m (bits_of following) ≡ out ++ take n (bits_of bytes)
 unfolding bits_of
-next_bits out now bytes front behind k n m front_is behind_is is put =
-    let parts : front ++ behind ≡ bytes = ap (λ (l : List ℕ). l ++ behind) front_is ∙ ap (λ (l : List ℕ). take k bytes ++ l) behind_is ∙ take-append-drop k bytes in
-    let all : bits_of bytes ≡ bits_of front ++ bits_of behind = ap (flat_map (num 8)) (sym parts) ∙ flat_map-append (num 8) front behind in
-    let rest = take m (bits_of behind) in
-    let part : take n (bits_of front ++ bits_of behind) ≡ take n (bits_of front) ++ rest =
-    take_behind n (bits_of front) (bits_of behind) ∙ ap (λ (l : List Bool). take n (bits_of front) ++ l) (take_as (n - length (bits_of front)) m (bits_of behind) (omega (arith, length-bits_of front, is))) in
-    ap (λ (l : List Bool). l ++ rest) put ∙ append_assoc out (take n (bits_of front)) rest ∙ ap (λ (l : List Bool). out ++ l) (sym part ∙ ap (take n) (sym all))
+next_bits out now bytes prefix following k n m prefix_is after_is is put =
+    let parts : prefix ++ following ≡ bytes = ap (λ (l : List ℕ). l ++ following) prefix_is ∙ ap (λ (l : List ℕ). take k bytes ++ l) after_is ∙ take-append-drop k bytes in
+    let all : bits_of bytes ≡ bits_of prefix ++ bits_of following = ap (flat_map (num 8)) (sym parts) ∙ flat_map-append (num 8) prefix following in
+    let rest = take m (bits_of following) in
+    let part : take n (bits_of prefix ++ bits_of following) ≡ take n (bits_of prefix) ++ rest =
+    take_after n (bits_of prefix) (bits_of following) ∙ ap (λ (l : List Bool). take n (bits_of prefix) ++ l) (take_as (n - length (bits_of prefix)) m (bits_of following) (omega (arith, length-bits_of prefix, is))) in
+    ap (λ (l : List Bool). l ++ rest) put ∙ append_assoc out (take n (bits_of prefix)) rest ∙ ap (λ (l : List Bool). out ++ l) (sym part ∙ ap (take n) (sym all))
 
 no_bits : List Bool
 no_bits = []
@@ -121,12 +121,12 @@ test k v =
     not_all true e other = absurd (other (zeros_then k v (all_zeros (num k v) e ∙ ap (λ (n : ℕ). replicate n false) (length-num k v))))
     not_all false e other = sym e
 
-drop_on : (n : ℕ) (ahead behind : List Bool) → length ahead ≤ n → drop n (ahead ++ behind) ≡ drop (n - length ahead) behind
-drop_on n [] behind le = drop_as n (n - 0) behind (omega arith)
-drop_on zero (b ∷ ahead) behind le = absurd (omega arith)
-drop_on (suc n) (b ∷ ahead) behind le = drop_on n ahead behind (omega arith) ∙ drop_as (n - length ahead) (suc n - suc (length ahead)) behind (omega arith)
+drop_on : (n : ℕ) (ahead following : List Bool) → length ahead ≤ n → drop n (ahead ++ following) ≡ drop (n - length ahead) following
+drop_on n [] following le = drop_as n (n - 0) following (omega arith)
+drop_on zero (b ∷ ahead) following le = absurd (omega arith)
+drop_on (suc n) (b ∷ ahead) following le = drop_on n ahead following (omega arith) ∙ drop_as (n - length ahead) (suc n - suc (length ahead)) following (omega arith)
 
--- the bits behind the first ones, where these end in the last byte
+-- the bits after the first ones, where these end in the last byte
 last_bits : (bytes : List ℕ) (len : ℕ) → 0 < length bytes → len ≤ 8 * length bytes → 8 * length bytes < len + 8 → drop len (bits_of bytes) ≡ num (8 * length bytes - len) (slice_index bytes (length bytes - 1))
 unfolding bits_of
 last_bits [] len some room tight = absurd (omega arith)
@@ -160,9 +160,9 @@ pub left_short : (w n : ℕ) (bytes : List ℕ) → length bytes < w → left_at
 unfolding left_at number_at
 left_short w n bytes short = rw (lt-ltb (length bytes) w short) refl
 
-left_cut : (w n : ℕ) (bytes : List ℕ) → AreBytes bytes → w ≤ length bytes → left_at w n bytes ≡ (front n (bits_of (take w bytes)) >>= λ bits. Some (bits, drop w bytes))
+left_cut : (w n : ℕ) (bytes : List ℕ) → AreBytes bytes → w ≤ length bytes → left_at w n bytes ≡ (unpadded n (bits_of (take w bytes)) >>= λ bits. Some (bits, drop w bytes))
 unfolding left_at number_at
-left_cut w n bytes are le = rw (le-ltb (length bytes) w le) (ap (λ (l : List Bool). front n l >>= λ bits. Some (bits, drop w bytes)) (number_bits w bytes are le))
+left_cut w n bytes are le = rw (le-ltb (length bytes) w le) (ap (λ (l : List Bool). unpadded n l >>= λ bits. Some (bits, drop w bytes)) (number_bits w bytes are le))
 
 pub left_unfilled : (w n : ℕ) (bytes : List ℕ) → AreBytes bytes → w ≤ length bytes → list_all not (drop n (bits_of (take w bytes))) ≡ false → left_at w n bytes ≡ None
 left_unfilled w n bytes are le e = left_cut w n bytes are le ∙ rw e refl

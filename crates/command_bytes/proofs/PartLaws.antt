@@ -17,7 +17,7 @@ use Rattle.command_bytes.specs.Text.{prefix_text, rule_text, bits_text, kind_num
 use Rattle.command_bytes.specs.Reading.{Read, prefix_at, bits_at, area_at, lifetime_at, rule_at, kind_of, key_at}
 use Rattle.command_bytes.proofs.Numbers.{number_takes, number_small, number_again}
 use Rattle.command_bytes.proofs.Lefts.{left_takes, left_again}
-use Rattle.command_bytes.proofs.Steps.{Takes, behind, bind_some, some_is, some_where, then_again, last_again}
+use Rattle.command_bytes.proofs.Steps.{Takes, takes_both, bind_some, some_is, some_where, then_again, last_again}
 
 -- ---- a number
 
@@ -36,7 +36,7 @@ prefix_takes bytes x are e =
     let first = number_read 1 bytes len are a.1 in
     let bits = left_takes 6 len.0 len.1 x first.are (omega (arith, few)) b.1 in
     let counted : Takes bytes (big 1 (length x.0)) len.1 = subst (λ (n : ℕ). Takes bytes (big 1 n) len.1) (sym bits.1) first in
-    (behind (big 1 (length x.0)) (left 6 x.0) counted bits.0, omega (arith, bits.1, few))
+    (takes_both (big 1 (length x.0)) (left 6 x.0) counted bits.0, omega (arith, bits.1, few))
 
 pub prefix_again : (prefix : List Bool) (rest : List ℕ) → length prefix ≤ 48 → prefix_at (prefix_text prefix ++ rest) ≡ Some (prefix, rest)
 unfolding prefix_at
@@ -58,7 +58,7 @@ bits_takes bytes x are e =
     let bits = left_takes (bytes_for len.0) len.0 len.1 x first.are (omega arith) b.1 in
     let counted : Takes bytes (big 2 (length x.0)) len.1 = subst (λ (n : ℕ). Takes bytes (big 2 n) len.1) (sym bits.1) first in
     let packed : Takes len.1 (left (bytes_for (length x.0)) x.0) x.1 = subst (λ (n : ℕ). Takes len.1 (left (bytes_for n) x.0) x.1) (sym bits.1) bits.0 in
-    (behind (big 2 (length x.0)) (left (bytes_for (length x.0)) x.0) counted packed, omega (arith, bits.1, few))
+    (takes_both (big 2 (length x.0)) (left (bytes_for (length x.0)) x.0) counted packed, omega (arith, bits.1, few))
 
 pub bits_again : (bits : List Bool) (rest : List ℕ) → length bits ≤ most_bits → bits_at (bits_text bits ++ rest) ≡ Some (bits, rest)
 unfolding bits_at
@@ -147,9 +147,9 @@ rule_takes bytes x are e =
     let small = number_small 4 lifetime.1 keep third.are d.1 in
     let f = some_where (leb low.0 high.0) (Some (record { low = low.0; high = high.0; lifetime = lifetime.0; keep = keep.0 }, keep.1)) x d.2 in
     subst (λ (y : Rule × List ℕ). Takes bytes (rule_text y.0) y.1 × RuleInRange y.0) (some_is (record { low = low.0; high = high.0; lifetime = lifetime.0; keep = keep.0 }, keep.1) x f.1) (
-      behind (big 2 low.0) (big 2 high.0 ++ big 1 (lifetime_number lifetime.0) ++ big 4 keep.0) first.0
-          (behind (big 2 high.0) (big 1 (lifetime_number lifetime.0) ++ big 4 keep.0) second.0
-          (behind (big 1 (lifetime_number lifetime.0)) (big 4 keep.0) third fourth)),
+      takes_both (big 2 low.0) (big 2 high.0 ++ big 1 (lifetime_number lifetime.0) ++ big 4 keep.0) first.0
+          (takes_both (big 2 high.0) (big 1 (lifetime_number lifetime.0) ++ big 4 keep.0) second.0
+          (takes_both (big 1 (lifetime_number lifetime.0)) (big 4 keep.0) third fourth)),
       (leb-true _ _ f.0, second.1, small),
     )
 
@@ -213,9 +213,9 @@ key_takes bytes x are e =
     let kind : Kind = f.0 in
     let named : Takes reference.1 (big 1 (kind_number kind)) number.1 = subst (λ (n : ℕ). Takes reference.1 (big 1 n) number.1) (sym (kind_is number.0 kind f.1)) fourth in
     subst (λ (y : Key × List ℕ). Takes bytes (key_text y.0) y.1 × KeyInRange y.0) (some_is (record { destination = destination.0; source = source.0; reference = reference.0; kind = kind }, number.1) x f.2) (
-      behind (big 6 destination.0) (big 6 source.0 ++ big 1 reference.0 ++ big 1 (kind_number kind)) first
-          (behind (big 6 source.0) (big 1 reference.0 ++ big 1 (kind_number kind)) second
-          (behind (big 1 reference.0) (big 1 (kind_number kind)) third named)),
+      takes_both (big 6 destination.0) (big 6 source.0 ++ big 1 reference.0 ++ big 1 (kind_number kind)) first
+          (takes_both (big 6 source.0) (big 1 reference.0 ++ big 1 (kind_number kind)) second
+          (takes_both (big 1 reference.0) (big 1 (kind_number kind)) third named)),
       (number_small 6 bytes destination are a.1, number_small 6 destination.1 source first.are b.1, number_small 1 source.1 reference second.are c.1),
     )
 

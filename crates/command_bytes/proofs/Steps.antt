@@ -24,13 +24,13 @@ pub record Takes (bytes text rest : List ℕ) : Type 0 where
   pub is : bytes ≡ text ++ rest
   pub are : AreBytes rest
 
-pub behind : (a b : List ℕ) {bytes mid rest : List ℕ} → Takes bytes a mid → Takes mid b rest → Takes bytes (a ++ b) rest
-behind a b {rest = rest} first second = record {
+pub takes_both : (a b : List ℕ) {bytes mid rest : List ℕ} → Takes bytes a mid → Takes mid b rest → Takes bytes (a ++ b) rest
+takes_both a b {rest = rest} first second = record {
   is = first.is ∙ ap (λ (l : List ℕ). a ++ l) second.is ∙ sym (append_assoc a b rest);
   are = second.are;
 }
 
--- a part with others behind it
+-- a part with others after it
 pub then_again : {X Y : Type 0} (a b rest : List ℕ) (read : List ℕ → Read X) (f : X × List ℕ → Option Y) (x : X) (y : Y)
     → read (a ++ (b ++ rest)) ≡ Some (x, b ++ rest) → f (x, b ++ rest) ≡ Some y → (read ((a ++ b) ++ rest) >>= f) ≡ Some y
 then_again {X} {Y} a b rest read f x y part others =

@@ -1,4 +1,4 @@
--- Reading commands from bytes: the fields of the table one after the other, each judged by its range.
+-- Reading commands from bytes: one field after the other, each checked for its range.
 use Rattle.std.specs.Prelude.{ℕ, ◌^◌, ◌==◌, Bool, List, [], ◌∷◌, Option, Some, None, nat_le, nat_lt, if◌then◌else◌}
 use Rattle.identity.specs.Numbers.{Byte}
 use Rattle.mm_pdus.specs.declared.lifetime.Lifetime.{Lifetime}
@@ -15,7 +15,7 @@ use Rattle.identity.specs.BitsText.{most_bits}
 use Rattle.centre_core.specs.Ranges.{pdu_of}
 use Rattle.command_bytes.specs.Fields.{◌>>=◌, number_at, left_at, bytes_for}
 
--- what was read of the first bytes, and the bytes after it
+-- what was read from the first bytes, and the bytes after it
 abbrev pub Read : Type 0 → Type 0
 Read X = Option (X × List Byte)
 
@@ -72,7 +72,7 @@ key_at bytes = do
 -- ---- the bodies
 
 module _ {A : Type 0} where
-  -- set a rule: its prefix, and what it says
+  -- set a rule: its prefix, and its values
   unfoldable pub rule_set_at : List Byte → Read (Body A)
   rule_set_at bytes = do
     prefix ← prefix_at bytes
@@ -121,7 +121,7 @@ module _ {A : Type 0} where
     pdu ← bits_at group.1
     Some (GroupSds source.0 group.0 pdu.0, pdu.1)
 
-  -- the body behind a tag
+  -- the body after a tag
   unfoldable pub body_at : Byte → List Byte → Read (Body A)
   body_at tag bytes =
       if tag == 1 then rule_set_at bytes
@@ -136,7 +136,7 @@ module _ {A : Type 0} where
 
   -- ---- the whole
 
-  -- the command with which bytes begin, and the bytes after it; sequences count from 1
+  -- the command that the bytes begin with, and the bytes after it; sequences count from 1
   unfoldable pub first_command : List Byte → Read (Asked A)
   first_command bytes = do
     station ← number_at 2 bytes
@@ -146,13 +146,13 @@ module _ {A : Type 0} where
     body ← body_at tag.0 tag.1
     if sequence.0 == 0 then None else Some (record { station = station.0; sequence = sequence.0; moment = moment.0; body = body.0 }, body.1)
 
-  -- what was read, if it was all
+  -- what was read, if no byte is left
   abbrev pub whole : Read (Asked A) → Option (Asked A)
   whole None = None
   whole (Some (c, [])) = Some c
   whole (Some (c, b ∷ rest)) = None
 
-  -- the command that bytes spell, all of them
+  -- the command that all of the bytes spell
   abbrev pub command_of : List Byte → Option (Asked A)
   command_of bytes = whole (first_command bytes)
 

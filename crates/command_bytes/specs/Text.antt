@@ -22,7 +22,7 @@ prefix_text prefix = big 1 (length prefix) ++ left 6 prefix
 abbrev pub rule_text : Rule → List Byte
 rule_text rule = big 2 rule.low ++ big 2 rule.high ++ big 1 (lifetime_number rule.lifetime) ++ big 4 rule.keep
 
--- a string of bits: how many they are, and they
+-- a string of bits: its length, then the bits
 abbrev pub bits_text : List Bool → List Byte
 bits_text bits = big 2 (length bits) ++ left (bytes_for (length bits)) bits
 
@@ -31,7 +31,7 @@ abbrev pub kind_number : Kind → ℕ
 kind_number Message = 0
 kind_number Report = 1
 
--- by what a message or a report is named
+-- the key of a message or a report
 abbrev pub key_text : Key → List Byte
 key_text key = big 6 key.destination ++ big 6 key.source ++ big 1 key.reference ++ big 1 (kind_number key.kind)
 
@@ -49,7 +49,7 @@ module _ {A : Type 0} where
   tag_of (Delete key) = 7
   tag_of (GroupSds source group pdu) = 8
 
-  -- what stands behind the tag
+  -- what follows the tag
   abbrev pub body_text : Body A → List Byte
   body_text (RuleSet prefix rule) = prefix_text prefix ++ rule_text rule
   body_text (RuleClear prefix) = prefix_text prefix
@@ -64,7 +64,7 @@ module _ {A : Type 0} where
   unfoldable pub command_text : Asked A → List Byte
   command_text c = big 2 c.station ++ big 4 c.sequence ++ big 4 c.moment ++ big 1 (tag_of c.body) ++ body_text c.body
 
-  -- what has a text: its fields are in their ranges
+  -- this command has a text: its fields are in their ranges
   pub record IsCommand (c : Asked A) : Type 0 where
     pub station : c.station < 2 ^ 16
     pub range : InRange c

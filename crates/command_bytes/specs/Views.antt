@@ -1,4 +1,4 @@
--- What was read, its bits still in the bytes, as a value.
+-- What was read, with its bits still in the bytes, as a command.
 use Rattle.centre_core.specs.declared.command.Body.{Body}
 use Rattle.centre_core.specs.declared.command.Body.TheVariants.{RuleSet, RuleClear, Mm, Sds, GroupSds, Sent, Expire, Delete}
 use Rattle.centre_core.specs.Asked.{Asked}

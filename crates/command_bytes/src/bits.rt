@@ -1,4 +1,4 @@
-// Strings of bits that still lie in the bytes they are read from.
+// Strings of bits that are still in the bytes they are read from.
 ghost use Rattle.std.specs.Prelude.{◌≡◌, ◌≤◌, ◌<◌, ◌+◌, ◌-◌, ◌*◌, ◌^◌, ◌++◌, IfOk, OnOk, length, drop, not, option_map, take};
 ghost use Rattle.std.specs.List.{list_all};
 ghost use Rattle.identity.specs.Number.{num};
@@ -13,7 +13,7 @@ use identity::{BitWriter, Bits, MOST_BITS};
 use std::alloc::{AllocError, Allocator};
 use std::marker::Model;
 
-/// A PDU's bits, at most 2,048, that still lie in the bytes they are read from.
+/// A PDU's bits, at most 2,048. They are still in the bytes they are read from.
 #[derive(Drop)]
 pub struct PackedBits<'a> {
     bytes: &'a [u8],
@@ -32,7 +32,7 @@ impl<'a> Model for PackedBits<'a> {
     ghost invariant = { λ p. (p.len ≤ most_bits) × (p.len ≤ 8 * length p.bytes.now) };
 }
 
-// Puts bits of a number at the end.
+// Appends a number in `width` bits.
 fn put<A: Allocator>(writer: &mut BitWriter<A>, value: u64, width: u32) -> Result<(), AllocError>
     requires width { width ≤ 48 }
     requires fits { value < 2 ^ width }
@@ -41,8 +41,8 @@ fn put<A: Allocator>(writer: &mut BitWriter<A>, value: u64, width: u32) -> Resul
     writer.put(value, width).or(Err(AllocError))
 }
 
-// Puts the first `left` bits of one to six bytes at the end, or all of them.
-fn put_front<A: Allocator>(
+// Appends the first `left` bits of one to six bytes, or all their bits if they have fewer.
+fn put_chunk<A: Allocator>(
     writer: &mut BitWriter<A>,
     bytes: &[u8],
     left: usize,
@@ -57,7 +57,7 @@ fn put_front<A: Allocator>(
     put(writer, value, width as u32)
 }
 
-// Puts the first `len` bits of bytes at the end, six bytes at a time.
+// Appends the first `len` bits of these bytes, six bytes at a time.
 fn put_bits<A: Allocator>(
     writer: &mut BitWriter<A>,
     bytes: &[u8],
@@ -68,10 +68,10 @@ fn put_bits<A: Allocator>(
     let mut rest = bytes;
     let mut left = len;
     while !rest.is_empty() {
-        let (front, behind) = rest.split_at(rest.len().min(6));
-        put_front(writer, front, left)?;
-        left = left.saturating_sub(8 * front.len());
-        rest = behind;
+        let (chunk, following) = rest.split_at(rest.len().min(6));
+        put_chunk(writer, chunk, left)?;
+        left = left.saturating_sub(8 * chunk.len());
+        rest = following;
     }
     Ok(())
 }
@@ -92,7 +92,7 @@ impl<'a> PackedBits<'a> {
         self.bytes[k]
     }
 
-    /// The bits with memory of their own.
+    /// A copy of the bits in memory of its own.
     pub fn copy<A: Allocator>(&self, alloc: A) -> Result<Bits<A>, AllocError>
         ensures bits { IfOk result (λ bits. bits ≡ self.now) }
         ensures short { length self.now ≤ most_bits }
@@ -103,7 +103,7 @@ impl<'a> PackedBits<'a> {
     }
 }
 
-// Whether the bits behind the first `len` are all 0.
+// Whether the bits after the first `len` are all 0.
 fn ends_in_zeros(bytes: &[u8], len: usize) -> bool
     requires room { len ≤ 8 * length bytes.now }
     requires tight { 8 * length bytes.now < len + 8 }
@@ -116,7 +116,7 @@ fn ends_in_zeros(bytes: &[u8], len: usize) -> bool
     }
 }
 
-// The first `len` bits, where what fills the last byte is 0.
+// The first `len` bits and the bytes after them; `None` where bytes are missing or a padding bit is 1.
 fn left(bytes: &[u8], len: usize) -> Option<(PackedBits<'_>, &[u8])>
     requires { len ≤ most_bits }
     ensures { option_map (λ x. (x.0, x.1.now)) result ≡ left_at (bytes_for len) len bytes.now }
@@ -132,7 +132,7 @@ fn left(bytes: &[u8], len: usize) -> Option<(PackedBits<'_>, &[u8])>
     Some((PackedBits { bytes: text, len }, rest))
 }
 
-/// A string of at most 2,048 bits: how many they are, and they.
+/// A string of at most 2,048 bits, after its length, and the bytes after it.
 #[tactic(auto, unfolding(crate::specs::Reading::bits_at))]
 pub fn bits(bytes: &[u8]) -> Option<(PackedBits<'_>, &[u8])>
     ensures { option_map (λ x. (x.0, x.1.now)) result ≡ bits_at bytes.now }

@@ -12,7 +12,7 @@ use mailbox::Key;
 use registration::{LocationArea, Rule};
 use std::alloc::{AllocError, Allocator};
 
-/// What a command asks, its PDU still in the bytes.
+/// What a command asks. Its PDU is still in the bytes it was read from.
 #[derive(Drop)]
 pub enum ReadBody<'a> {
     RuleSet {
@@ -43,7 +43,7 @@ pub enum ReadBody<'a> {
 }
 
 impl<'a> ReadBody<'a> {
-    /// The same body, its PDU with memory of its own.
+    /// A copy of the body, with the PDU in memory of its own.
     pub fn copy<A: Allocator>(&self, alloc: A) -> Result<Body<A>, AllocError>
         ensures body { IfOk result (λ body. body ≡ body_view self.now) }
         ensures short { IfOk result (λ body. IsShort (pdu_of body)) }
@@ -169,7 +169,7 @@ fn delete<A: Allocator>(bytes: &[u8]) -> Option<(ReadBody<'_>, &[u8])>
     Some((ReadBody::Delete(key), rest))
 }
 
-/// The body behind a tag.
+/// The body that the bytes after its tag begin with, and the bytes after it.
 #[tactic(auto, unfolding(crate::specs::Reading::body_at))]
 pub fn body<A: Allocator>(tag: u64, bytes: &[u8]) -> Option<(ReadBody<'_>, &[u8])>
     ensures { option_map (λ x. (body_view {A = A} x.0, x.1.now)) result ≡ body_at tag bytes.now }

@@ -11,7 +11,7 @@ use mailbox::Moment;
 use registration::Station;
 use std::alloc::{AllocError, Allocator};
 
-/// A command, its PDU still in the bytes.
+/// A command. Its PDU is still in the bytes it was read from.
 #[derive(Drop)]
 pub struct ReadCommand<'a> {
     station: Station,
@@ -21,7 +21,7 @@ pub struct ReadCommand<'a> {
 }
 
 impl<'a> ReadCommand<'a> {
-    /// The same command, its PDU with memory of its own.
+    /// A copy of the command, with the PDU in memory of its own.
     pub fn copy<A: Allocator>(&self, alloc: A) -> Result<Command<A>, AllocError>
         ensures command { IfOk result (λ command. command ≡ command_view self.now) }
         ensures memory { OnErr result (IsSome (pdu_of (command_view {A = A} self.now).body)) }
@@ -31,7 +31,7 @@ impl<'a> ReadCommand<'a> {
     }
 }
 
-/// The command with which the bytes begin, and the bytes after it.
+/// The command that the bytes begin with, and the bytes after it.
 #[tactic(auto, unfolding(crate::specs::Reading::first_command))]
 pub fn first<A: Allocator>(bytes: &[u8]) -> Option<(ReadCommand<'_>, &[u8])>
     ensures exact { option_map (λ x. (command_view {A = A} x.0, x.1.now)) result ≡ first_command bytes.now }
@@ -52,7 +52,7 @@ pub fn first<A: Allocator>(bytes: &[u8]) -> Option<(ReadCommand<'_>, &[u8])>
     Some((command, rest))
 }
 
-/// The command that all of the bytes are.
+/// The command that the bytes are, all of them.
 pub fn whole<A: Allocator>(bytes: &[u8]) -> Option<ReadCommand<'_>>
     ensures exact { option_map (λ c. command_view {A = A} c) result ≡ command_of bytes.now }
     ensures above { IfSome result (λ c. 0 < c.sequence) }

@@ -1,4 +1,4 @@
-// Commands from their bytes.
+// Commands, read from bytes and copied.
 ghost use Rattle.std.specs.Prelude.{◌≡◌, IfOk, IfSome, IfNone, IsSome, OnErr, option_map};
 ghost use Rattle.centre_core.specs.Asked.{Asked};
 ghost use Rattle.centre_core.specs.Ranges.{pdu_of};
@@ -10,7 +10,7 @@ use crate::command::{first, whole};
 use centre_core::Command;
 use std::alloc::{AllocError, Allocator};
 
-/// The command with which the bytes begin, and the bytes after it; `None` where they begin with no command's text.
+/// The command that the bytes begin with, and the bytes after it; `None` where they begin with no command.
 ///
 /// `AllocError` comes only where there is a command, and it has a PDU.
 pub fn decode_first<A: Allocator>(
@@ -26,8 +26,7 @@ pub fn decode_first<A: Allocator>(
     Ok(Some((found.copy(alloc)?, rest)))
 }
 
-/// The bytes after the command with which these begin, as `decode_first` gives them; `None` where they begin with no
-/// command's text. Takes no memory.
+/// The bytes after the command that these begin with, as `decode_first` gives them. It never allocates.
 pub fn after_first<A: Allocator>(bytes: &[u8]) -> Option<&[u8]>
     ensures { option_map (λ rest. rest.now) result ≡ option_map (λ x. x.1) (first_command {A = A} bytes.now) }
 {
@@ -35,7 +34,7 @@ pub fn after_first<A: Allocator>(bytes: &[u8]) -> Option<&[u8]>
     Some(rest)
 }
 
-// The command that all of the bytes are, as it is read.
+// `decode`, with clauses that cite the definition that reads.
 fn decoded<A: Allocator>(alloc: A, bytes: &[u8]) -> Result<Option<Command<A>>, AllocError>
     ensures exact { IfOk result (λ found. found ≡ command_of bytes.now) }
     ensures memory { OnErr result (IsSome (pdu_in (command_of {A = A} bytes.now))) }
@@ -47,10 +46,10 @@ fn decoded<A: Allocator>(alloc: A, bytes: &[u8]) -> Result<Option<Command<A>>, A
     Ok(Some(found.copy(alloc)?))
 }
 
-/// The command that the bytes spell, all of them; `None` where they spell none: a value is out of its range, a bit
-/// that only fills is 1, the tag is unknown, bytes are missing or stand behind it.
+/// The command that all of the bytes spell.
 ///
-/// `AllocError` comes only where they spell a command, and it has a PDU.
+/// It is `None` where a value is out of its range, a padding bit is 1, the tag is unknown, or bytes are missing or left
+/// over. `AllocError` comes only where the bytes spell a command that has a PDU.
 pub fn decode<A: Allocator>(alloc: A, bytes: &[u8]) -> Result<Option<Command<A>>, AllocError>
     ensures found { IfOk result (λ found. IfSome found (λ command. Spells command bytes.now)) }
     ensures none { IfOk result (λ found. IfNone found ((command : Asked A) → Spells command bytes.now → ⊥)) }

@@ -1,4 +1,4 @@
-// Commands as they are written.
+// Commands, written as bytes.
 ghost use Rattle.std.specs.Prelude.{◌≡◌, ◌≤◌, ◌+◌, ◌++◌, IfOk, length};
 ghost use Rattle.identity.specs.BitsText.{most_bits};
 ghost use Rattle.centre_core.specs.Ranges.{BodyInRange};
@@ -26,7 +26,7 @@ fn tag<A: Allocator>(body: &Body<A>) -> u64
     }
 }
 
-// How many bytes a string of so many bits has.
+// How many bytes the text of so many bits has.
 fn bits_len(bits: usize) -> usize
     requires { bits ≤ most_bits }
     ensures { result ≡ 2 + bytes_for bits }
@@ -34,7 +34,7 @@ fn bits_len(bits: usize) -> usize
     2 + (bits + 7) / 8
 }
 
-// How many bytes stand behind the tag.
+// How many bytes follow the tag.
 fn body_len<A: Allocator>(body: &Body<A>) -> usize
     requires { BodyInRange body.now }
     ensures { result ≡ body_size body.now }
@@ -96,14 +96,14 @@ pub fn text_len<A: Allocator>(command: &Command<A>) -> usize
     11 + body_len(&command.body)
 }
 
-// What its fields keep, as a clause.
+// Does nothing. Its clause names the ranges that the types of the fields keep.
 fn hold_ranges<A: Allocator>(command: &Command<A>)
     ensures { IsCommand command.now }
 {
     let _station = command.station.number();
 }
 
-/// Puts the command's text at the end of what has room for it. Takes no memory.
+/// Appends the command's text to what has room for it. It never allocates.
 #[tactic(auto, unfolding(crate::specs::Text::command_text), using(std::proofs::Common::append_assoc, crate::proofs::Sizes::command_size))]
 pub fn append<R: Room, B: Allocator>(out: &mut R, command: &Command<B>)
     requires room { length (command_text command.now) ≤ R.room out.old }

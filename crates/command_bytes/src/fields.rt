@@ -1,7 +1,7 @@
-// The fields of the table, as they are read: each gives its value and the bytes after it.
+// The fields of a command, as they are read. Each function returns the value and the bytes after it.
 ghost use Rattle.std.specs.Prelude.{◌≡◌, ◌≤◌, ◌<◌, ◌*◌, ◌^◌, IfSome, option_map};
 ghost use Rattle.identity.specs.Number.{num};
-ghost use Rattle.command_bytes.specs.Fields.{front, number_at};
+ghost use Rattle.command_bytes.specs.Fields.{number_at, unpadded};
 ghost use Rattle.command_bytes.specs.Reading.{area_at, key_at, kind_of, lifetime_at, prefix_at, rule_at};
 
 use byteorder::{BigEndian, ByteOrder};
@@ -12,7 +12,7 @@ use registration::{LocationArea, Rule};
 use sds_tl::MessageReference;
 
 /// The number in the first `width` bytes (1 to 8), the highest first, and the bytes after them; `None` where there are
-/// fewer.
+/// fewer bytes.
 #[inline(always)]
 #[tactic(auto, unfolding(crate::specs::Fields::number_at))]
 pub fn number(bytes: &[u8], width: usize) -> Option<(u64, &[u8])>
@@ -27,7 +27,7 @@ pub fn number(bytes: &[u8], width: usize) -> Option<(u64, &[u8])>
     Some((BigEndian::read_uint(bytes, width), &bytes[width..]))
 }
 
-/// The radio of 48 bits.
+/// The ITSI with this number.
 pub fn itsi_of(number: u64) -> Itsi
     requires { number < 2 ^ 48 }
     ensures { result ≡ number }
@@ -35,7 +35,7 @@ pub fn itsi_of(number: u64) -> Itsi
     Itsi::from_number(number).unwrap()
 }
 
-/// The group of 48 bits.
+/// The GTSI with this number.
 pub fn gtsi_of(number: u64) -> Gtsi
     requires { number < 2 ^ 48 }
     ensures { result ≡ number }
@@ -43,7 +43,7 @@ pub fn gtsi_of(number: u64) -> Gtsi
     Gtsi::from_number(number).unwrap()
 }
 
-/// The location area of 14 bits.
+/// The location area with this number.
 pub fn area_of(number: u64) -> LocationArea
     requires { number < 2 ^ 14 }
     ensures { result ≡ number }
@@ -51,11 +51,11 @@ pub fn area_of(number: u64) -> LocationArea
     LocationArea::new(number as u32).unwrap()
 }
 
-// The first `len` of 48 bits, where those behind them are 0.
+// The prefix of the first `len` of 48 bits; `None` where another bit is 1.
 fn prefix_of(bits: u64, len: u64) -> Option<Prefix>
     requires bits { bits < 2 ^ 48 }
     requires len { len ≤ 48 }
-    ensures { result ≡ front len (num 48 bits) }
+    ensures { result ≡ unpadded len (num 48 bits) }
 {
     Prefix::new(bits, len as u32)
 }
@@ -117,7 +117,7 @@ fn kind(number: u64) -> Option<Kind>
     }
 }
 
-/// By what a message or a report is named.
+/// The key of a message or a report.
 #[tactic(auto, unfolding(crate::specs::Reading::key_at))]
 pub fn key(bytes: &[u8]) -> Option<(Key, &[u8])>
     ensures { option_map (λ x. (x.0, x.1.now)) result ≡ key_at bytes.now }

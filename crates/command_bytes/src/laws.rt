@@ -1,4 +1,4 @@
-//! What holds of the bytes of commands alone, of all bytes and all commands.
+//! Laws on the bytes of commands. They hold of all bytes and all commands.
 
 ghost use Rattle.std.specs.Prelude.{◌≡◌, ◌≤◌, ◌++◌, ℕ, List, [], Some, length};
 ghost use Rattle.centre_core.specs.Asked.{Asked};
@@ -13,19 +13,21 @@ pub fn spelled_once<A: Allocator>()
     ensures { (c d : Asked A) (bytes : List ℕ) → Spells c bytes → Spells d bytes → c ≡ d }
 {}
 
-/// No text of a command begins another one's.
+/// No command's text is a prefix of another's.
 pub fn none_begins_another<A: Allocator>()
-    ensures { (c d : Asked A) (text other more : List ℕ) → Spells c text → Spells d other → other ≡ text ++ more → (c ≡ d) × (more ≡ []) }
+    ensures { (c d : Asked A) (text other more : List ℕ) → Spells c text → Spells d other → other ≡ text ++ more
+        → (c ≡ d) × (more ≡ []) }
 {}
 
-/// What is written is read back, by itself and whatever stands behind it; and what is read is spelled so.
+/// What is written is read back, alone or with any bytes after it. What is read is spelled so.
 pub fn read_back<A: Allocator>()
     ensures whole { (c : Asked A) → IsCommand c → command_of (command_text c) ≡ Some c }
     ensures first { (c : Asked A) (rest : List ℕ) → IsCommand c → first_command (command_text c ++ rest) ≡ Some (c, rest) }
-    ensures only { (c : Asked A) (bytes rest : List ℕ) → AreBytes bytes → first_command bytes ≡ Some (c, rest) → IsCommand c × (bytes ≡ command_text c ++ rest) }
+    ensures only { (c : Asked A) (bytes rest : List ℕ) → AreBytes bytes → first_command bytes ≡ Some (c, rest)
+        → IsCommand c × (bytes ≡ command_text c ++ rest) }
 {}
 
-/// How long a command's text is at most.
+/// No command's text is longer than `longest`.
 pub fn longest<A: Allocator>()
     ensures { (c : Asked A) (bytes : List ℕ) → Spells c bytes → length bytes ≤ longest }
 {}

@@ -1,7 +1,8 @@
-//! Commands as bytes: each has one text, and no text of a command begins another's.
+//! Commands as bytes: each has one text, and no command's text is a prefix of another's. It changes only what its
+//! callers pass in, and knows nothing of sectors, disks, or what a command does.
 //!
-//! What the bytes of a command are is the function `command_text` of `specs/Text.antt`, a table of its fields and
-//! their widths; what they are read as is `first_command` of `specs/Reading.antt`.
+//! `command_text` of `specs/Text.antt` gives a command's bytes, as a table of its fields and their widths.
+//! `first_command` of `specs/Reading.antt` reads them.
 #![tactic(auto)]
 
 pub mod bits;

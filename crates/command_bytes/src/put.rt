@@ -1,4 +1,4 @@
-// The fields of the table, as they are written at the end of what has room for them.
+// The fields of a command, appended to what has room for them.
 ghost use Rattle.std.specs.Prelude.{◌≡◌, ◌≤◌, ◌+◌, ◌++◌, length};
 ghost use Rattle.identity.specs.BitsText.{most_bits};
 ghost use Rattle.command_bytes.specs.Fields.{big, bytes_for};
@@ -66,7 +66,7 @@ pub fn put_key<R: Room>(out: &mut R, key: &Key)
     put_number(out, 1, number_of(key.kind));
 }
 
-/// A string of at most 2,048 bits: how many they are, in 2 bytes, and they.
+/// A string of at most 2,048 bits: its length in 2 bytes, then the bits.
 #[tactic(auto, using(std::proofs::Common::append_assoc))]
 pub fn put_bits<R: Room, B: Allocator>(out: &mut R, bits: &Bits<B>)
     requires few { length bits.now ≤ most_bits }

@@ -1,18 +1,18 @@
-// What takes bytes at its end.
+// What bytes are appended to.
 ghost use Rattle.std.specs.Prelude.{◌≡◌, ◌≤◌, ◌+◌, ◌-◌, ◌++◌, ℕ, List, length, vec_capacity, vec_len};
 ghost use Rattle.identity.specs.Packed.{AreBytes};
 
 use std::alloc::Allocator;
 
-/// What takes bytes at its end, where it has room for them. No call takes memory.
+/// What bytes are appended to, where it has room for them. No call allocates.
 pub trait Room {
     /// The bytes that it holds.
     ghost held: { Self → List ℕ };
 
-    /// For how many more it has room.
+    /// How many more bytes it has room for.
     ghost room: { Self → ℕ };
 
-    /// Puts bytes at the end.
+    /// Appends bytes.
     fn put(&mut self, bytes: &[u8])
         requires { length bytes.now ≤ room self.old }
         ensures held { held self.new ≡ held self.old ++ bytes.now }

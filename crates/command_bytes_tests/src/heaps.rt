@@ -1,14 +1,14 @@
-//! Heaps of rising size: each growth is refused in turn, and all memory comes back.
+//! Heaps of rising size. Each allocation is refused in turn, and all memory is freed.
 use crate::rows::{bytes_of, command};
 use command_bytes::{decode, encode};
 use linked_list_allocator::LocalHeap;
 use std::alloc::Global;
 use std::test::Fail;
 
-/// A short message's command.
+/// A command with a short message.
 const LINE: &str = "3 0 sds 234-14-2001 234-14-2002 48:820405014849";
 
-/// Nothing where memory is wanted, else whether the bytes are read and written again under this heap.
+/// Nothing if memory runs out in this heap; else whether the bytes are read, and written as the same bytes.
 fn is_done<'a>(heap: &'a LocalHeap, bytes: &[u8]) -> Option<bool> {
     let Ok(found) = decode(heap, bytes) else {
         return None;
@@ -45,8 +45,8 @@ fn is_refused_in_turn(alloc: Global) -> Result<bool, Fail> {
     Ok(refused(alloc, &bytes)?.is_some_and(|heaps| heaps > 2))
 }
 
-/// What is answered under this heap: whether there is a command, or nothing where memory is wanted.
-fn told<'a>(heap: &'a LocalHeap, bytes: &[u8]) -> Option<bool> {
+/// Whether the bytes are a command; nothing if memory runs out in this heap.
+fn answered<'a>(heap: &'a LocalHeap, bytes: &[u8]) -> Option<bool> {
     match decode(heap, bytes) {
         Ok(Some(_)) => Some(true),
         Ok(None) => Some(false),
@@ -54,27 +54,27 @@ fn told<'a>(heap: &'a LocalHeap, bytes: &[u8]) -> Option<bool> {
     }
 }
 
-/// Bytes, and what is answered to them in a heap without memory: only a command with a PDU wants some.
-const TOLD: &str = "\
+/// Bytes, and the answer to them in a heap without memory. Only a command with a PDU needs memory.
+const ANSWERED: &str = "\
 0001 00000002 0000000a 03 3a800e0007d1 0007 0107 000000000000000000000000000000000000000000000000000000000000000001=none
 0001 00000002 0000000a 03 3a800e0007d1 0007 0107 00000000000000000000000000000000000000000000000000000000000000000000=none
 0001 00000002 0000000a 03 3a800e0007d1 0007 0107 000000000000000000000000000000000000000000000000000000000000000000=memory
 0001 00000001 00000000 06=command";
 
-fn is_told(told: Option<bool>, word: &str) -> bool {
-    match told {
+fn is_answer(answer: Option<bool>, word: &str) -> bool {
+    match answer {
         None => word == "memory",
         Some(true) => word == "command",
         Some(false) => word == "none",
     }
 }
 
-/// The first row that is answered otherwise.
+/// The first row with another answer.
 fn first_otherwise(alloc: Global) -> Result<Option<&'static str>, Fail> {
     let heap = LocalHeap::new(alloc, 0)?;
-    for row in TOLD.lines() {
+    for row in ANSWERED.lines() {
         match row.split_once('=') {
-            Some((text, word)) if is_told(told(&heap, &bytes_of(alloc, text)?), word) => {}
+            Some((text, word)) if is_answer(answered(&heap, &bytes_of(alloc, text)?), word) => {}
             _ => return Ok(Some(row)),
         }
     }
@@ -88,7 +88,7 @@ fn each_growth_is_refused_in_turn(rt: HostRuntime) -> Result<(), Fail> {
 }
 
 #[test]
-fn only_a_pdu_wants_memory(rt: HostRuntime) -> Result<(), Fail> {
+fn only_a_pdu_needs_memory(rt: HostRuntime) -> Result<(), Fail> {
     assert_eq!(rt; first_otherwise(rt.alloc())?, None);
     Ok(())
 }

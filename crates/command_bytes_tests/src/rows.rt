@@ -19,11 +19,11 @@ pub const COMMANDS: &str = "\
 5 0 delete 234-14-2001 234-14-2002 255 r=0001 00000005 00000000 07 3a800e0007d1 3a800e0007d2 ff 01
 6 0 gsds 234-14-2001 234-14-1000 9:F08=0001 00000006 00000000 08 3a800e0007d1 3a800e0003e8 0009 f080";
 
-/// Bytes that spell no command: no bytes, a byte missing, a byte behind, and each field out of its range.
+/// Bytes that spell no command: no bytes, a byte missing, a byte too many, and each field out of its range.
 pub const OTHERS: &str = "\
 =nothing
 00010000000100000000=no tag
-0001000000010000000006 00=a byte behind
+0001000000010000000006 00=a byte after the last
 0001 00000001 00000000 01 18 3a800e000000 0001 0063 01 00000e=a byte missing
 0001 00000002 0000000a 03 3a800e0007d1 0007 000a 26=a byte of a PDU missing
 0001 00000000 00000000 06=sequence 0
@@ -34,9 +34,9 @@ pub const OTHERS: &str = "\
 0001 00000002 0000000a 03 3a800e0007d1 4000 000a 2600=area 16384 of a radio
 0001 00000001 00000000 01 18 3a800e000000 0001 0063 04 00000e10=lifetime 4
 0001 00000001 00000000 02 31 3a800e0007d1=a prefix of 49 bits
-0001 00000001 00000000 02 18 3a800e000001=a bit behind a prefix
-0001 00000002 0000000a 03 3a800e0007d1 0007 000a 2620=the first bit that fills
-0001 00000002 0000000a 03 3a800e0007d1 0007 000a 2601=the last bit that fills
+0001 00000001 00000000 02 18 3a800e000001=a bit after a prefix
+0001 00000002 0000000a 03 3a800e0007d1 0007 000a 2620=the first padding bit
+0001 00000002 0000000a 03 3a800e0007d1 0007 000a 2601=the last padding bit
 0001 00000004 00000100 05 3a800e0007d2 3a800e0007d1 05 02=kind 2";
 
 /// The value of a hexadecimal digit.
@@ -48,7 +48,7 @@ fn digit(byte: u8) -> Option<u8> {
     }
 }
 
-/// The bytes of hexadecimal digits, spaces left out.
+/// The bytes of hexadecimal digits; spaces are skipped.
 pub fn bytes_of(alloc: Global, text: &str) -> Result<Vec<u8>, Fail> {
     let mut bytes = Vec::new(alloc);
     let mut high: Option<u8> = None;

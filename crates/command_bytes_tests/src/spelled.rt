@@ -1,10 +1,10 @@
-//! Each worked command is written and read as its bytes, and all others are none.
+//! Each worked command is written and read as its bytes. Other bytes are no command.
 use crate::rows::{COMMANDS, OTHERS, bytes_of, command};
 use command_bytes::{after_first, append, decode, decode_first, encode, text_len};
 use std::alloc::Global;
 use std::test::Fail;
 
-/// Whether these bytes are read as one command, which is written so.
+/// Whether these bytes are read as one command, which is written as the same bytes.
 fn is_read(alloc: Global, bytes: &[u8]) -> Result<bool, Fail> {
     match decode(alloc, bytes)? {
         Some(command) => Ok(encode(alloc, &command)?.as_slice() == bytes),
@@ -12,7 +12,7 @@ fn is_read(alloc: Global, bytes: &[u8]) -> Result<bool, Fail> {
     }
 }
 
-/// Whether the bytes with others behind them are read as one command and these others.
+/// Whether these bytes, with others after them, are read as one command and those others.
 fn is_read_first(alloc: Global, bytes: &[u8]) -> Result<bool, Fail> {
     let mut more = Vec::from_slice(alloc, bytes)?;
     more.extend_from_slice(&[9, 1])?;
@@ -26,7 +26,7 @@ fn is_read_first(alloc: Global, bytes: &[u8]) -> Result<bool, Fail> {
     }
 }
 
-/// Whether the line's command is written as these bytes, also behind others.
+/// Whether the line's command is written as these bytes.
 fn is_written(alloc: Global, line: &str, bytes: &[u8]) -> Result<bool, Fail> {
     let Some(command) = command(alloc, line) else {
         return Ok(false);
@@ -45,7 +45,7 @@ fn is_spelled(alloc: Global, line: &str, text: &str) -> Result<bool, Fail> {
     Ok(is_written(alloc, line, &bytes)? && is_read(alloc, &bytes)? && is_read_first(alloc, &bytes)?)
 }
 
-/// The first row that is not as it says.
+/// The first row whose line is not written and read as its bytes.
 fn first_wrong(alloc: Global) -> Result<Option<&'static str>, Fail> {
     for row in COMMANDS.lines() {
         match row.split_once('=') {

@@ -5,14 +5,14 @@ use Rattle.clap.specs.declared.error.kind.ErrorKind.TheVariants.{DisplayHelp, Di
 use Rattle.clap.proofs.OnLiterals.{clap_on_literals}
 use Rattle.command_line.specs.Asked.{faults}
 
-pub help_told : (name : Text) → faults (name ∷ codes "--help" ∷ []) ≡ DisplayHelp ∷ []
+pub help_reported : (name : Text) → faults (name ∷ codes "--help" ∷ []) ≡ DisplayHelp ∷ []
 unfolding clap_on_literals
-help_told name = refl
+help_reported name = refl
 
-pub version_told : (name : Text) → faults (name ∷ codes "--version" ∷ []) ≡ DisplayVersion ∷ []
+pub version_reported : (name : Text) → faults (name ∷ codes "--version" ∷ []) ≡ DisplayVersion ∷ []
 unfolding clap_on_literals
-version_told name = refl
+version_reported name = refl
 
-pub sub_help_told : (name : Text) → faults (name ∷ codes "format" ∷ codes "--help" ∷ []) ≡ DisplayHelp ∷ []
+pub sub_help_reported : (name : Text) → faults (name ∷ codes "format" ∷ codes "--help" ∷ []) ≡ DisplayHelp ∷ []
 unfolding clap_on_literals
-sub_help_told name = refl
+sub_help_reported name = refl

@@ -6,7 +6,7 @@ use Rattle.clap.specs.declared.error.Error.{Error}
 use Rattle.clap.specs.declared.parser.matches.ArgMatches.{ArgMatches}
 use Rattle.clap.proofs.OnLiterals.{clap_on_literals}
 use Rattle.command_line.specs.Program.{program}
-use Rattle.command_line.specs.Asked.{TellsOne, faults, told_by}
+use Rattle.command_line.specs.Asked.{ReportsOne, faults, refusal_by}
 use Rattle.command_line.specs.declared.request.Refusal.{Refusal}
 
 is_simple_here : is_simple program ≡ true
@@ -26,13 +26,13 @@ taken command words m is free simple = (
   (simple (ap is_simple is ∙ is_simple_here)).1 ∙ ap (λ (a : App). subcommand_of a words) is,
 )
 
-tells : (kinds : Kinds) (e : Error) (told : Refusal) → told ≡ told_by (kind_of e) e → HasKind kinds e → TellsOne kinds told
-tells kinds e told is (inl memory) = inl (is ∙ ap (λ k. told_by k e) memory)
-tells kinds e told is (inr among) = inr (e, is, among)
+reports : (kinds : Kinds) (e : Error) (reported : Refusal) → reported ≡ refusal_by (kind_of e) e → HasKind kinds e → ReportsOne kinds reported
+reports kinds e reported is (inl memory) = inl (is ∙ ap (λ k. refusal_by k e) memory)
+reports kinds e reported is (inr among) = inr (e, is, among)
 
--- what clap refuses is told by its kind
-pub refused : (command : App) (words : List Text) (e : Error) (told : Refusal) → command ≡ program
-    → (is_simple_and_free command ≡ true → HasKind (fault_of command words) e) → told ≡ told_by (kind_of e) e
-    → TellsOne (faults words) told
-refused command words e told is free by =
-    tells (faults words) e told by (subst (λ (a : App). HasKind (fault_of a words) e) is (free (ap is_simple_and_free is ∙ is_free_here)))
+-- what clap refuses is reported by its kind
+pub refused : (command : App) (words : List Text) (e : Error) (reported : Refusal) → command ≡ program
+    → (is_simple_and_free command ≡ true → HasKind (fault_of command words) e) → reported ≡ refusal_by (kind_of e) e
+    → ReportsOne (faults words) reported
+refused command words e reported is free by =
+    reports (faults words) e reported by (subst (λ (a : App). HasKind (fault_of a words) e) is (free (ap is_simple_and_free is ∙ is_free_here)))

@@ -1,5 +1,6 @@
--- What the words of a command line, the program's name first, ask for.
-use Rattle.std.specs.Prelude.{◌≡◌, ◌⊎◌, ℕ, Bool, true, false, List, [], ◌∷◌, Option, Some, None, codes, if◌then◌else◌, length, map, nat_le, option_and_then, option_map, unwrap_or, Vec}
+-- The requests of command lines, whose first word is the program's name.
+use Rattle.std.specs.Prelude.{◌≡◌, ◌⊎◌, ℕ, Bool, true, false, List, [], ◌∷◌, Option, Some, None, codes, if◌then◌else◌}
+use Rattle.std.specs.Prelude.{length, map, nat_le, option_and_then, option_map, unwrap_or, Vec}
 use Rattle.std.specs.Borrow.{Bor}
 use Rattle.std.specs.declared.alloc.Global.{Global}
 use Rattle.std.specs.Str.{bytes_eq}
@@ -15,7 +16,7 @@ use Rattle.command_line.specs.declared.request.Request.TheVariants as request
 use Rattle.command_line.specs.declared.request.Refusal.{Refusal}
 use Rattle.command_line.specs.declared.request.Refusal.TheVariants as refusal
 
--- what is asked for, with the texts of its words
+-- a request, with the texts of its words
 pub data Asked : Type 0 where
   memory : Asked
   format : Text → Text → Asked
@@ -27,7 +28,7 @@ pub data Asked : Type 0 where
 abbrev pub pair_texts : List (Bor Text × Bor Text) → List (Text × Text)
 pair_texts pairs = map (λ (pair : Bor Text × Bor Text). (pair.0.now, pair.1.now)) pairs
 
--- what a request stands for
+-- the texts of a request
 abbrev pub asked_by : Request → Asked
 asked_by request.Memory = memory
 asked_by (request.Format settings disk) = format settings.now disk.now
@@ -47,29 +48,29 @@ disk_and_words name found = both (λ disk words. (disk, words)) (first_of (codes
 abbrev pub texts_of : Bor Text × Vec (Bor Text) Global → Text × List Text
 texts_of found = (found.0.now, map (λ word. word.now) found.1.items)
 
--- what each subcommand asks for, by the words that clap found for it
+-- the request of `format`, by the words that clap found: its settings and its disk
 abbrev pub format_in : List Row → Option Asked
 format_in found = both format (first_of (codes "SETTINGS") found) (first_of (codes "DISK") found)
 
--- what `run` asks for: its disk and its files
+-- the request of `run`: its disk and its files
 abbrev pub run_in : List Row → Option Asked
 run_in found = option_map (λ (named : Text × List Text). run named.0 named.1) (disk_and_words (codes "FILE") found)
 
--- the words two by two, where their number is even
+-- the words in pairs, if their number is even
 unfoldable pub paired : List Text → Option (List (Text × Text))
 paired [] = Some []
 paired (input ∷ []) = None
 paired (input ∷ output ∷ rest) = option_map (λ pairs. (input, output) ∷ pairs) (paired rest)
 
--- what `serve` asks for: its disk, and IN and OUT of each station
+-- the request of `serve`: its disk, and IN and OUT of each station
 abbrev pub serve_in : List Row → Option Asked
 serve_in found = both serve (first_of (codes "DISK") found) (paired (unwrap_or (all_of (codes "END") found) []))
 
--- what `show` asks for: its disk and its words
+-- the request of `show`: its disk and its words
 abbrev pub show_in : List Row → Option Asked
 show_in found = option_map (λ (named : Text × List Text). show named.0 named.1) (disk_and_words (codes "WORD") found)
 
--- what a subcommand that clap found asks for, with its words
+-- the request of a subcommand that clap found, with its words
 abbrev pub asked_of : Text × List Row → Option Asked
 asked_of found =
     if bytes_eq found.0 (codes "format") then format_in found.1
@@ -78,51 +79,51 @@ asked_of found =
     else (if bytes_eq found.0 (codes "show") then show_in found.1
     else None)))
 
--- no word stands behind the program's name
+-- no word follows the program's name
 abbrev pub is_bare : List Text → Bool
 is_bare words = nat_le (length words) 1
 
--- the kinds of fault that clap finds in the words: none where it takes them
+-- the kinds of fault that clap finds in the words: none if it accepts them
 abbrev pub faults : List Text → Kinds
 faults words = fault_of program words
 
--- what words that clap takes ask for
+-- the request of words that clap accepts
 abbrev pub taken : List Text → Option Asked
 taken words = option_and_then asked_of (subcommand_of program words)
 
--- the words ask for this
+-- the words are this request
 abbrev pub Asks : List Text → Asked → Type 0
 Asks words asked =
     ((is_bare words ≡ true) × (asked ≡ memory))
     ⊎ ((is_bare words ≡ false) × (faults words ≡ []) × (taken words ≡ Some asked))
 
--- how an error of clap's is told
-abbrev pub told_by : ErrorKind → Error → Refusal
-told_by kind.DisplayHelp = refusal.Help
-told_by kind.DisplayVersion = refusal.Version
-told_by kind.OutOfMemory = λ error. refusal.NoMemory
-told_by _ = refusal.Wrong
+-- the refusal of an error of clap, by its kind
+abbrev pub refusal_by : ErrorKind → Error → Refusal
+refusal_by kind.DisplayHelp = refusal.Help
+refusal_by kind.DisplayVersion = refusal.Version
+refusal_by kind.OutOfMemory = λ error. refusal.NoMemory
+refusal_by _ = refusal.Wrong
 
--- how it is told that the words could not be read: one of them is no text, unless memory ran out
+-- the refusal where the words can't be read: one of them is no UTF-8, unless memory ran out
 abbrev pub unread_by : io_kind.ErrorKind → Refusal
 unread_by fault.OutOfMemory = refusal.NoMemory
 unread_by _ = refusal.NoText
 
--- it tells an error of one of these kinds, or that memory ran out
-abbrev pub TellsOne : Kinds → Refusal → Type 0
-TellsOne kinds told = (told ≡ refusal.NoMemory)
-    ⊎ ((error : Error) × (told ≡ told_by (kind_of error) error) × IsAmong (kind_of error) kinds)
+-- the refusal reports an error of one of these kinds, or that memory ran out
+abbrev pub ReportsOne : Kinds → Refusal → Type 0
+ReportsOne kinds reported = (reported ≡ refusal.NoMemory)
+    ⊎ ((error : Error) × (reported ≡ refusal_by (kind_of error) error) × IsAmong (kind_of error) kinds)
 
--- clap takes the words, and yet one is missing among what it found: the OUT of the last IN
+-- clap accepts the words, but one is missing: the OUT of the last IN
 abbrev pub LacksOne : List Text → Type 0
 LacksOne words = (faults words ≡ []) × (taken words ≡ None)
 
--- the words are answered so, in place of what they ask for
+-- the words may have this refusal
 abbrev pub Refuses : List Text → Refusal → Type 0
-Refuses words told =
-    (is_bare words ≡ false) × (TellsOne (faults words) told ⊎ ((told ≡ refusal.Missing) × LacksOne words))
+Refuses words reported =
+    (is_bare words ≡ false) × (ReportsOne (faults words) reported ⊎ ((reported ≡ refusal.Missing) × LacksOne words))
 
--- the exit status: 0 where help or the version was asked for, 2 for a wrong command line, 5 for want of memory
+-- the exit status: 0 where help or the version was asked for, 2 for a wrong command line, 5 when memory runs out
 abbrev pub status_of : Refusal → ℕ
 status_of (refusal.Help error) = 0
 status_of (refusal.Version error) = 0

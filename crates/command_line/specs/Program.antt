@@ -1,5 +1,5 @@
--- The program's words as clap is told of them: four subcommands, each with its words in order. What clap makes of
--- words that are given is `subcommand_of` and `fault_of` of its own definitions.
+-- The definition of the command line for clap: four subcommands, each with its words in order. How clap reads words
+-- by it is said by its own definitions, `subcommand_of` and `fault_of`.
 use Rattle.std.specs.Prelude.{◌≡◌, false, true, Some, codes}
 use Rattle.clap.specs.Words.{App, Rule, Text, app_of, new_app, new_rule, with_rule, with_subcommand}
 use Rattle.clap.specs.Lexer.{usize_max}
@@ -7,11 +7,11 @@ use Rattle.clap.specs.Simple.{on_top}
 use Rattle.clap.specs.declared.builder.command.Command.{Command}
 use Rattle.clap.specs.declared.builder.command.Command.TheViews.{out-Command as fields_of}
 
--- one word that must be there
+-- one required word
 abbrev pub one_word : Text → Rule
 one_word name = record (new_rule name) { required = true }
 
--- any number of words, also none
+-- any number of words, or none
 abbrev pub any_words : Text → Rule
 any_words name = record (new_rule name) {
   range = Some (record {
@@ -36,7 +36,7 @@ format = with_two_words (codes "format") (one_word (codes "SETTINGS")) (one_word
 abbrev pub run : App
 run = with_two_words (codes "run") (one_word (codes "DISK")) (some_words (codes "FILE"))
 
--- the words after DISK have one name in help
+-- the words of `serve` after DISK; help names them together
 abbrev pub ends : Rule
 ends = record (any_words (codes "END")) { value_names = 1 }
 
@@ -60,6 +60,6 @@ bare = on_top (λ top. record top {
 abbrev pub program : App
 program = with_subcommand (with_subcommand (with_subcommand (with_subcommand bare format.top) run.top) serve.top) show.top
 
--- clap is told of this command, and none of its arguments is passed down to subcommands
-abbrev pub Tells : App → Command → Type 0
-Tells app command = (app_of command ≡ app) × ((fields_of command).has_globals ≡ false)
+-- clap's command has this definition, and no argument is global, so none is passed down to subcommands
+abbrev pub Describes : App → Command → Type 0
+Describes app command = (app_of command ≡ app) × ((fields_of command).has_globals ≡ false)

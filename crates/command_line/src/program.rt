@@ -1,4 +1,4 @@
-//! The command line, as clap is told of it: a function for each subcommand and each of its words.
+//! The definition of the command line for clap: a function for each subcommand, and for each kind of its words.
 ghost use Rattle.std.specs.Prelude.{◌≡◌, IfOk, false};
 ghost use Rattle.clap.specs.Words.{new_app, rule_of};
 ghost use Rattle.command_line.specs.Program as spec;
@@ -13,7 +13,7 @@ const DISK: &str = "The disk file";
 
 /// The program with its subcommands.
 pub(crate) fn program<'a>(alloc: Global) -> Result<Command<'a>, AllocError>
-    ensures { IfOk result (spec.Tells spec.program) }
+    ensures { IfOk result (spec.Describes spec.program) }
 {
     under_name(alloc)?
         .subcommand(format(alloc)?)?
@@ -24,14 +24,14 @@ pub(crate) fn program<'a>(alloc: Global) -> Result<Command<'a>, AllocError>
 
 /// The program without its subcommands, under its name.
 fn under_name<'a>(alloc: Global) -> Result<Command<'a>, AllocError>
-    ensures { IfOk result (spec.Tells spec.bare) }
+    ensures { IfOk result (spec.Describes spec.bare) }
 {
     bare(alloc).bin_name(NAME)
 }
 
 /// The program without its subcommands.
 fn bare<'a>(alloc: Global) -> Command<'a>
-    ensures { spec.Tells spec.bare result }
+    ensures { spec.Describes spec.bare result }
 {
     named(alloc, NAME, ABOUT, AFTER)
         .override_usage("tetra-switch [COMMAND]")
@@ -40,15 +40,15 @@ fn bare<'a>(alloc: Global) -> Command<'a>
         .disable_help_subcommand(true)
 }
 
-/// A command with what help tells of it.
+/// A command with its help texts.
 fn named<'a>(alloc: Global, name: &'a str, about: &'a str, after: &'a str) -> Command<'a>
-    ensures { spec.Tells (new_app name.now) result }
+    ensures { spec.Describes (new_app name.now) result }
 {
     Command::new(alloc, name).about(about).after_help(after)
 }
 
 fn format<'a>(alloc: Global) -> Result<Command<'a>, AllocError>
-    ensures { IfOk result (spec.Tells spec.format) }
+    ensures { IfOk result (spec.Describes spec.format) }
 {
     let settings = one_word(alloc, "SETTINGS", "The settings: five numbers in TOML");
     let disk = one_word(alloc, "DISK", "The disk file, which may not exist yet");
@@ -58,7 +58,7 @@ fn format<'a>(alloc: Global) -> Result<Command<'a>, AllocError>
 }
 
 fn run<'a>(alloc: Global) -> Result<Command<'a>, AllocError>
-    ensures { IfOk result (spec.Tells spec.run) }
+    ensures { IfOk result (spec.Describes spec.run) }
 {
     let disk = one_word(alloc, "DISK", DISK);
     let files = some_words(
@@ -70,7 +70,7 @@ fn run<'a>(alloc: Global) -> Result<Command<'a>, AllocError>
 }
 
 fn serve<'a>(alloc: Global) -> Result<Command<'a>, AllocError>
-    ensures { IfOk result (spec.Tells spec.serve) }
+    ensures { IfOk result (spec.Describes spec.serve) }
 {
     let disk = one_word(alloc, "DISK", DISK);
     let ends = any_words(alloc, "END", SERVE_ENDS).value_name("IN OUT");
@@ -81,14 +81,14 @@ fn serve<'a>(alloc: Global) -> Result<Command<'a>, AllocError>
 }
 
 fn show<'a>(alloc: Global) -> Result<Command<'a>, AllocError>
-    ensures { IfOk result (spec.Tells spec.show) }
+    ensures { IfOk result (spec.Describes spec.show) }
 {
     let disk = one_word(alloc, "DISK", DISK);
     let words = some_words(alloc, "WORD", "The words of the query");
     named(alloc, "show", SHOW, AFTER_SHOW).arg(disk)?.arg(words)
 }
 
-/// One word that must be there.
+/// One required word.
 fn one_word<'a>(alloc: Global, name: &'a str, help: &'a str) -> Arg<'a>
     ensures rule { rule_of result ≡ spec.one_word name.now }
     ensures local { result.global ≡ false }
@@ -104,7 +104,7 @@ fn some_words<'a>(alloc: Global, name: &'a str, help: &'a str) -> Arg<'a>
     any_words(alloc, name, help).required(true)
 }
 
-/// Any number of words, also none.
+/// Any number of words, or none.
 fn any_words<'a>(alloc: Global, name: &'a str, help: &'a str) -> Arg<'a>
     ensures rule { rule_of result ≡ spec.any_words name.now }
     ensures local { result.global ≡ false }

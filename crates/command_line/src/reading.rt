@@ -1,4 +1,4 @@
-//! The words of a command line, read by clap.
+//! Reads the words of a command line by clap.
 ghost use Rattle.std.specs.Prelude.{◌≡◌, ◌⊎◌, ◌*◌, ◌/◌, [], IfOk, IfErr, None, Some, length, map, option_and_then, option_map, take};
 ghost use Rattle.clap.specs.Words.{all_of, first_of, found_of, rows_of, subcommand_of, subcommand_rows_of};
 ghost use Rattle.command_line.specs.Asked as spec;
@@ -6,18 +6,18 @@ ghost use Rattle.command_line.specs.Program.{program};
 ghost use Rattle.command_line.specs.declared.request.Refusal.TheVariants.{Missing, NoMemory};
 
 use crate::program::program;
-use crate::request::{Refusal, Request, told};
+use crate::request::{Refusal, Request, refusal_of};
 use clap::ArgMatches;
 use std::alloc::{AllocError, Global};
 use std::convert::AsStr;
 
-/// What the words of a command line ask for; the first is the program's name. With no further word that is to serve
-/// standard input over a register in memory. Else clap reads them: `format SETTINGS DISK`, `run DISK FILE...`,
-/// `serve DISK [IN OUT]...` or `show DISK WORD...`, where a word after `--` is never taken for a flag.
+/// The request of a command line, whose first word is the program's name. Without further words it is to serve
+/// standard input over a register in memory. Else clap reads the words: `format SETTINGS DISK`, `run DISK FILE...`,
+/// `serve DISK [IN OUT]...` or `show DISK WORD...`. A word after `--` is never read as a flag.
 ///
 /// # Errors
-/// `Help` and `Version` where these are asked for by `--help`, `-h`, `--version` or `-V`, of a subcommand by its own
-/// `--help`; `Wrong` or `Missing` for every other command line; `NoMemory` where memory ran out.
+/// `Help` for `--help` or `-h`, also of a subcommand; `Version` for `--version` or `-V`. `Wrong` or `Missing` for every
+/// other command line that is no request. `NoMemory` where memory ran out.
 pub fn read_command_line<'a, S: AsStr>(
     alloc: Global,
     words: &'a [S],
@@ -32,24 +32,24 @@ pub fn read_command_line<'a, S: AsStr>(
     requested(alloc, &matches)
 }
 
-/// What clap finds in the words.
+/// The result of clap for the words.
 fn matches_of<'a, S: AsStr>(alloc: Global, words: &'a [S]) -> Result<ArgMatches<'a>, Refusal>
     ensures taken { IfOk result (λ matches. (spec.faults (map S.text words.now) ≡ [])
         × (subcommand_rows_of matches ≡ subcommand_of program (map S.text words.now))) }
-    ensures refused { IfErr result (spec.TellsOne (spec.faults (map S.text words.now))) }
+    ensures refused { IfErr result (spec.ReportsOne (spec.faults (map S.text words.now))) }
 {
     let command = program(alloc)?;
     match command.try_get_matches_from(words) {
         Ok(matches) => Ok(matches),
-        Err(error) => Err(told(error)),
+        Err(error) => Err(refusal_of(error)),
     }
 }
 
-/// What is asked for by what clap found.
+/// The request of clap's result; `Missing` where a word is missing.
 fn requested<'a>(alloc: Global, matches: &ArgMatches<'a>) -> Result<Request<'a>, Refusal>
     ensures asked { IfOk result (λ request. option_and_then spec.asked_of (subcommand_rows_of matches.now) ≡ Some (spec.asked_by request)) }
-    ensures refused { IfErr result (λ told. (told ≡ NoMemory)
-        ⊎ ((told ≡ Missing) × (option_and_then spec.asked_of (subcommand_rows_of matches.now) ≡ None))) }
+    ensures refused { IfErr result (λ refusal. (refusal ≡ NoMemory)
+        ⊎ ((refusal ≡ Missing) × (option_and_then spec.asked_of (subcommand_rows_of matches.now) ≡ None))) }
 {
     match entered(alloc, matches)? {
         Some(request) => Ok(request),
@@ -57,7 +57,7 @@ fn requested<'a>(alloc: Global, matches: &ArgMatches<'a>) -> Result<Request<'a>,
     }
 }
 
-/// What the subcommand that clap met asks for, where it lacks no word.
+/// The request of the subcommand that clap found; `None` where a word is missing.
 fn entered<'a>(alloc: Global, matches: &ArgMatches<'a>) -> Result<Option<Request<'a>>, AllocError>
     ensures { IfOk result (λ request. option_map spec.asked_by request ≡ option_and_then spec.asked_of (subcommand_rows_of matches.now)) }
 {
@@ -67,7 +67,7 @@ fn entered<'a>(alloc: Global, matches: &ArgMatches<'a>) -> Result<Option<Request
     }
 }
 
-/// What a subcommand asks for by its words.
+/// The request of a subcommand with the words that clap found; `None` where one is missing.
 fn request_of<'a>(
     alloc: Global,
     name: &str,
@@ -119,7 +119,7 @@ fn serve_of<'a>(alloc: Global, found: &ArgMatches<'a>) -> Result<Option<Request<
     }
 }
 
-/// The words two by two. `None` if their number is odd.
+/// The words in pairs; `None` if their number is odd.
 fn paired<'a>(
     alloc: Global,
     words: &[&'a str],
@@ -134,7 +134,7 @@ fn paired<'a>(
     }
 }
 
-/// The words two by two; the last is left out if their number is odd.
+/// The words in pairs, without the last word if their number is odd.
 fn whole_pairs<'a>(alloc: Global, words: &[&'a str]) -> Result<Vec<(&'a str, &'a str)>, AllocError>
     ensures { IfOk result (λ pairs. spec.paired (map (λ word. word.now) (take (2 * (length words.now / 2)) words.now)) ≡ Some (spec.pair_texts pairs.items)) }
 {
@@ -179,7 +179,7 @@ fn word<'a>(found: &ArgMatches<'a>, name: &str) -> Option<&'a str>
     found.get_str(name)
 }
 
-/// All the words that it found under a name.
+/// All the words that clap found under a name.
 fn all_words<'m, 'a>(found: &'m ArgMatches<'a>, name: &str) -> Option<&'m [&'a str]>
     ensures { option_map (λ words. map (λ word. word.now) words.now) result ≡ all_of name.now (rows_of (found_of found.now)) }
 {

@@ -1,8 +1,8 @@
-//! What is asked for, and what is told in place of it.
+//! The requests of command lines, and the refusals.
 ghost use Rattle.std.specs.Prelude.{◌≡◌};
 ghost use Rattle.std.specs.IoError.{error_kind};
 ghost use Rattle.clap.specs.Words.{kind_of};
-ghost use Rattle.command_line.specs.Asked.{status_of, told_by, unread_by};
+ghost use Rattle.command_line.specs.Asked.{status_of, refusal_by, unread_by};
 ghost use Rattle.command_line.specs.declared.request.Refusal.TheVariants.{NoMemory};
 
 use crate::program::SERVE_USAGE;
@@ -11,30 +11,30 @@ use clap::error::ErrorKind;
 use std::alloc::AllocError;
 use std::{fmt, io};
 
-/// What the words ask for.
+/// What a command line asks for.
 #[derive(Debug, Drop)]
 pub enum Request<'a> {
     /// No words: serve standard input to standard output, over an empty register in memory.
     Memory,
     /// `format SETTINGS DISK`: make a disk file for the settings in a file.
     Format {
-        /// The file of the settings.
+        /// The settings file.
         settings: &'a str,
-        /// The file that is made.
+        /// The disk file that is made.
         disk: &'a str,
     },
-    /// `run DISK FILE...`: serve the lines of stations on a disk file.
+    /// `run DISK FILE...`: serve the files of stations on a disk file.
     Run {
         /// The disk file.
         disk: &'a str,
-        /// The files of the lines in the order of their stations, one at least.
+        /// The files in the order of their stations, one at least.
         files: Vec<&'a str>,
     },
-    /// `serve DISK [IN OUT]...`: serve stations on a disk file, each answer as it comes.
+    /// `serve DISK [IN OUT]...`: serve stations on a disk file, and write each answer as it comes.
     Serve {
         /// The disk file.
         disk: &'a str,
-        /// IN and OUT of station 1, of station 2 and so on; none for standard input and standard output.
+        /// IN and OUT of station 1, of station 2 and so on. No pair means standard input and standard output.
         pairs: Vec<(&'a str, &'a str)>,
     },
     /// `show DISK WORD...`: answer one query of a disk file.
@@ -46,7 +46,7 @@ pub enum Request<'a> {
     },
 }
 
-/// What is told in place of carrying a request out. `Display` gives the text.
+/// Why no request is carried out. `Display` writes the text that is reported.
 #[derive(Debug, Drop)]
 pub enum Refusal {
     /// Help was asked for.
@@ -55,9 +55,9 @@ pub enum Refusal {
     Version(Error),
     /// The command line is wrong.
     Wrong(Error),
-    /// The command line lacks a word, though clap takes it: the OUT of the last IN. (clap reports each other word that is missing.)
+    /// The OUT of the last IN is missing. clap accepts such a command line; it reports any other missing word itself.
     Missing,
-    /// A word of the command line is no text (UTF-8).
+    /// A word of the command line is no UTF-8.
     NoText,
     /// Memory ran out.
     NoMemory,
@@ -65,7 +65,7 @@ pub enum Refusal {
 
 impl Refusal {
     /// The exit status: 0 for help and the version, which go to standard output; 2 for a wrong command line and 5 for
-    /// want of memory, which go to standard error.
+    /// out of memory, which go to standard error.
     pub fn status(&self) -> u8
         ensures { result ≡ status_of self.now }
     {
@@ -78,16 +78,16 @@ impl Refusal {
 }
 
 impl From<AllocError> for Refusal {
-    ghost from_gives = { λ _ told. told ≡ NoMemory };
+    ghost from_gives = { λ _ refusal. refusal ≡ NoMemory };
 
     fn from(_error: AllocError) -> Refusal {
         Refusal::NoMemory
     }
 }
 
-/// What `std::env::args` fails with: a word that is no text, or want of memory.
+/// A failure of `std::env::args`: a word is no UTF-8, or memory ran out.
 impl From<io::Error> for Refusal {
-    ghost from_gives = { λ error told. told ≡ unread_by (error_kind error) };
+    ghost from_gives = { λ error refusal. refusal ≡ unread_by (error_kind error) };
 
     fn from(error: io::Error) -> Refusal {
         unread(error.kind())
@@ -105,16 +105,16 @@ impl fmt::Display for Refusal {
     }
 }
 
-/// Writes that the last IN has no OUT, as clap writes its errors.
+/// Writes that the last IN has no OUT, in the form of clap's errors.
 fn write_missing<W: fmt::Write>(f: &mut fmt::Formatter<W>) -> fmt::Result {
     f.write_str("error: the last IN has no OUT\n\nUsage: ")?;
     f.write_str(SERVE_USAGE)?;
     f.write_str("\n\nFor more information, try '--help'.\n")
 }
 
-/// An error of clap's, by its kind.
-pub(crate) fn told(error: Error) -> Refusal
-    ensures { result ≡ told_by (kind_of error) error }
+/// The refusal of an error of clap, by its kind.
+pub(crate) fn refusal_of(error: Error) -> Refusal
+    ensures { result ≡ refusal_by (kind_of error) error }
 {
     match error.kind() {
         ErrorKind::DisplayHelp => Refusal::Help(error),
@@ -124,7 +124,7 @@ pub(crate) fn told(error: Error) -> Refusal
     }
 }
 
-/// A fault of reading the words themselves, by its kind.
+/// The refusal where the words themselves can't be read, by the kind of error.
 fn unread(kind: io::ErrorKind) -> Refusal
     ensures { result ≡ unread_by kind }
 {

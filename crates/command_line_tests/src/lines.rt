@@ -1,10 +1,10 @@
-//! Command lines, and what each of them asks for.
+//! Command lines and their requests.
 
 use command_line::{Refusal, Request, read_command_line};
 use std::alloc::{AllocError, Global};
 use std::test::Fail;
 
-/// The words behind the program's name, and what they ask for.
+/// The words after the program's name, and their request or refusal.
 const LINES: &str = "\
 format settings.toml centre.disk = format settings.toml centre.disk
 format - s = format - s
@@ -86,7 +86,7 @@ show d -- = wrong
 show d where -x = wrong
 show --disk d count = wrong";
 
-/// The names of each pair.
+/// Appends the words of each pair.
 fn push_pairs(text: &mut String, pairs: &[(&str, &str)]) -> Result<(), AllocError> {
     for (input, output) in pairs {
         push_words(text, &[*input, *output])?;
@@ -141,7 +141,7 @@ fn refusal_name(refusal: &Refusal) -> &'static str {
     }
 }
 
-/// What words ask for, as a text.
+/// The request or the refusal of words, as a text.
 fn answer(alloc: Global, words: &[&str]) -> Result<String, AllocError> {
     match read_command_line(alloc, words) {
         Ok(request) => request_text(alloc, &request),
@@ -149,7 +149,7 @@ fn answer(alloc: Global, words: &[&str]) -> Result<String, AllocError> {
     }
 }
 
-/// Whether the words of a line ask for what it says.
+/// Whether the words of a line have the result after ` = `.
 fn is_answered(alloc: Global, line: &str) -> Result<bool, Fail> {
     let (given, wanted) = line.split_once(" = ").ok_or("a line without =")?;
     let mut words = Vec::new(alloc);
@@ -160,7 +160,7 @@ fn is_answered(alloc: Global, line: &str) -> Result<bool, Fail> {
     Ok(answer(alloc, words.as_slice())?.as_str() == wanted)
 }
 
-/// The first line that asks for something else.
+/// The first line with another result.
 fn first_wrong(alloc: Global) -> Result<Option<&'static str>, Fail> {
     for line in LINES.lines() {
         if !is_answered(alloc, line)? {

@@ -1,11 +1,11 @@
-//! What is told in place of a request: texts and exit statuses.
+//! Refusals: their texts and exit statuses.
 
 use command_line::{Refusal, read_command_line};
 use std::alloc::Global;
 use std::io;
 use std::test::Fail;
 
-/// What words are refused with.
+/// The refusal of words.
 fn refused(alloc: Global, words: &[&str]) -> Result<Refusal, Fail> {
     match read_command_line(alloc, words) {
         Ok(_) => Err(Fail::from("a request")),
@@ -13,14 +13,14 @@ fn refused(alloc: Global, words: &[&str]) -> Result<Refusal, Fail> {
     }
 }
 
-/// The text that words are answered with.
+/// The text of the refusal of words.
 fn text_of(alloc: Global, words: &[&str]) -> Result<String, Fail> {
     let refusal = refused(alloc, words)?;
     Ok(format!(in alloc; "{refusal}")?)
 }
 
-/// Whether help of these words has all of this.
-fn tells(alloc: Global, words: &[&str], parts: &[&str]) -> Result<bool, Fail> {
+/// Whether that text has all these parts.
+fn text_contains(alloc: Global, words: &[&str], parts: &[&str]) -> Result<bool, Fail> {
     let text = text_of(alloc, words)?;
     for part in parts {
         if !text.as_str().contains(*part) {
@@ -42,7 +42,7 @@ fn help_of_the_program(rt: HostRuntime) -> Result<(), Fail> {
         "Example: tetra-switch < ",
         "Exit status:",
     ];
-    assert!(rt; tells(rt.alloc(), &["tetra-switch", "--help"], &parts)?);
+    assert!(rt; text_contains(rt.alloc(), &["tetra-switch", "--help"], &parts)?);
     Ok(())
 }
 
@@ -69,17 +69,17 @@ fn help_of_each_subcommand(rt: HostRuntime) -> Result<(), Fail> {
         "Example: tetra-switch show ",
         "Exit status:",
     ];
-    assert!(rt; tells(alloc, &["bin/tetra-switch", "format", "--help"], &format)?);
-    assert!(rt; tells(alloc, &["tetra-switch", "serve", "--help"], &serve)?);
-    assert!(rt; tells(alloc, &["tetra-switch", "run", "--help"], &run)?);
-    assert!(rt; tells(alloc, &["tetra-switch", "show", "--help"], &show)?);
+    assert!(rt; text_contains(alloc, &["bin/tetra-switch", "format", "--help"], &format)?);
+    assert!(rt; text_contains(alloc, &["tetra-switch", "serve", "--help"], &serve)?);
+    assert!(rt; text_contains(alloc, &["tetra-switch", "run", "--help"], &run)?);
+    assert!(rt; text_contains(alloc, &["tetra-switch", "show", "--help"], &show)?);
     Ok(())
 }
 
 #[test]
 fn usage_names_the_program(rt: HostRuntime) -> Result<(), Fail> {
     let run = ["\n\nUsage: tetra-switch run <DISK> <FILE>...\n\n"];
-    assert!(rt; tells(rt.alloc(), &["/a/tetra_switch.old", "run", "d"], &run)?);
+    assert!(rt; text_contains(rt.alloc(), &["/a/tetra_switch.old", "run", "d"], &run)?);
     Ok(())
 }
 

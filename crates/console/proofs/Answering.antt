@@ -1,65 +1,56 @@
 -- Answers and the room that their texts take.
 use Rattle.std.proofs.Common.{◌≡◌, ℕ, Bool, true, false, List, Result, IfErr, IsErrOf, refl, sym, ap, subst, ◌∙◌, inl, inr}
 use Rattle.std.proofs.lemmas.Bool.{true≢false}
-use Rattle.centre_core.specs.declared.query.Told.{Told}
-use Rattle.centre_core.specs.declared.query.Told.TheVariants as told
+use Rattle.centre_core.specs.declared.query.QueryAnswer.{QueryAnswer}
 use Rattle.console.specs.declared.line.Line.{Line}
 use Rattle.console.specs.declared.line.Line.TheVariants.{Silent, Bad, Apply, Ask}
 use Rattle.console.specs.declared.answer.Answer.{Answer}
 use Rattle.console.specs.declared.answer.Answer.TheVariants as answer
 use Rattle.console.specs.declared.running.RunFault.{RunFault}
 use Rattle.console.specs.declared.running.RunFault.TheVariants.{Read, Write, NoMemory}
-use Rattle.desk.specs.declared.service.Service.TheVariants.{Memory}
-use Rattle.console.specs.Answer.{is_list, tells_list, IsOneLine, IsLine, HasNoLongPdu}
+use Rattle.desk.specs.declared.outage.Outage.TheVariants.{Memory}
+use Rattle.console.specs.Answer.{is_list, is_list_answer, IsOneLine, IsLine, HasNoLongPdu}
 use Rattle.console.specs.Reading.{reading}
-use Rattle.console.specs.Inside.Hand.{StandsIn}
+use Rattle.console.specs.Inside.Current.{IsGivenFor}
 use Rattle.desk.specs.Rules.{Rules}
 use Rattle.console.specs.Dialogue.{AnswersReading, Answers}
 
-one_line : {B : Type 0} (t : Told B) → is_list t ≡ false → IsOneLine t
-one_line (told.Whereabouts itsi radio) other = tt
-one_line (told.Look itsi rule) other = tt
-one_line (told.Groups itsi groups) other = absurd (true≢false other)
-one_line (told.Members gtsi members) other = absurd (true≢false other)
-one_line (told.Waiting itsi items) other = absurd (true≢false other)
-one_line (told.Total count) other = tt
-
--- what is told is one line, or a list
-line_or_list : {B : Type 0} (b : Bool) (t : Told B) → is_list t ≡ b → (IsOneLine t → ⊥) → is_list t ≡ true
+-- the answer to a query is one line, or a list
+line_or_list : {B : Type 0} (b : Bool) (t : QueryAnswer B) → is_list t ≡ b → (IsOneLine t → ⊥) → is_list t ≡ true
 line_or_list true t is long = is
-line_or_list false t is long = absurd (long (one_line t is))
+line_or_list false t is long = absurd (long is)
 
 -- an answer without a long PDU that is no line is a list
-pub only_lists_are_long : {B : Type 0} (a : Answer B) → HasNoLongPdu a → (IsLine a → ⊥) → tells_list a ≡ true
+pub only_lists_are_long : {B : Type 0} (a : Answer B) → HasNoLongPdu a → (IsLine a → ⊥) → is_list_answer a ≡ true
 only_lists_are_long answer.Quiet short long = absurd (long tt)
 only_lists_are_long (answer.Bad line fault) short long = absurd (long tt)
 only_lists_are_long (answer.Replied sequence reply) short long = absurd (long short)
-only_lists_are_long (answer.Unreplied sequence word) short long = absurd (long tt)
-only_lists_are_long (answer.Told told) short long = line_or_list (is_list told) told refl long
-only_lists_are_long (answer.Untold line word) short long = absurd (long tt)
+only_lists_are_long (answer.CommandOutage sequence word) short long = absurd (long tt)
+only_lists_are_long (answer.Queried query_answer) short long = line_or_list (is_list query_answer) query_answer refl long
+only_lists_are_long (answer.QueryOutage line word) short long = absurd (long tt)
 
 module _ {A W : Type 0} where
-  untold : (rules : Rules A W) (n : ℕ) (s t : W) (line : Line A) (a : Answer A) → tells_list a ≡ true → AnswersReading rules n s line a t → AnswersReading rules n s line (answer.Untold n Memory) t
-  untold rules n s t Silent a list given = absurd (true≢false (sym list ∙ ap tells_list given.0))
-  untold rules n s t (Bad fault) a list given = absurd (true≢false (sym list ∙ ap tells_list given.0))
-  untold rules n s t (Apply c) (answer.Replied sequence reply) list given = absurd (true≢false (sym list))
-  untold rules n s t (Apply c) (answer.Unreplied sequence word) list given = absurd (true≢false (sym list))
-  untold rules n s t (Apply c) answer.Quiet list given = absurd given
-  untold rules n s t (Apply c) (answer.Bad number fault) list given = absurd given
-  untold rules n s t (Apply c) (answer.Told told) list given = absurd given
-  untold rules n s t (Apply c) (answer.Untold number word) list given = absurd given
-  untold rules n s t (Ask q) (answer.Told told) list given = (refl, inr (refl, (told, list, given)))
-  untold rules n s t (Ask q) (answer.Untold number word) list given = absurd (true≢false (sym list))
-  untold rules n s t (Ask q) answer.Quiet list given = absurd given
-  untold rules n s t (Ask q) (answer.Bad number fault) list given = absurd given
-  untold rules n s t (Ask q) (answer.Replied sequence reply) list given = absurd given
-  untold rules n s t (Ask q) (answer.Unreplied sequence word) list given = absurd given
+  query_outage : (rules : Rules A W) (n : ℕ) (s t : W) (line : Line A) (a : Answer A) → is_list_answer a ≡ true → AnswersReading rules n s line a t → AnswersReading rules n s line (answer.QueryOutage n Memory) t
+  query_outage rules n s t Silent a list given = absurd (true≢false (sym list ∙ ap is_list_answer given.0))
+  query_outage rules n s t (Bad fault) a list given = absurd (true≢false (sym list ∙ ap is_list_answer given.0))
+  query_outage rules n s t (Apply c) (answer.Replied sequence reply) list given = absurd (true≢false (sym list))
+  query_outage rules n s t (Apply c) (answer.CommandOutage sequence word) list given = absurd (true≢false (sym list))
+  query_outage rules n s t (Apply c) answer.Quiet list given = absurd given
+  query_outage rules n s t (Apply c) (answer.Bad number fault) list given = absurd given
+  query_outage rules n s t (Apply c) (answer.Queried query_answer) list given = absurd given
+  query_outage rules n s t (Apply c) (answer.QueryOutage number word) list given = absurd given
+  query_outage rules n s t (Ask q) (answer.Queried query_answer) list given = (refl, inr (refl, (query_answer, list, given)))
+  query_outage rules n s t (Ask q) (answer.QueryOutage number word) list given = absurd (true≢false (sym list))
+  query_outage rules n s t (Ask q) answer.Quiet list given = absurd given
+  query_outage rules n s t (Ask q) (answer.Bad number fault) list given = absurd given
+  query_outage rules n s t (Ask q) (answer.Replied sequence reply) list given = absurd given
+  query_outage rules n s t (Ask q) (answer.CommandOutage sequence word) list given = absurd given
 
   -- what is given in place of an answer is an answer
-  pub stands_in : (rules : Rules A W) (station n : ℕ) (s t : W) (line : List ℕ) (a given : Answer A) → StandsIn n a given → Answers rules station n s line a t → Answers rules station n s line given t
-  stands_in rules station n s t line a given stands answers = elim stands [
+  pub is_given_for : (rules : Rules A W) (station n : ℕ) (s t : W) (line : List ℕ) (a given : Answer A) → IsGivenFor n a given → Answers rules station n s line a t → Answers rules station n s line given t
+  is_given_for rules station n s t line a given stands answers = elim stands [
     | inl same ↦ subst (λ (b : Answer A). Answers rules station n s line b t) (sym same) answers
-    | inr list ↦ subst (λ (b : Answer A). Answers rules station n s line b t) (sym list.1) (untold rules n s t (reading station line) a list.0 answers)
+    | inr list ↦ subst (λ (b : Answer A). Answers rules station n s line b t) (sym list.1) (query_outage rules n s t (reading station line) a list.0 answers)
   ]
 
 -- a run stops for the writer alone while it answers

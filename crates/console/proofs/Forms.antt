@@ -97,7 +97,7 @@ module _ (A : Type 0) where
       either_short (bytes_eq name (codes "rule")) (rule_body (result_ok (reading_prefix a)) (rule_in b c d e)) (Err Syntax) (rule_short (result_ok (reading_prefix a)) (rule_in b c d e)) tt
   body_short name (a ∷ b ∷ c ∷ d ∷ e ∷ f ∷ ws) = tt
 
--- a body with a PDU, behind a head and without one
+-- a body with a PDU, after a head and without one
 pub unread : {A : Type 0} (station : ℕ) (head : Head) (body : Result (Body A) LineFault) → GivesPdu body → sequence_of (command_line station (Some head) body) ≡ Some head.sequence
 unread station head (Ok (RuleSet prefix rule)) pdu = absurd pdu
 unread station head (Ok (RuleClear prefix)) pdu = absurd pdu
@@ -121,7 +121,7 @@ form_judged : (form : Option (ℕ × List ℕ)) → judged (λ form. if nat_le f
 form_judged None refused = cc
 form_judged (Some form) refused = within_judged (nat_le form.0 2048) (take form.0 (digit_bits form.1)) refused
 
--- no text is refused for want of memory
+-- no text is refused when memory runs out
 pub bits_are_judged : (text : List ℕ) → reading_bits text ≡ Err NoMemory → ⊥
 unfolding reading_bits
 bits_are_judged text refused = form_judged (bits_form text) refused

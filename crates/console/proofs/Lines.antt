@@ -41,7 +41,7 @@ lines_step line rest none = ap lines_of_parts (slice_split_at is_feed line 10 re
 pub lines_last : (b : ℕ) (line : List ℕ) → All (λ b. is_feed b ≡ false) (b ∷ line) → lines (b ∷ line) ≡ (b ∷ line) ∷ []
 lines_last b line none = ap lines_of_parts (slice_split_none is_feed (b ∷ line) none) ∙ grind arith
 
--- a line has the word before its first space, and the words behind it
+-- a line has the word before its first space, and the words after it
 pub words_none : (line : List ℕ) → Lacks 32 line → words line ≡ line ∷ []
 words_none line none = slice_split_none is_space line none
 
@@ -52,7 +52,7 @@ words_some line at inside none here =
     ap (λ b. take at line ++ b ∷ drop (at + 1) line) (sym (get_or_from_slice_get line at 32 0 here)) ∙ ap (λ end. take at line ++ end) (sym cut) ∙ take-append-drop at line in
     ap words (sym whole) ∙ slice_split_at is_space (take at line) 32 (drop (at + 1) line) none refl
 
--- what a line feed ends, behind bytes that end no line
+-- what a line feed ends, after bytes that end no line
 pub line_ended : (taken line run rest : List ℕ) (done : List (List ℕ)) → All (λ b. is_feed b ≡ false) line → All (λ b. is_feed b ≡ false) run →
     lines (taken ++ ((run ++ 10 ∷ []) ++ rest)) ≡ done ++ lines (line ++ ((run ++ 10 ∷ []) ++ rest)) → lines (taken ++ (run ++ 10 ∷ []) ++ rest) ≡ done ++ strip_carriage_return (line ++ run) ∷ lines rest
 line_ended taken line run rest done none plain split =
@@ -61,9 +61,9 @@ line_ended taken line run rest done none plain split =
     ∙ ap (λ ls. done ++ ls) (lines_step (line ++ run) rest (All-append (λ b. is_feed b ≡ false) line run none plain))
 
 -- words before those of a rest
-pub more_words : (line rest : List ℕ) (front : List (List ℕ)) → words line ≡ front ++ words rest → 8 ≤ length front → 8 < length (words line)
-more_words line rest front all many =
+pub more_words : (line rest : List ℕ) (prefix : List (List ℕ)) → words line ≡ prefix ++ words rest → 8 ≤ length prefix → 8 < length (words line)
+more_words line rest prefix all many =
     let some = split_nonempty is_space rest in
-    let count : length (words line) ≡ length front + length (words rest) = ap length all ∙ length-append front (words rest) in
+    let count : length (words line) ≡ length prefix + length (words rest) = ap length all ∙ length-append prefix (words rest) in
     let one : length (words rest) ≡ length some.1 + 1 = ap length some.2 ∙ omega arith in
     omega (arith, count, one, many)

@@ -5,7 +5,7 @@ use Rattle.std.proofs.lemmas.List.Concat.{flat_map-append}
 use Rattle.std.proofs.lemmas.List.Sums.{sum_by_more_le}
 use Rattle.std.proofs.Math.Seq.{take-append_seam}
 use Rattle.std.specs.List.{flat_map}
-use Rattle.identity.specs.NumberText.{IsFrontOf}
+use Rattle.identity.specs.NumberText.{IsPrefixOf}
 
 split_at : {T : Type 0} (xs : List T) (i : ℕ) (x : T) → i < length xs → x ≡ get_or xs i x → xs ≡ take i xs ++ x ∷ drop (i + 1) xs
 split_at xs i x inside here =
@@ -22,7 +22,7 @@ text_before text xs i x inside here =
     ∙ ap (λ n. length (flat_map text (take i xs)) + n) (length-append (text x) (flat_map text (drop (i + 1) xs))) in
     omega (arith, whole)
 
--- there was no room for one of the texts that are put behind each other, and so none for all
+-- there was no room for one of the texts that are put after each other, and so none for all
 pub no_room : {T : Type 0} (text : T → List ℕ) (xs : List T) (i : ℕ) (x : T) → i < length xs → x ≡ get_or xs i x →
     (old now : List ℕ) (had has room rooms : ℕ) → had ≡ length old → has ≡ length now → now ≡ old ++ flat_map text (take i xs) → room ≤ rooms →
     rooms < has + length (text x) → room < had + length (flat_map text xs)
@@ -40,7 +40,7 @@ room_before room xs i x inside here =
     omega (arith, most, same)
 
 -- what was there before more was put is there still
-pub front_with_more : (old more now new : List ℕ) → now ≡ old ++ more → IsFrontOf now new → IsFrontOf old new
-front_with_more old more now new put front =
-    let whole : new ≡ old ++ (more ++ drop (length now) new) = sym (take-append-drop (length now) new) ∙ ap (λ xs. xs ++ drop (length now) new) (front ∙ put) ∙ append_assoc old more (drop (length now) new) in
+pub prefix_with_more : (old more now new : List ℕ) → now ≡ old ++ more → IsPrefixOf now new → IsPrefixOf old new
+prefix_with_more old more now new put prefix =
+    let whole : new ≡ old ++ (more ++ drop (length now) new) = sym (take-append-drop (length now) new) ∙ ap (λ xs. xs ++ drop (length now) new) (prefix ∙ put) ∙ append_assoc old more (drop (length now) new) in
     ap (λ xs. take (length old) xs) whole ∙ take-append_seam old (more ++ drop (length now) new)

@@ -6,18 +6,18 @@ use Rattle.std.specs.Prelude.{All}
 use Rattle.std.specs.List.{list_any}
 use Rattle.centre_core.specs.declared.command.Command.{Command}
 use Rattle.centre_core.specs.declared.query.Query.{Query}
-use Rattle.desk.specs.declared.service.Service.{Service}
-use Rattle.desk.specs.declared.service.Service.TheVariants.{Memory, Device, Broken, Epochs, Closed}
+use Rattle.desk.specs.declared.outage.Outage.{Outage}
+use Rattle.desk.specs.declared.outage.Outage.TheVariants.{Memory, Device, Broken, Epochs, Closed}
 use Rattle.desk.specs.OfRegister.{of_register}
-use Rattle.desk.specs.OfStore.{Stored, Refuses, StoreApplies, StoreTells, of_store}
+use Rattle.desk.specs.OfStore.{Stored, Refuses, StoreApplies, StoreAnswers, of_store}
 use Rattle.console.specs.declared.line.Line.{Line}
 use Rattle.console.specs.declared.line.Line.TheVariants.{Silent, Bad, Apply, Ask}
 use Rattle.console.specs.declared.answer.Answer.{Answer}
 use Rattle.console.specs.declared.answer.Answer.TheVariants as answer
-use Rattle.console.specs.Answer.{is_service}
+use Rattle.console.specs.Answer.{is_outage}
 use Rattle.console.specs.Reading.{reading}
 use Rattle.console.specs.Dialogue.{AnswersReading, AnswersCommand, AnswersQuery, Dialogue, LacksPdu}
-use Rattle.console.specs.Stored.{SaysBroken, BrokenBehindDevice, RegisterAtDevice, StoredAsRegister}
+use Rattle.console.specs.Stored.{SaysBroken, BrokenAfterDevice, RegisterAtDevice, StoredAsRegister}
 use Rattle.console.proofs.Wholes.{or_left, or_right}
 
 -- what is broken is not sound
@@ -25,7 +25,7 @@ not_both : {X : Type 0} (s : Stored) → s.broken ≡ true → s.broken ≡ fals
 not_both s broken sound = absurd (true≢false (sym broken ∙ sound))
 
 -- the words device and memory are two
-abbrev is_device : Service → Bool
+abbrev is_device : Outage → Bool
 is_device Memory = false
 is_device Device = true
 is_device Broken = false
@@ -35,49 +35,49 @@ is_device Closed = false
 device_no_memory : Device ≡ Memory → ⊥
 device_no_memory same = true≢false (ap is_device same)
 
-refused : {A : Type 0} (s t : Stored) (c : Command A) (word : Service) → s.broken ≡ true → Refuses s c word t → (word ≡ Broken) × (t ≡ s)
+refused : {A : Type 0} (s t : Stored) (c : Command A) (word : Outage) → s.broken ≡ true → Refuses s c word t → (word ≡ Broken) × (t ≡ s)
 refused s t c Memory broken says = not_both s broken says.0
 refused s t c Device broken says = not_both s broken says.0
 refused s t c Broken broken says = (refl, says.1)
 refused s t c Epochs broken says = not_both s broken says.0
 refused s t c Closed broken says = absurd says
 
-untold : (B : Type 0) (s t : Stored) (q : Query) (word : Service) → s.broken ≡ true → StoreTells {B = B} s q (Err word) t → (word ≡ Broken) × (t ≡ s)
-untold B s t q Memory broken says = not_both s broken says.0
-untold B s t q Device broken says = absurd says
-untold B s t q Broken broken says = (refl, says.1)
-untold B s t q Epochs broken says = absurd says
-untold B s t q Closed broken says = absurd says
+query_outage : (B : Type 0) (s t : Stored) (q : Query) (word : Outage) → s.broken ≡ true → StoreAnswers {B = B} s q (Err word) t → (word ≡ Broken) × (t ≡ s)
+query_outage B s t q Memory broken says = not_both s broken says.0
+query_outage B s t q Device broken says = absurd says
+query_outage B s t q Broken broken says = (refl, says.1)
+query_outage B s t q Epochs broken says = absurd says
+query_outage B s t q Closed broken says = absurd says
 
 module _ {A : Type 0} where
   -- what a broken desk answers, and that it stays as it is
   abbrev pub Stays : Answer A → Stored → Stored → Type 0
   Stays a s t = SaysBroken a × (t ≡ s)
 
-  unreplied : (s t : Stored) (c : Command A) (sequence : ℕ) (word : Service) → s.broken ≡ true → StoreApplies {A = A} {B = A} s c (Err word) t ⊎ LacksPdu s c word t → Stays (answer.Unreplied sequence word) s t
-  unreplied s t c sequence word broken why = elim why [
+  command_outage : (s t : Stored) (c : Command A) (sequence : ℕ) (word : Outage) → s.broken ≡ true → StoreApplies {A = A} {B = A} s c (Err word) t ⊎ LacksPdu s c word t → Stays (answer.CommandOutage sequence word) s t
+  command_outage s t c sequence word broken why = elim why [
     | inl says ↦ let b = refused s t c word broken says in (inl b.0, b.1)
     | inr lacks ↦ (inr lacks.1, lacks.2)
   ]
 
   on_command : (s t : Stored) (c : Command A) (a : Answer A) → s.broken ≡ true → AnswersCommand of_store s c a t → Stays a s t
   on_command s t c (answer.Replied sequence reply) broken given = not_both s broken given.1.0
-  on_command s t c (answer.Unreplied sequence word) broken given = unreplied s t c sequence word broken given.1
+  on_command s t c (answer.CommandOutage sequence word) broken given = command_outage s t c sequence word broken given.1
   on_command s t c answer.Quiet broken given = absurd given
   on_command s t c (answer.Bad line fault) broken given = absurd given
-  on_command s t c (answer.Told told) broken given = absurd given
-  on_command s t c (answer.Untold line word) broken given = absurd given
+  on_command s t c (answer.Queried query_answer) broken given = absurd given
+  on_command s t c (answer.QueryOutage line word) broken given = absurd given
 
   on_query : (n : ℕ) (s t : Stored) (q : Query) (a : Answer A) → s.broken ≡ true → AnswersQuery of_store n s q a t → Stays a s t
-  on_query n s t q (answer.Told told) broken given = not_both s broken given.0
-  on_query n s t q (answer.Untold line word) broken given = elim given.1 [
-    | inl says ↦ untold A s t q word broken says
+  on_query n s t q (answer.Queried query_answer) broken given = not_both s broken given.0
+  on_query n s t q (answer.QueryOutage line word) broken given = elim given.1 [
+    | inl says ↦ query_outage A s t q word broken says
     | inr lacks ↦ not_both s broken lacks.1.2.0
   ]
   on_query n s t q answer.Quiet broken given = absurd given
   on_query n s t q (answer.Bad line fault) broken given = absurd given
   on_query n s t q (answer.Replied sequence reply) broken given = absurd given
-  on_query n s t q (answer.Unreplied sequence word) broken given = absurd given
+  on_query n s t q (answer.CommandOutage sequence word) broken given = absurd given
 
   on_reading : (n : ℕ) (s t : Stored) (line : Line A) (a : Answer A) → s.broken ≡ true → AnswersReading of_store n s line a t → Stays a s t
   on_reading n s t Silent a broken given = (subst (λ (b : Answer A). SaysBroken b) (sym given.0) tt, given.1)
@@ -104,50 +104,50 @@ module _ {A : Type 0} where
       stays_same station (n + 1) each.0 t given answers (ap (λ (w : Stored). w.broken) first.1 ∙ broken) each.2 ∙ first.1
 
   -- the word device leaves it broken, and its register as it is
-  device_breaks : (n sequence : ℕ) (s t : Stored) (line : Line A) → AnswersReading of_store n s line (answer.Unreplied sequence Device) t → (t.broken ≡ true) × (t.register ≡ s.register)
-  device_breaks n sequence s t Silent given = absurd (true≢false (ap is_service given.0))
-  device_breaks n sequence s t (Bad fault) given = absurd (true≢false (ap is_service given.0))
+  device_breaks : (n sequence : ℕ) (s t : Stored) (line : Line A) → AnswersReading of_store n s line (answer.CommandOutage sequence Device) t → (t.broken ≡ true) × (t.register ≡ s.register)
+  device_breaks n sequence s t Silent given = absurd (true≢false (ap is_outage given.0))
+  device_breaks n sequence s t (Bad fault) given = absurd (true≢false (ap is_outage given.0))
   device_breaks n sequence s t (Apply c) given = elim given.1 [
     | inl says ↦ (says.1, says.2)
     | inr lacks ↦ absurd (device_no_memory lacks.1)
   ]
   device_breaks n sequence s t (Ask q) given = absurd given
 
-  pub broken_behind : BrokenBehindDevice A
-  broken_behind station n sequence s t [] [] behind each = absurd each
-  broken_behind station n sequence s t [] (a ∷ before) behind each = absurd each
-  broken_behind station n sequence s t (line ∷ given) [] behind each =
-      stays_broken station (n + 1) each.0 t given behind (device_breaks (n + 1) sequence s each.0 (reading station line) each.1).0 each.2
-  broken_behind station n sequence s t (line ∷ given) (a ∷ before) behind each = broken_behind station (n + 1) sequence each.0 t given before behind each.2
+  pub broken_after : BrokenAfterDevice A
+  broken_after station n sequence s t [] [] following each = absurd each
+  broken_after station n sequence s t [] (a ∷ before) following each = absurd each
+  broken_after station n sequence s t (line ∷ given) [] following each =
+      stays_broken station (n + 1) each.0 t given following (device_breaks (n + 1) sequence s each.0 (reading station line) each.1).0 each.2
+  broken_after station n sequence s t (line ∷ given) (a ∷ before) following each = broken_after station (n + 1) sequence each.0 t given before following each.2
 
   pub at_device : RegisterAtDevice A
-  at_device station n sequence s t [] [] behind each = absurd each
-  at_device station n sequence s t [] (a ∷ before) behind each = absurd each
-  at_device station n sequence s t (line ∷ given) [] behind each =
+  at_device station n sequence s t [] [] following each = absurd each
+  at_device station n sequence s t [] (a ∷ before) following each = absurd each
+  at_device station n sequence s t (line ∷ given) [] following each =
       let broke = device_breaks (n + 1) sequence s each.0 (reading station line) each.1 in
-      ([], line ∷ given, s, refl, refl, ap (λ (w : Stored). w.register) (stays_same station (n + 1) each.0 t given behind broke.0 each.2) ∙ broke.1)
-  at_device station n sequence s t (line ∷ given) (a ∷ before) behind each =
-      let rest = at_device station (n + 1) sequence each.0 t given before behind each.2 in
+      ([], line ∷ given, s, refl, refl, ap (λ (w : Stored). w.register) (stays_same station (n + 1) each.0 t given following broke.0 each.2) ∙ broke.1)
+  at_device station n sequence s t (line ∷ given) (a ∷ before) following each =
+      let rest = at_device station (n + 1) sequence each.0 t given before following each.2 in
       (line ∷ rest.0, rest.1, rest.2, ap (λ (lines : List (List ℕ)). line ∷ lines) rest.3, (each.0, each.1, rest.4), rest.5)
 
   -- a line that gets no outage word
-  as_command : (s t : Stored) (c : Command A) (a : Answer A) → AnswersCommand of_store s c a t → is_service a ≡ false → AnswersCommand of_register s.register c a t.register
+  as_command : (s t : Stored) (c : Command A) (a : Answer A) → AnswersCommand of_store s c a t → is_outage a ≡ false → AnswersCommand of_register s.register c a t.register
   as_command s t c (answer.Replied sequence reply) given calm = (given.0, given.1.2)
-  as_command s t c (answer.Unreplied sequence word) given calm = absurd (true≢false calm)
+  as_command s t c (answer.CommandOutage sequence word) given calm = absurd (true≢false calm)
   as_command s t c answer.Quiet given calm = absurd given
   as_command s t c (answer.Bad line fault) given calm = absurd given
-  as_command s t c (answer.Told told) given calm = absurd given
-  as_command s t c (answer.Untold line word) given calm = absurd given
+  as_command s t c (answer.Queried query_answer) given calm = absurd given
+  as_command s t c (answer.QueryOutage line word) given calm = absurd given
 
-  as_query : (n : ℕ) (s t : Stored) (q : Query) (a : Answer A) → AnswersQuery of_store n s q a t → is_service a ≡ false → AnswersQuery of_register n s.register q a t.register
-  as_query n s t q (answer.Told told) given calm = (ap (λ (w : Stored). w.register) given.1, given.2)
-  as_query n s t q (answer.Untold line word) given calm = absurd (true≢false calm)
+  as_query : (n : ℕ) (s t : Stored) (q : Query) (a : Answer A) → AnswersQuery of_store n s q a t → is_outage a ≡ false → AnswersQuery of_register n s.register q a t.register
+  as_query n s t q (answer.Queried query_answer) given calm = (ap (λ (w : Stored). w.register) given.1, given.2)
+  as_query n s t q (answer.QueryOutage line word) given calm = absurd (true≢false calm)
   as_query n s t q answer.Quiet given calm = absurd given
   as_query n s t q (answer.Bad line fault) given calm = absurd given
   as_query n s t q (answer.Replied sequence reply) given calm = absurd given
-  as_query n s t q (answer.Unreplied sequence word) given calm = absurd given
+  as_query n s t q (answer.CommandOutage sequence word) given calm = absurd given
 
-  as_reading : (n : ℕ) (s t : Stored) (line : Line A) (a : Answer A) → AnswersReading of_store n s line a t → is_service a ≡ false → AnswersReading of_register n s.register line a t.register
+  as_reading : (n : ℕ) (s t : Stored) (line : Line A) (a : Answer A) → AnswersReading of_store n s line a t → is_outage a ≡ false → AnswersReading of_register n s.register line a t.register
   as_reading n s t Silent a given calm = (given.0, ap (λ (w : Stored). w.register) given.1)
   as_reading n s t (Bad fault) a given calm = (given.0, ap (λ (w : Stored). w.register) given.1)
   as_reading n s t (Apply c) a given calm = as_command s t c a given calm
@@ -159,6 +159,6 @@ module _ {A : Type 0} where
   as_register station n s t (line ∷ given) [] each calm = absurd each
   as_register station n s t (line ∷ given) (a ∷ answers) each calm = (
     each.0.register,
-    as_reading (n + 1) s each.0 (reading station line) a each.1 (or_left (is_service a) (list_any is_service answers) calm),
-    as_register station (n + 1) each.0 t given answers each.2 (or_right (is_service a) (list_any is_service answers) calm),
+    as_reading (n + 1) s each.0 (reading station line) a each.1 (or_left (is_outage a) (list_any is_outage answers) calm),
+    as_register station (n + 1) each.0 t given answers each.2 (or_right (is_outage a) (list_any is_outage answers) calm),
   )

@@ -1,26 +1,26 @@
--- Each line has an answer, and without words of the service one answer.
+-- Each line has an answer, and without outage words one answer.
 use Rattle.std.proofs.Common.{◌≡◌, ℕ, ◌+◌, Bool, true, false, List, [], ◌∷◌, ◌++◌, ◌||◌, length, refl, sym, ◌∙◌, ap, subst, arith, append_assoc, inl}
 use Rattle.std.proofs.lemmas.Bool.{true≢false}
 use Rattle.std.proofs.lemmas.List.Concat.{flat_map-append}
 use Rattle.std.specs.List.{list_any}
 use Rattle.centre_core.specs.State.{State}
 use Rattle.centre_core.specs.Step.{step}
-use Rattle.centre_core.specs.Tell.{tell}
+use Rattle.centre_core.specs.Queries.{answer_to}
 use Rattle.centre_core.specs.declared.command.Command.{Command}
 use Rattle.centre_core.specs.declared.query.Query.{Query}
-use Rattle.centre_core.specs.declared.query.Told.{Told}
+use Rattle.centre_core.specs.declared.query.QueryAnswer.{QueryAnswer}
 use Rattle.centre_core.specs.declared.reply.Reply.{Reply}
 use Rattle.console.specs.declared.line.Line.{Line}
 use Rattle.console.specs.declared.line.Line.TheVariants.{Silent, Bad, Apply, Ask}
 use Rattle.console.specs.declared.answer.Answer.{Answer}
 use Rattle.console.specs.declared.answer.Answer.TheVariants as answer
-use Rattle.console.specs.Answer.{text, texts, is_trouble, is_service}
+use Rattle.console.specs.Answer.{text, texts, is_trouble, is_outage}
 use Rattle.console.specs.Reading.{reading}
 use Rattle.desk.specs.Rules.{Rules}
 use Rattle.desk.specs.OfRegister.{of_register}
 use Rattle.desk.specs.OfStore.{Stored, of_store}
-use Rattle.desk.specs.declared.service.Service.TheVariants.{Broken}
-use Rattle.console.specs.Dialogue.{AnswersReading, AnswersCommand, AnswersQuery, Answers, Dialogue, CutOffIsFront, OneText}
+use Rattle.desk.specs.declared.outage.Outage.TheVariants.{Broken}
+use Rattle.console.specs.Dialogue.{AnswersReading, AnswersCommand, AnswersQuery, Answers, Dialogue, CutOffIsPrefix, OneText}
 
 pub or_left : (a b : Bool) → (a || b) ≡ false → a ≡ false
 or_left true b h = h
@@ -40,16 +40,16 @@ module _ {A : Type 0} where
   in_memory n s Silent = (answer.Quiet, s, (refl, refl))
   in_memory n s (Bad fault) = (answer.Bad n fault, s, (refl, refl))
   in_memory n s (Apply c) = (answer.Replied c.sequence (step s c).1, (step s c).0, (refl, refl))
-  in_memory n s (Ask q) = (answer.Told (tell s q), s, (refl, refl))
+  in_memory n s (Ask q) = (answer.Queried (answer_to s q), s, (refl, refl))
 
   -- at a desk over a disk, be it broken or not
   command_on_disk : (n : ℕ) (s : Stored) (c : Command A) (broken : Bool) → s.broken ≡ broken → HasAnswer of_store n s (Apply c)
-  command_on_disk n s c true is = (answer.Unreplied c.sequence Broken, s, (refl, inl (is, refl)))
+  command_on_disk n s c true is = (answer.CommandOutage c.sequence Broken, s, (refl, inl (is, refl)))
   command_on_disk n s c false is = (answer.Replied c.sequence (step s.register c).1, record s { register = (step {B = A} s.register c).0 }, (refl, (is, is, refl)))
 
   query_on_disk : (n : ℕ) (s : Stored) (q : Query) (broken : Bool) → s.broken ≡ broken → HasAnswer of_store n s (Ask q)
-  query_on_disk n s q true is = (answer.Untold n Broken, s, (refl, inl (is, refl)))
-  query_on_disk n s q false is = (answer.Told (tell s.register q), s, (is, refl, refl))
+  query_on_disk n s q true is = (answer.QueryOutage n Broken, s, (refl, inl (is, refl)))
+  query_on_disk n s q false is = (answer.Queried (answer_to s.register q), s, (is, refl, refl))
 
   pub on_disk : (n : ℕ) (s : Stored) (line : Line A) → HasAnswer of_store n s line
   on_disk n s Silent = (answer.Quiet, s, (refl, refl))
@@ -68,15 +68,15 @@ module _ {A : Type 0} where
 
     dialogue_append : (station n k : ℕ) (s mid t : W) (done left : List (List ℕ)) (xs ys : List (Answer A)) → k ≡ n + length done →
         Dialogue rules station n s done xs mid → Dialogue rules station k mid left ys t → Dialogue rules station n s (done ++ left) (xs ++ ys) t
-    dialogue_append station n k s mid t [] left [] ys at front back =
+    dialogue_append station n k s mid t [] left [] ys at prefix back =
         let here : k ≡ n = omega (arith, at) in
-        subst (λ (m : W). Dialogue rules station n m left ys t) front (subst (λ (i : ℕ). Dialogue rules station i mid left ys t) here back)
-    dialogue_append station n k s mid t [] left (x ∷ xs) ys at front back = absurd front
-    dialogue_append station n k s mid t (line ∷ done) left [] ys at front back = absurd front
-    dialogue_append station n k s mid t (line ∷ done) left (x ∷ xs) ys at front back =
-        (front.0, front.1, dialogue_append station (n + 1) k front.0 mid t done left xs ys (omega (arith, at)) front.2 back)
+        subst (λ (m : W). Dialogue rules station n m left ys t) prefix (subst (λ (i : ℕ). Dialogue rules station i mid left ys t) here back)
+    dialogue_append station n k s mid t [] left (x ∷ xs) ys at prefix back = absurd prefix
+    dialogue_append station n k s mid t (line ∷ done) left [] ys at prefix back = absurd prefix
+    dialogue_append station n k s mid t (line ∷ done) left (x ∷ xs) ys at prefix back =
+        (prefix.0, prefix.1, dialogue_append station (n + 1) k prefix.0 mid t done left xs ys (omega (arith, at)) prefix.2 back)
 
-    pub cut_off : CutOffIsFront A rules
+    pub cut_off : CutOffIsPrefix A rules
     cut_off station s t given out cut =
         let rest = has_dialogue station (length cut.done) t cut.left in
         record {
@@ -89,7 +89,7 @@ module _ {A : Type 0} where
                 (dialogue_append station 0 (length cut.done) s t rest.1 cut.done cut.left (cut.answered ++ cut.last) rest.0 (omega arith) cut.each rest.2);
             written = ap (λ xs. xs ++ (cut.missing ++ texts rest.0)) cut.written
                 ∙ append_assoc (texts cut.answered) cut.part (cut.missing ++ texts rest.0)
-                ∙ ap (λ xs. texts cut.answered ++ xs) (sym (append_assoc cut.part cut.missing (texts rest.0)) ∙ ap (λ xs. xs ++ texts rest.0) (sym cut.front))
+                ∙ ap (λ xs. texts cut.answered ++ xs) (sym (append_assoc cut.part cut.missing (texts rest.0)) ∙ ap (λ xs. xs ++ texts rest.0) (sym cut.prefix))
                 ∙ sym (append_assoc (texts cut.answered) (texts cut.last) (texts rest.0))
                 ∙ ap (λ xs. xs ++ texts rest.0) (sym (flat_map-append text cut.answered cut.last))
                 ∙ sym (flat_map-append text (cut.answered ++ cut.last) rest.0);
@@ -103,41 +103,41 @@ module _ {A : Type 0} where
   replied_same : (p q : ℕ) (x y : Reply A) → p ≡ q → x ≡ y → answer.Replied p x ≡ answer.Replied q y
   replied_same p q x y e f = ap (λ (n : ℕ). answer.Replied n x) e ∙ ap (λ (r : Reply A). answer.Replied q r) f
 
-  one_command : (s : State) (c : Command A) (a b : Answer A) (t u : State) → AnswersCommand of_register s c a t → AnswersCommand of_register s c b u → is_service a ≡ false → is_service b ≡ false → Same a b t u
+  one_command : (s : State) (c : Command A) (a b : Answer A) (t u : State) → AnswersCommand of_register s c a t → AnswersCommand of_register s c b u → is_outage a ≡ false → is_outage b ≡ false → Same a b t u
   one_command s c (answer.Replied p x) (answer.Replied q y) t u f h calm still =
       let both : (t, x) ≡ (u, y) = f.1 ∙ sym h.1 in
       (replied_same p q x y (f.0 ∙ sym h.0) (ap (λ (r : State × Reply A). r.1) both), ap (λ (r : State × Reply A). r.0) both)
-  one_command s c (answer.Replied p x) (answer.Unreplied q w) t u f h calm still = absurd (true≢false still)
+  one_command s c (answer.Replied p x) (answer.CommandOutage q w) t u f h calm still = absurd (true≢false still)
   one_command s c (answer.Replied p x) answer.Quiet t u f h calm still = absurd h
   one_command s c (answer.Replied p x) (answer.Bad n e) t u f h calm still = absurd h
-  one_command s c (answer.Replied p x) (answer.Told told) t u f h calm still = absurd h
-  one_command s c (answer.Replied p x) (answer.Untold n w) t u f h calm still = absurd h
-  one_command s c (answer.Unreplied q w) b t u f h calm still = absurd (true≢false calm)
+  one_command s c (answer.Replied p x) (answer.Queried query_answer) t u f h calm still = absurd h
+  one_command s c (answer.Replied p x) (answer.QueryOutage n w) t u f h calm still = absurd h
+  one_command s c (answer.CommandOutage q w) b t u f h calm still = absurd (true≢false calm)
   one_command s c answer.Quiet b t u f h calm still = absurd f
   one_command s c (answer.Bad n e) b t u f h calm still = absurd f
-  one_command s c (answer.Told told) b t u f h calm still = absurd f
-  one_command s c (answer.Untold n w) b t u f h calm still = absurd f
+  one_command s c (answer.Queried query_answer) b t u f h calm still = absurd f
+  one_command s c (answer.QueryOutage n w) b t u f h calm still = absurd f
 
-  one_query : (n : ℕ) (s : State) (q : Query) (a b : Answer A) (t u : State) → AnswersQuery of_register n s q a t → AnswersQuery of_register n s q b u → is_service a ≡ false → is_service b ≡ false → Same a b t u
-  one_query n s q (answer.Told x) (answer.Told y) t u f h calm still = (ap (λ (told : Told A). answer.Told told) (f.1 ∙ sym h.1), f.0 ∙ sym h.0)
-  one_query n s q (answer.Told x) (answer.Untold m w) t u f h calm still = absurd (true≢false still)
-  one_query n s q (answer.Told x) answer.Quiet t u f h calm still = absurd h
-  one_query n s q (answer.Told x) (answer.Bad m e) t u f h calm still = absurd h
-  one_query n s q (answer.Told x) (answer.Replied p y) t u f h calm still = absurd h
-  one_query n s q (answer.Told x) (answer.Unreplied p w) t u f h calm still = absurd h
-  one_query n s q (answer.Untold m w) b t u f h calm still = absurd (true≢false calm)
+  one_query : (n : ℕ) (s : State) (q : Query) (a b : Answer A) (t u : State) → AnswersQuery of_register n s q a t → AnswersQuery of_register n s q b u → is_outage a ≡ false → is_outage b ≡ false → Same a b t u
+  one_query n s q (answer.Queried x) (answer.Queried y) t u f h calm still = (ap (λ (query_answer : QueryAnswer A). answer.Queried query_answer) (f.1 ∙ sym h.1), f.0 ∙ sym h.0)
+  one_query n s q (answer.Queried x) (answer.QueryOutage m w) t u f h calm still = absurd (true≢false still)
+  one_query n s q (answer.Queried x) answer.Quiet t u f h calm still = absurd h
+  one_query n s q (answer.Queried x) (answer.Bad m e) t u f h calm still = absurd h
+  one_query n s q (answer.Queried x) (answer.Replied p y) t u f h calm still = absurd h
+  one_query n s q (answer.Queried x) (answer.CommandOutage p w) t u f h calm still = absurd h
+  one_query n s q (answer.QueryOutage m w) b t u f h calm still = absurd (true≢false calm)
   one_query n s q answer.Quiet b t u f h calm still = absurd f
   one_query n s q (answer.Bad m e) b t u f h calm still = absurd f
   one_query n s q (answer.Replied p y) b t u f h calm still = absurd f
-  one_query n s q (answer.Unreplied p w) b t u f h calm still = absurd f
+  one_query n s q (answer.CommandOutage p w) b t u f h calm still = absurd f
 
-  one_reading : (n : ℕ) (s : State) (line : Line A) (a b : Answer A) (t u : State) → AnswersReading of_register n s line a t → AnswersReading of_register n s line b u → is_service a ≡ false → is_service b ≡ false → Same a b t u
+  one_reading : (n : ℕ) (s : State) (line : Line A) (a b : Answer A) (t u : State) → AnswersReading of_register n s line a t → AnswersReading of_register n s line b u → is_outage a ≡ false → is_outage b ≡ false → Same a b t u
   one_reading n s Silent a b t u f h calm still = (f.0 ∙ sym h.0, f.1 ∙ sym h.1)
   one_reading n s (Bad e) a b t u f h calm still = (f.0 ∙ sym h.0, f.1 ∙ sym h.1)
   one_reading n s (Apply c) a b t u f h calm still = one_command s c a b t u f h calm still
   one_reading n s (Ask q) a b t u f h calm still = one_query n s q a b t u f h calm still
 
-  pub one_answer : (station n : ℕ) (s : State) (line : List ℕ) (a b : Answer A) (t u : State) → Answers of_register station n s line a t → Answers of_register station n s line b u → is_service a ≡ false → is_service b ≡ false → Same a b t u
+  pub one_answer : (station n : ℕ) (s : State) (line : List ℕ) (a b : Answer A) (t u : State) → Answers of_register station n s line a t → Answers of_register station n s line b u → is_outage a ≡ false → is_outage b ≡ false → Same a b t u
   one_answer station n s line a b t u f h calm still = one_reading n s (reading station line) a b t u f h calm still
 
   pub one : OneText A
@@ -147,7 +147,7 @@ module _ {A : Type 0} where
   one station n s t u (line ∷ given) [] ys f h calm still = absurd f
   one station n s t u (line ∷ given) (x ∷ xs) [] f h calm still = absurd h
   one station n s t u (line ∷ given) (x ∷ xs) (y ∷ ys) f h calm still =
-      let first = one_answer station (n + 1) s line x y f.0 h.0 f.1 h.1 (or_left (is_service x) (list_any is_service xs) calm) (or_left (is_service y) (list_any is_service ys) still) in
+      let first = one_answer station (n + 1) s line x y f.0 h.0 f.1 h.1 (or_left (is_outage x) (list_any is_outage xs) calm) (or_left (is_outage y) (list_any is_outage ys) still) in
       let rest = one station (n + 1) f.0 t u given xs ys f.2 (subst (λ (m : State). Dialogue of_register station (n + 1) m given ys u) (sym first.1) h.2)
-      (or_right (is_service x) (list_any is_service xs) calm) (or_right (is_service y) (list_any is_service ys) still) in
+      (or_right (is_outage x) (list_any is_outage xs) calm) (or_right (is_outage y) (list_any is_outage ys) still) in
       (ap (λ (a : Answer A). a ∷ xs) first.0 ∙ ap (λ (more : List (Answer A)). y ∷ more) rest.0, rest.1)

@@ -14,17 +14,17 @@ resume before bytes at n within =
     let whole : take (length bytes - at) (drop at bytes) ≡ drop at bytes = take_all (length bytes - at) (drop at bytes) (grind (arith, common_steps)) in
     rw (whole, append_assoc, take-add) refl
 
--- what was taken of a piece, and what is left of it and behind it
-pub left_behind : (taken piece rest : List ℕ) (at : ℕ) → (taken ++ take at piece) ++ (drop at piece ++ rest) ≡ (taken ++ piece) ++ rest
-left_behind taken piece rest at =
+-- what was taken of a piece, and what is left of it and after it
+pub left_after : (taken piece rest : List ℕ) (at : ℕ) → (taken ++ take at piece) ++ (drop at piece ++ rest) ≡ (taken ++ piece) ++ rest
+left_after taken piece rest at =
     append_assoc taken (take at piece) (drop at piece ++ rest)
     ∙ ap (λ xs. taken ++ xs) (sym (append_assoc (take at piece) (drop at piece) rest) ∙ ap (λ xs. xs ++ rest) (take-append-drop at piece))
     ∙ sym (append_assoc taken piece rest)
 
--- a front of a piece, a part behind it up to a byte, and that byte
-pub front_more : (piece : List ℕ) (at end byte : ℕ) → at ≤ end → end < length piece → slice_get piece end ≡ Some byte →
+-- a prefix of a piece, a part after it up to a byte, and that byte
+pub prefix_more : (piece : List ℕ) (at end byte : ℕ) → at ≤ end → end < length piece → slice_get piece end ≡ Some byte →
     (take at piece ++ take (end - at) (drop at piece)) ++ byte ∷ [] ≡ take (end + 1) piece
-front_more piece at end byte low high here =
+prefix_more piece at end byte low high here =
     let whole : at + (end - at) ≡ end = omega (arith, low) in
     let byte_is : get_or piece end 0 ≡ byte = get_or_from_slice_get piece end byte 0 here in
     ap (λ xs. xs ++ byte ∷ []) (sym (take-add at (end - at) piece) ∙ ap (λ n. take n piece) whole)
@@ -35,13 +35,13 @@ pub taken_more : (taken piece : List ℕ) (at end byte : ℕ) → at ≤ end →
     (taken ++ take at piece) ++ (take (end - at) (drop at piece) ++ byte ∷ []) ≡ taken ++ take (end + 1) piece
 taken_more taken piece at end byte low high here =
     append_assoc taken (take at piece) (take (end - at) (drop at piece) ++ byte ∷ [])
-    ∙ ap (λ xs. taken ++ xs) (sym (append_assoc (take at piece) (take (end - at) (drop at piece)) (byte ∷ [])) ∙ front_more piece at end byte low high here)
+    ∙ ap (λ xs. taken ++ xs) (sym (append_assoc (take at piece) (take (end - at) (drop at piece)) (byte ∷ [])) ∙ prefix_more piece at end byte low high here)
 
 pub taken_before : (taken piece rest : List ℕ) (at end byte : ℕ) → at ≤ end → end < length piece → slice_get piece end ≡ Some byte →
     ((taken ++ take at piece) ++ (take (end - at) (drop at piece) ++ byte ∷ [])) ++ (drop (end + 1) piece ++ rest) ≡ (taken ++ piece) ++ rest
 taken_before taken piece rest at end byte low high here =
     ap (λ xs. xs ++ (drop (end + 1) piece ++ rest)) (taken_more taken piece at end byte low high here)
-    ∙ left_behind taken piece rest (end + 1)
+    ∙ left_after taken piece rest (end + 1)
 
 pub at_the_end : (input taken left : List ℕ) → input ≡ taken ++ left → left ≡ [] → input ≡ taken
 at_the_end input taken left all none = all ∙ ap (λ xs. taken ++ xs) none ∙ append-nil taken

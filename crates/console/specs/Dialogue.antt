@@ -1,5 +1,4 @@
--- Which answers may be given to which lines. A is the allocator that the bits of commands and replies
--- lie under: nothing depends on it.
+-- Which answers may be given to which lines. A is the allocator of the bits of commands and replies; nothing depends on it.
 use Rattle.std.specs.Prelude.{◌≡◌, ◌⊎◌, ℕ, ◌+◌, ◌≤◌, Bool, true, false, List, [], ◌∷◌, ◌++◌, length, Ok, Err}
 use Rattle.std.specs.List.{list_any}
 use Rattle.identity.specs.Numbers.{Byte}
@@ -8,9 +7,9 @@ use Rattle.centre_core.specs.State.{State}
 use Rattle.centre_core.specs.declared.command.Command.{Command}
 use Rattle.centre_core.specs.declared.reply.Reply.{Reply}
 use Rattle.centre_core.specs.declared.query.Query.{Query}
-use Rattle.centre_core.specs.declared.query.Told.{Told}
-use Rattle.desk.specs.declared.service.Service.{Service}
-use Rattle.desk.specs.declared.service.Service.TheVariants.{Memory}
+use Rattle.centre_core.specs.declared.query.QueryAnswer.{QueryAnswer}
+use Rattle.desk.specs.declared.outage.Outage.{Outage}
+use Rattle.desk.specs.declared.outage.Outage.TheVariants.{Memory}
 use Rattle.desk.specs.Rules.{Rules}
 use Rattle.desk.specs.OfRegister.{of_register}
 use Rattle.console.specs.declared.line.Line.{Line}
@@ -18,37 +17,38 @@ use Rattle.console.specs.declared.line.Line.TheVariants as line
 use Rattle.console.specs.declared.answer.Answer.{Answer}
 use Rattle.console.specs.declared.answer.Answer.TheVariants as answer
 use Rattle.console.specs.Reading.{reading, HasPdu}
-use Rattle.console.specs.Answer.{texts, is_trouble, is_service, is_list}
+use Rattle.console.specs.Answer.{texts, is_trouble, is_outage, is_list}
 
--- for the text of a list that the desk told there is no memory
-abbrev pub LacksText : {A W : Type 0} → Rules A W → W → Query → Service → W → Type 0
-LacksText {A = A} rules s q word t = (word ≡ Memory) × ((told : Told A) × (is_list told ≡ true) × rules.tells s q (Ok told) t)
+-- memory runs out for the text of a list that the desk answers
+abbrev pub LacksText : {A W : Type 0} → Rules A W → W → Query → Outage → W → Type 0
+LacksText {A = A} rules s q word t =
+    (word ≡ Memory) × ((query_answer : QueryAnswer A) × (is_list query_answer ≡ true) × rules.answers s q (Ok query_answer) t)
 
 module _ {A W : Type 0} where
-  -- for the PDU in a command there is no memory, and the desk does nothing
-  abbrev pub LacksPdu : W → Command A → Service → W → Type 0
+  -- memory runs out for the PDU in a command, and the desk does nothing
+  abbrev pub LacksPdu : W → Command A → Outage → W → Type 0
   LacksPdu s c word t = HasPdu c.body × (word ≡ Memory) × (t ≡ s)
 
-  -- the answer to a command: under its sequence the desk's reply, or why there is none
+  -- the answer to a command, with its sequence: the desk's reply, or an outage word
   abbrev pub AnswersCommand : Rules A W → W → Command A → Answer A → W → Type 0
   AnswersCommand rules s c (answer.Replied sequence reply) t = (sequence ≡ c.sequence) × rules.applies s c (Ok reply) t
-  AnswersCommand rules s c (answer.Unreplied sequence word) t = (sequence ≡ c.sequence) × (rules.applies s c (Err word) t ⊎ LacksPdu s c word t)
+  AnswersCommand rules s c (answer.CommandOutage sequence word) t = (sequence ≡ c.sequence) × (rules.applies s c (Err word) t ⊎ LacksPdu s c word t)
   AnswersCommand rules s c other t = ⊥
 
-  -- the answer to a query: what the desk tells, or under the number of the line why it tells nothing
+  -- the answer to a query: the desk's, or an outage word with the number of the line
   abbrev pub AnswersQuery : Rules A W → ℕ → W → Query → Answer A → W → Type 0
-  AnswersQuery rules n s q (answer.Told told) t = rules.tells s q (Ok told) t
-  AnswersQuery rules n s q (answer.Untold number word) t = (number ≡ n) × (rules.tells s q (Err word) t ⊎ LacksText rules s q word t)
+  AnswersQuery rules n s q (answer.Queried query_answer) t = rules.answers s q (Ok query_answer) t
+  AnswersQuery rules n s q (answer.QueryOutage number word) t = (number ≡ n) × (rules.answers s q (Err word) t ⊎ LacksText rules s q word t)
   AnswersQuery rules n s q other t = ⊥
 
-  -- the answer to what the line numbered n says, and what the desk stands for after it
+  -- the answer to the line numbered n, by its reading, and the world of the desk after it
   abbrev pub AnswersReading : Rules A W → ℕ → W → Line A → Answer A → W → Type 0
   AnswersReading rules n s line.Silent given t = (given ≡ answer.Quiet) × (t ≡ s)
   AnswersReading rules n s (line.Bad fault) given t = (given ≡ answer.Bad n fault) × (t ≡ s)
   AnswersReading rules n s (line.Apply c) given t = AnswersCommand rules s c given t
   AnswersReading rules n s (line.Ask q) given t = AnswersQuery rules n s q given t
 
-  -- the answer to the line numbered n, whose text this station gave
+  -- the answer to the line numbered n, whose text is from this station
   abbrev pub Answers : Rules A W → Station → ℕ → W → List Byte → Answer A → W → Type 0
   Answers rules station n s text given t = AnswersReading rules n s (reading station text) given t
 
@@ -60,15 +60,17 @@ module _ {A W : Type 0} where
   Dialogue rules station n s (text ∷ texts) (given ∷ answers) t =
       (mid : W) × Answers rules station (n + 1) s text given mid × Dialogue rules station (n + 1) mid texts answers t
 
--- the text out is the answers to the lines, and whether there was trouble in them
-pub record IsDialogue (A : Type 0) {W : Type 0} (rules : Rules A W) (station : Station) (s : W) (given : List (List Byte)) (out : List Byte) (troubled : Bool) (t : W) : Type 0 where
+-- the text out is the answers to the lines; troubled is whether there is trouble in them
+pub record IsDialogue (A : Type 0) {W : Type 0} (rules : Rules A W) (station : Station) (s : W)
+    (given : List (List Byte)) (out : List Byte) (troubled : Bool) (t : W) : Type 0 where
   pub answers : List (Answer A)
   pub each : Dialogue rules station 0 s given answers t
   pub written : out ≡ texts answers
   pub trouble : troubled ≡ list_any is_trouble answers
 
--- cut off: some lines were done, and their answers were written, but of the last of them perhaps only a prefix
-pub record IsCutOff (A : Type 0) {W : Type 0} (rules : Rules A W) (station : Station) (s : W) (given : List (List Byte)) (out : List Byte) (t : W) : Type 0 where
+-- cut off: some lines were done, and their answers were written; of the last answer perhaps only a prefix
+pub record IsCutOff (A : Type 0) {W : Type 0} (rules : Rules A W) (station : Station) (s : W)
+    (given : List (List Byte)) (out : List Byte) (t : W) : Type 0 where
   pub done : List (List Byte)
   pub left : List (List Byte)
   pub answered : List (Answer A)
@@ -78,23 +80,23 @@ pub record IsCutOff (A : Type 0) {W : Type 0} (rules : Rules A W) (station : Sta
   pub all : given ≡ done ++ left
   pub each : Dialogue rules station 0 s done (answered ++ last) t
   pub one : length last ≤ 1
-  pub front : texts last ≡ part ++ missing
+  pub prefix : texts last ≡ part ++ missing
   pub written : out ≡ texts answered ++ part
 
 -- the text is a prefix of one that may be written for the lines
-pub record IsFront (A : Type 0) {W : Type 0} (rules : Rules A W) (station : Station) (s : W) (given : List (List Byte)) (out : List Byte) : Type 0 where
+pub record IsPrefix (A : Type 0) {W : Type 0} (rules : Rules A W) (station : Station) (s : W) (given : List (List Byte)) (out : List Byte) : Type 0 where
   pub missing : List Byte
   pub troubled : Bool
   pub after : W
   pub dialogue : IsDialogue A rules station s given (out ++ missing) troubled after
 
--- at a desk of this kind, what was cut off is a prefix of a text that may be written
-abbrev pub CutOffIsFront : (A : Type 0) {W : Type 0} → Rules A W → Type 0
-CutOffIsFront A {W = W} rules = (station : Station) (s t : W) (given : List (List Byte)) (out : List Byte) →
-    IsCutOff A rules station s given out t → IsFront A rules station s given out
+-- at desks of this kind, a text that was cut off is a prefix of one that may be written
+abbrev pub CutOffIsPrefix : (A : Type 0) {W : Type 0} → Rules A W → Type 0
+CutOffIsPrefix A {W = W} rules = (station : Station) (s t : W) (given : List (List Byte)) (out : List Byte) →
+    IsCutOff A rules station s given out t → IsPrefix A rules station s given out
 
--- without words of the service the lines settle the answers, and what the register holds
+-- without outage words the lines determine the answers and the register
 abbrev pub OneText : Type 0 → Type 0
 OneText A = (station : Station) (n : ℕ) (s t u : State) (given : List (List Byte)) (xs ys : List (Answer A)) →
     Dialogue of_register station n s given xs t → Dialogue of_register station n s given ys u →
-    list_any is_service xs ≡ false → list_any is_service ys ≡ false → (xs ≡ ys) × (t ≡ u)
+    list_any is_outage xs ≡ false → list_any is_outage ys ≡ false → (xs ≡ ys) × (t ≡ u)

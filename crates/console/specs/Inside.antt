@@ -1,3 +1,3 @@
 pub mod Feed
-pub mod Hand
+pub mod Current
 pub mod Parts

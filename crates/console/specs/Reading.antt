@@ -1,5 +1,6 @@
--- What a line says. A is the allocator that the bits in it lie under: nothing depends on it.
-use Rattle.std.specs.Prelude.{◌≡◌, All, false, ℕ, zero, suc, Bool, true, List, [], ◌∷◌, length, Option, Some, None, Result, Ok, Err, nat_lt, nat_le, ◌==◌, if◌then◌else◌, codes}
+-- What a line asks. A is the allocator of its bits; nothing depends on it.
+use Rattle.std.specs.Prelude.{◌≡◌, All, false, ℕ, zero, suc, Bool, true, List, [], ◌∷◌, length, Option, Some, None, Result, Ok, Err}
+use Rattle.std.specs.Prelude.{nat_lt, nat_le, ◌==◌, if◌then◌else◌, codes}
 use Rattle.std.specs.List.{slice_split}
 use Rattle.std.specs.Option.{option_and_then}
 use Rattle.std.specs.Result.{result_ok}
@@ -29,18 +30,18 @@ use Rattle.console.specs.declared.line.LineFault.TheVariants.{Syntax, Value, Too
 use Rattle.console.specs.declared.line.Line.{Line}
 use Rattle.console.specs.declared.line.Line.TheVariants.{Silent, Bad, Apply, Ask}
 
--- no byte of it is this one
+-- no byte of the text is the mark
 abbrev pub Lacks : Byte → List Byte → Type 0
 Lacks mark text = All (λ b. (b == mark) ≡ false) text
 
--- the words of a line: what stands between its spaces
+-- the words of a line: the bytes between its spaces
 abbrev pub words : List Byte → List (List Byte)
 words line = slice_split (λ b. b == 32) line
 
--- the words behind the first one, where there is a space
-abbrev pub words_behind : Option (List Byte) → List (List Byte)
-words_behind None = []
-words_behind (Some rest) = words rest
+-- the words of the rest of a line after its first space; none if there is no space
+abbrev pub words_after : Option (List Byte) → List (List Byte)
+words_after None = []
+words_after (Some rest) = words rest
 
 -- an identity, of 48 bits
 abbrev pub identity_in : List ℕ → Option ℕ
@@ -59,12 +60,12 @@ not_zero (suc n) = Some (suc n)
 abbrev pub sequence_in : List Byte → Option Sequence
 sequence_in word = option_and_then not_zero (seconds_in word)
 
--- a sequence and a moment, where both are in range
+-- a sequence and a moment, if both are in range
 abbrev pub head_of : Option Sequence → Option Moment → Option Head
 head_of (Some sequence) (Some moment) = Some (record { sequence = sequence; moment = moment })
 head_of sequence moment = None
 
--- SEQ MOMENT, which stand before the body of a command
+-- SEQ MOMENT, which come before the body of a command
 abbrev pub head_in : List Byte → List Byte → Option Head
 head_in sequence moment = head_of (sequence_in sequence) (seconds_in moment)
 
@@ -76,7 +77,7 @@ area_in word = result_ok (reading_number 16383 word)
 abbrev pub lifetime_in : List Byte → Option Lifetime
 lifetime_in word = option_and_then lifetime_of (result_ok (reading_number 3 word))
 
--- a rule, where each of its values is in range and the low area is not above the high one
+-- a rule, if each of its values is in range and the low area is not above the high one
 abbrev pub rule_of : Option Area → Option Area → Option Lifetime → Option Seconds → Option Rule
 rule_of (Some low) (Some high) (Some lifetime) (Some keep) = if nat_le low high
     then Some (record { low = low; high = high; lifetime = lifetime; keep = keep }) else None
@@ -102,16 +103,17 @@ reference_in word = result_ok (reading_number 255 word)
 abbrev pub kind_in : List Byte → Option Kind
 kind_in word = if bytes_eq word (codes "m") then Some Message else if bytes_eq word (codes "r") then Some Report else None
 
--- a key, where each of its parts is in range
+-- a key, if each of its parts is in range
 abbrev pub key_of : Option Itsi → Option Itsi → Option Reference → Option Kind → Option Key
-key_of (Some destination) (Some source) (Some reference) (Some kind) = Some (record { destination = destination; source = source; reference = reference; kind = kind })
+key_of (Some destination) (Some source) (Some reference) (Some kind) =
+    Some (record { destination = destination; source = source; reference = reference; kind = kind })
 key_of destination source reference kind = None
 
 -- DEST SOURCE REF KIND
 abbrev pub key_in : List Byte → List Byte → List Byte → List Byte → Option Key
 key_in destination source reference kind = key_of (identity_in destination) (identity_in source) (reference_in reference) (kind_in kind)
 
--- what is said of a value that is in range
+-- what is made of a value that is in range; else a bad value
 abbrev pub saying : {V S : Type 0} → (V → S) → Option V → Result S LineFault
 saying says (Some value) = Ok (says value)
 saying says None = Err Value
@@ -147,7 +149,7 @@ module _ {A : Type 0} where
   group_sds_body (Some source) (Some group) (Some pdu) = Ok (GroupSds source group pdu)
   group_sds_body source group pdu = Err Value
 
-  -- by the word that names the form and the number of words behind it; each of these is judged after that
+  -- the form is found by its name and the number of words after it; these are judged after that
   abbrev pub body_in : List Byte → List (List Byte) → Result (Body A) LineFault
   body_in name [] = if bytes_eq name (codes "expire") then Ok Expire else Err Syntax
   body_in name (prefix ∷ []) = if bytes_eq name (codes "unrule") then saying RuleClear (prefix_in prefix) else Err Syntax
@@ -170,7 +172,7 @@ module _ {A : Type 0} where
   command_line station None (Ok body) = Bad Value
   command_line station (Some head) (Ok body) = Apply (record { station = station; sequence = head.sequence; moment = head.moment; body = body })
 
-  -- a query, or how the line is bad
+  -- a query, or a bad line
   abbrev pub ask : Result Query LineFault → Line A
   ask (Ok query) = Ask query
   ask (Err fault) = Bad fault
@@ -182,7 +184,7 @@ module _ {A : Type 0} where
   of_words station (name ∷ identity ∷ []) = ask (query_in name identity)
   of_words station (sequence ∷ moment ∷ name ∷ more) = command_line station (head_in sequence moment) (body_in name more)
 
--- how many bytes a line has at most, without its end
+-- the most bytes of a line, without its end
 abbrev pub longest_line : ℕ
 longest_line = 1024
 
@@ -192,14 +194,14 @@ is_silent [] = true
 is_silent (b ∷ bs) = b == 35
 
 module _ {A : Type 0} where
-  -- a line that is too long is bad, also a comment
+  -- a line that is too long is bad, even a comment
   abbrev pub reading : Station → List Byte → Line A
   reading station line =
       if nat_lt longest_line (length line) then Bad TooLong
       else if is_silent line then Silent
       else of_words station (words line)
 
-  -- the body comes with a PDU
+  -- the body has a PDU
   abbrev pub HasPdu : Body A → Type 0
   HasPdu (Mm itsi area pdu) = Unit {0}
   HasPdu (Sds source destination pdu) = Unit {0}
@@ -211,7 +213,7 @@ module _ {A : Type 0} where
   GivesPdu (Ok body) = HasPdu body
   GivesPdu (Err fault) = ⊥
 
-  -- the sequence of a command, where a PDU comes with it
+  -- the sequence of a command with this body, if that has a PDU
   abbrev pub with_pdu : Sequence → Body A → Option Sequence
   with_pdu sequence (RuleSet prefix rule) = None
   with_pdu sequence (RuleClear prefix) = None

@@ -1,4 +1,5 @@
--- What a run over a reader and a writer does. A is the allocator that the bits of commands and replies lie under: nothing depends on it.
+-- What a run over a reader and a writer does. A is the allocator of the bits of commands and replies; nothing depends on
+-- it.
 use Rattle.std.specs.Prelude.{◌≡◌, ◌++◌, List, length, Option, Some, Result, IfOk, OnErr}
 use Rattle.std.specs.Str.Lines.{lines}
 use Rattle.identity.specs.Numbers.{Byte}
@@ -8,32 +9,33 @@ use Rattle.console.specs.declared.running.Ran.{Ran}
 use Rattle.console.specs.declared.running.RunFault.{RunFault}
 use Rattle.console.specs.Dialogue.{IsDialogue, IsCutOff}
 
--- what a run begins with: whose lines are read, what the desk stands for, what the reader has left, and what the writer holds
+-- what a run begins with: the station of the lines, the world of the desk, the bytes that the reader has left, and those that
+-- were written
 pub record Start (W : Type 0) : Type 0 where
   pub station : Station
   pub world : W
   pub unread : Option (List Byte)
   pub written : Option (List Byte)
 
--- what it ends with: its result, what the desk stands for now, and what the writer holds now
+-- what it ends with: its result, the world of the desk, and the bytes that were written
 pub record Outcome (W : Type 0) : Type 0 where
   pub result : Result Ran RunFault
   pub world : W
   pub written : Option (List Byte)
 
 module _ (A : Type 0) {W : Type 0} (rules : Rules A W) (start : Start W) (end : Outcome W) where
-  -- of this input every line is answered by the text out
+  -- the text out answers every line of this input
   abbrev pub RunsWell : List Byte → List Byte → Ran → Type 0
   RunsWell input out ran = IsDialogue A rules start.station start.world (lines input) out ran.troubled end.world × (ran.lines ≡ length (lines input))
 
-  -- of this input some lines are done, and their answers may be cut off
+  -- some lines of this input are done, and their answers may be cut off
   abbrev pub RunsShort : List Byte → List Byte → Type 0
   RunsShort input out = IsCutOff A rules start.station start.world (lines input) out end.world
 
-  -- behind what was written before stands now a text: at Ok it answers all of this input, at Err some of it
+  -- the run wrote a text after what was written before: at Ok it answers all of this input, at Err some of it
   abbrev pub HasRun : List Byte → List Byte → Type 0
   HasRun input before = (out : List Byte) × (end.written ≡ Some (before ++ out)) × IfOk end.result (RunsWell input out) × OnErr end.result (RunsShort input out)
 
-  -- where the reader tells its bytes and the writer tells its own, they have run so
+  -- the same, if the bytes of the reader and of the writer are known
   abbrev pub IsRun : Type 0
   IsRun = (input before : List Byte) → start.unread ≡ Some input → start.written ≡ Some before → HasRun input before

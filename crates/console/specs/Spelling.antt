@@ -1,4 +1,4 @@
--- The lines that give a command or a query, as they are written.
+-- The lines that spell a command or a query.
 use Rattle.std.specs.Prelude.{◌≡◌, ◌↔◌, ◌⊎◌, ◌<◌, ◌≤◌, ◌^◌, Bool, true, false, length, List, [], ◌∷◌, codes, decimal}
 use Rattle.std.specs.List.{join_with_byte, list_any}
 use Rattle.std.specs.Str.{bytes_eq}
@@ -23,12 +23,12 @@ use Rattle.console.specs.Reading.{reading, words, is_silent, longest_line}
 abbrev pub spaced : List (List Byte) → List Byte
 spaced words = join_with_byte 32 words
 
--- by what a message or a report is named
+-- the words that name a message or a report
 abbrev pub key_words : Key → List (List Byte)
 key_words key = identity_text key.destination ∷ identity_text key.source ∷ decimal key.reference ∷ kind_word key.kind ∷ []
 
 module _ {A : Type 0} where
-  -- the words behind sequence and moment; a PDU may be written with digits of either case
+  -- the words after sequence and moment; a PDU may be written with digits of either case
   abbrev pub SpellsBody : Body A → List (List Byte) → Type 0
   SpellsBody (RuleSet prefix rule) words =
       words ≡ codes "rule" ∷ prefix_text prefix ∷ decimal rule.low ∷ decimal rule.high ∷ decimal (lifetime_number rule.lifetime) ∷ decimal rule.keep ∷ []
@@ -56,7 +56,7 @@ query_text (MembersOf gtsi) = spaced (codes "members" ∷ identity_text gtsi ∷
 query_text (Waiting itsi) = spaced (codes "mail" ∷ identity_text itsi ∷ [])
 query_text Total = codes "count"
 
--- what a query may ask for
+-- the identity in a query is in range
 abbrev pub Askable : Query → Type 0
 Askable (Whereabouts itsi) = itsi < 2 ^ 48
 Askable (Look itsi) = itsi < 2 ^ 48
@@ -65,32 +65,32 @@ Askable (MembersOf gtsi) = gtsi < 2 ^ 48
 Askable (Waiting itsi) = itsi < 2 ^ 48
 Askable Total = Unit {0}
 
--- a line from this station gives a command: it spells that command, in range and of the station
+-- a line from this station gives a command: it spells that command, which is in range and of the station
 pub record GivesCommand {A : Type 0} (station : Station) (line : List Byte) (c : Command A) : Type 0 where
   pub of_station : c.station ≡ station
   pub in_range : InRange c
   pub spelt : SpellsCommand c line
   pub short : length line ≤ longest_line
 
--- a line gives a query: it is that query's line, in range
+-- a line gives a query: it is that query's line, and the query is in range
 pub record GivesQuery (line : List Byte) (q : Query) : Type 0 where
   pub in_range : Askable q
   pub spelt : line ≡ query_text q
   pub short : length line ≤ longest_line
 
--- a line is taken for a command only where it gives it
+-- a line is read as a command only if it gives that command
 abbrev pub OnlyCommands : Type 0 → Type 0
 OnlyCommands A = (station : Station) (line : List Byte) (c : Command A) → reading station line ≡ Apply c → GivesCommand station line c
 
--- a line is taken for a query only where it gives it
+-- a line is read as a query only if it gives that query
 abbrev pub OnlyQueries : Type 0 → Type 0
 OnlyQueries A = (station : Station) (line : List Byte) (q : Query) → reading {A = A} station line ≡ Ask q → GivesQuery line q
 
--- each line that spells a command is taken for that command
+-- each line that spells a command in range is read as that command
 abbrev pub AllCommands : Type 0 → Type 0
 AllCommands A = (line : List Byte) (c : Command A) → InRange c → SpellsCommand c line → length line ≤ longest_line → reading c.station line ≡ Apply c
 
--- each line of a query, in range, is taken for that query
+-- each line of a query in range is read as that query
 abbrev pub AllQueries : Type 0 → Type 0
 AllQueries A = (station : Station) (q : Query) → Askable q → length (query_text q) ≤ longest_line → reading {A = A} station (query_text q) ≡ Ask q
 
@@ -98,7 +98,7 @@ AllQueries A = (station : Station) (q : Query) → Askable q → length (query_t
 abbrev pub is_one_of : List (List Byte) → List Byte → Bool
 is_one_of names word = list_any (bytes_eq word) names
 
--- the forms of lines, by how many words they have: a query is named by its first word, a command by its third
+-- the forms of lines, by their number of words: a query is named by its first word, a command by its third
 abbrev pub has_form : List (List Byte) → Bool
 has_form (name ∷ []) = is_one_of (codes "count" ∷ []) name
 has_form (name ∷ identity ∷ []) = is_one_of (codes "where" ∷ codes "look" ∷ codes "groups" ∷ codes "members" ∷ codes "mail" ∷ []) name
@@ -121,11 +121,11 @@ IsQueryLine line = (q : Query) × Askable q × (line ≡ query_text q)
 abbrev pub SpellsSome : Type 0 → Station → List Byte → Type 0
 SpellsSome A station line = IsCommandLine A station line ⊎ IsQueryLine line
 
--- it is short enough, and neither empty nor a comment
+-- the line is short enough, and neither empty nor a comment
 abbrev pub IsJudged : List Byte → Type 0
 IsJudged line = (length line ≤ longest_line) × (is_silent line ≡ false)
 
--- how a line is bad: it is too long; or its words have no form; or they have one, and spell nothing
+-- when a line is bad: it is too long; or its words have no form; or they have one, and spell nothing
 pub record IsBadAs (A : Type 0) (station : Station) (line : List Byte) : Type 0 where
   pub too_long : (reading {A = A} station line ≡ Bad TooLong) ↔ (longest_line < length line)
   pub no_form : (reading {A = A} station line ≡ Bad Syntax) ↔ (IsJudged line × (has_form (words line) ≡ false))

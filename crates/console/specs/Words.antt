@@ -16,13 +16,13 @@ use Rattle.mailbox.specs.declared.key.Kind.TheVariants as kind
 use Rattle.console.specs.declared.line.LineFault.{LineFault}
 use Rattle.console.specs.declared.line.LineFault.TheVariants as line
 
--- behind "bad"
+-- the word after "bad"
 abbrev pub line_word : LineFault → List Byte
 line_word line.Syntax = codes "syntax"
 line_word line.Value = codes "value"
 line_word line.TooLong = codes "too-long"
 
--- a mobility management PDU that is none
+-- the faults of a mobility management PDU
 abbrev pub mm_word : MmFault → List Byte
 mm_word mm.Short = codes "mm-short"
 mm_word mm.Trailing = codes "mm-trailing"
@@ -32,7 +32,7 @@ mm_word mm.UnsupportedAddress = codes "mm-unsupported-address"
 mm_word mm.TooMany = codes "mm-too-many"
 mm_word mm.NoMemory = codes "memory"
 
--- rules and radios
+-- the faults of rules and radios
 abbrev pub registration_word : RegFault → List Byte
 registration_word reg.UnknownIdentity = codes "unknown-identity"
 registration_word reg.LaNotAllowed = codes "la-not-allowed"
@@ -43,13 +43,13 @@ registration_word reg.NotAttached = codes "not-attached"
 registration_word reg.RulesFull = codes "rules-full"
 registration_word reg.NoMemory = codes "memory"
 
--- the groups of a radio
+-- the faults of a radio's groups
 abbrev pub group_word : GroupFault → List Byte
 group_word group.NotAttached = codes "not-attached"
 group_word group.TooManyGroups = codes "too-many-groups"
 group_word group.NoMemory = codes "memory"
 
--- a short data PDU that is none
+-- the faults of a short data PDU
 abbrev pub sds_word : SdsFault → List Byte
 sds_word sds.Short = codes "sds-short"
 sds_word sds.Trailing = codes "sds-trailing"
@@ -60,7 +60,7 @@ sds_word sds.TooLong = codes "too-long"
 sds_word sds.NoMemory = codes "memory"
 sds_word sds.NotATransfer = codes "not-a-transfer"
 
--- messages and reports
+-- the faults of messages and reports
 abbrev pub mail_word : MailFault → List Byte
 mail_word mail.UnknownDestination = codes "unknown-destination"
 mail_word mail.NotAttached = codes "not-attached"
@@ -71,7 +71,7 @@ mail_word mail.NoSuchMessage = codes "no-such-message"
 mail_word mail.NoMemory = codes "memory"
 mail_word mail.NoMembers = codes "no-members"
 
--- what waits
+-- the kind of an item
 abbrev pub kind_word : Kind → List Byte
 kind_word kind.Message = codes "m"
 kind_word kind.Report = codes "r"

@@ -3,8 +3,8 @@ ghost use Rattle.console.specs.Answer.{text, is_trouble, IsLine, answer_room};
 
 use crate::answer_text::put_answer;
 use crate::line::LineFault;
-use centre_core::{Reply, Sequence, Told};
-use desk::Service;
+use centre_core::{QueryAnswer, Reply, Sequence};
+use desk::Outage;
 use identity::put_whole;
 use std::alloc::{AllocError, Allocator};
 
@@ -13,32 +13,32 @@ use std::alloc::{AllocError, Allocator};
 pub enum Answer<B: Allocator> {
     /// None: the line is empty or a comment.
     Quiet,
-    /// The line of this number, counted from 1, says nothing that can be done.
+    /// The line of this number, counted from 1, is bad.
     Bad(u64, LineFault),
     /// The reply to the command of this sequence.
     Replied(Sequence, Reply<B>),
     /// The command of this sequence was not carried out.
-    Unreplied(Sequence, Service),
+    CommandOutage(Sequence, Outage),
     /// The answer to a query.
-    Told(Told<B>),
+    Queried(QueryAnswer<B>),
     /// The query in the line of this number was not answered.
-    Untold(u64, Service),
+    QueryOutage(u64, Outage),
 }
 
 impl<B: Allocator> Answer<B> {
-    /// Whether it tells of a bad line, or is an outage word.
+    /// Whether it reports a bad line, or is an outage word.
     pub fn is_trouble(&self) -> bool
         ensures { result ≡ is_trouble self.now }
     {
         matches!(
             self,
-            Answer::Bad(..) | Answer::Unreplied(..) | Answer::Untold(..)
+            Answer::Bad(..) | Answer::CommandOutage(..) | Answer::QueryOutage(..)
         )
     }
 }
 
-/// Adds the text of an answer: a line with its end, and nothing for [`Answer::Quiet`]. Where there is no
-/// memory for it, `out` holds what it held; room for 1,024 bytes is enough for any answer but a list.
+/// Adds the text of an answer: its lines with their ends, and nothing for [`Answer::Quiet`]. When memory runs
+/// out, `out` is unchanged. Room for 1,024 bytes is enough for any answer but a list.
 #[inline(always)]
 pub fn print_answer<A: Allocator, B: Allocator>(
     out: &mut Vec<u8, A>,

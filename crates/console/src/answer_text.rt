@@ -1,22 +1,20 @@
-//! The texts of answers. Each `put_` adds its text, or a front of it.
+//! The texts of answers. Each `put_` adds its text; when memory runs out, a prefix of it.
 ghost use Rattle.std.specs.Prelude.{◌≡◌, ◌≤◌, ◌<◌, ◌+◌, ◌++◌, OnOk, OnErr, length, vec_len, vec_capacity, codes, decimal};
 ghost use Rattle.std.specs.List.{flat_map};
-ghost use Rattle.identity.specs.NumberText.{IsFrontOf};
+ghost use Rattle.identity.specs.NumberText.{IsPrefixOf};
 ghost use Rattle.identity.specs.IdentityText.{identity_text};
 ghost use Rattle.centre_core.specs.Ranges.{IsShort};
 ghost use Rattle.desk.specs.Replies.{HasShortPdu, HasShortReject};
 ghost use Rattle.console.specs.Inside.Parts.{part_text, part_room, pdu_room};
-ghost use Rattle.console.specs.Answer.{text, pdu_text, reply_text, refusal_text, told_text, group_text, member_text, item_text, item_end, key_text, whereabouts_text, rule_text, presence_text, IsOneLine, IsLine, answer_room};
+ghost use Rattle.console.specs.Answer.{text, pdu_text, reply_text, refusal_text, query_answer_text, whereabouts_text, rule_text, presence_text};
+ghost use Rattle.console.specs.Answer.{IsOneLine, IsLine, answer_room};
 
 use crate::answer::Answer;
+use crate::lists::{put_count, put_groups, put_items, put_members};
 use crate::text_part::{Part, pdu_part, put_parts};
-use crate::words::{
-    group_word, kind_word, line_word, mail_word, mm_word, registration_word, sds_word,
-};
-use centre_core::{Refusal, Reply, Sequence, Told};
-use group_attach::Attachment;
-use identity::{Bits, Gtsi, Itsi, Prefix};
-use mailbox::{Item, Key};
+use crate::words::{group_word, line_word, mail_word, mm_word, registration_word, sds_word};
+use centre_core::{QueryAnswer, Refusal, Reply, Sequence};
+use identity::{Bits, Itsi, Prefix};
 use registration::{Radio, Rule};
 use std::alloc::{AllocError, Allocator};
 
@@ -26,7 +24,7 @@ pub(crate) fn put_answer<A: Allocator, B: Allocator>(
     answer: &Answer<B>,
 ) -> Result<(), AllocError>
     ensures ok { OnOk result (out.new.items ≡ out.old.items ++ text answer.now) }
-    ensures err { OnErr result (IsFrontOf out.old.items out.new.items) }
+    ensures err { OnErr result (IsPrefixOf out.old.items out.new.items) }
     ensures full { OnErr result (vec_capacity out.old < vec_len out.old + length (text answer.now)) }
     ensures capacity { vec_capacity out.old ≤ vec_capacity out.new }
     ensures line { IsLine answer.now → OnErr result (vec_capacity out.old < vec_len out.old + answer_room) }
@@ -35,9 +33,9 @@ pub(crate) fn put_answer<A: Allocator, B: Allocator>(
         Answer::Quiet => Ok(()),
         Answer::Bad(line, fault) => put_of_line(out, *line, " bad ", line_word(*fault)),
         Answer::Replied(sequence, reply) => put_reply(out, *sequence, reply),
-        Answer::Unreplied(sequence, word) => put_refused(out, *sequence, word.word()),
-        Answer::Told(told) => put_told(out, told),
-        Answer::Untold(line, word) => put_of_line(out, *line, " no ", word.word()),
+        Answer::CommandOutage(sequence, word) => put_refused(out, *sequence, word.word()),
+        Answer::Queried(query_answer) => put_query_answer(out, query_answer),
+        Answer::QueryOutage(line, word) => put_of_line(out, *line, " no ", word.word()),
     }
 }
 
@@ -52,7 +50,7 @@ fn put_of_line<'a, A: Allocator>(
     requires verdict { length verdict.now ≤ 5 }
     requires word { length word.now ≤ 32 }
     ensures ok { OnOk result (out.new.items ≡ out.old.items ++ codes "line " ++ decimal line ++ verdict.now ++ word.now ++ codes "\n") }
-    ensures err { OnErr result (IsFrontOf out.old.items out.new.items) }
+    ensures err { OnErr result (IsPrefixOf out.old.items out.new.items) }
     ensures full { OnErr result (vec_capacity out.old < vec_len out.old + length (codes "line " ++ decimal line ++ verdict.now ++ word.now ++ codes "\n")) }
     ensures capacity { vec_capacity out.old ≤ vec_capacity out.new }
     ensures line { OnErr result (vec_capacity out.old < vec_len out.old + answer_room) }
@@ -75,7 +73,7 @@ fn put_reply<A: Allocator, B: Allocator>(
     reply: &Reply<B>,
 ) -> Result<(), AllocError>
     ensures ok { OnOk result (out.new.items ≡ out.old.items ++ decimal sequence ++ reply_text reply.now ++ codes "\n") }
-    ensures err { OnErr result (IsFrontOf out.old.items out.new.items) }
+    ensures err { OnErr result (IsPrefixOf out.old.items out.new.items) }
     ensures full { OnErr result (vec_capacity out.old < vec_len out.old + length (decimal sequence ++ reply_text reply.now ++ codes "\n")) }
     ensures capacity { vec_capacity out.old ≤ vec_capacity out.new }
     ensures line { HasShortPdu reply.now → OnErr result (vec_capacity out.old < vec_len out.old + answer_room) }
@@ -97,9 +95,11 @@ fn put_done<'a, A: Allocator, B: Allocator>(
     pdu: &'a Option<Bits<B>>,
 ) -> Result<(), AllocError>
     requires { length word.now ≤ 6 }
-    ensures ok { OnOk result (out.new.items ≡ out.old.items ++ decimal sequence ++ (word.now ++ decimal number ++ codes " " ++ pdu_text pdu.now) ++ codes "\n") }
-    ensures err { OnErr result (IsFrontOf out.old.items out.new.items) }
-    ensures full { OnErr result (vec_capacity out.old < vec_len out.old + length (decimal sequence ++ (word.now ++ decimal number ++ codes " " ++ pdu_text pdu.now) ++ codes "\n")) }
+    ensures ok { OnOk result (out.new.items ≡ out.old.items
+        ++ decimal sequence ++ (word.now ++ decimal number ++ codes " " ++ pdu_text pdu.now) ++ codes "\n") }
+    ensures err { OnErr result (IsPrefixOf out.old.items out.new.items) }
+    ensures full { OnErr result (vec_capacity out.old < vec_len out.old
+        + length (decimal sequence ++ (word.now ++ decimal number ++ codes " " ++ pdu_text pdu.now) ++ codes "\n")) }
     ensures capacity { vec_capacity out.old ≤ vec_capacity out.new }
     ensures line { IsShort pdu.now → OnErr result (vec_capacity out.old < vec_len out.old + answer_room) }
 {
@@ -125,7 +125,7 @@ fn put_refused<A: Allocator>(
 ) -> Result<(), AllocError>
     requires { length word.now ≤ 32 }
     ensures ok { OnOk result (out.new.items ≡ out.old.items ++ decimal sequence ++ (codes " no " ++ word.now) ++ codes "\n") }
-    ensures err { OnErr result (IsFrontOf out.old.items out.new.items) }
+    ensures err { OnErr result (IsPrefixOf out.old.items out.new.items) }
     ensures full { OnErr result (vec_capacity out.old < vec_len out.old + length (decimal sequence ++ (codes " no " ++ word.now) ++ codes "\n")) }
     ensures capacity { vec_capacity out.old ≤ vec_capacity out.new }
     ensures line { OnErr result (vec_capacity out.old < vec_len out.old + answer_room) }
@@ -146,8 +146,9 @@ fn put_refusal<A: Allocator, B: Allocator>(
     refusal: &Refusal<B>,
 ) -> Result<(), AllocError>
     ensures ok { OnOk result (out.new.items ≡ out.old.items ++ decimal sequence ++ (codes " no " ++ refusal_text refusal.now) ++ codes "\n") }
-    ensures err { OnErr result (IsFrontOf out.old.items out.new.items) }
-    ensures full { OnErr result (vec_capacity out.old < vec_len out.old + length (decimal sequence ++ (codes " no " ++ refusal_text refusal.now) ++ codes "\n")) }
+    ensures err { OnErr result (IsPrefixOf out.old.items out.new.items) }
+    ensures full { OnErr result (vec_capacity out.old < vec_len out.old
+        + length (decimal sequence ++ (codes " no " ++ refusal_text refusal.now) ++ codes "\n")) }
     ensures capacity { vec_capacity out.old ≤ vec_capacity out.new }
     ensures line { HasShortReject refusal.now → OnErr result (vec_capacity out.old < vec_len out.old + answer_room) }
 {
@@ -184,8 +185,9 @@ fn put_refused_at<A: Allocator>(
 ) -> Result<(), AllocError>
     requires { length word.now ≤ 32 }
     ensures ok { OnOk result (out.new.items ≡ out.old.items ++ decimal sequence ++ (codes " no " ++ (word.now ++ decimal last)) ++ codes "\n") }
-    ensures err { OnErr result (IsFrontOf out.old.items out.new.items) }
-    ensures full { OnErr result (vec_capacity out.old < vec_len out.old + length (decimal sequence ++ (codes " no " ++ (word.now ++ decimal last)) ++ codes "\n")) }
+    ensures err { OnErr result (IsPrefixOf out.old.items out.new.items) }
+    ensures full { OnErr result (vec_capacity out.old < vec_len out.old
+        + length (decimal sequence ++ (codes " no " ++ (word.now ++ decimal last)) ++ codes "\n")) }
     ensures capacity { vec_capacity out.old ≤ vec_capacity out.new }
     ensures line { OnErr result (vec_capacity out.old < vec_len out.old + answer_room) }
 {
@@ -200,41 +202,41 @@ fn put_refused_at<A: Allocator>(
 }
 
 #[tactic(auto, using(identity::proofs::Printed::printed))]
-fn put_told<A: Allocator, B: Allocator>(
+fn put_query_answer<A: Allocator, B: Allocator>(
     out: &mut Vec<u8, A>,
-    told: &Told<B>,
+    query_answer: &QueryAnswer<B>,
 ) -> Result<(), AllocError>
-    ensures ok { OnOk result (out.new.items ≡ out.old.items ++ told_text told.now) }
-    ensures err { OnErr result (IsFrontOf out.old.items out.new.items) }
-    ensures full { OnErr result (vec_capacity out.old < vec_len out.old + length (told_text told.now)) }
+    ensures ok { OnOk result (out.new.items ≡ out.old.items ++ query_answer_text query_answer.now) }
+    ensures err { OnErr result (IsPrefixOf out.old.items out.new.items) }
+    ensures full { OnErr result (vec_capacity out.old < vec_len out.old + length (query_answer_text query_answer.now)) }
     ensures capacity { vec_capacity out.old ≤ vec_capacity out.new }
-    ensures line { IsOneLine told.now → OnErr result (vec_capacity out.old < vec_len out.old + answer_room) }
+    ensures line { IsOneLine query_answer.now → OnErr result (vec_capacity out.old < vec_len out.old + answer_room) }
 {
-    match told {
-        Told::Whereabouts { itsi, radio } => put_whereabouts(out, *itsi, radio),
-        Told::Look { itsi, rule } => put_look(out, *itsi, rule),
-        Told::Groups { itsi, groups } => {
+    match query_answer {
+        QueryAnswer::Whereabouts { itsi, radio } => put_whereabouts(out, *itsi, radio),
+        QueryAnswer::Look { itsi, rule } => put_look(out, *itsi, rule),
+        QueryAnswer::Groups { itsi, groups } => {
             let groups = groups.as_slice();
             let whose: [Part; 2] = [Part::Text("groups "), Part::Radio(*itsi)];
             put_parts(out, &whose)?;
             put_count(out, groups.len())?;
             put_groups(out, groups)
         }
-        Told::Members { gtsi, members } => {
+        QueryAnswer::Members { gtsi, members } => {
             let members = members.as_slice();
             let whose: [Part; 2] = [Part::Text("members "), Part::Group(*gtsi)];
             put_parts(out, &whose)?;
             put_count(out, members.len())?;
             put_members(out, members)
         }
-        Told::Waiting { itsi, items } => {
+        QueryAnswer::Waiting { itsi, items } => {
             let items = items.as_slice();
             let whose: [Part; 2] = [Part::Text("mail "), Part::Radio(*itsi)];
             put_parts(out, &whose)?;
             put_count(out, items.len())?;
             put_items(out, items)
         }
-        Told::Total(count) => put_total(out, *count),
+        QueryAnswer::Total(count) => put_total(out, *count),
     }
 }
 
@@ -245,8 +247,9 @@ fn put_whereabouts<A: Allocator>(
     radio: &Option<Radio>,
 ) -> Result<(), AllocError>
     ensures ok { OnOk result (out.new.items ≡ out.old.items ++ codes "where " ++ identity_text itsi ++ codes " " ++ whereabouts_text radio.now ++ codes "\n") }
-    ensures err { OnErr result (IsFrontOf out.old.items out.new.items) }
-    ensures full { OnErr result (vec_capacity out.old < vec_len out.old + length (codes "where " ++ identity_text itsi ++ codes " " ++ whereabouts_text radio.now ++ codes "\n")) }
+    ensures err { OnErr result (IsPrefixOf out.old.items out.new.items) }
+    ensures full { OnErr result (vec_capacity out.old < vec_len out.old
+        + length (codes "where " ++ identity_text itsi ++ codes " " ++ whereabouts_text radio.now ++ codes "\n")) }
     ensures capacity { vec_capacity out.old ≤ vec_capacity out.new }
     ensures line { OnErr result (vec_capacity out.old < vec_len out.old + answer_room) }
 {
@@ -278,8 +281,9 @@ fn put_look<A: Allocator>(
     rule: &Option<(Prefix, Rule)>,
 ) -> Result<(), AllocError>
     ensures ok { OnOk result (out.new.items ≡ out.old.items ++ codes "look " ++ identity_text itsi ++ codes " " ++ rule_text rule.now ++ codes "\n") }
-    ensures err { OnErr result (IsFrontOf out.old.items out.new.items) }
-    ensures full { OnErr result (vec_capacity out.old < vec_len out.old + length (codes "look " ++ identity_text itsi ++ codes " " ++ rule_text rule.now ++ codes "\n")) }
+    ensures err { OnErr result (IsPrefixOf out.old.items out.new.items) }
+    ensures full { OnErr result (vec_capacity out.old < vec_len out.old
+        + length (codes "look " ++ identity_text itsi ++ codes " " ++ rule_text rule.now ++ codes "\n")) }
     ensures capacity { vec_capacity out.old ≤ vec_capacity out.new }
     ensures line { OnErr result (vec_capacity out.old < vec_len out.old + answer_room) }
 {
@@ -312,166 +316,13 @@ fn put_look<A: Allocator>(
 #[tactic(auto, using(std::proofs::Common::append_assoc))]
 fn put_total<A: Allocator>(out: &mut Vec<u8, A>, count: u64) -> Result<(), AllocError>
     ensures ok { OnOk result (out.new.items ≡ out.old.items ++ codes "count " ++ decimal count ++ codes "\n") }
-    ensures err { OnErr result (IsFrontOf out.old.items out.new.items) }
+    ensures err { OnErr result (IsPrefixOf out.old.items out.new.items) }
     ensures full { OnErr result (vec_capacity out.old < vec_len out.old + length (codes "count " ++ decimal count ++ codes "\n")) }
     ensures capacity { vec_capacity out.old ≤ vec_capacity out.new }
     ensures line { OnErr result (vec_capacity out.old < vec_len out.old + answer_room) }
 {
     let line: [Part; 3] = [Part::Text("count "), Part::Number(count), Part::Text("\n")];
     put_parts(out, &line)
-}
-
-/// How many lines of a list follow.
-#[tactic(auto, using(std::proofs::Common::append_assoc))]
-fn put_count<A: Allocator>(out: &mut Vec<u8, A>, count: usize) -> Result<(), AllocError>
-    ensures ok { OnOk result (out.new.items ≡ out.old.items ++ (codes " " ++ decimal count ++ codes "\n")) }
-    ensures err { OnErr result (IsFrontOf out.old.items out.new.items) }
-    ensures full { OnErr result (vec_capacity out.old < vec_len out.old + length (codes " " ++ decimal count ++ codes "\n")) }
-    ensures capacity { vec_capacity out.old ≤ vec_capacity out.new }
-{
-    let end: [Part; 3] = [
-        Part::Text(" "),
-        Part::Number(count as u64),
-        Part::Text("\n"),
-    ];
-    put_parts(out, &end)
-}
-
-fn put_groups<A: Allocator>(out: &mut Vec<u8, A>, groups: &[Attachment]) -> Result<(), AllocError>
-    ensures ok { OnOk result (out.new.items ≡ out.old.items ++ flat_map group_text groups.now) }
-    ensures err { OnErr result (IsFrontOf out.old.items out.new.items) }
-    ensures full { OnErr result (vec_capacity out.old < vec_len out.old + length (flat_map group_text groups.now)) }
-    ensures capacity { vec_capacity out.old ≤ vec_capacity out.new }
-{
-    for group in groups {
-        put_group(out, group)?;
-    }
-    Ok(())
-}
-
-#[tactic(auto, using(std::proofs::Common::append_assoc))]
-fn put_group<A: Allocator>(out: &mut Vec<u8, A>, group: &Attachment) -> Result<(), AllocError>
-    ensures ok { OnOk result (out.new.items ≡ out.old.items ++ group_text group.now) }
-    ensures err { OnErr result (IsFrontOf out.old.items out.new.items) }
-    ensures full { OnErr result (vec_capacity out.old < vec_len out.old + length (group_text group.now)) }
-    ensures capacity { vec_capacity out.old ≤ vec_capacity out.new }
-{
-    let line: [Part; 7] = [
-        Part::Text("group "),
-        Part::Group(group.gtsi),
-        Part::Text(" "),
-        Part::Number(u64::from(group.class.number())),
-        Part::Text(" "),
-        Part::Number(u64::from(group.lifetime.number())),
-        Part::Text("\n"),
-    ];
-    put_parts(out, &line)
-}
-
-fn put_members<A: Allocator>(out: &mut Vec<u8, A>, members: &[Attachment]) -> Result<(), AllocError>
-    ensures ok { OnOk result (out.new.items ≡ out.old.items ++ flat_map member_text members.now) }
-    ensures err { OnErr result (IsFrontOf out.old.items out.new.items) }
-    ensures full { OnErr result (vec_capacity out.old < vec_len out.old + length (flat_map member_text members.now)) }
-    ensures capacity { vec_capacity out.old ≤ vec_capacity out.new }
-{
-    for member in members {
-        put_member(out, member)?;
-    }
-    Ok(())
-}
-
-#[tactic(auto, using(std::proofs::Common::append_assoc))]
-fn put_member<A: Allocator>(out: &mut Vec<u8, A>, member: &Attachment) -> Result<(), AllocError>
-    ensures ok { OnOk result (out.new.items ≡ out.old.items ++ member_text member.now) }
-    ensures err { OnErr result (IsFrontOf out.old.items out.new.items) }
-    ensures full { OnErr result (vec_capacity out.old < vec_len out.old + length (member_text member.now)) }
-    ensures capacity { vec_capacity out.old ≤ vec_capacity out.new }
-{
-    let line: [Part; 5] = [
-        Part::Text("member "),
-        Part::Radio(member.itsi),
-        Part::Text(" "),
-        Part::Number(u64::from(member.class.number())),
-        Part::Text("\n"),
-    ];
-    put_parts(out, &line)
-}
-
-fn put_items<A: Allocator, B: Allocator>(
-    out: &mut Vec<u8, A>,
-    items: &[Item<B>],
-) -> Result<(), AllocError>
-    ensures ok { OnOk result (out.new.items ≡ out.old.items ++ flat_map item_text items.now) }
-    ensures err { OnErr result (IsFrontOf out.old.items out.new.items) }
-    ensures full { OnErr result (vec_capacity out.old < vec_len out.old + length (flat_map item_text items.now)) }
-    ensures capacity { vec_capacity out.old ≤ vec_capacity out.new }
-{
-    for item in items {
-        put_item(out, item)?;
-    }
-    Ok(())
-}
-
-#[tactic(auto, using(identity::proofs::Printed::printed))]
-fn put_item<A: Allocator, B: Allocator>(
-    out: &mut Vec<u8, A>,
-    item: &Item<B>,
-) -> Result<(), AllocError>
-    ensures ok { OnOk result (out.new.items ≡ out.old.items ++ item_text item.now) }
-    ensures err { OnErr result (IsFrontOf out.old.items out.new.items) }
-    ensures full { OnErr result (vec_capacity out.old < vec_len out.old + length (item_text item.now)) }
-    ensures capacity { vec_capacity out.old ≤ vec_capacity out.new }
-{
-    let number: [Part; 3] = [
-        Part::Text("item "),
-        Part::Number(item.number()),
-        Part::Text(" "),
-    ];
-    put_parts(out, &number)?;
-    put_key(out, item.key())?;
-    put_parts(
-        out,
-        &[
-            Part::Text(" "),
-            Part::Number(item.deadline()),
-            Part::Text(" "),
-            Part::Pdu(item.pdu()),
-        ],
-    )?;
-    put_item_end(out, item.group())
-}
-
-/// The end of an item's line, which names the group of a copy.
-#[tactic(auto, using(std::proofs::Common::append_assoc))]
-fn put_item_end<A: Allocator>(out: &mut Vec<u8, A>, group: Option<Gtsi>) -> Result<(), AllocError>
-    ensures ok { OnOk result (out.new.items ≡ out.old.items ++ item_end group) }
-    ensures err { OnErr result (IsFrontOf out.old.items out.new.items) }
-    ensures full { OnErr result (vec_capacity out.old < vec_len out.old + length (item_end group)) }
-    ensures capacity { vec_capacity out.old ≤ vec_capacity out.new }
-{
-    let Some(group) = group else {
-        let end: [Part; 1] = [Part::Text("\n")];
-        return put_parts(out, &end);
-    };
-    let end: [Part; 3] = [Part::Text(" "), Part::Group(group), Part::Text("\n")];
-    put_parts(out, &end)
-}
-
-#[tactic(auto, using(std::proofs::Common::append_assoc))]
-fn put_key<A: Allocator>(out: &mut Vec<u8, A>, key: Key) -> Result<(), AllocError>
-    ensures ok { OnOk result (out.new.items ≡ out.old.items ++ key_text key) }
-    ensures err { OnErr result (IsFrontOf out.old.items out.new.items) }
-    ensures full { OnErr result (vec_capacity out.old < vec_len out.old + length (key_text key)) }
-    ensures capacity { vec_capacity out.old ≤ vec_capacity out.new }
-{
-    let words: [Part; 5] = [
-        Part::Text(kind_word(key.kind)),
-        Part::Text(" "),
-        Part::Radio(key.source),
-        Part::Text(" "),
-        Part::Number(u64::from(key.reference.number())),
-    ];
-    put_parts(out, &words)
 }
 
 fn presence_word(present: bool) -> &'static str

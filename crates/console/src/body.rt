@@ -1,11 +1,12 @@
-//! The words behind the one that names a form, and those before it.
-ghost use Rattle.std.specs.Prelude.{◌≡◌, IfOk, OnErr, IsSome, map};
+//! The words of a command or a query: those before the word that names its form, and those after it.
+ghost use Rattle.std.specs.Prelude.{◌≡◌, ◌∷◌, [], IfOk, OnErr, IsSome, map};
 ghost use Rattle.std.specs.Result.{result_ok};
 ghost use Rattle.identity.specs.IdentityText.{reading_identity, reading_prefix};
 ghost use Rattle.identity.specs.BitsText.{reading_bits};
 ghost use Rattle.centre_core.specs.declared.query.Query.TheVariants.{Whereabouts};
 ghost use Rattle.centre_core.specs.declared.command.Body.TheVariants.{RuleClear};
-ghost use Rattle.console.specs.Reading.{query_in, body_in, mm_body, sds_body, group_sds_body, rule_body, GivesPdu, head_in, seconds_in, sequence_in, area_in, lifetime_in, rule_in, reference_in, kind_in, key_in, saying};
+ghost use Rattle.console.specs.Reading.{query_in, body_in, mm_body, sds_body, group_sds_body, rule_body, GivesPdu, head_in};
+ghost use Rattle.console.specs.Reading.{seconds_in, sequence_in, area_in, lifetime_in, rule_in, reference_in, kind_in, key_in, saying};
 
 use crate::line::LineFault;
 use centre_core::{Body, Query, Sequence};
@@ -16,7 +17,7 @@ use registration::{LocationArea, Rule};
 use sds_tl::MessageReference;
 use std::alloc::{AllocError, Allocator};
 
-/// What stands before the body of a command.
+/// The sequence and moment, which come before the body of a command.
 #[derive(Clone, Copy, Debug)]
 pub(crate) struct Head {
     pub(crate) sequence: Sequence,
@@ -53,7 +54,7 @@ pub(crate) fn query_in(name: &[u8], identity: &[u8]) -> Result<Query, LineFault>
     query.or(Err(LineFault::Value))
 }
 
-/// The body of a command, behind the word that names its form.
+/// The body of a command, after the word that names its form.
 #[inline(always)]
 pub(crate) fn body_in<A: Allocator>(
     alloc: A,
@@ -89,15 +90,7 @@ pub(crate) fn body_in<A: Allocator>(
             Ok(Err(LineFault::Syntax))
         }
         [destination, source, reference, kind] => {
-            let key = key_in(destination, source, reference, kind);
-            let body = if name == b"sent".as_slice() {
-                key.map(|key| Body::Sent(key))
-            } else if name == b"delete".as_slice() {
-                key.map(|key| Body::Delete(key))
-            } else {
-                return Ok(Err(LineFault::Syntax));
-            };
-            Ok(body.ok_or(LineFault::Value))
+            Ok(key_body(name, destination, source, reference, kind))
         }
         [prefix, low, high, lifetime, keep] => {
             if name == b"rule".as_slice() {
@@ -109,7 +102,7 @@ pub(crate) fn body_in<A: Allocator>(
     }
 }
 
-/// The bits of a PDU, where the word is one.
+/// The bits of a PDU, if the word is one.
 #[inline(always)]
 #[tactic(auto, using(crate::proofs::Forms::bits_are_judged))]
 fn bits_in<A: Allocator>(alloc: A, word: &[u8]) -> Result<Option<Bits<A>>, AllocError>
@@ -150,8 +143,10 @@ fn sds_body<A: Allocator>(
     destination: &[u8],
     pdu: &[u8],
 ) -> Result<Result<Body<A>, LineFault>, AllocError>
-    ensures ok { IfOk result (λ said. said ≡ sds_body (result_ok (reading_identity source.now)) (result_ok (reading_identity destination.now)) (result_ok (reading_bits pdu.now))) }
-    ensures err { OnErr result (GivesPdu (sds_body {A = A} (result_ok (reading_identity source.now)) (result_ok (reading_identity destination.now)) (result_ok (reading_bits pdu.now)))) }
+    ensures ok { IfOk result (λ said. said ≡ sds_body
+        (result_ok (reading_identity source.now)) (result_ok (reading_identity destination.now)) (result_ok (reading_bits pdu.now))) }
+    ensures err { OnErr result (GivesPdu (sds_body {A = A}
+        (result_ok (reading_identity source.now)) (result_ok (reading_identity destination.now)) (result_ok (reading_bits pdu.now)))) }
 {
     let (Ok(source), Ok(destination)) = (parse_itsi(source), parse_itsi(destination)) else {
         return Ok(Err(LineFault::Value));
@@ -173,8 +168,10 @@ fn group_sds_body<A: Allocator>(
     group: &[u8],
     pdu: &[u8],
 ) -> Result<Result<Body<A>, LineFault>, AllocError>
-    ensures ok { IfOk result (λ said. said ≡ group_sds_body (result_ok (reading_identity source.now)) (result_ok (reading_identity group.now)) (result_ok (reading_bits pdu.now))) }
-    ensures err { OnErr result (GivesPdu (group_sds_body {A = A} (result_ok (reading_identity source.now)) (result_ok (reading_identity group.now)) (result_ok (reading_bits pdu.now)))) }
+    ensures ok { IfOk result (λ said. said ≡ group_sds_body
+        (result_ok (reading_identity source.now)) (result_ok (reading_identity group.now)) (result_ok (reading_bits pdu.now))) }
+    ensures err { OnErr result (GivesPdu (group_sds_body {A = A}
+        (result_ok (reading_identity source.now)) (result_ok (reading_identity group.now)) (result_ok (reading_bits pdu.now)))) }
 {
     let (Ok(source), Ok(group)) = (parse_itsi(source), parse_gtsi(group)) else {
         return Ok(Err(LineFault::Value));
@@ -209,6 +206,27 @@ fn unrule_body<A: Allocator>(prefix: &[u8]) -> Result<Body<A>, LineFault>
         Ok(prefix) => Ok(Body::RuleClear { prefix }),
         Err(_) => Err(LineFault::Value),
     }
+}
+
+/// `sent DEST SOURCE REF KIND` or `delete DEST SOURCE REF KIND`
+fn key_body<A: Allocator>(
+    name: &[u8],
+    destination: &[u8],
+    source: &[u8],
+    reference: &[u8],
+    kind: &[u8],
+) -> Result<Body<A>, LineFault>
+    ensures { result ≡ body_in name.now (destination.now ∷ source.now ∷ reference.now ∷ kind.now ∷ []) }
+{
+    let key = key_in(destination, source, reference, kind);
+    let body = if name == b"sent".as_slice() {
+        key.map(|key| Body::Sent(key))
+    } else if name == b"delete".as_slice() {
+        key.map(|key| Body::Delete(key))
+    } else {
+        return Err(LineFault::Syntax);
+    };
+    body.ok_or(LineFault::Value)
 }
 
 // A moment, or a keep time in seconds.

@@ -7,8 +7,8 @@ use prefix_tree::Steps;
 use std::io::{ErrorKind, Read};
 use std::sync::ledger::Ledger;
 
-/// A reader that can't be called but by [`Input::read`], which writes each call, and each error but an
-/// interruption, into a ledger.
+/// A reader that can be called only by [`Input::read`]. That counts each call, and each error but an interruption, in
+/// a ledger.
 #[derive(Drop)]
 pub struct Input<'r, 's, R: Read, L: Ledger, F: Ledger> {
     reader: &'r mut R,
@@ -40,7 +40,8 @@ impl<'r, 's, R: Read, L: Ledger, F: Ledger> Input<'r, 's, R, L, F> {
         ensures steps { self.new.steps.ghost_name ≡ self.old.steps.ghost_name }
         ensures faults { self.new.faults.ghost_name ≡ self.old.faults.ghost_name }
         ensures bound { IfOk result (λ piece. FitsPiece piece (length buffer.new)) }
-        ensures ok { IfOk result (λ piece. (input : List ℕ) → R.remaining self.old.reader.now ≡ Some input → IsPiece piece buffer.new input (R.remaining self.new.reader.now)) }
+        ensures ok { IfOk result (λ piece. (input : List ℕ) → R.remaining self.old.reader.now ≡ Some input
+            → IsPiece piece buffer.new input (R.remaining self.new.reader.now)) }
         ensures calls { self.new.steps.now ≡ self.old.steps.now + 1 }
         ensures ledger { self.old.faults.now ≤ self.new.faults.now }
         ensures failed { OnErr result (self.old.faults.now < self.new.faults.now) }

@@ -1,54 +1,54 @@
-//! What holds of all lines, and of all dialogues with a register, in memory or on a disk. `A` is the allocator that the bits
-//! of commands and replies lie under: nothing depends on it.
+//! Laws of all lines, and of all dialogues with a register, in memory or on a disk. `A` is the allocator of the bits of
+//! commands and replies; nothing depends on it.
 
-ghost use Rattle.console.specs.Dialogue.{CutOffIsFront, OneText};
+ghost use Rattle.console.specs.Dialogue.{CutOffIsPrefix, OneText};
 ghost use Rattle.console.specs.Spelling.{OnlyCommands, OnlyQueries, AllCommands, AllQueries, BadLines};
 ghost use Rattle.desk.specs.OfRegister.{of_register};
 ghost use Rattle.desk.specs.OfStore.{of_store};
-ghost use Rattle.console.specs.Stored.{BrokenBehindDevice, RegisterAtDevice, StoredAsRegister};
+ghost use Rattle.console.specs.Stored.{BrokenAfterDevice, RegisterAtDevice, StoredAsRegister};
 
 use std::alloc::Allocator;
 
-/// What was written before a fault is a prefix of a text that may be written for the lines, over a register in memory and
-/// over one on a disk.
-pub fn cut_off_is_front<A: Allocator>()
-    ensures register { CutOffIsFront A of_register }
-    ensures store { CutOffIsFront A of_store }
+/// What a run wrote before a fault is a prefix of a text that may be written for the lines. This holds for a register in
+/// memory, and for one on a disk.
+pub fn cut_off_is_prefix<A: Allocator>()
+    ensures register { CutOffIsPrefix A of_register }
+    ensures store { CutOffIsPrefix A of_store }
 {}
 
-/// Without outage words there is one text for the lines.
+/// Without outage words, the lines have only one text.
 pub fn one_text<A: Allocator>()
     ensures { OneText A }
 {}
 
-/// Once a register on a disk has said `device`, no later line is answered but by `broken`.
-pub fn broken_behind_device<A: Allocator>()
-    ensures { BrokenBehindDevice A }
+/// After a register on a disk has answered `device`, each later line that reaches it is answered by `broken`.
+pub fn broken_after_device<A: Allocator>()
+    ensures { BrokenAfterDevice A }
 {}
 
-/// Once it has said `device`, the register that it stands for is the one that the lines before made.
+/// After it has answered `device`, its register is the one that the lines before made.
 pub fn register_at_device<A: Allocator>()
     ensures { RegisterAtDevice A }
 {}
 
-/// Without outage words a register on a disk answers as it would in memory.
+/// Without outage words, a register on a disk answers as one in memory.
 pub fn stored_as_register<A: Allocator>()
     ensures { StoredAsRegister A }
 {}
 
-/// A line is taken for a command or a query only where it spells it, with values in range.
+/// A line is read as a command or a query only if it spells that, with values in range.
 pub fn only_what_is_spelled<A: Allocator>()
     ensures commands { OnlyCommands A }
     ensures queries { OnlyQueries A }
 {}
 
-/// A line that spells a command or a query is taken for it.
+/// A line that spells a command or a query is read as that.
 pub fn all_that_is_spelled<A: Allocator>()
     ensures commands { AllCommands A }
     ensures queries { AllQueries A }
 {}
 
-/// Which lines are too long, which have no form (`syntax`), and which have one and say nothing (`value`).
+/// Which lines are too long, which have no form (`syntax`), and which have a form but spell nothing (`value`).
 pub fn bad_lines<A: Allocator>()
     ensures { BadLines A }
 {}

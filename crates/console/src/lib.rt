@@ -1,8 +1,8 @@
-//! The console of the location register: lines of a station in, answers out.
+//! The console of the location register: lines of a station in, answers out. It touches only the reader, the writer and
+//! the desk that it is given, and knows nothing of files, disks and threads.
 //!
-//! [`run`] serves any [`Desk`] with the lines of any reader. Which answers a line may get is said by
-//! `specs/Dialogue.antt`, what a line says by `specs/Reading.antt`, and how an answer is written by
-//! `specs/Answer.antt`.
+//! [`run`] serves any [`Desk`] with the lines of any reader. `specs/Reading.antt` defines what a line asks,
+//! `specs/Dialogue.antt` which answers it may get, and `specs/Answer.antt` how an answer is written.
 #![tactic(auto)]
 
 mod answer;
@@ -11,6 +11,7 @@ mod body;
 mod input;
 pub mod laws;
 mod line;
+mod lists;
 mod output;
 mod progress;
 mod running;
@@ -19,7 +20,7 @@ mod text_part;
 mod words;
 
 pub use answer::{Answer, print_answer};
-pub use desk::{Desk, Service};
+pub use desk::{Desk, Outage};
 pub use input::Input;
 pub use line::{Line, LineFault, parse_line};
 pub use output::Output;

@@ -1,6 +1,6 @@
 ghost use Rattle.std.specs.Prelude.{◌≡◌, ◌∷◌, [], Some, IfOk, IfErr, OnErr, IsSome, option_map, MatchOption, ◌<◌, ◌≤◌, length, map, take, slice_get};
 ghost use Rattle.centre_core.specs.Ranges.{IsShort, pdu_of};
-ghost use Rattle.console.specs.Reading.{reading, sequence_of, Lacks, words, words_behind, of_words, body_in, command_line, ask};
+ghost use Rattle.console.specs.Reading.{reading, sequence_of, Lacks, words, words_after, of_words, body_in, command_line, ask};
 
 use crate::body::{Head, body_in, head_in, query_in};
 use centre_core::{Body, Command, Query, Sequence};
@@ -16,18 +16,18 @@ pub(crate) const LONGEST: usize = 1024;
 pub enum LineFault {
     /// Its words fit no form.
     Syntax,
-    /// A word of its form is out of form or range.
+    /// One of its words is malformed or out of range.
     Value,
     /// It has more than 1,024 bytes.
     TooLong,
 }
 
-/// What a line says.
+/// A line, as it is read.
 #[derive(Drop)]
 pub enum Line<A: Allocator> {
-    /// Nothing: it is empty or a comment.
+    /// It is empty or a comment.
     Silent,
-    /// Nothing that can be done.
+    /// It is bad.
     Bad(LineFault),
     /// A command.
     Apply(Command<A>),
@@ -35,13 +35,13 @@ pub enum Line<A: Allocator> {
     Ask(Query),
 }
 
-/// There is no memory for the PDU of the command of this sequence.
+/// Memory ran out for the PDU of the command of this sequence.
 #[derive(Drop)]
 pub(crate) struct Unread {
     pub(crate) sequence: Sequence,
 }
 
-/// What a station's line says, without its end. It takes memory for a PDU alone.
+/// Reads a station's line, which is given without its end. Only a PDU takes memory.
 pub fn parse_line<A: Allocator>(
     alloc: A,
     station: Station,
@@ -56,7 +56,7 @@ pub fn parse_line<A: Allocator>(
     }
 }
 
-/// As `parse_line`, with the sequence of a command for whose PDU there is no memory.
+/// As `parse_line`. When memory runs out for a PDU, the fault has the sequence of its command.
 #[inline(always)]
 pub(crate) fn read_line<A: Allocator>(
     alloc: A,
@@ -82,10 +82,10 @@ fn first_space(line: &[u8]) -> Option<usize>
     memchr(b' ', line)
 }
 
-/// The first word, and what stands behind the space after it.
+/// The first word, and the text after the space that follows it.
 #[inline(always)]
 fn cut(line: &[u8]) -> (&[u8], Option<&[u8]>)
-    ensures { words line.now ≡ result.0.now ∷ words_behind (option_map (λ r. r.now) result.1) }
+    ensures { words line.now ≡ result.0.now ∷ words_after (option_map (λ r. r.now) result.1) }
 {
     match first_space(line) {
         None => (line, None),
@@ -96,14 +96,14 @@ fn cut(line: &[u8]) -> (&[u8], Option<&[u8]>)
 /// The most words that a form has.
 const MOST_WORDS: usize = 8;
 
-/// The words of a line, which are in the first `count` of the places.
+/// The words of a line: the first `count` of the places.
 #[derive(Clone, Copy)]
 struct Words<'a> {
     places: [&'a [u8]; MOST_WORDS],
     count: usize,
 }
 
-/// The words of a line, where they are no more than a form has.
+/// The words of a line, if there are no more than a form can have.
 #[inline(always)]
 fn split(line: &[u8]) -> Option<Words<'_>>
     ensures few { MatchOption result Unit (λ found. found.count ≤ 8) }
@@ -112,15 +112,15 @@ fn split(line: &[u8]) -> Option<Words<'_>>
     let mut places = [line; MOST_WORDS];
     let mut rest = line;
     for at in 0..MOST_WORDS {
-        let (word, behind) = cut(rest);
+        let (word, following) = cut(rest);
         places[at] = word;
-        let Some(behind) = behind else {
+        let Some(following) = following else {
             return Some(Words {
                 places,
                 count: at + 1,
             });
         };
-        rest = behind;
+        rest = following;
     }
     None
 }
@@ -200,7 +200,8 @@ fn read_command<A: Allocator>(
     words: &[&[u8]],
 ) -> Result<Line<A>, Unread>
     ensures ok { IfOk result (λ said. said ≡ command_line station head (body_in name.now (map (λ w. w.now) words.now))) }
-    ensures err { IfErr result (λ unread. sequence_of (command_line {A = A} station head (body_in name.now (map (λ w. w.now) words.now))) ≡ Some unread.sequence) }
+    ensures err { IfErr result (λ unread.
+        sequence_of (command_line {A = A} station head (body_in name.now (map (λ w. w.now) words.now))) ≡ Some unread.sequence) }
 {
     match (head, body_in(alloc, name, words)) {
         (head, Ok(body)) => Ok(command_line(station, head, body)),

@@ -1,15 +1,15 @@
 //! The writer of a run, and the ledger of its failures.
 ghost use Rattle.std.specs.Prelude.{◌≡◌, ◌≤◌, ◌<◌, ◌+◌, ◌++◌, List, ℕ, length, take, IfOk, IfErr, OnOk, OnErr, Some};
-ghost use Rattle.console.specs.Failures.{failures_told};
+ghost use Rattle.console.specs.Failures.{failures_reported};
 
 use crate::running::RunFault;
 use prefix_tree::Steps;
 use std::io::{ErrorKind, Write};
 use std::sync::ledger::Ledger;
 
-/// A writer that can't be called but by [`Output::send`], which writes each failure into a ledger: an error
-/// of a write but an interruption, a write that takes nothing, an interruption where no more are borne, and
-/// an error of a flush.
+/// A writer that can be called only by [`Output::send`]. That counts each failure in a ledger. Failures are: an error of
+/// a write or a flush, and a write that takes nothing. Interruptions of a write count only after the first 4,294,967,295
+/// of one `send`.
 #[derive(Drop)]
 pub struct Output<'w, 'f, W: Write, G: Ledger> {
     writer: &'w mut W,
@@ -27,15 +27,16 @@ impl<'w, 'f, W: Write, G: Ledger> Output<'w, 'f, W, G> {
         Output { writer, failures }
     }
 
-    /// Writes some of the bytes: none where the call was interrupted, which is borne so many times.
+    /// Writes some of the bytes; none if the call was interrupted, which may happen `patience` times.
     fn write(&mut self, bytes: &[u8], patience: &mut u32) -> Result<usize, RunFault>
         ensures writer { self.new.writer.ghost_name ≡ self.old.writer.ghost_name }
         ensures failures { self.new.failures.ghost_name ≡ self.old.failures.ghost_name }
         ensures bound { IfOk result (λ n. n ≤ length bytes.now) }
-        ensures ok { IfOk result (λ n. (before : List ℕ) → W.contents self.old.writer.now ≡ Some before → W.contents self.new.writer.now ≡ Some (before ++ take n bytes.now)) }
+        ensures ok { IfOk result (λ n. (before : List ℕ) → W.contents self.old.writer.now ≡ Some before
+            → W.contents self.new.writer.now ≡ Some (before ++ take n bytes.now)) }
         ensures err { OnErr result ((before : List ℕ) → W.contents self.old.writer.now ≡ Some before → W.contents self.new.writer.now ≡ Some before) }
         ensures goes_on { IfOk result (λ n. patience.new < patience.old + n) }
-        ensures ledger { self.new.failures.now ≡ self.old.failures.now + failures_told result }
+        ensures ledger { self.new.failures.now ≡ self.old.failures.now + failures_reported result }
         ensures plain { IfErr result (λ e. e ≡ RunFault.Write) }
     {
         match self.writer.write(bytes) {
@@ -50,12 +51,12 @@ impl<'w, 'f, W: Write, G: Ledger> Output<'w, 'f, W, G> {
         Err(RunFault::Write)
     }
 
-    /// Has the writer pass on what it was given.
+    /// Flushes the writer.
     fn flush(&mut self) -> Result<(), RunFault>
         ensures writer { self.new.writer.ghost_name ≡ self.old.writer.ghost_name }
         ensures failures { self.new.failures.ghost_name ≡ self.old.failures.ghost_name }
         ensures keeps { (before : List ℕ) → W.contents self.old.writer.now ≡ Some before → W.contents self.new.writer.now ≡ Some before }
-        ensures ledger { self.new.failures.now ≡ self.old.failures.now + failures_told result }
+        ensures ledger { self.new.failures.now ≡ self.old.failures.now + failures_reported result }
         ensures plain { IfErr result (λ e. e ≡ RunFault.Write) }
     {
         match self.writer.flush() {
@@ -67,15 +68,16 @@ impl<'w, 'f, W: Write, G: Ledger> Output<'w, 'f, W, G> {
         }
     }
 
-    /// Writes all of the bytes and has them passed on, or writes a front of them.
+    /// Writes all of the bytes and flushes them, or writes a prefix of them.
     #[inline(always)]
     pub(crate) fn send(&mut self, bytes: &[u8]) -> Result<(), RunFault>
         ensures writer { self.new.writer.ghost_name ≡ self.old.writer.ghost_name }
         ensures failures { self.new.failures.ghost_name ≡ self.old.failures.ghost_name }
-        ensures ok { OnOk result ((before : List ℕ) → W.contents self.old.writer.now ≡ Some before → W.contents self.new.writer.now ≡ Some (before ++ bytes.now)) }
+        ensures ok { OnOk result ((before : List ℕ) → W.contents self.old.writer.now ≡ Some before →
+            W.contents self.new.writer.now ≡ Some (before ++ bytes.now)) }
         ensures err { OnErr result ((before : List ℕ) → W.contents self.old.writer.now ≡ Some before →
             (part : List ℕ) × (missing : List ℕ) × (bytes.now ≡ part ++ missing) × (W.contents self.new.writer.now ≡ Some (before ++ part))) }
-        ensures ledger { self.new.failures.now ≡ self.old.failures.now + failures_told result }
+        ensures ledger { self.new.failures.now ≡ self.old.failures.now + failures_reported result }
         ensures plain { IfErr result (λ e. e ≡ RunFault.Write) }
     {
         let mut patience = u32::MAX;

@@ -3,31 +3,31 @@ ghost use Rattle.std.specs.Prelude.{◌≡◌, ◌++◌, ◌≤◌, [], List, �
 ghost use Rattle.console.specs.declared.progress.TheConstants.{ANSWER, ROOM};
 ghost use Rattle.console.specs.Answer.{text, answer_room, HasNoLongPdu};
 ghost use Rattle.std.specs.Str.Lines.{strip_carriage_return};
-ghost use Rattle.console.specs.Inside.Hand.{Holds, HoldsWith, line_at_end, StandsFor, StandsIn};
+ghost use Rattle.console.specs.Inside.Current.{Holds, HoldsWith, line_at_end, KeepsLine, IsGivenFor};
 
 use crate::answer::{Answer, print_answer};
 use crate::line::LONGEST;
 use crate::running::Ran;
-use desk::Service;
+use desk::Outage;
 use std::alloc::{AllocError, Allocator};
 
-/// The most bytes of a line that are kept: a longest line and a carriage return.
+/// The most bytes of a line that are kept: a line of the greatest length, and a carriage return.
 pub(crate) const ROOM: usize = LONGEST + 1;
 
-/// The line at hand, of which some bytes have come: those that the end of a read cut off from its end.
+/// The current line: the bytes of it that have come so far. A read can end within a line.
 #[derive(Drop)]
-pub(crate) struct LineAtHand<A: Allocator> {
-    // Its bytes, while there are no more than that.
+pub(crate) struct CurrentLine<A: Allocator> {
+    // Its bytes, if there are at most ROOM.
     bytes: Vec<u8, A>,
-    // There are more.
+    // Whether there are more.
     long: bool,
     ghost room: { ROOM ≤ vec_capacity bytes },
 }
 
-impl<A: Allocator> LineAtHand<A> {
-    /// Takes memory for all of a line.
+impl<A: Allocator> CurrentLine<A> {
+    /// An empty line, with memory for a whole one.
     fn new(alloc: A) -> Result<Self, AllocError> {
-        Ok(LineAtHand {
+        Ok(CurrentLine {
             bytes: Vec::with_capacity(alloc, ROOM)?,
             long: false,
         })
@@ -48,7 +48,7 @@ impl<A: Allocator> LineAtHand<A> {
         self.bytes.extend_from_slice(run).unwrap();
     }
 
-    /// Adds the bytes that end the line, where some of it came before: else they are served where they lie.
+    /// Adds the last bytes of the line, if some of it came before. Else they are not copied: see `ended`.
     #[inline(always)]
     pub(crate) fn join(&mut self, run: &[u8])
         ensures { (line : List ℕ) → Holds self.old.bytes.items self.old.long line → HoldsWith self.new.bytes.items self.new.long line run.now }
@@ -58,7 +58,7 @@ impl<A: Allocator> LineAtHand<A> {
         }
     }
 
-    /// Whether no byte of it has come.
+    /// Whether no byte of the line has come.
     #[inline(always)]
     pub(crate) fn is_empty(&self) -> bool
         ensures { (line : List ℕ) → Holds self.now.bytes.items self.now.long line → MatchBool result (line ≡ []) (0 < length line) }
@@ -66,10 +66,10 @@ impl<A: Allocator> LineAtHand<A> {
         !self.long && self.bytes.is_empty()
     }
 
-    /// The line, which has come to a line feed or to the end of the text; `None` where it is too long.
+    /// The line, which a line feed (`ended`) or the end of the text ends; `None` if it is too long.
     #[inline(always)]
     pub(crate) fn line(&self, ended: bool) -> Option<&[u8]>
-        ensures { (line : List ℕ) → Holds self.now.bytes.items self.now.long line → StandsFor (option_map (λ l. l.now) result) (line_at_end ended line) }
+        ensures { (line : List ℕ) → Holds self.now.bytes.items self.now.long line → KeepsLine (option_map (λ l. l.now) result) (line_at_end ended line) }
     {
         if self.long {
             return None;
@@ -81,11 +81,12 @@ impl<A: Allocator> LineAtHand<A> {
         Some(line)
     }
 
-    /// The line that a line feed ends behind these bytes, which were joined to it; `None` where it is too
-    /// long.
+    /// The line that ends in these bytes and a line feed. `join` was called with these bytes before. `None` if it is
+    /// too long.
     #[inline(always)]
     pub(crate) fn ended<'a>(&'a self, run: &'a [u8]) -> Option<&'a [u8]>
-        ensures { (line : List ℕ) → HoldsWith self.now.bytes.items self.now.long line run.now → StandsFor (option_map (λ l. l.now) result) (strip_carriage_return (line ++ run.now)) }
+        ensures { (line : List ℕ) → HoldsWith self.now.bytes.items self.now.long line run.now
+            → KeepsLine (option_map (λ l. l.now) result) (strip_carriage_return (line ++ run.now)) }
     {
         if self.is_empty() {
             return Some(without_return(run));
@@ -93,7 +94,7 @@ impl<A: Allocator> LineAtHand<A> {
         self.line(true)
     }
 
-    /// The next line begins.
+    /// Begins the next line.
     pub(crate) fn clear(&mut self)
         ensures { Holds self.new.bytes.items self.new.long [] }
     {
@@ -113,7 +114,7 @@ fn without_return(line: &[u8]) -> &[u8]
     line
 }
 
-/// Room for an answer of one line: `SEQ kept NUMBER PDU` with a PDU of 2,048 bits takes no more than half.
+/// Room for an answer of one line. Even `SEQ kept NUMBER PDU` with a PDU of 2,048 bits takes at most half of it.
 const ANSWER: usize = 1024;
 
 /// The text of an answer.
@@ -124,28 +125,28 @@ pub(crate) struct AnswerText<A: Allocator> {
 }
 
 impl<A: Allocator> AnswerText<A> {
-    /// Takes memory for the text of any answer but a list.
+    /// No text yet, with memory for any answer but a list.
     fn new(alloc: A) -> Result<Self, AllocError> {
         Ok(AnswerText {
             bytes: Vec::with_capacity(alloc, ANSWER)?,
         })
     }
 
-    /// Makes the text of the answer to the line of this number, and returns that answer: `memory` in place of a list
-    /// for whose text there is no memory.
+    /// Makes the text of the answer to the line of this number, and returns that answer. When memory runs out for the
+    /// text of a list, the answer is `memory` instead.
     #[inline(always)]
     pub(crate) fn hold<B: Allocator + Drop>(&mut self, number: u64, answer: Answer<B>) -> Answer<B>
         requires { HasNoLongPdu answer }
-        ensures held { StandsIn number answer result }
+        ensures held { IsGivenFor number answer result }
         ensures text { self.new.bytes.items ≡ text result }
     {
         self.bytes.clear();
         if print_answer(&mut self.bytes, &answer).is_ok() {
             return answer;
         }
-        let untold = Answer::Untold(number, Service::Memory);
-        print_answer(&mut self.bytes, &untold).unwrap();
-        untold
+        let query_outage = Answer::QueryOutage(number, Outage::Memory);
+        print_answer(&mut self.bytes, &query_outage).unwrap();
+        query_outage
     }
 
     pub(crate) fn as_slice(&self) -> &[u8]
@@ -158,8 +159,8 @@ impl<A: Allocator> AnswerText<A> {
 /// How far a run has come.
 #[derive(Drop)]
 pub(crate) struct Progress<A: Allocator> {
-    pub(crate) hand: LineAtHand<A>,
-    /// Where the text of an answer is made.
+    pub(crate) current: CurrentLine<A>,
+    /// The text of the last answer.
     pub(crate) out: AnswerText<A>,
     /// How many lines were answered.
     pub(crate) lines: u64,
@@ -168,28 +169,29 @@ pub(crate) struct Progress<A: Allocator> {
 }
 
 impl<A: Allocator + Copy> Progress<A> {
-    /// Memory is taken here alone: for the line at hand, and for the text of any answer but a list.
+    /// Takes memory for the current line, and for the text of any answer but a list. A run takes no other memory for
+    /// them.
     pub(crate) fn new(alloc: A) -> Result<Self, AllocError> {
         Ok(Progress {
-            hand: LineAtHand::new(alloc)?,
+            current: CurrentLine::new(alloc)?,
             out: AnswerText::new(alloc)?,
             lines: 0,
             troubled: false,
         })
     }
 
-    /// A run begins: nothing has come.
+    /// Begins a run: nothing has come.
     pub(crate) fn begin(&mut self)
-        ensures hand { Holds self.new.hand.bytes.items self.new.hand.long [] }
+        ensures current { Holds self.new.current.bytes.items self.new.current.long [] }
         ensures lines { self.new.lines ≡ 0 }
         ensures troubled { self.new.troubled ≡ false }
     {
-        self.hand.clear();
+        self.current.clear();
         self.lines = 0;
         self.troubled = false;
     }
 
-    /// What a run that came to the end of its text there has seen.
+    /// The result of a run that ends here.
     pub(crate) fn ran(&self) -> Ran
         ensures lines { result.lines ≡ self.now.lines }
         ensures troubled { result.troubled ≡ self.now.troubled }

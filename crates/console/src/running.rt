@@ -1,6 +1,6 @@
 //! Reading a text in pieces, to its end.
 ghost use Rattle.std.specs.Prelude.{◌≡◌, ◌⊎◌, IsErrOf, ◌≤◌, ◌<◌, ◌+◌};
-ghost use Rattle.console.specs.Failures.{failures_told};
+ghost use Rattle.console.specs.Failures.{failures_reported};
 ghost use Rattle.console.specs.Runs.{IsRun};
 
 use crate::input::Input;
@@ -16,52 +16,51 @@ use std::marker::Brand;
 use std::sync::ledger::{Blank, Ledger};
 use thiserror::Error;
 
-/// What a run that came to the end of its text has seen.
+/// The result of a run that came to the end of its text.
 #[derive(Clone, Copy, Debug, PartialEq, Eq)]
 pub struct Ran {
     /// How many lines there were.
     pub lines: u64,
-    /// Whether an answer told of a bad line, or was a word of the service.
+    /// Whether an answer reported a bad line, or was an outage word.
     pub troubled: bool,
 }
 
-/// Why a run ended before the end of its text. The lines that were answered stay done, and the line
-/// at hand may be done.
+/// Why a run ended before the end of its text. The lines that were answered stay done, and the current line may be done.
 #[derive(Clone, Copy, Debug, PartialEq, Eq, Error)]
 pub enum RunFault {
-    /// The reader failed, or gave no end within the calls that it had.
+    /// The reader failed, or did not come to an end within `turns` calls.
     #[error("the lines can't be read")]
     Read,
     /// The writer failed.
     #[error("the answers can't be written")]
     Write,
-    /// There is no memory for a line and its answer: reported before the first call of the reader, and never later.
+    /// Memory ran out for a line and its answer. This is reported before the first call of the reader, and never later.
     #[error("no memory")]
     NoMemory,
 }
 
-/// What a call of the reader gave.
+/// The result of a call of the reader.
 #[derive(Clone, Copy, Debug, PartialEq, Eq)]
 pub enum Piece {
     /// The end of the text.
     End,
-    /// So many bytes: none where the call was interrupted.
+    /// So many bytes; none if the call was interrupted.
     Bytes(usize),
 }
 
-/// What a run is given beside its reader, its writer and its desk.
+/// What a run needs beside its reader, its writer and its desk.
 #[derive(Clone, Copy)]
 pub struct Terms<A: Allocator + Copy> {
-    /// Where the line at hand, commands, replies and answers lie.
+    /// The allocator of the current line, commands, replies and answers.
     pub alloc: A,
-    /// Whose lines are read.
+    /// The station whose lines are read.
     pub station: Station,
     /// The most calls of the reader.
     pub turns: u32,
 }
 
-/// As [`run`]; each call of the reader is a step, and each error of it but an interruption a fault. A write
-/// or flush that failed is a failure: there is one where this answers [`RunFault::Write`], and else none.
+/// As [`run`], with counts in ledgers. Each call of the reader is a step, and each error of it but an interruption is a
+/// fault. Each write or flush that failed is a failure: there is one if the result is [`RunFault::Write`], and else none.
 pub fn run_counted<
     L: Ledger,
     F: Ledger,
@@ -76,12 +75,15 @@ pub fn run_counted<
     output: &mut Output<W, G>,
     desk: &mut D,
 ) -> Result<Ran, RunFault>
-    ensures answers { IsRun A D.rules (record { station = terms.station; world = D.world desk.old; unread = R.remaining input.old.reader.now; written = W.contents output.old.writer.now })
+    ensures answers { IsRun A D.rules
+        (record { station = terms.station; world = D.world desk.old; unread = R.remaining input.old.reader.now; written = W.contents output.old.writer.now })
         (record { result = result; world = D.world desk.new; written = W.contents output.new.writer.now }) }
+    // How often the reader is called, and what each fault means.
     ensures calls { input.new.steps.now ≤ input.old.steps.now + terms.turns }
     ensures read { IsErrOf result RunFault.Read → (input.new.steps.now ≡ input.old.steps.now + terms.turns) ⊎ (input.old.faults.now < input.new.faults.now) }
-    ensures write { output.new.failures.now ≡ output.old.failures.now + failures_told result }
+    ensures write { output.new.failures.now ≡ output.old.failures.now + failures_reported result }
     ensures memory { IsErrOf result RunFault.NoMemory → (input.new.steps.now ≡ input.old.steps.now) × (desk.new ≡ desk.old) }
+    // The reader, the writer and the ledgers are the same ones.
     ensures reader { input.new.reader.ghost_name ≡ input.old.reader.ghost_name }
     ensures steps { input.new.steps.ghost_name ≡ input.old.steps.ghost_name }
     ensures faults { input.new.faults.ghost_name ≡ input.old.faults.ghost_name }
@@ -100,7 +102,7 @@ pub fn run_counted<
     run.take_all(input)
 }
 
-/// What the ledgers of a run are made of.
+/// The parts from which the ledgers of a run are made.
 struct Blanks {
     steps: Blank,
     faults: Blank,
@@ -131,7 +133,8 @@ fn run_in<
     requires failures_name { blanks.failures.name ≡ G.name }
     requires failures_parts { blanks.failures.parts ≡ G.parts }
     requires failures_some { 0 < blanks.failures.parts }
-    ensures answers { IsRun A D.rules (record { station = terms.station; world = D.world desk.old; unread = R.remaining reader.old; written = W.contents writer.old })
+    ensures answers { IsRun A D.rules
+        (record { station = terms.station; world = D.world desk.old; unread = R.remaining reader.old; written = W.contents writer.old })
         (record { result = result; world = D.world desk.new; written = W.contents writer.new }) }
 {
     let Blanks {
@@ -147,8 +150,8 @@ fn run_in<
     run_counted(terms, &mut input, &mut output, desk)
 }
 
-/// Answers all lines of the reader, or the first of them where it ends early, and writes nothing else. That
-/// the reader is called at most `turns` times is a clause of [`run_counted`], by which it does so.
+/// Answers all lines of the reader, or the first of them if it ends early, and writes nothing else. It does so by
+/// [`run_counted`], a clause of which states that the reader is called at most `turns` times.
 pub fn run<A: Allocator + Copy + Drop, R: Read, W: Write, D: Desk<A>>(
     alloc: A,
     reader: &mut R,
@@ -157,7 +160,8 @@ pub fn run<A: Allocator + Copy + Drop, R: Read, W: Write, D: Desk<A>>(
     turns: u32,
     desk: &mut D,
 ) -> Result<Ran, RunFault>
-    ensures answers { IsRun A D.rules (record { station = station; world = D.world desk.old; unread = R.remaining reader.old; written = W.contents writer.old })
+    ensures answers { IsRun A D.rules
+        (record { station = station; world = D.world desk.old; unread = R.remaining reader.old; written = W.contents writer.old })
         (record { result = result; world = D.world desk.new; written = W.contents writer.new }) }
 {
     let blanks = Blanks {

@@ -1,9 +1,10 @@
 //! Answering lines as their bytes come.
-ghost use Rattle.std.specs.Prelude.{◌≡◌, ◌⊎◌, IsErrOf, ◌≤◌, ◌<◌, ◌+◌, ◌-◌, ◌^◌, ◌++◌, ◌∷◌, [], List, ℕ, length, take, drop, slice_get, MatchOption, option_map, IfErr, OnOk, OnErr, Some};
+ghost use Rattle.std.specs.Prelude.{◌≡◌, ◌⊎◌, ◌≤◌, ◌<◌, ◌+◌, ◌-◌, ◌^◌, ◌++◌, ◌∷◌, [], List, ℕ, length, take, drop, slice_get};
+ghost use Rattle.std.specs.Prelude.{MatchOption, option_map, IfErr, IsErrOf, OnOk, OnErr, Some};
 ghost use Rattle.console.specs.Answer.{HasNoLongPdu};
-ghost use Rattle.console.specs.Inside.Feed.{Sends, SendsFront, GoesOn, StopsWithin, EndsSo, IsSameRun, stand_of, start_at, outcome_at};
-ghost use Rattle.console.specs.Failures.{failures_told};
-ghost use Rattle.console.specs.Inside.Hand.{HasNoEnd, StandsFor};
+ghost use Rattle.console.specs.Inside.Feed.{Sends, SendsPrefix, GoesOn, StopsWithin, EndsSo, IsSameRun, reached_by, start_at, outcome_at};
+ghost use Rattle.console.specs.Failures.{failures_reported};
+ghost use Rattle.console.specs.Inside.Current.{HasNoEnd, KeepsLine};
 ghost use Rattle.console.specs.Runs.{IsRun};
 ghost use Rattle.console.specs.Dialogue.{Answers};
 ghost use Rattle.console.specs.declared.answer.Answer.{Answer};
@@ -14,30 +15,31 @@ use crate::line::{Line, LineFault, read_line};
 use crate::output::Output;
 use crate::progress::Progress;
 use crate::running::{Piece, Ran, RunFault, Terms};
-use desk::{Desk, Service};
+use desk::{Desk, Outage};
 use memchr::memchr;
 use std::alloc::Allocator;
 use std::io::{Read, Write};
 use std::sync::ledger::Ledger;
 
-/// The most bytes that one call of the reader gives.
+/// The most bytes of one call of the reader.
 const PIECE: usize = 65536;
 
-/// The line of this number; `None` where it is too long.
+/// The line of this number; `None` if it is too long.
 #[derive(Clone, Copy)]
 struct Asked<'a> {
     number: u64,
     line: Option<&'a [u8]>,
 }
 
-/// Does what a station's line says.
+/// Does what a station's line asks, and returns the answer.
 #[inline(always)]
 fn answer_line<A: Allocator + Copy, D: Desk<A>>(
     terms: &Terms<A>,
     asked: Asked,
     desk: &mut D,
 ) -> Answer<A>
-    ensures answers { (whole : List ℕ) → StandsFor (option_map (λ l. l.now) asked.entry.line) whole → Answers D.rules terms.now.station asked.entry.number (D.world desk.old) whole result (D.world desk.new) }
+    ensures answers { (whole : List ℕ) → KeepsLine (option_map (λ l. l.now) asked.entry.line) whole
+        → Answers D.rules terms.now.station asked.entry.number (D.world desk.old) whole result (D.world desk.new) }
     ensures short { HasNoLongPdu result }
 {
     let Some(line) = asked.line else {
@@ -48,17 +50,17 @@ fn answer_line<A: Allocator + Copy, D: Desk<A>>(
         Ok(Line::Bad(fault)) => Answer::Bad(asked.number, fault),
         Ok(Line::Apply(command)) => match desk.apply(terms.alloc, &command) {
             Ok(reply) => Answer::Replied(command.sequence, reply),
-            Err(word) => Answer::Unreplied(command.sequence, word),
+            Err(word) => Answer::CommandOutage(command.sequence, word),
         },
         Ok(Line::Ask(query)) => match desk.query(terms.alloc, &query) {
-            Ok(told) => Answer::Told(told),
-            Err(word) => Answer::Untold(asked.number, word),
+            Ok(query_answer) => Answer::Queried(query_answer),
+            Err(word) => Answer::QueryOutage(asked.number, word),
         },
-        Err(unread) => Answer::Unreplied(unread.sequence, Service::Memory),
+        Err(unread) => Answer::CommandOutage(unread.sequence, Outage::Memory),
     }
 }
 
-/// Writes the answer to the line at hand, and counts the line.
+/// Writes the answer to the current line, and counts the line.
 #[inline(always)]
 fn send_answer<A: Allocator + Copy + Drop, W: Write, G: Ledger>(
     progress: &mut Progress<A>,
@@ -68,23 +70,23 @@ fn send_answer<A: Allocator + Copy + Drop, W: Write, G: Ledger>(
     requires room { progress.old.lines + 1 < 2 ^ 64 }
     requires short { HasNoLongPdu answer }
     ensures ok { OnOk result (Sends progress.old (W.contents output.old.writer.now) answer progress.new (W.contents output.new.writer.now)) }
-    ensures err { OnErr result (SendsFront progress.old.lines (W.contents output.old.writer.now) answer (W.contents output.new.writer.now)) }
+    ensures err { OnErr result (SendsPrefix progress.old.lines (W.contents output.old.writer.now) answer (W.contents output.new.writer.now)) }
     ensures lines { progress.new.lines ≤ progress.old.lines + 1 }
     ensures stops { IfErr result (λ e. e ≡ RunFault.Write) }
     ensures writer { output.new.writer.ghost_name ≡ output.old.writer.ghost_name }
     ensures failures { output.new.failures.ghost_name ≡ output.old.failures.ghost_name }
-    ensures ledger { output.new.failures.now ≡ output.old.failures.now + failures_told result }
+    ensures ledger { output.new.failures.now ≡ output.old.failures.now + failures_reported result }
 {
     let number = progress.lines + 1;
     let held = progress.out.hold(number, answer);
     output.send(progress.out.as_slice())?;
     progress.lines = number;
     progress.troubled = progress.troubled | held.is_trouble();
-    progress.hand.clear();
+    progress.current.clear();
     Ok(())
 }
 
-/// Where the next line feed stands, from `at` on.
+/// The place of the next line feed, from `at` on.
 fn next_end(piece: &[u8], at: usize) -> Option<usize>
     requires { at ≤ length piece.now }
     ensures { MatchOption result (HasNoEnd (drop at piece.now))
@@ -94,7 +96,7 @@ fn next_end(piece: &[u8], at: usize) -> Option<usize>
     Some(at + length)
 }
 
-/// A run: what it is given, how far it has come, where its answers go, and the desk that it asks.
+/// A run: its terms, how far it has come, the writer of its answers, and the desk that it asks.
 #[derive(Drop)]
 pub(crate) struct Run<
     't,
@@ -126,23 +128,24 @@ impl<'t, 'p, 'o, 'd, 'w, 'f, A: Allocator + Copy + Drop, W: Write, G: Ledger, D:
     G,
     D,
 > {
-    /// Takes bytes and the line feed behind them, and answers the line that it ends.
+    /// Takes bytes and the line feed after them, and answers the line that they end.
     #[inline(always)]
     fn take_line(&mut self, run: &[u8]) -> Result<(), RunFault>
         requires room { self.old.progress.now.lines + 1 < 2 ^ 64 }
         requires plain { HasNoEnd run.now }
-        ensures ok { OnOk result (GoesOn D.rules (stand_of D.world W.contents self.old) (run.now ++ 10 ∷ []) (stand_of D.world W.contents self.new)) }
-        ensures err { IfErr result (λ e. StopsWithin D.rules (stand_of D.world W.contents self.old) (run.now ++ 10 ∷ []) e (stand_of D.world W.contents self.new)) }
+        ensures ok { OnOk result (GoesOn D.rules (reached_by D.world W.contents self.old) (run.now ++ 10 ∷ []) (reached_by D.world W.contents self.new)) }
+        ensures err { IfErr result (λ e. StopsWithin D.rules (reached_by D.world W.contents self.old) (run.now ++ 10 ∷ []) e
+            (reached_by D.world W.contents self.new)) }
         ensures lines { self.new.progress.now.lines ≤ self.old.progress.now.lines + 1 }
         ensures stops { IfErr result (λ e. e ≡ RunFault.Write) }
         ensures same { IsSameRun self.old self.new }
-        ensures ledger { self.new.output.now.failures.now ≡ self.old.output.now.failures.now + failures_told result }
+        ensures ledger { self.new.output.now.failures.now ≡ self.old.output.now.failures.now + failures_reported result }
     {
         let progress = &mut *self.progress;
-        progress.hand.join(run);
+        progress.current.join(run);
         let asked = Asked {
             number: progress.lines + 1,
-            line: progress.hand.ended(run),
+            line: progress.current.ended(run),
         };
         let answer = answer_line(self.terms, asked, self.desk);
         send_answer(progress, answer, self.output)
@@ -151,53 +154,54 @@ impl<'t, 'p, 'o, 'd, 'w, 'f, A: Allocator + Copy + Drop, W: Write, G: Ledger, D:
     /// Takes a piece of the text, and answers each line that it ends.
     fn take_piece(&mut self, piece: &[u8]) -> Result<(), RunFault>
         requires { self.old.progress.now.lines + length piece.now < 2 ^ 64 }
-        ensures ok { OnOk result (GoesOn D.rules (stand_of D.world W.contents self.old) piece.now (stand_of D.world W.contents self.new)) }
-        ensures err { IfErr result (λ e. StopsWithin D.rules (stand_of D.world W.contents self.old) piece.now e (stand_of D.world W.contents self.new)) }
+        ensures ok { OnOk result (GoesOn D.rules (reached_by D.world W.contents self.old) piece.now (reached_by D.world W.contents self.new)) }
+        ensures err { IfErr result (λ e. StopsWithin D.rules (reached_by D.world W.contents self.old) piece.now e (reached_by D.world W.contents self.new)) }
         ensures lines { self.new.progress.now.lines ≤ self.old.progress.now.lines + length piece.now }
         ensures stops { IfErr result (λ e. e ≡ RunFault.Write) }
         ensures same { IsSameRun self.old self.new }
-        ensures ledger { self.new.output.now.failures.now ≡ self.old.output.now.failures.now + failures_told result }
+        ensures ledger { self.new.output.now.failures.now ≡ self.old.output.now.failures.now + failures_reported result }
     {
         let mut at = 0;
         while let Some(end) = next_end(piece, at) {
             self.take_line(&piece[at..end])?;
             at = end + 1;
         }
-        self.progress.hand.add(&piece[at..]);
+        self.progress.current.add(&piece[at..]);
         Ok(())
     }
 
-    /// Answers the last line, where the text doesn't end in a line feed.
+    /// Answers the last line, if the text doesn't end in a line feed.
     fn finish(&mut self) -> Result<Ran, RunFault>
         requires { self.old.progress.now.lines + 1 < 2 ^ 64 }
-        ensures ends { EndsSo D.rules (stand_of D.world W.contents self.old) (outcome_at (stand_of D.world W.contents self.new) result) }
+        ensures ends { EndsSo D.rules (reached_by D.world W.contents self.old) (outcome_at (reached_by D.world W.contents self.new) result) }
         ensures stops { IfErr result (λ e. e ≡ RunFault.Write) }
         ensures same { IsSameRun self.old self.new }
-        ensures ledger { self.new.output.now.failures.now ≡ self.old.output.now.failures.now + failures_told result }
+        ensures ledger { self.new.output.now.failures.now ≡ self.old.output.now.failures.now + failures_reported result }
     {
         let progress = &mut *self.progress;
-        if progress.hand.is_empty() {
+        if progress.current.is_empty() {
             return Ok(progress.ran());
         }
         let asked = Asked {
             number: progress.lines + 1,
-            line: progress.hand.line(false),
+            line: progress.current.line(false),
         };
         let answer = answer_line(self.terms, asked, self.desk);
         send_answer(progress, answer, self.output)?;
         Ok(progress.ran())
     }
 
-    /// Begins the run, takes all that the reader gives, in as many calls as the run has, and answers each
-    /// line of it.
+    /// Begins the run, reads to the end of the reader, in at most `turns` calls, and answers each line.
     pub(crate) fn take_all<R: Read, L: Ledger, F: Ledger>(
         &mut self,
         input: &mut Input<R, L, F>,
     ) -> Result<Ran, RunFault>
-        ensures answers { IsRun A D.rules (start_at (stand_of D.world W.contents self.old) (R.remaining input.old.reader.now)) (outcome_at (stand_of D.world W.contents self.new) result) }
+        ensures answers { IsRun A D.rules (start_at (reached_by D.world W.contents self.old) (R.remaining input.old.reader.now))
+            (outcome_at (reached_by D.world W.contents self.new) result) }
         ensures calls { input.new.steps.now ≤ input.old.steps.now + self.old.terms.now.turns }
-        ensures read { IsErrOf result RunFault.Read → (input.new.steps.now ≡ input.old.steps.now + self.old.terms.now.turns) ⊎ (input.old.faults.now < input.new.faults.now) }
-        ensures ledger { self.new.output.now.failures.now ≡ self.old.output.now.failures.now + failures_told result }
+        ensures read { IsErrOf result RunFault.Read
+            → (input.new.steps.now ≡ input.old.steps.now + self.old.terms.now.turns) ⊎ (input.old.faults.now < input.new.faults.now) }
+        ensures ledger { self.new.output.now.failures.now ≡ self.old.output.now.failures.now + failures_reported result }
         ensures memory { IsErrOf result RunFault.NoMemory → ⊥ }
         ensures reader { input.new.reader.ghost_name ≡ input.old.reader.ghost_name }
         ensures steps { input.new.steps.ghost_name ≡ input.old.steps.ghost_name }

@@ -1,6 +1,6 @@
 //! The parts of an answer's text.
 ghost use Rattle.std.specs.Prelude.{◌≡◌, ◌≤◌, ◌<◌, ◌+◌, ◌++◌, OnOk, OnErr, length, vec_len, vec_capacity};
-ghost use Rattle.identity.specs.NumberText.{IsFrontOf};
+ghost use Rattle.identity.specs.NumberText.{IsPrefixOf};
 ghost use Rattle.console.specs.Answer.{pdu_text};
 ghost use Rattle.centre_core.specs.Ranges.{IsShort};
 ghost use Rattle.console.specs.Inside.Parts.{part_text, parts_text, part_room, parts_room, pdu_room};
@@ -44,7 +44,7 @@ fn put_part<A: Allocator, B: Allocator>(
     ensures capacity { vec_capacity out.old ≤ vec_capacity out.new }
     ensures fits { length (part_text part.now) ≤ part_room part.now }
 {
-    // What is read of an identity, a prefix or bits tells how long its text may be.
+    // A call of `number` or `len` shows the prover the range, which bounds the length of the text.
     match part {
         Part::Text(text) => out.extend_from_slice(text.as_bytes()),
         Part::Number(number) => print_number(out, *number),
@@ -67,14 +67,14 @@ fn put_part<A: Allocator, B: Allocator>(
     }
 }
 
-/// Adds the parts of a text, or some of them.
+/// Adds the parts of a text. When memory runs out, a prefix of the text was added.
 #[inline(always)]
 pub(crate) fn put_parts<A: Allocator, B: Allocator>(
     out: &mut Vec<u8, A>,
     parts: &[Part<'_, B>],
 ) -> Result<(), AllocError>
     ensures ok { OnOk result (out.new.items ≡ out.old.items ++ parts_text parts.now) }
-    ensures err { OnErr result (IsFrontOf out.old.items out.new.items) }
+    ensures err { OnErr result (IsPrefixOf out.old.items out.new.items) }
     ensures full { OnErr result (vec_capacity out.old < vec_len out.old + length (parts_text parts.now)) }
     ensures capacity { vec_capacity out.old ≤ vec_capacity out.new }
     ensures line { OnErr result (vec_capacity out.old < vec_len out.old + parts_room parts.now) }

@@ -6,7 +6,7 @@ use registration::Station;
 use std::alloc::{Allocator, Global};
 use std::test::Fail;
 
-/// What a desk answers to these lines, where the run's own memory lies under `own`; nothing where the run failed.
+/// The answers of a desk to these lines, in a run with memory from `own`; nothing if the run failed.
 pub fn answers<B: Allocator + Copy + Drop, D: Desk<B>>(
     alloc: Global,
     own: B,

@@ -1,8 +1,8 @@
 //! Single calls: a line is read, an answer is printed.
 
 use crate::answered::command;
-use centre_core::{Body, Command, Query, Told};
-use console::{Answer, Line, LineFault, Service, laws, parse_line, print_answer};
+use centre_core::{Body, Command, Query, QueryAnswer};
+use console::{Answer, Line, LineFault, Outage, laws, parse_line, print_answer};
 use registration::Station;
 use std::alloc::Global;
 use std::test::Fail;
@@ -35,18 +35,18 @@ fn printed(alloc: Global, answer: &Answer<Global>) -> Result<(Vec<u8>, bool), Fa
 
 #[test]
 fn answers_are_printed(rt: HostRuntime) -> Result<(), Fail> {
-    let (text, trouble) = printed(rt.alloc(), &Answer::Told(Told::Total(7)))?;
+    let (text, trouble) = printed(rt.alloc(), &Answer::Queried(QueryAnswer::Total(7)))?;
     assert!(rt; text.as_slice() == b"count 7\n".as_slice() && !trouble);
-    let (text, trouble) = printed(rt.alloc(), &Answer::Untold(9, Service::Memory))?;
+    let (text, trouble) = printed(rt.alloc(), &Answer::QueryOutage(9, Outage::Memory))?;
     assert!(rt; text.as_slice() == b"line 9 no memory\n".as_slice() && trouble);
     Ok(())
 }
 
 #[test]
 fn laws_are_stated() {
-    laws::cut_off_is_front::<Global>();
+    laws::cut_off_is_prefix::<Global>();
     laws::one_text::<Global>();
-    laws::broken_behind_device::<Global>();
+    laws::broken_after_device::<Global>();
     laws::register_at_device::<Global>();
     laws::stored_as_register::<Global>();
     laws::only_what_is_spelled::<Global>();

@@ -1,4 +1,4 @@
-//! Commands by themselves: what can be one, and copies of one.
+//! Commands by themselves: which values are in range, and copies.
 
 use crate::answered::command;
 use centre_core::{Body, Command, Sequence};

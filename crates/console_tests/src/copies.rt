@@ -1,4 +1,4 @@
-//! A copy of a register answers as the register did, whatever comes to the register then.
+//! A copy of a register answers as the register did when it was copied, whatever commands the register gets then.
 
 use crate::answered::are_answered;
 use crate::limits::usual;
@@ -15,7 +15,7 @@ const BEFORE: (&str, &str) = (
     "1 ok 1 -\n2 ok 2 8:56\n3 ok 3 62:B3704C0980001F40\n4 ok 4 -\n",
 );
 
-/// What the register is told once it was copied: nothing of the above is left.
+/// The commands to the register after it was copied, which undo the commands above, and their answers.
 const AFTER: (&str, &str) = (
     "5 3700 expire\n6 130 mm 234-14-2001 7 7:74\n7 140 mm 234-14-2001 0 5:10\n8 150 unrule 234-14-0/24\n",
     "5 ok 5 -\n6 ok 6 7:B0\n7 ok 7 -\n8 ok 8 -\n",
@@ -35,19 +35,19 @@ const OF_THE_REGISTER: &str =
 
 type Desk = Register<Global>;
 
-fn is_told(alloc: Global, desk: &mut Desk, (lines, want): (&str, &str)) -> bool {
+fn has_answers(alloc: Global, desk: &mut Desk, (lines, want): (&str, &str)) -> bool {
     are_answered(alloc, alloc, desk, lines.as_bytes(), want.as_bytes())
 }
 
-/// Whether the copy answers as the register did before it was told more.
+/// Whether the copy answers as the register did before it got more commands.
 fn are_apart(alloc: Global, desk: &mut Desk, copy: &mut Desk) -> bool {
-    is_told(alloc, desk, AFTER)
-        && is_told(alloc, copy, (QUESTIONS, OF_THE_COPY))
-        && is_told(alloc, desk, (QUESTIONS, OF_THE_REGISTER))
+    has_answers(alloc, desk, AFTER)
+        && has_answers(alloc, copy, (QUESTIONS, OF_THE_COPY))
+        && has_answers(alloc, desk, (QUESTIONS, OF_THE_REGISTER))
 }
 
 fn is_copy_apart(alloc: Global, desk: &mut Desk) -> Result<bool, Fail> {
-    let before = is_told(alloc, desk, BEFORE);
+    let before = has_answers(alloc, desk, BEFORE);
     let mut copy = desk.try_copy()?;
     Ok(before && are_apart(alloc, desk, &mut copy))
 }

@@ -1,5 +1,5 @@
-//! Runs over lines of any length, over readers that give a byte at a time or fail and writers that take one or fail; and that
-//! a line is answered before the next one is read.
+//! Runs over lines of any length. Readers give a byte at a time, or fail; writers take a byte at a time, or fail. A line is
+//! answered before the next one is read.
 
 use crate::limits::usual;
 use centre_core::Register;
@@ -11,7 +11,7 @@ use std::io;
 use std::io::{ErrorKind, Read, Write};
 use std::test::Fail;
 
-/// How a run ends over a new register, with so many turns, and how many commands it then holds.
+/// How a run over a new register ends, with so many turns, and how many commands were accepted.
 fn over<R: Read, W: Write>(
     alloc: Global,
     turns: u32,
@@ -24,7 +24,7 @@ fn over<R: Read, W: Write>(
     Ok((ran, desk.count()))
 }
 
-/// Whether a line of so many bytes, with this behind it, is answered so.
+/// Whether a line of so many bytes, with this text after it, gets these answers.
 fn is_answered(alloc: Global, length: usize, end: &str, answer: &str) -> Result<bool, Fail> {
     let mut lines = Vec::new(alloc);
     lines.resize(length, b'#')?;
@@ -53,7 +53,7 @@ fn lines_have_at_most_1024_bytes(rt: HostRuntime) -> Result<(), Fail> {
     Ok(())
 }
 
-/// Gives one byte a call, and is interrupted at each other call where it is to be.
+/// A reader that gives one byte a call. It may be interrupted at every second call.
 #[derive(Drop)]
 struct Slow<'a> {
     rest: &'a [u8],
@@ -80,8 +80,8 @@ impl<'a> Read for Slow<'a> {
     }
 }
 
-/// Takes what is due of a text, one byte a call, and fails at any other byte; it is interrupted at each other call where it is
-/// to be.
+/// A writer that takes an expected text, one byte a call, and fails at any other byte. It may be interrupted at every second
+/// call.
 #[derive(Drop)]
 struct Sparing<'a> {
     due: &'a [u8],
@@ -159,7 +159,7 @@ const FOUR_LINES: Result<Ran, RunFault> = Ok(Ran {
     troubled: true,
 });
 
-/// How a run ends whose writer takes so many bytes of the answers, one a call; none where it hasn't taken them all.
+/// How a run ends whose writer takes so many bytes of the answers, one a call; none if it hasn't taken them all.
 fn over_a_sparing_writer(
     alloc: Global,
     room: usize,
@@ -193,7 +193,8 @@ fn a_writer_takes_a_byte_a_call(rt: HostRuntime) -> Result<(), Fail> {
     Ok(())
 }
 
-/// Gives a line a call, once the one before it is answered, and then the end; it tells whether it was asked after that.
+/// A reader that gives one line a call, if the line before is answered, and then the end. It knows whether it was called
+/// after that.
 #[derive(Drop)]
 struct Asking<'a> {
     calls: usize,
@@ -220,7 +221,7 @@ impl<'a> Read for Asking<'a> {
     }
 }
 
-/// Counts the lines that it was told to pass on.
+/// A writer that counts the lines that were flushed.
 #[derive(Drop)]
 struct Counting<'a> {
     lines: usize,
@@ -243,7 +244,7 @@ impl<'a> Write for Counting<'a> {
     }
 }
 
-/// How a run over five lines ends, and whether its reader was asked after its end.
+/// How a run over five lines ends, and whether its reader was called after its end.
 fn over_five_lines(alloc: Global) -> Result<(Result<Ran, RunFault>, bool), Fail> {
     let answered = Cell::new(0);
     let asked_late = Cell::new(false);
@@ -272,7 +273,7 @@ fn a_line_is_answered_before_the_next(rt: HostRuntime) -> Result<(), Fail> {
     Ok(())
 }
 
-/// Gives these pieces, and then fails.
+/// A reader that gives these pieces, and then fails.
 #[derive(Drop)]
 struct Broken<'a> {
     parts: &'a [&'a str],
@@ -292,7 +293,7 @@ impl<'a> Read for Broken<'a> {
     }
 }
 
-/// Whether what was read is answered, and kept.
+/// Whether the lines that were read are answered, and their commands accepted.
 fn fails_when_broken(alloc: Global) -> Result<bool, Fail> {
     let mut reader = Broken {
         parts: &[

@@ -1,12 +1,12 @@
-//! Lines served at a desk that answers every outage word of a store: a register whose disk has room for so many commands at
-//! its last epoch, and fails at one of them.
+//! Lines served at a desk that answers every outage word of a store. Its register is on a disk that has room for so many
+//! commands at its last epoch, and that fails at one of them.
 ghost use Rattle.std.specs.Prelude.{true};
 ghost use Rattle.desk.specs.OfStore.{Stored, of_store};
 
 use crate::answered::are_answered;
 use crate::limits::usual;
-use centre_core::{Command, Query, Register, Reply, Sequence, Told};
-use console::{Answer, Desk, Service, print_answer};
+use centre_core::{Command, Query, QueryAnswer, Register, Reply, Sequence};
+use console::{Answer, Desk, Outage, print_answer};
 use std::alloc::{Allocator, Global};
 use std::test::Fail;
 
@@ -28,17 +28,17 @@ impl<A: Allocator + Copy, B: Allocator + Clone> Desk<A> for FailingDesk<B> {
 
     ghost rules = { of_store };
 
-    fn apply(&mut self, alloc: A, command: &Command<A>) -> Result<Reply<A>, Service> {
+    fn apply(&mut self, alloc: A, command: &Command<A>) -> Result<Reply<A>, Outage> {
         if self.broken {
-            return Err(Service::Broken);
+            return Err(Outage::Broken);
         }
         if self.room == 0 {
-            return Err(Service::Epochs);
+            return Err(Outage::Epochs);
         }
         if self.sound == 0 {
             self.broken = true;
             self.failures = self.failures.saturating_add(1);
-            return Err(Service::Device);
+            return Err(Outage::Device);
         }
         match Desk::apply(&mut self.register, alloc, command) {
             Ok(reply) => {
@@ -46,22 +46,22 @@ impl<A: Allocator + Copy, B: Allocator + Clone> Desk<A> for FailingDesk<B> {
                 self.sound -= 1;
                 Ok(reply)
             }
-            Err(_) => Err(Service::Memory),
+            Err(_) => Err(Outage::Memory),
         }
     }
 
-    fn query(&mut self, alloc: A, query: &Query) -> Result<Told<A>, Service> {
+    fn query(&mut self, alloc: A, query: &Query) -> Result<QueryAnswer<A>, Outage> {
         if self.broken {
-            return Err(Service::Broken);
+            return Err(Outage::Broken);
         }
         match self.register.query(alloc, query) {
-            Ok(told) => Ok(told),
-            Err(_) => Err(Service::Memory),
+            Ok(reported) => Ok(reported),
+            Err(_) => Err(Outage::Memory),
         }
     }
 }
 
-/// Whether these are the answers at a new desk with so much room and so many sound commands.
+/// Whether these are the answers of a new desk with so much room and so many sound commands.
 fn is_answered(
     alloc: Global,
     room: u32,
@@ -107,23 +107,23 @@ fn all_are_answered(alloc: Global) -> Result<bool, Fail> {
 }
 
 #[test]
-fn behind_a_failure_the_desk_is_broken(rt: HostRuntime) -> Result<(), Fail> {
+fn after_a_failure_the_desk_is_broken(rt: HostRuntime) -> Result<(), Fail> {
     assert!(rt; all_are_answered(rt.alloc())?);
     Ok(())
 }
 
-const WORDS: [(Service, &str); 5] = [
-    (Service::Memory, "7 no memory\n"),
-    (Service::Device, "7 no device\n"),
-    (Service::Broken, "7 no broken\n"),
-    (Service::Epochs, "7 no epochs\n"),
-    (Service::Closed, "7 no closed\n"),
+const WORDS: [(Outage, &str); 5] = [
+    (Outage::Memory, "7 no memory\n"),
+    (Outage::Device, "7 no device\n"),
+    (Outage::Broken, "7 no broken\n"),
+    (Outage::Epochs, "7 no epochs\n"),
+    (Outage::Closed, "7 no closed\n"),
 ];
 
 fn are_printed(alloc: Global) -> Result<bool, Fail> {
     let sequence = Sequence::new(7).ok_or("a sequence")?;
     for (word, want) in WORDS {
-        let answer: Answer<Global> = Answer::Unreplied(sequence, word);
+        let answer: Answer<Global> = Answer::CommandOutage(sequence, word);
         let mut out = Vec::new(alloc);
         print_answer(&mut out, &answer)?;
         if out.as_slice() != want.as_bytes() || !answer.is_trouble() {

@@ -1,5 +1,6 @@
-//! A register and its console in a heap of fixed size: rounds of 12 commands, more than 10,000 in all, end where they began and
-//! take no more of it than the first round does; and once the register is gone every byte is free again.
+//! A register and its console in a heap of fixed size. Each round of 12 commands, of more than 10,000 commands in all, ends in
+//! the state where it began, and takes no more memory than the first round. When the register is dropped, every byte is free
+//! again.
 
 use crate::answered::are_answered;
 use crate::limits::usual;
@@ -9,9 +10,9 @@ use linked_list_allocator::LocalHeap;
 use std::alloc::Global;
 use std::test::Fail;
 
-/// The commands of a round behind their sequence, and what each is answered behind its number: a rule comes and goes, a radio
-/// is attached and detached, joins a group and leaves all, and messages end by a report that is acknowledged, by their
-/// deadline and by deletion.
+/// The commands of a round, without their sequences, and the answers, without their numbers. A rule is set and cleared. A
+/// radio is attached and detached, joins a group and leaves all. Messages end by a report that is acknowledged, by their
+/// deadline, and by deletion.
 const ROUND: [(&str, &str); 12] = [
     (" 0 rule 234-14-0/24 1 99 1 3600\n", " -\n"),
     (" 10 mm 234-14-2001 7 10:260\n", " 8:56\n"),
@@ -30,7 +31,7 @@ const ROUND: [(&str, &str); 12] = [
     (" 160 unrule 234-14-2001/48\n", " -\n"),
 ];
 
-/// Lines, and what is answered to them.
+/// Lines, and their answers.
 #[derive(Drop)]
 struct Talk {
     lines: Vec<u8>,
@@ -69,7 +70,7 @@ fn rounds_after(alloc: Global, before: u64, rounds: u32) -> Result<Talk, Fail> {
     Ok(talk)
 }
 
-/// Whether all is answered so, and the second talk leaves the heap as the first.
+/// Whether the answers are these, and the second talk leaves the heap as the first one did.
 fn is_even(alloc: Global, heap: &LocalHeap, first: &Talk, second: &Talk) -> Result<bool, Fail> {
     let mut desk = Register::new(heap, usual()?)?;
     let once = are_answered(alloc, heap, &mut desk, &first.lines, &first.answers);

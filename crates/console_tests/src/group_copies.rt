@@ -1,4 +1,4 @@
-//! Runs over registers with room for one item and for two: a message to a group of two waits for both or for nobody.
+//! Runs over registers with room for one item, and for two. A message to a group of two radios waits for both or for none.
 
 use crate::answered::answers;
 use crate::limits::limits;
@@ -29,7 +29,7 @@ const FOR_BOTH: &str = "7 ok 7 -\n\
      item 7 m 234-14-2003 5 3700 48:820405014849 234-14-1000\n\
      count 7\n";
 
-/// Whether the answers end so where this many items may wait.
+/// Whether the answers end so in a register with room for so many items.
 fn end_so(alloc: Global, room: u32, end: &str) -> Result<bool, Fail> {
     let limits = limits(16, 16, room)?;
     let mut desk = Register::new(alloc, limits)?;

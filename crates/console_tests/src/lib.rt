@@ -1,4 +1,4 @@
-//! Tests of the public calls of `centre_core` and `console`, by lines and their answers wherever a line can say it.
+//! Tests of the public calls of `centre_core`, `desk` and `console`, by lines and their answers wherever lines suffice.
 #![tactic(auto)]
 
 #[cfg(test)]
@@ -20,6 +20,8 @@ mod group_copies;
 #[cfg(test)]
 mod limits;
 #[cfg(test)]
+mod lists;
+#[cfg(test)]
 mod long_runs;
 #[cfg(test)]
 mod parts;
@@ -27,5 +29,3 @@ mod parts;
 mod same;
 #[cfg(test)]
 mod small_heaps;
-#[cfg(test)]
-mod told_lists;

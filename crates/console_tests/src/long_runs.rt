@@ -12,7 +12,7 @@ use std::io;
 use std::io::Read;
 use std::test::Fail;
 
-/// Lines, and what is answered to them.
+/// Lines, and their answers.
 #[derive(Drop)]
 struct Talk {
     lines: Vec<u8>,
@@ -62,7 +62,7 @@ fn queries_before_lists(alloc: Global) -> Result<Talk, Fail> {
     Ok(talk)
 }
 
-/// Gives one byte a call.
+/// A reader that gives one byte a call.
 #[derive(Drop)]
 struct ByteByByte<'a> {
     rest: &'a [u8],
@@ -81,7 +81,7 @@ impl<'a> Read for ByteByByte<'a> {
     }
 }
 
-/// Whether the lines are answered so that come as more than 12,000 pieces.
+/// Whether lines that come in more than 12,000 pieces get these answers.
 fn are_answered_by_the_byte(alloc: Global) -> Result<bool, Fail> {
     let talk = queries_before_lists(alloc)?;
     let mut reader = ByteByByte { rest: &talk.lines };
@@ -125,7 +125,7 @@ fn add_command(
     Ok(())
 }
 
-/// A rule, a location update and a group PDU for each radio: what stands before its number and after it, and the PDU of the reply.
+/// A rule, a location update and a group PDU for each radio: the text before its number and after it, and the PDU of the reply.
 const FOR_EACH: [(&str, &str, &str); 3] = [
     (" 0 rule 234-14-", "/48 1 99 1 3600\n", " -\n"),
     (" 10 mm 234-14-", " 7 10:260\n", " 8:56\n"),

@@ -1,4 +1,4 @@
-//! The parts that a register lends.
+//! The parts that a register gives by reference.
 
 use crate::answered::are_answered;
 use crate::limits::usual;
@@ -14,7 +14,7 @@ const LINES: &str = "1 0 rule 234-14-0/24 1 99 1 3600\n\
 
 const ANSWERS: &str = "1 ok 1 -\n2 ok 2 8:56\n3 ok 3 62:B3704C0980001F40\n4 ok 4 -\n";
 
-fn are_lent(register: &Register<Global>, here: Itsi) -> bool {
+fn are_borrowed(register: &Register<Global>, here: Itsi) -> bool {
     let Some(Some(last)) = register.served().first() else {
         return false;
     };
@@ -28,21 +28,21 @@ fn are_lent(register: &Register<Global>, here: Itsi) -> bool {
         && last.pdu.is_none()
 }
 
-fn are_told(alloc: Global) -> Result<bool, Fail> {
+fn are_parts_right(alloc: Global) -> Result<bool, Fail> {
     let here = Itsi::new(234, 14, 2001).ok_or("a radio")?;
     let mut register = Register::new(alloc, usual()?)?;
-    let told = are_answered(
+    let answered = are_answered(
         alloc,
         alloc,
         &mut register,
         LINES.as_bytes(),
         ANSWERS.as_bytes(),
     );
-    Ok(told && are_lent(&register, here))
+    Ok(answered && are_borrowed(&register, here))
 }
 
 #[test]
-fn parts_are_lent(rt: HostRuntime) -> Result<(), Fail> {
-    assert!(rt; are_told(rt.alloc())?);
+fn parts_are_borrowed(rt: HostRuntime) -> Result<(), Fail> {
+    assert!(rt; are_parts_right(rt.alloc())?);
     Ok(())
 }

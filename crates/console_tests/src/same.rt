@@ -4,7 +4,7 @@ use crate::answered::command;
 use std::alloc::Global;
 use std::test::Fail;
 
-/// Commands that differ in one part from another one of the list.
+/// Commands, each of which differs in one part from another one.
 const COMMANDS: &str = "7 100 expire
 8 100 expire
 7 101 expire
@@ -47,7 +47,7 @@ fn is_same(alloc: Global, (one, of): (&str, u16), (other, by): (&str, u16)) -> R
     Ok(one.same(&other))
 }
 
-/// Whether what the two lines ask is the same.
+/// Whether the bodies of the two lines are the same.
 fn asks_same(alloc: Global, one: &str, other: &str) -> Result<bool, Fail> {
     let one = command(alloc, 4, one)?;
     let other = command(alloc, 5, other)?;

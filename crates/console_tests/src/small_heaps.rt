@@ -1,4 +1,4 @@
-//! A run in heaps of rising size, its own or its register's: each growth is refused in turn, and the answer says so.
+//! A run in heaps of rising size, its own or its register's. Each allocation is refused in turn, and the answer reports it.
 
 use crate::answered::answers;
 use crate::limits::usual;
@@ -14,8 +14,8 @@ const LINES: &str = "1 0 rule 234-14-0/24 1 99 1 3600\n\
      groups 234-14-2001\n\
      mail 234-14-2002\n";
 
-/// How the answers begin where memory is wanted for the first line, for the second and so on, and where it is for none.
-const FRONTS: [&str; 7] = [
+/// How the answers begin if memory runs out for the first line, for the second and so on, and for none.
+const PREFIXES: [&str; 7] = [
     "1 no memory\n",
     "1 ok 1 -\n2 no memory\n",
     "1 ok 1 -\n2 ok 2 8:56\n3 no memory\n",
@@ -27,27 +27,27 @@ const FRONTS: [&str; 7] = [
      mail 234-14-2002 1\nitem 4 m 234-14-2001 5 3630 48:820405014849\n",
 ];
 
-/// Which of the fronts this text begins with; 8 where it is none.
-fn front_of(text: &[u8]) -> usize {
-    for (at, front) in FRONTS.iter().enumerate() {
-        if text.starts_with(front.as_bytes()) {
+/// Which of the prefixes this text begins with; 8 if it is none.
+fn prefix_of(text: &[u8]) -> usize {
+    for (at, prefix) in PREFIXES.iter().enumerate() {
+        if text.starts_with(prefix.as_bytes()) {
             return at.saturating_add(1);
         }
     }
     8
 }
 
-/// How the answers begin where the run's memory and the register's have so many bytes; 0 where one of them can't be made.
+/// How the answers begin if the heaps of the run and of the register have so many bytes; 0 if one of the two can't be made.
 fn reached(alloc: Global, own: usize, other: usize) -> Result<usize, Fail> {
     let limits = usual()?;
     let (own, other) = (LocalHeap::new(alloc, own)?, LocalHeap::new(alloc, other)?);
     let Ok(mut desk) = Register::new(&other, limits) else {
         return Ok(0);
     };
-    Ok(answers(alloc, &own, &mut desk, LINES.as_bytes()).map_or(0, |out| front_of(&out)))
+    Ok(answers(alloc, &own, &mut desk, LINES.as_bytes()).map_or(0, |out| prefix_of(&out)))
 }
 
-/// Where runs end whose register has a heap of rising size.
+/// Where runs end if the register has a heap of rising size.
 fn ends_of_registers(alloc: Global) -> Result<[bool; 9], Fail> {
     let mut ends = [false; 9];
     for step in 0..512usize {
@@ -56,7 +56,7 @@ fn ends_of_registers(alloc: Global) -> Result<[bool; 9], Fail> {
     Ok(ends)
 }
 
-/// Where runs end whose own heap is of rising size.
+/// Where runs end if their own heap has a rising size.
 fn ends_of_runs(alloc: Global) -> Result<[bool; 9], Fail> {
     let mut ends = [false; 9];
     for step in 0..512usize {
@@ -65,7 +65,7 @@ fn ends_of_runs(alloc: Global) -> Result<[bool; 9], Fail> {
     Ok(ends)
 }
 
-/// Whether runs end in each of these ways, and in none that is no want of memory.
+/// Whether runs end in each of these ways, and in no other way.
 fn are_seen(ends: [bool; 9], ways: &[usize]) -> bool {
     !ends[8] && ways.iter().all(|way| ends.get(*way) == Some(&true))
 }
@@ -79,7 +79,7 @@ fn a_little_register_goes_on(rt: HostRuntime) -> Result<(), Fail> {
 
 /// A PDU, a longer one with its answer, and a list with an item take memory of the run.
 #[test]
-fn little_memory_is_told(rt: HostRuntime) -> Result<(), Fail> {
+fn little_memory_is_reported(rt: HostRuntime) -> Result<(), Fail> {
     assert!(rt; are_seen(ends_of_runs(rt.alloc())?, &[0, 2, 3, 6, 7]));
     Ok(())
 }

@@ -61,10 +61,10 @@ module _ (B : Type 0) where
   reject_short update fault None = tt
   reject_short update fault (Some cause) =
       let n = update_number update in
-      let front = length-append (num 4 7) (num 3 n) in
+      let prefix = length-append (num 4 7) (num 3 n) in
       let causes = length-append (num 4 7 ++ num 3 n) (num 5 cause) in
       let all = length-append (num 4 7 ++ num 3 n ++ num 5 cause) (false ∷ false ∷ []) in
-      omega (arith, front, causes, all, length-num 4 7, length-num 3 n, length-num 5 cause)
+      omega (arith, prefix, causes, all, length-num 4 7, length-num 3 n, length-num 5 cause)
 
   by_test : (b : Bool) (x y : State × Reply B) → RepliesShort x → RepliesShort y → RepliesShort (if b then x else y)
   by_test true x y h k = h

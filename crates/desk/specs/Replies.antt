@@ -1,4 +1,4 @@
--- Replies whose PDU is short enough for a line. B is the allocator that the bits lie under: nothing depends on it.
+-- Replies whose PDU is short enough for a line. B is the allocator of the bits; nothing depends on it.
 use Rattle.std.specs.Prelude.{◌≤◌, length}
 use Rattle.identity.specs.BitsText.{most_bits}
 use Rattle.centre_core.specs.declared.reply.Reply.{Reply}

@@ -1,12 +1,12 @@
 -- The outage words.
 use Rattle.std.specs.Prelude.{ℕ, List, codes}
-use Rattle.desk.specs.declared.service.Service.{Service}
-use Rattle.desk.specs.declared.service.Service.TheVariants.{Memory, Device, Broken, Epochs, Closed}
+use Rattle.desk.specs.declared.outage.Outage.{Outage}
+use Rattle.desk.specs.declared.outage.Outage.TheVariants.{Memory, Device, Broken, Epochs, Closed}
 
 -- the word after "no"
-abbrev pub service_word : Service → List ℕ
-service_word Memory = codes "memory"
-service_word Device = codes "device"
-service_word Broken = codes "broken"
-service_word Epochs = codes "epochs"
-service_word Closed = codes "closed"
+abbrev pub outage_word : Outage → List ℕ
+outage_word Memory = codes "memory"
+outage_word Device = codes "device"
+outage_word Broken = codes "broken"
+outage_word Epochs = codes "epochs"
+outage_word Closed = codes "closed"

@@ -1,12 +1,13 @@
-//! The desk at which commands are handed in and queries asked, whether the register behind it lies in memory or on a disk.
+//! The desk at which commands are submitted and queries asked, whether its register is in memory or on a disk. It
+//! touches nothing but that register, and knows nothing of lines, files and threads.
 //!
-//! What a kind of [`Desk`] may do and say are its rules, `specs/Rules.antt`: of a register those of `specs/OfRegister.antt`,
-//! of one that is kept on a disk those of `specs/OfStore.antt`.
+//! Each kind of [`Desk`] has rules, `specs/Rules.antt`: what it may do, and what it may answer. `specs/OfRegister.antt`
+//! has the rules of a register in memory, and `specs/OfStore.antt` those of a register on a disk.
 #![tactic(auto)]
 
 mod desk;
+mod outage;
 mod register;
-mod service;
 
 pub use desk::Desk;
-pub use service::Service;
+pub use outage::Outage;

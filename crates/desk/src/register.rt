@@ -3,9 +3,9 @@ ghost use Rattle.centre_core.specs.State.{State};
 ghost use Rattle.desk.specs.OfRegister.{of_register};
 
 use crate::desk::Desk;
-use crate::service::Service;
+use crate::outage::Outage;
 use centre_core::laws::registers;
-use centre_core::{Command, Query, Register, Reply, Told};
+use centre_core::{Command, Query, QueryAnswer, Register, Reply};
 use std::alloc::Allocator;
 
 impl<A: Allocator + Copy, B: Allocator + Clone> Desk<A> for Register<B> {
@@ -15,18 +15,18 @@ impl<A: Allocator + Copy, B: Allocator + Clone> Desk<A> for Register<B> {
 
     ghost rules = { of_register };
 
-    fn apply(&mut self, alloc: A, command: &Command<A>) -> Result<Reply<A>, Service> {
+    fn apply(&mut self, alloc: A, command: &Command<A>) -> Result<Reply<A>, Outage> {
         registers(self);
         match Register::apply(self, alloc, command) {
             Ok(reply) => Ok(reply),
-            Err(_) => Err(Service::Memory),
+            Err(_) => Err(Outage::Memory),
         }
     }
 
-    fn query(&mut self, alloc: A, query: &Query) -> Result<Told<A>, Service> {
+    fn query(&mut self, alloc: A, query: &Query) -> Result<QueryAnswer<A>, Outage> {
         match Register::query(self, alloc, query) {
-            Ok(told) => Ok(told),
-            Err(_) => Err(Service::Memory),
+            Ok(answer) => Ok(answer),
+            Err(_) => Err(Outage::Memory),
         }
     }
 }

@@ -9,10 +9,10 @@ use Rattle.std.proofs.lemmas.List.{length-take-le, take-append-le, take_all}
 use Rattle.std.proofs.lemmas.Bool.{cases_eq, cases_lt, true≢false}
 use Rattle.std.proofs.lemmas.Result.{IfOk-from_err}
 use Rattle.sector_disk.specs.Disk.{View, HasCause, HasFailed, HasRead, HasWritten, IsImageOf, IsSound, sector}
-use Rattle.sector_disk.specs.Run.{HasLooked}
+use Rattle.sector_disk.specs.Run.{HasOnlyRead}
 use Rattle.sector_disk.specs.declared.disk.DiskError.{DiskError}
 use Rattle.sector_disk.specs.declared.disk.DiskError.TheVariants.{DiskFault}
-use Rattle.sector_disk.proofs.Looked.{looked_on}
+use Rattle.sector_disk.proofs.OnlyRead.{only_read_on}
 use Rattle.file_disk.specs.File.{HasGivenUp, HasReadPart, HasWrittenPart, HaveTurned, is_interrupted, moved, one_more}
 
 -- ---- how much a call moves
@@ -58,59 +58,59 @@ failed_at_last old mid new before turns calls after gone (inr full) = inl (inr f
 
 -- ---- reading
 
-pub read_behind : (old new : View) (at done : ℕ) (b x y : List ℕ) (r : Result ℕ Error) → done ≤ length b → ReadsAtMost r x → HasReadPart old new at done x (moved r)
+pub read_after : (old new : View) (at done : ℕ) (b x y : List ℕ) (r : Result ℕ Error) → done ≤ length b → ReadsAtMost r x → HasReadPart old new at done x (moved r)
     → HasReadPart old new at done (drop done (take done b ++ (x ++ y))) (moved r)
-read_behind old new at done b x y r le bound read =
+read_after old new at done b x y r le bound read =
     let seam : drop done (take done b ++ (x ++ y)) ≡ x ++ y =
     ap (λ n. drop n (take done b ++ (x ++ y))) (sym (length-take-le done b le)) ∙ drop-append_seam (take done b) (x ++ y) in
-    rw seam (record { looked = read.looked; given = given (moved r) (read_at_most x r bound) read.given })
+    rw seam (record { only_read = read.only_read; given = given (moved r) (read_at_most x r bound) read.given })
   where
     given : (m : Result ℕ DiskError) → IfOk m (λ n. n ≤ length x) → IfOk m (λ n. take n x ≡ take n (drop done (sector old.reads at))) → IfOk m (λ n. take n (x ++ y) ≡ take n (drop done (sector old.reads at)))
     given (Ok n) small is = take-append-le n x y small ∙ is
     given (Err e) small is = tt
 
--- the front of the sector has been read
-abbrev pub IsFront : List ℕ → List ℕ → ℕ → Type 0
-IsFront bytes whole done = take done bytes ≡ take done whole
+-- the prefix of the sector has been read
+abbrev pub IsPrefix : List ℕ → List ℕ → ℕ → Type 0
+IsPrefix bytes whole done = take done bytes ≡ take done whole
 
-pub front_on : (bytes was whole : List ℕ) (done n : ℕ) → IsFront was whole done → take done bytes ≡ take done was → take n (drop done bytes) ≡ take n (drop done whole) → IsFront bytes whole (done + n)
-front_on bytes was whole done n front same more =
-    take-add done n bytes ∙ ap (λ (l : List ℕ). l ++ take n (drop done bytes)) (same ∙ front) ∙ ap (λ (l : List ℕ). take done whole ++ l) more ∙ sym (take-add done n whole)
+pub prefix_on : (bytes was whole : List ℕ) (done n : ℕ) → IsPrefix was whole done → take done bytes ≡ take done was → take n (drop done bytes) ≡ take n (drop done whole) → IsPrefix bytes whole (done + n)
+prefix_on bytes was whole done n prefix same more =
+    take-add done n bytes ∙ ap (λ (l : List ℕ). l ++ take n (drop done bytes)) (same ∙ prefix) ∙ ap (λ (l : List ℕ). take done whole ++ l) more ∙ sym (take-add done n whole)
 
-pub whole_front : (bytes whole : List ℕ) (done : ℕ) → IsFront bytes whole done → done ≡ 512 → length bytes ≡ 512 → length whole ≡ 512 → bytes ≡ whole
-whole_front bytes whole done front all size_bytes size_whole =
-    sym (take_all done bytes (omega (arith, all, size_bytes))) ∙ front ∙ take_all done whole (omega (arith, all, size_whole))
+pub whole_prefix : (bytes whole : List ℕ) (done : ℕ) → IsPrefix bytes whole done → done ≡ 512 → length bytes ≡ 512 → length whole ≡ 512 → bytes ≡ whole
+whole_prefix bytes whole done prefix all size_bytes size_whole =
+    sym (take_all done bytes (omega (arith, all, size_bytes))) ∙ prefix ∙ take_all done whole (omega (arith, all, size_whole))
 
 -- one call more
-pub read_on : (old mid new : View) (at done n : ℕ) (was bytes : List ℕ) → HasLooked old mid → IsFront was (sector old.reads at) done → take done bytes ≡ take done was → HasReadPart mid new at done (drop done bytes) (Ok n)
-    → HasLooked old new × IsFront bytes (sector old.reads at) (done + n)
-read_on old mid new at done n was bytes looked front same read =
-    let given : take n (drop done bytes) ≡ take n (drop done (sector old.reads at)) = rw (← looked.reads) read.given in
-    (looked_on old mid new looked read.looked, front_on bytes was (sector old.reads at) done n front same given)
+pub read_on : (old mid new : View) (at done n : ℕ) (was bytes : List ℕ) → HasOnlyRead old mid → IsPrefix was (sector old.reads at) done → take done bytes ≡ take done was → HasReadPart mid new at done (drop done bytes) (Ok n)
+    → HasOnlyRead old new × IsPrefix bytes (sector old.reads at) (done + n)
+read_on old mid new at done n was bytes only_read prefix same read =
+    let given : take n (drop done bytes) ≡ take n (drop done (sector old.reads at)) = rw (← only_read.reads) read.given in
+    (only_read_on old mid new only_read read.only_read, prefix_on bytes was (sector old.reads at) done n prefix same given)
 
 -- the last one failed
-pub read_failed : (old mid new : View) (at done : ℕ) (some bytes : List ℕ) (r : Result ℕ DiskError) (result : Result Unit DiskError) → HasLooked old mid → HasReadPart mid new at done some r → IsErr result → HasRead old new at bytes result
-read_failed old mid new at done some bytes r result looked read err =
-    let all : HasLooked old new = looked_on old mid new looked read.looked in
+pub read_failed : (old mid new : View) (at done : ℕ) (some bytes : List ℕ) (r : Result ℕ DiskError) (result : Result Unit DiskError) → HasOnlyRead old mid → HasReadPart mid new at done some r → IsErr result → HasRead old new at bytes result
+read_failed old mid new at done some bytes r result only_read read err =
+    let all : HasOnlyRead old new = only_read_on old mid new only_read read.only_read in
     record { honest = all.honest; time = all.time; reads = all.reads; pending = all.pending; given = IfOk-from_err result (λ u. bytes ≡ sector old.reads at) err }
 
 -- the sector has been read whole
-pub read_whole : (old new : View) (at done : ℕ) (bytes : List ℕ) → HasLooked old new × IsFront bytes (sector old.reads at) done → done ≡ 512 → length bytes ≡ 512 → IsSound old → at < old.sectors → HasRead old new at bytes (Ok tt)
-read_whole old new at done bytes (looked, front) all size sound within = record {
-  honest = looked.honest;
-  time = looked.time;
-  reads = looked.reads;
-  pending = looked.pending;
-  given = whole_front bytes (sector old.reads at) done front all size (sound.reads_left.whole at (omega (arith, within, sound.count))).size;
+pub read_whole : (old new : View) (at done : ℕ) (bytes : List ℕ) → HasOnlyRead old new × IsPrefix bytes (sector old.reads at) done → done ≡ 512 → length bytes ≡ 512 → IsSound old → at < old.sectors → HasRead old new at bytes (Ok tt)
+read_whole old new at done bytes (only_read, prefix) all size sound within = record {
+  honest = only_read.honest;
+  time = only_read.time;
+  reads = only_read.reads;
+  pending = only_read.pending;
+  given = whole_prefix bytes (sector old.reads at) done prefix all size (sound.reads_left.whole at (omega (arith, within, sound.count))).size;
 }
 
 -- ---- writing
 
 module _ (at : ℕ) (bytes : List ℕ) where
-  -- the front of the sector has been written, and what has been changed is pending
+  -- the prefix of the sector has been written, and what has been changed is pending
   pub record HasPut (old now : View) (done : ℕ) : Type 0 where
     pub rest : HasWritten old now at bytes (Err DiskFault)
-    pub front : IsFront (sector now.reads at) bytes done
+    pub prefix : IsPrefix (sector now.reads at) bytes done
     pub marked : (now.pending at ≡ true) ⊎ ((done ≡ 0) × (sector now.reads at ≡ sector old.reads at))
 
   pub nothing_put : (file : View) → file.honest → HasPut file file 0
@@ -124,7 +124,7 @@ module _ (at : ℕ) (bytes : List ℕ) where
       still_pending = λ is. is;
       written = tt;
     };
-    front = refl;
+    prefix = refl;
     marked = inr (refl, refl);
   }
 
@@ -185,7 +185,7 @@ module _ (at : ℕ) (bytes : List ℕ) where
       } in
       record {
         rest = both old mid new put.rest rest (λ t image le is. inr (image_on mid new rest (inr (goes_on wrote.marked)) image is));
-        front = front_on (sector new.reads at) (sector mid.reads at) bytes done n put.front wrote.before wrote.written;
+        prefix = prefix_on (sector new.reads at) (sector mid.reads at) bytes done n put.prefix wrote.before wrote.written;
         marked = elim wrote.marked [
           | inl on ↦ inl on
           | inr (none, same) ↦ elim put.marked [ inl on ↦ inl (wrote.rest.still_pending on) | inr (nothing, equal) ↦ inr (omega (arith, none, nothing), same ∙ equal) ]
@@ -249,7 +249,7 @@ module _ (at : ℕ) (bytes : List ℕ) where
         others = has.others;
         others_pending = has.others_pending;
         still_pending = has.still_pending;
-        written = (whole_front (sector new.reads at) bytes done put.front all (sound.reads_left.whole at within).size size, pending put.marked);
+        written = (whole_prefix (sector new.reads at) bytes done put.prefix all (sound.reads_left.whole at within).size size, pending put.marked);
       }
     where
       pending : (new.pending at ≡ true) ⊎ ((done ≡ 0) × (sector new.reads at ≡ sector old.reads at)) → new.pending at ≡ true

@@ -9,7 +9,7 @@ use Rattle.sector_disk.specs.declared.record.Call.{Call}
 use Rattle.sector_disk.specs.declared.record.Call.TheVariants.{Sync}
 use Rattle.file_disk.specs.declared.disk.FileDisk.{FileDisk}
 
--- The file's sectors, what of them is pending, and its moments; it is honest as the file is, where that has as many sectors.
+-- The file's sectors, which of them are pending, and its moments. The disk is honest where the file is, and has as many sectors.
 abbrev pub file_view : {F : Type 0} → (F → View) → FileDisk F → View
 file_view view disk = record {
   sectors = disk.sectors;
@@ -22,14 +22,22 @@ file_view view disk = record {
   honest = (view disk.file).honest × ((view disk.file).sectors ≡ disk.sectors);
 }
 
-pub file_sound : {F : Type 0} (view : F → View) (disk : FileDisk F) → IsSound (view disk.file) → (view disk.file).sectors ≡ disk.sectors → IsSound (file_view view disk)
-file_sound view disk is same = record { count = rw (← same) is.count; reads_left = is.reads_left; counts_now = is.counts_now; only_now = is.only_now; earlier = is.earlier }
+-- it is sound where the file is, and has as many sectors
+pub file_sound : {F : Type 0} (view : F → View) (disk : FileDisk F) → IsSound (view disk.file) → (view disk.file).sectors ≡ disk.sectors
+    → IsSound (file_view view disk)
+file_sound view disk is same = record {
+  count = rw (← same) is.count;
+  reads_left = is.reads_left;
+  counts_now = is.counts_now;
+  only_now = is.only_now;
+  earlier = is.earlier;
+}
 
--- the file that the disk stands on
+-- the file that the disk is on
 abbrev pub file_of : {F : Type 0} → FileDisk F → F
 file_of disk = disk.file
 
--- the calls `read`, `write` and `sync` that the disk has had, the last one last
+-- the calls `read`, `write` and `sync` that the disk has had, in order
 abbrev pub calls_of : {F : Type 0} → FileDisk F → List Call
 calls_of disk = disk.history.calls
 
@@ -37,7 +45,7 @@ calls_of disk = disk.history.calls
 abbrev pub is_lost : {F : Type 0} → FileDisk F → Bool
 is_lost disk = disk.lost
 
--- a fault is one failure, and no other answer is
+-- a `DiskFault` counts as one failure, and no other answer does
 abbrev pub failures_after : Result Unit DiskError → ℕ → ℕ
 failures_after (Ok u) failures = failures
 failures_after (Err OutOfRange) failures = failures
@@ -58,7 +66,7 @@ pub record IsNew {F : Type 0} (disk : FileDisk F) : Type 0 where
 abbrev pub blank_calls : Sectors → List Call
 blank_calls sectors = writes 0 sectors (λ k. replicate 512 0) ++ Sync ∷ []
 
--- an honest disk of so many sectors of zeros, which no stop takes back
+-- an honest disk of so many sectors of zeros, which no stop changes
 pub record IsBlank {F : Type 0} (view : F → View) (sectors : Sectors) (disk : FileDisk F) : Type 0 where
   pub honest : (file_view view disk).honest
   pub count : disk.sectors ≡ sectors

@@ -1,4 +1,4 @@
--- What a file is that a disk stands on: its whole sectors are seen as those of a disk, and each call moves some bytes of one sector.
+-- The file that a disk is on. Its whole sectors are modelled as those of a disk, and each call moves some bytes of one sector.
 use Rattle.std.specs.Prelude.{◌≡◌, ◌⊎◌, ℕ, ◌+◌, ◌-◌, ◌^◌, ◌≤◌, ◌==◌, min, Bool, true, false, List, take, drop, if◌then◌else◌, Result, Ok, Err, IfOk}
 use Rattle.std.specs.IoError.{error_kind}
 use Rattle.std.specs.declared.io.Error.{Error}
@@ -6,11 +6,11 @@ use Rattle.std.specs.declared.io.ErrorKind.{ErrorKind}
 use Rattle.std.specs.declared.io.ErrorKind.TheVariants.{Interrupted}
 use Rattle.sector_disk.specs.Numbers.{Byte, Sector, Bytes}
 use Rattle.sector_disk.specs.Disk.{View, HasFailed, HasWritten, sector}
-use Rattle.sector_disk.specs.Run.{HasLooked}
+use Rattle.sector_disk.specs.Run.{HasOnlyRead}
 use Rattle.sector_disk.specs.declared.disk.DiskError.{DiskError}
 use Rattle.sector_disk.specs.declared.disk.DiskError.TheVariants.{DiskFault}
 
--- whether an error tells that the call was interrupted
+-- whether an error reports that the call was interrupted
 abbrev pub is_interrupted : ErrorKind → Bool
 is_interrupted Interrupted = true
 is_interrupted _ = false
@@ -29,7 +29,7 @@ ended (Err e) = Err DiskFault
 abbrev pub one_more : ℕ → ℕ
 one_more turns = min (turns + 1) (2 ^ 64 - 1)
 
--- so many calls were made in between, or as many as can be counted
+-- so many calls were made between old and new, or as many as can be counted
 abbrev pub HaveTurned : ℕ → ℕ → ℕ → Type 0
 HaveTurned n old new = (old + n ≤ new) ⊎ (new ≡ 2 ^ 64 - 1)
 
@@ -37,16 +37,16 @@ HaveTurned n old new = (old + n ≤ new) ⊎ (new ≡ 2 ^ 64 - 1)
 abbrev pub most_calls : ℕ
 most_calls = 1024
 
--- a call of the file has failed, or so many were not enough
+-- a call of the file has failed, or 1,024 of them were not enough
 abbrev pub HasGivenUp : View → View → ℕ → ℕ → Type 0
 HasGivenUp old new turns_before turns_after = HasFailed old new ⊎ HaveTurned most_calls turns_before turns_after
 
--- A read gives bytes of the sector from one of its bytes on, and changes no image.
+-- A read gives bytes of the sector, from the byte `from` on, and changes no image.
 pub record HasReadPart (old new : View) (at : Sector) (from : Bytes) (bytes : List Byte) (result : Result Bytes DiskError) : Type 0 where
-  pub looked : HasLooked old new
+  pub only_read : HasOnlyRead old new
   pub given : IfOk result (λ n. take n bytes ≡ take n (drop from (sector old.reads at)))
 
--- A write puts bytes into the sector from one of its bytes on. What stands before these stays. What it has changed is pending, where it has not failed.
+-- A write puts bytes into the sector, from the byte `from` on. Those before them stay. Unless it fails, what it has changed is pending.
 pub record HasWrittenPart (old new : View) (at : Sector) (from : Bytes) (bytes : List Byte) (result : Result Bytes DiskError) : Type 0 where
   -- the rest of the file is as after a write of the sector that failed
   pub rest : HasWritten old new at bytes (Err DiskFault)

@@ -1,4 +1,4 @@
--- A file of the operating system: nothing is known of it but how often it was read or written, and how often a call failed.
+-- A file of the operating system. All that is known of it is how often it was read or written, and how often a call failed.
 use Rattle.std.specs.Prelude.{ℕ, false, []}
 use Rattle.sector_disk.specs.Disk.{View}
 use Rattle.file_disk.specs.declared.host.HostFile.{HostFile}

@@ -10,12 +10,12 @@ use crate::zeros::fill_with_zeros;
 use crate::{FileFault, SectorFile};
 use sector_disk::{Disk, DiskError};
 
-/// A disk whose sectors stand in a file, one after another from its beginning.
+/// A disk whose sectors are in a file, one after another from its beginning.
 ///
-/// A sector is read and written whole, in at most 1,024 calls of the file. After a sync that failed every call in range is
-/// a `DiskFault`: an operating system may have dropped what it could not write, and call the next sync good.
+/// A sector is read and written whole, in at most 1,024 calls of the file. After a failed sync every call in range is a
+/// `DiskFault`: the operating system may have dropped what it could not write, and then answer `Ok` to the next sync.
 ///
-/// A new disk over the same file does not know of that sync. It reads what the file gives, and this need not be what the
+/// A new disk over the same file does not know of the failed sync. It reads what the file gives, which need not be what the
 /// device holds.
 #[derive(Drop)]
 pub struct FileDisk<F> {
@@ -32,7 +32,7 @@ impl<F: SectorFile> FileDisk<F> {
     ghost use Rattle.file_disk.specs.declared.fault.FileFault.TheVariants.{NotOpened};
     ghost use Rattle.file_disk.specs.Disk.{IsBlank, IsNew, blank_calls, calls_of, file_of, file_view, is_lost};
 
-    /// The disk of a file as it stands: as many sectors as it has whole ones. A rest of its length is ignored.
+    /// A disk on a file as it is, with each whole sector of the file. Bytes after the last whole sector are ignored.
     pub fn over(file: F) -> Result<Self, FileFault>
         ensures file { IfOk result (λ disk. file_of disk ≡ file) }
         ensures sectors { (F.view file).honest → IfOk result (λ disk. disk.sectors ≡ (F.view file).sectors) }
@@ -52,7 +52,7 @@ impl<F: SectorFile> FileDisk<F> {
         }
     }
 
-    /// The same, with zeros in each sector, which last. Each sector is written once, and then the file is synced.
+    /// The same, with zeros in each sector, made durable. Each sector is written once, and then the file is synced.
     pub fn blank(file: F) -> Result<Self, FileFault>
         ensures blank { (F.view file).honest → IfOk result (IsBlank F.view (F.view file).sectors) }
         ensures calls { IfOk result (λ disk. calls_of disk ≡ blank_calls disk.sectors) }

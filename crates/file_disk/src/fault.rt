@@ -12,7 +12,7 @@ pub enum FileFault {
     /// The file can't be made or opened, exists already where a new one is made, or is locked by another process.
     #[error("the file can not be opened")]
     NotOpened,
-    /// A call of the open file failed. A new file may be left, of which nothing is said.
+    /// A call of the open file failed. A new file may be left, with any content.
     #[error("the file has failed")]
     DiskFault,
     /// There was no memory.
@@ -21,7 +21,7 @@ pub enum FileFault {
 }
 
 impl FileFault {
-    /// The fault, or want of memory where the error tells that.
+    /// The fault, or out of memory where the error reports that.
     pub(crate) fn or_memory(self, error: io::Error) -> FileFault
         ensures { result ≡ or_memory self error }
     {

@@ -1,4 +1,4 @@
-// The calls of a file that a disk stands on.
+// The calls of a file that a disk is on.
 ghost use Rattle.std.specs.Prelude.{◌≡◌, ◌<◌, ◌≤◌, ◌+◌, ◌*◌, ◌/◌, ℕ, IfOk, length};
 ghost use Rattle.std.specs.Io.{ReadsAtMost, WritesAtMost};
 ghost use Rattle.sector_disk.specs.Disk.{View, IsSound, HasSynced, HasCause};
@@ -8,12 +8,12 @@ use sector_disk::DiskError;
 use std::io;
 use std::io::ErrorKind;
 
-/// A file of which the whole sectors of 512 bytes are read and written; what stands behind the last of them is no part of it.
+/// A file whose whole sectors of 512 bytes are read and written. Bytes after the last whole sector are no part of it.
 ///
-/// What is said of an honest file is the premise under which a disk over it is honest: each call passes it on. A file of
-/// which nobody can know that it keeps this says that it is never honest, and still meets the rest.
+/// A disk over it is honest where the file is. Each call passes that premise on. A file whose behaviour nobody can prove is
+/// modelled as never honest. It still meets the other clauses.
 pub trait SectorFile: Drop {
-    /// What contracts see of it: its sectors as those of a disk. Its failures are the calls that failed.
+    /// What it is modelled as: its sectors as those of a disk. Its failures are the calls that failed.
     ghost view: { Self → View };
 
     /// How often it was read or written, up to the greatest `u64`.
@@ -23,25 +23,26 @@ pub trait SectorFile: Drop {
     fn len(&self) -> io::Result<u64>
         ensures { (view self.now).honest → IfOk result (λ bytes. bytes / 512 ≡ (view self.now).sectors) };
 
-    /// Reads some bytes from an offset on, and answers how many. It may be interrupted, and read fewer than asked for.
+    /// Reads some bytes from an offset on, and returns how many. It may be interrupted, and read fewer than asked for.
     fn read_at(&mut self, bytes: &mut [u8], offset: u64) -> io::Result<usize>
-        ensures effect { (at from : ℕ) → offset ≡ 512 * at + from → from < 512 → from + length bytes.old ≤ 512 → at < (view self.old).sectors → (view self.old).honest
-            → HasReadPart (view self.old) (view self.new) at from bytes.new (moved result) }
+        ensures effect { (at from : ℕ) → offset ≡ 512 * at + from → from < 512 → from + length bytes.old ≤ 512
+            → at < (view self.old).sectors → (view self.old).honest → HasReadPart (view self.old) (view self.new) at from bytes.new (moved result) }
         ensures bound { ReadsAtMost result bytes.new }
         ensures cause { HasCause (view self.old) (view self.new) (moved result) }
         ensures turns { turns self.new ≡ one_more (turns self.old) };
 
-    /// Writes some bytes from an offset on, the first of these, and answers how many. It may be interrupted, and write fewer than asked for.
+    /// Writes a prefix of these bytes from an offset on, and returns its length. It may be interrupted, and write fewer than
+    /// asked for.
     ///
     /// Until the next sync that succeeds, a stop may leave any bytes in their sector.
     fn write_at(&mut self, bytes: &[u8], offset: u64) -> io::Result<usize>
-        ensures effect { (at from : ℕ) → offset ≡ 512 * at + from → from < 512 → from + length bytes.now ≤ 512 → at < (view self.old).sectors → (view self.old).honest
-            → HasWrittenPart (view self.old) (view self.new) at from bytes.now (moved result) }
+        ensures effect { (at from : ℕ) → offset ≡ 512 * at + from → from < 512 → from + length bytes.now ≤ 512
+            → at < (view self.old).sectors → (view self.old).honest → HasWrittenPart (view self.old) (view self.new) at from bytes.now (moved result) }
         ensures bound { WritesAtMost result bytes.now }
         ensures cause { HasCause (view self.old) (view self.new) (moved result) }
         ensures turns { turns self.new ≡ one_more (turns self.old) };
 
-    /// Makes what was written last.
+    /// Makes what was written durable.
     fn sync(&mut self) -> io::Result<()>
         ensures effect { (view self.old).honest → HasSynced (view self.old) (view self.new) (ended result) }
         ensures cause { HasCause (view self.old) (view self.new) (ended result) };
@@ -50,7 +51,7 @@ pub trait SectorFile: Drop {
     ghost sound: { (file : Self) → (view file).honest → IsSound (view file) };
 }
 
-// How many bytes were moved, none where the call was interrupted.
+// How many bytes a call moved: none where it was interrupted. No byte without an interruption is a fault.
 pub(crate) fn moved(answer: io::Result<usize>) -> Result<usize, DiskError>
     ensures { result ≡ moved answer }
 {

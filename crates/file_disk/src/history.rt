@@ -1,4 +1,4 @@
-// The calls that a disk has had, which only clauses read.
+// The calls that a disk has had, for contracts alone.
 ghost use Rattle.std.specs.Prelude.{◌≡◌, [], List, ◌∷◌, ◌++◌};
 ghost use Rattle.std.specs.Borrow.{ftrue};
 ghost use Rattle.sector_disk.specs.declared.record.Call.{Call};
@@ -6,7 +6,7 @@ ghost use Rattle.file_disk.specs.Inside.Noted.{calls_code};
 
 use std::marker::Model;
 
-// It takes no bytes.
+// The list of calls is a ghost: it takes no bytes.
 #[derive(Drop)]
 pub(crate) struct History {
     ghost calls: { List Call } by { calls_code },

@@ -9,13 +9,13 @@ use std::os::unix::fs::FileExt;
 
 /// A file of the operating system, whose calls are those of Linux.
 ///
-/// What it gives and keeps nobody can prove, so it is never honest here: that it keeps what an honest file keeps is the
-/// premise under which a disk over it keeps what was written. `sync` is `fdatasync`: on Linux it answers once the kernel
-/// has written the file's bytes, and the device has said that it holds them. A device that says so too early keeps nothing.
+/// Nobody can prove what it gives and keeps, so it is modelled as never honest. A disk over it keeps what was written under
+/// the premise that this file does. `sync` is `fdatasync`: on Linux it returns once the kernel has written the file's bytes,
+/// and the device has reported that it holds them. A device that reports this too early keeps nothing.
 ///
-/// Reads go through the page cache. After an `fdatasync` that failed, Linux can keep the pages that it could not write there,
-/// marked as written: reads give them, the next `fdatasync` answers `Ok`, and a power cut takes them back. The same holds for
-/// every later opening of the file, until the cache is dropped or the machine has started anew.
+/// Reads go through the page cache. After a failed `fdatasync`, Linux can keep the pages that it could not write there,
+/// marked as written. Reads then give them, the next `fdatasync` succeeds, and a power cut loses them. So it is for every
+/// later opening of the file, until the cache is dropped or the machine is restarted.
 #[derive(Drop)]
 pub struct HostFile {
     file: File,
@@ -30,7 +30,7 @@ impl HostFile {
     ghost use Rattle.file_disk.specs.File.{moved, one_more};
     ghost use Rattle.file_disk.specs.Host.{host_turns, host_view};
 
-    // Nothing was read or written yet.
+    // A file of which nothing was read or written yet.
     pub(crate) fn new(file: File) -> HostFile
         ensures { host_turns result ≡ 0 }
     {

@@ -1,4 +1,5 @@
-//! A disk over a file of the operating system, and over any other file that keeps the same promises.
+//! A disk over a file of the operating system, and over any other file that keeps the same promises. It opens, locks, reads,
+//! writes and syncs one file, and knows nothing of what the sectors hold.
 #![tactic(auto)]
 
 mod disk;

@@ -14,9 +14,9 @@ impl FileDisk<HostFile> {
 
     /// Makes a file of that many sectors of zeros, and keeps it locked. A file that exists is `NotOpened`.
     ///
-    /// Every sector is written and synced, so that a device without room for them says so now. At `Ok` the file, its length
-    /// and its entry in the folder last, as far as `fsync` of a file and of its folder on Linux make them last; that the
-    /// entries of the folders above last is the caller's. A file that could not be finished is left, to be removed by hand.
+    /// Every sector is written and synced, so that a device without room for them fails now. At `Ok` the file, its length and
+    /// its entry in the folder are durable, as far as `fsync` of a file and of its folder on Linux makes them so. The entries
+    /// of the folders above are the caller's. A file that it made and could not finish is left: delete it by hand.
     pub fn create<R: Files<File = File>>(
         rt: &R,
         path: &str,
@@ -44,7 +44,7 @@ impl FileDisk<HostFile> {
         Ok(disk)
     }
 
-    /// Opens a file as it stands, and keeps it locked: as many sectors as it has whole ones. A rest of its length is ignored.
+    /// Opens a file as it is, and keeps it locked. Each whole sector of the file is one of the disk; a rest is ignored.
     ///
     /// Where an earlier sync of the file has failed, reads may give what the device does not hold (`HostFile` says why).
     pub fn adopt<R: Files<File = File>>(rt: &R, path: &str) -> Result<Self, FileFault>
@@ -72,7 +72,8 @@ fn open_locked<R: Files<File = File>>(rt: &R, path: &str, is_new: bool) -> Resul
     off_the_streams(file)
 }
 
-// Where a standard stream was closed its number may have become the file's: what is printed must not land in the file.
+// The file, under a number that is no standard stream's. Where such a stream was closed, the file may have got its number,
+// and what is printed would land in the file.
 fn off_the_streams(file: File) -> Result<File, FileFault> {
     if file.as_raw_fd() > 2 {
         return Ok(file);
@@ -83,13 +84,13 @@ fn off_the_streams(file: File) -> Result<File, FileFault> {
     }
 }
 
-// Gives a file its length, which lasts.
+// Gives a file its length, and makes that durable.
 fn set_length(file: &File, bytes: u64) -> io::Result<()> {
     file.set_len(bytes)?;
     file.sync_all()
 }
 
-// Makes the entry of a file in its folder last.
+// Makes the entry of a file in its folder durable.
 fn sync_folder<R: Files<File = File>>(rt: &R, path: &str) -> io::Result<()> {
     let folder = match Path::new(path).parent() {
         Some(folder) if !folder.as_str().is_empty() => File::open(rt, folder)?,

@@ -1,4 +1,4 @@
-// A sector is read and written whole, by a bounded number of calls of the file.
+// A sector read and written whole, in a bounded number of calls of the file.
 ghost use Rattle.std.specs.Prelude.{◌≡◌, ◌<◌, ◌≤◌, ◌+◌, ◌-◌, ◌*◌, ◌^◌, ◌⊎◌, drop, take, IfErr, IfOk};
 ghost use Rattle.sector_disk.specs.Disk.{HasCause, HasRead, HasWritten};
 ghost use Rattle.sector_disk.specs.declared.disk.DiskError.TheVariants.{DiskFault};
@@ -11,7 +11,7 @@ use sector_disk::DiskError;
 // The most calls of the file for one sector.
 const MOST_CALLS: u32 = 1024;
 
-// One call, for the bytes that are not read yet.
+// Makes one call, for the bytes that are not read yet.
 fn read_more<F: SectorFile>(
     file: &mut F,
     at: u64,
@@ -30,7 +30,7 @@ fn read_more<F: SectorFile>(
     moved(file.read_at(&mut bytes[done..], 512 * at + done as u64))
 }
 
-// One call, for the bytes that are not written yet.
+// Makes one call, for the bytes that are not written yet.
 fn write_more<F: SectorFile>(
     file: &mut F,
     at: u64,

@@ -7,7 +7,7 @@ ghost use Rattle.file_disk.specs.Disk.{calls_of, file_view};
 use crate::{FileDisk, SectorFile};
 use sector_disk::{Disk, DiskError};
 
-// Writes zeros into so many sectors, from one on.
+// Writes zeros into so many sectors, from the sector `at` on.
 pub(crate) fn fill_with_zeros<F: SectorFile>(
     disk: &mut FileDisk<F>,
     at: u64,

@@ -12,13 +12,13 @@ fn fault(opened: Result<FileDisk<HostFile>, FileFault>) -> Option<FileFault> {
     opened.err()
 }
 
-/// While the file is open it is opened by nobody else, and not made anew.
+/// Whether the open file can't be opened again, nor made anew.
 fn is_held(rt: &HostRuntime, path: &str) -> bool {
     let adopted = fault(FileDisk::adopt(rt, path)) == Some(FileFault::NotOpened);
     adopted && fault(FileDisk::create(rt, path, 3)) == Some(FileFault::NotOpened)
 }
 
-/// A new disk of three sectors is zeros. Its middle sector is written and synced.
+/// Whether a new disk of three sectors holds zeros. Its middle sector is then written and synced.
 fn is_made(rt: &HostRuntime, path: &str, bytes: &[u8; 512]) -> bool {
     let Ok(mut disk) = FileDisk::create(rt, path, 3) else {
         return false;
@@ -30,7 +30,7 @@ fn is_made(rt: &HostRuntime, path: &str, bytes: &[u8; 512]) -> bool {
     new && written && none && is_held(rt, path)
 }
 
-/// Opened anew it holds what was written.
+/// Whether the disk, opened again, holds what was written.
 fn is_adopted(rt: &HostRuntime, path: &str, bytes: &[u8; 512]) -> bool {
     let Ok(mut disk) = FileDisk::adopt(rt, path) else {
         return false;
@@ -51,15 +51,15 @@ fn a_file_is_made_locked_and_adopted(rt: HostRuntime) -> Result<(), Fail> {
     fs::create_dir(&rt, "made")?;
     let bytes = pattern();
     for path in ["made.disk", "made/in.disk"] {
-        let stands = is_made(&rt, path, &bytes) && is_adopted(&rt, path, &bytes);
-        assert_eq!(rt; (stands, length(&rt, path)?), (true, 1536));
+        let is_good = is_made(&rt, path, &bytes) && is_adopted(&rt, path, &bytes);
+        assert_eq!(rt; (is_good, length(&rt, path)?), (true, 1536));
     }
     let _ = fs::remove_dir_all(&rt, "made");
     let _ = fs::remove_file(&rt, "made.disk");
     Ok(())
 }
 
-/// A rest of the length is no sector. A file that is cut behind the disk's back is a fault where it is read.
+/// Whether bytes after the last whole sector are no sector, and a sector that was cut off from outside is a fault where it is read.
 fn is_cut(rt: &HostRuntime, path: &str) -> io::Result<bool> {
     fs::write(rt, path, [5; 1535].as_slice())?;
     let Ok(mut disk) = FileDisk::adopt(rt, path) else {
@@ -70,8 +70,8 @@ fn is_cut(rt: &HostRuntime, path: &str) -> io::Result<bool> {
     let rest = disk.read(2, &mut bytes) == Err(DiskError::OutOfRange);
     fs::write(rt, path, [5; 700].as_slice())?;
     let cut = disk.read(1, &mut bytes) == Err(DiskError::DiskFault) && disk.failures() == 1;
-    let stands = disk.read(0, &mut bytes).is_ok() && disk.failures() == 1;
-    Ok(whole && rest && cut && stands)
+    let is_good = disk.read(0, &mut bytes).is_ok() && disk.failures() == 1;
+    Ok(whole && rest && cut && is_good)
 }
 
 #[test]
@@ -81,7 +81,7 @@ fn a_rest_is_ignored(rt: HostRuntime) -> Result<(), Fail> {
     Ok(())
 }
 
-/// What is no file, or can't be one, is not opened; too many sectors are a fault, and leave no file.
+/// Whether what is no file, or can't be one, is not opened, and too many sectors are a fault that leaves no file.
 fn is_refused(rt: &HostRuntime) -> io::Result<bool> {
     let missing = fault(FileDisk::adopt(rt, "missing.disk")) == Some(FileFault::NotOpened);
     let folder = fault(FileDisk::adopt(rt, ".")) == Some(FileFault::NotOpened);
@@ -105,14 +105,14 @@ const PLACES: [u64; 11] = [
     0, 1, 2, 3, 135_235, 135_236, 270_468, 270_469, 336_004, 336_005, 401_540,
 ];
 
-/// A sector that tells its place.
-fn telling(at: u64) -> [u8; 512] {
+/// A sector that begins with its own number.
+fn numbered(at: u64) -> [u8; 512] {
     let mut bytes = [0xa5; 512];
     bytes[..8].copy_from_slice(&at.to_be_bytes());
     bytes
 }
 
-/// Makes a file of that length, of one hole.
+/// Makes a file of the greatest length, all of it one hole.
 fn make_hole(rt: &HostRuntime, path: &str) -> io::Result<()> {
     let made = OpenOptions::new()
         .write(true)
@@ -121,37 +121,37 @@ fn make_hole(rt: &HostRuntime, path: &str) -> io::Result<()> {
     made.set_len(512 * GREATEST)
 }
 
-/// Each of the places is written.
+/// Writes each of the places, and returns whether that worked.
 fn are_written(disk: &mut FileDisk<HostFile>) -> bool {
     let mut written = true;
     for at in PLACES {
-        written = written && disk.write(at, &telling(at)).is_ok();
+        written = written && disk.write(at, &numbered(at)).is_ok();
     }
     written && disk.sync().is_ok() && disk.write(GREATEST, &[0; 512]) == Err(DiskError::OutOfRange)
 }
 
-/// Each is read as it was written.
+/// Whether each is read as it was written.
 fn are_read(disk: &mut FileDisk<HostFile>) -> bool {
     let mut read = true;
     for at in PLACES {
         let mut bytes = [0; 512];
-        read = read && disk.read(at, &mut bytes).is_ok() && bytes == telling(at);
+        read = read && disk.read(at, &mut bytes).is_ok() && bytes == numbered(at);
     }
     read
 }
 
-/// The file has the bytes of each place there, as the file itself is read.
+/// Whether a read of the file itself finds each place's bytes there.
 fn are_there(rt: &HostRuntime, path: &str) -> io::Result<bool> {
     let file = File::open(rt, path)?;
     let mut there = file.metadata()?.len() == 512 * GREATEST;
     for at in PLACES {
         let mut bytes = [0; 512];
-        there = there && file.read_at(&mut bytes, 512 * at)? == 512 && bytes == telling(at);
+        there = there && file.read_at(&mut bytes, 512 * at)? == 512 && bytes == numbered(at);
     }
     Ok(there)
 }
 
-/// The greatest disk, in a file with holes.
+/// Whether the greatest disk works in a file with holes.
 fn is_great(rt: &HostRuntime, path: &str) -> io::Result<bool> {
     make_hole(rt, path)?;
     let Ok(mut disk) = FileDisk::adopt(rt, path) else {

@@ -1,5 +1,5 @@
-//! A file over a disk, whose calls move a part of what they are asked to. It is honest where the disk is, so an honest file
-//! is no empty premise.
+//! A file over a disk, whose calls move only a part of what is asked for. It is honest where the disk is: so there are
+//! honest files.
 ghost use Rattle.std.specs.Prelude.{◌≡◌, ◌+◌, ◌*◌, ◌≤◌, ◌<◌, ◌^◌, ℕ, IfOk, IfSome, drop, false, length, take};
 ghost use Rattle.std.specs.IoError.{error_kind};
 ghost use Rattle.sector_disk.specs.Disk.{HasCause};
@@ -10,7 +10,7 @@ use sector_disk::Disk;
 use std::io;
 use std::io::ErrorKind;
 
-/// Which calls that read or write move nothing, by their number from 1.
+/// Which of the calls that read or write move nothing. They are numbered from 1.
 #[derive(Clone, Copy, Drop)]
 pub enum Plan {
     /// None.
@@ -21,13 +21,13 @@ pub enum Plan {
     Interrupted,
     /// That call fails.
     Fails(u64),
-    /// That call moves no byte, and tells no error.
+    /// That call moves no byte, and reports no error.
     Nothing(u64),
     /// All go through, but a sync fails.
     SyncFails,
 }
 
-/// A file over a disk, with some bytes behind the last sector.
+/// A file over a disk, with some bytes after the last sector.
 #[derive(Drop)]
 pub struct PartFile<D> {
     disk: D,
@@ -46,7 +46,7 @@ fn error() -> io::Error
     ErrorKind::Other.into()
 }
 
-// Copies bytes of a sector, and answers how many.
+// Copies bytes of a sector, and returns how many.
 fn copy_part(bytes: &mut [u8], sector: &[u8; 512], from: usize, most: usize) -> usize
     requires { from < 512 }
     ensures bound { result ≤ length bytes.old }
@@ -57,7 +57,7 @@ fn copy_part(bytes: &mut [u8], sector: &[u8; 512], from: usize, most: usize) -> 
     count
 }
 
-// Puts bytes into a sector, and answers how many.
+// Puts bytes into a sector, and returns how many.
 fn put_part(sector: &mut [u8; 512], bytes: &[u8], from: usize, most: usize) -> usize
     requires { from < 512 }
     ensures bound { result ≤ length bytes.now }
@@ -100,7 +100,7 @@ impl<D: Disk + Drop> PartFile<D> {
         disk
     }
 
-    // What the next call answers, if it moves nothing.
+    // What the next call returns, where it is to move nothing.
     fn planned(&self) -> Option<io::Result<usize>>
         ensures { IfSome result (λ answer. IfOk (moved answer) (λ n. n ≡ 0)) }
     {

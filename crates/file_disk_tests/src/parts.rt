@@ -8,8 +8,8 @@ use std::test::Fail;
 
 const FAULT: Result<(), DiskError> = Err(DiskError::DiskFault);
 
-/// How many bytes a call moves at most, which calls move none; what a write of a sector answers, and after how many calls in
-/// all; what a read of it answers then, and after how many.
+/// The most bytes that a call moves, and which calls move none. Then what a write of a sector answers, and how many calls there
+/// were; what a read of it answers after that, and how many calls there were in all.
 struct Row {
     most: usize,
     plan: Plan,
@@ -95,7 +95,7 @@ const ROWS: [Row; 9] = [
     },
 ];
 
-/// Bytes that tell their places.
+/// Bytes that differ by their places.
 pub fn pattern() -> [u8; 512] {
     let mut bytes = [0; 512];
     for at in 0..512 {
@@ -116,8 +116,8 @@ fn is_fault(answer: Result<(), DiskError>) -> u64 {
     u64::from(answer.is_err())
 }
 
-/// Writes the middle sector of three, and reads it back.
-fn is_as_told(alloc: Global, row: &Row) -> Result<bool, AllocError> {
+/// Whether the middle sector of three is written and read back as the row states.
+fn is_as_stated(alloc: Global, row: &Row) -> Result<bool, AllocError> {
     let bytes = pattern();
     let Ok(mut disk) = FileDisk::over(file(alloc, row.most, row.plan)?) else {
         return Ok(false);
@@ -137,21 +137,21 @@ fn is_as_told(alloc: Global, row: &Row) -> Result<bool, AllocError> {
 #[test]
 fn a_sector_is_moved_whole_or_is_a_fault(rt: HostRuntime) -> Result<(), Fail> {
     for row in &ROWS {
-        assert!(rt; is_as_told(rt.alloc(), row)?);
+        assert!(rt; is_as_stated(rt.alloc(), row)?);
     }
     Ok(())
 }
 
-/// The sectors beside the one that is written stay zeros, and the rest of the file's length is no sector.
+/// Whether the sectors beside the written one stay zeros, and the bytes after the last sector are no sector.
 fn is_alone(alloc: Global) -> Result<bool, AllocError> {
     let Ok(mut disk) = FileDisk::over(file(alloc, 100, Plan::OddInterrupted)?) else {
         return Ok(false);
     };
     let written = disk.write(1, &pattern()).is_ok();
-    let (mut before, mut behind) = ([9; 512], [9; 512]);
-    let read = disk.read(0, &mut before).is_ok() && disk.read(2, &mut behind).is_ok();
+    let (mut before, mut after) = ([9; 512], [9; 512]);
+    let read = disk.read(0, &mut before).is_ok() && disk.read(2, &mut after).is_ok();
     let none = disk.read(3, &mut [0; 512]) == Err(DiskError::OutOfRange);
-    Ok(written && read && none && before == [0; 512] && behind == [0; 512] && disk.sectors() == 3)
+    Ok(written && read && none && before == [0; 512] && after == [0; 512] && disk.sectors() == 3)
 }
 
 #[test]
@@ -160,7 +160,7 @@ fn other_sectors_stay(rt: HostRuntime) -> Result<(), Fail> {
     Ok(())
 }
 
-/// After a sync that failed each call in range is a fault, and the file is not called.
+/// Whether after a failed sync each call in range is a fault, and the file is not called.
 fn is_lost(alloc: Global) -> Result<bool, AllocError> {
     let Ok(mut disk) = FileDisk::over(file(alloc, 512, Plan::SyncFails)?) else {
         return Ok(false);
@@ -180,7 +180,7 @@ fn a_failed_sync_loses_the_disk(rt: HostRuntime) -> Result<(), Fail> {
     Ok(())
 }
 
-/// A stop after a sync leaves what was written, and a stop before it may leave other bytes in that sector alone.
+/// Whether a stop leaves a synced sector as written, and other bytes in one that was not synced.
 fn is_left(alloc: Global) -> Result<bool, AllocError> {
     let Ok(mut disk) = FileDisk::blank(file(alloc, 512, Plan::Calm)?) else {
         return Ok(false);

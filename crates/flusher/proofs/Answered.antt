@@ -10,16 +10,16 @@ use Rattle.answers.specs.Views.{sent_of}
 use Rattle.answers.specs.Sent.{HasSent}
 use Rattle.snapshots.proofs.Prefixes.{prefix_self, prefix_longer}
 use Rattle.flusher.specs.Stages.{Sent}
-use Rattle.flusher.specs.Answerings.{to, HasAnswered, HaveAnswered}
+use Rattle.flusher.specs.Answerings.{answers_to, HasAnswered, HaveAnswered}
 
 abbrev Line : Type 0
 Line = AnswerSender Sent
 
-to-append : (s : ℕ) (xs ys : List Sent) → to s (xs ++ ys) ≡ to s xs ++ to s ys
+to-append : (s : ℕ) (xs ys : List Sent) → answers_to s (xs ++ ys) ≡ answers_to s xs ++ answers_to s ys
 to-append s [] ys = refl
 to-append s (x ∷ xs) ys = by (x.command.station == s) (to-append s xs ys)
   where
-    by : (b : Bool) → to s (xs ++ ys) ≡ to s xs ++ to s ys → cond b (x ∷ to s (xs ++ ys)) (to s (xs ++ ys)) ≡ cond b (x ∷ to s xs) (to s xs) ++ to s ys
+    by : (b : Bool) → answers_to s (xs ++ ys) ≡ answers_to s xs ++ answers_to s ys → cond b (x ∷ answers_to s (xs ++ ys)) (answers_to s (xs ++ ys)) ≡ cond b (x ∷ answers_to s xs) (answers_to s xs) ++ answers_to s ys
     by true e = ap (λ l. x ∷ l) e
     by false e = e
 
@@ -85,10 +85,10 @@ length_set [] i x = refl
 length_set (z ∷ zs) zero x = refl
 length_set (z ∷ zs) (suc i) x = ap suc (length_set zs i x)
 
-to_mine : (s : ℕ) (x : Sent) → x.command.station ≡ s → to s (x ∷ []) ≡ x ∷ []
+to_mine : (s : ℕ) (x : Sent) → x.command.station ≡ s → answers_to s (x ∷ []) ≡ x ∷ []
 to_mine s x e = ap (λ b. cond b (x ∷ []) []) (let t : (x.command.station == s) ≡ true = grind (arith, nat_tests) in t)
 
-to_other : (s : ℕ) (x : Sent) → x.command.station ≢ s → to s (x ∷ []) ≡ []
+to_other : (s : ℕ) (x : Sent) → x.command.station ≢ s → answers_to s (x ∷ []) ≡ []
 to_other s x n = ap (λ b. cond b (x ∷ []) []) (let t : (x.command.station == s) ≡ false = grind (arith, nat_tests) in t)
 
 same_place : (n k i : ℕ) → n ≡ k + 1 → n ≡ i + 1 → k ≡ i

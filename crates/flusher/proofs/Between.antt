@@ -12,8 +12,8 @@ use Rattle.centre_core.specs.Batches.{taken}
 use Rattle.centre_core.proofs.InTurnLaws.{after-append}
 use Rattle.centre_core.proofs.JoinedLaws.{after_taken}
 use Rattle.recovery.specs.Lives.{StoreView}
-use Rattle.recovery.specs.Outcomes.{IsAfterBatch, StandsForEither}
-use Rattle.recovery.specs.Standing.{StandsFor}
+use Rattle.recovery.specs.Outcomes.{IsAfterBatch, OpensToEither}
+use Rattle.recovery.specs.OpensTo.{OpensTo}
 use Rattle.recovery.specs.declared.fault.StoreFault.{StoreFault}
 use Rattle.recovery.specs.declared.fault.StoreFault.TheVariants.{BadGeometry, Broken, Damaged, DiskFault, EpochsUsedUp, NoMemory, Unformatted, Unready}
 use Rattle.snapshots.proofs.Prefixes.{prefix_self, prefix_trans}
@@ -24,7 +24,7 @@ use Rattle.flusher.specs.Served.{AreServedBy, IsReason}
 use Rattle.flusher.specs.Rounds.{IsRound}
 use Rattle.flusher.specs.Runs.{AreRounds, next, none}
 use Rattle.flusher.specs.Order.{AreInOrder}
-use Rattle.flusher.specs.Stored.{IsStoredFor, StandsBetween}
+use Rattle.flusher.specs.Stored.{IsStoredFor, OpensBetween}
 use Rattle.flusher.specs.View.{FlusherView, Progress, progress_of}
 use Rattle.flusher.proofs.Batched.{commands_among-append}
 use Rattle.flusher.proofs.ByItself.{round_longer}
@@ -81,12 +81,12 @@ rounds_longer base f g (next x m y first rest) = prefix_trans x.durable m.durabl
 
 module _ {D : Type 0} (view : D → View) (base : State) where
   -- before the first round
-  pub none_between : (f : FlusherView D) → ((view f.store.disk).honest → IsSound (view f.store.disk)) → f.store.register ≡ after base f.durable → IsStoredFor view base f → f.store.broken ≡ false → LeavesOnly (view f.store.disk) (view f.store.disk) (StandsBetween base f f)
+  pub none_between : (f : FlusherView D) → ((view f.store.disk).honest → IsSound (view f.store.disk)) → f.store.register ≡ after base f.durable → IsStoredFor view base f → f.store.broken ≡ false → LeavesOnly (view f.store.disk) (view f.store.disk) (OpensBetween base f f)
   none_between f sound made h up =
       let k = keeps_self view f.store sound h.honest (h.sound up) in
-      let at : (image : List (List ℕ)) → StandsFor Global f.store.register image → StandsBetween base f f image =
-      λ image is. inl (f.durable, prefix_self f.durable, prefix_self f.durable, subst (λ s. StandsFor Global s image) made is) in
-      weaker (view f.store.disk) (view f.store.disk) (StandsForEither Global f.store.register f.store.register) (StandsBetween base f f) k.any_moment
+      let at : (image : List (List ℕ)) → OpensTo Global f.store.register image → OpensBetween base f f image =
+      λ image is. inl (f.durable, prefix_self f.durable, prefix_self f.durable, subst (λ s. OpensTo Global s image) made is) in
+      weaker (view f.store.disk) (view f.store.disk) (OpensToEither Global f.store.register f.store.register) (OpensBetween base f f) k.any_moment
       (λ image is. elim is [ inl q ↦ at image q | inr q ↦ at image q ])
 
   module _ (f m g : FlusherView D) (r : IsRound base m g) (before : AreRounds base f m) where
@@ -94,61 +94,61 @@ module _ {D : Type 0} (view : D → View) (base : State) where
     more_taken = ap commands_among r.taken.taken ∙ commands_among-append m.taker.taken r.popped
 
     -- the store was broken before the round
-    idle_between : m.store.broken ≡ true → LeavesOnly (view f.store.disk) (view m.store.disk) (StandsBetween base f m) → LeavesOnly (view f.store.disk) (view g.store.disk) (StandsBetween base f g)
+    idle_between : m.store.broken ≡ true → LeavesOnly (view f.store.disk) (view m.store.disk) (OpensBetween base f m) → LeavesOnly (view f.store.disk) (view g.store.disk) (OpensBetween base f g)
     idle_between down h =
         let same = round_idle base m g r down in
         let durable = same.1 in
-        let stays : (image : List (List ℕ)) → StandsBetween base f m image → StandsBetween base f g image =
+        let stays : (image : List (List ℕ)) → OpensBetween base f m image → OpensBetween base f g image =
         λ image is. elim is [
           | inl q ↦ inl (q.0, q.1, subst (IsPrefix q.0) (sym durable) q.2, q.3)
           | inr q ↦ inr (
             q.0,
             ap (λ (s : StoreView Global D). s.broken) same.0 ∙ down,
             still view base m g (commands_among r.popped) more_taken q.0 durable q.2,
-            subst (λ (d : List G). StandsFor Global (after base (d ++ q.0)) image) (sym durable) q.3,
+            subst (λ (d : List G). OpensTo Global (after base (d ++ q.0)) image) (sym durable) q.3,
           )
         ] in
-        subst (λ (s : StoreView Global D). LeavesOnly (view f.store.disk) (view s.disk) (StandsBetween base f g)) (sym same.0)
-        (weaker (view f.store.disk) (view m.store.disk) (StandsBetween base f m) (StandsBetween base f g) h stays)
+        subst (λ (s : StoreView Global D). LeavesOnly (view f.store.disk) (view s.disk) (OpensBetween base f g)) (sym same.0)
+        (weaker (view f.store.disk) (view m.store.disk) (OpensBetween base f m) (OpensBetween base f g) h stays)
 
     module _ (up : m.store.broken ≡ false) (made : m.store.register ≡ after base m.durable) (order : AreInOrder m.durable m.taker.taken) where
       -- the register from before the round
-      at_before : (image : List (List ℕ)) → StandsFor Global m.store.register image → StandsBetween base f g image
-      at_before image is = inl (m.durable, rounds_longer base f m before, round_longer base m g r, subst (λ s. StandsFor Global s image) made is)
+      at_before : (image : List (List ℕ)) → OpensTo Global m.store.register image → OpensBetween base f g image
+      at_before image is = inl (m.durable, rounds_longer base f m before, round_longer base m g r, subst (λ s. OpensTo Global s image) made is)
 
       -- the register that the disk's failure left
-      at_broken : g.store.broken ≡ true → g.durable ≡ m.durable → (g.store.register ≡ m.store.register) ⊎ IsAfterBatch m.store.register (commands_among r.popped) g.store.register → (image : List (List ℕ)) → StandsFor Global g.store.register image → StandsBetween base f g image
-      at_broken down same (inl q) image is = at_before image (subst (λ s. StandsFor Global s image) q is)
+      at_broken : g.store.broken ≡ true → g.durable ≡ m.durable → (g.store.register ≡ m.store.register) ⊎ IsAfterBatch m.store.register (commands_among r.popped) g.store.register → (image : List (List ℕ)) → OpensTo Global g.store.register image → OpensBetween base f g image
+      at_broken down same (inl q) image is = at_before image (subst (λ s. OpensTo Global s image) q is)
       at_broken down same (inr q) image is =
           let batch = commands_among r.popped in
           let was : m.store.register ≡ after base g.durable = made ∙ ap (after base) (sym same) in
           let more = taken (after base g.durable) (take q.0 batch) in
           let now : g.store.register ≡ after base (g.durable ++ more) =
           q.1 ∙ ap (λ s. after s (take q.0 batch)) was ∙ sym (after_taken (after base g.durable) (take q.0 batch)) ∙ sym (after-append base g.durable more) in
-          inr (more, down, begun view base m g batch more_taken more q.0 order same refl, subst (λ s. StandsFor Global s image) now is)
+          inr (more, down, begun view base m g batch more_taken more q.0 order same refl, subst (λ s. OpensTo Global s image) now is)
 
       -- the register after the round
-      at_after : (b : Bool) → g.store.broken ≡ b → (g.store.broken ≡ false → g.store.register ≡ after base g.durable) → (image : List (List ℕ)) → StandsFor Global g.store.register image → StandsBetween base f g image
+      at_after : (b : Bool) → g.store.broken ≡ b → (g.store.broken ≡ false → g.store.register ≡ after base g.durable) → (image : List (List ℕ)) → OpensTo Global g.store.register image → OpensBetween base f g image
       at_after true down sound image is = let b = round_broken base m g r up down in at_broken down b.1 b.0.register image is
       at_after false now sound image is =
-          inl (g.durable, prefix_trans f.durable m.durable g.durable (rounds_longer base f m before) (round_longer base m g r), prefix_self g.durable, subst (λ s. StandsFor Global s image) (sound now) is)
+          inl (g.durable, prefix_trans f.durable m.durable g.durable (rounds_longer base f m before) (round_longer base m g r), prefix_self g.durable, subst (λ s. OpensTo Global s image) (sound now) is)
 
-      round_between : (g.store.broken ≡ false → g.store.register ≡ after base g.durable) → LeavesOnly (view m.store.disk) (view g.store.disk) (StandsForEither Global m.store.register g.store.register)
-          → LeavesOnly (view f.store.disk) (view m.store.disk) (StandsBetween base f m) → LeavesOnly (view f.store.disk) (view g.store.disk) (StandsBetween base f g)
+      round_between : (g.store.broken ≡ false → g.store.register ≡ after base g.durable) → LeavesOnly (view m.store.disk) (view g.store.disk) (OpensToEither Global m.store.register g.store.register)
+          → LeavesOnly (view f.store.disk) (view m.store.disk) (OpensBetween base f m) → LeavesOnly (view f.store.disk) (view g.store.disk) (OpensBetween base f g)
       round_between sound second first =
-          let grows : (image : List (List ℕ)) → StandsBetween base f m image → StandsBetween base f g image =
+          let grows : (image : List (List ℕ)) → OpensBetween base f m image → OpensBetween base f g image =
           λ image is. elim is [
             | inl q ↦ inl (q.0, q.1, prefix_trans q.0 m.durable g.durable q.2 (round_longer base m g r), q.3)
             | inr q ↦ absurd (true≢false (sym q.1 ∙ up))
           ] in
-          run_on (view f.store.disk) (view m.store.disk) (view g.store.disk) (StandsBetween base f g) (StandsForEither Global m.store.register g.store.register)
-          (weaker (view f.store.disk) (view m.store.disk) (StandsBetween base f m) (StandsBetween base f g) first grows) second
+          run_on (view f.store.disk) (view m.store.disk) (view g.store.disk) (OpensBetween base f g) (OpensToEither Global m.store.register g.store.register)
+          (weaker (view f.store.disk) (view m.store.disk) (OpensBetween base f m) (OpensBetween base f g) first grows) second
           (λ image is. elim is [ inl q ↦ at_before image q | inr q ↦ at_after g.store.broken refl sound image q ])
 
     -- one more round
     pub one_more_between : (b : Bool) → m.store.broken ≡ b → (m.store.broken ≡ false → m.store.register ≡ after base m.durable) → AreInOrder m.durable m.taker.taken → (g.store.broken ≡ false → g.store.register ≡ after base g.durable)
-        → (m.store.broken ≡ false → LeavesOnly (view m.store.disk) (view g.store.disk) (StandsForEither Global m.store.register g.store.register))
-        → LeavesOnly (view f.store.disk) (view m.store.disk) (StandsBetween base f m) → LeavesOnly (view f.store.disk) (view g.store.disk) (StandsBetween base f g)
+        → (m.store.broken ≡ false → LeavesOnly (view m.store.disk) (view g.store.disk) (OpensToEither Global m.store.register g.store.register))
+        → LeavesOnly (view f.store.disk) (view m.store.disk) (OpensBetween base f m) → LeavesOnly (view f.store.disk) (view g.store.disk) (OpensBetween base f g)
     one_more_between true down made order sound second first = idle_between down first
     one_more_between false up made order sound second first = round_between up (made up) order sound (second up) first
 

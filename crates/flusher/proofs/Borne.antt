@@ -15,8 +15,8 @@ use Rattle.centre_core.specs.declared.reply.Reply.{Reply}
 use Rattle.centre_core.specs.declared.reply.Reply.TheVariants.{Accepted, Kept, Refused}
 use Rattle.centre_core.proofs.RepliesSay.{replies_say}
 use Rattle.centre_core.proofs.HistoryLaws.{counted}
-use Rattle.centre_core.proofs.InTurnLaws.{after-append, history-append, kept_stands}
-use Rattle.schedule.specs.Next.{told}
+use Rattle.centre_core.proofs.InTurnLaws.{after-append, history-append, kept_is_there}
+use Rattle.schedule.specs.Next.{answer_from}
 use Rattle.schedule.proofs.Lists.{get_last}
 use Rattle.schedule.proofs.Stepping.{not_accepted}
 use Rattle.recovery.specs.declared.outcome.Outcome.{Outcome}
@@ -27,7 +27,7 @@ use Rattle.answers.specs.Views.{sent_of}
 use Rattle.flusher.specs.declared.decision.Decision.{Decision}
 use Rattle.flusher.specs.Stages.{Sent, sent_by, sent_to_all}
 use Rattle.flusher.specs.Batches.{accepted_by}
-use Rattle.flusher.specs.Answerings.{to, HasAnswered, HaveAnswered}
+use Rattle.flusher.specs.Answerings.{answers_to, HasAnswered, HaveAnswered}
 use Rattle.flusher.proofs.Decided.{accepted_are}
 use Rattle.flusher.specs.Borne.{IsReplyAfter, IsDecisionAfter, AreBorneOut, AreSentInOrder}
 
@@ -60,13 +60,13 @@ pub are_prefix : (base : State) (durable : List G) (low : ℕ) (xs ys : List Sen
 are_prefix base durable low xs ys p h = are_first base durable low xs p.0 (subst (λ l. AreBorneOut base durable low l) (sym p.1) h)
 
 -- those to one station
-pub are_to_one : (base : State) (durable : List G) (low : ℕ) (s : ℕ) (xs : List Sent) → AreBorneOut base durable low xs → AreBorneOut base durable low (to s xs)
+pub are_to_one : (base : State) (durable : List G) (low : ℕ) (s : ℕ) (xs : List Sent) → AreBorneOut base durable low xs → AreBorneOut base durable low (answers_to s xs)
 are_to_one base durable low s [] h = tt
 are_to_one base durable low s (x ∷ xs) h = by (x.command.station == s) (are_to_one base durable h.0 s xs h.4)
   where
-    by : (b : Bool) → AreBorneOut base durable h.0 (to s xs) → AreBorneOut base durable low (cond b (x ∷ to s xs) (to s xs))
+    by : (b : Bool) → AreBorneOut base durable h.0 (answers_to s xs) → AreBorneOut base durable low (cond b (x ∷ answers_to s xs) (answers_to s xs))
     by true rest = (h.0, h.1, h.2, h.3, rest)
-    by false rest = are_lower base durable low h.0 (to s xs) h.1 rest
+    by false rest = are_lower base durable low h.0 (answers_to s xs) h.1 rest
 
 -- ---- the answers of a round
 
@@ -77,11 +77,11 @@ alike_borne_out base durable low published d [] any le = tt
 alike_borne_out base durable low published d (c ∷ cs) any le = (low, omega arith, le, any (take low durable) c, alike_borne_out base durable low published d cs any le)
 
 -- an accepted command that is reported as kept is one that is kept
-told_after : (base : State) (l : List G) (c : G) (all : Bool) (r : Reply Global) → IsReplyAfter base l c r → IsReplyAfter base l c (told all r)
-told_after base l c true (Accepted n p) h = h
-told_after base l c false (Accepted n p) h = inl (record { first = c; of_station = refl; of_sequence = refl; lands = h })
-told_after base l c all (Kept n p) h = h
-told_after base l c all (Refused r) h = h
+answer_after : (base : State) (l : List G) (c : G) (all : Bool) (r : Reply Global) → IsReplyAfter base l c r → IsReplyAfter base l c (answer_from all r)
+answer_after base l c true (Accepted n p) h = h
+answer_after base l c false (Accepted n p) h = inl (record { first = c; of_station = refl; of_sequence = refl; lands = h })
+answer_after base l c all (Kept n p) h = h
+answer_after base l c all (Refused r) h = h
 
 -- the reply to the command after a list: an acceptance is borne out once the command is on the list
 reply_taken : (base s : State) (l : List G) (c : G) → IsHistory base l → s ≡ after base l → (r : Reply Global) → reply_to s c ≡ r → Replied s c (next s c) r → is_acceptance r ≡ true → IsReplyAfter base (l ++ c ∷ []) c r
@@ -91,7 +91,7 @@ reply_taken base s l c a at (Accepted n p) is says it =
     record {
       place = length l;
       numbered = let m = says.1 in omega arith;
-      stands = get_last l c;
+      is_there = get_last l c;
       replied = subst (λ t. reply_to (after base t) c ≡ Accepted n p) (sym (take_at l (c ∷ []) (length l) refl)) (subst (λ t. reply_to t c ≡ Accepted n p) at is);
     }
 reply_taken base s l c a at (Kept n p) is says it = absurd (true≢false (sym it))
@@ -101,10 +101,10 @@ reply_taken base s l c a at (Refused r) is says it = absurd (true≢false (sym i
 reply_alone : (base s : State) (l : List G) (c : G) → IsHistory base l → s ≡ after base l → (r : Reply Global) → reply_to s c ≡ r → Replied s c (next s c) r → is_acceptance r ≡ false → IsReplyAfter base l c r
 reply_alone base s l c a at (Accepted n p) is says not_it = absurd (true≢false not_it)
 reply_alone base s l c a at (Kept n p) is says not_it =
-    let kept : last_at (after base l) c.station ≡ Some (last_of c n p) = subst (λ t. last_at t c.station ≡ Some (last_of c n p)) at says.2 in kept_stands base l a c.station (last_of c n p) says.1 kept
+    let kept : last_at (after base l) c.station ≡ Some (last_of c n p) = subst (λ t. last_at t c.station ≡ Some (last_of c n p)) at says.2 in kept_is_there base l a c.station (last_of c n p) says.1 kept
 reply_alone base s l c a at (Refused r) is says not_it = subst (λ t. reply_to t c ≡ Refused r) at is
 
--- what found no memory is borne out by anything
+-- what ran out of memory is borne out by anything
 none_borne_out : (base : State) (durable : List G) (low : ℕ) (published : List G) (all : Bool) (cs : List G) (k : ℕ) → low ≤ length durable
     → AreBorneOut base durable low (sent_by published all cs (replicate k outcome.NoMemory))
 none_borne_out base durable low published all [] k le = tt
@@ -129,15 +129,15 @@ module _ (base : State) (total published : List G) (all : Bool) (rest : List G) 
       let long : length l' ≡ length l + 1 = length-append l (c ∷ []) in
       let whole : length total ≡ length l' + length (taken (next s c) cs) = ap length parts ∙ length-append l' (taken (next s c) cs) in
       let first : take (length l') total ≡ l' = ap (take (length l')) parts ∙ take_at l' (taken (next s c) cs) (length l') refl in
-      let here = told_after base l' c all (reply_to s c) (reply_taken base s l c a at (reply_to s c) refl (replies_say Global s c) is) in
-      (length l', omega arith, omega arith, subst (λ t. IsReplyAfter base t c (told all (reply_to s c))) (sym first) here, more l' took goes parts)
+      let here = answer_after base l' c all (reply_to s c) (reply_taken base s l c a at (reply_to s c) refl (replies_say Global s c) is) in
+      (length l', omega arith, omega arith, subst (λ t. IsReplyAfter base t c (answer_from all (reply_to s c))) (sym first) here, more l' took goes parts)
   step_by false s l c cs is more a at split =
       let parts : total ≡ l ++ taken (next s c) cs = split in
       let goes : next s c ≡ after base l = not_accepted s c is ∙ at in
       let whole : length total ≡ length l + length (taken (next s c) cs) = ap length parts ∙ length-append l (taken (next s c) cs) in
       let first : take (length l) total ≡ l = ap (take (length l)) parts ∙ take_at l (taken (next s c) cs) (length l) refl in
-      let here = told_after base l c all (reply_to s c) (reply_alone base s l c a at (reply_to s c) refl (replies_say Global s c) is) in
-      (length l, omega arith, omega arith, subst (λ t. IsReplyAfter base t c (told all (reply_to s c))) (sym first) here, more l a goes parts)
+      let here = answer_after base l c all (reply_to s c) (reply_alone base s l c a at (reply_to s c) refl (replies_say Global s c) is) in
+      (length l, omega arith, omega arith, subst (λ t. IsReplyAfter base t c (answer_from all (reply_to s c))) (sym first) here, more l a goes parts)
 
   -- a batch is borne out by the list with all that it accepted
   pub batch_borne_by : (cs : List G) (s : State) (l : List G) → IsHistory base l → s ≡ after base l → total ≡ l ++ taken s cs → AreBorneOut base total (length l) (sent_by published all (cs ++ rest) (outcomes_of s cs k))
@@ -203,7 +203,7 @@ sent_in_order base durable more old new answers h borne did k b there =
     let was = some_at old new k b did.count there in
     let a = was.0 in
     let sent = did.each k a b was.1 there in
-    let mine : List Sent = to (k + 1) answers in
+    let mine : List Sent = answers_to (k + 1) answers in
     let first = sent_first (sent_of a.pass) (sent_of b.pass) mine a.gone b.gone sent.1 in
     let all : AreBorneOut base (durable ++ more) 0 (sent_of a.pass ++ mine) =
     are_joined base durable more 0 (sent_of a.pass) mine (omega arith) (h k a was.1) (are_to_one base (durable ++ more) (length durable) (k + 1) answers borne) in

@@ -13,9 +13,9 @@ use Rattle.centre_core.specs.InTurn.{reply_to, last_of, Lands, IsLeftBy}
 use Rattle.centre_core.specs.Batches.{replies, taken, with_replies}
 use Rattle.centre_core.specs.declared.reply.Reply.{Reply}
 use Rattle.centre_core.specs.declared.reply.Reply.TheVariants.{Accepted, Kept, Refused}
-use Rattle.centre_core.proofs.InTurnLaws.{after-append, history-front}
+use Rattle.centre_core.proofs.InTurnLaws.{after-append, history-prefix}
 use Rattle.centre_core.proofs.JoinedLaws.{after_taken, left_prefix}
-use Rattle.schedule.specs.Next.{told, answered}
+use Rattle.schedule.specs.Next.{answer_from, answered}
 use Rattle.schedule.specs.Clauses.{IsBorneOut}
 use Rattle.schedule.proofs.Stepping.{batches_borne}
 use Rattle.recovery.specs.Outcomes.{IsAnswered}
@@ -35,11 +35,11 @@ kept_in_prefix base published l c n p pre h le =
     ]
 
 -- what all that is durable bears out, the published list does
-borne_by : (base : State) (published l : List G) (all : Bool) → (all ≡ true → published ≡ l) → IsPrefix published l → IsHistory base l → (c : G) (r : Reply Global) → IsBorneOut base l (c, r) → BearsOut base published c (told all r)
+borne_by : (base : State) (published l : List G) (all : Bool) → (all ≡ true → published ≡ l) → IsPrefix published l → IsHistory base l → (c : G) (r : Reply Global) → IsBorneOut base l (c, r) → BearsOut base published c (answer_from all r)
 borne_by base published l true whole pre a c (Accepted n p) h = subst (λ m. Lands base m c n p) (sym (whole refl)) h
 borne_by base published l false whole pre a c (Accepted n p) h = kept_in_prefix base published l c n p pre (inl (record { first = c; of_station = refl; of_sequence = refl; lands = h }))
 borne_by base published l all whole pre a c (Kept n p) h = kept_in_prefix base published l c n p pre h
-borne_by base published l all whole pre a c (Refused r) h = (take h.0 l, history-front base (take h.0 l) (drop h.0 l) (subst (IsHistory base) (sym (take-append-drop h.0 l)) a), h.2)
+borne_by base published l all whole pre a c (Refused r) h = (take h.0 l, history-prefix base (take h.0 l) (drop h.0 l) (subst (IsHistory base) (sym (take-append-drop h.0 l)) a), h.2)
 
 none_borne : (base : State) (published : List G) (all : Bool) (cs : List G) (k : ℕ) → BearsOutDecisions base published all cs (replicate k outcome.NoMemory)
 none_borne base published all [] k = tt
@@ -51,15 +51,15 @@ are_borne : (base : State) (published l : List G) (all : Bool) → (all ≡ true
 are_borne base published l all whole pre a [] ys s k h = none_borne base published all ys k
 are_borne base published l all whole pre a (x ∷ xs) ys s k h = (borne_by base published l all whole pre a x (reply_to s x) h.0, are_borne base published l all whole pre a xs ys (next s x) k h.1)
 
-none_told : (published : List G) (all : Bool) (cs : List G) (k : ℕ) → entries_of (sent_by published all cs (replicate k outcome.NoMemory)) ≡ []
-none_told published all [] k = refl
-none_told published all (c ∷ cs) zero = refl
-none_told published all (c ∷ cs) (suc k) = none_told published all cs k
+none_answered : (published : List G) (all : Bool) (cs : List G) (k : ℕ) → entries_of (sent_by published all cs (replicate k outcome.NoMemory)) ≡ []
+none_answered published all [] k = refl
+none_answered published all (c ∷ cs) zero = refl
+none_answered published all (c ∷ cs) (suc k) = none_answered published all cs k
 
 -- the replies are the core's answers
 entries_by : (published : List G) (all : Bool) (xs ys : List G) (s : State) (k : ℕ) → entries_of (sent_by published all (xs ++ ys) (map outcome.Replied (replies Global s xs) ++ replicate k outcome.NoMemory)) ≡ answered all (with_replies Global s xs)
-entries_by published all [] ys s k = none_told published all ys k
-entries_by published all (x ∷ xs) ys s k = ap (λ es. (x, told all (reply_to s x)) ∷ es) (entries_by published all xs ys (next s x) k)
+entries_by published all [] ys s k = none_answered published all ys k
+entries_by published all (x ∷ xs) ys s k = ap (λ es. (x, answer_from all (reply_to s x)) ∷ es) (entries_by published all xs ys (next s x) k)
 
 none_accepted : (cs : List G) (k : ℕ) → accepted_by cs (replicate k outcome.NoMemory) ≡ []
 none_accepted [] k = refl

@@ -26,7 +26,7 @@ other_count : (m n : ℕ) → m < n → (m == n) ≡ false
 other_count m n h = grind (arith, nat_tests)
 
 idle : (list durable : List G) (checking : Bool) (a : List (Entry Global)) → IsIdle (world_of (stage list durable checking false) a)
-idle list durable checking a = record { up = refl; none_flying = refl; none_sealed = refl; none_owed = refl }
+idle list durable checking a = record { up = refl; none_in_flight = refl; none_sealed = refl; none_owed = refl }
 
 -- how a checkpoint moves from under way or not to under way or not
 abbrev moves : Bool → Bool → Bool

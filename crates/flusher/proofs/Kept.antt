@@ -13,11 +13,11 @@ use Rattle.centre_core.specs.History.{after}
 use Rattle.centre_core.specs.Batches.{taken}
 use Rattle.centre_core.proofs.InTurnLaws.{after-append}
 use Rattle.centre_core.proofs.JoinedLaws.{after_taken}
-use Rattle.checkpoint.specs.Standing.{InEach}
+use Rattle.checkpoint.specs.OnSide.{InEach}
 use Rattle.checkpoint.proofs.Spared.{left_each}
 use Rattle.recovery.specs.Lives.{StoreView, IsStoredIn}
-use Rattle.recovery.specs.Outcomes.{IsAfterBatch, StandsForEither}
-use Rattle.recovery.specs.Standing.{StandsFor}
+use Rattle.recovery.specs.Outcomes.{IsAfterBatch, OpensToEither}
+use Rattle.recovery.specs.OpensTo.{OpensTo}
 use Rattle.recovery.proofs.Stored.{nothing_done, only_before}
 use Rattle.flusher.specs.Batches.{FailsByDisk, HasBroken, HoldsImages}
 use Rattle.flusher.specs.Stored.{AreUnderWay, IsStoredFor}
@@ -49,13 +49,13 @@ module _ {D : Type 0} (view : D → View) where
   keeps_on old mid new same sound first second honest stored =
       let f = first honest stored in
       let s = second f.honest (f.kept sound) in
-      let either : (image : List (List ℕ)) → StandsForEither Global old.register mid.register image → StandsForEither Global old.register new.register image =
-      λ image is. elim is [ inl q ↦ inl q | inr q ↦ inl (subst (λ r. StandsFor Global r image) same q) ] in
+      let either : (image : List (List ℕ)) → OpensToEither Global old.register mid.register image → OpensToEither Global old.register new.register image =
+      λ image is. elim is [ inl q ↦ inl q | inr q ↦ inl (subst (λ r. OpensTo Global r image) same q) ] in
       record {
         honest = s.honest;
-        any_moment = run_on (view old.disk) (view mid.disk) (view new.disk) (StandsForEither Global old.register new.register) (StandsForEither Global old.register new.register)
-            (weaker (view old.disk) (view mid.disk) (StandsForEither Global old.register mid.register) (StandsForEither Global old.register new.register) f.any_moment either)
-            (subst (λ r. LeavesOnly (view mid.disk) (view new.disk) (StandsForEither Global r new.register)) same s.any_moment) (λ image is. is);
+        any_moment = run_on (view old.disk) (view mid.disk) (view new.disk) (OpensToEither Global old.register new.register) (OpensToEither Global old.register new.register)
+            (weaker (view old.disk) (view mid.disk) (OpensToEither Global old.register mid.register) (OpensToEither Global old.register new.register) f.any_moment either)
+            (subst (λ r. LeavesOnly (view mid.disk) (view new.disk) (OpensToEither Global r new.register)) same s.any_moment) (λ image is. is);
         kept = s.kept;
       }
 
@@ -100,7 +100,7 @@ module _ {D : Type 0} (view : D → View) (base : State) (f g : FlusherView D) (
         let w = h.failed (ap (λ (s : StoreView Global D). s.broken) (sym store) ∙ down) in (
           w.0,
           still w.0 durable w.1,
-          subst (λ (q : StoreView Global D × List G). InEach (view q.0.disk) (StandsForEither Global (after base q.1) (after base (q.1 ++ w.0)))) (λ j. (sym store j, sym durable j)) w.2,
+          subst (λ (q : StoreView Global D × List G). InEach (view q.0.disk) (OpensToEither Global (after base q.1) (after base (q.1 ++ w.0)))) (λ j. (sym store j, sym durable j)) w.2,
         );
   }
 
@@ -116,15 +116,15 @@ module _ {D : Type 0} (view : D → View) (base : State) (f g : FlusherView D) (
   }
 
   -- the disk failed in the commit
-  failed_by : f.store.register ≡ after base f.durable → AreInOrder f.durable f.taker.taken → g.durable ≡ f.durable → (g.store.register ≡ f.store.register) ⊎ IsAfterBatch f.store.register batch g.store.register → InEach (view g.store.disk) (StandsForEither Global f.store.register g.store.register)
-      → (more : List G) × AreUnderWay base g more × InEach (view g.store.disk) (StandsForEither Global (after base g.durable) (after base (g.durable ++ more)))
+  failed_by : f.store.register ≡ after base f.durable → AreInOrder f.durable f.taker.taken → g.durable ≡ f.durable → (g.store.register ≡ f.store.register) ⊎ IsAfterBatch f.store.register batch g.store.register → InEach (view g.store.disk) (OpensToEither Global f.store.register g.store.register)
+      → (more : List G) × AreUnderWay base g more × InEach (view g.store.disk) (OpensToEither Global (after base g.durable) (after base (g.durable ++ more)))
   failed_by made order same (inl q) each =
       let was : f.store.register ≡ after base g.durable = made ∙ ap (after base) (sym same) in (
         [],
         begun [] 0 order same refl,
         λ image is. elim (each image is) [
-          | inl x ↦ inl (subst (λ s. StandsFor Global s image) was x)
-          | inr x ↦ inl (subst (λ s. StandsFor Global s image) (q ∙ was) x)
+          | inl x ↦ inl (subst (λ s. OpensTo Global s image) was x)
+          | inr x ↦ inl (subst (λ s. OpensTo Global s image) (q ∙ was) x)
         ],
       )
   failed_by made order same (inr q) each =
@@ -136,8 +136,8 @@ module _ {D : Type 0} (view : D → View) (base : State) (f g : FlusherView D) (
         more,
         begun more n order same refl,
         λ image is. elim (each image is) [
-          | inl x ↦ inl (subst (λ s. StandsFor Global s image) was x)
-          | inr x ↦ inr (subst (λ s. StandsFor Global s image) now x)
+          | inl x ↦ inl (subst (λ s. OpensTo Global s image) was x)
+          | inr x ↦ inr (subst (λ s. OpensTo Global s image) now x)
         ],
       )
 
@@ -151,5 +151,5 @@ module _ {D : Type 0} (view : D → View) (base : State) (f g : FlusherView D) (
         sound = k.kept;
         failed = λ down.
             let b = under_way down in
-            failed_by made order b.1 b.0.register (left_each (view f.store.disk) (view g.store.disk) (StandsForEither Global f.store.register g.store.register) k.any_moment (sound k.honest));
+            failed_by made order b.1 b.0.register (left_each (view f.store.disk) (view g.store.disk) (OpensToEither Global f.store.register g.store.register) k.any_moment (sound k.honest));
       }

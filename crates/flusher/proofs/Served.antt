@@ -63,11 +63,11 @@ fewer_by list durable pre other = by_split split
 
 module _ {D : Type 0} where
   -- the stage of a store that is sound, and of one that is broken
-  sound_stage : (list durable : List G) (store : StoreView Global D) (r : Attempts) → store.broken ≡ false → stage list durable (is_some store.beside) false ≡ stage_of (progress list durable store r)
-  sound_stage list durable store r up = λ i. stage list durable (cond (sym up i) false (is_some store.beside)) (sym up i)
+  sound_stage : (list durable : List G) (store : StoreView Global D) (r : Attempts) → store.broken ≡ false → stage list durable (is_some store.ongoing) false ≡ stage_of (progress list durable store r)
+  sound_stage list durable store r up = λ i. stage list durable (cond (sym up i) false (is_some store.ongoing)) (sym up i)
 
   broken_stage : (list durable : List G) (store : StoreView Global D) (r : Attempts) → store.broken ≡ true → stage list durable false true ≡ stage_of (progress list durable store r)
-  broken_stage list durable store r down = λ i. stage list durable (cond (sym down i) false (is_some store.beside)) (sym down i)
+  broken_stage list durable store r down = λ i. stage list durable (cond (sym down i) false (is_some store.ongoing)) (sym down i)
 
   -- ---- a batch that was committed
 
@@ -81,10 +81,10 @@ module _ {D : Type 0} where
       let all = shown.all in
       let answers = sent_by list all cmds os in
       let some : all ≡ false → 0 < length ts = λ e. let less = shown.some e in omega (arith, ap length same, length-append log ts, less) in
-      let went = ran base seen log all cmds h.reached recorded.made_room (is_some old.beside) (is_some new.beside) answers small some (h.entries list all) in
-      let start : stage seen log (is_some old.beside) false ≡ stage_of (progress seen log old r) = sound_stage seen log old r up in
-      let end : stage (cond all (log ++ ts) log) (log ++ ts) (is_some new.beside) false ≡ stage_of (progress list durable new r') =
-      (λ i. stage ((ap (λ l. cond all l log) (sym same) ∙ sym shown.published) i) (sym same i) (is_some new.beside) false) ∙ sound_stage list durable new r' done.sound in
+      let went = ran base seen log all cmds h.reached recorded.made_room (is_some old.ongoing) (is_some new.ongoing) answers small some (h.entries list all) in
+      let start : stage seen log (is_some old.ongoing) false ≡ stage_of (progress seen log old r) = sound_stage seen log old r up in
+      let end : stage (cond all (log ++ ts) log) (log ++ ts) (is_some new.ongoing) false ≡ stage_of (progress list durable new r') =
+      (λ i. stage ((ap (λ l. cond all l log) (sym same) ∙ sym shown.published) i) (sym same i) (is_some new.ongoing) false) ∙ sound_stage list durable new r' done.sound in
       let state : new.register ≡ after base durable = h.state ∙ ap (after base) (sym same) in
       record {
         answers = answers;
@@ -109,12 +109,12 @@ module _ {D : Type 0} where
   idle_run : (base : State) (old new : StoreView Global D) (r r' : Attempts) (made_room : Bool) (seen log cmds : List G) (answers : List Sent) → old.broken ≡ false → new.broken ≡ false → entries_of answers ≡ []
       → HasRun base (stage_of (progress seen log old r)) (stage_of (progress log log new r')) cmds answers
   idle_run base old new r r' made_room seen log cmds answers up sound none =
-      by_stages base _ _ _ _ cmds answers (sound_stage seen log old r up) (sound_stage log log new r' sound) (only_published base seen log cmds made_room (is_some old.beside) (is_some new.beside) answers none)
+      by_stages base _ _ _ _ cmds answers (sound_stage seen log old r up) (sound_stage log log new r' sound) (only_published base seen log cmds made_room (is_some old.ongoing) (is_some new.ongoing) answers none)
 
   run_by : (base : State) (old new : StoreView Global D) (r r' : Attempts) (seen log cmds : List G) (f : StoreFault) (answers : List Sent) → old.broken ≡ false → length cmds ≤ 64 → IsRefusedBy cmds old new f r r' → entries_of answers ≡ []
       → HasRun base (stage_of (progress seen log old r)) (stage_of (progress log log new r')) cmds answers
   run_by base old new r r' seen log cmds DiskFault answers up small h none =
-      by_stages base _ _ _ _ cmds answers (sound_stage seen log old r up) (broken_stage log log new r' h.broken) (stopped base seen log cmds h.in_checkpoint false (is_some old.beside) answers h.some small none)
+      by_stages base _ _ _ _ cmds answers (sound_stage seen log old r up) (broken_stage log log new r' h.broken) (stopped base seen log cmds h.in_checkpoint false (is_some old.ongoing) answers h.some small none)
   run_by base old new r r' seen log cmds NoMemory answers up small h none = idle_run base old new r r' h.2.made_room seen log cmds answers up h.0.sound none
   run_by base old new r r' seen log cmds EpochsUsedUp answers up small h none =
       idle_run base old new r r' false seen log cmds answers up (ap (λ (s : StoreView Global D). s.broken) h.0 ∙ up) none
@@ -161,9 +161,9 @@ module _ {D : Type 0} where
 
   -- ---- a round that commits nothing
 
-  behind_at : (base : State) (store : StoreView Global D) (r r' : Attempts) (list durable cmds : List G) (xs ys : List (AnswerSender Sent)) → store.broken ≡ false → length list < length durable → HaveAnswered xs (sent_to_all list decision.NoMemory cmds) ys
+  after_at : (base : State) (store : StoreView Global D) (r r' : Attempts) (list durable cmds : List G) (xs ys : List (AnswerSender Sent)) → store.broken ≡ false → length list < length durable → HaveAnswered xs (sent_to_all list decision.NoMemory cmds) ys
       → HasServed base (progress list durable store r) (progress list durable store r') cmds xs ys
-  behind_at base store r r' list durable cmds xs ys up fewer sent =
+  after_at base store r r' list durable cmds xs ys up fewer sent =
       let answers = sent_to_all list decision.NoMemory cmds in
       record {
         answers = answers;
@@ -185,11 +185,11 @@ module _ {D : Type 0} where
         served = subst (λ b. AreServedBy base (progress list durable store r) (progress list durable store r') cmds answers b) (sym down) (record { durable = refl; published = refl; store = refl; each = refl });
       }
 
-  pub served_behind : (base : State) (store : StoreView Global D) (r r' : Attempts) (list durable list' durable' cmds : List G) (xs ys : List (AnswerSender Sent)) → store.broken ≡ false → IsPrefix list durable → (list ≡ durable → ⊥) → list' ≡ list → durable' ≡ durable
+  pub served_after : (base : State) (store : StoreView Global D) (r r' : Attempts) (list durable list' durable' cmds : List G) (xs ys : List (AnswerSender Sent)) → store.broken ≡ false → IsPrefix list durable → (list ≡ durable → ⊥) → list' ≡ list → durable' ≡ durable
       → HaveAnswered xs (sent_to_all list' decision.NoMemory cmds) ys → HasServed base (progress list durable store r) (progress list' durable' store r') cmds xs ys
-  served_behind base store r r' list durable list' durable' cmds xs ys up pre other same same' sent =
+  served_after base store r r' list durable list' durable' cmds xs ys up pre other same same' sent =
       subst (λ (q : List G × List G). HasServed base (progress list durable store r) (progress q.0 q.1 store r') cmds xs ys) (λ j. (sym same j, sym same' j))
-      (behind_at base store r r' list durable cmds xs ys up (fewer_by list durable pre other) (subst (λ l. HaveAnswered xs (sent_to_all l decision.NoMemory cmds) ys) same sent))
+      (after_at base store r r' list durable cmds xs ys up (fewer_by list durable pre other) (subst (λ l. HaveAnswered xs (sent_to_all l decision.NoMemory cmds) ys) same sent))
 
   pub served_broken : (base : State) (store : StoreView Global D) (r r' : Attempts) (list durable list' durable' cmds : List G) (xs ys : List (AnswerSender Sent)) → store.broken ≡ true → list' ≡ list → durable' ≡ durable
       → HaveAnswered xs (sent_to_all list' (decision.Fault Broken) cmds) ys → HasServed base (progress list durable store r) (progress list' durable' store r') cmds xs ys
@@ -202,6 +202,6 @@ module _ {D : Type 0} where
       → MatchBool sound (store.broken ≡ false) (store.broken ≡ true) → MatchBool sound (fault ≡ None) (fault ≡ Some Broken) → IsPrefix list durable → (sound ≡ true → list ≡ durable → ⊥) → list' ≡ list → durable' ≡ durable
       → HaveAnswered xs (sent_to_all list' (decision_for_all fault) cmds) ys → HasServed base (progress list durable store r) (progress list' durable' store r') cmds xs ys
   served_idle base store r r' list durable list' durable' cmds xs ys true fault up is pre other same same' sent =
-      served_behind base store r r' list durable list' durable' cmds xs ys up pre (other refl) same same' (subst (λ f. HaveAnswered xs (sent_to_all list' (decision_for_all f) cmds) ys) is sent)
+      served_after base store r r' list durable list' durable' cmds xs ys up pre (other refl) same same' (subst (λ f. HaveAnswered xs (sent_to_all list' (decision_for_all f) cmds) ys) is sent)
   served_idle base store r r' list durable list' durable' cmds xs ys false fault down is pre other same same' sent =
       served_broken base store r r' list durable list' durable' cmds xs ys down same same' (subst (λ f. HaveAnswered xs (sent_to_all list' (decision_for_all f) cmds) ys) is sent)

@@ -23,7 +23,7 @@ use Rattle.recovery.specs.declared.fault.StoreFault.{StoreFault}
 use Rattle.recovery.specs.declared.fault.StoreFault.TheVariants.{BadGeometry, Broken, Damaged, DiskFault, EpochsUsedUp, NoMemory, Unformatted, Unready}
 use Rattle.recovery.specs.Lives.{StoreView, IsStoredIn}
 use Rattle.recovery.specs.Calls.{commit_calls_by}
-use Rattle.recovery.specs.GoneOn.{HasKept, HasRoom}
+use Rattle.recovery.specs.AfterCommit.{HasKept, HasRoom}
 use Rattle.recovery.specs.Outcomes.{AreRecorded, IsAnswered, IsAfterBatch, asked}
 use Rattle.recovery.specs.Refusals.{IsOfCheckpoint, IsOfCommit}
 use Rattle.recovery.specs.Stored.{fresh_place}
@@ -68,7 +68,7 @@ module _ {D : Type 0} (view : D → View) (old new : StoreView Global D) where
 
   -- what the store says of its record
   pub kept_of : (cmds : List G) (r : Answers) → OnOk r ((recorded : List G) × (was_open : Bool) × AreRecorded Global old.register cmds new.register recorded × HasKept old new recorded
-      × ((view new.disk).calls ≡ (view old.disk).calls ++ commit_calls_by old.layout old.side old.epoch old.journal old.beside recorded (is_some new.beside) was_open)) → OnOk r (AreKept cmds old new true)
+      × ((view new.disk).calls ≡ (view old.disk).calls ++ commit_calls_by old.layout old.side old.epoch old.journal old.ongoing recorded (is_some new.ongoing) was_open)) → OnOk r (AreKept cmds old new true)
   kept_of cmds (Ok o) h = record { recorded = h.0; these = h.2; kept = h.3 }
   kept_of cmds (Err e) h = tt
 
@@ -111,12 +111,12 @@ module _ {D : Type 0} (view : D → View) (old new : StoreView Global D) where
 
   -- ---- a checkpoint
 
-  same_view : new.layout ≡ old.layout → new.side ≡ old.side → new.epoch ≡ old.epoch → new.journal ≡ old.journal → new.beside ≡ old.beside → new.register ≡ old.register → new.broken ≡ old.broken → new.disk ≡ old.disk → new ≡ old
-  same_view a b c d e f g h = λ i. record { layout = a i; side = b i; epoch = c i; journal = d i; beside = e i; register = f i; broken = g i; disk = h i }
+  same_view : new.layout ≡ old.layout → new.side ≡ old.side → new.epoch ≡ old.epoch → new.journal ≡ old.journal → new.ongoing ≡ old.ongoing → new.register ≡ old.register → new.broken ≡ old.broken → new.disk ≡ old.disk → new ≡ old
+  same_view a b c d e f g h = λ i. record { layout = a i; side = b i; epoch = c i; journal = d i; ongoing = e i; register = f i; broken = g i; disk = h i }
 
-  pub made_by : (r : Result (Unit {0}) StoreFault) → old.broken ≡ false → (new.layout ≡ old.layout) × (new.register ≡ old.register) → OnOk r ((new.side ≡ other_of old.side) × (new.epoch ≡ old.epoch + 1) × (new.beside ≡ None))
+  pub made_by : (r : Result (Unit {0}) StoreFault) → old.broken ≡ false → (new.layout ≡ old.layout) × (new.register ≡ old.register) → OnOk r ((new.side ≡ other_of old.side) × (new.epoch ≡ old.epoch + 1) × (new.ongoing ≡ None))
       → OnOk r (new.journal ≡ fresh_place old.layout (other_of old.side) old.register.count) → OnErr r ((new.side ≡ old.side) × (new.epoch ≡ old.epoch) × (new.journal ≡ old.journal)) → OnOk r (new.broken ≡ false)
-      → (IsErrOf r Broken → old.broken ≡ true) → (IsErrOf r EpochsUsedUp → (last_epoch ≤ old.epoch) × (new.disk ≡ old.disk) × (new.broken ≡ false) × (new.beside ≡ old.beside)) → (IsErrOf r DiskFault → new.broken ≡ true)
+      → (IsErrOf r Broken → old.broken ≡ true) → (IsErrOf r EpochsUsedUp → (last_epoch ≤ old.epoch) × (new.disk ≡ old.disk) × (new.broken ≡ false) × (new.ongoing ≡ old.ongoing)) → (IsErrOf r DiskFault → new.broken ≡ true)
       → IfErr r IsOfCheckpoint → HasMadeRoom old new r
   made_by (Ok done) sound same sides journal unmoved up only epochs fault kinds = record {
     undone = record { register = same.1; sound = up };

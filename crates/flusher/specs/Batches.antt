@@ -21,13 +21,13 @@ use Rattle.recovery.specs.declared.outcome.Outcome.{Outcome}
 use Rattle.recovery.specs.declared.outcome.Outcome.TheVariants as outcome
 use Rattle.recovery.specs.declared.fault.StoreFault.{StoreFault}
 use Rattle.recovery.specs.declared.fault.StoreFault.TheVariants.{BadGeometry, Broken, Damaged, DiskFault, EpochsUsedUp, NoMemory, Unformatted, Unready}
-use Rattle.recovery.specs.GoneOn.{HasKept, HasRoom, with_room}
+use Rattle.recovery.specs.AfterCommit.{HasKept, HasRoom, with_room}
 use Rattle.recovery.specs.Lives.{StoreView, IsStoredIn}
-use Rattle.recovery.specs.Outcomes.{AreRecorded, IsAnswered, IsAfterBatch, StandsForEither}
+use Rattle.recovery.specs.Outcomes.{AreRecorded, IsAnswered, IsAfterBatch, OpensToEither}
 
 -- ---- taking
 
--- these entries were taken: 64, or fewer where the queue was found empty
+-- these entries were taken: 64, or fewer if the queue was found empty
 pub record HasTaken (old : Taking) (popped : List Entry) (new : Taking) : Type 0 where
   pub taken : new.taken ≡ old.taken ++ popped
   pub most : length popped ≤ 64
@@ -43,7 +43,7 @@ ended_by [] flags = flags
 ended_by (Submitted request ∷ xs) flags = ended_by xs flags
 ended_by (Ended station ∷ xs) flags = ended_by xs (slice_set flags (station - 1) true)
 
--- each is of one of so many stations
+-- each is of one of the stations 1 to n
 abbrev pub AreWithin : ℕ → List (Asked Global) → Type 0
 AreWithin n cs = AllByRecursion (λ (c : Asked Global). (0 < c.station) × (c.station ≤ n)) cs
 
@@ -58,7 +58,7 @@ accepted_by (c ∷ cs) (outcome.Replied (Kept n p) ∷ os) = accepted_by cs os
 accepted_by (c ∷ cs) (outcome.Replied (Refused r) ∷ os) = accepted_by cs os
 accepted_by (c ∷ cs) (outcome.NoMemory ∷ os) = accepted_by cs os
 
--- a record of these commands, after those that the place counts, does not fit there
+-- a record of these commands, after the commands that the place counts, does not fit there
 abbrev pub LacksRoom : Place → List (Asked Global) → Type 0
 LacksRoom place commands = room_of place < data_size (record_text place.form place.count (map (under Global) commands))
 
@@ -69,14 +69,14 @@ module _ {D : Type 0} (old new : StoreView Global D) where
     pub sound : new.broken ≡ false
 
   -- a checkpoint was made, and nothing was committed
-  pub record IsBehindCheckpoint : Type 0 where
+  pub record IsAfterCheckpoint : Type 0 where
     pub undone : IsUndone
     pub layout : new.layout ≡ old.layout
     pub room : HasRoom old new false
 
-  -- a checkpoint of a sound store was made, or why not
+  -- a checkpoint of a sound store was made, or this is why not
   abbrev pub HasMadeRoom : Result (Unit {0}) StoreFault → Type 0
-  HasMadeRoom (Ok done) = IsBehindCheckpoint
+  HasMadeRoom (Ok done) = IsAfterCheckpoint
   HasMadeRoom (Err DiskFault) = (new.register ≡ old.register) × (new.broken ≡ true)
   HasMadeRoom (Err EpochsUsedUp) = (new ≡ old) × (last_epoch ≤ old.epoch)
   HasMadeRoom (Err NoMemory) = ⊥
@@ -92,27 +92,27 @@ module _ {D : Type 0} (commands : List (Asked Global)) (old new : StoreView Glob
     pub answered : IsAnswered old.register commands new.register outcomes
     pub sound : new.broken ≡ false
 
-  -- the commands that were accepted are kept as one record: where the store was, or after a checkpoint that made room for it
+  -- the accepted commands are kept as one record: after those of the store, or after a checkpoint that made room for it
   pub record AreKept (fits : Bool) : Type 0 where
     pub recorded : List (Asked Global)
     pub these : AreRecorded Global old.register commands new.register recorded
     pub kept : HasKept (with_room fits old) new recorded
 
-  -- so, and a checkpoint was made only where a record of all the commands would not fit
+  -- the same, and a checkpoint was made only if a record of all the commands would not fit
   pub record HasRecorded : Type 0 where
     pub made_room : Bool
     pub lacks : made_room ≡ true → LacksRoom old.journal commands
     pub record_is : AreKept (not made_room)
 
-  -- the disk failed in the call, in a checkpoint before the commit or in the commit: the register is that from before, or that after
-  -- the first of the commands
+  -- the disk failed in the call: in a checkpoint before the commit, or in the commit. The register is the one before the call, or the one
+  -- after a prefix of the commands
   pub record HasBroken : Type 0 where
     pub broken : new.broken ≡ true
     pub some : commands ≡ [] → ⊥
     pub in_checkpoint : Bool
     pub register : (new.register ≡ old.register) ⊎ IsAfterBatch old.register commands new.register
 
-  -- why a call on a sound store was refused, where commits were tried as was and now say
+  -- why a call on a sound store was refused. `was` and `now` count the commits tried before and after the call
   abbrev pub IsRefusedBy : StoreFault → Attempts → Attempts → Type 0
   IsRefusedBy DiskFault was now = HasBroken
   IsRefusedBy NoMemory was now = IsUndone old new × WasOutOfMemory was now × HasRecorded
@@ -123,7 +123,7 @@ module _ {D : Type 0} (commands : List (Asked Global)) (old new : StoreView Glob
   IsRefusedBy BadGeometry was now = ⊥
   IsRefusedBy (Damaged at) was now = ⊥
 
-  -- what a commit of a sound store gives; where a record of all the commands would not fit, nothing is changed
+  -- what a commit of a sound store gives; if a record of all the commands would not fit, nothing is changed
   abbrev pub HasTried : Result (Vec (Outcome Global) Global) StoreFault → Type 0
   HasTried (Ok outcomes) = IsDone outcomes.items × AreKept true
   HasTried (Err DiskFault) = HasBroken
@@ -135,23 +135,24 @@ module _ {D : Type 0} (commands : List (Asked Global)) (old new : StoreView Glob
   HasTried (Err BadGeometry) = ⊥
   HasTried (Err (Damaged at)) = ⊥
 
-  -- what a commit of a sound store gives that makes a checkpoint where a record would not fit
+  -- the same of a commit that first makes a checkpoint if a record would not fit
   abbrev pub IsAnswerOf : Result (Vec (Outcome Global) Global) StoreFault → Attempts → Attempts → Type 0
   IsAnswerOf (Ok outcomes) was now = IsDone outcomes.items × HasRecorded
   IsAnswerOf (Err fault) was now = IsRefusedBy fault was now
 
 module _ {D : Type 0} (view : D → View) where
-  -- each stop in the call leaves the register on the disk, as before the call or as after it; there it is too if the disk has not failed
+  -- a stop at any moment of the call leaves a disk that opens to the register before the call or after it; without a failure of the disk,
+  -- the register after the call is stored
   pub record KeepsImages (old new : StoreView Global D) : Type 0 where
     pub honest : (view new.disk).honest
-    pub any_moment : LeavesOnly (view old.disk) (view new.disk) (StandsForEither Global old.register new.register)
+    pub any_moment : LeavesOnly (view old.disk) (view new.disk) (OpensToEither Global old.register new.register)
     pub kept : new.broken ≡ false → IsStoredIn Global view new
 
-  -- so it is where the disk is honest and the register was on it before the call
+  -- so it is if the disk is honest and the register was stored on it before the call
   abbrev pub HoldsImages : StoreView Global D → StoreView Global D → Type 0
   HoldsImages old new = (view old.disk).honest → IsStoredIn Global view old → KeepsImages old new
 
-  -- a store that is broken by a call has a disk that failed in it
+  -- a call breaks the store only if the disk failed in it
   pub record FailsByDisk (old new : StoreView Global D) : Type 0 where
     pub later : (view old.disk).failures ≤ (view new.disk).failures
     pub failed : new.broken ≡ true → HasFailed (view old.disk) (view new.disk)

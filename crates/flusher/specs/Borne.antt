@@ -13,20 +13,20 @@ use Rattle.flusher.specs.declared.decision.Decision.{Decision}
 use Rattle.flusher.specs.declared.decision.Decision.TheVariants as decision
 use Rattle.flusher.specs.Stages.{Sent, IsKeptOf}
 
--- these commands bear out a reply: accepted, the command is among them at its number with this reply; kept, its station's command of
--- that sequence is so, or the base keeps it; refused, the step refuses it after them
+-- These commands bear out a reply. Accepted: the command is among them at its number, with this reply. Kept: so is the station's command
+-- of that sequence, or the base keeps it. Refused: the step refuses the command after them.
 abbrev pub IsReplyAfter : State → List (Asked Global) → Asked Global → Reply Global → Type 0
 IsReplyAfter base commands c (Accepted n p) = Lands base commands c n p
 IsReplyAfter base commands c (Kept n p) = IsKeptOf base commands c n p
 IsReplyAfter base commands c (Refused r) = reply_to (after base commands) c ≡ Refused r
 
--- the same of what was decided; out of memory and a fault say nothing of them
+-- the same of a decision; out of memory and a fault need nothing
 abbrev pub IsDecisionAfter : State → List (Asked Global) → Asked Global → Decision → Type 0
 IsDecisionAfter base commands c (decision.Replied r) = IsReplyAfter base commands c r
 IsDecisionAfter base commands c decision.NoMemory = Unit {0}
 IsDecisionAfter base commands c (decision.Fault e) = Unit {0}
 
--- so many of the durable commands bear out the answer
+-- the first of the durable commands, as many as `place`, bear out the answer
 abbrev pub IsBorneAt : State → List (Asked Global) → ℕ → Sent → Type 0
 IsBorneAt base durable place x = IsDecisionAfter base (take place durable) x.command x.decision
 
@@ -37,6 +37,6 @@ AreBorneOut base durable low [] = Unit {0}
 AreBorneOut base durable low (x ∷ xs) =
     (place : ℕ) × (low ≤ place) × (place ≤ length durable) × IsBorneAt base durable place x × AreBorneOut base durable place xs
 
--- so are the answers to each station, in the order in which they were sent to it
+-- so are the answers that each station was sent, in that order
 abbrev pub AreSentInOrder : State → List (Asked Global) → List (AnswerSender Sent) → Type 0
 AreSentInOrder base durable senders = (k : ℕ) (a : AnswerSender Sent) → slice_get senders k ≡ Some a → AreBorneOut base durable 0 (sent_of a.pass)

@@ -22,7 +22,7 @@ pub record HasFinished {J : Type 0} (session : Session J) (end : Ended J) : Type
   pub channel : receives_on end.receiver.channel ≡ receives_on session.receiver.channel
 
 module _ {J D : Type 0} where
-  -- this holds of each session with its place and its sender of answers, which has the same place
+  -- this holds of each session, with its place and the sender of answers at that place
   abbrev pub IsTrueOfEach : FlusherView D → List (Ended J) → (ℕ → AnswerSender Sent → Ended J → Type 0) → Type 0
   IsTrueOfEach f ended P = (k : ℕ) (a : AnswerSender Sent) (e : Ended J) → slice_get f.senders k ≡ Some a → slice_get ended k ≡ Some e → P k a e
 
@@ -65,6 +65,6 @@ module _ {J D : Type 0} where
   pub record IsClosed (base : State) (f : FlusherView D) (ended : List (Ended J)) : Type 0 where
     pub each : IsTrueOfEach f ended (λ k. IsClosedSession base f)
 
-  -- why a centre is not closed: the end of a session was not taken, or a session has seen more commands than are published
+  -- why a centre was not closed: the end of a session was not taken, or a session has seen more commands than are published
   abbrev pub IsNotClosed : FlusherView D → List (Ended J) → Type 0
   IsNotClosed f ended = (HasTakenEnds f → ⊥) ⊎ Any (λ (end : Ended J). length f.published < length end.viewer) ended

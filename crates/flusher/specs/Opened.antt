@@ -13,12 +13,12 @@ use Rattle.flusher.specs.declared.session.Session.{Session}
 use Rattle.flusher.specs.Stages.{Sent}
 use Rattle.flusher.specs.View.{FlusherView}
 
--- a register with so many stations has one for each of these sessions, of which there is one at least
+-- there is at least one session, and the register has a station for each
 abbrev pub has_place : ℕ → ℕ → Bool
 has_place stations sessions = nat_lt 0 sessions && nat_le sessions stations
 
 module _ {J : Type 0} where
-  -- a session of this station, on this queue and on the channel of these answers, before its first call
+  -- a session of this station before its first call, on this queue and on the channel of these answers
   pub record IsNewSession (queue : TableId) (station : Station) (answers : AnswerSender Sent) (session : Session J) : Type 0 where
     pub sender : session.sender ≡ sending queue station []
     pub channel :
@@ -30,13 +30,13 @@ module _ {J : Type 0} where
     pub count : length sessions ≡ length senders
     pub each : (k : ℕ) (a : AnswerSender Sent) (s : Session J) → slice_get senders k ≡ Some a → slice_get sessions k ≡ Some s → IsNewSession queue (k + 1) a s
 
-  -- the taker of a queue from which nothing was taken, and the sessions of so many stations
+  -- the taker of a queue from which nothing was taken, and the sessions of this many stations
   pub record AreOpened (stations : ℕ) (taker : Taking) (senders : List (AnswerSender Sent)) (sessions : List (Session J)) : Type 0 where
     pub queue : taker ≡ taking taker.queue stations [] [] taker.empty
     pub count : length senders ≡ stations
     pub each : AreNewSessions taker.queue senders sessions
 
--- a flusher of the opened store and of so many stations, before its first round
+-- a flusher of the opened store and of this many stations, before its first round
 pub record IsNewFlusher {D : Type 0} (stations : ℕ) (opened : StoreView Global D) (f : FlusherView D) : Type 0 where
   pub queue : f.taker ≡ taking f.taker.queue stations [] [] f.taker.empty
   pub count : length f.senders ≡ stations

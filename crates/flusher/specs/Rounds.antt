@@ -1,4 +1,4 @@
--- A round.
+-- One round.
 use Rattle.std.specs.Prelude.{◌≡◌, List}
 use Rattle.centre_core.specs.State.{State}
 use Rattle.station_queue.specs.declared.entry.Entry.{Entry}
@@ -7,7 +7,7 @@ use Rattle.flusher.specs.Batches.{HasTaken, ended_by}
 use Rattle.flusher.specs.Served.{HasServed}
 use Rattle.flusher.specs.View.{FlusherView, progress_of}
 
--- from one view to another: entries were taken, ends among them are noted, and the commands among them were served
+-- between these two views entries were taken, the ends among them were noted, and the commands among them were served
 pub record IsRound {D : Type 0} (base : State) (f g : FlusherView D) : Type 0 where
   pub popped : List Entry
   pub taken : HasTaken f.taker popped g.taker

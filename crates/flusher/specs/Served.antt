@@ -23,8 +23,8 @@ use Rattle.flusher.specs.Borne.{AreSentInOrder}
 use Rattle.flusher.specs.Order.{AreInOrder}
 use Rattle.flusher.specs.View.{FlusherView, Progress, stage_of}
 
--- what always holds between two rounds: what is durable is a history, and the register of a sound store is what it makes; what is
--- published is a prefix of it; each answer that was sent is borne out by it; and its commands were taken in this order
+-- What always holds between two rounds. What is durable is a history, and the register of a sound store is what it makes. What is
+-- published is a prefix of it. Each answer that was sent is borne out by it. Its commands were taken in this order.
 pub record IsSettled {D : Type 0} (base : State) (f : FlusherView D) : Type 0 where
   pub history : IsHistory base f.durable
   pub made : f.store.broken ≡ false → f.store.register ≡ after base f.durable
@@ -47,8 +47,8 @@ decision_by (Damaged at) = decision.Fault (Damaged at)
 -- From one view to another, with these commands and their answers.
 module _ {D : Type 0} (base : State) (f g : Progress D) (commands : List (Asked Global)) (answers : List Sent) where
   -- The commands were committed, and each is answered by its outcome: its reply in its turn, and out of memory from the first one on
-  -- that needed memory. What is accepted is published; where memory did not allow that, an accepted one is answered as kept. A checkpoint
-  -- was made only where a record of all the commands would not fit.
+  -- that needed memory. What is accepted is published; if memory ran out for that, an accepted command is answered as kept. A checkpoint
+  -- was made only if a record of all the commands would not fit.
   pub record AreCommitted : Type 0 where
     pub outcomes : List (Outcome Global)
     pub all : Bool
@@ -60,7 +60,7 @@ module _ {D : Type 0} (base : State) (f g : Progress D) (commands : List (Asked 
     pub each : answers ≡ sent_by g.published all commands outcomes
     pub recorded : HasRecorded commands f.store g.store
 
-  -- why a commit was refused: it was itself out of memory, no epoch is left for a checkpoint that it needs, or the disk failed
+  -- why a commit was refused: it ran out of memory itself, no epoch is left for a checkpoint that it needs, or the disk failed
   abbrev pub IsReason : StoreFault → Type 0
   IsReason NoMemory = WasOutOfMemory f.attempts g.attempts × (g.store.broken ≡ false) × HasRecorded commands f.store g.store
   IsReason EpochsUsedUp = (last_epoch ≤ f.store.epoch) × LacksRoom f.store.journal commands × (g.store ≡ f.store)
@@ -80,7 +80,7 @@ module _ {D : Type 0} (base : State) (f g : Progress D) (commands : List (Asked 
     pub each : answers ≡ sent_to_all g.published (decision_by fault) commands
 
   -- what was durable before could still not be published: nothing is committed, and each command is answered as out of memory
-  pub record AreBehind : Type 0 where
+  pub record HasNotCaughtUp : Type 0 where
     pub fewer : length f.published < length f.durable
     pub durable : g.durable ≡ f.durable
     pub published : g.published ≡ f.published
@@ -94,16 +94,16 @@ module _ {D : Type 0} (base : State) (f g : Progress D) (commands : List (Asked 
     pub store : g.store ≡ f.store
     pub each : answers ≡ sent_to_all g.published (decision.Fault Broken) commands
 
-  -- by whether the disk had failed before
+  -- which of these it is, by whether the disk had failed before
   abbrev pub AreServedBy : Bool → Type 0
   AreServedBy true = AreBroken
-  AreServedBy false = AreCommitted ⊎ (AreRefused ⊎ AreBehind)
+  AreServedBy false = AreCommitted ⊎ (AreRefused ⊎ HasNotCaughtUp)
 
   -- why each command is answered as it is
   abbrev pub AreServed : Type 0
   AreServed = AreServedBy f.store.broken
 
--- Each command got one answer, in turn. The core goes so by a run of its events, and each answer has its reason.
+-- Each command got one answer, in turn. The same happens in the core by a run of its events, and each answer has its reason.
 pub record HasServed {D : Type 0} (base : State) (f g : Progress D) (commands : List (Asked Global)) (old new : List (AnswerSender Sent)) : Type 0 where
   pub answers : List Sent
   pub asked : commands_of answers ≡ commands
@@ -111,7 +111,7 @@ pub record HasServed {D : Type 0} (base : State) (f g : Progress D) (commands : 
   pub run : HasRun base (stage_of f) (stage_of g) commands answers
   pub served : AreServed base f g commands answers
 
--- what became durable was published, or it was not; each command was answered by its outcome
+-- what became durable was published or not, and each command was answered by its outcome
 pub record HavePublished (before durable list commands : List (Asked Global)) (outcomes : List (Outcome Global))
     (old new : List (AnswerSender Sent)) : Type 0 where
   pub all : Bool

@@ -1,4 +1,4 @@
--- What contracts see of a session.
+-- What a session is modelled as.
 use Rattle.std.specs.Prelude.{◌≡◌}
 use Rattle.crossbeam_channel.specs.Ends.{receives_on}
 use Rattle.answers.specs.Views.{received_of}

@@ -13,11 +13,11 @@ abbrev pub HasShortOutcome : Outcome Global → Type 0
 HasShortOutcome (outcome.Replied r) = HasShortPdu r
 HasShortOutcome outcome.NoMemory = Unit {0}
 
--- so it is of each of these outcomes
+-- the same of each of these outcomes
 abbrev pub AreShort : List (Outcome Global) → Type 0
 AreShort os = AllByRecursion HasShortOutcome os
 
--- so it is of a decision
+-- the same of a decision
 abbrev pub HasShortDecision : Decision → Type 0
 HasShortDecision (decision.Replied r) = HasShortPdu r
 HasShortDecision decision.NoMemory = Unit {0}

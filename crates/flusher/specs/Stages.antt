@@ -11,7 +11,7 @@ use Rattle.centre_core.specs.declared.reply.Reply.{Reply}
 use Rattle.centre_core.specs.declared.reply.Reply.TheVariants.{Accepted, Kept, Refused}
 use Rattle.schedule.specs.declared.event.Event.{Event}
 use Rattle.schedule.specs.World.{World, Entry}
-use Rattle.schedule.specs.Next.{told}
+use Rattle.schedule.specs.Next.{answer_from}
 use Rattle.schedule.specs.Rounds.{Goes, GoesDown}
 use Rattle.recovery.specs.declared.fault.StoreFault.{StoreFault}
 use Rattle.recovery.specs.declared.outcome.Outcome.{Outcome}
@@ -35,22 +35,22 @@ sent c published d = record { command = c; published = published; decision = d }
 abbrev pub IsKeptOf : State → List (Asked Global) → Asked Global → ℕ → Option (List Bool) → Type 0
 IsKeptOf base l c n p = IsLeftBy base l c.station (last_of c n p) ⊎ (last_at base c.station ≡ Some (last_of c n p))
 
--- a reply as the published list bears it out: accepted, the command is there at its number with this reply; kept, the list or the
--- base keeps it, if the list is as long; refused, the step refuses it after some list of commands that are accepted in turn
+-- The published list bears out a reply. Accepted: the command is there at its number, with this reply. Kept: the list or the base keeps
+-- it, if the list is as long. Refused: the step refuses it after some list of commands that are accepted in turn.
 abbrev pub BearsOut : State → List (Asked Global) → Asked Global → Reply Global → Type 0
 BearsOut base published c (Accepted n p) = Lands base published c n p
 BearsOut base published c (Kept n p) = n ≤ base.count + length published → IsKeptOf base published c n p
 BearsOut base published c (Refused r) = (l : List (Asked Global)) × IsHistory base l × (reply_to (after base l) c ≡ Refused r)
 
--- so a decision: one that is no reply needs nothing
+-- the same of a decision; one that is no reply needs nothing
 abbrev pub BearsOutDecision : State → List (Asked Global) → Asked Global → Decision → Type 0
 BearsOutDecision base published c (decision.Replied r) = BearsOut base published c r
 BearsOutDecision base published c decision.NoMemory = Unit {0}
 BearsOutDecision base published c (decision.Fault fault) = Unit {0}
 
--- the decision by an outcome of a commit, where all that is durable is published, or not
+-- the decision for an outcome of a commit; `all`: everything durable is published
 abbrev pub decision_of : Bool → Outcome Global → Decision
-decision_of all (outcome.Replied r) = decision.Replied (told all r)
+decision_of all (outcome.Replied r) = decision.Replied (answer_from all r)
 decision_of all outcome.NoMemory = decision.NoMemory
 
 -- the answers to these commands by these outcomes
@@ -59,12 +59,12 @@ sent_by published all [] os = []
 sent_by published all (c ∷ cs) [] = []
 sent_by published all (c ∷ cs) (o ∷ os) = sent c published (decision_of all o) ∷ sent_by published all cs os
 
--- the same decision on each
+-- the answers to these commands, with one decision for all
 abbrev pub sent_to_all : List (Asked Global) → Decision → List (Asked Global) → List Sent
 sent_to_all published d [] = []
 sent_to_all published d (c ∷ cs) = sent c published d ∷ sent_to_all published d cs
 
--- the published list bears out the decision on each by its outcome
+-- the published list bears out the decision on each command, by its outcome
 abbrev pub BearsOutDecisions : State → List (Asked Global) → Bool → List (Asked Global) → List (Outcome Global) → Type 0
 BearsOutDecisions base published all [] os = Unit {0}
 BearsOutDecisions base published all (c ∷ cs) [] = Unit {0}
@@ -82,18 +82,18 @@ decision_for_all (Some fault) = decision.Fault fault
 
 -- ---- the core
 
--- an answer in the core: a reply alone is one
+-- an answer in the core; only a reply is one
 abbrev pub entry_of : Asked Global → Decision → List (Entry Global)
 entry_of c (decision.Replied r) = (c, r) ∷ []
 entry_of c decision.NoMemory = []
 entry_of c (decision.Fault fault) = []
 
--- those among these answers, in order
+-- the answers in the core among these, in order
 abbrev pub entries_of : List Sent → List (Entry Global)
 entries_of [] = []
 entries_of (x ∷ xs) = entry_of x.command x.decision ++ entries_of xs
 
--- how far the centre is: what is published, what is durable, whether a checkpoint is under way, and whether its disk has failed
+-- how far the centre has come: what is published and durable, whether a checkpoint is under way, and whether its disk has failed
 pub record Stage : Type 0 where
   pub published : List (Asked Global)
   pub durable : List (Asked Global)
@@ -104,7 +104,7 @@ pub record Stage : Type 0 where
 abbrev pub stage : List (Asked Global) → List (Asked Global) → Bool → Bool → Stage
 stage published durable checking broken = record { published = published; durable = durable; checking = checking; broken = broken }
 
--- the same in the core between two rounds, where so much was answered
+-- the same in the core between two rounds, after these answers
 abbrev pub world_of : Stage → List (Entry Global) → World Global
 world_of s answers = record {
   lines = [];
@@ -112,7 +112,7 @@ world_of s answers = record {
   accepted = s.durable;
   durable = length s.durable;
   published = length s.published;
-  flying = None;
+  in_flight = None;
   owed = [];
   answers = answers;
   checking = s.checking;
@@ -120,18 +120,18 @@ world_of s answers = record {
 }
 
 module _ (base : State) (f g : Stage) (commands : List (Asked Global)) (events : List (Event Global)) (answers : List Sent) where
-  -- these events pop the commands and give the answers, whatever waits and whatever was answered before
+  -- these events take the commands and give the answers, whatever waits and whatever was answered before
   abbrev pub GoesOn : Type 0
   GoesOn = (a : List (Entry Global)) → Goes base commands events (world_of f a) (world_of g (a ++ entries_of answers))
 
-  -- these events pop the commands and end in a crash, and give no reply
+  -- these events take the commands, give no reply, and end in a crash
   pub record Stops : Type 0 where
     pub up : f.broken ≡ false
     pub down : g.broken ≡ true
     pub none : entries_of answers ≡ []
     pub stops : (a : List (Entry Global)) → GoesDown base commands events (world_of f a) (world_of g a)
 
--- the first of the commands go through the core by a run of its events: one that goes on, or one that ends in a crash
+-- a prefix of the commands goes through the core by a run of its events: one that goes on, or one that ends in a crash
 pub record HasRun (base : State) (f g : Stage) (commands : List (Asked Global)) (answers : List Sent) : Type 0 where
   pub reached : ℕ
   pub events : List (Event Global)

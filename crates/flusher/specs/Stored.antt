@@ -8,19 +8,19 @@ use Rattle.centre_core.specs.Asked.{Asked}
 use Rattle.centre_core.specs.State.{State}
 use Rattle.centre_core.specs.History.{after}
 use Rattle.centre_core.specs.Batches.{taken}
-use Rattle.checkpoint.specs.Standing.{InEach}
+use Rattle.checkpoint.specs.OnSide.{InEach}
 use Rattle.recovery.specs.Lives.{IsStoredIn}
-use Rattle.recovery.specs.Outcomes.{StandsForEither}
-use Rattle.recovery.specs.Standing.{StandsFor}
+use Rattle.recovery.specs.Outcomes.{OpensToEither}
+use Rattle.recovery.specs.OpensTo.{OpensTo}
 use Rattle.flusher.specs.Shared.{commands_among}
 use Rattle.flusher.specs.Order.{AreInOrder}
 use Rattle.flusher.specs.View.{FlusherView}
 
--- the list has these in a row
+-- the list has these items one after another
 abbrev pub IsPart : {X : Type 0} → List X → List X → Type 0
 IsPart {X} part whole = (before : List X) × (after : List X) × (whole ≡ before ++ (part ++ after))
 
--- further commands that a commit was to make durable when the disk failed: the accepted ones of the first commands of a batch that was taken
+-- further commands that a commit was to make durable when the disk failed: the accepted ones of a prefix of a batch that was taken
 pub record AreUnderWay {D : Type 0} (base : State) (f : FlusherView D) (more : List (Asked Global)) : Type 0 where
   pub batch : List (Asked Global)
   pub reached : ℕ
@@ -35,11 +35,11 @@ pub record IsStoredFor {D : Type 0} (view : D → View) (base : State) (f : Flus
   pub honest : (view f.store.disk).honest
   pub sound : f.store.broken ≡ false → IsStoredIn Global view f.store
   pub failed : f.store.broken ≡ true → (more : List (Asked Global)) × AreUnderWay base f more
-      × InEach (view f.store.disk) (StandsForEither Global (after base f.durable) (after base (f.durable ++ more)))
+      × InEach (view f.store.disk) (OpensToEither Global (after base f.durable) (after base (f.durable ++ more)))
 
 -- The image opens to what was durable at some moment from one view to another. If the disk has failed then, it may also open to that and
 -- further commands that were under way.
-abbrev pub StandsBetween : {D : Type 0} → State → FlusherView D → FlusherView D → List (List Byte) → Type 0
-StandsBetween base f g image =
-    ((list : List (Asked Global)) × IsPrefix f.durable list × IsPrefix list g.durable × StandsFor Global (after base list) image)
-    ⊎ ((more : List (Asked Global)) × (g.store.broken ≡ true) × AreUnderWay base g more × StandsFor Global (after base (g.durable ++ more)) image)
+abbrev pub OpensBetween : {D : Type 0} → State → FlusherView D → FlusherView D → List (List Byte) → Type 0
+OpensBetween base f g image =
+    ((list : List (Asked Global)) × IsPrefix f.durable list × IsPrefix list g.durable × OpensTo Global (after base list) image)
+    ⊎ ((more : List (Asked Global)) × (g.store.broken ≡ true) × AreUnderWay base g more × OpensTo Global (after base (g.durable ++ more)) image)

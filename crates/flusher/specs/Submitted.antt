@@ -26,7 +26,7 @@ are_submitted [] = true
 are_submitted (Submitted request ∷ entries) = are_submitted entries
 are_submitted (Ended station ∷ entries) = false
 
--- commands that were submitted, and last the end of a session
+-- commands that were submitted, and as the last entry the end of a session
 abbrev pub is_ended : List Entry → Bool
 is_ended [] = false
 is_ended (Submitted request ∷ entries) = is_ended entries
@@ -39,7 +39,7 @@ pub record SessionView : Type 0 where
   pub received : List Sent
   pub seen : List (Asked Global)
 
--- the decision accepts a command under a number within so many after the base's
+-- the decision accepts a command under a number that was seen already
 abbrev pub IsAlreadySeen : ℕ → ℕ → Decision → Type 0
 IsAlreadySeen base seen (decision.Replied (Accepted n p)) = n ≤ base + seen
 IsAlreadySeen base seen (decision.Replied (Kept n p)) = ⊥
@@ -47,7 +47,7 @@ IsAlreadySeen base seen (decision.Replied (Refused r)) = ⊥
 IsAlreadySeen base seen decision.NoMemory = ⊥
 IsAlreadySeen base seen (decision.Fault f) = ⊥
 
--- what was received is for another command, its list is shorter than what was seen, or it accepts under a number that was seen
+-- what was received is for another command, its list is shorter than what was seen, or it accepts under a number seen already
 abbrev pub IsMisfit : State → Asked Global → List (Asked Global) → Sent → Type 0
 IsMisfit base c seen x = (x.command ≡ c → ⊥) ⊎ (length x.published < length seen) ⊎ IsAlreadySeen base.count (length seen) x.decision
 
@@ -56,7 +56,7 @@ abbrev pub IsPut : Asked Global → List Entry → List Entry → Type 0
 IsPut c old new = (request : Request) × (arc_value request.command ≡ c) × (new ≡ old ++ Submitted request ∷ [])
 
 module _ {J : Type 0} where
-  -- the answer for a decision
+  -- the answer to a decision
   abbrev pub answer_by : List (Asked Global) → Decision → Answer J
   answer_by published (decision.Replied (Accepted n p)) = answer.Accepted n p published
   answer_by published (decision.Replied (Kept n p)) = answer.Kept n p
@@ -64,10 +64,10 @@ module _ {J : Type 0} where
   answer_by published decision.NoMemory = answer.NoMemory
   answer_by published (decision.Fault f) = answer.Fault f
 
-  -- What an answer says of its command, with the lists that are seen before and now. Accepted: the published list begins with
-  -- all that was seen, and is now seen; the command is in it at its number, past all that was seen, with this reply. Kept: if
-  -- the list that is now seen is as long, it has this number and reply for the station's command of that sequence, or the base
-  -- has. Refused: so it is after some list of commands that are accepted in turn.
+  -- What an answer says of its command, with the lists that were seen before and are seen now. Accepted: the published list begins
+  -- with all that was seen, and is now seen; the command is in it at its number, after all that was seen, with this reply. Kept: the
+  -- list that is now seen, if it is as long, or the base has this number and reply for the station's command of that sequence.
+  -- Refused: the step refuses the command after some list of commands that are accepted in turn.
   abbrev pub BearsOutAnswer : State → Asked Global → List (Asked Global) → List (Asked Global) → Answer J → Type 0
   BearsOutAnswer base c seen now (answer.Accepted n p published) =
       IsPrefix seen published × (base.count + length seen < n) × Lands base published c n p × (now ≡ published)
@@ -85,7 +85,7 @@ module _ {J : Type 0} where
   abbrev pub IsAnswered : State → Asked Global → SessionView → SessionView → Answer J → Type 0
   IsAnswered base c old new a = (x : Sent) × (new.received ≡ old.received ++ x ∷ []) × Fits base c old.seen x new.seen a
 
-  -- none was received, since the flusher is gone
+  -- none was received, because the flusher is gone
   abbrev pub IsUnanswered : SessionView → SessionView → Answer J → Type 0
   IsUnanswered old new a = (new.received ≡ old.received) × (new.seen ≡ old.seen) × (a ≡ answer.Closed)
 

@@ -1,4 +1,4 @@
--- The flusher as contracts see it.
+-- What the flusher is modelled as.
 use Rattle.std.specs.Prelude.{Bool, false, cond, is_some, List, ◌++◌}
 use Rattle.std.specs.declared.alloc.Global.{Global}
 use Rattle.sector_disk.specs.declared.disk.Disk.{Ghosts}
@@ -13,8 +13,8 @@ use Rattle.flusher.specs.declared.committing.Attempts.{Attempts}
 use Rattle.flusher.specs.declared.committing.Committer.{Committer}
 use Rattle.flusher.specs.declared.flusher.Flusher.{Flusher}
 
--- The taker of the queue; the commands that are published, and those that are durable; the channels, one for each station; the store;
--- how often it tried to commit, and whether the last commit was out of memory; and of each station whether its end was taken.
+-- The taker of the queue; the published commands, and the durable ones; the channels, one for each station; the store; how many commits
+-- were tried, and whether the last one was out of memory; and for each station whether its end was taken.
 pub record FlusherView (D : Type 0) : Type 0 where
   pub taker : Taking
   pub published : List (Asked Global)
@@ -28,7 +28,7 @@ pub record FlusherView (D : Type 0) : Type 0 where
 abbrev pub durable_of : {J : Type 0} → Publication J → List (Asked Global)
 durable_of p = p.publisher.appended ++ commands_in p.unpublished.items
 
--- the flusher, as contracts see it
+-- this flusher as modelled
 abbrev pub view_of : {J D : Type 0} {g : Ghosts D} → Flusher J D g → FlusherView D
 view_of f = record {
   taker = f.taker;
@@ -40,7 +40,7 @@ view_of f = record {
   ended = f.ended.items;
 }
 
--- how far the centre is: what is published, what is durable, its store, and whether the last commit was out of memory
+-- how far the centre has come: what is published and durable, its store, and how its commits were tried
 pub record Progress (D : Type 0) : Type 0 where
   pub published : List (Asked Global)
   pub durable : List (Asked Global)
@@ -51,17 +51,17 @@ pub record Progress (D : Type 0) : Type 0 where
 abbrev pub progress : {D : Type 0} → List (Asked Global) → List (Asked Global) → StoreView Global D → Attempts → Progress D
 progress published durable store attempts = record { published = published; durable = durable; store = store; attempts = attempts }
 
--- how far this flusher is
+-- how far this flusher has come
 abbrev pub progress_of : {D : Type 0} → FlusherView D → Progress D
 progress_of f = progress f.published f.durable f.store f.attempts
 
--- so of its parts
+-- the same, from its parts
 abbrev pub progress_by : {J D : Type 0} {g : Ghosts D} → Publication J → Committer D g → Progress D
 progress_by p c = progress p.publisher.published (durable_of p) (store_view c.store) c.attempts
 
 -- whether a checkpoint is under way in a store that is not broken
 abbrev pub is_checking : {D : Type 0} → StoreView Global D → Bool
-is_checking store = cond store.broken false (is_some store.beside)
+is_checking store = cond store.broken false (is_some store.ongoing)
 
 -- the same in the core
 abbrev pub stage_of : {D : Type 0} → Progress D → Stage

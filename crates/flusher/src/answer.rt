@@ -14,8 +14,8 @@ pub enum Answer<J: Centre> {
         pdu: Option<Bits<Global>>,
         published: Published<J>,
     },
-    /// A command of its station and sequence was accepted under this number, with this PDU: one that was submitted earlier,
-    /// or this one. In both cases it is durable. If this one, it is not published yet, since memory ran out.
+    /// A command of its station and sequence was accepted under this number, with this PDU, and is durable. It was submitted
+    /// earlier, or it is this one. If it is this one, it is not published yet, since memory ran out.
     Kept {
         number: u64,
         pdu: Option<Bits<Global>>,

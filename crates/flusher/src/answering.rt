@@ -77,7 +77,7 @@ fn decision_for_all(fault: Option<StoreFault>) -> Decision
     }
 }
 
-/// Answers each command alike: out of memory, or this fault.
+/// Gives each command the same answer: this fault, or out of memory for `None`.
 pub(crate) fn answer_all_alike<J: Centre, R: Wait>(
     rt: &R,
     senders: &mut Vec<AnswerSender<Response<J>>>,

@@ -23,13 +23,13 @@ use std::collections::VecDeque;
 use std::sync::Wait;
 use std::thread;
 
-/// The most entries of a round.
+/// The most entries that one round takes.
 pub(crate) const MOST: usize = 64;
 
-// How often the flusher lets other threads run while no further command comes, before it commits those of a round.
+// How often the flusher lets other threads run while no further command comes, before it commits a round's commands.
 const TURNS: u32 = 4;
 
-/// The commands of a round, each with its copy: there is room for 64.
+/// The commands of a round, each with its copy. There is room for 64.
 #[derive(Drop)]
 pub struct Room {
     pub(crate) batch: VecDeque<SharedCommand>,
@@ -40,7 +40,7 @@ pub struct Room {
     pub ghost also_room: { 64 ≤ deque_capacity copies },
 }
 
-// Keeps the command of an entry with its copy, or notes an end.
+// Keeps the command of an entry and its copy, or notes the end of a session.
 fn put(entry: Entry, room: &mut Room, ended: &mut Vec<bool>)
     requires few { length room.old.batch.items < 64 }
     requires station { (0 < station_of entry) × (station_of entry ≤ length ended.old.items) }
@@ -58,8 +58,8 @@ fn put(entry: Entry, room: &mut Room, ended: &mut Vec<bool>)
     }
 }
 
-// How often the flusher lets other threads run for the next command of a round, which has so many. A station has one at a
-// time, so none comes after one of each.
+// How often the flusher lets other threads run before it stops waiting for the round's next command. A station has one
+// command at a time, so no more come once there is one of each.
 fn turns_before(commands: usize, stations: usize) -> u32 {
     if commands == 0 || commands >= stations {
         0
@@ -68,7 +68,8 @@ fn turns_before(commands: usize, stations: usize) -> u32 {
     }
 }
 
-// Takes the oldest entry, and where the queue is empty lets other threads run so often. `None` only where it was empty then, too.
+// Takes the oldest entry. While the queue is empty it lets other threads run, at most `turns` times. `None` if the queue is
+// still empty then.
 fn take_within<R: Wait>(rt: &R, taker: &mut Taker, turns: u32) -> Option<Entry>
     ensures same { (taker.new.queue ≡ taker.old.queue) × (taker.new.made ≡ taker.old.made) × (taker.new.settled ≡ taker.old.settled) }
     ensures taken { MatchOption result ((taker.new.taken ≡ taker.old.taken) × (taker.new.empty ≡ true))
@@ -84,7 +85,8 @@ fn take_within<R: Wait>(rt: &R, taker: &mut Taker, turns: u32) -> Option<Entry>
     taker.take(rt)
 }
 
-/// Takes entries until there are 64 or the queue is empty: the commands among them, and the stations that ended.
+/// Takes entries until there are 64 or the queue is empty. It keeps the commands among them, and notes the stations that
+/// ended.
 pub(crate) fn take_batch<R: Wait>(rt: &R, taker: &mut Taker, room: &mut Room, ended: &mut Vec<bool>)
     requires empty { room.old.batch.items ≡ [] }
     requires flags { taker.old.made ≡ length ended.old.items }
@@ -101,7 +103,7 @@ pub(crate) fn take_batch<R: Wait>(rt: &R, taker: &mut Taker, room: &mut Room, en
     }
 }
 
-// How many bytes the commands take: so few that a record of them fits after a checkpoint.
+// How many bytes the commands take. A record of so few fits after a checkpoint.
 fn size_of(commands: &[&Command<Global>]) -> usize
     requires few { length commands.now ≤ 64 }
     ensures size { result ≡ length (flat_map (λ command. command_text command.now) commands.now) }
@@ -114,7 +116,7 @@ fn size_of(commands: &[&Command<Global>]) -> usize
     size
 }
 
-// Whether a checkpoint is to be made first.
+// Whether the commit asks for a checkpoint first.
 fn is_unready(done: &Result<Vec<Outcome<Global>>, StoreFault>) -> bool
     ensures { MatchBool result (IsErrOf done.now Unready) (IsErrOf done.now Unready → ⊥) }
 {
@@ -124,7 +126,7 @@ fn is_unready(done: &Result<Vec<Outcome<Global>>, StoreFault>) -> bool
     }
 }
 
-// Commits the commands. Where a record of them would not fit, a checkpoint is made first.
+// Commits the commands. If a record of them would not fit, it makes a checkpoint first.
 fn commit_with_room<D: Disk>(
     committer: &mut Committer<D>,
     commands: &[&Command<Global>],

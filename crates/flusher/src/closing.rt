@@ -71,7 +71,7 @@ fn settle_each<J: Centre>(
     }
 }
 
-// Ends the publisher. What is not published yet is dropped.
+// Ends the publisher, and drops what is not published yet.
 fn end_publisher<J: Centre, R: Wait>(rt: &R, publication: Publication<J>) {
     let Publication {
         publisher,
@@ -80,10 +80,10 @@ fn end_publisher<J: Centre, R: Wait>(rt: &R, publication: Publication<J>) {
     publisher.close(rt);
 }
 
-/// Closes a centre, and gives its store back. The ended sessions are all that the centre has, in order of station.
+/// Closes a centre, and returns its store. `ended` has all sessions of the centre, in order of station.
 ///
-/// Both come back unchanged where the flusher has not taken the end of each session. So they do where a session has seen
-/// more commands than are published, which never happens.
+/// If the flusher has not taken the end of each session, flusher and sessions come back unchanged. So they do if a session
+/// has seen more commands than are published, which never happens.
 pub fn close<J: Centre, D: Disk, R: Wait>(
     rt: &R,
     flusher: Flusher<J, D>,
@@ -117,8 +117,8 @@ pub fn close<J: Centre, D: Disk, R: Wait>(
 }
 
 impl<J: Centre, D: Disk> Flusher<J, D> {
-    /// Gives the store back without closing the centre. Entries that are still in the queue are lost, and each session
-    /// that waits for an answer gets `Closed`.
+    /// Returns the store without closing the centre. Entries that are still in the queue are lost, and each session that
+    /// waits for an answer gets `Closed`.
     pub fn abandon<R: Wait>(self, rt: &R) -> Store<Global, D>
         ensures { store_view result ≡ (view_of self).store }
     {

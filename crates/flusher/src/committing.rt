@@ -14,14 +14,14 @@ use recovery::{Outcome, Store, StoreFault};
 use sector_disk::Disk;
 use std::alloc::Global;
 
-/// How many commits were tried, counted from 0 again after the greatest number; and whether the last one was out of memory.
+/// How many commits were tried, and whether the last one was out of memory. After the greatest number it counts from 0 again.
 #[derive(Drop)]
 pub struct Attempts {
     count: u64,
     refused: bool,
 }
 
-/// A store that commits, and how its commits were tried.
+/// A store that commits, and the count of its attempts.
 #[derive(Drop)]
 pub struct Committer<D: Disk> {
     pub(crate) store: Store<Global, D>,
@@ -51,7 +51,7 @@ impl<D: Disk> Committer<D> {
         self.store.register().is_some()
     }
 
-    /// One call of the store's commit.
+    /// Calls the store's `commit` once.
     pub(crate) fn commit(
         &mut self,
         commands: &[&Command<Global>],
@@ -75,7 +75,7 @@ impl<D: Disk> Committer<D> {
         done
     }
 
-    /// One call of the store's checkpoint.
+    /// Calls the store's `checkpoint` once.
     pub(crate) fn make_room(&mut self) -> Result<(), StoreFault>
         requires sound { self.old.store.broken ≡ false }
         ensures attempts { self.new.attempts ≡ self.old.attempts }
@@ -98,7 +98,7 @@ pub fn register_of<D: Disk>(store: &Store<Global, D>) -> &Register<Global>
     register
 }
 
-// What each of these commands holds is in its range.
+// Each field of these commands is in its range.
 fn hold_ranges(commands: &[&Command<Global>])
     ensures { All (λ command. InRange command.now) commands.now }
 {

@@ -10,6 +10,6 @@ pub enum Decision {
     Replied(Reply<Global>),
     /// Out of memory: nothing was done.
     NoMemory,
-    /// The disk or its state did not allow it.
+    /// The device failed, or the store could not take it.
     Fault(StoreFault),
 }

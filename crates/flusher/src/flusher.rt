@@ -14,9 +14,9 @@ use snapshots::Centre;
 use station_queue::Taker;
 use std::sync::Wait;
 
-/// It is called in each round, before the round commits.
+/// What is called in each round, before the round commits.
 pub trait Gate {
-    /// The round of this number, counted from 1, has taken so many commands, and commits them now.
+    /// The round of this number, counted from 1, has taken `taken` commands, and commits them now.
     fn before_commit(&self, round: u64, taken: usize);
 }
 
@@ -34,7 +34,7 @@ pub struct Flusher<J: Centre, D: Disk> {
     pub ghost empty: { room.batch.items ≡ [] },
 }
 
-// Why nothing is committed: out of memory, or the disk has failed.
+// Why nothing is committed: `None` for out of memory, `Broken` if the disk has failed.
 fn fault_of(sound: bool) -> Option<StoreFault>
     ensures { MatchBool sound (result ≡ None) (result ≡ Some Broken) }
 {
@@ -45,7 +45,7 @@ fn fault_of(sound: bool) -> Option<StoreFault>
     }
 }
 
-// The number of the round after this one; the greatest number stays.
+// The number of the round after this one. The greatest number stays.
 fn next_round(round: u64) -> u64
     ensures { (result ≡ round + 1) ⊎ ((round ≡ 2 ^ 64 - 1) × (result ≡ round)) }
 {
@@ -57,7 +57,7 @@ impl<J: Centre, D: Disk> Flusher<J, D> {
     ghost use Rattle.std.specs.declared.alloc.Global.{Global};
     ghost use Rattle.sector_disk.specs.Disk.{HasFailed};
     ghost use Rattle.sector_disk.specs.Run.{LeavesOnly};
-    ghost use Rattle.recovery.specs.Outcomes.{StandsForEither};
+    ghost use Rattle.recovery.specs.Outcomes.{OpensToEither};
     ghost use Rattle.flusher.specs.Rounds.{IsRound};
     ghost use Rattle.flusher.specs.Served.{IsSettled};
     ghost use Rattle.flusher.specs.Stored.{IsStoredFor};
@@ -76,7 +76,7 @@ impl<J: Centre, D: Disk> Flusher<J, D> {
         ensures stored { IsStoredFor D.view J.base (view_of self.old) → IsStoredFor D.view J.base (view_of self.new) }
         ensures any_moment { IsStoredFor D.view J.base (view_of self.old) → self.old.committer.store.broken ≡ false
             → LeavesOnly (D.view self.old.committer.store.disk) (D.view self.new.committer.store.disk)
-            (StandsForEither Global self.old.committer.store.register self.new.committer.store.register) }
+            (OpensToEither Global self.old.committer.store.register self.new.committer.store.register) }
         ensures later { (D.view self.old.committer.store.disk).failures ≤ (D.view self.new.committer.store.disk).failures }
         ensures failed { self.old.committer.store.broken ≡ false → self.new.committer.store.broken ≡ true
             → HasFailed (D.view self.old.committer.store.disk) (D.view self.new.committer.store.disk) }

@@ -1,5 +1,6 @@
 //! One flusher and many sessions over one store: sessions submit commands and wait for their answers, and the flusher
-//! commits what has gathered, publishes it and answers.
+//! commits what has gathered, publishes it and answers. It calls the disk through the store alone. It starts no thread, and
+//! knows nothing of lines and files.
 #![tactic(auto)]
 
 mod answer;

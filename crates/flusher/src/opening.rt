@@ -54,7 +54,7 @@ struct Buffers {
     ended: Vec<bool>,
 }
 
-/// Whether a register has a station for each of so many sessions, and there is one at least.
+/// Whether there is at least one session, and the register has a station for each.
 pub fn has_place(register: &Register<Global>, sessions: usize) -> bool
     ensures { result ≡ has_place register.now.registered.limits.stations sessions }
 {
@@ -88,7 +88,7 @@ fn open_session<J: Centre>(
     Ok((answers, session))
 }
 
-// A session for each of these stations, of which there are as many as viewers.
+// A session for each of these stations. There is one viewer for each.
 fn open_sessions<J: Centre>(
     alloc: Global,
     base: u64,
@@ -136,7 +136,7 @@ fn open_stations<J: Centre>(
     open_sessions(alloc, base, taker, stations, viewers)
 }
 
-// Room for 64 commands in each buffer, and a flag for each of so many stations: no end was taken yet.
+// Room for 64 commands in each buffer, and a flag for each station. No end was taken yet.
 fn open_buffers(alloc: Global, stations: usize) -> Result<Buffers, AllocError>
     ensures unpublished { IfOk result (λ b. (b.unpublished.items ≡ []) × (64 ≤ deque_capacity b.unpublished)) }
     ensures room { IfOk result (λ b. b.room.batch.items ≡ []) }
@@ -153,7 +153,7 @@ fn open_buffers(alloc: Global, stations: usize) -> Result<Buffers, AllocError>
     })
 }
 
-// A publisher of a copy of this register, and the ends of so many sessions. If memory runs out for these, the publisher
+// A publisher of a copy of this register, and the ends of this many sessions. If memory runs out for these, the publisher
 // is closed. Nobody reads then, so closing does not wait.
 fn open_ends<J: Centre, R: Wait>(
     rt: &R,
@@ -181,8 +181,8 @@ fn open_ends<J: Centre, R: Wait>(
     }
 }
 
-/// Opens a centre over a store, which must not be broken: its flusher, and the sessions of stations 1, 2 and so on, in that
-/// order. After a fault the store comes back.
+/// Opens a centre over a store that is not broken. It returns its flusher, and the sessions of stations 1, 2 and so on, in
+/// that order. After a fault the store comes back.
 ///
 /// It returns `NoPlace` exactly if the number of sessions is not from 1 to the register's limit of stations.
 pub fn open_centre<J: Centre, D: Disk, R: Wait>(

@@ -13,7 +13,7 @@ use std::alloc::Global;
 use std::collections::VecDeque;
 use std::sync::Wait;
 
-/// The publisher, and the durable commands that it does not have yet: there is room for 64.
+/// The publisher, and the durable commands that it does not have yet. There is room for 64 of these.
 pub struct Publication<J: Centre> {
     pub(crate) publisher: Publisher<J>,
     pub(crate) unpublished: VecDeque<SharedCommand>,
@@ -21,14 +21,14 @@ pub struct Publication<J: Centre> {
     pub ghost within: { length publisher.published ≤ length publisher.appended },
 }
 
-/// What is published when answers go out, and whether that is all that is durable.
+/// What is published when answers are sent, and whether that is all that is durable.
 #[derive(Drop)]
 pub(crate) struct Shown<J: Centre> {
     pub(crate) published: Published<J>,
     pub(crate) all: bool,
 }
 
-// Appends what is durable and publishes it. False if it ran out of memory; then nothing new is published.
+// Appends what is durable and publishes it. False if memory ran out; then nothing new is published.
 fn publish_all<J: Centre, R: Wait>(
     rt: &R,
     publisher: &mut Publisher<J>,
@@ -59,26 +59,27 @@ impl<J: Centre> Publication<J> {
     ghost use Rattle.flusher.specs.View.{durable_of};
 
     // Whether all that is durable is published.
-    fn is_level(&self) -> bool
+    fn is_caught_up(&self) -> bool
         ensures { MatchBool result ((self.now.publisher.published ≡ self.now.publisher.appended) × (self.now.unpublished.items ≡ []))
             (self.now.publisher.published ≡ durable_of self.now → ⊥) }
     {
-        self.unpublished.is_empty() && self.publisher.is_level()
+        self.unpublished.is_empty() && self.publisher.is_caught_up()
     }
 
-    /// Publishes what an earlier round left, where the disk has not failed. Whether all that is durable is published then.
+    /// Publishes what an earlier round left, unless the disk has failed. It returns whether all that is durable is published
+    /// then.
     pub(crate) fn catch_up<R: Wait>(&mut self, rt: &R, sound: bool) -> bool
         requires { IsHistory J.base (durable_of self.old) }
         ensures durable { durable_of self.new ≡ durable_of self.old }
         ensures level { MatchBool result
             ((self.new.publisher.published ≡ self.new.publisher.appended) × (self.new.unpublished.items ≡ []) × (sound ≡ true))
             (self.new.publisher.published ≡ self.old.publisher.published) }
-        ensures behind { result ≡ false → sound ≡ true → self.old.publisher.published ≡ durable_of self.old → ⊥ }
+        ensures lagging { result ≡ false → sound ≡ true → self.old.publisher.published ≡ durable_of self.old → ⊥ }
     {
         if !sound {
             return false;
         }
-        if self.is_level() {
+        if self.is_caught_up() {
             return true;
         }
         publish_all(rt, &mut self.publisher, &mut self.unpublished)
@@ -100,7 +101,7 @@ impl<J: Centre> Publication<J> {
         keep_accepted(&mut self.unpublished, copies, outcomes);
     }
 
-    /// Publishes what was just kept, if anything was. False only where something was.
+    /// Publishes what was just kept, if anything was. `all` is false only if something was, and memory ran out.
     pub(crate) fn publish_new<R: Wait>(&mut self, rt: &R) -> Shown<J>
         requires history { IsHistory J.base (durable_of self.old) }
         requires level { self.old.publisher.published ≡ self.old.publisher.appended }
@@ -118,7 +119,7 @@ impl<J: Centre> Publication<J> {
     }
 }
 
-// Keeps the copies of the commands that were accepted, for which there is room, and drops the others.
+// Keeps the copies of the commands that were accepted, and drops the others. There is room for all.
 fn keep_accepted(
     unpublished: &mut VecDeque<SharedCommand>,
     copies: &mut VecDeque<SharedCommand>,

@@ -10,7 +10,7 @@ use station_queue::SharedCommand;
 use std::alloc::Global;
 use std::marker::Model;
 
-/// An answer. It brings its command back, with the list that was published when it was sent.
+/// An answer as it is sent: with its command, and the list that was published then.
 #[derive(Drop)]
 pub struct Response<J: Centre> {
     pub(crate) command: SharedCommand,
@@ -32,7 +32,7 @@ impl<J: Centre> Model for Response<J> {
         × HasShortDecision r.decision };
 }
 
-/// The decision by an outcome of a commit, where all that is durable is published, or not.
+/// The decision for an outcome of a commit. `all`: everything durable is published.
 pub(crate) fn decision_of(all: bool, outcome: Outcome<Global>) -> Decision
     ensures { result ≡ decision_of all outcome }
 {

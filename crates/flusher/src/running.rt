@@ -4,7 +4,7 @@ ghost use Rattle.sector_disk.specs.Disk.{HasFailed};
 ghost use Rattle.sector_disk.specs.Run.{LeavesOnly};
 ghost use Rattle.flusher.specs.View.{view_of};
 ghost use Rattle.flusher.specs.Served.{IsSettled};
-ghost use Rattle.flusher.specs.Stored.{IsStoredFor, StandsBetween};
+ghost use Rattle.flusher.specs.Stored.{IsStoredFor, OpensBetween};
 ghost use Rattle.flusher.specs.Runs.{AreRounds, HasSameEnds, HasTakenEnds};
 
 use crate::flusher::{Flusher, Gate};
@@ -31,7 +31,7 @@ impl<J: Centre, D: Disk> Flusher<J, D> {
         ensures stored { IsStoredFor D.view J.base (view_of self.old) → IsStoredFor D.view J.base (view_of self.new) }
         ensures any_moment { IsStoredFor D.view J.base (view_of self.old) → self.old.committer.store.broken ≡ false
             → LeavesOnly (D.view self.old.committer.store.disk) (D.view self.new.committer.store.disk)
-            (StandsBetween J.base (view_of self.old) (view_of self.new)) }
+            (OpensBetween J.base (view_of self.old) (view_of self.new)) }
         ensures later { (D.view self.old.committer.store.disk).failures ≤ (D.view self.new.committer.store.disk).failures }
         ensures failed { self.old.committer.store.broken ≡ false → self.new.committer.store.broken ≡ true
             → HasFailed (D.view self.old.committer.store.disk) (D.view self.new.committer.store.disk) }

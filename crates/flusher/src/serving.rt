@@ -55,7 +55,7 @@ fn publish_and_answer<J: Centre, R: Wait>(
     answer_all(rt, senders, &shown, batch, outcomes);
 }
 
-/// Answers each command of the batch alike, and drops its copy.
+/// Gives each command of the batch the same answer, and drops its copy.
 pub(crate) fn refuse<J: Centre, R: Wait>(
     rt: &R,
     publication: &Publication<J>,
@@ -73,7 +73,7 @@ pub(crate) fn refuse<J: Centre, R: Wait>(
     answer_all_alike(rt, senders, &published, fault, &mut room.batch);
 }
 
-// Why a commit was refused: `None` where it was out of memory.
+// Why a commit was refused: `None` if it was out of memory.
 fn reason_of(fault: StoreFault) -> Option<StoreFault>
     ensures { decision_for_all result ≡ decision_by fault }
 {

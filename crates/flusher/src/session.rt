@@ -8,7 +8,7 @@ use crate::answer::Answer;
 use crate::decision::Decision;
 use crate::response::Response;
 use answers::AnswerReceiver;
-use centre_core::{Command, Query, Reply, Told};
+use centre_core::{Command, Query, QueryAnswer, Reply};
 use registration::Station;
 use snapshots::{Centre, Published, ReadFault, Viewer};
 use station_queue::{Entry, Request, Sender, SharedCommand};
@@ -61,7 +61,7 @@ impl<J: Centre> Base<J> {
     }
 }
 
-// The command for the queue, and a further owner of it, to compare the answer with. `None` if memory runs out.
+// The command for the queue, and one more owner of it, to compare the answer with. `None` if memory runs out.
 fn request_for(alloc: Global, command: Command<Global>) -> Option<(Request, SharedCommand)>
     ensures { IfSome result (λ r. (arc_value r.0.command ≡ command) × (arc_value r.1 ≡ command)) }
 {
@@ -75,7 +75,7 @@ impl<J: Centre> Session<J> {
     ghost use Rattle.std.specs.Prelude.{◌≡◌, ◌⊎◌, ◌∷◌, ◌++◌, [], IfOk, IsErrOf, length};
     ghost use mathlib.Core.List.{IsPrefix};
     ghost use Rattle.centre_core.specs.History.{after};
-    ghost use Rattle.centre_core.specs.Tell.{AsksForList, tell};
+    ghost use Rattle.centre_core.specs.Queries.{AsksForList, answer_to};
     ghost use Rattle.snapshots.specs.declared.viewer.ReadFault.TheVariants.{Closed, NoMemory};
     ghost use Rattle.station_queue.specs.Ends.{sending};
     ghost use Rattle.station_queue.specs.declared.entry.Entry.TheVariants as entry;
@@ -90,9 +90,9 @@ impl<J: Centre> Session<J> {
         self.sender.station()
     }
 
-    /// Submits a command of its station, and waits for the answer. It returns `Closed` only if the flusher is gone, or if
-    /// what was received is for another command, lacks commands that the session has seen, or accepts under a number
-    /// among theirs. It returns `NoMemory` also if memory runs out before the command is put into the queue.
+    /// Submits a command of its station, and waits for the answer. It returns `NoMemory` also if memory runs out before the
+    /// command is put into the queue. It returns `Closed` only if the flusher is gone, or if what was received does not fit:
+    /// it is for another command, lacks commands that the session has seen, or accepts under a number that was seen.
     pub fn submit<R: Wait>(&mut self, rt: &R, command: Command<Global>) -> Answer<J>
         requires station { command.station ≡ self.old.sender.station }
 
@@ -121,14 +121,14 @@ impl<J: Centre> Session<J> {
     }
 
     /// The answer to a query after a list of commands, kept under `alloc`, with the length of that list. The list begins
-    /// with all that the session has seen. It never waits. `NoMemory` comes only for a list; the session may then have
-    /// seen more. After `Closed` it has seen no more than before.
+    /// with all that the session has seen. It never waits. `NoMemory` comes only where the answer is a list; the session
+    /// may then have seen more. After `Closed` it has seen no more than before.
     pub fn read<C: Allocator + Copy>(
         &mut self,
         alloc: C,
         query: &Query,
-    ) -> Result<(Told<C>, u64), ReadFault>
-        ensures answer { IfOk result (λ r. (r.0 ≡ tell (after J.base self.new.viewer) query.now) × (r.1 ≡ length self.new.viewer)) }
+    ) -> Result<(QueryAnswer<C>, u64), ReadFault>
+        ensures answer { IfOk result (λ r. (r.0 ≡ answer_to (after J.base self.new.viewer) query.now) × (r.1 ≡ length self.new.viewer)) }
         ensures later { IsPrefix self.old.viewer self.new.viewer }
         ensures memory { IsErrOf result NoMemory → AsksForList query.now }
         ensures closed { IsErrOf result Closed → self.new.viewer ≡ self.old.viewer }
@@ -151,7 +151,7 @@ impl<J: Centre> Session<J> {
         self.viewer.learn(published);
     }
 
-    /// Ends the session: its end is put into the queue, after all that it submitted.
+    /// Ends the session. Its end is put into the queue, after all that it submitted.
     pub fn finish<R: Wait>(self, rt: &R) -> Ended<J>
         ensures sent { result.sender ≡ sending self.sender.queue self.sender.station (self.sender.sent ++ entry.Ended self.sender.station ∷ []) }
         ensures same { (result.receiver ≡ self.receiver) × (result.viewer ≡ self.viewer) }
@@ -174,7 +174,7 @@ impl<J: Centre> Session<J> {
     }
 }
 
-// Takes in what was received, if it is for this command and lacks nothing that was seen. Then its list is seen.
+// The answer from what was received, if that fits this command and lacks nothing that was seen. Then its list is seen.
 fn take_in<J: Centre>(
     viewer: &mut Viewer<J>,
     base: u64,

@@ -2,7 +2,7 @@
 ghost use Rattle.std.specs.Prelude.{◌≡◌, false, IfSome};
 
 use crate::centres::{centre, count};
-use centre_core::{Command, Query, Refusal, Told};
+use centre_core::{Command, Query, QueryAnswer, Refusal};
 use flusher::{Answer, Gate, Session};
 use live_centre::{
     Task, WatchedDisk, attach, end_all, expiry, is_accept, opened, rule, serve_beside, worked_disk,
@@ -19,41 +19,41 @@ use std::thread::Threads;
 // The radio that is attached.
 const RADIO: u32 = 2_001;
 
-// How many answers were the right ones.
+// How many answers were right.
 #[derive(Drop)]
 struct Asked {
     alloc: Global,
     good: AtomicU64,
 }
 
-// What an answer says, without its list.
+// The parts of an answer, without its list.
 #[derive(Clone, Copy, Debug, PartialEq, Eq, Drop)]
-enum Said {
+enum AnswerParts {
     Accepted(u64, bool),
     Kept(u64, bool),
     Old(u32),
     Other,
 }
 
-// An answer, where a list that comes with it has so many commands.
-fn reply_of<J: Centre>(answer: &Answer<J>) -> Said {
+// The parts of an answer. One with a list of another length than its number is `Other`.
+fn reply_of<J: Centre>(answer: &Answer<J>) -> AnswerParts {
     match answer {
         Answer::Accepted {
             number,
             pdu,
             published,
         } => accepted(*number, published.count(), is_accept(pdu)),
-        Answer::Kept { number, pdu } => Said::Kept(*number, is_accept(pdu)),
-        Answer::Refused(Refusal::OldSequence { last }) => Said::Old(last.number()),
-        _ => Said::Other,
+        Answer::Kept { number, pdu } => AnswerParts::Kept(*number, is_accept(pdu)),
+        Answer::Refused(Refusal::OldSequence { last }) => AnswerParts::Old(last.number()),
+        _ => AnswerParts::Other,
     }
 }
 
-fn accepted(number: u64, published: u64, is_accept: bool) -> Said {
+fn accepted(number: u64, published: u64, is_accept: bool) -> AnswerParts {
     if number == published {
-        Said::Accepted(number, is_accept)
+        AnswerParts::Accepted(number, is_accept)
     } else {
-        Said::Other
+        AnswerParts::Other
     }
 }
 
@@ -70,7 +70,7 @@ impl Asked {
         rt: &R,
         session: &mut Session<J>,
         command: Option<Command<Global>>,
-        want: Said,
+        want: AnswerParts,
     )
         requires station { IfSome command (λ command. command.station ≡ session.old.sender.station) }
         ensures station { session.new.sender.station ≡ session.old.sender.station }
@@ -92,18 +92,23 @@ impl<J: Centre> Task<J> for Asked {
     fn act<R: Wait>(&self, rt: &R, session: &mut Session<J>) {
         let station = session.station();
         let again = attach(self.alloc, station, 2, RADIO);
-        self.submit(rt, session, rule(station, 1), Said::Accepted(1, false));
+        self.submit(
+            rt,
+            session,
+            rule(station, 1),
+            AnswerParts::Accepted(1, false),
+        );
         let first = attach(self.alloc, station, 2, RADIO);
-        self.submit(rt, session, first, Said::Accepted(2, true));
-        self.submit(rt, session, again, Said::Kept(2, true));
-        self.submit(rt, session, expiry(station, 2), Said::Kept(2, true));
-        self.submit(rt, session, expiry(station, 1), Said::Old(2));
-        let told = session.read(self.alloc, &Query::Total);
-        self.count(matches!(told, Ok((Told::Total(2), 2))));
+        self.submit(rt, session, first, AnswerParts::Accepted(2, true));
+        self.submit(rt, session, again, AnswerParts::Kept(2, true));
+        self.submit(rt, session, expiry(station, 2), AnswerParts::Kept(2, true));
+        self.submit(rt, session, expiry(station, 1), AnswerParts::Old(2));
+        let reported = session.read(self.alloc, &Query::Total);
+        self.count(matches!(reported, Ok((QueryAnswer::Total(2), 2))));
     }
 }
 
-// How many answers were the right ones, and how many commands were accepted.
+// How many answers were right, and how many commands were accepted.
 fn answered<J: Centre + Send + Sync, R: Threads + Wait + Sync>(
     rt: &R,
     alloc: Global,

@@ -11,7 +11,7 @@ use snapshots::{Centre, NewLog};
 use std::alloc::Global;
 use std::sync::Wait;
 
-/// A centre over this store, with so many sessions.
+/// A centre over this store, with this many sessions.
 pub fn centre<J: Centre, R: Wait>(
     rt: &R,
     alloc: Global,
@@ -32,7 +32,7 @@ pub fn centre<J: Centre, R: Wait>(
     }
 }
 
-/// How many commands its register has accepted; nothing where it is broken.
+/// How many commands its register has accepted. `None` if the store is broken.
 pub fn count<D: Disk>(store: &Store<Global, D>) -> Option<u64> {
     match store.register() {
         Some(register) => Some(register.count()),

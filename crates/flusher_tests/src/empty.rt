@@ -14,15 +14,15 @@ use std::sync::Wait;
 use std::sync::atomic::{AtomicU64, Ordering};
 use std::test::*;
 
-// What the gate was told: how often, the last round, and all that was taken.
+// What the gate saw: how often it was called, the last round, and how many commands were taken.
 #[derive(Drop)]
-struct Told {
+struct Rounds {
     calls: AtomicU64,
     round: AtomicU64,
     taken: AtomicU64,
 }
 
-impl Gate for Told {
+impl Gate for Rounds {
     fn before_commit(&self, round: u64, taken: usize) {
         self.calls.fetch_add(1, Ordering::SeqCst);
         self.round.store(round, Ordering::SeqCst);
@@ -30,21 +30,21 @@ impl Gate for Told {
     }
 }
 
-// Two rounds: whether the gate was called in each, with nothing taken.
+// Makes two rounds; whether the gate was called in each, with no command taken.
 fn are_idle<J: Centre, R: Wait>(rt: &R, flusher: &mut Flusher<J, WatchedDisk>) -> bool
     requires settled { IsSettled J.base (view_of flusher.old) }
     ensures settled { IsSettled J.base (view_of flusher.new) }
 {
-    let told = Told {
+    let reported = Rounds {
         calls: AtomicU64::new(0),
         round: AtomicU64::new(0),
         taken: AtomicU64::new(0),
     };
-    flusher.round(rt, &told);
-    flusher.round(rt, &told);
-    told.calls.load(Ordering::SeqCst) == 2
-        && told.round.load(Ordering::SeqCst) == 2
-        && told.taken.load(Ordering::SeqCst) == 0
+    flusher.round(rt, &reported);
+    flusher.round(rt, &reported);
+    reported.calls.load(Ordering::SeqCst) == 2
+        && reported.round.load(Ordering::SeqCst) == 2
+        && reported.taken.load(Ordering::SeqCst) == 0
 }
 
 // How many commands a register has accepted, and how often its disk was written and synced.

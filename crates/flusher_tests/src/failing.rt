@@ -2,7 +2,7 @@
 ghost use Rattle.std.specs.Prelude.{◌≡◌, false};
 
 use crate::centres::centre;
-use centre_core::{Query, Register, Told};
+use centre_core::{Query, QueryAnswer, Register};
 use flusher::{Answer, Gate, Session};
 use live_centre::{Task, WatchedDisk, end_all, expiry, serve_beside, watched, worked_disk};
 use recovery::{Store, StoreFault};
@@ -19,7 +19,7 @@ const SESSIONS: usize = 8;
 // How many commands each submits.
 const EACH: u32 = 8;
 
-// Up to which call of the disk one fails.
+// The last call of the disk that is made to fail.
 const CALLS: u64 = 40;
 
 // How many commands of each station were accepted, how many answers were a fault of the disk, and how many sessions saw
@@ -32,40 +32,40 @@ struct Seen {
     good: AtomicU64,
 }
 
-// What an answer says.
+// Which answer a command got.
 #[derive(Clone, Copy, Debug, PartialEq, Eq, Drop)]
-enum Said {
+enum AnswerKind {
     Accepted,
     Fault,
     Broken,
     Other,
 }
 
-fn submitted<J: Centre, R: Wait>(rt: &R, session: &mut Session<J>, sequence: u32) -> Said {
+fn submitted<J: Centre, R: Wait>(rt: &R, session: &mut Session<J>, sequence: u32) -> AnswerKind {
     let Some(command) = expiry(session.station(), sequence) else {
-        return Said::Other;
+        return AnswerKind::Other;
     };
     match session.submit(rt, command) {
-        Answer::Accepted { .. } => Said::Accepted,
-        Answer::Fault(StoreFault::DiskFault) => Said::Fault,
-        Answer::Fault(StoreFault::Broken) => Said::Broken,
-        _ => Said::Other,
+        Answer::Accepted { .. } => AnswerKind::Accepted,
+        Answer::Fault(StoreFault::DiskFault) => AnswerKind::Fault,
+        Answer::Fault(StoreFault::Broken) => AnswerKind::Broken,
+        _ => AnswerKind::Other,
     }
 }
 
 impl Seen {
     // Notes an answer; whether it may come after the one before. After a fault all are `Broken`.
-    fn follows(&self, place: usize, before: Said, now: Said) -> bool {
+    fn follows(&self, place: usize, before: AnswerKind, now: AnswerKind) -> bool {
         match now {
-            Said::Accepted if before == Said::Accepted => {
+            AnswerKind::Accepted if before == AnswerKind::Accepted => {
                 self.accepted[place % 8].fetch_add(1, Ordering::SeqCst);
                 true
             }
-            Said::Fault if before == Said::Accepted => {
+            AnswerKind::Fault if before == AnswerKind::Accepted => {
                 self.faults.fetch_add(1, Ordering::SeqCst);
                 true
             }
-            Said::Broken => true,
+            AnswerKind::Broken => true,
             _ => false,
         }
     }
@@ -73,7 +73,7 @@ impl Seen {
     // Submits all commands of a session; whether each answer may come after the one before.
     fn submit_all<J: Centre, R: Wait>(&self, rt: &R, session: &mut Session<J>) -> bool {
         let place = usize::from(session.station().number()).saturating_sub(1);
-        let mut before = Said::Accepted;
+        let mut before = AnswerKind::Accepted;
         for sequence in 1..=EACH {
             let now = submitted(rt, session, sequence);
             if !self.follows(place, before, now) {
@@ -85,10 +85,10 @@ impl Seen {
     }
 }
 
-// Whether a read still has an answer, after as many commands as it says.
+// Whether a read still has an answer, and its list is as long as the register's count.
 fn is_read<J: Centre>(alloc: Global, session: &mut Session<J>) -> bool {
     match session.read(alloc, &Query::Total) {
-        Ok((Told::Total(total), count)) => total == count,
+        Ok((QueryAnswer::Total(total), count)) => total == count,
         _ => false,
     }
 }
@@ -149,7 +149,7 @@ fn has_all(seen: &Seen, register: &Register<Global>) -> bool {
     register.count() == count
 }
 
-// The same of the disk once it is opened again. In each sector that is pending it holds these bytes.
+// The same of the disk once it is opened again. Each sector that was not synced then holds these bytes.
 fn is_kept(alloc: Global, seen: &Seen, disk: MemoryDisk<Global>, bytes: [u8; 512]) -> Option<bool> {
     let mut fill = Vec::new(alloc);
     for at in disk.pending(alloc).ok()?.iter() {
@@ -184,8 +184,8 @@ fn nothing_seen(alloc: Global) -> Seen {
     }
 }
 
-// A disk that fails at this call. How many answers were a fault of it, if all that was accepted is kept; 0 too where the
-// disk did not open.
+// With a disk that fails at this call: how many answers were a fault of it, if all that was accepted is kept. 0 also if the disk
+// did not open.
 fn failed_at<R: Threads + Wait + Sync>(
     rt: &R,
     alloc: Global,
@@ -206,7 +206,7 @@ fn failed_at<R: Threads + Wait + Sync>(
     }
 }
 
-// At how many calls of the disk one of the sessions saw the fault; nothing where something was lost.
+// At how many calls of the disk a session saw the fault. `None` if something was lost.
 fn seen_at_calls<R: Threads + Wait + Sync>(
     rt: &R,
     alloc: Global,

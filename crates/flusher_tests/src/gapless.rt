@@ -22,7 +22,7 @@ const PAUSES: u32 = 64;
 // How many all submit.
 const ALL: usize = 12_800;
 
-// How often each number was given out, from 1 on, and how many sessions had all accepted, in order.
+// How often each number, from 1 on, was given; and how many sessions had all commands accepted, in order.
 #[derive(Drop)]
 struct Numbers {
     alloc: Global,
@@ -40,7 +40,7 @@ fn accepted<J: Centre, R: Wait>(rt: &R, session: &mut Session<J>, sequence: u32)
 }
 
 impl Numbers {
-    // Notes a number; whether there is such a number.
+    // Notes a number; whether it is in range.
     fn give(&self, number: u64) -> bool {
         if number == 0 || number > self.given.len() as u64 {
             return false;
@@ -49,7 +49,7 @@ impl Numbers {
         true
     }
 
-    // Whether each number was given out once.
+    // Whether each number was given once.
     fn are_whole(&self) -> bool {
         for times in &self.given {
             if times.load(Ordering::SeqCst) != 1 {
@@ -138,7 +138,7 @@ fn numbered<J: Centre + Send + Sync, R: Threads + Wait + Sync>(
     }
 }
 
-// Two syncs a command would be 25,600.
+// With two syncs for each command there would be 25,600.
 fn is_gapless<R: Threads + Wait + Sync>(rt: &R, alloc: Global) -> Option<bool> {
     let numbers = no_numbers(alloc)?;
     let store = opened(alloc, worked_disk(alloc, 64, 8_192, 40_000)?)?;

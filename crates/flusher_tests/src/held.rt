@@ -4,7 +4,7 @@ ghost use Rattle.flusher.specs.Served.{IsSettled};
 ghost use Rattle.flusher.specs.View.{view_of};
 
 use crate::centres::{centre, count};
-use centre_core::{Query, Told};
+use centre_core::{Query, QueryAnswer};
 use flusher::{Answer, Flusher, Gate, Session};
 use live_centre::{
     Task, WatchedDisk, attach, comes_to, end_all, expiry, is_accept, opened, radio, serve_beside,
@@ -30,7 +30,7 @@ const ANSWERED: u64 = 3;
 // The radio that is attached.
 const RADIO: u32 = 2_001;
 
-// How far both are, how many of them and the gate saw what they should see, and what was published with the first one's answer.
+// How far both have come, how many of them and the gate saw what they should see, and the list published with the first one's answer.
 #[derive(Drop)]
 struct Held<J: Centre> {
     alloc: Global,
@@ -58,12 +58,12 @@ impl<J: Centre> Gate for Held<J> {
     }
 }
 
-// Where the radio is; nothing where the read has no answer.
+// Where the radio is. `None` if the read has no answer.
 fn whereabouts<J: Centre>(alloc: Global, session: &mut Session<J>) -> Option<Option<Radio>> {
     let query = Query::Whereabouts(radio(RADIO)?);
-    let told = session.read(alloc, &query);
-    match &told {
-        Ok((Told::Whereabouts { itsi: _, radio }, _)) => Some(*radio),
+    let reported = session.read(alloc, &query);
+    match &reported {
+        Ok((QueryAnswer::Whereabouts { itsi: _, radio }, _)) => Some(*radio),
         _ => None,
     }
 }
@@ -82,7 +82,7 @@ fn is_there<J: Centre>(alloc: Global, session: &mut Session<J>) -> bool {
     }
 }
 
-// Attaches the radio: what was published with the answer, if it is the accepted one.
+// Attaches the radio: the list published with the answer, if the command was accepted.
 fn attached<J: Centre, R: Wait>(
     rt: &R,
     alloc: Global,

@@ -14,7 +14,7 @@ use Rattle.gated_journal.specs.Record.{data_sector, data_size}
 use Rattle.gated_journal.specs.Settled.{IsSettled, Leaves}
 use Rattle.gated_journal.specs.declared.place.Place.{Place}
 use Rattle.gated_journal.proofs.Chain.{half_up, same_half}
-use Rattle.gated_journal.proofs.OneHalf.{IsReadBack, IsStaged, behind, beyond_half, counted_on, open_or_not, with_record}
+use Rattle.gated_journal.proofs.OneHalf.{IsReadBack, IsStaged, following, beyond_half, counted_on, open_or_not, with_record}
 
 -- a run of writes, synced
 pub then_synced : (old filled synced : View) (at n : ℕ) (bytes : ℕ → List ℕ) (result : Result Unit DiskError) → HasFilled old filled at n bytes (Ok tt) → HasSynced filled synced result → HasFilled old synced at n bytes result
@@ -56,7 +56,7 @@ module _ {A : Type 0} (place : Place) (before : ℕ) (entries : List (Entry A)) 
       let up = half_up place.form before was place.first place.end entries place.next (settled.half was is) in
       record {
         elsewhere = (was, is, record { count = torn.count; others = λ k out. torn.others k (outside up settled.begins k out) });
-        half = behind place before entries commands text read room was image (settled.half was is) (λ k le lt. torn.others k (inl (omega (arith, lt))));
+        half = following place before entries commands text read room was image (settled.half was is) (λ k le lt. torn.others k (inl (omega (arith, lt))));
       }
 
   -- the sectors are being written, and synced
@@ -75,7 +75,7 @@ module _ {A : Type 0} (place : Place) (before : ℕ) (entries : List (Entry A)) 
     on_disk : Staged synced.reads
     on_disk = record {
       chain = same_half place.form before old.reads synced.reads place.first place.end entries place.next (settled.half old.reads whole) (λ k le lt. has.others k (inl (omega (arith, lt))));
-      behind_it = has.written;
+      after_it = has.written;
     }
 
     only_gate : (image : List (List ℕ)) → IsTornImage synced place.next 1 image → (k : ℕ) → k ≢ place.next → sector image k ≡ sector synced.reads k

@@ -9,14 +9,14 @@ use Rattle.sector_disk.specs.declared.record.Call.TheVariants.{Sync, Write}
 use Rattle.sector_disk.proofs.Made.{all_made, made_of_more, made_on, one_write_more}
 use Rattle.gated_journal.specs.Record.{data_sector, data_size}
 use Rattle.gated_journal.specs.Calls.{append_both_calls, closed_gate, open_gate, settled_both_calls, text_calls}
-use Rattle.gated_journal.proofs.Called.{closed_gate_behind, open_gate_is}
+use Rattle.gated_journal.proofs.Called.{closed_gate_after, open_gate_is}
 
--- more calls behind some that were made
+-- more calls after some that were made
 made_after : (old mid new : View) (before calls : List Call) → mid.calls ≡ old.calls ++ before → HasMade mid new calls → HasMade old new (before ++ calls)
 made_after old mid new before calls were has = record {
   made = before ++ has.made;
   left = has.left;
-  front = ap (λ (some : List Call). before ++ some) has.front ∙ sym (append_assoc before has.made has.left);
+  prefix = ap (λ (some : List Call). before ++ some) has.prefix ∙ sym (append_assoc before has.made has.left);
   now = has.now ∙ ap (λ (some : List Call). some ++ has.made) were ∙ append_assoc old.calls before has.made;
 }
 
@@ -45,7 +45,7 @@ module _ (at n : ℕ) (text : List ℕ) (to m : ℕ) (other : List ℕ) where
 -- ---- the whole
 
 text_written : (gate : ℕ) (text : List ℕ) → text_calls gate text ≡ writes (gate + 1) (data_size text + 1) (data_sector text)
-text_written gate text = one_write_more (gate + 1) (data_size text) (data_sector text) closed_gate (closed_gate_behind text)
+text_written gate text = one_write_more (gate + 1) (data_size text) (data_sector text) closed_gate (closed_gate_after text)
 
 gate_written : (gate : ℕ) → Write gate open_gate ∷ [] ≡ writes gate 1 (data_sector (1 ∷ []))
 unfolding writes

@@ -12,10 +12,10 @@ use Rattle.sector_disk.proofs.Made.{all_made, made_of_more, one_write_more}
 use Rattle.gated_journal.specs.Record.{data_sector, data_size}
 use Rattle.gated_journal.specs.Calls.{append_calls, closed_gate, open_gate, settled_calls}
 
--- behind a text stands a closed gate
-pub closed_gate_behind : (text : List ℕ) → closed_gate ≡ data_sector text (data_size text)
+-- after a text is a closed gate
+pub closed_gate_after : (text : List ℕ) → closed_gate ≡ data_sector text (data_size text)
 unfolding data_sector
-closed_gate_behind text =
+closed_gate_after text =
     fill_by_all (λ (i : ℕ). slice_index text (512 * data_size text + i)) (replicate 512 0) 512 0 (length-replicate {A = ℕ} 512 0)
     (λ i lt. get_or-replicate 512 i 0 0 lt ∙ sym (get_or_past text (512 * data_size text + i) 0 (omega arith)))
 
@@ -29,7 +29,7 @@ open_gate_is = fill_by_all (λ (i : ℕ). slice_index (1 ∷ []) (512 * 0 + i)) 
     byte (suc i) lt = get_or-replicate 511 i 0 0 (omega (arith, lt)) ∙ sym (get_or_past (1 ∷ []) (512 * 0 + suc i) 0 (omega arith))
 
 module _ (gate : ℕ) (text : List ℕ) where
-  -- the data sectors and the gate behind them
+  -- the data sectors and the gate after them
   abbrev filled : List Call
   filled = writes (gate + 1) (data_size text + 1) (data_sector text)
 
@@ -42,7 +42,7 @@ module _ (gate : ℕ) (text : List ℕ) where
   -- the text is settled, and then the gate
   whole : append_calls gate text ≡ settled_calls (gate + 1) (data_size text + 1) text ++ settled_calls gate 1 (1 ∷ [])
   whole = sym (append_assoc (writes (gate + 1) (data_size text) (data_sector text)) (Write (gate + 1 + data_size text) closed_gate ∷ []) (Sync ∷ Write gate open_gate ∷ Sync ∷ []))
-      ∙ ap (λ (some : List Call). some ++ Sync ∷ Write gate open_gate ∷ Sync ∷ []) (one_write_more (gate + 1) (data_size text) (data_sector text) closed_gate (closed_gate_behind text))
+      ∙ ap (λ (some : List Call). some ++ Sync ∷ Write gate open_gate ∷ Sync ∷ []) (one_write_more (gate + 1) (data_size text) (data_sector text) closed_gate (closed_gate_after text))
       ∙ sym (append_assoc filled (Sync ∷ []) (Write gate open_gate ∷ Sync ∷ []))
       ∙ ap (λ (some : List Call). (filled ++ Sync ∷ []) ++ some) opened
 
@@ -54,7 +54,7 @@ module _ (gate : ℕ) (text : List ℕ) where
     calls_in_gate has = rw whole (record {
       made = settled_calls (gate + 1) (data_size text + 1) text ++ has.made;
       left = has.left;
-      front = ap (λ (some : List Call). settled_calls (gate + 1) (data_size text + 1) text ++ some) has.front ∙ sym (append_assoc (settled_calls (gate + 1) (data_size text + 1) text) has.made has.left);
+      prefix = ap (λ (some : List Call). settled_calls (gate + 1) (data_size text + 1) text ++ some) has.prefix ∙ sym (append_assoc (settled_calls (gate + 1) (data_size text + 1) text) has.made has.left);
       now = has.now ∙ ap (λ (some : List Call). some ++ has.made) were ∙ append_assoc old.calls (settled_calls (gate + 1) (data_size text + 1) text) has.made;
     })
 

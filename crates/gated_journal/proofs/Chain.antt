@@ -8,18 +8,18 @@ use Rattle.std.specs.Prelude.{◌&&◌}
 use Rattle.centre_core.specs.Asked.{Asked}
 use Rattle.gated_journal.specs.declared.form.Form.{Form}
 use Rattle.gated_journal.specs.Record.{most_sectors, record_of, data_sector, data_size}
-use Rattle.gated_journal.specs.Half.{IsClosed, counted, data_from, told_size, Found, found, record_at, Entry, Half, with_front, half_on, half_from, half_of}
-use Rattle.gated_journal.proofs.Halves.{Opened, opened, both, told_some}
+use Rattle.gated_journal.specs.Half.{IsClosed, counted, data_from, stated_size, Found, found, record_at, Entry, Half, with_prefix, half_on, half_from, half_of}
+use Rattle.gated_journal.proofs.Halves.{Opened, opened, both, stated_some}
 
 data_same : (old new : List (List ℕ)) (at n : ℕ) → ((k : ℕ) → k < n → sector new (at + k) ≡ sector old (at + k)) → data_from new at n ≡ data_from old at n
 unfolding data_from
 data_same old new at zero same = refl
 data_same old new at (suc n) same = let before = data_same old new at n (λ k lt. same k (omega (arith, lt))) in let last = same n (omega arith) in rw (before, last) refl
 
--- behind a text stand zeros
-pub closed_behind : (text : List ℕ) → IsClosed (data_sector text (data_size text))
+-- after a text are zeros
+pub closed_after : (text : List ℕ) → IsClosed (data_sector text (data_size text))
 unfolding data_sector
-closed_behind text is =
+closed_after text is =
     let byte = λ (i : ℕ). slice_index text (512 * data_size text + i) in
     let past : slice_index text (512 * data_size text + 0) ≡ 0 = get_or_past text (512 * data_size text + 0) 0 (omega arith) in
     omega (arith, is, past, get_or-map-range_with_len byte 0 512 0 0 0 (omega arith) (omega arith))
@@ -44,17 +44,17 @@ module _ {A : Type 0} (form : Form) where
   pub is_shut : (before : ℕ) (image : List (List ℕ)) (at end : ℕ) → record_at {A = A} form before image at end ≡ Ok None → IsClosed (sector image at)
   unfolding record_at
   is_shut before image at end e gate =
-      let size = told_size form (sector image (at + 1)) in
+      let size = stated_size form (sector image (at + 1)) in
       let next = at + 1 + size in
-      let read = found (at + 1) next (record_of form before (data_from image (at + 1) (told_size form (sector image (at + 1))))) in
-      let b = none_is (eqb (slice_index (sector image at) 0) 1) (eqb (at + 1) end) (leb size most_sectors && ltb next end) at (at + 1) read (found_something (at + 1) next (record_of form before (data_from image (at + 1) (told_size form (sector image (at + 1)))))) e in
+      let read = found (at + 1) next (record_of form before (data_from image (at + 1) (stated_size form (sector image (at + 1))))) in
+      let b = none_is (eqb (slice_index (sector image at) 0) 1) (eqb (at + 1) end) (leb size most_sectors && ltb next end) at (at + 1) read (found_something (at + 1) next (record_of form before (data_from image (at + 1) (stated_size form (sector image (at + 1)))))) e in
       grind (arith, nat_tests)
 
   pub record_there : (before : ℕ) (image : List (List ℕ)) (at end : ℕ) (commands : List (Asked A)) (next : ℕ) → Opened form before image at end commands next → record_at form before image at end ≡ Ok (Some (commands, next))
   unfolding record_at
   record_there before image at end commands next is =
       let a : eqb (slice_index (sector image at) 0) 1 ≡ true = let gate = is.gate in grind (arith, nat_tests) in
-      let size = told_size form (sector image (at + 1)) in
+      let size = stated_size form (sector image (at + 1)) in
       let lt : at + 1 + size < end = omega (arith, is.next_is, is.within) in
       let b : eqb (at + 1) end ≡ false = grind (arith, nat_tests) in
       let d : (leb size most_sectors && ltb (at + 1 + size) end) ≡ true = both size (at + 1 + size) end is.few lt in
@@ -62,9 +62,9 @@ module _ {A : Type 0} (form : Form) where
 
   pub opened_same : (before : ℕ) (old new : List (List ℕ)) (at end : ℕ) (commands : List (Asked A)) (next : ℕ) → Opened form before old at end commands next → ((k : ℕ) → at ≤ k → k < next → sector new k ≡ sector old k) → Opened form before new at end commands next
   opened_same before old new at end commands next is same =
-      let size = told_size form (sector old (at + 1)) in
+      let size = stated_size form (sector old (at + 1)) in
       let first : sector new at ≡ sector old at = same at (omega arith) (omega (arith, is.next_is)) in
-      let second : sector new (at + 1) ≡ sector old (at + 1) = same (at + 1) (omega arith) (omega (arith, is.next_is, told_some form (sector old (at + 1)))) in
+      let second : sector new (at + 1) ≡ sector old (at + 1) = same (at + 1) (omega arith) (omega (arith, is.next_is, stated_some form (sector old (at + 1)))) in
       let all = data_same old new (at + 1) size (λ k lt. same (at + 1 + k) (omega arith) (omega (arith, is.next_is, lt))) in
       record {
         gate = ap (λ (bytes : List ℕ). slice_index bytes 0) first ∙ is.gate;
@@ -79,9 +79,9 @@ module _ {A : Type 0} (form : Form) where
   ok_parts : (a b : List (Entry A)) (m n : ℕ) → ◌≡◌ {A = Half A} (Ok (a, m)) (Ok (b, n)) → (a ≡ b) × (m ≡ n)
   ok_parts a b m n e = let pair : ◌≡◌ {A = List (Entry A) × ℕ} (a, m) (b, n) = cc in (ap (λ (x : List (Entry A) × ℕ). x.0) pair, ap (λ (x : List (Entry A) × ℕ). x.1) pair)
 
-  front_is : (front : List (Entry A)) (half : Half A) (entries : List (Entry A)) (gate : ℕ) → with_front front half ≡ Ok (entries, gate) → (rest : List (Entry A)) × (half ≡ Ok (rest, gate)) × (entries ≡ front ++ rest)
-  front_is front (Ok half) entries gate e = let parts = ok_parts (front ++ half.0) entries half.1 gate e in (half.0, ap (λ (g : ℕ). Ok (half.0, g)) parts.1, sym parts.0)
-  front_is front (Err s) entries gate e = absurd cc
+  prefix_is : (prefix : List (Entry A)) (half : Half A) (entries : List (Entry A)) (gate : ℕ) → with_prefix prefix half ≡ Ok (entries, gate) → (rest : List (Entry A)) × (half ≡ Ok (rest, gate)) × (entries ≡ prefix ++ rest)
+  prefix_is prefix (Ok half) entries gate e = let parts = ok_parts (prefix ++ half.0) entries half.1 gate e in (half.0, ap (λ (g : ℕ). Ok (half.0, g)) parts.1, sym parts.0)
+  prefix_is prefix (Err s) entries gate e = absurd cc
 
   pub goes_up : (fuel before : ℕ) (image : List (List ℕ)) (at end : ℕ) (entries : List (Entry A)) (gate : ℕ) → half_from fuel form before image at end ≡ Ok (entries, gate) → at ≤ gate
   unfolding half_from
@@ -96,7 +96,7 @@ module _ {A : Type 0} (form : Form) where
           → half_on at (Ok o) (λ x. half_from fuel form (before + length x.0) image x.1 end) ≡ Ok (entries, gate) → at ≤ gate
       on go None is f = let same : at ≡ gate = (ok_parts [] entries at gate f).1 in omega (arith, same)
       on go (Some x) is f =
-          let rest = front_is ((at + 1, x.0) ∷ []) (half_from fuel form (before + length x.0) image x.1 end) entries gate f in
+          let rest = prefix_is ((at + 1, x.0) ∷ []) (half_from fuel form (before + length x.0) image x.1 end) entries gate f in
           omega (arith, (opened form before image at end x is).next_is, go x rest.0 rest.1)
 
   pub half_up : (before : ℕ) (image : List (List ℕ)) (at end : ℕ) (entries : List (Entry A)) (gate : ℕ) → half_of form before image at end ≡ Ok (entries, gate) → at ≤ gate
@@ -117,7 +117,7 @@ module _ {A : Type 0} (form : Form) where
           → half_on at (Ok o) (λ x. half_from fuel form (before + length x.0) image x.1 end) ≡ Ok (entries, gate) → gate < end
       on go None is f = let same : at ≡ gate = (ok_parts [] entries at gate f).1 in omega (arith, same, within)
       on go (Some x) is f =
-          let rest = front_is ((at + 1, x.0) ∷ []) (half_from fuel form (before + length x.0) image x.1 end) entries gate f in
+          let rest = prefix_is ((at + 1, x.0) ∷ []) (half_from fuel form (before + length x.0) image x.1 end) entries gate f in
           go x rest.0 ((opened form before image at end x is).within) rest.1
 
   pub half_below : (before : ℕ) (image : List (List ℕ)) (at end : ℕ) (entries : List (Entry A)) (gate : ℕ) → at < end → half_of form before image at end ≡ Ok (entries, gate) → gate < end
@@ -142,7 +142,7 @@ module _ {A : Type 0} (form : Form) where
           rw (shut before new at end closed) f
       on go (Some x) is f =
           let there = opened form before old at end x is in
-          let rest = front_is ((at + 1, x.0) ∷ []) (half_from fuel form (before + length x.0) old x.1 end) entries gate f in
+          let rest = prefix_is ((at + 1, x.0) ∷ []) (half_from fuel form (before + length x.0) old x.1 end) entries gate f in
           let up = goes_up fuel (before + length x.0) old x.1 end rest.0 gate rest.1 in
           let new_there = record_there before new at end x.0 x.1 (opened_same before old new at end x.0 x.1 there (λ k le lt. same k le (omega (arith, lt, up)))) in
           let tail = go x rest.0 rest.1 (λ k le lt. same k (omega (arith, le, there.next_is)) lt) in
@@ -178,7 +178,7 @@ module _ {A : Type 0} (form : Form) where
           rw (here, there, last_gate fuel (before + length commands) new next end closed, none) refl
       on go (Some x) was f =
           let there = opened form before old at end x was in
-          let rest = front_is ((at + 1, x.0) ∷ []) (half_from fuel form (before + length x.0) old x.1 end) entries gate f in
+          let rest = prefix_is ((at + 1, x.0) ∷ []) (half_from fuel form (before + length x.0) old x.1 end) entries gate f in
           let up = goes_up fuel (before + length x.0) old x.1 end rest.0 gate rest.1 in
           let new_there = record_there before new at end x.0 x.1 (opened_same before old new at end x.0 x.1 there (λ k le lt. same k le (omega (arith, lt, up)))) in
           let tail = go x rest.0 (omega (arith, there.next_is, le)) lt rest.1 (λ k le lt. same k (omega (arith, le, there.next_is)) lt) (rw (ap (counted before) rest.2) at is) closed in
@@ -207,7 +207,7 @@ module _ {A : Type 0} (form : Form) where
           rw (shut before new at end shut_here) f
       on go (Some x) is f =
           let there = opened form before old at end x is in
-          let rest = front_is ((at + 1, x.0) ∷ []) (half_from fuel form (before + length x.0) old x.1 end) entries gate f in
+          let rest = prefix_is ((at + 1, x.0) ∷ []) (half_from fuel form (before + length x.0) old x.1 end) entries gate f in
           let up = goes_up fuel (before + length x.0) old x.1 end rest.0 gate rest.1 in
           let new_there = record_there before new at end x.0 x.1 (opened_same before old new at end x.0 x.1 there (λ k le lt. same k le (omega (arith, lt, up)))) in
           let tail = go x rest.0 rest.1 (λ k le lt. same k (omega (arith, le, there.next_is)) lt) closed in

@@ -60,7 +60,7 @@ module _ (at n to m : ℕ) where
         written (Ok u) = λ k lt. second.others (at + k) (out k lt apart) ∙ first.written k lt
         written (Err e) = tt
 
-    -- a failure, told as another error
+    -- a failure, stated as another error
     pub so_failed : (old new : View) (first result : Result Unit DiskError) → IsErr result → HasFilledTwice old new at n bytes to m more first → HasFilledTwice old new at n bytes to m more result
     so_failed old new first result err has = record {
       honest = has.honest;

@@ -29,10 +29,10 @@ module _ {B : Type 0} (cs : List (Bor (Asked B))) (i : ℕ) (c : Bor (Asked B)) 
       let here : length (command_text c.now) ≡ length (command_text ((get_or cs i c).now)) = ap (λ (x : Bor (Asked B)). length (command_text x.now)) is in
       omega (arith, here, length-flat_map-take (λ (x : Bor (Asked B)). command_text x.now) cs i c lt)
 
-  pub one_more : (front out new : List ℕ) → out ≡ front ++ flat_map (λ c. command_text c.now) (take i cs) → new ≡ out ++ command_text c.now → new ≡ front ++ flat_map (λ c. command_text c.now) (take (i + 1) cs)
-  one_more front out new was e =
-      e ∙ ap (λ (l : List ℕ). l ++ command_text c.now) was ∙ flat_map_more (λ (x : Bor (Asked B)). command_text x.now) front (take i cs) c
-      ∙ ap (λ (l : List (Bor (Asked B))). front ++ flat_map (λ x. command_text x.now) l) (ap (λ (x : Bor (Asked B)). take i cs ++ x ∷ []) is ∙ sym (take_more cs i c lt))
+  pub one_more : (prefix out new : List ℕ) → out ≡ prefix ++ flat_map (λ c. command_text c.now) (take i cs) → new ≡ out ++ command_text c.now → new ≡ prefix ++ flat_map (λ c. command_text c.now) (take (i + 1) cs)
+  one_more prefix out new was e =
+      e ∙ ap (λ (l : List ℕ). l ++ command_text c.now) was ∙ flat_map_more (λ (x : Bor (Asked B)). command_text x.now) prefix (take i cs) c
+      ∙ ap (λ (l : List (Bor (Asked B))). prefix ++ flat_map (λ x. command_text x.now) l) (ap (λ (x : Bor (Asked B)). take i cs ++ x ∷ []) is ∙ sym (take_more cs i c lt))
 
   pub one_more_is : All (λ c. IsCommand c.now) (take i cs) → IsCommand c.now → All (λ c. IsCommand c.now) (take (i + 1) cs)
   one_more_is are one = All-more (λ (x : Bor (Asked B)). IsCommand x.now) cs i c lt are (subst (λ (x : Bor (Asked B)). IsCommand x.now) is one)
@@ -90,7 +90,7 @@ module _ {B : Type 0} (A : Type 0) where
       let bytes : length (flat_map command_text (given A cs)) ≡ length (flat_map (λ c. command_text c.now) cs) = ap length (given_bytes cs) in
       omega (arith, bytes, length-text form before (given A cs))
 
-  -- a head and the commands' bytes behind it
+  -- a head and the commands' bytes after it
   pub given_text : (form : Form) (before : ℕ) (cs : List (Bor (Asked B))) (count size : ℕ) (head all : List ℕ) → head ≡ big 2 count ++ (first_text (first_of form before) ++ big 4 size) → count ≡ length cs → size ≡ length (flat_map (λ c. command_text c.now) cs)
       → all ≡ head ++ flat_map (λ c. command_text c.now) cs → all ≡ record_text form before (given A cs)
   unfolding packed_text

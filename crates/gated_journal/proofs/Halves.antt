@@ -12,7 +12,7 @@ use Rattle.centre_core.specs.Asked.{Asked}
 use Rattle.gated_journal.specs.Record.{most_sectors, record_of}
 use Rattle.gated_journal.specs.declared.form.Form.{Form}
 use Rattle.gated_journal.specs.declared.form.Form.TheVariants.{Numbered, Plain}
-use Rattle.gated_journal.specs.Half.{counted, data_from, told_size, Found, found, record_at, Entry, Half, with_front, half_on, half_from, half_of}
+use Rattle.gated_journal.specs.Half.{counted, data_from, stated_size, Found, found, record_at, Entry, Half, with_prefix, half_on, half_from, half_of}
 
 open_cond : {X : Type 0} (b : Bool) (x : Result (Option X) ℕ) (y : X) → cond b x (Ok None) ≡ Ok (Some y) → (b ≡ true) × (x ≡ Ok (Some y))
 open_cond true x y e = (refl, e)
@@ -38,9 +38,9 @@ both size next end few within =
     rw (a, b) refl
 
 -- a record takes one data sector at least
-pub told_some : (form : Form) (bytes : List ℕ) → 1 ≤ told_size form bytes
-told_some Plain bytes = omega arith
-told_some Numbered bytes = omega arith
+pub stated_some : (form : Form) (bytes : List ℕ) → 1 ≤ stated_size form bytes
+stated_some Plain bytes = omega arith
+stated_some Numbered bytes = omega arith
 
 module _ {A : Type 0} where
   -- where a record ends
@@ -51,22 +51,22 @@ module _ {A : Type 0} where
   -- what an open gate with a record says
   pub record Opened (form : Form) (before : ℕ) (image : List (List ℕ)) (at end : ℕ) (commands : List (Asked A)) (next : ℕ) : Type 0 where
     pub gate : slice_index (sector image at) 0 ≡ 1
-    pub next_is : next ≡ at + 1 + told_size form (sector image (at + 1))
-    pub few : told_size form (sector image (at + 1)) ≤ most_sectors
+    pub next_is : next ≡ at + 1 + stated_size form (sector image (at + 1))
+    pub few : stated_size form (sector image (at + 1)) ≤ most_sectors
     pub within : next < end
-    pub read : record_of form before (data_from image (at + 1) (told_size form (sector image (at + 1)))) ≡ Some commands
+    pub read : record_of form before (data_from image (at + 1) (stated_size form (sector image (at + 1)))) ≡ Some commands
 
   pub opened : (form : Form) (before : ℕ) (image : List (List ℕ)) (at end : ℕ) (x : List (Asked A) × ℕ) → record_at form before image at end ≡ Ok (Some x) → Opened form before image at end x.0 x.1
   unfolding record_at
   opened form before image at end x e =
-      let size = told_size form (sector image (at + 1)) in
+      let size = stated_size form (sector image (at + 1)) in
       let next = at + 1 + size in
-      let read = found (at + 1) next (record_of form before (data_from image (at + 1) (told_size form (sector image (at + 1))))) in
+      let read = found (at + 1) next (record_of form before (data_from image (at + 1) (stated_size form (sector image (at + 1))))) in
       let a = open_cond (eqb (slice_index (sector image at) 0) 1) (cond (eqb (at + 1) end) (Err at) (cond (leb size most_sectors && ltb next end) read (Err (at + 1)))) x e in
       let b = good_cond (eqb (at + 1) end) at (cond (leb size most_sectors && ltb next end) read (Err (at + 1))) (Some x) a.1 in
       let d = within_cond (leb size most_sectors && ltb next end) (at + 1) read (Some x) b.1 in
       let both = and_parts (leb size most_sectors) (ltb next end) d.0 in
-      let is = found_is (at + 1) next (record_of form before (data_from image (at + 1) (told_size form (sector image (at + 1))))) x d.1 in
+      let is = found_is (at + 1) next (record_of form before (data_from image (at + 1) (stated_size form (sector image (at + 1))))) x d.1 in
       record { gate = eqb-true _ _ a.0; next_is = is.1; few = leb-true _ _ both.0; within = rw is.1 (ltb-true _ _ both.1); read = is.0 }
 
   module _ (form : Form) where
@@ -87,28 +87,28 @@ module _ {A : Type 0} where
         some_record go None e = refl
         some_record go (Some x) e =
             let is = opened form before image at end x e in
-            ap (with_front ((at + 1, x.0) ∷ [])) (go x is.within (omega (arith, is.next_is, lf)) (omega (arith, is.next_is, lg)))
+            ap (with_prefix ((at + 1, x.0) ∷ [])) (go x is.within (omega (arith, is.next_is, lf)) (omega (arith, is.next_is, lg)))
 
-    -- the half behind a record
-    abbrev behind : ℕ → List (List ℕ) → ℕ → List (Asked A) × ℕ → Half A
-    behind before image end x = half_of form (before + length x.0) image x.1 end
+    -- the half after a record
+    abbrev following : ℕ → List (List ℕ) → ℕ → List (Asked A) × ℕ → Half A
+    following before image end x = half_of form (before + length x.0) image x.1 end
 
     goes_same : (f before : ℕ) (image : List (List ℕ)) (at end : ℕ) → at < end → end ≤ at + suc f
-        → half_on {A = A} at (record_at form before image at end) (λ x. half_from f form (before + length x.0) image x.1 end) ≡ half_on at (record_at form before image at end) (behind before image end)
+        → half_on {A = A} at (record_at form before image at end) (λ x. half_from f form (before + length x.0) image x.1 end) ≡ half_on at (record_at form before image at end) (following before image end)
     goes_same f before image at end lt le =
-        elim (record_at {A = A} form before image at end) as (λ r. record_at form before image at end ≡ r → half_on at r (λ x. half_from f form (before + length x.0) image x.1 end) ≡ half_on at r (behind before image end)) [
+        elim (record_at {A = A} form before image at end) as (λ r. record_at form before image at end ≡ r → half_on at r (λ x. half_from f form (before + length x.0) image x.1 end) ≡ half_on at r (following before image end)) [
           | Err fault ↦ λ e. refl
           | Ok o ↦ λ e. some_record o e
         ] refl
       where
-        some_record : (o : Option (List (Asked A) × ℕ)) → record_at form before image at end ≡ Ok o → half_on at (Ok o) (λ x. half_from f form (before + length x.0) image x.1 end) ≡ half_on at (Ok o) (behind before image end)
+        some_record : (o : Option (List (Asked A) × ℕ)) → record_at form before image at end ≡ Ok o → half_on at (Ok o) (λ x. half_from f form (before + length x.0) image x.1 end) ≡ half_on at (Ok o) (following before image end)
         some_record None e = refl
         some_record (Some x) e =
             let is = opened form before image at end x e in
-            ap (with_front ((at + 1, x.0) ∷ [])) (same_fuel f (end - x.1) (before + length x.0) image x.1 end is.within (omega (arith, is.next_is, le)) (omega arith))
+            ap (with_prefix ((at + 1, x.0) ∷ [])) (same_fuel f (end - x.1) (before + length x.0) image x.1 end is.within (omega (arith, is.next_is, le)) (omega arith))
 
-    -- a half is its first record and the half behind it
-    unrolled : (before : ℕ) (image : List (List ℕ)) (at end : ℕ) → at < end → half_of {A = A} form before image at end ≡ half_on at (record_at form before image at end) (behind before image end)
+    -- a half is its first record and the half after it
+    unrolled : (before : ℕ) (image : List (List ℕ)) (at end : ℕ) → at < end → half_of {A = A} form before image at end ≡ half_on at (record_at form before image at end) (following before image end)
     unfolding half_from
     unrolled before image at end lt =
         let k : end - at ≡ suc (end - (at + 1)) = omega arith in
@@ -116,31 +116,31 @@ module _ {A : Type 0} where
 
   -- ---- in a loop
 
-  fronts_append : (front more : List (Entry A)) (half : Half A) → with_front front (with_front more half) ≡ with_front (front ++ more) half
-  fronts_append front more (Ok half) = ap (λ (entries : List (Entry A)). Ok (entries, half.1)) (sym (append_assoc front more half.0))
-  fronts_append front more (Err s) = refl
+  prefixes_append : (prefix more : List (Entry A)) (half : Half A) → with_prefix prefix (with_prefix more half) ≡ with_prefix (prefix ++ more) half
+  prefixes_append prefix more (Ok half) = ap (λ (entries : List (Entry A)). Ok (entries, half.1)) (sym (append_assoc prefix more half.0))
+  prefixes_append prefix more (Err s) = refl
 
-  pub front_none : (half : Half A) → with_front [] half ≡ half
-  front_none (Ok half) = refl
-  front_none (Err s) = refl
+  pub prefix_none : (half : Half A) → with_prefix [] half ≡ half
+  prefix_none (Ok half) = refl
+  prefix_none (Err s) = refl
 
-  module _ (form : Form) (before : ℕ) (image : List (List ℕ)) (at end : ℕ) (front : List (Entry A)) (total : Half A) (lt : at < end) (so_far : with_front front (half_of form before image at end) ≡ total) where
-    first_is : (r : Found A) → record_at form before image at end ≡ r → half_of form before image at end ≡ half_on at r (behind form before image end)
-    first_is r e = unrolled form before image at end lt ∙ ap (λ (r : Found A). half_on at r (behind form before image end)) e
+  module _ (form : Form) (before : ℕ) (image : List (List ℕ)) (at end : ℕ) (prefix : List (Entry A)) (total : Half A) (lt : at < end) (so_far : with_prefix prefix (half_of form before image at end) ≡ total) where
+    first_is : (r : Found A) → record_at form before image at end ≡ r → half_of form before image at end ≡ half_on at r (following form before image end)
+    first_is r e = unrolled form before image at end lt ∙ ap (λ (r : Found A). half_on at r (following form before image end)) e
 
-    pub front_more : (commands : List (Asked A)) (next : ℕ) → record_at form before image at end ≡ Ok (Some (commands, next)) → with_front (front ++ (at + 1, commands) ∷ []) (half_of form (before + length commands) image next end) ≡ total
-    front_more commands next e =
-        sym (fronts_append front ((at + 1, commands) ∷ []) (half_of form (before + length commands) image next end)) ∙ ap (with_front front) (sym (first_is (Ok (Some (commands, next))) e)) ∙ so_far
+    pub prefix_more : (commands : List (Asked A)) (next : ℕ) → record_at form before image at end ≡ Ok (Some (commands, next)) → with_prefix (prefix ++ (at + 1, commands) ∷ []) (half_of form (before + length commands) image next end) ≡ total
+    prefix_more commands next e =
+        sym (prefixes_append prefix ((at + 1, commands) ∷ []) (half_of form (before + length commands) image next end)) ∙ ap (with_prefix prefix) (sym (first_is (Ok (Some (commands, next))) e)) ∙ so_far
 
-    pub front_closed : record_at {A = A} form before image at end ≡ Ok None → total ≡ Ok (front, at)
-    front_closed e = sym so_far ∙ ap (with_front front) (first_is (Ok None) e) ∙ ap (λ (entries : List (Entry A)). Ok (entries, at)) (append-nil front)
+    pub prefix_closed : record_at {A = A} form before image at end ≡ Ok None → total ≡ Ok (prefix, at)
+    prefix_closed e = sym so_far ∙ ap (with_prefix prefix) (first_is (Ok None) e) ∙ ap (λ (entries : List (Entry A)). Ok (entries, at)) (append-nil prefix)
 
-    front_fault : (s : ℕ) → record_at {A = A} form before image at end ≡ Err s → total ≡ Err s
-    front_fault s e = sym so_far ∙ ap (with_front front) (first_is (Err s) e)
+    prefix_fault : (s : ℕ) → record_at {A = A} form before image at end ≡ Err s → total ≡ Err s
+    prefix_fault s e = sym so_far ∙ ap (with_prefix prefix) (first_is (Err s) e)
 
     -- an error of one record is one of the whole
     pub error_on : (e : JournalError) → Fails e (record_at {A = A} form before image at end) → Fails e total
-    error_on (Damaged s) is = front_fault s is
+    error_on (Damaged s) is = prefix_fault s is
     error_on DiskFault is = tt
     error_on NoMemory is = tt
     error_on JournalFull is = is

@@ -6,7 +6,7 @@ use Rattle.centre_core.specs.Asked.{Asked}
 use Rattle.gated_journal.specs.declared.fault.JournalError.{JournalError}
 use Rattle.gated_journal.specs.declared.fault.JournalError.TheVariants.{JournalFull, DiskFault, Damaged, NoMemory}
 use Rattle.gated_journal.specs.declared.form.Form.{Form}
-use Rattle.gated_journal.specs.Half.{Found, bytes_at, data_from, found, judged, record_at, told_size}
+use Rattle.gated_journal.specs.Half.{Found, bytes_at, data_from, found, judged, record_at, stated_size}
 use Rattle.gated_journal.specs.Reading.{Fails, HasRecord}
 use Rattle.gated_journal.specs.Record.{most_sectors, record_of}
 
@@ -21,8 +21,8 @@ module _ {A : Type 0} where
   pub judged_at : (form : Form) (before : ℕ) (image : List (List ℕ)) (at end : ℕ) → record_at {A = A} form before image at end ≡ judged form before at (bytes_at form image at end)
   unfolding record_at bytes_at
   judged_at form before image at end =
-      let size = told_size form (sector image (at + 1)) in
-      by_cases form before (eqb (slice_index (sector image at) 0) 1) (eqb (at + 1) end) (leb size most_sectors && ltb (at + 1 + size) end) at (at + 1 + size) (data_from image (at + 1) (told_size form (sector image (at + 1))))
+      let size = stated_size form (sector image (at + 1)) in
+      by_cases form before (eqb (slice_index (sector image at) 0) 1) (eqb (at + 1) end) (leb size most_sectors && ltb (at + 1 + size) end) at (at + 1 + size) (data_from image (at + 1) (stated_size form (sector image (at + 1))))
 
   module _ (form : Form) (before : ℕ) (image : List (List ℕ)) (at end : ℕ) where
     judged_as : (r : Result (Option (List ℕ × ℕ)) ℕ) → bytes_at form image at end ≡ r → record_at {A = A} form before image at end ≡ judged form before at r

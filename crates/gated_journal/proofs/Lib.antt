@@ -15,3 +15,4 @@ pub mod Steps
 pub mod Taken
 pub mod TwoHalves
 pub mod Written
+pub mod Zeros

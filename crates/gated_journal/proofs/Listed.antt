@@ -15,7 +15,7 @@ use Rattle.command_bytes.specs.Text.{IsCommand, command_text, longest}
 use Rattle.command_bytes.specs.Reading.{first_command}
 use Rattle.command_bytes.proofs.BodyLaws.{command_again, command_takes}
 use Rattle.command_bytes.proofs.Sizes.{command_short}
-use Rattle.gated_journal.specs.Record.{Packed, IsRecord, commands_in, first_of, follows, most_commands, pack, packed_of, packed_text, record_of, record_text, told_of}
+use Rattle.gated_journal.specs.Record.{Packed, IsRecord, commands_in, first_of, follows, most_commands, pack, packed_of, packed_text, record_of, record_text, stated_of}
 use Rattle.gated_journal.specs.declared.form.Form.{Form}
 use Rattle.gated_journal.specs.declared.form.Form.TheVariants.{Numbered, Plain}
 use Rattle.gated_journal.proofs.Packed.{IsFirst, IsPacked, first_is, it_follows, packed_again}
@@ -66,10 +66,10 @@ module _ {A : Type 0} where
         spelt = one.1 ∙ ap (λ (l : List ℕ). command_text first.0 ++ l) more.spelt ∙ sym (flat_map-cons command_text first.0 others);
       })
 
-  -- ---- what a record's bytes tell
+  -- ---- what a record's bytes state
 
   abbrev if_follows : ℕ → Option ℕ × List (Asked A) → Option (List (Asked A))
-  if_follows before told = cond (follows before told.0) (Some told.1) None
+  if_follows before stated = cond (follows before stated.0) (Some stated.1) None
 
   abbrev with_first : Option ℕ → List (Asked A) → Option (Option ℕ × List (Asked A))
   with_first first commands = Some (first, commands)
@@ -89,15 +89,15 @@ module _ {A : Type 0} where
 
   pub record_taken : (form : Form) (before : ℕ) (bytes : List ℕ) (cs : List (Asked A)) → AreBytes bytes → record_of form before bytes ≡ Some cs → IsRead form before bytes cs
   record_taken form before bytes cs is e =
-      let t = bind_some (told_of {A = A} form bytes) (if_follows before) cs e in
-      let told : Option ℕ × List (Asked A) = t.0 in
-      let k = kept (follows before told.0) told.1 cs t.2 in
-      let a = bind_some (packed_of form bytes) (λ (packed : Packed). commands_in packed.count packed.bytes >>= with_first packed.first) told t.1 in
+      let t = bind_some (stated_of {A = A} form bytes) (if_follows before) cs e in
+      let stated : Option ℕ × List (Asked A) = t.0 in
+      let k = kept (follows before stated.0) stated.1 cs t.2 in
+      let a = bind_some (packed_of form bytes) (λ (packed : Packed). commands_in packed.count packed.bytes >>= with_first packed.first) stated t.1 in
       let packed : Packed = a.0 in
-      let b = bind_some (commands_in packed.count packed.bytes) (with_first packed.first) told a.2 in
-      let pair : ◌≡◌ {A = Option ℕ × List (Asked A)} (packed.first, b.0) told = cc in
+      let b = bind_some (commands_in packed.count packed.bytes) (with_first packed.first) stated a.2 in
+      let pair : ◌≡◌ {A = Option ℕ × List (Asked A)} (packed.first, b.0) stated = cc in
       let these : b.0 ≡ cs = ap (λ (x : Option ℕ × List (Asked A)). x.1) pair ∙ k.1 in
-      let number : packed.first ≡ told.0 = ap (λ (x : Option ℕ × List (Asked A)). x.0) pair in
+      let number : packed.first ≡ stated.0 = ap (λ (x : Option ℕ × List (Asked A)). x.0) pair in
       let unpacked = packed_taken form bytes packed is a.1 in
       let are = commands_taken packed.count packed.bytes cs unpacked.are_bytes (b.1 ∙ ap Some these) in
       let first : packed.first ≡ first_of form before = first_of_follows form before packed.first unpacked.first (ap (follows before) number ∙ k.0) in

@@ -1,4 +1,4 @@
--- Commands as bytes in a record: their text with zeros behind it is read back.
+-- Commands as bytes in a record: their text with zeros after it is read back.
 use Rattle.std.proofs.Common.{◌≡◌, ℕ, zero, suc, ◌*◌, ◌^◌, ◌<◌, ◌≤◌, Bool, true, false, leb, List, ◌++◌, length, drop, replicate, Option, Some, None, refl, ap, ◌+◌, ◌/◌, ◌∙◌, append_assoc, arith}
 use Rattle.std.specs.Prelude.{◌&&◌}
 use Rattle.std.specs.List.{list_all}
@@ -10,7 +10,7 @@ use Rattle.centre_core.specs.State.{last_number}
 use Rattle.byteorder.specs.Numbers.{big_number-reads_back}
 use Rattle.command_bytes.proofs.Numbers.{length-big, number_again}
 use Rattle.gated_journal.specs.Record.{Packed, first_at, first_of, first_text, follows, head_len, is_in_range, is_zero, most_commands, packed_of, packed_text}
-use Rattle.gated_journal.specs.Half.{told_size}
+use Rattle.gated_journal.specs.Half.{stated_size}
 use Rattle.gated_journal.specs.declared.form.Form.{Form}
 use Rattle.gated_journal.specs.declared.form.Form.TheVariants.{Numbered, Plain}
 
@@ -53,7 +53,7 @@ first_again Numbered first rest (n, is, small) = rw (is, number_again 8 n rest s
 
 pub packed_again : (form : Form) (commands : Packed) (z : ℕ) → IsPacked commands → IsFirst form commands.first → packed_of form (packed_text commands ++ replicate z 0) ≡ Some commands
 unfolding packed_of packed_text
-packed_again form commands z is told =
+packed_again form commands z is stated =
     let count : ℕ = commands.count in
     let number : List ℕ = first_text commands.first in
     let body : List ℕ = commands.bytes in
@@ -65,7 +65,7 @@ packed_again form commands z is told =
     let good = all_good (is_in_range count (length body)) (leb (length body) (length (body ++ filling))) (list_all is_zero (drop (length body) (body ++ filling))) (in_range commands is) room zeros in
     let small : count < 256 ^ 2 = omega (arith, is.few) in
     let short : length body < 256 ^ 4 = omega (arith, is.short, is.few) in
-    ap (packed_of form) regrouped ∙ rw (number_again 2 count (number ++ (big 4 (length body) ++ (body ++ filling))) small, first_again form commands.first (big 4 (length body) ++ (body ++ filling)) told, number_again 4 (length body) (body ++ filling) short, good, take_at body filling (length body) refl) refl
+    ap (packed_of form) regrouped ∙ rw (number_again 2 count (number ++ (big 4 (length body) ++ (body ++ filling))) small, first_again form commands.first (big 4 (length body) ++ (body ++ filling)) stated, number_again 4 (length body) (body ++ filling) short, good, take_at body filling (length body) refl) refl
 
 -- the number that is written follows
 pub it_follows : (form : Form) (before : ℕ) → follows before (first_of form before) ≡ true
@@ -76,13 +76,13 @@ pub first_is : (form : Form) (before : ℕ) → before < last_number → IsFirst
 first_is Plain before small = refl
 first_is Numbered before small = (before + 1, refl, omega (arith, small))
 
--- how many data sectors it takes is told by the first of them
-pub told_bytes : (form : Form) (commands : Packed) → length commands.bytes < 2 ^ 31 → IsFirst form commands.first → told_size form (packed_text commands) ≡ (length commands.bytes + (511 + head_len form)) / 512
+-- how many data sectors it takes is stated by the first of them
+pub stated_bytes : (form : Form) (commands : Packed) → length commands.bytes < 2 ^ 31 → IsFirst form commands.first → stated_size form (packed_text commands) ≡ (length commands.bytes + (511 + head_len form)) / 512
 unfolding packed_text big
-told_bytes Plain commands short is = rw is (ap (λ (n : ℕ). (n + 517) / 512) (big_number-reads_back 4 (length commands.bytes) commands.bytes (omega (arith, short))))
-told_bytes Numbered commands short (n, is, small) = rw is (ap (λ (k : ℕ). (k + 525) / 512) (big_number-reads_back 4 (length commands.bytes) commands.bytes (omega (arith, short))))
+stated_bytes Plain commands short is = rw is (ap (λ (n : ℕ). (n + 517) / 512) (big_number-reads_back 4 (length commands.bytes) commands.bytes (omega (arith, short))))
+stated_bytes Numbered commands short (n, is, small) = rw is (ap (λ (k : ℕ). (k + 525) / 512) (big_number-reads_back 4 (length commands.bytes) commands.bytes (omega (arith, short))))
 
--- how many bytes stand before the commands
+-- how many bytes are before the commands
 pub head_bytes : (form : Form) (before : ℕ) → 6 + length (first_text (first_of form before)) ≡ head_len form
 head_bytes Plain before = refl
 head_bytes Numbered before = omega (arith, length-big 8 (before + 1))

@@ -8,7 +8,7 @@ use Rattle.byteorder.specs.Endian.{big_from}
 use Rattle.std.proofs.lemmas.Bool.Decides.{nat_tests}
 use Rattle.sector_disk.specs.Disk.{sector}
 use Rattle.gated_journal.specs.declared.form.Form.{Form}
-use Rattle.gated_journal.specs.Half.{bytes_at, data_from, told_size}
+use Rattle.gated_journal.specs.Half.{bytes_at, data_from, stated_size}
 use Rattle.centre_core.specs.Asked.{Asked}
 use Rattle.command_bytes.specs.Fields.{◌>>=◌}
 use Rattle.command_bytes.specs.Reading.{first_command}
@@ -25,8 +25,8 @@ pub data_none : (image : List (List ℕ)) (at : ℕ) → [] ≡ data_from image 
 unfolding data_from
 data_none image at = refl
 
-pub data_one : (image : List (List ℕ)) (at : ℕ) (front bytes : List ℕ) → front ≡ [] → bytes ≡ sector image at → front ++ bytes ≡ data_from image at 1
-data_one image at front bytes none is = let here : at ≡ at + 0 = omega arith in data_more image at 0 front bytes (none ∙ data_none image at) (is ∙ ap (sector image) here)
+pub data_one : (image : List (List ℕ)) (at : ℕ) (prefix bytes : List ℕ) → prefix ≡ [] → bytes ≡ sector image at → prefix ++ bytes ≡ data_from image at 1
+data_one image at prefix bytes none is = let here : at ≡ at + 0 = omega arith in data_more image at 0 prefix bytes (none ∙ data_none image at) (is ∙ ap (sector image) here)
 
 -- ---- the bytes at a gate
 
@@ -40,22 +40,22 @@ not_both : (size next end : ℕ) → (most_sectors < size) ⊎ (end ≤ next) �
 not_both size next end (inl many) = no_and (leb size most_sectors) (ltb next end) (inl (grind (arith, nat_tests)))
 not_both size next end (inr past) = no_and (leb size most_sectors) (ltb next end) (inr (grind (arith, nat_tests)))
 
-pub too_long : (form : Form) (image : List (List ℕ)) (at end size : ℕ) → at + 1 < end → slice_index (sector image at) 0 ≡ 1 → told_size form (sector image (at + 1)) ≡ size → (most_sectors < size) ⊎ (end ≤ at + 1 + size) → bytes_at form image at end ≡ Err (at + 1)
+pub too_long : (form : Form) (image : List (List ℕ)) (at end size : ℕ) → at + 1 < end → slice_index (sector image at) 0 ≡ 1 → stated_size form (sector image (at + 1)) ≡ size → (most_sectors < size) ⊎ (end ≤ at + 1 + size) → bytes_at form image at end ≡ Err (at + 1)
 unfolding bytes_at
-too_long form image at end size lt gate told past =
+too_long form image at end size lt gate stated past =
     let a : eqb (slice_index (sector image at) 0) 1 ≡ true = grind (arith, nat_tests) in
     let b : eqb (at + 1) end ≡ false = grind (arith, nat_tests) in
     let d : (leb size most_sectors && ltb (at + 1 + size) end) ≡ false = not_both size (at + 1 + size) end past in
-    rw (a, b, told, d) refl
+    rw (a, b, stated, d) refl
 
-pub bytes_found : (form : Form) (image : List (List ℕ)) (at end size : ℕ) → size ≤ most_sectors → at + 1 + size < end → slice_index (sector image at) 0 ≡ 1 → told_size form (sector image (at + 1)) ≡ size
+pub bytes_found : (form : Form) (image : List (List ℕ)) (at end size : ℕ) → size ≤ most_sectors → at + 1 + size < end → slice_index (sector image at) 0 ≡ 1 → stated_size form (sector image (at + 1)) ≡ size
     → bytes_at form image at end ≡ Ok (Some (data_from image (at + 1) size, at + 1 + size))
 unfolding bytes_at
-bytes_found form image at end size few lt gate told =
+bytes_found form image at end size few lt gate stated =
     let a : eqb (slice_index (sector image at) 0) 1 ≡ true = grind (arith, nat_tests) in
     let b : eqb (at + 1) end ≡ false = grind (arith, nat_tests) in
     let d : (leb size most_sectors && ltb (at + 1 + size) end) ≡ true = both size (at + 1 + size) end few lt in
-    rw (a, b, told, d) refl
+    rw (a, b, stated, d) refl
 
 -- a byte of a part of a sector
 byte_in : (at : ℕ) (bytes : List ℕ) (i j : ℕ) → at + 4 ≤ 512 → i < 4 → at + i ≡ j → slice_index (take 4 (take (512 - at) (drop at bytes))) i ≡ slice_index bytes j
@@ -76,42 +76,42 @@ number_in at bytes inside =
 
 -- ---- commands
 
-option_front : {X : Type 0} (o : Option (List X)) → option_map (λ others. [] ++ others) o ≡ o
-option_front (Some others) = refl
-option_front None = refl
+option_prefix : {X : Type 0} (o : Option (List X)) → option_map (λ others. [] ++ others) o ≡ o
+option_prefix (Some others) = refl
+option_prefix None = refl
 
-option_with_more : {X : Type 0} (front : List X) (x : X) (o : Option (List X)) → option_map (λ others. (front ++ x ∷ []) ++ others) o ≡ option_map (λ others. front ++ others) (o >>= λ others. Some (x ∷ others))
-option_with_more front x (Some others) = ap Some (append_assoc front (x ∷ []) others)
-option_with_more front x None = refl
+option_with_more : {X : Type 0} (prefix : List X) (x : X) (o : Option (List X)) → option_map (λ others. (prefix ++ x ∷ []) ++ others) o ≡ option_map (λ others. prefix ++ others) (o >>= λ others. Some (x ∷ others))
+option_with_more prefix x (Some others) = ap Some (append_assoc prefix (x ∷ []) others)
+option_with_more prefix x None = refl
 
 module _ {A : Type 0} where
   -- before the first of them
   pub commands_none : (n : ℕ) (bytes : List ℕ) → option_map (λ others. [] ++ others) (commands_in {A = A} n bytes) ≡ commands_in n bytes
-  commands_none n bytes = option_front (commands_in n bytes)
+  commands_none n bytes = option_prefix (commands_in n bytes)
 
   -- one of them more
-  pub commands_more : (front : List (Asked A)) (n : ℕ) (bytes rest : List ℕ) (c : Asked A) (all : Option (List (Asked A))) → first_command bytes ≡ Some (c, rest)
-      → option_map (λ others. front ++ others) (commands_in (suc n) bytes) ≡ all → option_map (λ others. (front ++ c ∷ []) ++ others) (commands_in n rest) ≡ all
+  pub commands_more : (prefix : List (Asked A)) (n : ℕ) (bytes rest : List ℕ) (c : Asked A) (all : Option (List (Asked A))) → first_command bytes ≡ Some (c, rest)
+      → option_map (λ others. prefix ++ others) (commands_in (suc n) bytes) ≡ all → option_map (λ others. (prefix ++ c ∷ []) ++ others) (commands_in n rest) ≡ all
   unfolding commands_in
-  commands_more front n bytes rest c all e so_far =
-      option_with_more front c (commands_in n rest) ∙ rw e at so_far
+  commands_more prefix n bytes rest c all e so_far =
+      option_with_more prefix c (commands_in n rest) ∙ rw e at so_far
 
   -- one of them is none
-  pub commands_fault : (front : List (Asked A)) (n : ℕ) (bytes : List ℕ) (all : Option (List (Asked A))) → first_command {A = A} bytes ≡ None
-      → option_map (λ others. front ++ others) (commands_in (suc n) bytes) ≡ all → None ≡ all
+  pub commands_fault : (prefix : List (Asked A)) (n : ℕ) (bytes : List ℕ) (all : Option (List (Asked A))) → first_command {A = A} bytes ≡ None
+      → option_map (λ others. prefix ++ others) (commands_in (suc n) bytes) ≡ all → None ≡ all
   unfolding commands_in
-  commands_fault front n bytes all e so_far = rw e at so_far
+  commands_fault prefix n bytes all e so_far = rw e at so_far
 
-  -- behind the last of them: no byte, or others
-  pub commands_end : (front : List (Asked A)) (bytes : List ℕ) (all : Option (List (Asked A))) → length bytes ≡ 0 → option_map (λ others. front ++ others) (commands_in 0 bytes) ≡ all → Some front ≡ all
+  -- after the last of them: no byte, or others
+  pub commands_end : (prefix : List (Asked A)) (bytes : List ℕ) (all : Option (List (Asked A))) → length bytes ≡ 0 → option_map (λ others. prefix ++ others) (commands_in 0 bytes) ≡ all → Some prefix ≡ all
   unfolding commands_in
-  commands_end front [] all none so_far = ap Some (sym (append-nil front)) ∙ so_far
-  commands_end front (b ∷ bytes) all none so_far = absurd (omega (arith, none))
+  commands_end prefix [] all none so_far = ap Some (sym (append-nil prefix)) ∙ so_far
+  commands_end prefix (b ∷ bytes) all none so_far = absurd (omega (arith, none))
 
-  pub commands_past : (front : List (Asked A)) (bytes : List ℕ) (all : Option (List (Asked A))) → length bytes ≢ 0 → option_map (λ others. front ++ others) (commands_in {A = A} 0 bytes) ≡ all → None ≡ all
+  pub commands_past : (prefix : List (Asked A)) (bytes : List ℕ) (all : Option (List (Asked A))) → length bytes ≢ 0 → option_map (λ others. prefix ++ others) (commands_in {A = A} 0 bytes) ≡ all → None ≡ all
   unfolding commands_in
-  commands_past front [] all some so_far = absurd (some refl)
-  commands_past front (b ∷ bytes) all some so_far = so_far
+  commands_past prefix [] all some so_far = absurd (some refl)
+  commands_past prefix (b ∷ bytes) all some so_far = so_far
 
 -- ---- whether they are commands
 
@@ -140,7 +140,7 @@ module _ (A : Type 0) where
   unfolding commands_in
   are_not n bytes e = rw (no_rest (first_command {A = A} bytes) e) refl
 
-  -- behind the last of them
+  -- after the last of them
   pub are_all : (bytes : List ℕ) → is_some (commands_in {A = A} 0 bytes) ≡ (length bytes == 0)
   unfolding commands_in
   are_all [] = refl

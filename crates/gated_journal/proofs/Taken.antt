@@ -1,4 +1,4 @@
--- Commands as bytes that are read in a record: the record is their text, with zeros behind it.
+-- Commands as bytes that are read in a record: the record is their text, with zeros after it.
 use Rattle.std.proofs.Common.{◌≡◌, ℕ, ◌*◌, ◌≤◌, Bool, true, false, cond, eqb, leb, List, [], ◌∷◌, ◌++◌, length, take, drop, replicate, Option, Some, None, refl, sym, ap, subst, ◌∙◌, append_assoc, arith}
 use Rattle.std.specs.Prelude.{◌&&◌}
 use Rattle.std.specs.List.{list_all}
@@ -71,8 +71,8 @@ packed_taken form bytes commands is e =
     let b = bind_some (number_at 4 first.1) (judged count.0 first.0) commands f.2 in
     let size : ℕ × List ℕ = b.0 in
     let one = number_takes 2 bytes count is a.1 in
-    let told = first_taken form count.1 first one.1 f.1 in
-    let second = number_takes 4 first.1 size told.2 b.1 in
+    let stated = first_taken form count.1 first one.1 f.1 in
+    let second = number_takes 4 first.1 size stated.2 b.1 in
     let last = some_where (is_in_range count.0 size.0 && leb size.0 (length size.1) && list_all is_zero (drop size.0 size.1)) (record { count = count.0; first = first.0; bytes = take size.0 size.1 }) commands b.2 in
     let good = three (is_in_range count.0 size.0) (leb size.0 (length size.1)) (list_all is_zero (drop size.0 size.1)) last.0 in
     let range = three (leb 1 count.0) (leb count.0 most_commands) (leb size.0 (longest * count.0)) good.0 in
@@ -81,19 +81,19 @@ packed_taken form bytes commands is e =
     let zeros = all_zeros (drop size.0 size.1) good.2 in
     subst (λ (c : Packed). IsUnpacked form bytes c) last.1 (record {
       fit = record { some = leb-true _ _ range.0; few = leb-true _ _ range.1; short = rw long (leb-true _ _ range.2) };
-      first = told.0;
-      spelt = (length (drop size.0 size.1), rw long (whole count first size one.0 told.1 second.0 zeros));
+      first = stated.0;
+      spelt = (length (drop size.0 size.1), rw long (whole count first size one.0 stated.1 second.0 zeros));
       are_bytes = bytes-take size.0 size.1 second.1;
     })
   where
     whole : (count : ℕ × List ℕ) (first : Option ℕ × List ℕ) (size : ℕ × List ℕ) → bytes ≡ big 2 count.0 ++ count.1 → count.1 ≡ first_text first.0 ++ first.1 → first.1 ≡ big 4 size.0 ++ size.1 → drop size.0 size.1 ≡ replicate (length (drop size.0 size.1)) 0
         → bytes ≡ (big 2 count.0 ++ (first_text first.0 ++ (big 4 size.0 ++ take size.0 size.1))) ++ replicate (length (drop size.0 size.1)) 0
-    whole count first size one told second zeros =
+    whole count first size one stated second zeros =
         let rest : size.1 ≡ take size.0 size.1 ++ replicate (length (drop size.0 size.1)) 0 = sym (take-append-drop size.0 size.1) ∙ ap (λ (l : List ℕ). take size.0 size.1 ++ l) zeros in
         let zs : List ℕ = replicate (length (drop size.0 size.1)) 0 in
         let body : List ℕ = take size.0 size.1 in
         let grouped : big 2 count.0 ++ (first_text first.0 ++ (big 4 size.0 ++ (body ++ zs))) ≡ (big 2 count.0 ++ (first_text first.0 ++ (big 4 size.0 ++ body))) ++ zs = simp append_assoc in
-        one ∙ ap (λ (l : List ℕ). big 2 count.0 ++ l) (told ∙ ap (λ (l : List ℕ). first_text first.0 ++ l) (second ∙ ap (λ (l : List ℕ). big 4 size.0 ++ l) rest)) ∙ grouped
+        one ∙ ap (λ (l : List ℕ). big 2 count.0 ++ l) (stated ∙ ap (λ (l : List ℕ). first_text first.0 ++ l) (second ∙ ap (λ (l : List ℕ). big 4 size.0 ++ l) rest)) ∙ grouped
 
 -- it has no more commands than a record may have
 pub packed_few : (form : Form) (bytes : List ℕ) (commands : Packed) → packed_of form bytes ≡ Some commands → commands.count ≤ most_commands

@@ -14,7 +14,7 @@ use Rattle.gated_journal.specs.Record.{data_sector, data_size}
 use Rattle.gated_journal.specs.Settled.{IsSettled, LeavesBoth}
 use Rattle.gated_journal.specs.declared.place.Place.{Place}
 use Rattle.gated_journal.proofs.Chain.{half_up, same_half}
-use Rattle.gated_journal.proofs.OneHalf.{IsReadBack, IsStaged, behind, beyond_half, counted_on, next_read, open_or_not, with_record}
+use Rattle.gated_journal.proofs.OneHalf.{IsReadBack, IsStaged, following, beyond_half, counted_on, next_read, open_or_not, with_record}
 
 -- two halves of one disk
 abbrev AreApart : Place → Place → Type 0
@@ -70,9 +70,9 @@ module _ {A : Type 0} (x y : Place) (before start : ℕ) (entries others : List 
           others = λ k out far. torn.others k (beyond x (x.next + 1) (data_size text + 1) settled.begins (omega (arith, up)) (let room = adds.room in omega (arith, room)) k out) (beyond y (y.next + 1) (data_size other + 1) also.begins (omega (arith, up_also)) (let room = adds_other.room in omega (arith, room)) k far);
         },
       );
-      half = behind x before entries commands text adds.read adds.room was image (settled.half was is)
+      half = following x before entries commands text adds.read adds.room was image (settled.half was is)
           (λ k le lt. torn.others k (inl (omega (arith, lt))) (outside x y (y.next + 1) (data_size other + 1) apart (omega (arith, up_also)) (let room = adds_other.room in omega (arith, room)) k le (let within = settled.within in omega (arith, lt, within))));
-      other_half = behind y start others commands other adds_other.read adds_other.room was image (also.half was is)
+      other_half = following y start others commands other adds_other.read adds_other.room was image (also.half was is)
           (λ k le lt. torn.others k (outside y x (x.next + 1) (data_size text + 1) (swapped x y apart) (omega (arith, up)) (let room = adds.room in omega (arith, room)) k le (let within = also.within in omega (arith, lt, within))) (inl (omega (arith, lt))));
     }
 
@@ -84,14 +84,14 @@ module _ {A : Type 0} (x y : Place) (before start : ℕ) (entries others : List 
       staged = record {
         chain = same_half x.form before old.reads synced.reads x.first x.end entries x.next (settled.half old.reads whole)
             (λ k le lt. has.others k (inl (omega (arith, lt))) (outside x y (y.next + 1) (data_size other + 1) apart (omega (arith, up_also)) (let room = adds_other.room in omega (arith, room)) k le (let within = settled.within in omega (arith, lt, within))));
-        behind_it = has.written;
+        after_it = has.written;
       }
 
       staged_also : IsStaged y start others commands other adds_other.read adds_other.room synced.reads
       staged_also = record {
         chain = same_half y.form start old.reads synced.reads y.first y.end others y.next (also.half old.reads whole)
             (λ k le lt. has.others k (outside y x (x.next + 1) (data_size text + 1) (swapped x y apart) (omega (arith, up)) (let room = adds.room in omega (arith, room)) k le (let within = also.within in omega (arith, lt, within))) (inl (omega (arith, lt))));
-        behind_it = has.also;
+        after_it = has.also;
       }
 
       -- an image in which at most the gates differ from what reads

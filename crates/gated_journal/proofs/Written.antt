@@ -1,4 +1,4 @@
--- A record that stands on the disk is read back.
+-- A record that is on the disk is read back.
 use Rattle.std.proofs.Common.{add-zero, length, map, replicate, ◌≡◌, ℕ, zero, suc, ◌-◌, ◌+◌, ◌*◌, ◌/◌, ◌<◌, ◌≤◌, List, [], ◌∷◌, ◌++◌, slice_index, refl, sym, ap, ◌∙◌, append_assoc, arith, inl, inr}
 use Rattle.std.specs.List.{flat_map, range_with_len}
 use Rattle.std.proofs.lemmas.List.{append-nil, length-append, length-replicate, get_or_past, get_or_append_left, get_or-append_right}
@@ -12,12 +12,12 @@ use Rattle.command_bytes.specs.Text.{command_text, longest}
 use Rattle.gated_journal.specs.Record.{Packed, IsRecord, data_sector, data_size, first_text, head_len, most_commands, most_sectors, pack, packed_text, record_text}
 use Rattle.gated_journal.specs.declared.form.Form.{Form}
 use Rattle.gated_journal.specs.declared.form.Form.TheVariants.{Numbered, Plain}
-use Rattle.gated_journal.specs.Half.{IsOpen, data_from, told_size}
+use Rattle.gated_journal.specs.Half.{IsOpen, data_from, stated_size}
 use Rattle.gated_journal.specs.Inside.Next.{IsNext}
 use Rattle.gated_journal.specs.declared.place.Place.{Place}
 use Rattle.gated_journal.proofs.Halves.{Opened}
 use Rattle.gated_journal.proofs.Listed.{fits, record_again}
-use Rattle.gated_journal.proofs.Packed.{first_is, head_bytes, told_bytes}
+use Rattle.gated_journal.proofs.Packed.{first_is, head_bytes, stated_bytes}
 use Rattle.command_bytes.proofs.Numbers.{length-big}
 use Rattle.gated_journal.proofs.Cut.{zeros_at}
 
@@ -61,14 +61,14 @@ sector_byte : (text : List ℕ) (i : ℕ) → i < 512 → slice_index (data_sect
 unfolding data_sector
 sector_byte text i lt = let here : 512 * 0 + i ≡ i = omega arith in get_or-map-range_with_len (λ (j : ℕ). slice_index text (512 * 0 + j)) 0 512 i i 0 lt (omega arith) ∙ ap (slice_index text) here
 
-told_sector : (form : Form) (text : List ℕ) → told_size form (data_sector text 0) ≡ told_size form text
-told_sector Plain text =
+stated_sector : (form : Form) (text : List ℕ) → stated_size form (data_sector text 0) ≡ stated_size form text
+stated_sector Plain text =
     let two = sector_byte text 2 (omega arith) in
     let three = sector_byte text 3 (omega arith) in
     let four = sector_byte text 4 (omega arith) in
     let five = sector_byte text 5 (omega arith) in
     rw (two, three, four, five) refl
-told_sector Numbered text =
+stated_sector Numbered text =
     let ten = sector_byte text 10 (omega arith) in
     let eleven = sector_byte text 11 (omega arith) in
     let twelve = sector_byte text 12 (omega arith) in
@@ -91,7 +91,7 @@ next_short place cs text is =
     let short = text_short place.form place.count cs is.record_is in
     (omega (arith, ap length is.text_is, short.0), omega (arith, ap length is.text_is, short.1))
 
--- the data sectors of a record behind an open gate are read
+-- the data sectors of a record after an open gate are read
 pub record_written : {A : Type 0} (form : Form) (before : ℕ) (image : List (List ℕ)) (at end : ℕ) (cs : List (Asked A)) → before < last_number → IsRecord cs → (text : List ℕ) → text ≡ record_text form before cs → IsOpen (sector image at) → ((k : ℕ) → k < data_size text → sector image (at + 1 + k) ≡ data_sector text k)
     → at + 1 + data_size text < end → Opened form before image at end cs (at + 1 + data_size text)
 record_written form before image at end cs small is text text_is opened are within =
@@ -100,9 +100,9 @@ record_written form before image at end cs small is text text_is opened are with
     let long : length text ≡ length (record_text form before cs) = ap length text_is in
     let here : at + 1 + 0 ≡ at + 1 = omega arith in
     let first : sector image (at + 1) ≡ data_sector text 0 = rw here at (are 0 (omega (arith, long, short.0))) in
-    let told : told_size form (sector image (at + 1)) ≡ (length (flat_map command_text cs) + (511 + head_len form)) / 512 =
-    ap (told_size form) first ∙ told_sector form text ∙ ap (told_size form) text_is ∙ told_bytes form (pack form before cs) (omega (arith, packed.short, packed.few)) (first_is form before small) in
-    let size : told_size form (sector image (at + 1)) ≡ data_size text = told ∙ omega (arith, long, length-text form before cs) in
+    let stated : stated_size form (sector image (at + 1)) ≡ (length (flat_map command_text cs) + (511 + head_len form)) / 512 =
+    ap (stated_size form) first ∙ stated_sector form text ∙ ap (stated_size form) text_is ∙ stated_bytes form (pack form before cs) (omega (arith, packed.short, packed.few)) (first_is form before small) in
+    let size : stated_size form (sector image (at + 1)) ≡ data_size text = stated ∙ omega (arith, long, length-text form before cs) in
     let few : data_size text ≤ most_sectors = omega (arith, long, short.1) in
     let z = 512 * data_size text - length text in
     let whole : data_from image (at + 1) (data_size text) ≡ record_text form before cs ++ replicate z 0 =

@@ -7,15 +7,15 @@ use Rattle.sector_disk.specs.declared.record.Call.{Call}
 use Rattle.sector_disk.specs.declared.record.Call.TheVariants.{Sync, Write}
 use Rattle.gated_journal.specs.Record.{data_sector, data_size}
 
--- the sector of a gate that is closed
+-- the sector of a closed gate
 abbrev pub closed_gate : List Byte
 closed_gate = replicate 512 0
 
--- and of one that is open
+-- the sector of an open gate
 abbrev pub open_gate : List Byte
 open_gate = 1 ∷ replicate 511 0
 
--- So many sectors of a text are written from a place on, and synced.
+-- The first n sectors of a text are written from a place on, and synced.
 abbrev pub settled_calls : Sector → Sectors → List Byte → List Call
 settled_calls at n text = writes at n (data_sector text) ++ Sync ∷ []
 
@@ -28,10 +28,10 @@ append_calls gate text =
 abbrev pub text_calls : Sector → List Byte → List Call
 text_calls gate text = writes (gate + 1) (data_size text) (data_sector text) ++ Write (gate + 1 + data_size text) closed_gate ∷ []
 
--- Both texts are written, and the gates behind them closed, and all that synced; then both gates opened, and synced. Nothing is read.
+-- Both texts are written, the gates after them closed, and all that synced. Then both gates are opened, and synced. Nothing is read.
 abbrev pub append_both_calls : Sector → List Byte → Sector → List Byte → List Call
 append_both_calls gate text also other = text_calls gate text ++ (text_calls also other ++ Sync ∷ Write gate open_gate ∷ Write also open_gate ∷ Sync ∷ [])
 
--- So many sectors of two texts are written, and synced.
+-- The first n sectors of one text and the first m of another are written, and synced.
 abbrev pub settled_both_calls : Sector → Sectors → List Byte → Sector → Sectors → List Byte → List Call
 settled_both_calls at n text to m other = writes at n (data_sector text) ++ (writes to m (data_sector other) ++ Sync ∷ [])

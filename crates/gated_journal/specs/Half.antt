@@ -1,5 +1,6 @@
 -- What a half of a disk reads as: its records up to the first closed gate, or the first sector at fault.
-use Rattle.std.specs.Prelude.{◌≡◌, ◌≢◌, ℕ, zero, suc, ◌+◌, ◌-◌, ◌/◌, ◌==◌, ◌&&◌, Bool, List, [], ◌∷◌, ◌++◌, length, slice_index, Option, Some, None, Result, Ok, Err, nat_le, nat_lt, if◌then◌else◌}
+use Rattle.std.specs.Prelude.{◌≡◌, ◌≢◌, ℕ, zero, suc, ◌+◌, ◌-◌, ◌/◌, ◌==◌, ◌&&◌, Bool, List, [], ◌∷◌, ◌++◌, length, slice_index, Option, Some, None, Result, Ok}
+use Rattle.std.specs.Prelude.{Err, nat_le, nat_lt, if◌then◌else◌}
 use Rattle.byteorder.specs.Endian.{big_from}
 use Rattle.identity.specs.Numbers.{Byte}
 use Rattle.sector_disk.specs.Numbers.{Sector, Sectors}
@@ -21,55 +22,56 @@ IsClosed bytes = slice_index bytes 0 ≢ 1
 abbrev pub is_open : List ℕ → Bool
 is_open bytes = slice_index bytes 0 == 1
 
--- how many data sectors a record takes, as its first data sector tells
-abbrev pub told_size : Form → List Byte → Sectors
-told_size Plain bytes = (big_from 2 4 bytes + 517) / 512
-told_size Numbered bytes = (big_from 10 4 bytes + 525) / 512
+-- how many data sectors a record takes, as its first data sector states
+abbrev pub stated_size : Form → List Byte → Sectors
+stated_size Plain bytes = (big_from 2 4 bytes + 517) / 512
+stated_size Numbered bytes = (big_from 10 4 bytes + 525) / 512
 
 -- the bytes of so many sectors from a place on
 unfoldable pub data_from : List (List Byte) → Sector → Sectors → List Byte
 data_from image at zero = []
 data_from image at (suc n) = data_from image at n ++ sector image (at + n)
 
--- a record of a half: its first data sector and its commands, with the bits in them under the allocator A
+-- a record of a half: its first data sector and its commands, whose bits are under the allocator A
 abbrev pub Entry : Type 0 → Type 0
 Entry A = Sector × List (Asked A)
 
--- what stands at a gate: nothing, or a record and the place of the next gate; or the sector at fault
+-- what is at a gate: nothing, or a record and the next gate, or the sector at fault
 abbrev pub Found : Type 0 → Type 0
 Found A = Result (Option (List (Asked A) × Sector)) Sector
 
--- the records of a half, and the first closed gate; or the sector at fault
+-- the records of a half and the first closed gate, or the sector at fault
 abbrev pub Half : Type 0 → Type 0
 Half A = Result (List (Entry A) × Sector) Sector
 
--- A record behind the gate at this place takes no more data sectors than it may, and the next gate lies before the end.
-abbrev pub fits_behind : Sector → Sector → Sectors → Bool
-fits_behind at end size = nat_le size most_sectors && nat_lt (at + 1 + size) end
+-- A record of this size after the gate at this place takes no more data sectors than it may, and its next gate lies before the end.
+abbrev pub fits_after : Sector → Sector → Sectors → Bool
+fits_after at end size = nat_le size most_sectors && nat_lt (at + 1 + size) end
 
--- What stands behind an open gate, by what is made of a record's data sectors, so many. A gate in the half's last sector
--- is itself at fault; a record that does not fit is a fault of its first data sector.
-abbrev pub behind_gate : {X : Type 0} → Sector → Sector → Sectors → (Sectors → Result (Option X) Sector) → Result (Option X) Sector
-behind_gate at end size make = if at + 1 == end then Err at else if fits_behind at end size then make size else Err (at + 1)
+-- What follows an open gate: `make` gives it from the number of the record's data sectors. A gate in the half's last sector
+-- is itself at fault. A record that does not fit is a fault of its first data sector.
+abbrev pub after_gate : {X : Type 0} → Sector → Sector → Sectors → (Sectors → Result (Option X) Sector) → Result (Option X) Sector
+after_gate at end size make = if at + 1 == end then Err at else if fits_after at end size then make size else Err (at + 1)
 
--- What stands at a gate: nothing where it is closed, else what stands behind it.
+-- What is at a gate: nothing where it is closed, else what follows it.
 abbrev pub at_gate : {X : Type 0} → Form → List (List Byte) → Sector → Sector → (Sectors → Result (Option X) Sector) → Result (Option X) Sector
-at_gate form image at end make = if is_open (sector image at) then behind_gate at end (told_size form (sector image (at + 1))) make else Ok None
+at_gate form image at end make = if is_open (sector image at) then after_gate at end (stated_size form (sector image (at + 1))) make else Ok None
 
--- Before its bytes are judged: those of a record's data sectors, and the next gate.
+-- What is at a gate before its bytes are judged: those of the record's data sectors, and the next gate.
 unfoldable pub bytes_at : Form → List (List Byte) → Sector → Sector → Result (Option (List Byte × Sector)) Sector
 bytes_at form image at end = at_gate form image at end (λ size. Ok (Some (data_from image (at + 1) size, at + 1 + size)))
 
 module _ {A : Type 0} where
-  -- the commands of a record and the place of the next gate, or the sector at fault where they are none
+  -- the commands of a record and the next gate, or the sector at fault where there are no commands
   abbrev pub found : Sector → Sector → Option (List (Asked A)) → Found A
   found at next None = Err at
   found at next (Some commands) = Ok (Some (commands, next))
 
-  -- At a gate, behind so many accepted commands: nothing where it is closed, else its record and the next gate; all that
-  -- is wrong with a record, also a number that does not follow, is a fault of its first data sector.
+  -- What is at a gate, after so many accepted commands: nothing where it is closed, else its record and the next gate.
+  -- Whatever is wrong with a record, also a number that does not follow, is a fault of its first data sector.
   unfoldable pub record_at : Form → ℕ → List (List Byte) → Sector → Sector → Found A
-  record_at form before image at end = at_gate form image at end (λ size. found (at + 1) (at + 1 + size) (record_of form before (data_from image (at + 1) size)))
+  record_at form before image at end =
+      at_gate form image at end (λ size. found (at + 1) (at + 1 + size) (record_of form before (data_from image (at + 1) size)))
 
   -- the record that these bytes are; other bytes are a fault of the first data sector
   abbrev pub judged : Form → ℕ → Sector → Result (Option (List Byte × Sector)) Sector → Found A
@@ -77,28 +79,29 @@ module _ {A : Type 0} where
   judged form before at (Ok None) = Ok None
   judged form before at (Ok (Some bytes_and_next)) = found (at + 1) bytes_and_next.1 (record_of form before bytes_and_next.0)
 
-  -- more records before those of a half
-  abbrev pub with_front : List (Entry A) → Half A → Half A
-  with_front front (Ok half) = Ok (front ++ half.0, half.1)
-  with_front front (Err at) = Err at
+  -- a half with more records before its own
+  abbrev pub with_prefix : List (Entry A) → Half A → Half A
+  with_prefix prefix (Ok half) = Ok (prefix ++ half.0, half.1)
+  with_prefix prefix (Err at) = Err at
 
-  -- the records from a gate on: none where it is closed, else the one that stands there and those behind it; or the sector at fault
+  -- the records from a gate on: none where it is closed, else the one there and those after it; or the sector at fault
   abbrev pub half_on : Sector → Found A → (List (Asked A) × Sector → Half A) → Half A
   half_on at (Err fault) go = Err fault
   half_on at (Ok None) go = Ok ([], at)
-  half_on at (Ok (Some record_and_next)) go = with_front ((at + 1, record_and_next.0) ∷ []) (go record_and_next)
+  half_on at (Ok (Some record_and_next)) go = with_prefix ((at + 1, record_and_next.0) ∷ []) (go record_and_next)
 
-  -- The records from a gate on, so many at most, and the gate behind them; or the sector at fault. Each stands behind the
-  -- commands accepted before, and behind those of the records in front of it.
+  -- The records from a gate on, so many at most, and the gate after them; or the sector at fault. Each follows the commands
+  -- accepted before, and those of the records before it.
   unfoldable pub half_from : ℕ → Form → ℕ → List (List Byte) → Sector → Sector → Half A
   half_from zero form before image at end = Ok ([], at)
-  half_from (suc fuel) form before image at end = half_on at (record_at form before image at end) (λ x. half_from fuel form (before + length x.0) image x.1 end)
+  half_from (suc fuel) form before image at end =
+      half_on at (record_at form before image at end) (λ x. half_from fuel form (before + length x.0) image x.1 end)
 
-  -- the sectors from first to end: each record takes two at least, so there is always fuel
+  -- the records in the sectors from first up to end; each takes two sectors at least, so the fuel suffices
   abbrev pub half_of : Form → ℕ → List (List Byte) → Sector → Sector → Half A
   half_of form before image first end = half_from (end - first) form before image first end
 
-  -- how many commands were accepted, those of these records too
+  -- how many commands are accepted with those of these records
   abbrev pub counted : ℕ → List (Entry A) → ℕ
   counted before [] = before
   counted before (entry ∷ entries) = counted (before + length entry.1) entries

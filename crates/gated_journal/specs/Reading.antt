@@ -3,33 +3,35 @@ use Rattle.std.specs.Prelude.{◌≡◌, ℕ, List, length, map, option_map, Opt
 use Rattle.identity.specs.Numbers.{Byte}
 use Rattle.centre_core.specs.Asked.{Asked}
 use Rattle.sector_disk.specs.Numbers.{Sector}
+use Rattle.sector_disk.specs.Disk.{View}
 use Rattle.gated_journal.specs.Half.{Entry, Found, Half, half_of, record_at}
 use Rattle.gated_journal.specs.declared.form.Form.{Form}
+use Rattle.gated_journal.specs.declared.place.Place.{Place}
 use Rattle.gated_journal.specs.declared.record.Record.{Record}
 use Rattle.gated_journal.specs.declared.fault.JournalError.{JournalError}
 use Rattle.gated_journal.specs.declared.fault.JournalError.TheVariants.{JournalFull, DiskFault, Damaged, NoMemory}
 
--- A fault that is told is the one that stands there; a failing device and want of memory say nothing of it.
+-- A `Damaged` that is reported is the fault that is there. `DiskFault` and `NoMemory` state nothing of the disk.
 abbrev pub Fails : {Y : Type 0} → JournalError → Result Y Sector → Type 0
 Fails (Damaged at) is = is ≡ Err at
 Fails DiskFault is = Unit {0}
 Fails NoMemory is = Unit {0}
 Fails JournalFull is = ⊥
 
--- What was read, seen by view, is what stands there, if the device and the memory allow.
+-- What was read, as `view` gives it, is what is there, unless the device or memory fails.
 abbrev pub Answers : {X Y : Type 0} → (X → Y) → Result X JournalError → Result Y Sector → Type 0
 Answers view (Ok x) is = is ≡ Ok (view x)
 Answers view (Err e) is = Fails e is
 
 module _ {A : Type 0} where
-  -- what was read at a gate: nothing, or a record's commands and the place of the next gate
+  -- what was read at a gate: nothing, or a record's commands and the next gate
   abbrev pub found_view : Option (Vec (Asked A) A × Sector) → Option (List (Asked A) × Sector)
   found_view None = None
   found_view (Some x) = Some (x.0.items, x.1)
 
-  -- a record as its bytes tell it: the number of its first command, where it tells one, and its commands
-  abbrev pub told_view : Record A → Option ℕ × List (Asked A)
-  told_view told = (told.first, told.commands.items)
+  -- a record as its bytes state it: the number of its first command, where it states one, and its commands
+  abbrev pub stated_view : Record A → Option ℕ × List (Asked A)
+  stated_view stated = (stated.first, stated.commands.items)
 
   -- a record that was read, with its first data sector
   abbrev pub entry_view : Sector × Vec (Asked A) A → Entry A
@@ -39,29 +41,37 @@ module _ {A : Type 0} where
   abbrev pub entries_view : List (Sector × Vec (Asked A) A) → List (Entry A)
   entries_view xs = map entry_view xs
 
-  -- a record with its first data sector, and the gate behind it
+  -- a record with its first data sector, and the gate after it
   abbrev pub next_view : Sector → Option (Sector × Vec (Asked A) A) → Option (List (Asked A) × Sector)
   next_view gate found = option_map (λ x. (x.1.items, gate)) found
 
-  -- ---- what is judged, and not kept
+  -- ---- what is judged and not kept
 
-  -- the record stands there, of so many commands, and so does what is told to be behind it
+  -- a record of so many commands is there, with this next gate; or nothing is
   abbrev pub IsJudged : Result (Option (ℕ × Sector)) JournalError → Found A → Type 0
   IsJudged (Ok None) is = is ≡ Ok None
   IsJudged (Ok (Some count_and_next)) is = (commands : List (Asked A)) × (length commands ≡ count_and_next.0) × (is ≡ Ok (Some (commands, count_and_next.1)))
   IsJudged (Err e) is = Fails e is
 
-  -- there are records, up to a closed gate
+  -- there are records alone, up to a closed gate
   abbrev pub AreJudged : Result Unit JournalError → Half A → Type 0
   AreJudged (Ok u) is = (held : List (Entry A) × Sector) × (is ≡ Ok held)
   AreJudged (Err e) is = Fails e is
 
--- ---- where memory may be wanted
+-- ---- where memory may run out
 
--- a record stands at the gate, behind so many accepted commands
+-- a record is at the gate, after so many accepted commands
 abbrev pub HasRecord : Type 0 → Form → ℕ → List (List Byte) → Sector → Sector → Type 0
 HasRecord A form before image at end = (x : List (Asked A) × Sector) × (record_at form before image at end ≡ Ok (Some x))
 
 -- from the gate on there are records alone, up to a closed one
 abbrev pub HasRecords : Type 0 → Form → ℕ → List (List Byte) → Sector → Sector → Type 0
 HasRecords A form before image at end = (held : List (Entry A) × Sector) × (half_of form before image at end ≡ Ok held)
+
+-- the same at the next gate of a place, as the disk reads
+abbrev pub HasRecordIn : Type 0 → Place → View → Type 0
+HasRecordIn A place disk = HasRecord A place.form place.count disk.reads place.next place.end
+
+-- the same from that gate on
+abbrev pub HasRecordsIn : Type 0 → Place → View → Type 0
+HasRecordsIn A place disk = HasRecords A place.form place.count disk.reads place.next place.end

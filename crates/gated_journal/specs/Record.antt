@@ -1,5 +1,6 @@
 -- One record: the commands that it has, and its bytes.
-use Rattle.std.specs.Prelude.{ℕ, zero, suc, ◌+◌, ◌*◌, ◌/◌, ◌==◌, ◌&&◌, ◌≤◌, Bool, true, List, [], ◌∷◌, ◌++◌, length, map, take, drop, slice_index, Option, Some, None, nat_le, if◌then◌else◌}
+use Rattle.std.specs.Prelude.{ℕ, zero, suc, ◌+◌, ◌*◌, ◌/◌, ◌==◌, ◌&&◌, ◌≤◌, Bool, true, List, [], ◌∷◌, ◌++◌, length, map, take, drop, slice_index, Option, Some}
+use Rattle.std.specs.Prelude.{None, nat_le, if◌then◌else◌}
 use Rattle.std.specs.List.{All, range_with_len, list_all, flat_map}
 use Rattle.std.specs.Borrow.{Bor}
 use Rattle.identity.specs.Numbers.{Byte}
@@ -16,11 +17,11 @@ use Rattle.gated_journal.specs.declared.form.Form.TheVariants.{Numbered, Plain}
 abbrev pub most_commands : ℕ
 most_commands = 64
 
--- how many data sectors the longest commands need, as many of them as a record may have
+-- the most data sectors that a record may have: those of the most commands, each of the longest
 abbrev pub most_sectors : Sectors
 most_sectors = 36
 
--- commands as bytes: how many, the number of the first one where the record tells it, and their bytes, one after the other
+-- commands as bytes: how many, the number of the first one where the record states it, and their bytes in order
 pub record Packed : Type 0 where
   pub count : ℕ
   pub first : Option ℕ
@@ -28,29 +29,33 @@ pub record Packed : Type 0 where
 
 -- ---- writing
 
+-- how many sectors so many bytes take
+abbrev pub sectors_for : Bytes → Sectors
+sectors_for bytes = (bytes + 511) / 512
+
 -- how many sectors a text takes
 abbrev pub data_size : List Byte → Sectors
-data_size text = (length text + 511) / 512
+data_size text = sectors_for (length text)
 
--- the sector k of a text that goes over several sectors, zeros behind its end
+-- the sector k of a text that takes several sectors, with zeros after its end
 unfoldable pub data_sector : List Byte → ℕ → List Byte
 data_sector text k = map (λ i. slice_index text (512 * k + i)) (range_with_len 0 512)
 
--- the number of the first command, where the record tells it
+-- the number of the first command, where the record states it
 abbrev pub first_text : Option ℕ → List Byte
 first_text None = []
 first_text (Some number) = big 8 number
 
--- how many commands, the number of the first one, how many bytes they take, and they
+-- how many commands, the number of the first one, how many bytes they take, and their bytes
 unfoldable pub packed_text : Packed → List Byte
 packed_text packed = big 2 packed.count ++ (first_text packed.first ++ (big 4 (length packed.bytes) ++ packed.bytes))
 
--- the number that a record of this form tells, behind so many accepted commands
+-- the number that a record of this form states, after so many accepted commands
 abbrev pub first_of : Form → ℕ → Option ℕ
 first_of Plain before = None
 first_of Numbered before = Some (before + 1)
 
--- how many bytes stand before the commands
+-- how many bytes are before the commands
 abbrev pub head_len : Form → Bytes
 head_len Plain = 6
 head_len Numbered = 14
@@ -60,11 +65,11 @@ abbrev pub given : {B : Type 0} (A : Type 0) → List (Bor (Asked B)) → List (
 given A commands = map (λ command. under A command.now) commands
 
 module _ {A : Type 0} where
-  -- commands as bytes, behind so many accepted commands
+  -- commands as bytes, after so many accepted commands
   abbrev pub pack : Form → ℕ → List (Asked A) → Packed
   pack form before commands = record { count = length commands; first = first_of form before; bytes = flat_map command_text commands }
 
-  -- a record's text, behind so many accepted commands
+  -- a record's text, after so many accepted commands
   abbrev pub record_text : Form → ℕ → List (Asked A) → List Byte
   record_text form before commands = packed_text (pack form before commands)
 
@@ -80,7 +85,7 @@ module _ {A : Type 0} where
 abbrev pub is_zero : Byte → Bool
 is_zero b = b == 0
 
--- may a record have so many commands, of so many bytes?
+-- a record may have so many commands, of so many bytes in all
 abbrev pub is_in_range : ℕ → Bytes → Bool
 is_in_range count size = nat_le 1 count && nat_le count most_commands && nat_le size (longest * count)
 
@@ -89,21 +94,22 @@ unfoldable pub first_at : Form → List Byte → Read (Option ℕ)
 first_at Plain bytes = Some (None, bytes)
 first_at Numbered bytes = number_at 8 bytes >>= λ number. Some (Some number.0, number.1)
 
--- what stands in a record's data sectors, all of them: count and length in range, so many bytes, and zeros behind the last
+-- what all data sectors of a record hold: count and length in range, as many bytes as the length states, and zeros after them
 unfoldable pub packed_of : Form → List Byte → Option Packed
 packed_of form bytes = do
   count ← number_at 2 bytes
   first ← first_at form count.1
   size ← number_at 4 first.1
-  if is_in_range count.0 size.0 && nat_le size.0 (length size.1) && list_all is_zero (drop size.0 size.1) then Some (record { count = count.0; first = first.0; bytes = take size.0 size.1 }) else None
+  if is_in_range count.0 size.0 && nat_le size.0 (length size.1) && list_all is_zero (drop size.0 size.1)
+      then Some (record { count = count.0; first = first.0; bytes = take size.0 size.1 }) else None
 
--- a record that tells a number stands behind so many accepted commands; one that tells none stands behind any
+-- A record that states a number follows exactly the commands before it. One that states none follows any.
 abbrev pub follows : ℕ → Option ℕ → Bool
 follows before None = true
 follows before (Some number) = number == before + 1
 
 module _ {A : Type 0} where
-  -- so many commands, one after the other, and no byte behind them
+  -- so many commands in order, and no byte after them
   unfoldable pub commands_in : ℕ → List Byte → Option (List (Asked A))
   commands_in zero [] = Some []
   commands_in zero (b ∷ bytes) = None
@@ -112,15 +118,15 @@ module _ {A : Type 0} where
     others ← commands_in count first.1
     Some (first.0 ∷ others)
 
-  -- a record by its data sectors: the number of its first command, where it tells one, and its commands
-  abbrev pub told_of : Form → List Byte → Option (Option ℕ × List (Asked A))
-  told_of form bytes = do
+  -- a record by its data sectors: the number of its first command, where it states one, and its commands
+  abbrev pub stated_of : Form → List Byte → Option (Option ℕ × List (Asked A))
+  stated_of form bytes = do
     packed ← packed_of form bytes
     commands ← commands_in packed.count packed.bytes
     Some (packed.first, commands)
 
-  -- the commands of a record behind so many accepted commands
+  -- the commands of a record after so many accepted commands
   abbrev pub record_of : Form → ℕ → List Byte → Option (List (Asked A))
   record_of form before bytes = do
-    told ← told_of form bytes
-    if follows before told.0 then Some told.1 else None
+    stated ← stated_of form bytes
+    if follows before stated.0 then Some stated.1 else None

@@ -1,14 +1,14 @@
 -- What a half of a disk holds in each image that a stop may leave, before, during and after an append.
-use Rattle.std.specs.Prelude.{◌≡◌, ◌⊎◌, ℕ, ◌+◌, ◌*◌, ◌^◌, ◌-◌, ◌<◌, List, [], ◌∷◌, ◌++◌, Ok}
+use Rattle.std.specs.Prelude.{◌≡◌, ◌⊎◌, ℕ, ◌+◌, ◌*◌, ◌^◌, ◌-◌, ◌<◌, ◌≤◌, List, [], ◌∷◌, ◌++◌, length, Ok}
 use Rattle.std.specs.Borrow.{Bor}
 use Rattle.identity.specs.Numbers.{Byte}
 use Rattle.centre_core.specs.Asked.{Asked}
 use Rattle.sector_disk.specs.Numbers.{Sector, Sectors}
-use Rattle.sector_disk.specs.Disk.{View, IsImageOf}
+use Rattle.sector_disk.specs.Disk.{View, IsImageOf, sector}
 use Rattle.sector_disk.specs.Run.{IsTornImage}
 use Rattle.gated_journal.specs.Twice.{IsTornTwiceImage}
-use Rattle.gated_journal.specs.Record.{given, most_commands, record_text}
-use Rattle.gated_journal.specs.Half.{Entry, counted, half_of}
+use Rattle.gated_journal.specs.Record.{data_size, given, most_commands, record_text}
+use Rattle.gated_journal.specs.Half.{Entry, Found, Half, counted, half_of, record_at}
 use Rattle.gated_journal.specs.declared.place.Place.{Place}
 
 -- how many data sectors the next record may have
@@ -19,34 +19,84 @@ room_of place = place.end - place.next - 2
 abbrev pub text_at : {B : Type 0} (A : Type 0) → Place → List (Bor (Asked B)) → List Byte
 text_at A place commands = record_text place.form place.count (given A commands)
 
--- The numbers of all commands that may stand from the next gate on have 8 bytes: a record takes two sectors at least, and has 64 at most.
+-- a record of these commands at the next gate, with its first data sector
+abbrev pub new_entry : {B : Type 0} (A : Type 0) → Place → List (Bor (Asked B)) → Entry A
+new_entry A place commands = (place.next + 1, given A commands)
+
+-- the place after a record of these commands
+abbrev pub following : {A : Type 0} → Place → List (Asked A) → Place
+following place commands = record {
+  first = place.first;
+  end = place.end;
+  next = place.next + data_size (record_text place.form place.count commands) + 1;
+  form = place.form;
+  count = place.count + length commands;
+}
+
+-- the place after a record of these commands, which were given by reference
+abbrev pub following_given : {B : Type 0} (A : Type 0) → Place → List (Bor (Asked B)) → Place
+following_given A place commands = record {
+  first = place.first;
+  end = place.end;
+  next = place.next + data_size (text_at A place commands) + 1;
+  form = place.form;
+  count = place.count + length commands;
+}
+
+-- what a read finds at the next gate of a place: nothing, or a record and the gate after it, or the sector at fault
+abbrev pub record_in : (A : Type 0) → Place → View → Found A
+record_in A place disk = record_at {A = A} place.form place.count disk.reads place.next place.end
+
+-- what a read finds from the next gate of a place on: the records and the first closed gate, or the sector at fault
+abbrev pub half_in : (A : Type 0) → Place → View → Half A
+half_in A place disk = half_of {A = A} place.form place.count disk.reads place.next place.end
+
+-- all sectors outside of two halves read as before
+abbrev pub IsSameOutsideBoth : Place → Place → View → View → Type 0
+IsSameOutsideBoth x y old new = (k : ℕ) → (k < x.first) ⊎ (x.end ≤ k) → (k < y.first) ⊎ (y.end ≤ k) → sector new.reads k ≡ sector old.reads k
+
+-- The number of each command that may come after the next gate fits 8 bytes: a record takes at least two sectors, and has at
+-- most 64 commands.
 abbrev pub IsCounted : Place → Type 0
 IsCounted place = place.count + most_commands * (place.end - place.next) < 2 ^ 64
 
 module _ {A : Type 0} where
-  -- The half of this place, behind so many accepted commands, reads as these records.
+  -- In this image the half of a place, after so many accepted commands, reads as these records.
   abbrev pub IsHalf : List (List Byte) → Place → ℕ → List (Entry A) → Type 0
   IsHalf image place before entries = (gate : Sector) × (half_of place.form before image place.first place.end ≡ Ok (entries, gate))
 
-  -- it reads as these, with one more or without it
+  -- it reads as these records, with one more or without it
   abbrev pub IsWithOrWithout : Place → ℕ → List (Entry A) → Entry A → List (List Byte) → Type 0
   IsWithOrWithout place before entries last image = IsHalf image place before entries ⊎ IsHalf image place before (entries ++ last ∷ [])
 
-  -- an image of the disk before, but for the half; there it reads as these records, with one more or without it
+  -- An image of the old disk but for the half, which reads as these records, with one more or without it.
   pub record Leaves (old : View) (place : Place) (before : ℕ) (entries : List (Entry A)) (last : Entry A) (image : List (List Byte)) : Type 0 where
     pub elsewhere : IsTornImage old place.first (place.end - place.first) image
     pub half : IsWithOrWithout place before entries last image
 
-  -- In every image the half, behind so many accepted commands, reads as these records; they end at the next gate, and with
-  -- their commands so many are accepted as the place counts.
+  -- In every image the half, after so many accepted commands, reads as these records. They end at the next gate, and the
+  -- place counts their commands too.
   pub record IsSettled (disk : View) (place : Place) (before : ℕ) (entries : List (Entry A)) : Type 0 where
     pub begins : place.first < place.end
     pub within : place.next < place.end
     pub counts : counted before entries ≡ place.count
     pub half : (image : List (List Byte)) → IsImageOf disk image → half_of place.form before image place.first place.end ≡ Ok (entries, place.next)
 
-  -- an image of the disk before, but for two halves; each of them reads as its records, with one more or without it
-  pub record LeavesBoth (old : View) (x y : Place) (before start : ℕ) (entries others : List (Entry A)) (last other : Entry A) (image : List (List Byte)) : Type 0 where
+  -- the half reads so with one more record
+  abbrev pub HasOneMore : View → Place → ℕ → List (Entry A) → Entry A → Type 0
+  HasOneMore disk place before entries last = IsSettled disk place before (entries ++ last ∷ [])
+
+  -- two halves, each after so many accepted commands and with its own records
+  abbrev pub AreSettled : View → Place → Place → ℕ → ℕ → List (Entry A) → List (Entry A) → Type 0
+  AreSettled disk x y before start entries others = IsSettled disk x before entries × IsSettled disk y start others
+
+  -- each of two halves with one more record
+  abbrev pub HaveOneMore : View → Place → Place → ℕ → ℕ → List (Entry A) → List (Entry A) → Entry A → Entry A → Type 0
+  HaveOneMore disk x y before start entries others last other = AreSettled disk x y before start (entries ++ last ∷ []) (others ++ other ∷ [])
+
+  -- An image of the old disk but for two halves, each of which reads as its records, with one more or without it.
+  pub record LeavesBoth (old : View) (x y : Place) (before start : ℕ) (entries others : List (Entry A)) (last other : Entry A)
+      (image : List (List Byte)) : Type 0 where
     pub elsewhere : IsTornTwiceImage old x.first (x.end - x.first) y.first (y.end - y.first) image
     pub half : IsWithOrWithout x before entries last image
     pub other_half : IsWithOrWithout y start others other image

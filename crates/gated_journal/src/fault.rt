@@ -12,13 +12,13 @@ pub enum JournalError {
     /// The record has more data sectors than there is room for. Nothing was done.
     #[error("the journal is full")]
     JournalFull,
-    /// The device failed. The half is to be read again before more is added.
+    /// The device failed. Read the half again before more is added.
     #[error("the disk has failed")]
     DiskFault,
-    /// What stands in that sector is no gate or no record's begin that an append could have left.
+    /// That sector holds no gate and no start of a record that an append could have left.
     #[error("sector {0} of the journal is damaged")]
     Damaged(u64),
-    /// There was no memory.
+    /// Memory ran out.
     #[error("no memory for the journal")]
     NoMemory,
 }

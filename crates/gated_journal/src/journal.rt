@@ -1,24 +1,27 @@
 // A journal: a place on a disk, and a buffer for the records' bytes.
-ghost use Rattle.std.specs.Prelude.{◌≡◌, ◌⊎◌, ◌<◌, ◌≤◌, ◌+◌, ◌*◌, ◌^◌, ◌-◌, ℕ, List, [], ◌∷◌, ◌++◌, Err, IfErr, IfNone, IfOk, IfSome, IsErrOf, OnErr, OnOk, length, false, map, nat_le};
+ghost use Rattle.std.specs.Prelude.{◌≡◌, ◌⊎◌, ◌<◌, ◌≤◌, ◌+◌, ◌*◌, ◌^◌, ◌-◌, ℕ, List, ◌++◌, Err, IfErr, IfNone, IfOk, IfSome, IsErrOf, OnErr, OnOk};
+ghost use Rattle.std.specs.Prelude.{length, false, nat_le};
 ghost use Rattle.std.specs.List.{All, flat_map};
 ghost use Rattle.centre_core.specs.State.{last_number};
 ghost use Rattle.command_bytes.specs.Fields.{big};
 ghost use Rattle.command_bytes.specs.Text.{IsCommand, command_text, longest};
-ghost use Rattle.sector_disk.specs.Disk.{HasFailed, IsImageOf, sector};
+ghost use Rattle.sector_disk.specs.Disk.{HasFailed};
 ghost use Rattle.sector_disk.specs.Reading.{before_reads};
-ghost use Rattle.sector_disk.specs.Run.{HasLooked, HasMade, LeavesOnly};
+ghost use Rattle.sector_disk.specs.Run.{HasCalled, HasMade, HasOnlyRead, IsSameOutside, LeavesOnly};
 ghost use Rattle.gated_journal.specs.declared.fault.JournalError.TheVariants.{DiskFault, Damaged, JournalFull, NoMemory};
 ghost use Rattle.gated_journal.specs.declared.form.Form.{Form};
 ghost use Rattle.gated_journal.specs.declared.place.Place.{Place};
 ghost use Rattle.gated_journal.specs.Calls.{append_both_calls, append_calls};
-ghost use Rattle.gated_journal.specs.Half.{Entry, counted, half_of, record_at};
+ghost use Rattle.gated_journal.specs.Half.{Entry, counted};
 ghost use Rattle.gated_journal.specs.Inside.Next.{IsNext};
 ghost use Rattle.gated_journal.specs.Inside.Room.{capacity};
-ghost use Rattle.gated_journal.specs.Reading.{Answers, AreJudged, HasRecord, HasRecords, entries_view, next_view};
+ghost use Rattle.gated_journal.specs.Reading.{Answers, AreJudged, HasRecordIn, HasRecordsIn, entries_view, next_view};
 ghost use Rattle.gated_journal.specs.Record.{data_size, first_text, given, most_commands, most_sectors, record_text};
-ghost use Rattle.gated_journal.specs.Settled.{IsCounted, IsSettled, Leaves, LeavesBoth, room_of, text_at};
+ghost use Rattle.gated_journal.specs.Settled.{HasOneMore, HaveOneMore, IsCounted, IsSameOutsideBoth, IsSettled, Leaves, LeavesBoth};
+ghost use Rattle.gated_journal.specs.Settled.{following_given, half_in, new_entry, record_in, room_of, text_at};
 
 use crate::both::append_texts;
+use crate::place::sectors_for;
 use crate::reading::{MOST_SECTORS, judge_half, read_or_judge, read_record};
 use crate::record_text::RecordText;
 use crate::{Form, JournalError, Place};
@@ -28,7 +31,7 @@ use sector_disk::Disk;
 use std::alloc::{AllocError, Allocator};
 use std::marker::Model;
 
-/// Adds records to a half of a disk.
+/// Adds records to a half of a disk, and reads those that are there.
 #[derive(Debug, Drop)]
 pub struct Journal<A: Allocator> {
     place: Place,
@@ -40,12 +43,12 @@ impl<A: Allocator> Model for Journal<A> {
 
     ghost view = { λ journal. journal.place };
 
-    // there is room for the greatest record, and the next gate does not lie before the half
+    // the buffer has room for the greatest record, and the next gate is not before the half
     ghost invariant = { λ journal. (512 * most_sectors ≤ capacity journal.text) × (journal.place.first ≤ journal.place.next) };
 }
 
 impl<A: Allocator + Copy> Journal<A> {
-    /// A journal with no record, whose first gate stands closed on the disk.
+    /// A journal with no record, whose first gate is closed on the disk.
     ///
     /// `first` is its half's first sector, `sectors` how many it has, and `before` how many commands were accepted before
     /// its first record. Takes the memory of all later calls of `append`.
@@ -86,14 +89,14 @@ impl<A: Allocator> Journal<A> {
         };
     }
 
-    /// How many data sectors the next record may have.
+    /// The most data sectors that the next record may have.
     pub fn room(&self) -> u64
         ensures { result ≡ room_of self.now }
     {
         self.place.room()
     }
 
-    /// How many sectors of its half lie before the next gate.
+    /// How many sectors of its half are before the next gate.
     pub fn used(&self) -> u64
         ensures { result ≡ self.now.next - self.now.first }
     {
@@ -107,13 +110,13 @@ impl<A: Allocator> Journal<A> {
         ensures most { (form : Form) (before : ℕ) → data_size (record_text form before (given A commands.now)) ≤ most_sectors }
     {
         let bytes = self.place.form.head_len() + size_of(commands) as u64;
-        (bytes + 511) / 512 <= self.place.room()
+        sectors_for(bytes) <= self.place.room()
     }
 
     /// Adds these commands, 1 to 64, as one record. Takes no memory.
     ///
-    /// At `Ok` each stop leaves it. At `DiskFault` the half is to be read again. `JournalFull` comes where the record
-    /// has more data sectors than `room`; nothing is then written.
+    /// At `Ok` each stop leaves it. After `DiskFault` read the half again. `JournalFull` comes where the record has more data
+    /// sectors than `room`. Nothing is then written.
     pub fn append<D: Disk, B: Allocator>(
         &mut self,
         disk: &mut D,
@@ -124,20 +127,20 @@ impl<A: Allocator> Journal<A> {
         requires few { length commands.now ≤ most_commands }
         requires counts { self.old.count + length commands.now ≤ last_number }
 
-        // A stop at any moment of the call leaves the records from before it, with the new one whole or without it, and
-        // all other sectors as they were.
+        // A stop at any moment of the call leaves the records from before it, with the new one whole or without it. All
+        // other sectors are as they were.
         ensures any_moment { (before : ℕ) (entries : List (Entry A)) → (D.view disk.old).honest → IsSettled (D.view disk.old) self.old before entries
-            → LeavesOnly (D.view disk.old) (D.view disk.new) (Leaves (D.view disk.old) self.old before entries (self.old.next + 1, given A commands.now)) }
+            → LeavesOnly (D.view disk.old) (D.view disk.new) (Leaves (D.view disk.old) self.old before entries (new_entry A self.old commands.now)) }
 
         // At `Ok` each stop leaves it, nothing is pending, and all outside the half reads as it did.
-        ensures acknowledged { OnOk result ((before : ℕ) (entries : List (Entry A)) → (D.view disk.old).honest → IsSettled (D.view disk.old) self.old before entries
-            → IsSettled (D.view disk.new) self.new before (entries ++ (self.old.next + 1, given A commands.now) ∷ [])) }
+        ensures acknowledged { OnOk result ((before : ℕ) (entries : List (Entry A)) → (D.view disk.old).honest
+            → IsSettled (D.view disk.old) self.old before entries → HasOneMore (D.view disk.new) self.new before entries (new_entry A self.old commands.now)) }
         ensures durable { (D.view disk.old).honest → OnOk result ((k : ℕ) → (D.view disk.new).pending k ≡ false) }
-        ensures elsewhere { (D.view disk.old).honest → OnOk result ((k : ℕ) → (k < self.old.first) ⊎ (self.old.end ≤ k) → sector (D.view disk.new).reads k ≡ sector (D.view disk.old).reads k) }
-        ensures next { OnOk result (self.new ≡ record { first = self.old.first; end = self.old.end; next = self.old.next + data_size (text_at A self.old commands.now) + 1; form = self.old.form; count = self.old.count + length commands.now }) }
+        ensures elsewhere { (D.view disk.old).honest → OnOk result (IsSameOutside self.old.first self.old.end (D.view disk.old) (D.view disk.new)) }
+        ensures next { OnOk result (self.new ≡ following_given A self.old commands.now) }
 
-        // Each data sector and each gate is written once, with two syncs, and nothing is read; a call that fails is the last.
-        ensures calls { OnOk result ((D.view disk.new).calls ≡ (D.view disk.old).calls ++ append_calls self.old.next (text_at A self.old commands.now)) }
+        // Each data sector and each gate is written once, with two syncs, and nothing is read. A call that fails is the last.
+        ensures calls { OnOk result (HasCalled (D.view disk.old) (D.view disk.new) (append_calls self.old.next (text_at A self.old commands.now))) }
         ensures some_calls { HasMade (D.view disk.old) (D.view disk.new) (append_calls self.old.next (text_at A self.old commands.now)) }
 
         // It does not give up by itself.
@@ -163,7 +166,7 @@ impl<A: Allocator> Journal<A> {
     /// Adds these commands, 1 to 64, as one record to this journal and to another one, in the same two syncs. Takes no
     /// memory. The two halves share no sector, and the record fits both.
     ///
-    /// At `Ok` each stop leaves it in both. At `DiskFault`, the only refusal, read both halves again.
+    /// At `Ok` each stop leaves it in both. After `DiskFault`, the only refusal, read both halves again.
     pub fn append_both<D: Disk, B: Allocator>(
         &mut self,
         disk: &mut D,
@@ -181,21 +184,27 @@ impl<A: Allocator> Journal<A> {
         requires other_counts { other.old.count + length commands.now ≤ last_number }
 
         // A stop at any moment of the call leaves, in each of the two halves, the records from before it, with the new one
-        // whole or without it, and all other sectors as they were.
-        ensures any_moment { (before start : ℕ) (entries others : List (Entry A)) → (D.view disk.old).honest → IsSettled (D.view disk.old) self.old before entries → IsSettled (D.view disk.old) other.old start others
-            → LeavesOnly (D.view disk.old) (D.view disk.new) (LeavesBoth (D.view disk.old) self.old other.old before start entries others (self.old.next + 1, given A commands.now) (other.old.next + 1, given A commands.now)) }
+        // whole or without it. All other sectors are as they were.
+        ensures any_moment { (before start : ℕ) (entries others : List (Entry A)) → (D.view disk.old).honest
+            → IsSettled (D.view disk.old) self.old before entries → IsSettled (D.view disk.old) other.old start others
+            → LeavesOnly (D.view disk.old) (D.view disk.new) (LeavesBoth (D.view disk.old) self.old other.old
+            before start entries others (new_entry A self.old commands.now) (new_entry A other.old commands.now)) }
 
         // At `Ok` each stop leaves it in both, nothing is pending, and all outside the two halves reads as it did.
-        ensures acknowledged { OnOk result ((before start : ℕ) (entries others : List (Entry A)) → (D.view disk.old).honest → IsSettled (D.view disk.old) self.old before entries → IsSettled (D.view disk.old) other.old start others
-            → IsSettled (D.view disk.new) self.new before (entries ++ (self.old.next + 1, given A commands.now) ∷ []) × IsSettled (D.view disk.new) other.new start (others ++ (other.old.next + 1, given A commands.now) ∷ [])) }
+        ensures acknowledged { OnOk result ((before start : ℕ) (entries others : List (Entry A)) → (D.view disk.old).honest
+            → IsSettled (D.view disk.old) self.old before entries → IsSettled (D.view disk.old) other.old start others
+            → HaveOneMore (D.view disk.new) self.new other.new
+            before start entries others (new_entry A self.old commands.now) (new_entry A other.old commands.now)) }
         ensures durable { (D.view disk.old).honest → OnOk result ((k : ℕ) → (D.view disk.new).pending k ≡ false) }
-        ensures elsewhere { (D.view disk.old).honest → OnOk result ((k : ℕ) → (k < self.old.first) ⊎ (self.old.end ≤ k) → (k < other.old.first) ⊎ (other.old.end ≤ k) → sector (D.view disk.new).reads k ≡ sector (D.view disk.old).reads k) }
-        ensures next { OnOk result (self.new ≡ record { first = self.old.first; end = self.old.end; next = self.old.next + data_size (text_at A self.old commands.now) + 1; form = self.old.form; count = self.old.count + length commands.now }) }
-        ensures other_next { OnOk result (other.new ≡ record { first = other.old.first; end = other.old.end; next = other.old.next + data_size (text_at A other.old commands.now) + 1; form = other.old.form; count = other.old.count + length commands.now }) }
+        ensures elsewhere { (D.view disk.old).honest → OnOk result (IsSameOutsideBoth self.old other.old (D.view disk.old) (D.view disk.new)) }
+        ensures next { OnOk result (self.new ≡ following_given A self.old commands.now) }
+        ensures other_next { OnOk result (other.new ≡ following_given A other.old commands.now) }
 
-        // Each data sector and each gate is written once, with two syncs, and nothing is read; a call that fails is the last.
-        ensures calls { OnOk result ((D.view disk.new).calls ≡ (D.view disk.old).calls ++ append_both_calls self.old.next (text_at A self.old commands.now) other.old.next (text_at A other.old commands.now)) }
-        ensures some_calls { HasMade (D.view disk.old) (D.view disk.new) (append_both_calls self.old.next (text_at A self.old commands.now) other.old.next (text_at A other.old commands.now)) }
+        // Each data sector and each gate is written once, with two syncs, and nothing is read. A call that fails is the last.
+        ensures calls { OnOk result (HasCalled (D.view disk.old) (D.view disk.new)
+            (append_both_calls self.old.next (text_at A self.old commands.now) other.old.next (text_at A other.old commands.now))) }
+        ensures some_calls { HasMade (D.view disk.old) (D.view disk.new)
+            (append_both_calls self.old.next (text_at A self.old commands.now) other.old.next (text_at A other.old commands.now)) }
 
         // It does not give up by itself.
         ensures fault { IfErr result (λ e. (e ≡ JournalError.DiskFault) × HasFailed (D.view disk.old) (D.view disk.new)) }
@@ -227,12 +236,18 @@ impl<A: Allocator> Journal<A> {
         requires before { self.old.next < self.old.end }
         requires within { self.old.end ≤ (D.view disk.old).sectors }
         requires counts { IsCounted self.old }
-        ensures exact { (D.view disk.old).honest → AreJudged result (half_of {A = A} self.old.form self.old.count (D.view disk.old).reads self.old.next self.old.end) }
+
+        // It answers what the disk reads as, and stays where it is.
+        ensures exact { (D.view disk.old).honest → AreJudged result (half_in A self.old (D.view disk.old)) }
         ensures same { self.new ≡ self.old }
-        ensures looked { (D.view disk.old).honest → HasLooked (D.view disk.old) (D.view disk.new) }
+
+        // It only reads.
+        ensures only_read { (D.view disk.old).honest → HasOnlyRead (D.view disk.old) (D.view disk.new) }
         ensures only_reads { before_reads (D.view disk.new).calls ≡ before_reads (D.view disk.old).calls }
         ensures honest { (D.view disk.old).honest → (D.view disk.new).honest }
         ensures sectors { (D.view disk.new).sectors ≡ (D.view disk.old).sectors }
+
+        // It does not give up by itself.
         ensures later { (D.view disk.old).failures ≤ (D.view disk.new).failures }
         ensures fault { IsErrOf result JournalError.DiskFault → HasFailed (D.view disk.old) (D.view disk.new) }
         ensures damaged { (s : ℕ) → IsErrOf result (JournalError.Damaged s) → s < self.old.end }
@@ -244,8 +259,8 @@ impl<A: Allocator> Journal<A> {
 }
 
 impl<A: Allocator + Clone> Journal<A> {
-    /// Reads the record at the next gate, and goes on behind it: its first data sector, and its commands. `None` where
-    /// that gate is closed; there the next record goes.
+    /// Reads the record at the next gate, and moves on to the gate after it. Returns the record's first data sector and its
+    /// commands, or `None` where the gate is closed: there the next record is to be written.
     ///
     /// `Damaged` names the sector at fault. `NoMemory` comes only where there is a record.
     pub fn read_next<D: Disk>(
@@ -256,11 +271,17 @@ impl<A: Allocator + Clone> Journal<A> {
         requires before { self.old.next < self.old.end }
         requires within { self.old.end ≤ (D.view disk.old).sectors }
         requires counts { IsCounted self.old }
-        ensures exact { (D.view disk.old).honest → Answers (next_view self.new.next) result (record_at self.old.form self.old.count (D.view disk.old).reads self.old.next self.old.end) }
-        ensures memory { IsErrOf result JournalError.NoMemory → (D.view disk.old).honest → HasRecord A self.old.form self.old.count (D.view disk.old).reads self.old.next self.old.end }
-        ensures looked { (D.view disk.old).honest → HasLooked (D.view disk.old) (D.view disk.new) }
+
+        // It returns the record that the disk reads as. Out of memory never masks damage.
+        ensures exact { (D.view disk.old).honest → Answers (next_view self.new.next) result (record_in A self.old (D.view disk.old)) }
+        ensures memory { IsErrOf result JournalError.NoMemory → (D.view disk.old).honest → HasRecordIn A self.old (D.view disk.old) }
+
+        // It only reads.
+        ensures only_read { (D.view disk.old).honest → HasOnlyRead (D.view disk.old) (D.view disk.new) }
         ensures only_reads { before_reads (D.view disk.new).calls ≡ before_reads (D.view disk.old).calls }
         ensures honest { (D.view disk.old).honest → (D.view disk.new).honest }
+
+        // It moves on to the gate after the record, and stays where there is no record, or where it fails.
         ensures at { IfOk result (λ found. IfSome found (λ x. (x.0 ≡ self.old.next + 1) × (x.0 < self.new.next))) }
         ensures first { self.new.first ≡ self.old.first }
         ensures end { self.new.end ≡ self.old.end }
@@ -270,6 +291,8 @@ impl<A: Allocator + Clone> Journal<A> {
         ensures next { self.new.next < self.old.end }
         ensures closed { IfOk result (λ found. IfNone found (self.new ≡ self.old)) }
         ensures same { OnErr result (self.new ≡ self.old) }
+
+        // It does not give up by itself.
         ensures sectors { (D.view disk.new).sectors ≡ (D.view disk.old).sectors }
         ensures later { (D.view disk.old).failures ≤ (D.view disk.new).failures }
         ensures fault { IsErrOf result JournalError.DiskFault → HasFailed (D.view disk.old) (D.view disk.new) }
@@ -287,10 +310,10 @@ impl<A: Allocator + Clone> Journal<A> {
 }
 
 impl<A: Allocator + Copy> Journal<A> {
-    /// Reads the records from the next gate of a place on, and gives the journal that goes on behind them, and these: of
-    /// each its first data sector, and its commands.
+    /// Reads the records from the next gate of a place on. Returns the journal that continues after them, and of each record
+    /// its first data sector and its commands.
     ///
-    /// `Damaged` names the first sector at fault. `NoMemory` comes before anything was read, or where no sector is at fault.
+    /// `Damaged` names the first sector at fault. `NoMemory` comes before anything is read, or where no sector is at fault.
     pub fn replay<D: Disk>(
         alloc: A,
         disk: &mut D,
@@ -300,13 +323,22 @@ impl<A: Allocator + Copy> Journal<A> {
         requires some { place.next < place.end }
         requires within { place.end ≤ (D.view disk.old).sectors }
         requires counts { IsCounted place }
-        ensures exact { (D.view disk.old).honest → Answers (λ x. (entries_view x.1.items, x.0.next)) result (half_of place.form place.count (D.view disk.old).reads place.next place.end) }
-        ensures memory { IsErrOf result JournalError.NoMemory → (D.view disk.old).honest → ((D.view disk.new).calls ≡ (D.view disk.old).calls) ⊎ HasRecords A place.form place.count (D.view disk.old).reads place.next place.end }
-        ensures looked { (D.view disk.old).honest → HasLooked (D.view disk.old) (D.view disk.new) }
+
+        // It returns the records that the disk reads as. Out of memory never masks damage.
+        ensures exact { (D.view disk.old).honest → Answers (λ x. (entries_view x.1.items, x.0.next)) result (half_in A place (D.view disk.old)) }
+        ensures memory { IsErrOf result JournalError.NoMemory → (D.view disk.old).honest
+            → ((D.view disk.new).calls ≡ (D.view disk.old).calls) ⊎ HasRecordsIn A place (D.view disk.old) }
+
+        // It only reads.
+        ensures only_read { (D.view disk.old).honest → HasOnlyRead (D.view disk.old) (D.view disk.new) }
         ensures only_reads { before_reads (D.view disk.new).calls ≡ before_reads (D.view disk.old).calls }
         ensures honest { (D.view disk.old).honest → (D.view disk.new).honest }
+
+        // The journal continues after the records.
         ensures place { IfOk result (λ x. (x.0.first ≡ place.first) × (x.0.end ≡ place.end) × (x.0.form ≡ place.form) × (x.0.next < place.end)) }
         ensures count { IfOk result (λ x. x.0.count ≡ counted place.count (entries_view x.1.items)) }
+
+        // It does not give up by itself.
         ensures sectors { (D.view disk.new).sectors ≡ (D.view disk.old).sectors }
         ensures later { (D.view disk.old).failures ≤ (D.view disk.new).failures }
         ensures fault { IsErrOf result JournalError.DiskFault → HasFailed (D.view disk.old) (D.view disk.new) }
@@ -344,8 +376,8 @@ fn add_all<A: Allocator, B: Allocator>(out: &mut RecordText<A>, commands: &[&Com
     }
 }
 
-// How many commands there are, the number of the first one where the record tells it, and how many bytes they take, at the
-// head of a buffer with room for it.
+// Puts a record's head into a buffer with room for it: how many commands there are, the number of the first one where the record
+// states it, and how many bytes they take.
 #[tactic(auto, unfolding(command_bytes::specs::Fields::big))]
 fn put_head<A: Allocator>(out: &mut RecordText<A>, count: u16, first: Option<u64>, size: u32)
     requires { 14 ≤ capacity out.old }
@@ -360,7 +392,7 @@ fn put_head<A: Allocator>(out: &mut RecordText<A>, count: u16, first: Option<u64
     out.add(&size.to_be_bytes());
 }
 
-// The text of the next record of a place, in a buffer with room for it.
+// Puts the text of the next record of a place into a buffer with room for it.
 fn put_record<A: Allocator, B: Allocator>(
     out: &mut RecordText<A>,
     place: &Place,

@@ -14,22 +14,27 @@ ghost use Rattle.gated_journal.specs.Settled.{IsSettled};
 use sector_disk::Disk;
 use std::alloc::Allocator;
 
-/// Bytes are read as a record behind so many accepted commands exactly where they are its text there, with zeros behind it.
+/// Bytes are read as a record after so many accepted commands exactly where they are its text there, with zeros after it.
 pub fn records<A: Allocator>()
-    ensures read_back { (form : Form) (before : ℕ) (commands : List (Asked A)) (z : ℕ) → before < last_number → IsRecord commands → record_of form before (record_text form before commands ++ replicate z 0) ≡ Some commands }
-    ensures in_range { (form : Form) (before : ℕ) (commands : List (Asked A)) (bytes : List ℕ) → AreBytes bytes → record_of form before bytes ≡ Some commands → IsRecord commands }
-    ensures spelt { (form : Form) (before : ℕ) (commands : List (Asked A)) (bytes : List ℕ) → AreBytes bytes → record_of form before bytes ≡ Some commands → (z : ℕ) × (bytes ≡ record_text form before commands ++ replicate z 0) }
+    ensures read_back { (form : Form) (before : ℕ) (commands : List (Asked A)) (z : ℕ) → before < last_number → IsRecord commands
+        → record_of form before (record_text form before commands ++ replicate z 0) ≡ Some commands }
+    ensures in_range { (form : Form) (before : ℕ) (commands : List (Asked A)) (bytes : List ℕ) → AreBytes bytes
+        → record_of form before bytes ≡ Some commands → IsRecord commands }
+    ensures spelt { (form : Form) (before : ℕ) (commands : List (Asked A)) (bytes : List ℕ) → AreBytes bytes
+        → record_of form before bytes ≡ Some commands → (z : ℕ) × (bytes ≡ record_text form before commands ++ replicate z 0) }
 {}
 
-/// A half whose first gate is closed in each image has no record, as `Journal::start` takes it.
+/// A half whose first gate is closed in each image has no record: `Journal::start` may begin there.
 pub fn begun<A: Allocator, D: Disk>()
-    ensures { (disk : D) (first end before : ℕ) (form : Form) → first < end → ((image : List (List ℕ)) → IsImageOf (D.view disk) image → IsClosed (sector image first))
+    ensures { (disk : D) (first end before : ℕ) (form : Form) → first < end
+        → ((image : List (List ℕ)) → IsImageOf (D.view disk) image → IsClosed (sector image first))
         → IsSettled {A = A} (D.view disk) (record { first = first; end = end; next = first; form = form; count = before }) before [] }
 {}
 
-/// Where nothing is pending, a half holds in each image what it reads as: so what `Journal::replay` gives can be added to.
+/// Where nothing is pending, a half holds in each image what it reads as. So records can be added to what `Journal::replay` gives.
 pub fn replayed<A: Allocator, D: Disk>()
-    ensures { (disk : D) (place : Place) (before : ℕ) (entries : List (Entry A)) → place.first < place.end → place.next < place.end → counted before entries ≡ place.count → ((k : ℕ) → (D.view disk).pending k ≡ false)
+    ensures { (disk : D) (place : Place) (before : ℕ) (entries : List (Entry A)) → place.first < place.end → place.next < place.end
+        → counted before entries ≡ place.count → ((k : ℕ) → (D.view disk).pending k ≡ false)
         → half_of place.form before (D.view disk).reads place.first place.end ≡ Ok (entries, place.next) → IsSettled (D.view disk) place before entries }
 {}
 

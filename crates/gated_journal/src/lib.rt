@@ -1,4 +1,7 @@
-//! A journal of records on a disk of sectors: each counts once its gate, one byte, is open on the disk.
+//! A journal of records on a disk of sectors. Each record counts once its gate, one byte, is open on the disk.
+//!
+//! It writes within one half of the disk, or within both. It knows how commands are written, not what they do, and nothing of
+//! images and epochs.
 #![tactic(auto)]
 
 mod both;

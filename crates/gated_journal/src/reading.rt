@@ -1,16 +1,19 @@
-// Reading a half.
+// The records of a half, read or judged.
+//
+// `judge_record` and `judge_half` go through a half as `read_record` and `read_half` do, but keep no command. Their contracts
+// differ (`IsJudged` in place of `Answers`, and no `NoMemory`), so they are functions of their own.
 ghost use Rattle.std.specs.Prelude.{◌≡◌, ◌+◌, ◌*◌, ◌-◌, ◌<◌, ◌≤◌, ◌^◌, ℕ, length, IsErr, IsErrOf, OnOk, IfOk, IfSome, option_map};
 ghost use Rattle.byteorder.specs.Endian.{big_from};
 ghost use Rattle.sector_disk.specs.Disk.{HasFailed};
 ghost use Rattle.sector_disk.specs.Reading.{before_reads};
-ghost use Rattle.sector_disk.specs.Run.{HasLooked};
+ghost use Rattle.sector_disk.specs.Run.{HasOnlyRead};
 ghost use Rattle.sector_disk.specs.declared.disk.DiskError.TheVariants.{OutOfRange};
 ghost use Rattle.gated_journal.specs.declared.fault.JournalError.TheVariants.{DiskFault, JournalFull, Damaged, NoMemory};
-ghost use Rattle.gated_journal.specs.Half.{bytes_at, counted, data_from, half_of, record_at, told_size};
+ghost use Rattle.gated_journal.specs.Half.{bytes_at, counted, data_from, stated_size};
 ghost use Rattle.gated_journal.specs.Inside.Room.{capacity};
-ghost use Rattle.gated_journal.specs.Reading.{Answers, AreJudged, HasRecord, HasRecords, IsJudged, entries_view, found_view};
+ghost use Rattle.gated_journal.specs.Reading.{Answers, AreJudged, HasRecordIn, HasRecordsIn, IsJudged, entries_view, found_view};
 ghost use Rattle.gated_journal.specs.Record.{most_commands, most_sectors};
-ghost use Rattle.gated_journal.specs.Settled.{IsCounted};
+ghost use Rattle.gated_journal.specs.Settled.{IsCounted, half_in, record_in};
 
 use crate::record::{count_next, decode_next};
 use crate::record_text::RecordText;
@@ -23,7 +26,7 @@ use std::alloc::Allocator;
 // How many data sectors a record may have.
 pub(crate) const MOST_SECTORS: u64 = 36;
 
-// Adds the bytes of the sectors behind the first `from`, up to so many, where there is room for them.
+// Adds the bytes of a run's sectors, from the one numbered `from` up to n. The buffer has room for them.
 #[tactic(auto, using(sector_disk::proofs::Reading::one_read))]
 fn read_sectors<A: Allocator, D: Disk>(
     disk: &mut D,
@@ -36,7 +39,7 @@ fn read_sectors<A: Allocator, D: Disk>(
     requires fits { at + n < 2 ^ 64 }
     requires some { from ≤ n }
     requires room { length buffer.old.items + 512 * (n - from) ≤ capacity buffer.old }
-    ensures effect { (D.view disk.old).honest → HasLooked (D.view disk.old) (D.view disk.new)
+    ensures effect { (D.view disk.old).honest → HasOnlyRead (D.view disk.old) (D.view disk.new)
         × OnOk result (buffer.old.items ≡ data_from (D.view disk.old).reads at from → buffer.new.items ≡ data_from (D.view disk.old).reads at n) }
     ensures only_reads { before_reads (D.view disk.new).calls ≡ before_reads (D.view disk.old).calls }
     ensures sectors { (D.view disk.new).sectors ≡ (D.view disk.old).sectors }
@@ -53,7 +56,7 @@ fn read_sectors<A: Allocator, D: Disk>(
     Ok(())
 }
 
-// The number in the four bytes from a place on.
+// The number in the four bytes at a place.
 fn number_from(bytes: &[u8; 512], at: usize) -> u64
     requires { at + 4 ≤ 512 }
     ensures { result ≡ big_from at 4 bytes.now }
@@ -62,9 +65,9 @@ fn number_from(bytes: &[u8; 512], at: usize) -> u64
     u64::from(rest.get_u32())
 }
 
-// How many data sectors a record takes, as its first data sector tells.
-fn told_size(form: Form, bytes: &[u8; 512]) -> u64
-    ensures { result ≡ told_size form bytes.now }
+// How many data sectors a record takes, as its first data sector states.
+fn stated_size(form: Form, bytes: &[u8; 512]) -> u64
+    ensures { result ≡ stated_size form bytes.now }
 {
     match form {
         Form::Plain => (number_from(bytes, 2) + 517) / 512,
@@ -72,7 +75,8 @@ fn told_size(form: Form, bytes: &[u8; 512]) -> u64
     }
 }
 
-// The bytes of a record's data sectors behind an open gate, and the next gate; `None` at a closed one. Takes no memory.
+// Reads the data sectors of the record after an open gate into the buffer, and returns the next gate; `None` where the gate is
+// closed. Takes no memory.
 #[tactic(auto, unfolding(crate::specs::Half::bytes_at), using(sector_disk::proofs::Reading::one_read))]
 fn read_data<A: Allocator, D: Disk>(
     disk: &mut D,
@@ -82,8 +86,9 @@ fn read_data<A: Allocator, D: Disk>(
     requires before { place.now.next < place.now.end }
     requires within { place.now.end ≤ (D.view disk.old).sectors }
     requires room { 512 * most_sectors ≤ capacity buffer.old }
-    ensures effect { (D.view disk.old).honest → HasLooked (D.view disk.old) (D.view disk.new)
-        × Answers (λ found. option_map (λ next. (buffer.new.items, next)) found) result (bytes_at place.now.form (D.view disk.old).reads place.now.next place.now.end) }
+    ensures effect { (D.view disk.old).honest → HasOnlyRead (D.view disk.old) (D.view disk.new)
+        × Answers (λ found. option_map (λ next. (buffer.new.items, next)) found) result
+        (bytes_at place.now.form (D.view disk.old).reads place.now.next place.now.end) }
     ensures only_reads { before_reads (D.view disk.new).calls ≡ before_reads (D.view disk.old).calls }
     ensures sectors { (D.view disk.new).sectors ≡ (D.view disk.old).sectors }
     ensures later { (D.view disk.old).failures ≤ (D.view disk.new).failures }
@@ -104,7 +109,7 @@ fn read_data<A: Allocator, D: Disk>(
         return Err(JournalError::Damaged(at));
     }
     disk.read(at + 1, &mut bytes)?;
-    let size = told_size(place.form, &bytes);
+    let size = stated_size(place.form, &bytes);
     if MOST_SECTORS < size {
         return Err(JournalError::Damaged(at + 1));
     }
@@ -117,7 +122,7 @@ fn read_data<A: Allocator, D: Disk>(
     Ok(Some(at + 1 + size))
 }
 
-// What stands at a gate: a record and the next gate, or nothing.
+// Reads what is at a gate: a record and the next gate, or nothing.
 pub(crate) fn read_record<A: Allocator + Clone, D: Disk>(
     alloc: A,
     disk: &mut D,
@@ -128,9 +133,10 @@ pub(crate) fn read_record<A: Allocator + Clone, D: Disk>(
     requires within { place.now.end ≤ (D.view disk.old).sectors }
     requires counts { IsCounted place.now }
     requires room { 512 * most_sectors ≤ capacity buffer.old }
-    ensures effect { (D.view disk.old).honest → HasLooked (D.view disk.old) (D.view disk.new) × Answers found_view result (record_at place.now.form place.now.count (D.view disk.old).reads place.now.next place.now.end) }
+    ensures effect { (D.view disk.old).honest → HasOnlyRead (D.view disk.old) (D.view disk.new)
+        × Answers found_view result (record_in A place.now (D.view disk.old)) }
     ensures only_reads { before_reads (D.view disk.new).calls ≡ before_reads (D.view disk.old).calls }
-    ensures memory { IsErrOf result JournalError.NoMemory → (D.view disk.old).honest → HasRecord A place.now.form place.now.count (D.view disk.old).reads place.now.next place.now.end }
+    ensures memory { IsErrOf result JournalError.NoMemory → (D.view disk.old).honest → HasRecordIn A place.now (D.view disk.old) }
     ensures sectors { (D.view disk.new).sectors ≡ (D.view disk.old).sectors }
     ensures later { (D.view disk.old).failures ≤ (D.view disk.new).failures }
     ensures fault { IsErrOf result JournalError.DiskFault → HasFailed (D.view disk.old) (D.view disk.new) }
@@ -148,7 +154,7 @@ pub(crate) fn read_record<A: Allocator + Clone, D: Disk>(
     }
 }
 
-// How many commands the record at a gate has, and the next gate, if a record stands there. Takes no memory.
+// Judges what is at a gate: a record of so many commands and the next gate, or nothing. Takes no memory.
 fn judge_record<A: Allocator, D: Disk>(
     disk: &mut D,
     place: &Place,
@@ -158,7 +164,8 @@ fn judge_record<A: Allocator, D: Disk>(
     requires within { place.now.end ≤ (D.view disk.old).sectors }
     requires counts { IsCounted place.now }
     requires room { 512 * most_sectors ≤ capacity buffer.old }
-    ensures effect { (D.view disk.old).honest → HasLooked (D.view disk.old) (D.view disk.new) × IsJudged result (record_at {A = A} place.now.form place.now.count (D.view disk.old).reads place.now.next place.now.end) }
+    ensures effect { (D.view disk.old).honest → HasOnlyRead (D.view disk.old) (D.view disk.new)
+        × IsJudged result (record_in A place.now (D.view disk.old)) }
     ensures only_reads { before_reads (D.view disk.new).calls ≡ before_reads (D.view disk.old).calls }
     ensures sectors { (D.view disk.new).sectors ≡ (D.view disk.old).sectors }
     ensures later { (D.view disk.old).failures ≤ (D.view disk.new).failures }
@@ -178,7 +185,7 @@ fn judge_record<A: Allocator, D: Disk>(
     Ok(Some((count, next)))
 }
 
-// The records from the next gate of a place on, of each its first data sector and its commands, and the place behind them.
+// Reads the records from the next gate of a place on: the place after them, and of each its first data sector and its commands.
 fn read_half<A: Allocator + Clone, D: Disk>(
     alloc: A,
     disk: &mut D,
@@ -189,10 +196,11 @@ fn read_half<A: Allocator + Clone, D: Disk>(
     requires within { place.now.end ≤ (D.view disk.old).sectors }
     requires counts { IsCounted place.now }
     requires room { 512 * most_sectors ≤ capacity buffer.old }
-    ensures exact { (D.view disk.old).honest → Answers (λ x. (entries_view x.1.items, x.0.next)) result (half_of place.now.form place.now.count (D.view disk.old).reads place.now.next place.now.end) }
-    ensures looked { (D.view disk.old).honest → HasLooked (D.view disk.old) (D.view disk.new) }
+    ensures exact { (D.view disk.old).honest → Answers (λ x. (entries_view x.1.items, x.0.next)) result (half_in A place.now (D.view disk.old)) }
+    ensures only_read { (D.view disk.old).honest → HasOnlyRead (D.view disk.old) (D.view disk.new) }
     ensures only_reads { before_reads (D.view disk.new).calls ≡ before_reads (D.view disk.old).calls }
-    ensures place { IfOk result (λ x. (x.0.first ≡ place.now.first) × (x.0.end ≡ place.now.end) × (x.0.form ≡ place.now.form) × (place.now.next ≤ x.0.next) × (x.0.next < place.now.end)) }
+    ensures place { IfOk result (λ x. (x.0.first ≡ place.now.first) × (x.0.end ≡ place.now.end) × (x.0.form ≡ place.now.form)
+        × (place.now.next ≤ x.0.next) × (x.0.next < place.now.end)) }
     ensures count { IfOk result (λ x. x.0.count ≡ counted place.now.count (entries_view x.1.items)) }
     ensures sectors { (D.view disk.new).sectors ≡ (D.view disk.old).sectors }
     ensures later { (D.view disk.old).failures ≤ (D.view disk.new).failures }
@@ -221,8 +229,8 @@ pub(crate) fn judge_half<A: Allocator, D: Disk>(
     requires within { place.now.end ≤ (D.view disk.old).sectors }
     requires counts { IsCounted place.now }
     requires room { 512 * most_sectors ≤ capacity buffer.old }
-    ensures exact { (D.view disk.old).honest → AreJudged result (half_of {A = A} place.now.form place.now.count (D.view disk.old).reads place.now.next place.now.end) }
-    ensures looked { (D.view disk.old).honest → HasLooked (D.view disk.old) (D.view disk.new) }
+    ensures exact { (D.view disk.old).honest → AreJudged result (half_in A place.now (D.view disk.old)) }
+    ensures only_read { (D.view disk.old).honest → HasOnlyRead (D.view disk.old) (D.view disk.new) }
     ensures only_reads { before_reads (D.view disk.new).calls ≡ before_reads (D.view disk.old).calls }
     ensures sectors { (D.view disk.new).sectors ≡ (D.view disk.old).sectors }
     ensures later { (D.view disk.old).failures ≤ (D.view disk.new).failures }
@@ -240,7 +248,7 @@ pub(crate) fn judge_half<A: Allocator, D: Disk>(
     Ok(())
 }
 
-// Reads these records. Where memory is wanted, all of them are judged first.
+// Reads these records. Where memory runs out, all of them are judged before that is reported.
 pub(crate) fn read_or_judge<A: Allocator + Clone, D: Disk>(
     alloc: A,
     disk: &mut D,
@@ -251,11 +259,12 @@ pub(crate) fn read_or_judge<A: Allocator + Clone, D: Disk>(
     requires within { place.now.end ≤ (D.view disk.old).sectors }
     requires counts { IsCounted place.now }
     requires room { 512 * most_sectors ≤ capacity buffer.old }
-    ensures exact { (D.view disk.old).honest → Answers (λ x. (entries_view x.1.items, x.0.next)) result (half_of place.now.form place.now.count (D.view disk.old).reads place.now.next place.now.end) }
-    ensures memory { IsErrOf result JournalError.NoMemory → (D.view disk.old).honest → HasRecords A place.now.form place.now.count (D.view disk.old).reads place.now.next place.now.end }
-    ensures looked { (D.view disk.old).honest → HasLooked (D.view disk.old) (D.view disk.new) }
+    ensures exact { (D.view disk.old).honest → Answers (λ x. (entries_view x.1.items, x.0.next)) result (half_in A place.now (D.view disk.old)) }
+    ensures memory { IsErrOf result JournalError.NoMemory → (D.view disk.old).honest → HasRecordsIn A place.now (D.view disk.old) }
+    ensures only_read { (D.view disk.old).honest → HasOnlyRead (D.view disk.old) (D.view disk.new) }
     ensures only_reads { before_reads (D.view disk.new).calls ≡ before_reads (D.view disk.old).calls }
-    ensures place { IfOk result (λ x. (x.0.first ≡ place.now.first) × (x.0.end ≡ place.now.end) × (x.0.form ≡ place.now.form) × (place.now.next ≤ x.0.next) × (x.0.next < place.now.end)) }
+    ensures place { IfOk result (λ x. (x.0.first ≡ place.now.first) × (x.0.end ≡ place.now.end) × (x.0.form ≡ place.now.form)
+        × (place.now.next ≤ x.0.next) × (x.0.next < place.now.end)) }
     ensures count { IfOk result (λ x. x.0.count ≡ counted place.now.count (entries_view x.1.items)) }
     ensures sectors { (D.view disk.new).sectors ≡ (D.view disk.old).sectors }
     ensures later { (D.view disk.old).failures ≤ (D.view disk.new).failures }

@@ -1,8 +1,8 @@
 // One record's bytes.
 ghost use Rattle.std.specs.Prelude.{◌≡◌, ◌+◌, ◌<◌, ◌≤◌, ◌^◌, IfOk, IfSome, IsSome, OnErr, is_some, length, option_map};
 ghost use Rattle.std.specs.List.{list_all};
-ghost use Rattle.gated_journal.specs.Reading.{told_view};
-ghost use Rattle.gated_journal.specs.Record.{commands_in, first_at, follows, is_in_range, is_zero, most_commands, packed_of, record_of, told_of};
+ghost use Rattle.gated_journal.specs.Reading.{stated_view};
+ghost use Rattle.gated_journal.specs.Record.{commands_in, first_at, follows, is_in_range, is_zero, most_commands, packed_of, record_of, stated_of};
 
 use crate::Form;
 use centre_core::Command;
@@ -15,10 +15,14 @@ const MOST_COMMANDS: u64 = 64;
 /// How many bytes a command may have.
 pub(crate) const LONGEST_COMMAND: u64 = 281;
 
+// Whether each byte is zero: the first one is, and each other one equals the one before it. So many are compared at a time.
 fn are_zeros(bytes: &[u8]) -> bool
     ensures { result ≡ list_all is_zero bytes.now }
 {
-    bytes.iter().all(|byte| *byte == 0)
+    match bytes.split_first() {
+        Some((first, rest)) => *first == 0 && rest == &bytes[..rest.len()],
+        None => true,
+    }
 }
 
 fn is_in_range(count: u64, size: u64) -> bool
@@ -27,7 +31,7 @@ fn is_in_range(count: u64, size: u64) -> bool
     1 <= count && count <= MOST_COMMANDS && size <= LONGEST_COMMAND * count
 }
 
-// What a record's data sectors tell, before its commands are read.
+// What a record's data sectors state, before the commands are read.
 #[derive(Drop)]
 struct Packed<'a> {
     count: u64,
@@ -35,7 +39,7 @@ struct Packed<'a> {
     commands: &'a [u8],
 }
 
-// The number of the first command, where the form has one, and the bytes behind it.
+// The number of the first command, where the form has one, and the bytes after it.
 #[tactic(auto, unfolding(crate::specs::Record::first_at))]
 fn first_at(form: Form, bytes: &[u8]) -> Option<(Option<u64>, &[u8])>
     ensures { option_map (λ x. (x.0, x.1.now)) result ≡ first_at form bytes.now }
@@ -49,7 +53,7 @@ fn first_at(form: Form, bytes: &[u8]) -> Option<(Option<u64>, &[u8])>
     }
 }
 
-// May a record that tells this number stand behind so many accepted commands?
+// Whether a record that states this number may follow so many accepted commands.
 fn follows(before: u64, first: Option<u64>) -> bool
     requires { before + 1 < 2 ^ 64 }
     ensures { result ≡ follows before first }
@@ -60,7 +64,7 @@ fn follows(before: u64, first: Option<u64>) -> bool
     }
 }
 
-// What a record's data sectors tell.
+// What a record's data sectors state.
 #[tactic(auto, unfolding(crate::specs::Record::packed_of))]
 fn packed_of(form: Form, bytes: &[u8]) -> Option<Packed<'_>>
     ensures { option_map (λ x. record { count = x.count; first = x.first; bytes = x.commands.now }) result ≡ packed_of form bytes.now }
@@ -82,7 +86,7 @@ fn packed_of(form: Form, bytes: &[u8]) -> Option<Packed<'_>>
     })
 }
 
-// Are these so many commands, one after the other, and no byte behind them?
+// Whether these bytes are so many commands in order, with no byte after them.
 fn are_commands<A: Allocator>(count: u64, bytes: &[u8]) -> bool
     ensures { result ≡ is_some (commands_in {A = A} count bytes.now) }
 {
@@ -96,7 +100,7 @@ fn are_commands<A: Allocator>(count: u64, bytes: &[u8]) -> bool
     rest.is_empty()
 }
 
-// So many commands, one after the other, where no byte stands behind them.
+// So many commands in order, where no byte follows them.
 fn commands_in<A: Allocator + Clone>(
     alloc: A,
     count: u64,
@@ -120,7 +124,7 @@ fn commands_in<A: Allocator + Clone>(
     }
 }
 
-// The commands of a record. Want of memory stands in no other answer's place.
+// The commands of a record. Out of memory never replaces another answer.
 fn whole<A: Allocator + Clone>(
     alloc: A,
     packed: &Packed<'_>,
@@ -145,27 +149,27 @@ fn count_of<A: Allocator>(packed: &Packed<'_>) -> Option<u64>
     }
 }
 
-/// A record as its bytes tell it.
+/// A record as its bytes state it.
 #[derive(Drop)]
 pub struct Record<A: Allocator> {
-    /// The number of its first command, where the form has one: how many commands were accepted with it.
+    /// The number of its first command, where the form has one: how many commands are accepted with that one.
     pub first: Option<u64>,
     /// Its commands, 1 to 64, in order.
     pub commands: Vec<Command<A>, A>,
 }
 
-/// The record of this form in its data sectors, given whole: how many commands (1 to 64), the number of the first one in
-/// layout 2, how many bytes they take, and they, one after the other, at most 281 bytes each, with zeros behind the last.
-/// `None` where the bytes are not a record's.
+/// The record of this form in all of its data sectors, or `None` where the bytes are not a record's.
 ///
-/// `AllocError` comes only where they are. Whether the number follows those of earlier records is told by reading a half.
+/// A record is: how many commands there are (1 to 64), in layout 2 the number of the first one, how many bytes they take, and
+/// the commands in order, of at most 281 bytes each, with zeros after the last. `AllocError` comes only where the bytes are a
+/// record's. Whether its number follows those of earlier records is judged where a half is read.
 pub fn decode_record<A: Allocator + Clone>(
     alloc: A,
     form: Form,
     bytes: &[u8],
 ) -> Result<Option<Record<A>>, AllocError>
-    ensures exact { IfOk result (λ found. option_map told_view found ≡ told_of form bytes.now) }
-    ensures memory { OnErr result (IsSome (told_of {A = A} form bytes.now)) }
+    ensures exact { IfOk result (λ found. option_map stated_view found ≡ stated_of form bytes.now) }
+    ensures memory { OnErr result (IsSome (stated_of {A = A} form bytes.now)) }
 {
     let Some(packed) = packed_of(form, bytes) else {
         return Ok(None);
@@ -179,7 +183,7 @@ pub fn decode_record<A: Allocator + Clone>(
     }))
 }
 
-/// The commands of the record in these data sectors, given whole, where its number follows so many accepted commands.
+/// The commands of the record in all of its data sectors, where its number follows so many accepted commands.
 pub(crate) fn decode_next<A: Allocator + Clone>(
     alloc: A,
     form: Form,

@@ -10,10 +10,10 @@ use command_bytes::Room;
 use std::alloc::{AllocError, Allocator};
 use std::marker::Model;
 
-// A record's bytes, in room that was taken when the buffer was made.
+// A record's bytes, in memory that was taken when the buffer was made.
 //
-// Each number is added as its bytes. The `put_` calls of `BufMut` may grow the buffer, and so want a `Copy` allocator,
-// which a journal has only where it is made.
+// A number is added as its bytes. The `put_` calls of `BufMut` may grow the buffer, and so need a `Copy` allocator. A journal
+// has one only where it is made.
 #[derive(Debug, Drop)]
 pub(crate) struct RecordText<A: Allocator> {
     bytes: BytesMut<A>,

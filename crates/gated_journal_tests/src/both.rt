@@ -1,5 +1,5 @@
-//! One record added to two halves of a disk: those of the worked disk, from 589 and from 628, 39 sectors each. The records of the second half
-//! tell the number of their first command.
+//! One record added to two halves of a disk. They are those of the worked disk: from 589 and from 628, 39 sectors each. The
+//! records of the second half state the number of their first command.
 ghost use Rattle.std.specs.Prelude.{◌≡◌, ◌≤◌, ◌<◌, length};
 ghost use Rattle.gated_journal.specs.Settled.{IsCounted};
 ghost use Rattle.gated_journal.specs.declared.form.Form.TheVariants.{Numbered, Plain};
@@ -11,7 +11,7 @@ use sector_disk::{Disk, DiskError, Failing, FailingDisk, MemoryDisk};
 use std::alloc::{AllocError, Global};
 use std::test::Fail;
 
-/// The front of the data sector of a record of an expiry.
+/// How the data sector of a record of an expiry begins.
 const EXPIRY_TEXT: [u8; 17] = [0, 1, 0, 0, 0, 11, 0, 1, 0, 0, 0, 3, 0, 0, 0, 11, 6];
 
 /// The same with the number of its first command, the eleventh of all.
@@ -69,7 +69,7 @@ fn add_ten<D: Disk>(
     Ok(())
 }
 
-/// Adds ten records to the first half, and the eleventh to both; the fault, and the room of each half then.
+/// Adds ten records to the first half, and the eleventh to both. Returns the answer, and the room of each half then.
 fn eleven<D: Disk>(
     alloc: Global,
     disk: &mut D,
@@ -84,7 +84,7 @@ fn eleven<D: Disk>(
     Ok((added, [first.room(), second.room()]))
 }
 
-/// How many records a half has, the first data sector of the last one, and how many commands it has.
+/// How many records a half has, the first data sector of the last one, and how many commands that has.
 fn last_of<D: Disk>(alloc: Global, disk: &mut D, place: Place) -> Option<(usize, u64, usize)>
     requires up { place.first ≤ place.next }
     requires some { place.next < place.end }
@@ -94,16 +94,17 @@ fn last_of<D: Disk>(alloc: Global, disk: &mut D, place: Place) -> Option<(usize,
         return None;
     }
     let (_, records) = Journal::replay(alloc, disk, place).ok()?;
-    told(&records)
+    counted(&records)
 }
 
-/// The half of the plain records, and that of the numbered ones, behind ten commands.
+/// The half of the plain records.
 fn first_half() -> Place
     ensures { result ≡ record { first = 589; end = 628; next = 589; form = Plain; count = 0 } }
 {
     made::place(589, 39, Form::Plain)
 }
 
+/// The half of the numbered records, after ten commands.
 fn second_half() -> Place
     ensures { result ≡ record { first = 628; end = 667; next = 628; form = Numbered; count = 10 } }
 {
@@ -113,7 +114,7 @@ fn second_half() -> Place
     }
 }
 
-fn told(records: &[Entry]) -> Option<(usize, u64, usize)> {
+fn counted(records: &[Entry]) -> Option<(usize, u64, usize)> {
     match records.last() {
         None => Some((0, 0, 0)),
         Some(last) => Some((records.len(), last.0, last.1.len())),
@@ -121,7 +122,7 @@ fn told(records: &[Entry]) -> Option<(usize, u64, usize)> {
 }
 
 /// Whether the eleventh record is in both halves: its text at 610 and at 629, its gate at 609 and at 628, with a closed
-/// gate behind each text.
+/// gate after each text.
 fn is_in_both<D: Disk>(disk: &mut D) -> Result<bool, DiskError> {
     let texts = begins(disk, 610, &EXPIRY_TEXT)? && begins(disk, 629, &ELEVENTH_TEXT)?;
     let gates = begins(disk, 609, &[1, 0])? && begins(disk, 628, &[1, 0])?;
@@ -163,7 +164,7 @@ fn the_longest_commands_in_both_halves(rt: HostRuntime) -> Result<(), Fail> {
     Ok(())
 }
 
-/// The disk after a call of the eleventh record has failed: ten records take 50 calls.
+/// The disk after this call of the eleventh record has failed. The ten records before it take 50 calls.
 fn failed(
     alloc: Global,
     expiry: &Command<Global>,
@@ -179,7 +180,7 @@ fn failed(
     Ok((refused == (call < 9)).then_some(inner))
 }
 
-/// Whether these sectors are pending after the call has failed, and no other.
+/// Whether exactly these sectors are pending after the call has failed.
 fn are_pending(
     alloc: Global,
     expiry: &Command<Global>,
@@ -194,7 +195,7 @@ fn are_pending(
     }
 }
 
-/// Both texts come before the first sync, and both gates between the two.
+/// Whether both texts come before the first sync, and both gates between the two syncs.
 fn come_in_two_syncs(alloc: Global, expiry: &Command<Global>) -> Result<bool, AllocError> {
     let texts = are_pending(alloc, expiry, 5, &[610, 611, 629, 630])?;
     let gates = are_pending(alloc, expiry, 8, &[609, 628])?;
@@ -208,7 +209,7 @@ fn both_halves_share_two_syncs(rt: HostRuntime) -> Result<(), Fail> {
     Ok(())
 }
 
-/// Fills each pending sector of the first half with one byte, and each of the second half with another.
+/// A stop that fills each pending sector of the first half with one byte, and each of the second half with another.
 fn stopped(
     alloc: Global,
     disk: MemoryDisk<Global>,

@@ -1,4 +1,4 @@
-//! Halves that no journal left: each is read up to the first sector at fault, and that is told.
+//! Halves that no journal left. Each is read up to the first sector at fault, and that sector is reported.
 
 use crate::made;
 use gated_journal::{Form, Journal, JournalError, decode_record};
@@ -7,8 +7,8 @@ use sector_disk::{Disk, DiskError, MemoryDisk};
 use std::alloc::{AllocError, Global};
 use std::test::Fail;
 
-/// A half of four sectors: the front of its first gate, the text behind it with the byte `byte` at the place `at`, and byte 0 of
-/// the gate behind that. And what it is read as: how many records, or the sector at fault.
+/// A half of four sectors: how its first gate begins, the text after that with the byte `byte` at the place `at`, and byte 0 of
+/// the next gate. Then what the half is read as: how many records, or the sector at fault.
 struct Row {
     gate: [u8; 2],
     text: [u8; 32],
@@ -25,7 +25,7 @@ const ONE: [u8; 32] = [
     0, 1, 0, 0, 0, 11, 0, 1, 0, 0, 0, 1, 0, 0, 0, 0, 6, 0, 0, 0, 0, 0, 0, 0, 0, 0, 0, 0, 0, 0, 0, 0,
 ];
 
-/// A record of two of them.
+/// A record of two such commands.
 const TWO: [u8; 32] = [
     0, 2, 0, 0, 0, 22, 0, 1, 0, 0, 0, 1, 0, 0, 0, 0, 6, 0, 1, 0, 0, 0, 2, 0, 0, 0, 0, 6, 0, 0, 0, 0,
 ];
@@ -54,7 +54,7 @@ const ROWS: [Row; 17] = [
         next: 1,
         want: Ok(0),
     },
-    // An open one, whatever stands behind byte 0.
+    // An open one, whatever follows byte 0.
     Row {
         gate: OPEN,
         text: ONE,
@@ -104,7 +104,7 @@ const ROWS: [Row; 17] = [
         next: 0,
         want: Err(1),
     },
-    // The next gate would lie behind the half.
+    // The next gate would be after the half.
     Row {
         gate: OPEN,
         text: MANY,
@@ -121,7 +121,7 @@ const ROWS: [Row; 17] = [
         next: 0,
         want: Err(1),
     },
-    // A byte behind the commands, and one more that is told as theirs.
+    // A byte after the commands, and one that the length counts as theirs.
     Row {
         gate: OPEN,
         text: ONE,
@@ -138,7 +138,7 @@ const ROWS: [Row; 17] = [
         next: 0,
         want: Err(1),
     },
-    // No such tag, and a sequence of 0.
+    // A tag that no command has, and a sequence of 0.
     Row {
         gate: OPEN,
         text: ONE,
@@ -155,7 +155,7 @@ const ROWS: [Row; 17] = [
         next: 0,
         want: Err(1),
     },
-    // Two commands told as one, and one told as two.
+    // Two commands stated as one, and one stated as two.
     Row {
         gate: OPEN,
         text: TWO,
@@ -172,7 +172,7 @@ const ROWS: [Row; 17] = [
         next: 0,
         want: Err(1),
     },
-    // An open gate behind a record, with a record of no command behind it.
+    // An open gate after a record, with a record of no command after it.
     Row {
         gate: OPEN,
         text: ONE,
@@ -183,33 +183,33 @@ const ROWS: [Row; 17] = [
     },
 ];
 
-fn gate(front: [u8; 2]) -> [u8; 512] {
+fn gate(prefix: [u8; 2]) -> [u8; 512] {
     let mut bytes = [0; 512];
-    bytes[0] = front[0];
-    bytes[1] = front[1];
+    bytes[0] = prefix[0];
+    bytes[1] = prefix[1];
     bytes
 }
 
 /// A sector that begins with a text, with another byte at a place from 1 on.
-fn text(front: &[u8; 32], at: usize, byte: u8) -> [u8; 512] {
+fn text(prefix: &[u8; 32], at: usize, byte: u8) -> [u8; 512] {
     let mut bytes = [0; 512];
     for k in 0..32 {
-        bytes[k] = if k == at && 0 < k { byte } else { front[k] };
+        bytes[k] = if k == at && 0 < k { byte } else { prefix[k] };
     }
     bytes
 }
 
 /// Writes a row's half.
-fn stands<D: Disk>(disk: &mut D, row: &Row) -> Result<(), DiskError> {
+fn put_half<D: Disk>(disk: &mut D, row: &Row) -> Result<(), DiskError> {
     disk.write(0, &gate(row.gate))?;
     disk.write(1, &text(&row.text, row.at, row.byte))?;
     disk.write(2, &gate([row.next, 0]))?;
     disk.write(3, &[0; 512])
 }
 
-/// Whether a half is read so.
+/// Whether a row's half is read as the row states.
 fn is_read<D: Disk>(alloc: Global, disk: &mut D, row: &Row) -> bool {
-    if stands(disk, row).is_err() || disk.sectors() < 4 {
+    if put_half(disk, row).is_err() || disk.sectors() < 4 {
         return false;
     }
     match (
@@ -222,7 +222,7 @@ fn is_read<D: Disk>(alloc: Global, disk: &mut D, row: &Row) -> bool {
     }
 }
 
-/// Whether a half is judged as it is read.
+/// Whether a row's half is judged as it is read.
 fn is_judged<D: Disk>(alloc: Global, disk: &mut D, row: &Row) -> bool {
     if disk.sectors() < 4 {
         return false;
@@ -254,7 +254,7 @@ fn a_half_is_read_up_to_its_first_fault(rt: HostRuntime) -> Result<(), Fail> {
     Ok(())
 }
 
-/// A gate in a half's last sector.
+/// Whether an open gate in a half's last sector is damage.
 fn is_last_damaged(alloc: Global) -> Result<bool, AllocError> {
     let mut disk = MemoryDisk::new(alloc, 1, 9)?;
     if disk.write(0, &[1; 512]).is_err() || disk.sectors() < 1 {
@@ -272,7 +272,7 @@ fn an_open_gate_in_the_last_sector_is_damage(rt: HostRuntime) -> Result<(), Fail
     Ok(())
 }
 
-/// A record's bytes by how many there are, with the byte `byte` at the place `at`, and how many commands they are read as.
+/// How many bytes of a record there are, and the byte `byte` at the place `at`; then how many commands they are read as.
 const TEXTS: [(usize, usize, u8, Option<usize>); 8] = [
     (0, 0, 0, None),
     (5, 0, 0, None),
@@ -306,7 +306,7 @@ fn a_record_is_read_from_its_bytes(rt: HostRuntime) -> Result<(), Fail> {
     Ok(())
 }
 
-/// The first text that in a heap with no room is not refused as it should be: only a record's bytes want memory.
+/// The first text that is not refused as it should be in a heap with no room: only a record's bytes take memory.
 fn first_wrongly_refused(alloc: Global) -> Result<Option<usize>, Fail> {
     let heap = LocalHeap::new(alloc, 64)?;
     for k in 0..8 {
@@ -315,11 +315,11 @@ fn first_wrongly_refused(alloc: Global) -> Result<Option<usize>, Fail> {
         let Some(bytes) = sector.get(..len) else {
             return Ok(Some(k));
         };
-        let told = match decode_record(&heap, Form::Plain, bytes) {
+        let is_right = match decode_record(&heap, Form::Plain, bytes) {
             Ok(found) => found.is_none() && want.is_none(),
             Err(_) => want.is_some(),
         };
-        if !told {
+        if !is_right {
             return Ok(Some(k));
         }
     }
@@ -327,7 +327,7 @@ fn first_wrongly_refused(alloc: Global) -> Result<Option<usize>, Fail> {
 }
 
 #[test]
-fn only_a_record_wants_memory(rt: HostRuntime) -> Result<(), Fail> {
+fn only_a_record_takes_memory(rt: HostRuntime) -> Result<(), Fail> {
     assert_eq!(rt; first_wrongly_refused(rt.alloc())?, None);
     Ok(())
 }

@@ -1,5 +1,5 @@
-//! Heaps of rising size: each growth of a replay is refused in turn, all memory comes back, and then another replay gives
-//! all.
+//! Heaps of rising size. Each growth of a replay is refused in turn, and all memory comes back. In a heap of enough room the
+//! replay then gives all records.
 ghost use Rattle.std.specs.Prelude.{◌≡◌, ◌≤◌, ◌+◌};
 
 use crate::made;
@@ -32,7 +32,7 @@ fn add<D: Disk>(journal: &mut Journal<Global>, disk: &mut D, command: &Command<G
     disk.sectors() >= 9 && journal.append(disk, &[command]).is_ok()
 }
 
-/// Nothing where memory is wanted, else whether three records are read.
+/// Whether three records are read; `None` where memory runs out.
 fn are_read<'a, D: Disk>(heap: &'a LocalHeap, disk: &mut D) -> Option<bool> {
     if disk.sectors() < 9 {
         return Some(false);
@@ -43,7 +43,7 @@ fn are_read<'a, D: Disk>(heap: &'a LocalHeap, disk: &mut D) -> Option<bool> {
     }
 }
 
-/// How many heaps were too small before three records were read; nothing where one didn't get all of its memory back.
+/// How many heaps were too small before three records were read; `None` where a heap didn't get all of its memory back.
 fn refused<D: Disk>(alloc: Global, disk: &mut D) -> Result<Option<usize>, Fail> {
     for k in 0..200 {
         let heap = LocalHeap::new(alloc, 18_000 + 16 * k)?;

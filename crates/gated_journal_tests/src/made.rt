@@ -10,7 +10,7 @@ use mm_pdus::Lifetime;
 use registration::{LocationArea, Rule, Station};
 use std::alloc::Global;
 
-/// The first gate of a half, behind no command.
+/// The place of a half with no record, after no command.
 pub fn place(first: u32, sectors: u32, form: Form) -> Place
     ensures { result ≡ record { first = first; end = first + sectors; next = first; form = form; count = 0 } }
 {
@@ -48,7 +48,7 @@ pub fn update(alloc: Global) -> Option<Command<Global>> {
     made(2, Moment::new(10), Body::Mm { itsi, area, pdu })
 }
 
-/// 11 bytes.
+/// An expiry: 11 bytes.
 pub fn expiry() -> Option<Command<Global>> {
     made(3, Moment::new(11), Body::Expire)
 }

@@ -29,8 +29,8 @@ fn numbered(number: u8) -> [u8; 512] {
     bytes
 }
 
-/// Writes a half of six sectors with two records.
-fn stand<D: Disk>(disk: &mut D, first: &[u8; 512], second: &[u8; 512]) -> Result<(), DiskError> {
+/// Writes two records into a half of six sectors.
+fn put_both<D: Disk>(disk: &mut D, first: &[u8; 512], second: &[u8; 512]) -> Result<(), DiskError> {
     disk.write(0, &[1; 512])?;
     disk.write(1, first)?;
     disk.write(2, &[1; 512])?;
@@ -38,7 +38,7 @@ fn stand<D: Disk>(disk: &mut D, first: &[u8; 512], second: &[u8; 512]) -> Result
     disk.write(4, &[0; 512])
 }
 
-/// Whether a half of six sectors, behind so many accepted commands, is read so: how many records, or the sector at fault.
+/// Whether a half of six sectors, after so many accepted commands, is read as wanted: how many records, or the sector at fault.
 fn is_read<D: Disk>(
     alloc: Global,
     disk: &mut D,
@@ -85,7 +85,7 @@ fn is_judged<D: Disk>(
     }
 }
 
-/// Whether a half with these two records is read and judged so.
+/// Whether a half with these two records is read and judged as wanted.
 fn are_read(
     alloc: Global,
     form: Form,
@@ -94,12 +94,12 @@ fn are_read(
     want: Result<usize, u64>,
 ) -> Result<bool, AllocError> {
     let mut disk = MemoryDisk::new(alloc, 6, 99)?;
-    let written = stand(&mut disk, records[0], records[1]).is_ok();
+    let written = put_both(&mut disk, records[0], records[1]).is_ok();
     let read = written && is_read(alloc, &mut disk, form, before, want);
     Ok(read && is_judged(alloc, &mut disk, form, before, want))
 }
 
-/// Behind how many commands, the numbers of two records, and what the half is read as.
+/// How many commands come before the half, the numbers of its two records, and what it is read as.
 const ROWS: [(u8, [u8; 2], Result<usize, u64>); 8] = [
     (0, [1, 2], Ok(2)),
     (4, [5, 6], Ok(2)),
@@ -108,7 +108,7 @@ const ROWS: [(u8, [u8; 2], Result<usize, u64>); 8] = [
     (4, [4, 5], Err(1)),
     (4, [0, 1], Err(1)),
     (0, [1, 3], Err(3)),
-    // The same record again, and a record of before.
+    // The same record again, and an earlier one.
     (0, [1, 1], Err(3)),
     (4, [5, 4], Err(3)),
 ];
@@ -134,9 +134,9 @@ fn a_number_follows_or_is_damage(rt: HostRuntime) -> Result<(), Fail> {
 /// Whether a plain record in a numbered half is damage, and the other way round.
 fn is_other_form_damage(alloc: Global) -> Result<bool, AllocError> {
     let in_numbered = are_read(alloc, Form::Numbered, 0, [&plain(), &plain()], Err(1))?;
-    let behind = are_read(alloc, Form::Numbered, 0, [&numbered(1), &plain()], Err(3))?;
+    let second = are_read(alloc, Form::Numbered, 0, [&numbered(1), &plain()], Err(3))?;
     let in_plain = are_read(alloc, Form::Plain, 0, [&numbered(1), &numbered(2)], Err(1))?;
-    Ok(in_numbered && behind && in_plain)
+    Ok(in_numbered && second && in_plain)
 }
 
 #[test]
@@ -145,8 +145,8 @@ fn a_record_of_the_other_form_is_damage(rt: HostRuntime) -> Result<(), Fail> {
     Ok(())
 }
 
-/// What a record of one command tells: the number of its first command, and how many there are.
-fn told(
+/// What a record of one command states: the number of its first command, and how many there are.
+fn stated(
     alloc: Global,
     form: Form,
     bytes: &[u8],
@@ -157,17 +157,17 @@ fn told(
     }
 }
 
-fn are_told(alloc: Global) -> Result<bool, AllocError> {
+fn are_stated(alloc: Global) -> Result<bool, AllocError> {
     let numbered = numbered(9);
     let plain = plain();
-    let number = told(alloc, Form::Numbered, &numbered)? == Some((Some(9), 1));
-    let none = told(alloc, Form::Plain, &plain)? == Some((None, 1));
-    let neither = told(alloc, Form::Plain, &numbered)?.is_none();
-    Ok(number && none && neither && told(alloc, Form::Numbered, &plain)?.is_none())
+    let number = stated(alloc, Form::Numbered, &numbered)? == Some((Some(9), 1));
+    let none = stated(alloc, Form::Plain, &plain)? == Some((None, 1));
+    let neither = stated(alloc, Form::Plain, &numbered)?.is_none();
+    Ok(number && none && neither && stated(alloc, Form::Numbered, &plain)?.is_none())
 }
 
 #[test]
-fn a_record_tells_its_number(rt: HostRuntime) -> Result<(), Fail> {
-    assert!(rt; are_told(rt.alloc())?);
+fn a_record_states_its_number(rt: HostRuntime) -> Result<(), Fail> {
+    assert!(rt; are_stated(rt.alloc())?);
     Ok(())
 }

@@ -8,7 +8,7 @@ use sector_disk::{Disk, DiskError, Failing, FailingDisk, MemoryDisk};
 use std::alloc::{AllocError, Global};
 use std::test::Fail;
 
-/// The front of the data sector of a record of a rule's command.
+/// How the data sector of a record of a rule's command begins.
 const RULE_TEXT: [u8; 33] = [
     0, 1, 0, 0, 0, 27, 0, 1, 0, 0, 0, 1, 0, 0, 0, 0, 1, 0x18, 0x3a, 0x80, 0x0e, 0, 0, 0, 0, 1, 0,
     0x63, 1, 0, 0, 0x0e, 0x10,
@@ -20,7 +20,7 @@ const NUMBERED_TEXT: [u8; 41] = [
     0x0e, 0, 0, 0, 0, 1, 0, 0x63, 1, 0, 0, 0x0e, 0x10,
 ];
 
-/// The first bytes of a record of 27, 23 and 11 bytes.
+/// The first bytes of a record of three commands, of 27, 23 and 11 bytes.
 const THREE_HEAD: [u8; 6] = [0, 3, 0, 0, 0, 61];
 
 /// The same with the number of its first command, the first of all.
@@ -35,7 +35,8 @@ fn begins<D: Disk>(disk: &mut D, at: u64, head: &[u8]) -> Result<bool, DiskError
 /// A record as it is read: its first data sector and its commands.
 type Entry = (u64, Vec<Command<Global>>);
 
-/// Whether a half of 39 sectors is read as these: of each the first data sector, how many commands, and the last one's sequence.
+/// Whether a half of 39 sectors is read as these records: of each its first data sector, how many commands it has, and the last
+/// one's sequence.
 fn reads_as<D: Disk>(alloc: Global, disk: &mut D, form: Form, want: &[(u64, usize, u32)]) -> bool {
     if disk.sectors() < 39 {
         return false;
@@ -123,7 +124,7 @@ fn one_is_recorded<D: Disk>(
     Ok(before && added && reads_the_rule(alloc, disk, form))
 }
 
-fn stands<D: Disk>(disk: &mut D, text: &[u8]) -> Result<bool, DiskError> {
+fn is_there<D: Disk>(disk: &mut D, text: &[u8]) -> Result<bool, DiskError> {
     Ok(begins(disk, 0, &[1])? && begins(disk, 1, text)? && begins(disk, 2, &[0; 512])?)
 }
 
@@ -134,7 +135,7 @@ fn is_recorded(
     text: &[u8],
 ) -> Result<bool, AllocError> {
     let mut disk = MemoryDisk::new(alloc, 39, 99)?;
-    Ok(one_is_recorded(alloc, &mut disk, rule, form)? && stands(&mut disk, text) == Ok(true))
+    Ok(one_is_recorded(alloc, &mut disk, rule, form)? && is_there(&mut disk, text) == Ok(true))
 }
 
 #[test]
@@ -145,7 +146,8 @@ fn one_command_in_one_record(rt: HostRuntime) -> Result<(), Fail> {
     Ok(())
 }
 
-/// Whether a journal that begins anew judges what is there, reads the one record of a rule's command, and stays at the closed gate.
+/// Whether a journal that starts again judges what is there, reads the one record of a rule's command, and stays at the closed
+/// gate.
 fn goes_through<D: Disk>(alloc: Global, disk: &mut D, form: Form) -> Option<bool> {
     if disk.sectors() < 39 {
         return None;
@@ -170,7 +172,7 @@ fn records_are_read_one_by_one(rt: HostRuntime) -> Result<(), Fail> {
     Ok(())
 }
 
-/// Adds 19 records; then there is room for none.
+/// Adds 19 records, and returns whether there is then no more room.
 fn is_filled<D: Disk>(
     journal: &mut Journal<Global>,
     disk: &mut D,
@@ -214,7 +216,7 @@ fn a_full_journal_writes_nothing(rt: HostRuntime) -> Result<(), Fail> {
     Ok(())
 }
 
-/// What a stop leaves of one record whose gate was written and not synced: byte 0 of the gate, and whether the record counts.
+/// Whether a record whose gate was written and not synced counts after a stop exactly where the stop leaves 1 in the gate.
 fn counts(alloc: Global, rule: &Command<Global>, gate: u8) -> Result<bool, AllocError> {
     let mut disk = FailingDisk::new(MemoryDisk::new(alloc, 39, 99)?, 5, Failing::Once);
     let mut journal = Journal::start(alloc, 0, 39, Form::Plain, 0)?;
@@ -283,7 +285,7 @@ fn the_longest_commands_take_36_sectors(rt: HostRuntime) -> Result<(), Fail> {
     Ok(())
 }
 
-/// Whether a half of so many sectors has room for a record of these.
+/// Whether a half of so many sectors has room for a record of these commands.
 fn has_room(
     alloc: Global,
     sectors: u32,
@@ -296,8 +298,8 @@ fn has_room(
     Ok(journal.has_room(commands))
 }
 
-/// One short command takes one data sector, and 64 of the longest take 36; two more are gates.
-fn is_room_told(alloc: Global, form: Form) -> Result<bool, Fail> {
+/// Whether one short command takes one data sector, and 64 of the longest take 36. Two more sectors are gates.
+fn is_room_known(alloc: Global, form: Form) -> Result<bool, Fail> {
     let expiry = made::expiry().ok_or("an expiry")?;
     let longest = made::longest(alloc).ok_or("a short data PDU")?;
     let short = has_room(alloc, 3, form, &[&expiry])? && !has_room(alloc, 2, form, &[&expiry])?;
@@ -307,8 +309,8 @@ fn is_room_told(alloc: Global, form: Form) -> Result<bool, Fail> {
 }
 
 #[test]
-fn room_is_told_before_an_append(rt: HostRuntime) -> Result<(), Fail> {
-    assert!(rt; is_room_told(rt.alloc(), Form::Plain)?);
-    assert!(rt; is_room_told(rt.alloc(), Form::Numbered)?);
+fn room_is_known_before_an_append(rt: HostRuntime) -> Result<(), Fail> {
+    assert!(rt; is_room_known(rt.alloc(), Form::Plain)?);
+    assert!(rt; is_room_known(rt.alloc(), Form::Numbered)?);
     Ok(())
 }

@@ -96,7 +96,7 @@ held_if : (b : Bool) (x y : Option Attached) → held (cond b x y) ≡ cond b (h
 held_if true x y = refl
 held_if false x y = refl
 
--- what stands under a path once a list was placed
+-- what is under a path once a list was placed
 under_placed : (f : Filed) (p : Path) (list : Attached) (q : Path) → under (placed f p list) q ≡ cond (eq_by_cmp path_cmp q p) list (under f q)
 under_placed f p list q =
     (elim (finite.len list == 0) as (λ b. (finite.len list == 0) ≡ b → under (cond b (finite.remove f p) (finite.insert f p list)) q ≡ cond (eq_by_cmp path_cmp q p) list (under f q)) [

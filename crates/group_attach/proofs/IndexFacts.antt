@@ -1,4 +1,4 @@
--- What an index makes of its attachments, told of plain values.
+-- What an index makes of its attachments, stated of plain values.
 use Rattle.std.proofs.Common.{◌≡◌, ℕ, ◌<◌, ◌^◌, false, cond, List, [], length, Option, Some, None, Result, Ok, Err, take, get_or, ◌+◌, refl, sym, ap, ◌∙◌, subst, arith}
 use Rattle.std.specs.Prelude.{◌==◌, IsSome, IfOk, OnOk, OnErr, if◌then◌else◌}
 use Rattle.std.specs.Option.{option_map}
@@ -11,7 +11,7 @@ use Rattle.group_attach.specs.declared.attachment.Attachment.{Attachment}
 use Rattle.mm_pdus.specs.declared.update.LocationUpdateType.{LocationUpdateType}
 use Rattle.group_attach.specs.declared.ending.Ending.{Ending}
 use Rattle.group_attach.specs.Attached.{Attached, Pair, Usage, pair_cmp, no_groups, attachment_of, attachment_at, listed, pair_of, attached}
-use Rattle.group_attach.specs.Inside.Filed.{Filed, under, held, placed, gathered, AllHave, IsFiled, part_of, ended, left_where, all_left, left_if_ended, all_ended}
+use Rattle.group_attach.specs.Inside.Filed.{Filed, under, held, placed, gathered, AllHave, IsFiled, part_of, ended, left_unless, all_left, left_if_ended, all_ended}
 use Rattle.group_attach.proofs.Filtered.{listed_map, map_of_nothing}
 use Rattle.group_attach.proofs.Endings.{ended_usage}
 use Rattle.group_attach.proofs.FiledFacts.{absent_not}
@@ -22,9 +22,9 @@ nothing_listed = sym (listed_map [] refl) ∙ ap listed map_of_nothing
 
 -- one attachment further
 pub left_more : (list : List Attachment) (m now new : Attached) (old : List Attachment) (i : ℕ) (a : Attachment)
-    → i < length old → a ≡ get_or old i a → now ≡ all_left m (take i old) list → new ≡ left_where list now a → new ≡ all_left m (take (i + 1) old) list
+    → i < length old → a ≡ get_or old i a → now ≡ all_left m (take i old) list → new ≡ left_unless list now a → new ≡ all_left m (take (i + 1) old) list
 left_more list m now new old i a lt read so_far is =
-    is ∙ (λ j. left_where list (so_far j) (read j)) ∙ sym (fold_more (left_where list) m old i a lt)
+    is ∙ (λ j. left_unless list (so_far j) (read j)) ∙ sym (fold_more (left_unless list) m old i a lt)
 
 pub ended_more : (update : LocationUpdateType) (m now new : Attached) (list : List Attachment) (i : ℕ) (a : Attachment)
     → i < length list → a ≡ get_or list i a → now ≡ all_ended update m (take i list) → new ≡ left_if_ended update now a → new ≡ all_ended update m (take (i + 1) list)

@@ -11,7 +11,7 @@ use Rattle.group_attach.specs.declared.attachment.Attachment.{Attachment}
 use Rattle.group_attach.specs.Attached.{Pair, Usage, Attached, pair_cmp, attachment_of, entry_of, listed, pair_of, attached, all_attached}
 use Rattle.group_attach.specs.Applied.{is_dropped}
 use Rattle.group_attach.specs.Inside.ListedMap.{map_of}
-use Rattle.group_attach.specs.Inside.Filed.{has_pair, left_where, all_left, left_if_ended, all_ended, set_back}
+use Rattle.group_attach.specs.Inside.Filed.{has_pair, left_unless, all_left, left_if_ended, all_ended, set_back}
 use Rattle.group_attach.proofs.Pairs.{pairs_total, pairs_exact}
 use Rattle.group_attach.proofs.Counting.{same_pair}
 use Rattle.group_attach.proofs.Filtered.{left, right}
@@ -88,8 +88,8 @@ gone_from : (q : Pair) (list : List Attachment) (es : List (Pair × Usage)) (m :
     → finite.get (all_left m (map attachment_of es) list) q ≡ cond (is_some (find pair_cmp q es) && not (is_some (finite.get (map_of list) q))) None (finite.get m q)
 gone_from q list [] m = refl
 gone_from q list (e ∷ es) m =
-    gone_from q list es (left_where list m (attachment_of e))
-    ∙ (elim (eq_by_cmp pair_cmp q e.0) as (λ b. eq_by_cmp pair_cmp q e.0 ≡ b → cond (is_some (find pair_cmp q es) && not (is_some (finite.get (map_of list) q))) None (finite.get (left_where list m (attachment_of e)) q) ≡ cond (is_some (cond b (Some e.1) (find pair_cmp q es)) && not (is_some (finite.get (map_of list) q))) None (finite.get m q)) [
+    gone_from q list es (left_unless list m (attachment_of e))
+    ∙ (elim (eq_by_cmp pair_cmp q e.0) as (λ b. eq_by_cmp pair_cmp q e.0 ≡ b → cond (is_some (find pair_cmp q es) && not (is_some (finite.get (map_of list) q))) None (finite.get (left_unless list m (attachment_of e)) q) ≡ cond (is_some (cond b (Some e.1) (find pair_cmp q es)) && not (is_some (finite.get (map_of list) q))) None (finite.get m q)) [
       | true ↦ λ same.
           ap (λ k. cond (is_some (find pair_cmp q es) && not (is_some (finite.get (map_of list) q))) None (finite.get (cond (is_some (finite.get (map_of list) k)) m (finite.remove m e.0)) q)) (sym (tie q e.0 same))
           ∙ step_gone (is_some (find pair_cmp q es)) (is_some (finite.get (map_of list) q)) m e q same

@@ -16,7 +16,7 @@ exact_by p q Less e is = absurd cc
 exact_by p q Equal e is = λ i. (finite.nat_cmp-IsAntisymmetric p.0 q.0 e i, finite.nat_cmp-IsAntisymmetric p.1 q.1 is i)
 exact_by p q Greater e is = absurd cc
 
--- only one pair stands at a place
+-- only one pair is at a place
 pub pairs_exact : (p q : Pair) → pair_cmp p q ≡ Equal → p ≡ q
 pairs_exact p q e = exact_by p q (nat_cmp p.0 q.0) refl e
 

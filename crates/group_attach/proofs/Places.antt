@@ -1,4 +1,4 @@
--- Where a radio's attachment to a group stands in the list in order, or would go, and what an edit there makes of the map.
+-- Where a radio's attachment to a group is in the list in order, or would go, and what an edit there makes of the map.
 use Rattle.std.proofs.Common.{◌≡◌, ℕ, zero, suc, ◌<◌, ◌≤◌, ◌-◌, Bool, true, false, List, [], ◌∷◌, length, map, get_or, set, Some, None, Result, Ok, Err, refl, sym, ap, ◌∙◌, subst, arith}
 use Rattle.std.specs.Prelude.{◌&&◌, IsSome}
 use Rattle.std.specs.declared.cmp.Ordering.{Ordering}
@@ -42,7 +42,7 @@ at_most_two Less = omega arith
 at_most_two Equal = omega arith
 at_most_two Greater = omega arith
 
--- a pair before another stands no higher to q
+-- a pair before another one compares no higher with q
 earlier : (x y q : Pair) → pair_cmp x y ≡ Less → ordering_index (pair_cmp x q) ≤ ordering_index (pair_cmp y q)
 earlier x y q less =
     elim (pair_cmp y q) as (λ o. pair_cmp y q ≡ o → ordering_index (pair_cmp x q) ≤ ordering_index o) [
@@ -54,7 +54,7 @@ earlier x y q less =
 abbrev pub usage_of : Attachment → Usage
 usage_of a = (a.class, a.lifetime)
 
--- the attachment of q stands at place i
+-- the attachment of q is at place i
 pub record IsAt (es : List Attachment) (q : Pair) (i : ℕ) : Type 0 where
   pub in_range : i < length es
   pub here : (d : Attachment) → pair_of (get_or es i d) ≡ q
@@ -91,14 +91,14 @@ no_higher Less le = refl
 no_higher Equal le = absurd (omega (arith, le))
 no_higher Greater le = absurd (omega (arith, le))
 
--- behind a last attachment that comes before q all do
-pub behind_all : (es : List Attachment) (q : Pair) → 0 < length es → HoldsAt (λ a. pair_cmp (pair_of a) q ≡ Less) es (length es - 1) → IsBinarySearchResult (λ a. pair_cmp (pair_of a) q) es (Err (length es))
-behind_all es q some last = λ rises. (
+-- after a last attachment that comes before q all do
+pub after_all : (es : List Attachment) (q : Pair) → 0 < length es → HoldsAt (λ a. pair_cmp (pair_of a) q ≡ Less) es (length es - 1) → IsBinarySearchResult (λ a. pair_cmp (pair_of a) q) es (Err (length es))
+after_all es q some last = λ rises. (
   (λ j d low lt. no_higher (pair_cmp (pair_of (get_or es j d)) q) (subst (λ o. ordering_index (pair_cmp (pair_of (get_or es j d)) q) ≤ ordering_index o) (last d) (rises j (length es - 1) d (omega (arith, lt)) (omega (arith, some))))),
   (λ j d le lt. absurd (omega (arith, le, lt))),
 )
 
--- a search in the list l, which is es, ends where q stands or at the gap for it
+-- a search in the list l, which is es, ends where q is or at the gap for it
 pub found_at : (es l : List Attachment) (q : Pair) (i : ℕ) → l ≡ es → i < length l → HoldsAt (λ a. pair_cmp (pair_of a) q ≡ Equal) l i → IsAt es q i
 found_at es l q i same in_range equal = subst (λ z. IsAt z q i) same (record { in_range = in_range; here = λ d. pairs_exact _ _ (equal d) })
 
@@ -187,21 +187,21 @@ has_found es q i d order at = finite.get-from_sorted pair_cmp (map entry_of es) 
 pub has_none : (es : List Attachment) (q : Pair) (i : ℕ) → IsInOrder es → IsGap es q i → finite.get (map_of es) q ≡ None
 has_none es q i order gap = finite.get-from_sorted pair_cmp (map entry_of es) q (to_T _ order) ∙ find_gap es q i gap
 
--- a search tells whether the map has q
+-- a search reports whether the map has q
 pub has_at : (es l : List Attachment) (q : Pair) (r : Result ℕ ℕ) → l ≡ es → IsInOrder es → IsSearchInRange r (length l) → IsBinarySearchResult (λ a. pair_cmp (pair_of a) q) l r → is_ok r ≡ is_some (finite.get (map_of es) q)
 has_at es [] q (Ok i) same order within place = absurd (omega (arith, within))
 has_at es (a ∷ l) q (Ok i) same order within place = sym (ap is_some (has_found es q i a order (found_at es (a ∷ l) q i same within place)))
 has_at es l q (Err i) same order within place = sym (ap is_some (has_none es q i order (gap_at es l q i same order within place)))
 
 -- the attachment that a search finds, and that it finds none
-pub tells_found : (es : List Attachment) (q : Pair) (i : ℕ) (a : Attachment) → IsInOrder es → IsAt es q i → a ≡ get_or es i a → Some a ≡ option_map (λ usage. attachment_of (q, usage)) (finite.get (map_of es) q)
-tells_found es q i a order at is =
+pub reports_found : (es : List Attachment) (q : Pair) (i : ℕ) (a : Attachment) → IsInOrder es → IsAt es q i → a ≡ get_or es i a → Some a ≡ option_map (λ usage. attachment_of (q, usage)) (finite.get (map_of es) q)
+reports_found es q i a order at is =
     let here : pair_of a ≡ q = ap pair_of is ∙ at.here a in
     let there : finite.get (map_of es) q ≡ Some (usage_of a) = has_found es q i a order at ∙ ap (λ (x : Attachment). Some (usage_of x)) (sym is) in
     (λ j. Some (attachment_of (here j, usage_of a))) ∙ ap (option_map (λ usage. attachment_of (q, usage))) (sym there)
 
-pub tells_none : (es : List Attachment) (q : Pair) (i : ℕ) → IsInOrder es → IsGap es q i → None ≡ option_map (λ usage. attachment_of (q, usage)) (finite.get (map_of es) q)
-tells_none es q i order gap = ap (option_map (λ usage. attachment_of (q, usage))) (sym (has_none es q i order gap))
+pub reports_none : (es : List Attachment) (q : Pair) (i : ℕ) → IsInOrder es → IsGap es q i → None ≡ option_map (λ usage. attachment_of (q, usage)) (finite.get (map_of es) q)
+reports_none es q i order gap = ap (option_map (λ usage. attachment_of (q, usage))) (sym (has_none es q i order gap))
 
 -- where there is a gap, the map has nothing
 pub not_in_gap : (es : List Attachment) (q : Pair) (i : ℕ) → IsInOrder es → IsGap es q i → IsSome (finite.get (map_of es) q) → ⊥

@@ -1,4 +1,4 @@
--- What holds of the attachments of every register.
+-- What always holds of the attachments.
 use Rattle.std.specs.Prelude.{◌≡◌, ◌≤◌, List, None, IsSome}
 use Rattle.std.specs.FinMap as finite
 use Rattle.identity.specs.Numbers.{Itsi, Gtsi}
@@ -17,7 +17,7 @@ AllGroupsFit m = (itsi : Itsi) → finite.len (of_radio m itsi) ≤ most_of_radi
 abbrev pub AreKnown : Registered → Attached → Type 0
 AreKnown s m = (itsi : Itsi) (gtsi : Gtsi) → IsSome (finite.get m (itsi, gtsi)) → IsSome (radio_of s itsi)
 
--- both
+-- both of these
 abbrev pub AreAllowed : Registered → Attached → Type 0
 AreAllowed s m = AllGroupsFit m × AreKnown s m
 

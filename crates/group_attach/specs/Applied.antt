@@ -1,11 +1,12 @@
--- What a location update and a group PDU make of the attachments, and how the PDU is answered.
+-- How a location update and a group PDU change the attachments, and how the PDU is answered.
 use Rattle.std.specs.Prelude.{ℕ, ◌==◌, nat_lt, Bool, true, false, ◌&&◌, not, List, [], ◌∷◌, length, Option, Some, None, if◌then◌else◌}
 use Rattle.std.specs.List.{filter, filter_map, fold}
 use Rattle.std.specs.FinMap as finite
 use Rattle.identity.specs.Numbers.{Itsi}
 use Rattle.mm_pdus.specs.Numbers.{Class}
 use Rattle.mm_pdus.specs.declared.update.LocationUpdateType.{LocationUpdateType}
-use Rattle.mm_pdus.specs.declared.update.LocationUpdateType.TheVariants.{Roaming, Migrating, Periodic, ItsiAttach, ServiceRestorationRoaming, ServiceRestorationMigrating, Demand, DisabledMs}
+use Rattle.mm_pdus.specs.declared.update.LocationUpdateType.TheVariants.{Roaming, Migrating, Periodic, ItsiAttach, Demand, DisabledMs}
+use Rattle.mm_pdus.specs.declared.update.LocationUpdateType.TheVariants.{ServiceRestorationRoaming, ServiceRestorationMigrating}
 use Rattle.mm_pdus.specs.declared.lifetime.Lifetime.{Lifetime}
 use Rattle.mm_pdus.specs.declared.lifetime.Lifetime.TheVariants.{NotNeeded, NextItsiAttach, NotAllowedAtNextItsiAttach, NextLocationUpdate}
 use Rattle.mm_pdus.specs.declared.address.GroupAddress.{GroupAddress}
@@ -29,21 +30,21 @@ use Rattle.group_attach.specs.Attached.{Attached, Pair, Usage, entry_of, of_radi
 abbrev pub passing : (Pair × Usage → Bool) → Attached → Attached
 passing test m = finite.from_sorted (filter test (finite.entries m))
 
--- the lifetimes that an ITSI attach ends, and those that the other location updates end which are no periodic one
+-- the lifetimes that an ITSI attach ends
 abbrev pub ends_at_attach : Lifetime → Bool
 ends_at_attach NotNeeded = false
 ends_at_attach NextItsiAttach = true
 ends_at_attach NotAllowedAtNextItsiAttach = true
 ends_at_attach NextLocationUpdate = true
 
--- the one lifetime that other location updates end too, but no periodic one
+-- the one lifetime that any other location update ends, except a periodic one
 abbrev pub ends_at_update : Lifetime → Bool
 ends_at_update NotNeeded = false
 ends_at_update NextItsiAttach = false
 ends_at_update NotAllowedAtNextItsiAttach = false
 ends_at_update NextLocationUpdate = true
 
--- whether an accepted update of this type ends an attachment; migration and the update of a disabled radio are never accepted
+-- whether an accepted update of this type ends an attachment of this lifetime; migration and the update of a disabled radio are never accepted
 abbrev pub is_dropped : LocationUpdateType → Lifetime → Bool
 is_dropped Roaming lifetime = ends_at_update lifetime
 is_dropped Migrating lifetime = false
@@ -62,16 +63,16 @@ is_ended itsi update e = (e.0.0 == itsi) && is_dropped update e.1.1
 abbrev pub after_update : Attached → Itsi → LocationUpdateType → Attached
 after_update m itsi update = passing (λ e. not (is_ended itsi update e)) m
 
--- all but the radio's
+-- the attachments of all other radios
 abbrev pub without_radio : Attached → Itsi → Attached
 without_radio m itsi = finite.retain_keys m (λ pair. not (pair.0 == itsi))
 
--- a group without a rule is not attached; one that has a rule is, for the rule's lifetime and in place of how it was before
+-- a group with a rule is attached for the rule's lifetime, in place of any attachment before; a group without a rule is not
 abbrev pub attached_by : Attached → Pair → Class → Option Rule → Attached
 attached_by m pair class None = m
 attached_by m pair class (Some rule) = finite.insert m pair (class, rule.lifetime)
 
--- what one item of a radio's PDU makes of the attachments
+-- the attachments after one item of a radio's PDU
 abbrev pub changed_by : Registered → Itsi → Attached → GroupUp → Attached
 changed_by s itsi m (up.Attach class address) = attached_by m (itsi, gtsi_of address itsi) class (rule_of s (gtsi_of address itsi))
 changed_by s itsi m (up.Leave reason address) = finite.remove m (itsi, gtsi_of address itsi)
@@ -107,7 +108,7 @@ most_of_radio = 32
 abbrev pub absent_refusal : Registered → ℕ → Option GroupFault
 absent_refusal s itsi = if is_present (radio_of s itsi) then None else Some NotAttached
 
--- so many groups are more than a radio may be attached to
+-- a radio may not be attached to so many groups
 abbrev pub crowd_refusal : ℕ → Option GroupFault
 crowd_refusal groups = refused_if (nat_lt most_of_radio groups) TooManyGroups
 

@@ -28,7 +28,7 @@ Usage = Class × Lifetime
 abbrev pub Attached : Type 0
 Attached = finite.FinMap pair_cmp Usage
 
--- how it is stored, for proofs
+-- its coding, for proofs
 abbrev pub coded_attached : Coded Attached
 coded_attached = finite.code (coded× coded_ℕ coded_ℕ) (coded× coded_ℕ (lifetime.the_row).coded)
 
@@ -36,7 +36,7 @@ coded_attached = finite.code (coded× coded_ℕ coded_ℕ) (coded× coded_ℕ (l
 abbrev pub no_groups : Attached
 no_groups = finite.empty
 
--- an entry of the map as an attachment, and back
+-- an entry of the map as an attachment
 abbrev pub attachment_of : Pair × Usage → Attachment
 attachment_of e = record { itsi = e.0.0; gtsi = e.0.1; class = e.1.0; lifetime = e.1.1 }
 
@@ -52,7 +52,7 @@ attachment_at m pair = option_map (λ usage. attachment_of (pair, usage)) (finit
 abbrev pub listed : Attached → List Attachment
 listed m = map attachment_of (finite.entries m)
 
--- those of one radio, and those to one group
+-- the attachments of one radio
 abbrev pub of_radio : Attached → Itsi → Attached
 of_radio m itsi = finite.retain_keys m (λ pair. pair.0 == itsi)
 
@@ -60,7 +60,7 @@ of_radio m itsi = finite.retain_keys m (λ pair. pair.0 == itsi)
 abbrev pub of_group : Attached → Gtsi → Attached
 of_group m gtsi = finite.retain_keys m (λ pair. pair.1 == gtsi)
 
--- a radio's attachments by group, and a group's by radio
+-- a radio's attachments, by group
 abbrev pub groups_of : Attached → Itsi → List Attachment
 groups_of m itsi = listed (of_radio m itsi)
 
@@ -72,10 +72,10 @@ members_of m gtsi = listed (of_group m gtsi)
 abbrev pub pair_of : Attachment → Pair
 pair_of a = (a.itsi, a.gtsi)
 
--- an attachment is there as this one
+-- with this attachment, in place of any of its pair
 abbrev pub attached : Attached → Attachment → Attached
 attached m a = finite.insert m (pair_of a) (a.class, a.lifetime)
 
--- those of a list, one after another
+-- with all attachments of a list, one after another
 abbrev pub all_attached : Attached → List Attachment → Attached
 all_attached m list = fold attached m list

@@ -9,9 +9,9 @@ use mm_pdus::{ClassOfUsage, DetachReason, GroupAddress, GroupDown, GroupItems, G
 use registration::{Registry, Rule};
 use std::alloc::{AllocError, Allocator};
 
-/// The acknowledgement of a radio's group PDU: the items that attach, in order, each in the address
-/// form that it came in. An attach to a group without a rule is rejected as to an unknown group, any
-/// other one has the rule's lifetime. It fails only for want of memory.
+/// The acknowledgement of a radio's group PDU: one answer for each item that attaches, in order, with
+/// the address as it came. An attach to a group without a rule is rejected as unknown. Any other one
+/// gets the rule's lifetime. It fails only when memory runs out.
 pub fn answers<C: Allocator, R: Allocator + Clone, B: Allocator>(
     alloc: C,
     registry: &Registry<R>,

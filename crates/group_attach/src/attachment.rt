@@ -10,7 +10,7 @@ pub struct Attachment {
     pub itsi: Itsi,
     /// The group.
     pub gtsi: Gtsi,
-    /// In which way the radio takes part.
+    /// How the radio takes part.
     pub class: ClassOfUsage,
     /// How long it stays attached.
     pub lifetime: Lifetime,

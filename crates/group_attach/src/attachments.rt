@@ -58,7 +58,7 @@ impl<A: Allocator> AttachmentList<A> {
         Ok(list)
     }
 
-    /// These attachments, which are in order.
+    /// A list of these attachments, which must be in order.
     pub(crate) fn from_slice(alloc: A, attachments: &[Attachment]) -> Result<Self, AllocError>
         requires { IsInOrder attachments.now }
         ensures { IfOk result (λ list. list ≡ map_of attachments.now) }
@@ -83,7 +83,7 @@ impl<A: Allocator> AttachmentList<A> {
         self.as_slice().is_empty()
     }
 
-    /// Adds the attachment, or replaces the one of the same radio and group, which it answers. The latter takes no
+    /// Adds the attachment, or replaces the one of the same radio and group and returns that one. Replacing takes no
     /// memory.
     pub(crate) fn attach(
         &mut self,
@@ -97,7 +97,7 @@ impl<A: Allocator> AttachmentList<A> {
         attach(&mut self.entries, attachment)
     }
 
-    /// The list with the attachment added or replaced as `attach` does, or as it was for want of memory.
+    /// What `attach` returns, and the list after it. The list is as it was when memory runs out.
     pub(crate) fn with(
         mut self,
         attachment: Attachment,
@@ -111,7 +111,7 @@ impl<A: Allocator> AttachmentList<A> {
         (attached, Some(self))
     }
 
-    /// What is left of it where this ends, if that is anything. It takes no memory.
+    /// The list without what this ends, or `None` if it is then empty. It takes no memory.
     pub(crate) fn ended(mut self, itsi: Itsi, ending: Ending) -> Option<Self>
         ensures { result ≡ unless_empty (ended self itsi ending) }
     {
@@ -138,7 +138,7 @@ impl<A: Allocator> AttachmentList<A> {
     }
 }
 
-/// The attachments of a list that may not be there, in order.
+/// The attachments of a list in order; none where there is no list.
 pub(crate) fn slice_of<A: Allocator>(list: Option<&AttachmentList<A>>) -> &[Attachment]
     ensures items { result.now ≡ listed (held (option_copied list.entry)) }
     ensures in_order { IsInOrder result.now }

@@ -1,4 +1,4 @@
-//! How many groups a radio will have, told without a change and without memory.
+//! How many groups a radio will have, counted without a change and without memory.
 
 ghost use Rattle.std.specs.Prelude.{◌≡◌, ◌==◌, ◌<◌, ◌≤◌, ◌+◌, ◌^◌, length};
 ghost use Rattle.std.specs.List.{fold};

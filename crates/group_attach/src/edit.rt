@@ -1,4 +1,4 @@
-//! What changes the list of attachments.
+//! The changes of the list of attachments.
 
 ghost use Rattle.std.specs.Prelude.{◌≡◌, ◌==◌, ◌<◌, ◌≤◌, ◌+◌, ◌&&◌, not, length, vec_len, vec_capacity, IsSome, IsOk, IfOk, OnOk, OnErr};
 ghost use Rattle.std.specs.List.{filter};
@@ -15,7 +15,7 @@ use mm_pdus::{GroupMode, GroupUp, Lifetime, LocationUpdateType};
 use registration::Registry;
 use std::alloc::{AllocError, Allocator};
 
-// What a group PDU makes of the attachments. There is room for its items.
+// Changes the attachments as a group PDU asks. There must be room for its items.
 pub(crate) fn change_all<A: Allocator, R: Allocator + Clone>(
     entries: &mut Vec<Attachment, A>,
     registry: &Registry<R>,
@@ -34,7 +34,7 @@ pub(crate) fn change_all<A: Allocator, R: Allocator + Clone>(
     }
 }
 
-// What the mode makes of them.
+// Changes them as the mode asks, before the first item.
 fn start<A: Allocator>(entries: &mut Vec<Attachment, A>, itsi: Itsi, mode: GroupMode)
     requires in_order { IsInOrder entries.old.items }
     ensures in_order { IsInOrder entries.new.items }
@@ -48,7 +48,7 @@ fn start<A: Allocator>(entries: &mut Vec<Attachment, A>, itsi: Itsi, mode: Group
     }
 }
 
-// What one item makes of them. There is room for it.
+// Changes them as one item asks. There must be room for it.
 fn change<A: Allocator, R: Allocator + Clone>(
     entries: &mut Vec<Attachment, A>,
     registry: &Registry<R>,
@@ -80,8 +80,8 @@ fn change<A: Allocator, R: Allocator + Clone>(
     }
 }
 
-// The attachment in its place, and the one that was there before. It takes memory only where its pair is new and
-// there is no room.
+// Puts the attachment in its place, and returns the one that was there. It takes memory only where its pair is new
+// and there is no room.
 pub(crate) fn attach<A: Allocator>(
     entries: &mut Vec<Attachment, A>,
     attachment: Attachment,
@@ -109,7 +109,7 @@ pub(crate) fn attach<A: Allocator>(
     }
 }
 
-// Without the radio's attachment to the group.
+// Removes the radio's attachment to the group.
 pub(crate) fn leave<A: Allocator>(entries: &mut Vec<Attachment, A>, itsi: Itsi, gtsi: Gtsi)
     requires in_order { IsInOrder entries.old.items }
     ensures in_order { IsInOrder entries.new.items }
@@ -130,7 +130,7 @@ fn leave_all<A: Allocator>(entries: &mut Vec<Attachment, A>, itsi: Itsi)
     entries.retain(|attachment| attachment.itsi != itsi);
 }
 
-// What an accepted location update makes of them.
+// Removes those that an accepted location update of the radio ends.
 pub(crate) fn drop_ended<A: Allocator>(
     entries: &mut Vec<Attachment, A>,
     itsi: Itsi,

@@ -26,7 +26,7 @@ use registration::Registry;
 use std::alloc::{AllocError, Allocator};
 use std::marker::Model;
 
-/// To how many groups a radio may be attached.
+/// How many groups a radio may be attached to.
 pub const MOST_OF_RADIO: usize = 32;
 
 /// Which groups each radio is attached to, at most once to each.
@@ -73,22 +73,22 @@ impl<A: Allocator> Groups<A> {
         Vec::from_slice(alloc, self.attachments(itsi))
     }
 
-    /// The same, lent.
+    /// A radio's attachments in order of their groups, borrowed.
     pub fn attachments(&self, itsi: Itsi) -> &[Attachment]
         ensures { result.now ≡ groups_of self.now itsi }
     {
         self.by_radio.part(itsi.number())
     }
 
-    /// The radio's first attachment after this group, in order of the groups, also where it has none to this one, or
-    /// its first of all. It takes no memory.
+    /// The radio's first attachment after this group in order of the groups, or its first of all for `None`. The radio
+    /// need not be attached to this group. It takes no memory.
     pub fn next_of(&self, itsi: Itsi, after: Option<Gtsi>) -> Option<Attachment>
         ensures { result ≡ next_of nat_cmp (λ a. a.gtsi) (groups_of self.now itsi) after }
     {
         first_after(self.attachments(itsi), after).copied()
     }
 
-    /// The attachments to a group in order of their radios, be these present or not.
+    /// The attachments to a group in order of their radios, present or not.
     pub fn members_of<C: Allocator>(
         &self,
         alloc: C,
@@ -99,9 +99,9 @@ impl<A: Allocator> Groups<A> {
         Vec::from_slice(alloc, self.by_group.part(gtsi.number()))
     }
 
-    /// An accepted location update of the radio ends attachments by their lifetime (clause 16.4): an
-    /// ITSI attach all but those for which none is needed, a periodic update none, and another update
-    /// those that are to be attached anew at the next one. It takes no memory.
+    /// Ends attachments of the radio, by their lifetime, at its accepted location update (clause 16.4).
+    /// An ITSI attach ends all but those of `NotNeeded`. A periodic update ends none. Any other accepted
+    /// update ends those of `NextLocationUpdate`. It takes no memory.
     pub fn on_update(&mut self, itsi: Itsi, update: LocationUpdateType)
         ensures { self.new ≡ after_update self.old itsi update }
     {
@@ -112,8 +112,8 @@ impl<A: Allocator> Groups<A> {
         }
     }
 
-    /// Why `apply` would refuse this PDU, memory aside: `NotAttached` and `TooManyGroups`, in this
-    /// order. It takes no memory.
+    /// Why `apply` would refuse this PDU if there were memory: `NotAttached` or `TooManyGroups`, the
+    /// first that applies. It takes no memory.
     pub fn apply_refusal<R: Allocator + Clone, B: Allocator>(
         &self,
         registry: &Registry<R>,
@@ -150,7 +150,7 @@ impl<A: Allocator> Groups<A> {
 
 impl<A: Allocator + Clone> Groups<A> {
     /// Changes the radio's groups as its PDU asks (clause 16.8, attachment and detachment of group
-    /// identities), and gives the acknowledgement: `change` and `answers` in one.
+    /// identities), and returns the acknowledgement: `change` and `answers` in one.
     pub fn apply<R: Allocator + Clone, B: Allocator, C: Allocator>(
         &mut self,
         alloc: C,
@@ -160,7 +160,8 @@ impl<A: Allocator + Clone> Groups<A> {
         items: &GroupItems<GroupUp, B>,
     ) -> Result<GroupItems<GroupDown, C>, GroupFault>
         ensures answered { IfOk result (λ list. list ≡ answers registry.now itsi items.now) }
-        ensures ok { OnOk result ((apply_refusal registry.now self.old itsi mode items.now ≡ None) × (self.new ≡ applied registry.now self.old itsi mode items.now)) }
+        ensures ok { OnOk result ((apply_refusal registry.now self.old itsi mode items.now ≡ None)
+            × (self.new ≡ applied registry.now self.old itsi mode items.now)) }
         ensures err { IfErr result (λ e. (e ≡ unwrap_or (apply_refusal registry.now self.old itsi mode items.now) NoMemory) × (self.new ≡ self.old)) }
     {
         if let Some(fault) = self.apply_refusal(registry, itsi, mode, items) {
@@ -174,10 +175,10 @@ impl<A: Allocator + Clone> Groups<A> {
     }
 
     /// Changes the radio's groups as its PDU asks, without the acknowledgement. `DetachAllFirst` ends
-    /// all its attachments first. Then each item in order: an attach to a group without a rule does
-    /// nothing, any other one adds the attachment or replaces it, with its class and the rule's
-    /// lifetime, and a leave ends it. `NotAttached` where the radio is not present, `TooManyGroups`
-    /// where it would have more than 32 groups after all items; a refusal changes nothing.
+    /// all its attachments first. Then the items apply in order. An attach to a group without a rule does
+    /// nothing. Any other one adds or replaces the attachment, with its class and the rule's lifetime. A
+    /// leave ends the attachment. It is `NotAttached` where the radio is not present, and `TooManyGroups`
+    /// where it would have more than 32 groups after all items. A refusal changes nothing.
     pub fn change<R: Allocator + Clone, B: Allocator>(
         &mut self,
         registry: &Registry<R>,
@@ -185,7 +186,8 @@ impl<A: Allocator + Clone> Groups<A> {
         mode: GroupMode,
         items: &GroupItems<GroupUp, B>,
     ) -> Result<(), GroupFault>
-        ensures ok { OnOk result ((apply_refusal registry.now self.old itsi mode items.now ≡ None) × (self.new ≡ applied registry.now self.old itsi mode items.now)) }
+        ensures ok { OnOk result ((apply_refusal registry.now self.old itsi mode items.now ≡ None)
+            × (self.new ≡ applied registry.now self.old itsi mode items.now)) }
         ensures err { IfErr result (λ e. (e ≡ unwrap_or (apply_refusal registry.now self.old itsi mode items.now) NoMemory) × (self.new ≡ self.old)) }
     {
         if let Some(fault) = self.apply_refusal(registry, itsi, mode, items) {
@@ -194,9 +196,9 @@ impl<A: Allocator + Clone> Groups<A> {
         self.enact(registry, itsi, mode, items)
     }
 
-    /// The radio has these attachments, as when they were kept, and no other; no rule is asked. They are
-    /// in order of their groups. `TooManyGroups` where they are more than 32, else at most `NoMemory`; a
-    /// refusal changes nothing.
+    /// Gives the radio these attachments as they were stored, and no others; rules do not matter. All must
+    /// be the radio's own, in order of their groups. More than 32 are `TooManyGroups`. Otherwise it fails
+    /// only when memory runs out. A refusal changes nothing.
     pub fn restore(&mut self, itsi: Itsi, attachments: &[Attachment]) -> Result<(), GroupFault>
         requires own { All (λ a. a.itsi ≡ itsi) attachments.now }
         requires in_order { IsInOrder attachments.now }
@@ -212,7 +214,7 @@ impl<A: Allocator + Clone> Groups<A> {
         self.replace(itsi, list).or(Err(GroupFault::NoMemory))
     }
 
-    // These attachments, as a list of its own.
+    // A list of these attachments, in memory of its own.
     fn listed(&self, attachments: &[Attachment]) -> Result<AttachmentList<A>, AllocError>
         requires { IsInOrder attachments.now }
         ensures { IfOk result (λ list. list ≡ map_of attachments.now) }
@@ -220,7 +222,7 @@ impl<A: Allocator + Clone> Groups<A> {
         AttachmentList::from_slice(self.alloc.clone()?, attachments)
     }
 
-    // Changes them as the PDU asks, which is not refused.
+    // Changes the radio's groups as a PDU asks that is not refused.
     fn enact<R: Allocator + Clone, B: Allocator>(
         &mut self,
         registry: &Registry<R>,
@@ -237,7 +239,7 @@ impl<A: Allocator + Clone> Groups<A> {
         self.replace(itsi, list).or(Err(GroupFault::NoMemory))
     }
 
-    // The radio's own attachments, as the PDU makes them.
+    // The radio's attachments after the PDU.
     fn changed<R: Allocator + Clone, B: Allocator>(
         &self,
         registry: &Registry<R>,
@@ -252,8 +254,8 @@ impl<A: Allocator + Clone> Groups<A> {
         Ok(list)
     }
 
-    // Sets this list in the place of the radio's attachments, in both indexes. What takes memory comes
-    // first, and is undone where there is none.
+    // Replaces the radio's attachments by this list, in both indexes. What takes memory comes first, and
+    // is undone when memory runs out.
     fn replace(&mut self, itsi: Itsi, list: AttachmentList<A>) -> Result<(), AllocError>
         requires { AllHave (λ pair. pair.0) itsi list }
         ensures ok { OnOk result (IsReplaced self.old itsi list self.new) }

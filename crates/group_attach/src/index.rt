@@ -1,4 +1,4 @@
-//! Attachments under the numbers of one side.
+//! Attachments by one of their two sides, the radio or the group.
 
 ghost use Rattle.std.specs.Prelude.{◌≡◌, ◌<◌, ◌^◌, length, OnOk, OnErr, IfOk, IsOk, IsSome};
 ghost use Rattle.std.specs.FinMap as finite;
@@ -6,7 +6,7 @@ ghost use Rattle.group_attach.specs.Attached.{Attached, no_groups, listed, attac
 ghost use Rattle.group_attach.specs.Applied.{after_update};
 ghost use Rattle.group_attach.specs.InOrder.{IsInOrder};
 ghost use Rattle.group_attach.specs.Inside.ListedMap.{map_of};
-ghost use Rattle.group_attach.specs.Inside.Filed.{part_of, all_left, set_back, held, left_where, left_if_ended, all_ended, AllHave, IsReplaced};
+ghost use Rattle.group_attach.specs.Inside.Filed.{part_of, all_left, set_back, held, left_unless, left_if_ended, all_ended, AllHave, IsReplaced};
 
 use crate::Attachment;
 use crate::attachments::{AttachmentList, slice_of};
@@ -21,7 +21,7 @@ use prefix_tree::TryCopy;
 use std::alloc::{AllocError, Allocator};
 use std::marker::{Model, PhantomData};
 
-/// Attachments, in a list under each number of one side.
+/// Attachments, with one list for each number of the side.
 #[derive(Drop)]
 pub(crate) struct Index<S: Side, A: Allocator> {
     lists: Lists<A>,
@@ -61,7 +61,7 @@ impl<S: Side, A: Allocator> Index<S, A> {
         slice_of(self.lists.find(&Prefix::whole(number)))
     }
 
-    /// Takes the radio's attachment to the group away. It takes no memory.
+    /// Removes the radio's attachment to the group. It takes no memory.
     pub(crate) fn leave(&mut self, itsi: Itsi, gtsi: Gtsi)
         ensures { self.new ≡ finite.remove self.old (itsi, gtsi) }
     {
@@ -69,8 +69,7 @@ impl<S: Side, A: Allocator> Index<S, A> {
         self.lists.end(&path, itsi, Ending::Leave(gtsi));
     }
 
-    /// Takes those of the old attachments away whose radio and group are not among these. It takes no
-    /// memory.
+    /// Removes the old attachments whose radio and group are not in the list. It takes no memory.
     pub(crate) fn leave_absent(&mut self, old: &[Attachment], list: &[Attachment])
         requires { IsInOrder list.now }
         ensures { self.new ≡ all_left self.old old.now list.now }
@@ -80,7 +79,7 @@ impl<S: Side, A: Allocator> Index<S, A> {
         }
     }
 
-    /// Takes those of these attachments away that the update ends. It takes no memory.
+    /// Removes the listed attachments that the update ends. It takes no memory.
     pub(crate) fn leave_ended(&mut self, list: &[Attachment], update: LocationUpdateType)
         ensures { self.new ≡ all_ended update self.old list.now }
     {
@@ -89,7 +88,7 @@ impl<S: Side, A: Allocator> Index<S, A> {
         }
     }
 
-    // Takes the attachment away, if the update ends it.
+    // Removes the attachment, if the update ends it.
     fn leave_if_ended(&mut self, attachment: &Attachment, update: LocationUpdateType)
         ensures { self.new ≡ left_if_ended update self.old attachment.now }
     {
@@ -98,10 +97,10 @@ impl<S: Side, A: Allocator> Index<S, A> {
         }
     }
 
-    // Takes the attachment away, unless the list has its radio and group.
+    // Removes the attachment, unless the list has its radio and group.
     fn leave_unless(&mut self, list: &[Attachment], attachment: &Attachment)
         requires { IsInOrder list.now }
-        ensures { self.new ≡ left_where list.now self.old attachment.now }
+        ensures { self.new ≡ left_unless list.now self.old attachment.now }
     {
         if !has(list, attachment.itsi, attachment.gtsi) {
             self.leave(attachment.itsi, attachment.gtsi);
@@ -110,7 +109,7 @@ impl<S: Side, A: Allocator> Index<S, A> {
 }
 
 impl<S: Side, A: Allocator + Clone> Index<S, A> {
-    /// Adds the attachment, or replaces the one of the same radio and group, which it answers. The latter takes no
+    /// Adds the attachment, or replaces the one of the same radio and group and returns that one. Replacing takes no
     /// memory.
     pub(crate) fn attach(
         &mut self,
@@ -126,7 +125,7 @@ impl<S: Side, A: Allocator + Clone> Index<S, A> {
         self.lists.attach(alloc, path, attachment)
     }
 
-    /// Adds or replaces all these; for want of memory none of them.
+    /// Adds or replaces all these attachments, or none of them when memory runs out.
     pub(crate) fn attach_all(&mut self, alloc: &A, list: &[Attachment]) -> Result<(), AllocError>
         ensures ok { OnOk result (self.new ≡ all_attached self.old list.now) }
         ensures err { OnErr result (self.new ≡ self.old) }
@@ -145,10 +144,11 @@ impl<S: Side, A: Allocator + Clone> Index<S, A> {
         }
     }
 
-    // Sets an attachment that is there back to how it was before. It takes no memory.
+    // Undoes `attach`: sets the attachment back to the one before. It takes no memory.
     fn set_back(&mut self, alloc: &A, attachment: &Attachment, before: Option<Attachment>)
         requires { IsSome (finite.get self.old (pair_of attachment.now)) }
-        ensures { (m : Attached) → before ≡ attachment_at m (pair_of attachment.now) → self.new ≡ set_back self.old (pair_of attachment.now) (finite.get m (pair_of attachment.now)) }
+        ensures { (m : Attached) → before ≡ attachment_at m (pair_of attachment.now)
+            → self.new ≡ set_back self.old (pair_of attachment.now) (finite.get m (pair_of attachment.now)) }
     {
         match before {
             Some(before) => {
@@ -160,7 +160,7 @@ impl<S: Side, A: Allocator + Clone> Index<S, A> {
 }
 
 impl<A: Allocator> Index<ByRadio, A> {
-    /// Takes away those attachments of the radio that its location update ends. It takes no memory.
+    /// Removes the radio's attachments that its location update ends. It takes no memory.
     pub(crate) fn drop_ended(&mut self, itsi: Itsi, update: LocationUpdateType)
         ensures { self.new ≡ after_update self.old itsi update }
     {
@@ -180,8 +180,8 @@ impl<A: Allocator + Clone> Index<ByRadio, A> {
         }
     }
 
-    /// Sets this list in the place of the radio's attachments, and answers the one before. It takes
-    /// memory only where there was none.
+    /// Replaces the radio's attachments by this list, and returns the list before. It takes memory only
+    /// where the radio had none.
     pub(crate) fn set(
         &mut self,
         alloc: &A,
@@ -197,14 +197,14 @@ impl<A: Allocator + Clone> Index<ByRadio, A> {
         self.lists.set(alloc, Prefix::whole(itsi.number()), list)
     }
 
-    // Takes all the radio's attachments away.
+    // Removes all the radio's attachments.
     fn clear(&mut self, itsi: Itsi)
         ensures { IsReplaced self.old itsi no_groups self.new }
     {
         self.lists.clear(&Prefix::whole(itsi.number()));
     }
 
-    /// Sets the radio's attachments, of which there are some, back to those before. It takes no memory.
+    /// Undoes `set`: sets the radio's attachments back to those before. It must have some. It takes no memory.
     pub(crate) fn restore(&mut self, alloc: &A, itsi: Itsi, before: Option<AttachmentList<A>>)
         requires own { AllHave (λ pair. pair.0) itsi (held before) }
         requires some { 0 < finite.len (of_radio self.old itsi) }

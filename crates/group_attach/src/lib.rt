@@ -1,5 +1,6 @@
 //! Which groups the radios of a TETRA switch are attached to (ETSI EN 300 392-2, clause 16, the
-//! network's side of attachment and detachment of group identities).
+//! network's side of attachment and detachment of group identities). It reads a registry of radios and rules, and
+//! changes its own attachments alone; it knows nothing of messages, commands and disks.
 #![tactic(auto)]
 
 mod answer;

@@ -66,7 +66,7 @@ fn is_after(attachment: &Attachment, after: Option<Gtsi>) -> bool
     }
 }
 
-// Where the radio's attachment to the group stands, or would go. Most come in order, so the last one is asked first.
+// Where the radio's attachment to the group is, or would go. Most come in order, so it looks at the last one first.
 pub(crate) fn place(entries: &[Attachment], itsi: Itsi, gtsi: Gtsi) -> Result<usize, usize>
     ensures within { IsSearchInRange result (length entries.now) }
     ensures place { IsBinarySearchResult (λ a. pair_cmp (pair_of a) (itsi, gtsi)) entries.now result }
@@ -95,7 +95,7 @@ fn search(entries: &[Attachment], itsi: Itsi, gtsi: Gtsi) -> Result<usize, usize
     entries.binary_search_by(|attachment| order(attachment, itsi, gtsi))
 }
 
-// The order of an attachment and a radio and a group.
+// How the attachment compares to the radio and the group.
 fn order(attachment: &Attachment, itsi: Itsi, gtsi: Gtsi) -> Ordering
     ensures { result ≡ pair_cmp (pair_of attachment.now) (itsi, gtsi) }
 {

@@ -49,7 +49,7 @@ impl<A: Allocator> Lists<A> {
         self.lists.find(path)
     }
 
-    /// Takes out the list under the path.
+    /// Removes the list under the path, and returns it.
     pub(crate) fn take(&mut self, path: &Prefix) -> Option<AttachmentList<A>>
         ensures before { result ≡ finite.get self.old path.now }
         ensures removed { self.new ≡ finite.remove self.old path.now }
@@ -57,14 +57,14 @@ impl<A: Allocator> Lists<A> {
         self.lists.take(path)
     }
 
-    /// Takes away the list under the path.
+    /// Removes the list under the path.
     pub(crate) fn clear(&mut self, path: &Prefix)
         ensures { self.new ≡ finite.remove self.old path.now }
     {
         let _ = self.take(path);
     }
 
-    /// Takes away what ends of the list under the path, and the list where nothing is left. It takes no
+    /// Removes what this ends from the list under the path, and the list if it is then empty. It takes no
     /// memory.
     pub(crate) fn end(&mut self, path: &Prefix, itsi: Itsi, ending: Ending)
         ensures { self.new ≡ placed self.old path.now (ended (under self.old path.now) itsi ending) }
@@ -74,8 +74,8 @@ impl<A: Allocator> Lists<A> {
 }
 
 impl<A: Allocator + Clone> Lists<A> {
-    /// Adds the attachment to the list under the path, or replaces the one of the same pair there, which it
-    /// answers. The latter takes no memory.
+    /// Adds the attachment to the list under the path, or replaces the one of the same pair there and returns
+    /// that one. Replacing takes no memory.
     pub(crate) fn attach(
         &mut self,
         alloc: &A,
@@ -95,7 +95,7 @@ impl<A: Allocator + Clone> Lists<A> {
         Ok(None)
     }
 
-    /// Sets the list under the path, and answers the one before; an empty list is not kept. It takes
+    /// Sets the list under the path, and returns the one before. An empty list is not stored. It takes
     /// memory only where there was none.
     pub(crate) fn set(
         &mut self,
@@ -125,7 +125,7 @@ impl<A: Allocator + Clone> TryCopy for Lists<A> {
     }
 }
 
-// Attaches in the list under the path; `None` where there is none.
+// Attaches in the list under the path; `None` where there is no list.
 fn attach_there<A: Allocator>(
     lists: &mut LazyMap<AttachmentList<A>, A>,
     path: &Prefix,
@@ -141,7 +141,7 @@ fn attach_there<A: Allocator>(
     lists.change(path, |list| list.with(attachment))
 }
 
-// Takes away what ends of the list under the path, and the list where nothing is left.
+// Removes what this ends from the list under the path, and the list if it is then empty.
 fn end_under<A: Allocator>(
     lists: &mut LazyMap<AttachmentList<A>, A>,
     path: &Prefix,

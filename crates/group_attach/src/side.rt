@@ -6,7 +6,7 @@ ghost use Rattle.group_attach.specs.Attached.{Pair};
 
 use identity::{Gtsi, Itsi, Prefix};
 
-/// Which of the two numbers of an attachment an index goes by.
+/// Which of the two numbers of an attachment is the key of an index.
 pub(crate) trait Side {
     ghost key: { Pair → ℕ };
 

@@ -1,5 +1,5 @@
-//! Groups in a heap of fixed size: 10,000 changes, ten of which end with no attachment, take no more of it than none do,
-//! and once the groups are gone every byte is free again.
+//! Groups in a heap of fixed size: 1,000 rounds of ten changes, each of which ends with no attachment, leave the heap as it
+//! was. Once the groups are dropped, every byte is free again.
 
 use crate::fixture::Ask::{Attach, Leave};
 use crate::fixture::{Ask, items, radio, register};
@@ -34,7 +34,7 @@ const ROUND: [(u16, Change); 10] = [
     (2002, Change::Pdu(AMEND, [Leave(1), Leave(2)])),
 ];
 
-/// Whether the change of this radio is made.
+/// Makes this change of a radio, and returns whether it succeeds.
 fn is_made(
     alloc: Global,
     heap: &LocalHeap,
@@ -55,7 +55,7 @@ fn is_made(
     }
 }
 
-/// Whether the changes of a round are made.
+/// Makes the changes of a round, and returns whether each succeeds.
 fn is_round_made(
     alloc: Global,
     heap: &LocalHeap,
@@ -70,7 +70,7 @@ fn is_round_made(
     Ok(true)
 }
 
-/// Whether all rounds are made, and leave the heap as it was.
+/// Makes so many rounds, and returns whether each leaves the heap as it was.
 fn is_even(
     alloc: Global,
     heap: &LocalHeap,

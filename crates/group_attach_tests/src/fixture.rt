@@ -63,7 +63,7 @@ fn rule(lifetime: Lifetime) -> Result<Rule, Fail> {
     Ok(Rule::new(area, area, lifetime, 60).ok_or("a rule")?)
 }
 
-fn come<A: Allocator + Clone>(registry: &mut Registry<A>, ssi: u16) -> Result<(), Fail> {
+fn make_present<A: Allocator + Clone>(registry: &mut Registry<A>, ssi: u16) -> Result<(), Fail> {
     let area = LocationArea::new(7).ok_or("a location area")?;
     let attach = LocationUpdateType::ItsiAttach;
     let _ = registry.locate(radio(ssi)?, Station::new(1), area, attach);
@@ -83,8 +83,8 @@ fn fill<A: Allocator + Clone>(registry: &mut Registry<A>) -> Result<(), Fail> {
     for (ssi, lifetime) in RULES {
         let _ = registry.set_rule(radio(ssi)?.path(), rule(lifetime)?);
     }
-    come(registry, 2001)?;
-    come(registry, 2002)
+    make_present(registry, 2001)?;
+    make_present(registry, 2002)
 }
 
 /// Radios 2001 and 2002 are present, groups 1 to 4 have the four lifetimes, group 9 has no rule.

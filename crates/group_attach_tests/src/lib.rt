@@ -1,5 +1,5 @@
-//! Tests of the public calls of `group_attach`. What group PDUs are answered and what updates end is shown by the
-//! program's rows too, in tests/rows.
+//! Tests of the public calls of `group_attach`. The program's rows in tests/program/rows also test how group PDUs are
+//! answered, and what updates end.
 #![tactic(auto)]
 
 #[cfg(test)]

@@ -12,7 +12,7 @@ const OF_ONE: [Ask; 3] = [Ask::Attach(3), Ask::Attach(1), Ask::Attach(4)];
 
 const OF_OTHER: [Ask; 1] = [Ask::Attach(2)];
 
-/// After which group one asks, and the group that follows; 0 for none.
+/// A group, and the one that follows it; 0 for none.
 const FOLLOWING: [(u16, u32); 6] = [(0, 1), (1, 3), (2, 3), (3, 4), (4, 0), (9, 0)];
 
 fn next_group(groups: &Groups<Global>, itsi: Itsi, after: u16) -> Result<u32, Fail> {
@@ -62,8 +62,8 @@ fn are_followed(
         && groups
             .change(registry, other, GroupMode::Amendment, &of_other)
             .is_ok();
-    let are_lent = digits(groups, one) == 134 && digits(groups, other) == 2;
-    Ok(done && are_lent && follow(groups, one)? && next_group(groups, other, 0)? == 2)
+    let are_listed = digits(groups, one) == 134 && digits(groups, other) == 2;
+    Ok(done && are_listed && follow(groups, one)? && next_group(groups, other, 0)? == 2)
 }
 
 fn tried(alloc: Global) -> Result<bool, Fail> {

@@ -1,3 +1,5 @@
+//! The groups as one list.
+
 use group_attach::Attachment;
 use identity::{Gtsi, Itsi};
 use mm_pdus::{GroupMode, GroupUp, Lifetime, LocationUpdateType};
@@ -69,7 +71,7 @@ impl PlainGroups {
             .retain(|entry| entry.itsi != itsi || entry.gtsi != gtsi);
     }
 
-    /// Puts it behind all that come before it.
+    /// Inserts the attachment at its place in the order.
     fn put(&mut self, entry: Attachment) -> Result<(), AllocError> {
         let place = (entry.itsi.number(), entry.gtsi.number());
         let before = self
@@ -83,8 +85,8 @@ impl PlainGroups {
         }
     }
 
-    /// Ends the radio's attachments as an accepted location update does: an ITSI attach all but those of lifetime 0,
-    /// roaming and the updates on demand those of lifetime 3.
+    /// Ends the radio's attachments as an accepted location update does. An ITSI attach ends all but those of lifetime 0;
+    /// roaming and updates on demand end those of lifetime 3.
     pub fn update(&mut self, itsi: Itsi, update: LocationUpdateType) {
         self.entries.retain(|entry| entry.itsi != itsi || !ends(update, entry.lifetime));
     }

@@ -1,4 +1,4 @@
-//! A radio's attachments restored, in the place of those that it had.
+//! Restores a radio's attachments, in place of those that it had.
 
 use crate::fixture::{Ask, group, items, radio, register};
 use group_attach::{Attachment, GroupFault, Groups};
@@ -11,7 +11,7 @@ use std::test::Fail;
 
 const BEFORE: [Ask; 3] = [Ask::Attach(3), Ask::Attach(1), Ask::Attach(4)];
 
-/// No rule asks for this class and this lifetime at once.
+/// Restores one attachment. No PDU would give it this class and this lifetime.
 fn restored<A: Allocator + Clone>(
     groups: &mut Groups<A>,
     itsi: Itsi,
@@ -26,7 +26,7 @@ fn restored<A: Allocator + Clone>(
     groups.restore(itsi, &[attachment])
 }
 
-/// Of the radio the group, class and lifetime of its one attachment.
+/// The group, class and lifetime of the radio's attachment, if it has exactly one.
 fn only_one<A: Allocator>(groups: &Groups<A>, itsi: Itsi) -> Option<(Gtsi, u8, Lifetime)> {
     let first = groups.next_of(itsi, None)?;
     match groups.next_of(itsi, Some(first.gtsi)) {
@@ -74,7 +74,7 @@ fn attachments_are_restored_in_the_place_of_others(rt: HostRuntime) -> Result<()
     Ok(())
 }
 
-/// Whether the first attachment finds memory in a heap of this size; nothing where a refusal leaves something.
+/// Whether a heap of this size has memory for the first attachment; `None` if a refusal leaves something.
 fn restored_in(alloc: Global, size: usize) -> Result<Option<bool>, Fail> {
     let (one, ninth) = (radio(2001)?, group(9)?);
     let heap = LocalHeap::new(alloc, size)?;
@@ -88,7 +88,7 @@ fn restored_in(alloc: Global, size: usize) -> Result<Option<bool>, Fail> {
     }
 }
 
-/// The heap's size, in units of 16 bytes, from which on the attachment finds memory.
+/// The smallest heap with memory for the attachment, in units of 16 bytes.
 fn least_heap(alloc: Global) -> Result<Option<usize>, Fail> {
     for size in 2..200usize {
         match restored_in(alloc, 16 * size)? {

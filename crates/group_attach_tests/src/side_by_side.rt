@@ -1,3 +1,5 @@
+//! The groups beside the plain list.
+
 use crate::fixture::{Ask, group, items, radio, register};
 use crate::plain::PlainGroups;
 use group_attach::{Attachment, Groups};
@@ -57,7 +59,7 @@ fn is_changed(
             .is_ok()
 }
 
-// One step in both; whether neither was refused.
+// Makes one step in both, and returns whether neither refuses it.
 fn is_done(
     alloc: Global,
     registry: &Registry<Global>,
@@ -76,34 +78,34 @@ fn is_done(
 }
 
 // Whether these are the attachments in the list of a radio.
-fn are_of_radio(told: &[Attachment], list: &[Attachment], itsi: Itsi) -> bool {
+fn are_of_radio(found: &[Attachment], list: &[Attachment], itsi: Itsi) -> bool {
     let mut count = 0usize;
     for attachment in list {
         if attachment.itsi == itsi {
-            if told.get(count) != Some(attachment) {
+            if found.get(count) != Some(attachment) {
                 return false;
             }
             count = count.saturating_add(1);
         }
     }
-    count == told.len()
+    count == found.len()
 }
 
 // Whether these are the attachments in the list to a group.
-fn are_of_group(told: &[Attachment], list: &[Attachment], gtsi: Gtsi) -> bool {
+fn are_of_group(found: &[Attachment], list: &[Attachment], gtsi: Gtsi) -> bool {
     let mut count = 0usize;
     for attachment in list {
         if attachment.gtsi == gtsi {
-            if told.get(count) != Some(attachment) {
+            if found.get(count) != Some(attachment) {
                 return false;
             }
             count = count.saturating_add(1);
         }
     }
-    count == told.len()
+    count == found.len()
 }
 
-// Whether each radio and each group is told alike.
+// Whether both have the same attachments of each radio and of each group.
 fn are_alike(alloc: Global, groups: &Groups<Global>, list: &[Attachment]) -> Result<bool, Fail> {
     for ssi in RADIOS {
         let itsi = radio(ssi)?;
@@ -122,7 +124,7 @@ fn are_alike(alloc: Global, groups: &Groups<Global>, list: &[Attachment]) -> Res
 
 const RADIOS: [u16; 2] = [2001, 2002];
 
-/// The most attachments that there were in so many steps, after each of which all is told alike.
+/// Makes so many steps, and returns the most attachments there were. After each step both have the same attachments.
 fn most_attachments(
     alloc: Global,
     registry: &Registry<Global>,

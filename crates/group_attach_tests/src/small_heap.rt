@@ -1,3 +1,5 @@
+//! Groups in heaps of rising size: each growth is refused in turn, and then nothing is changed.
+
 use crate::fixture::Ask::{Attach, Leave};
 use crate::fixture::{Ask, group, items, radio, register};
 use group_attach::{Attachment, GroupFault, Groups, answers};
@@ -12,8 +14,8 @@ const RADIOS: [u16; 2] = [2001, 2002];
 
 const GROUPS: [u16; 3] = [1, 2, 4];
 
-// All that is told: of each radio, and then of each group.
-fn told(alloc: Global, groups: &Groups<&LocalHeap>) -> Result<Vec<Attachment>, Fail> {
+// The attachments of each radio, and then those of each group.
+fn all_lists(alloc: Global, groups: &Groups<&LocalHeap>) -> Result<Vec<Attachment>, Fail> {
     let mut list = Vec::new(alloc);
     for ssi in RADIOS {
         list.extend_from_slice(&groups.groups_of(alloc, radio(ssi)?)?)?;
@@ -33,7 +35,7 @@ const COMMANDS: [(u16, GroupMode, [Ask; 2]); 5] = [
     (2002, GroupMode::Amendment, [Leave(1), Leave(2)]),
 ];
 
-// What a command is answered.
+// The answer to a command.
 fn changed(
     alloc: Global,
     registry: &Registry<Global>,
@@ -45,7 +47,7 @@ fn changed(
     Ok(groups.change(registry, itsi, mode, &items(alloc, &asks)))
 }
 
-// One command; nothing where it is carried out, or else whether it left all as it was, the heap too.
+// `None` if the command is carried out, else whether it left all as it was, the heap too.
 fn tried(
     alloc: Global,
     heap: &LocalHeap,
@@ -53,15 +55,15 @@ fn tried(
     groups: &mut Groups<&LocalHeap>,
     turn: usize,
 ) -> Result<Option<bool>, Fail> {
-    let (before, used) = (told(alloc, groups)?, heap.used());
+    let (before, used) = (all_lists(alloc, groups)?, heap.used());
     let Err(fault) = changed(alloc, registry, groups, turn)? else {
         return Ok(None);
     };
     let same = fault == GroupFault::NoMemory && heap.used() == used;
-    Ok(Some(told(alloc, groups)? == before && same))
+    Ok(Some(all_lists(alloc, groups)? == before && same))
 }
 
-// How many commands are carried out until one is refused; nothing where that changes something.
+// How many commands are carried out until one is refused; `None` if the refusal changed something.
 fn taken(
     alloc: Global,
     heap: &LocalHeap,
@@ -86,7 +88,7 @@ fn taken_in(
     taken(alloc, &heap, registry, &mut groups)
 }
 
-/// Whether heaps of rising size have no memory left behind the first commands, and in the end for all.
+/// Whether heaps of rising size run out of memory after none, one and two commands, and at last carry out all.
 fn are_ends_seen(alloc: Global, registry: &Registry<Global>) -> Result<bool, Fail> {
     let mut ends = [false; 6];
     for size in 2..1500usize {
@@ -112,8 +114,8 @@ fn each_growth_is_refused_in_turn(rt: HostRuntime) -> Result<(), Fail> {
 
 const BOTH: [Ask; 2] = [Attach(1), Attach(2)];
 
-/// How far a heap reaches: 0 not to the answers to a PDU that attaches to two groups, 1 not to carrying it out, 2 not to a
-/// copy of the groups, 3 to all.
+/// What a heap has memory for: 0 not even the answers to a PDU that attaches to two groups, 1 only these, 2 also its change,
+/// 3 also a copy of the groups.
 fn reached(
     heap: &LocalHeap,
     registry: &Registry<Global>,
@@ -172,7 +174,7 @@ fn are_attached(
     )
 }
 
-/// Whether lists of two attachments find no memory in this heap.
+/// Whether this heap has too little memory for lists of two attachments.
 fn are_lists_refused(heap: &LocalHeap, groups: &Groups<Global>) -> Result<bool, Fail> {
     let (here, there) = (radio(2001)?, group(1)?);
     Ok(groups.groups_of(heap, here).is_err() && groups.members_of(heap, there).is_err())

@@ -16,9 +16,9 @@ unfolding digit_bits
 length-digit_bits [] = refl
 length-digit_bits (c ∷ digits) = omega (arith, length-append (num 4 (digit_value c)) (digit_bits digits), length-num 4 (digit_value c), length-digit_bits digits)
 
-pub digit_bits-append : (front back : List ℕ) → digit_bits (front ++ back) ≡ digit_bits front ++ digit_bits back
+pub digit_bits-append : (prefix back : List ℕ) → digit_bits (prefix ++ back) ≡ digit_bits prefix ++ digit_bits back
 unfolding digit_bits
-digit_bits-append front back = flat_map-append (λ c. num 4 (digit_value c)) front back
+digit_bits-append prefix back = flat_map-append (λ c. num 4 (digit_value c)) prefix back
 
 one_digit : (c : ℕ) → digit_bits (c ∷ []) ≡ num 4 (digit_value c)
 unfolding digit_bits
@@ -29,12 +29,12 @@ digit_bits_more digits i inside =
     ap digit_bits (take_more digits i 0 inside) ∙ digit_bits-append (take i digits) (get_or digits i 0 ∷ []) ∙ ap (λ (l : List Bool). digit_bits (take i digits) ++ l) (one_digit (get_or digits i 0))
 
 -- past a first part
-drop_past : (front back : List Bool) (n : ℕ) → drop (length front + n) (front ++ back) ≡ drop n back
-drop_past front back n = sym (drop-drop n (length front) (front ++ back)) ∙ ap (drop n) (drop_at front back (length front) refl)
+drop_past : (prefix back : List Bool) (n : ℕ) → drop (length prefix + n) (prefix ++ back) ≡ drop n back
+drop_past prefix back n = sym (drop-drop n (length prefix) (prefix ++ back)) ∙ ap (drop n) (drop_at prefix back (length prefix) refl)
 
-take_past : (front back : List Bool) (n : ℕ) → take (length front + n) (front ++ back) ≡ front ++ take n back
+take_past : (prefix back : List Bool) (n : ℕ) → take (length prefix + n) (prefix ++ back) ≡ prefix ++ take n back
 take_past [] back n = let e : 0 + n ≡ n = omega arith in ap (λ (m : ℕ). take m back) e
-take_past (b ∷ front) back n = let e : suc (length front) + n ≡ suc (length front + n) = omega arith in ap (λ (m : ℕ). take m (b ∷ front ++ back)) e ∙ ap (λ (l : List Bool). b ∷ l) (take_past front back n)
+take_past (b ∷ prefix) back n = let e : suc (length prefix) + n ≡ suc (length prefix + n) = omega arith in ap (λ (m : ℕ). take m (b ∷ prefix ++ back)) e ∙ ap (λ (l : List Bool). b ∷ l) (take_past prefix back n)
 
 -- the bits that fill the last digit
 pub last_bits : (digits : List ℕ) (fill : ℕ) → 0 < length digits → fill < 4

@@ -32,56 +32,56 @@ four_back a b c d =
     let bits = a ∷ b ∷ c ∷ d ∷ [] in
     ap (num 4) (glyph_value (number bits) (number-lt bits)) ∙ num-number bits
 
--- digits stand for bits and fewer than four zeros behind them
-Stands : List Bool → List ℕ → Type 0
-Stands bits digits = (fill : ℕ) × (fill < 4) × (digit_bits digits ≡ bits ++ replicate fill false) × (list_all is_ascii_hexdigit digits ≡ true)
+-- digits stand for bits and fewer than four zeros after them
+IsSpelt : List Bool → List ℕ → Type 0
+IsSpelt bits digits = (fill : ℕ) × (fill < 4) × (digit_bits digits ≡ bits ++ replicate fill false) × (list_all is_ascii_hexdigit digits ≡ true)
 
-last_stands : (bits : List Bool) (a b c d : Bool) (fill : ℕ) → fill < 4 → a ∷ b ∷ c ∷ d ∷ [] ≡ bits ++ replicate fill false → Stands bits (digit_glyph true (number (a ∷ b ∷ c ∷ d ∷ [])) ∷ [])
-unfolding Stands digit_bits
-last_stands bits a b c d fill few is =
+last_is_spelt : (bits : List Bool) (a b c d : Bool) (fill : ℕ) → fill < 4 → a ∷ b ∷ c ∷ d ∷ [] ≡ bits ++ replicate fill false → IsSpelt bits (digit_glyph true (number (a ∷ b ∷ c ∷ d ∷ [])) ∷ [])
+unfolding IsSpelt digit_bits
+last_is_spelt bits a b c d fill few is =
     let four = a ∷ b ∷ c ∷ d ∷ [] in
     let g = digit_glyph true (number four) in
     let one : is_ascii_hexdigit g ≡ true = glyph_is (number four) (number-lt four) in
     (fill, few, ap (λ (l : List Bool). l ++ []) (four_back a b c d) ∙ is, rw one refl)
 
-hex_stands : (bits : List Bool) → Stands bits (hex_of bits)
-unfolding hex_of Stands digit_bits
-hex_stands [] = (0, omega arith, refl, refl)
-hex_stands (a ∷ []) = last_stands (a ∷ []) a false false false 3 (omega arith) refl
-hex_stands (a ∷ b ∷ []) = last_stands (a ∷ b ∷ []) a b false false 2 (omega arith) refl
-hex_stands (a ∷ b ∷ c ∷ []) = last_stands (a ∷ b ∷ c ∷ []) a b c false 1 (omega arith) refl
-hex_stands (a ∷ b ∷ c ∷ d ∷ bits) =
+hex_is_spelt : (bits : List Bool) → IsSpelt bits (hex_of bits)
+unfolding hex_of IsSpelt digit_bits
+hex_is_spelt [] = (0, omega arith, refl, refl)
+hex_is_spelt (a ∷ []) = last_is_spelt (a ∷ []) a false false false 3 (omega arith) refl
+hex_is_spelt (a ∷ b ∷ []) = last_is_spelt (a ∷ b ∷ []) a b false false 2 (omega arith) refl
+hex_is_spelt (a ∷ b ∷ c ∷ []) = last_is_spelt (a ∷ b ∷ c ∷ []) a b c false 1 (omega arith) refl
+hex_is_spelt (a ∷ b ∷ c ∷ d ∷ bits) =
     let four = a ∷ b ∷ c ∷ d ∷ [] in
-    let rest = hex_stands bits in
+    let rest = hex_is_spelt bits in
     let one : is_ascii_hexdigit (digit_glyph true (number four)) ≡ true = glyph_is (number four) (number-lt four) in
     let all : list_all is_ascii_hexdigit (hex_of bits) ≡ true = rest.3 in
     (rest.0, rest.1, (λ i. four_back a b c d i ++ rest.2 i), rw (one, all) refl)
 
 pub bits_printed : (bits : List Bool) → length bits < 2 ^ 64 → SpellsBits (bits_text bits) bits
-unfolding bits_text Stands
+unfolding bits_text IsSpelt
 bits_printed bits small =
-    let stands = hex_stands bits in
-    record { digits = hex_of bits; fill = stands.0; hexadecimal = stands.3; few = stands.1; stands = stands.2; spelt = refl }
+    let padded = hex_is_spelt bits in
+    record { digits = hex_of bits; fill = padded.0; hexadecimal = padded.3; few = padded.1; padded = padded.2; spelt = refl }
 
 -- ---- what is read
 
 filled_again : (bits : List Bool) (digits : List ℕ) (fill : ℕ) → fill < 4 → digit_bits digits ≡ bits ++ replicate fill false → is_filled (length bits) digits ≡ true
 unfolding is_filled
-filled_again bits digits fill few stands =
+filled_again bits digits fill few padded =
     let zeros = replicate fill false in
-    let size : 4 * length digits ≡ length bits + fill = sym (length-digit_bits digits) ∙ ap length stands ∙ length-append bits zeros ∙ ap (λ (k : ℕ). length bits + k) (length-replicate fill false) in
+    let size : 4 * length digits ≡ length bits + fill = sym (length-digit_bits digits) ∙ ap length padded ∙ length-append bits zeros ∙ ap (λ (k : ℕ). length bits + k) (length-replicate fill false) in
     let enough : nat_le (length bits) (4 * length digits) ≡ true = le_test (length bits) (4 * length digits) (omega (arith, size)) in
     let needed : nat_lt (4 * length digits) (length bits + 4) ≡ true = grind (arith, size, few) in
-    let rest : number (drop (length bits) (digit_bits digits)) ≡ 0 = ap (λ (l : List Bool). number (drop (length bits) l)) stands ∙ ap number (drop_at bits zeros (length bits) refl) ∙ zeros_are_none fill in
+    let rest : number (drop (length bits) (digit_bits digits)) ≡ 0 = ap (λ (l : List Bool). number (drop (length bits) l)) padded ∙ ap number (drop_at bits zeros (length bits) refl) ∙ zeros_are_none fill in
     rw (enough, needed, eq-eqb (number (drop (length bits) (digit_bits digits))) 0 rest) refl
 
 filled_only : (n : ℕ) (digits : List ℕ) → is_filled n digits ≡ true → (n ≤ 4 * length digits) × (4 * length digits < n + 4) × (digit_bits digits ≡ take n (digit_bits digits) ++ replicate (4 * length digits - n) false)
 unfolding is_filled
 filled_only n digits e =
     let whole = both (nat_le n (4 * length digits) && nat_lt (4 * length digits) (n + 4)) (number (drop n (digit_bits digits)) == 0) e in
-    let front = both (nat_le n (4 * length digits)) (nat_lt (4 * length digits) (n + 4)) whole.0 in
-    let enough = test_le n (4 * length digits) front.0 in
-    let needed : 4 * length digits < n + 4 = grind (arith, nat_tests, front.1) in
+    let prefix = both (nat_le n (4 * length digits)) (nat_lt (4 * length digits) (n + 4)) whole.0 in
+    let enough = test_le n (4 * length digits) prefix.0 in
+    let needed : 4 * length digits < n + 4 = grind (arith, nat_tests, prefix.1) in
     let none : number (drop n (digit_bits digits)) ≡ 0 = grind (arith, nat_tests, whole.1) in
     let size : length (drop n (digit_bits digits)) ≡ 4 * length digits - n = omega (arith, length-drop n (digit_bits digits), length-digit_bits digits) in
     let zeros : drop n (digit_bits digits) ≡ replicate (4 * length digits - n) false = none_are_zeros (drop n (digit_bits digits)) none ∙ ap (λ (k : ℕ). replicate k false) size in
@@ -94,8 +94,8 @@ reading_bits_again bits text le spells =
     let small : n < 2 ^ 64 = omega (arith, le) in
     let colon : is_ascii_digit 58 ≡ false = refl in
     let parts : cut 58 text ≡ Some (decimal n, spells.digits) = ap (cut 58) spells.spelt ∙ cut_again is_ascii_digit 58 (decimal n) spells.digits (decimal_all n small) colon in
-    let front : take n (digit_bits spells.digits) ≡ bits = ap (take n) spells.stands ∙ take_at bits (replicate spells.fill false) n refl in
-    rw (parts, number_of_decimal n small, spells.hexadecimal, value-decimal n small, filled_again bits spells.digits spells.fill spells.few spells.stands, le_test n 2048 le) (ap Ok front)
+    let prefix : take n (digit_bits spells.digits) ≡ bits = ap (take n) spells.padded ∙ take_at bits (replicate spells.fill false) n refl in
+    rw (parts, number_of_decimal n small, spells.hexadecimal, value-decimal n small, filled_again bits spells.digits spells.fill spells.few spells.padded, le_test n 2048 le) (ap Ok prefix)
 
 IsForm : List ℕ → ℕ × List ℕ → Type 0
 IsForm text q = (count : List ℕ) × (text ≡ count ++ 58 ∷ q.1) × (is_number count ≡ true) × (value count ≡ q.0) × (list_all is_ascii_hexdigit q.1 ≡ true) × (is_filled q.0 q.1 ≡ true)
@@ -113,10 +113,10 @@ form_only text q e =
     let second = mapped_some digits _ q first.2 in
     let tests = chosen_some (is_number count && list_all is_ascii_hexdigit digits && is_filled (value count) digits) _ second.0 second.1 in
     let left = both (is_number count && list_all is_ascii_hexdigit digits) (is_filled (value count) digits) tests.0 in
-    let front = both (is_number count) (list_all is_ascii_hexdigit digits) left.0 in
+    let prefix = both (is_number count) (list_all is_ascii_hexdigit digits) left.0 in
     let is : value count ≡ second.0 = some_same (value count) second.0 tests.1 in
     let filled : is_filled second.0 digits ≡ true = ap (λ (n : ℕ). is_filled n digits) (sym is) ∙ left.1 in
-    subst (IsForm text) second.2 (count, cut_only 58 text first.0 first.1, front.0, is, front.1, filled)
+    subst (IsForm text) second.2 (count, cut_only 58 text first.0 first.1, prefix.0, is, prefix.1, filled)
 
 found_bits : (text : List ℕ) (form : IsBitsForm text) → bits_form text ≡ Some (value form.count, form.digits)
 unfolding bits_form bits_len
@@ -157,7 +157,7 @@ reading_bits_only bits text e =
         fill = 4 * length digits - n;
         hexadecimal = form.4;
         few = omega (arith, filled.1);
-        stands = filled.2 ∙ ap (λ (l : List Bool). l ++ replicate (4 * length digits - n) false) is;
+        padded = filled.2 ∙ ap (λ (l : List Bool). l ++ replicate (4 * length digits - n) false) is;
         spelt = form.1 ∙ ap (λ (t : List ℕ). t ++ 58 ∷ digits) count;
       },
     )

@@ -87,9 +87,9 @@ length_packed bytes len packed = let room = packed.room in omega (arith, length-
 pub grown_fill : (bytes : List ℕ) (k len : ℕ) → ((i : ℕ) → len ≤ i → get_or (bits_of bytes) i false ≡ false) → (i : ℕ) → len ≤ i → get_or (bits_of (bytes ++ replicate k 0)) i false ≡ false
 grown_fill bytes k len fill i le = grown bytes k i ∙ fill i le
 
-pub grown_front : (bytes : List ℕ) (k len : ℕ) → len ≤ 8 * length bytes → take len (bits_of (bytes ++ replicate k 0)) ≡ take len (bits_of bytes)
+pub grown_prefix : (bytes : List ℕ) (k len : ℕ) → len ≤ 8 * length bytes → take len (bits_of (bytes ++ replicate k 0)) ≡ take len (bits_of bytes)
 unfolding bits_of
-grown_front bytes k len room =
+grown_prefix bytes k len room =
     ap (take len) (flat_map-append (num 8) bytes (replicate k 0)) ∙ take-append-le len (flat_map (num 8) bytes) (flat_map (num 8) (replicate k 0)) (omega (arith, length-bits_of bytes))
 
 -- bytes that show bits are packed, where they are no more than the bits need
@@ -112,8 +112,8 @@ module _ (old big : List ℕ) (len w n : ℕ) (packed : IsPacked old len) (is_bi
   pub big_fill : (i : ℕ) → len ≤ i → get_or (bits_of big) i false ≡ false
   big_fill i le = rw big_is (grown_fill old (n - length old) len packed.fill i le)
 
-  big_front : take len (bits_of big) ≡ take len (bits_of old)
-  big_front = rw big_is (grown_front old (n - length old) len packed.room)
+  big_prefix : take len (bits_of big) ≡ take len (bits_of old)
+  big_prefix = rw big_is (grown_prefix old (n - length old) len packed.room)
 
   length_whole : (v : ℕ) → length (take len (bits_of big) ++ num w v) ≡ len + w
   length_whole v =
@@ -130,7 +130,7 @@ module _ (old big : List ℕ) (len w n : ℕ) (packed : IsPacked old len) (is_bi
       let room : len + w ≤ 8 * length new = omega (arith, h.0) in
       let shown = shown_is new (take len (bits_of big) ++ num w v) shows (omega arith) in (
         packed_from new (take len (bits_of big) ++ num w v) (len + w) shows whole room (omega (arith, h.1)),
-        (rw whole at shown) ∙ ap (λ (l : List Bool). l ++ num w v) big_front,
+        (rw whole at shown) ∙ ap (λ (l : List Bool). l ++ num w v) big_prefix,
       )
 
 -- what a resize gives, by the length of the list

@@ -18,9 +18,9 @@ use Rattle.identity.proofs.BitsText.{length-digit_bits, digit_bits_more}
 pub halves : (h l : ℕ) → h < 16 → l < 16 → num 8 (16 * h + l) ≡ num 4 h ++ num 4 l
 halves h l high low =
     let v = 16 * h + l in
-    let front : v / 2 ^ 4 ≡ h = omega arith in
+    let prefix : v / 2 ^ 4 ≡ h = omega arith in
     let back : v % 2 ^ 4 ≡ l = omega arith in
-    num-append 4 4 v ∙ ap (λ (n : ℕ). num 4 n ++ num 4 v) front ∙ ap (λ (t : List Bool). num 4 h ++ t) (sym (num-mod 4 v) ∙ ap (num 4) back)
+    num-append 4 4 v ∙ ap (λ (n : ℕ). num 4 n ++ num 4 v) prefix ∙ ap (λ (t : List Bool). num 4 h ++ t) (sym (num-mod 4 v) ∙ ap (num 4) back)
 
 -- one byte more
 pub byte_put : (bytes : List ℕ) (b : ℕ) → bits_of (bytes ++ b ∷ []) ≡ bits_of bytes ++ num 8 b
@@ -107,5 +107,5 @@ module _ (digits bytes : List ℕ) (len k : ℕ) (fill : k < 8) (even : (4 * len
   pub packed : IsPacked bytes len
   packed = let p = parts in let w = whole in record { room = omega (arith, p.0); tight = omega (arith, p.0, p.1, even); fill = rest }
 
-  pub front : take len (bits_of bytes) ≡ take len (digit_bits digits)
-  front = ap (take len) is ∙ take-append-le len (digit_bits digits) (replicate k false) (omega (arith, length-digit_bits digits, parts.0))
+  pub prefix : take len (bits_of bytes) ≡ take len (digit_bits digits)
+  prefix = ap (take len) is ∙ take-append-le len (digit_bits digits) (replicate k false) (omega (arith, length-digit_bits digits, parts.0))

@@ -3,7 +3,7 @@ use Rattle.std.proofs.Common.{◌≡◌, ℕ, ◌+◌, ◌-◌, ◌*◌, ◌^◌
 use Rattle.std.proofs.lemmas.List.{append-nil, append_assoc, length-append, drop-drop, take-take, length-take, length-drop}
 use Rattle.std.specs.Fmt.{digit_glyph}
 use Rattle.identity.specs.Number.{number}
-use Rattle.identity.specs.NumberText.{IsFrontOf}
+use Rattle.identity.specs.NumberText.{IsPrefixOf}
 use Rattle.identity.specs.BitsText.{hex_of}
 
 one : (a : Bool) → number (a ∷ false ∷ false ∷ false ∷ []) ≡ number (a ∷ []) * 2 ^ 3
@@ -56,8 +56,8 @@ whole_digit bits at g room is =
     ∙ ap (λ (l : List Bool). digit_glyph true (number (take 4 (drop at bits))) ∷ hex_of l) (drop-drop 4 at bits) ∙ ap (λ (n : ℕ). n ∷ hex_of (drop (at + 4) bits)) (sym is)
 
 -- what is kept twice is kept
-pub front_of_front : (a b c : List ℕ) → IsFrontOf a b → IsFrontOf b c → IsFrontOf a c
-front_of_front a b c one two =
+pub prefix_of_prefix : (a b c : List ℕ) → IsPrefixOf a b → IsPrefixOf b c → IsPrefixOf a c
+prefix_of_prefix a b c one two =
     let short : length a ≤ length b = omega (arith, ap length one, length-take (length a) b) in
     sym (take-take (length a) (length b) c short) ∙ ap (take (length a)) two ∙ one
 

@@ -24,13 +24,13 @@ bits_of_fields mcc mnc ssi are =
     let country : (mcc * 2 ^ 14 + mnc) / 2 ^ 14 ≡ mcc = omega arith in
     let network : (mcc * 2 ^ 14 + mnc) % 2 ^ 14 ≡ mnc = omega arith in
     let subscriber : n % 2 ^ 24 ≡ ssi = omega arith in
-    let front : num 24 (n / 2 ^ 24) ≡ num 10 mcc ++ num 14 mnc =
+    let prefix : num 24 (n / 2 ^ 24) ≡ num 10 mcc ++ num 14 mnc =
     ap (num 24) codes
     ∙ num-append 10 14 (mcc * 2 ^ 14 + mnc)
     ∙ (λ i. num 10 (country i) ++ num 14 (mcc * 2 ^ 14 + mnc))
     ∙ ap (λ (l : List Bool). num 10 mcc ++ l) (sym (num-mod 14 (mcc * 2 ^ 14 + mnc)) ∙ ap (num 14) network) in
     let back : num 24 n ≡ num 24 ssi = sym (num-mod 24 n) ∙ ap (num 24) subscriber in
-    num-append 24 24 n ∙ (λ i. front i ++ back i)
+    num-append 24 24 n ∙ (λ i. prefix i ++ back i)
 
 -- ---- the order
 
@@ -46,5 +46,5 @@ zero_before_one (false ∷ p) left right = zero_before_one p left right
 
 -- ---- what a prefix begins
 
-pub begins_front : (p q : Path) → p ≡ take (length p) q → begins p q ≡ true
-begins_front p q e = begins_if p q (omega (arith, ap length e, length-take (length p) q)) e
+pub begins_prefix : (p q : Path) → p ≡ take (length p) q → begins p q ≡ true
+begins_prefix p q e = begins_if p q (omega (arith, ap length e, length-take (length p) q)) e

@@ -58,10 +58,10 @@ three_only text p e =
     let forms = chosen_some (is_number (first.0).0 && is_number (second.0).0 && is_number (second.0).1) _ p second.2 in
     let same : ((first.0).0, (second.0).0, (second.0).1) ≡ p = some_same _ p forms.1 in
     let left = both (is_number (first.0).0 && is_number (second.0).0) (is_number (second.0).1) forms.0 in
-    let front = both (is_number (first.0).0) (is_number (second.0).0) left.0 in
+    let prefix = both (is_number (first.0).0) (is_number (second.0).0) left.0 in
     let whole : text ≡ (first.0).0 ++ 45 ∷ (second.0).0 ++ 45 ∷ (second.0).1 =
     cut_only 45 text first.0 first.1 ∙ ap (λ (t : List ℕ). (first.0).0 ++ 45 ∷ t) (cut_only 45 (first.0).1 second.0 second.1) ∙ sym (regroup (first.0).0 (second.0).0 (second.0).1) in
-    subst (λ (q : List ℕ × List ℕ × List ℕ). (text ≡ q.0 ++ 45 ∷ q.1 ++ 45 ∷ q.2) × (is_number q.0 ≡ true) × (is_number q.1 ≡ true) × (is_number q.2 ≡ true)) same (whole, front.0, front.1, left.1)
+    subst (λ (q : List ℕ × List ℕ × List ℕ). (text ≡ q.0 ++ 45 ∷ q.1 ++ 45 ∷ q.2) × (is_number q.0 ≡ true) × (is_number q.1 ≡ true) × (is_number q.2 ≡ true)) same (whole, prefix.0, prefix.1, left.1)
 
 identity_of_again : (n : ℕ) → n < 2 ^ 48 → identity_of (decimal (mcc_of n)) (decimal (mnc_of n)) (decimal (ssi_of n)) ≡ Ok n
 unfolding identity_of
@@ -81,9 +81,9 @@ unfolding identity_of identity_text
 identity_of_only a b c n na nb nc e =
     let ranges = chosen_ok (nat_le (value a) 1023 && nat_le (value b) 16383 && nat_le (value c) 16777215) _ _ n e in
     let left = both (nat_le (value a) 1023 && nat_le (value b) 16383) (nat_le (value c) 16777215) ranges.0 in
-    let front = both (nat_le (value a) 1023) (nat_le (value b) 16383) left.0 in
-    let la = test_le (value a) 1023 front.0 in
-    let lb = test_le (value b) 16383 front.1 in
+    let prefix = both (nat_le (value a) 1023) (nat_le (value b) 16383) left.0 in
+    let la = test_le (value a) 1023 prefix.0 in
+    let lb = test_le (value b) 16383 prefix.1 in
     let lc = test_le (value c) 16777215 left.1 in
     let is : identity_number (value a) (value b) (value c) ≡ n = ok_same _ n ranges.1 in
     let fields = fields_of (value a) (value b) (value c) la lb lc in
@@ -159,8 +159,8 @@ unfolding prefix_of padded
 prefix_of_again p le =
     let zeros = replicate (48 - length p) false in
     let rest : number (drop (length p) (id_path (left_aligned p))) ≡ 0 = ap (λ (l : Path). number (drop (length p) l)) (id_path-aligned p le) ∙ ap number (drop_at p zeros (length p) refl) ∙ zeros_are_none (48 - length p) in
-    let front : take (length p) (id_path (left_aligned p)) ≡ p = ap (take (length p)) (id_path-aligned p le) ∙ take_at p zeros (length p) refl in
-    rw (le_test (length p) 48 le, eq-eqb _ 0 rest) (ap Ok front)
+    let prefix : take (length p) (id_path (left_aligned p)) ≡ p = ap (take (length p)) (id_path-aligned p le) ∙ take_at p zeros (length p) refl in
+    rw (le_test (length p) 48 le, eq-eqb _ 0 rest) (ap Ok prefix)
 
 prefix_of_only : (n len : ℕ) (p : Path) → n < 2 ^ 48 → prefix_of n len ≡ Ok p → (length p ≡ len) × (len ≤ 48) × (left_aligned p ≡ n)
 unfolding prefix_of left_aligned
@@ -213,9 +213,9 @@ within_only a b c len p na nb nc nl e =
     let found = within_ok (value len) (identity_of a b c) p e in
     let range = identity_of_only a b c found.0 na nb nc found.1 in
     let bits = prefix_of_only found.0 (value len) p range.0 found.2 in
-    let front : a ++ 45 ∷ b ++ 45 ∷ c ≡ identity_text (left_aligned p) = range.1 ∙ ap identity_text (sym bits.2) in
+    let prefix : a ++ 45 ∷ b ++ 45 ∷ c ≡ identity_text (left_aligned p) = range.1 ∙ ap identity_text (sym bits.2) in
     let back : len ≡ decimal (length p) = sym (decimal_of_number len nl (omega (arith, bits.1))) ∙ ap decimal (sym bits.0) in
-    (omega (arith, bits.0, bits.1), λ i. front i ++ 47 ∷ back i)
+    (omega (arith, bits.0, bits.1), λ i. prefix i ++ 47 ∷ back i)
 
 Form : List ℕ → (List ℕ × List ℕ × List ℕ) × List ℕ → Type 0
 Form text q = (text ≡ q.0.0 ++ 45 ∷ q.0.1 ++ 45 ∷ q.0.2 ++ 47 ∷ q.1) × (is_number q.0.0 ≡ true) × (is_number q.0.1 ≡ true) × (is_number q.0.2 ≡ true) × (is_number q.1 ≡ true)

@@ -37,7 +37,7 @@ unfolding is_number
 number_empty [] none = refl
 number_empty (c ∷ text) none = absurd (omega (arith, none))
 
--- a zero at the front is the whole number
+-- a zero at the start is the whole number
 pub number_zero : (text : List ℕ) → 0 < length text → get_or text 0 0 ≡ 48 → is_number text ≡ (length text == 1)
 unfolding is_number
 number_zero [] some head = absurd (omega (arith, some))
@@ -106,24 +106,24 @@ all_take [] (suc n) all = refl
 all_take (c ∷ text) (suc n) all =
     rw (and_left (is_ascii_digit c) (list_all is_ascii_digit text) all, all_take text n (and_right (is_ascii_digit c) (list_all is_ascii_digit text) all)) refl
 
--- one digit more behind digits alone
+-- one digit more after digits alone
 pub all_more : (text : List ℕ) (i : ℕ) → list_all is_ascii_digit (take i text) ≡ true → i < length text → is_ascii_digit (get_or text i 0) ≡ true → list_all is_ascii_digit (take (i + 1) text) ≡ true
-all_more [] i front inside digit = absurd (omega (arith, inside))
-all_more (c ∷ text) zero front inside digit = rw digit refl
-all_more (c ∷ text) (suc i) front inside digit =
-    let first = and_left (is_ascii_digit c) (list_all is_ascii_digit (take i text)) front in
-    let rest = all_more text i (and_right (is_ascii_digit c) (list_all is_ascii_digit (take i text)) front) (omega (arith, inside)) digit in
+all_more [] i prefix inside digit = absurd (omega (arith, inside))
+all_more (c ∷ text) zero prefix inside digit = rw digit refl
+all_more (c ∷ text) (suc i) prefix inside digit =
+    let first = and_left (is_ascii_digit c) (list_all is_ascii_digit (take i text)) prefix in
+    let rest = all_more text i (and_right (is_ascii_digit c) (list_all is_ascii_digit (take i text)) prefix) (omega (arith, inside)) digit in
     let one : suc (i + 1) ≡ suc i + 1 = omega arith in
     ap (λ (n : ℕ). list_all is_ascii_digit (take n (c ∷ text))) (sym one) ∙ rw (first, rest) refl
 
 pub digit_more : (text : List ℕ) (i : ℕ) → i < length text → is_ascii_digit (get_or text i 0) ≡ true → value (take (i + 1) text) ≡ 10 * value (take i text) + (get_or text i 0 - 48)
 digit_more text i inside is = let digit : IsInRange 48 57 (get_or text i 0) = grind (arith, is) in omega (arith, digits_value_more 10 text i inside, digit_value_digit (get_or text i 0) digit)
 
-pub front_below : (text : List ℕ) (i v : ℕ) → list_all is_ascii_digit (take i text) ≡ true → i < length text → length text ≤ 15 → v ≡ value (take i text) → v < 2 ^ 56
-front_below text i v all inside few is =
-    let front = take i text in
-    let same : take i front ≡ front = take_all i front (grind (arith, common_steps)) in
-    let below : value (take i front) < 2 ^ (4 * i) = value_below front i all (grind (arith, common_steps, inside)) in
+pub prefix_below : (text : List ℕ) (i v : ℕ) → list_all is_ascii_digit (take i text) ≡ true → i < length text → length text ≤ 15 → v ≡ value (take i text) → v < 2 ^ 56
+prefix_below text i v all inside few is =
+    let prefix = take i text in
+    let same : take i prefix ≡ prefix = take_all i prefix (grind (arith, common_steps)) in
+    let below : value (take i prefix) < 2 ^ (4 * i) = value_below prefix i all (grind (arith, common_steps, inside)) in
     let most : 2 ^ (4 * i) ≤ 2 ^ 56 = pow_mono (let h : 4 * i ≤ 56 = omega (arith, inside, few) in h) in
     omega (arith, is, ap value same, below, most)
 
@@ -169,3 +169,5 @@ cut_none mark text none = absent mark text (λ k inside. fails_before_first (λ 
 
 pub cut_some : (mark : ℕ) (text : List ℕ) (at : ℕ) → position (λ b. b == mark) text ≡ Some at → cut mark text ≡ Some (take at text, drop (at + 1) text)
 cut_some mark text at some = let h = position-Some (λ b. b == mark) text at 0 some in here mark text at h.0 h.1 h.2
+
+pub ruleset short_forms = (number_empty, number_zero, number_form, value_zero)

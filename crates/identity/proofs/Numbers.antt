@@ -8,24 +8,24 @@ use Rattle.identity.specs.Number.{num, number}
 use Rattle.identity.specs.Inside.NumberLaws.{number-num, number-num_mod, num-number, num-append, num-mod, number-lt, take-num, drop-num}
 use Rattle.identity.specs.Packed.{bits_of}
 use Rattle.identity.proofs.Bytes.{length-bits_of}
-use Rattle.identity.proofs.Reading.{front_of}
+use Rattle.identity.proofs.Reading.{prefix_of}
 
 -- eight bits more
 number_byte : (bits : List Bool) (r : ℕ) → r < 2 ^ 8 → number (bits ++ num 8 r) ≡ 256 * number bits + r
 number_byte bits r small =
     let n = length bits in
     let v = 256 * number bits + r in
-    let front : v / 2 ^ 8 ≡ number bits = omega arith in
+    let prefix : v / 2 ^ 8 ≡ number bits = omega arith in
     let back : v % 2 ^ 8 ≡ r = omega arith in
     let split : num (n + 8) v ≡ bits ++ num 8 r =
-    num-append n 8 v ∙ ap (λ (k : ℕ). num n k ++ num 8 v) front ∙ ap (λ (l : List Bool). l ++ num 8 v) (num-number bits)
+    num-append n 8 v ∙ ap (λ (k : ℕ). num n k ++ num 8 v) prefix ∙ ap (λ (l : List Bool). l ++ num 8 v) (num-number bits)
     ∙ ap (λ (l : List Bool). bits ++ l) (sym (num-mod 8 v) ∙ ap (num 8) back) in
     let fits : v < 2 ^ (n + 8) = rw (pow-add 2 n 8) (omega (arith, number-lt bits)) in
     ap number (sym split) ∙ number-num (n + 8) v fits
 
-pub bits_of-append : (front back : List ℕ) → bits_of (front ++ back) ≡ bits_of front ++ bits_of back
+pub bits_of-append : (prefix back : List ℕ) → bits_of (prefix ++ back) ≡ bits_of prefix ++ bits_of back
 unfolding bits_of
-bits_of-append front back = flat_map-append (num 8) front back
+bits_of-append prefix back = flat_map-append (num 8) prefix back
 
 pub one_byte : (b : ℕ) → bits_of (b ∷ []) ≡ num 8 b
 unfolding bits_of
@@ -71,9 +71,9 @@ within_bytes bytes at w s m low high room =
     let r = at - 8 * s in
     let place : at ≡ 8 * s + r = omega arith in
     let rest : m ≤ length (drop s bytes) = omega (arith, length-drop s bytes) in
-    let behind : drop at (bits_of bytes) ≡ drop r (bits_of (drop s bytes)) =
+    let following : drop at (bits_of bytes) ≡ drop r (bits_of (drop s bytes)) =
     ap (λ (n : ℕ). drop n (bits_of bytes)) place ∙ sym (drop-drop r (8 * s) (bits_of bytes)) ∙ ap (drop r) (bits_dropped s bytes (omega arith)) in
-    ap (take w) behind ∙ sym (front_of (bits_of (drop s bytes)) r (8 * m) w (omega arith)) ∙ ap (λ (l : List Bool). take w (drop r l)) (bits_taken m (drop s bytes) rest)
+    ap (take w) following ∙ sym (prefix_of (bits_of (drop s bytes)) r (8 * m) w (omega arith)) ∙ ap (λ (l : List Bool). take w (drop r l)) (bits_taken m (drop s bytes) rest)
 
 -- the number of bits from a place on, by the number of the bytes that they lie in
 pub number_in_bytes : (bytes : List ℕ) (at w s e : ℕ) → s ≡ at / 8 → at + w ≤ 8 * e → 8 * e < at + w + 8 → s ≤ e → e ≤ length bytes

@@ -16,8 +16,8 @@ pub begins_bits : (n a v : ℕ) → n ≤ 48 → a < 2 ^ n → nat_eq (v % 2 ^ 4
 begins_bits n a v le fits =
     let x = v % 2 ^ 48 / 2 ^ (48 - n) in
     let below : x < 2 ^ n = first_bits_fit n (v % 2 ^ 48) le (omega arith) in
-    let front : take n (id_path v) ≡ num n x = ap (take n) (sym (id_path-mod v)) ∙ take-id n (v % 2 ^ 48) le in
-    let here : take (length (num n a)) (id_path v) ≡ num n x = ap (λ (k : ℕ). take k (id_path v)) (length-num n a) ∙ front in
+    let prefix : take n (id_path v) ≡ num n x = ap (take n) (sym (id_path-mod v)) ∙ take-id n (v % 2 ^ 48) le in
+    let here : take (length (num n a)) (id_path v) ≡ num n x = ap (λ (k : ℕ). take k (id_path v)) (length-num n a) ∙ prefix in
     begins_test (nat_eq x a) (num n a) (id_path v)
     (omega (arith, length-num n a, length-id_path v))
     (λ t. let same : x ≡ a = grind (arith, nat_tests) in ap (num n) (sym same) ∙ sym here)

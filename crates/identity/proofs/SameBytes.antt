@@ -12,11 +12,11 @@ use Rattle.identity.specs.Inside.NumberLaws.{length-num, number-num}
 use Rattle.identity.specs.Packed.{bits_of, IsPacked, AreBytes}
 use Rattle.identity.proofs.Bytes.{length-bits_of, length_packed}
 
-front : (w : ℕ) (x y : List Bool) → length x ≡ w → take w (x ++ y) ≡ x
-front w x y e = ap (λ (n : ℕ). take n (x ++ y)) (sym e) ∙ take-append_seam x y
+prefix : (w : ℕ) (x y : List Bool) → length x ≡ w → take w (x ++ y) ≡ x
+prefix w x y e = ap (λ (n : ℕ). take n (x ++ y)) (sym e) ∙ take-append_seam x y
 
-behind : (w : ℕ) (x y : List Bool) → length x ≡ w → drop w (x ++ y) ≡ y
-behind w x y e = ap (λ (n : ℕ). drop n (x ++ y)) (sym e) ∙ drop-append_seam x y
+following : (w : ℕ) (x y : List Bool) → length x ≡ w → drop w (x ++ y) ≡ y
+following w x y e = ap (λ (n : ℕ). drop n (x ++ y)) (sym e) ∙ drop-append_seam x y
 
 -- bytes are one where their bits are
 pub bytes_from_bits : (a b : List ℕ) → AreBytes a → AreBytes b → bits_of a ≡ bits_of b → a ≡ b
@@ -25,8 +25,8 @@ bytes_from_bits [] [] low high e = refl
 bytes_from_bits [] (y ∷ b) low high e = absurd (omega (arith, ap length e, length-append (num 8 y) (flat_map (num 8) b), length-num 8 y))
 bytes_from_bits (x ∷ a) [] low high e = absurd (omega (arith, ap length e, length-append (num 8 x) (flat_map (num 8) a), length-num 8 x))
 bytes_from_bits (x ∷ a) (y ∷ b) low high e =
-    let first : num 8 x ≡ num 8 y = sym (front 8 (num 8 x) (flat_map (num 8) a) (length-num 8 x)) ∙ ap (take 8) e ∙ front 8 (num 8 y) (flat_map (num 8) b) (length-num 8 y) in
-    let rest : flat_map (num 8) a ≡ flat_map (num 8) b = sym (behind 8 (num 8 x) (flat_map (num 8) a) (length-num 8 x)) ∙ ap (drop 8) e ∙ behind 8 (num 8 y) (flat_map (num 8) b) (length-num 8 y) in
+    let first : num 8 x ≡ num 8 y = sym (prefix 8 (num 8 x) (flat_map (num 8) a) (length-num 8 x)) ∙ ap (take 8) e ∙ prefix 8 (num 8 y) (flat_map (num 8) b) (length-num 8 y) in
+    let rest : flat_map (num 8) a ≡ flat_map (num 8) b = sym (following 8 (num 8 x) (flat_map (num 8) a) (length-num 8 x)) ∙ ap (drop 8) e ∙ following 8 (num 8 y) (flat_map (num 8) b) (length-num 8 y) in
     let head : x ≡ y = sym (number-num 8 x (low 0)) ∙ ap number first ∙ number-num 8 y (high 0) in
     let tail : a ≡ b = bytes_from_bits a b (λ i. low (suc i)) (λ i. high (suc i)) rest in
     cc

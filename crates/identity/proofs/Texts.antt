@@ -150,19 +150,19 @@ reading_number_faults most text f = number_fault (is_number text)
 -- ---- parts
 
 -- a text comes apart at a mark that none of its first bytes is
-pub cut_again : (p : ℕ → Bool) (mark : ℕ) (front back : List ℕ) → list_all p front ≡ true → p mark ≡ false → cut mark (front ++ mark ∷ back) ≡ Some (front, back)
+pub cut_again : (p : ℕ → Bool) (mark : ℕ) (prefix back : List ℕ) → list_all p prefix ≡ true → p mark ≡ false → cut mark (prefix ++ mark ∷ back) ≡ Some (prefix, back)
 unfolding cut
 cut_again p mark [] back all is = rw (eq-eqb mark mark refl) refl
-cut_again p mark (b ∷ front) back all is =
-    let here = both (p b) (list_all p front) all in
+cut_again p mark (b ∷ prefix) back all is =
+    let here = both (p b) (list_all p prefix) all in
     let other : (b == mark) ≡ false = ne_eqb b mark (λ e. false≢true (sym is ∙ ap p (sym e) ∙ here.0)) in
-    let rest : cut mark (front ++ mark ∷ back) ≡ Some (front, back) = cut_again p mark front back here.1 is in
+    let rest : cut mark (prefix ++ mark ∷ back) ≡ Some (prefix, back) = cut_again p mark prefix back here.1 is in
     rw (other, rest) refl
 
-behind : (mark b : ℕ) (text : List ℕ) (found : Option (List ℕ × List ℕ)) (parts : List ℕ × List ℕ) → ((q : List ℕ × List ℕ) → found ≡ Some q → text ≡ q.0 ++ mark ∷ q.1)
+following : (mark b : ℕ) (text : List ℕ) (found : Option (List ℕ × List ℕ)) (parts : List ℕ × List ℕ) → ((q : List ℕ × List ℕ) → found ≡ Some q → text ≡ q.0 ++ mark ∷ q.1)
     → option_map (λ q. (b ∷ q.0, q.1)) found ≡ Some parts → b ∷ text ≡ parts.0 ++ mark ∷ parts.1
-behind mark b text None parts later e = absurd (none_some parts e)
-behind mark b text (Some q) parts later e = ap (λ (t : List ℕ). b ∷ t) (later q refl) ∙ ap (λ (r : List ℕ × List ℕ). r.0 ++ mark ∷ r.1) (some_same (b ∷ q.0, q.1) parts e)
+following mark b text None parts later e = absurd (none_some parts e)
+following mark b text (Some q) parts later e = ap (λ (t : List ℕ). b ∷ t) (later q refl) ∙ ap (λ (r : List ℕ × List ℕ). r.0 ++ mark ∷ r.1) (some_same (b ∷ q.0, q.1) parts e)
 
 pub cut_only : (mark : ℕ) (text : List ℕ) (parts : List ℕ × List ℕ) → cut mark text ≡ Some parts → text ≡ parts.0 ++ mark ∷ parts.1
 unfolding cut
@@ -175,5 +175,5 @@ cut_only mark (b ∷ text) parts e =
           ap (λ (c : ℕ). c ∷ text) same ∙ ap (λ (q : List ℕ × List ℕ). q.0 ++ mark ∷ q.1) is
       | inr other ↦
           let first : (b == mark) ≡ false = ne_eqb b mark other in
-          behind mark b text (cut mark text) parts (λ q. cut_only mark text q) (rw first at e)
+          following mark b text (cut mark text) parts (λ q. cut_only mark text q) (rw first at e)
     ]

@@ -1,5 +1,6 @@
--- Strings of bits as text: how many they are, `:`, and hexadecimal digits, the last one filled up with zeros.
-use Rattle.std.specs.Prelude.{◌≡◌, ℕ, ◌+◌, ◌*◌, ◌<◌, Bool, true, false, ◌&&◌, ◌==◌, List, [], ◌∷◌, ◌++◌, length, take, drop, replicate, Option, Some, None, option_map, Result, Ok, Err, nat_le, nat_lt, decimal, if◌then◌else◌}
+-- Strings of bits as text: their number, `:`, and hexadecimal digits, the last one filled up with zeros.
+use Rattle.std.specs.Prelude.{◌≡◌, ℕ, ◌+◌, ◌*◌, ◌<◌, Bool, true, false, ◌&&◌, ◌==◌, List, [], ◌∷◌, ◌++◌, length, take, drop, replicate}
+use Rattle.std.specs.Prelude.{Option, Some, None, option_map, Result, Ok, Err, nat_le, nat_lt, decimal, if◌then◌else◌}
 use Rattle.std.specs.Char.{digit_value, is_ascii_hexdigit}
 use Rattle.std.specs.Fmt.{digit_glyph}
 use Rattle.std.specs.List.{flat_map, list_all}
@@ -28,20 +29,20 @@ hex_of (a ∷ b ∷ c ∷ d ∷ rest) = hex_glyph (a ∷ b ∷ c ∷ d ∷ []) �
 unfoldable pub bits_text : List Bool → List Byte
 bits_text bits = decimal (length bits) ++ 58 ∷ hex_of bits
 
--- the bits that digits of either case stand for, four each
+-- the bits of digits in either case, four each
 unfoldable pub digit_bits : List Byte → List Bool
 digit_bits digits = flat_map (λ c. num 4 (digit_value c)) digits
 
--- a text spells bits: their number, and digits that stand for them and for fewer than four zeros behind them
+-- a text spells bits: their number, `:`, and the digits of the bits with fewer than four zeros after them
 pub record SpellsBits (text : List Byte) (bits : List Bool) : Type 0 where
   pub digits : List Byte
   pub fill : ℕ
   pub hexadecimal : list_all is_ascii_hexdigit digits ≡ true
   pub few : fill < 4
-  pub stands : digit_bits digits ≡ bits ++ replicate fill false
+  pub padded : digit_bits digits ≡ bits ++ replicate fill false
   pub spelt : text ≡ decimal (length bits) ++ 58 ∷ digits
 
--- ---- what texts say: the form is judged before any range
+-- ---- the reading of texts: the form is judged before any range
 
 -- the digits are as many as n bits need, and what fills the last one is 0
 unfoldable pub is_filled : ℕ → List Byte → Bool
@@ -56,18 +57,18 @@ pub record IsBitsForm (text : List Byte) : Type 0 where
   pub hexadecimal : list_all is_ascii_hexdigit digits ≡ true
   pub filled : is_filled (value count) digits ≡ true
 
--- how many bits a text has whose form is good
+-- how many bits a text has, by its count and its digits; none where its form is not good
 unfoldable pub bits_len : List Byte → List Byte → Option ℕ
 bits_len count digits = if is_number count && list_all is_ascii_hexdigit digits && is_filled (value count) digits then Some (value count) else None
 
--- how many bits a text has, and their digits
+-- how many bits a text has, and their digits; none where its form is not good
 unfoldable pub bits_form : List Byte → Option (ℕ × List Byte)
 bits_form text = option_and_then (λ p. option_map (λ n. (n, p.1)) (bits_len p.0 p.1)) (cut 58 text)
 
--- the most bits of a string
+-- the most bits of a string that is read
 abbrev pub most_bits : ℕ
 most_bits = 2048
 
--- what a text says that is to be at most so many bits
+-- the bits that are read from a text, or the fault
 unfoldable pub reading_bits : List Byte → Result (List Bool) Fault
 reading_bits text = judged (λ form. if nat_le form.0 most_bits then Ok (take form.0 (digit_bits form.1)) else Err OutOfRange) (bits_form text)

@@ -1,5 +1,6 @@
 -- Identities as text, `mcc-mnc-ssi`, and prefixes, an identity, `/` and how many of its bits they have.
-use Rattle.std.specs.Prelude.{◌≡◌, ℕ, true, ◌&&◌, ◌==◌, List, ◌∷◌, ◌++◌, length, take, drop, Option, Some, None, Result, Ok, Err, nat_le, decimal, if◌then◌else◌}
+use Rattle.std.specs.Prelude.{◌≡◌, ℕ, true, ◌&&◌, ◌==◌, List, ◌∷◌, ◌++◌, length, take, drop, Option}
+use Rattle.std.specs.Prelude.{Some, None, Result, Ok, Err, nat_le, decimal, if◌then◌else◌}
 use Rattle.std.specs.Option.{option_and_then}
 use Rattle.identity.specs.Numbers.{Identity, Byte}
 use Rattle.identity.specs.Number.{number}
@@ -37,7 +38,7 @@ pub record IsPrefixForm (text : List Byte) : Type 0 where
   pub form : IsIdentityForm identity
   pub number : is_number len ≡ true
 
--- ---- what texts say: the form is judged before any range
+-- ---- the reading of texts: the form is judged before any range
 
 -- the digits of three numbers, of any size
 unfoldable pub three_numbers : List Byte → Option (List Byte × List Byte × List Byte)
@@ -52,24 +53,24 @@ identity_of mcc mnc ssi =
     if nat_le (value mcc) most_mcc && nat_le (value mnc) most_mnc && nat_le (value ssi) most_ssi
     then Ok (identity_number (value mcc) (value mnc) (value ssi)) else Err OutOfRange
 
--- what a text says that is to be an identity
+-- the identity that is read from a text, or the fault
 unfoldable pub reading_identity : List Byte → Result Identity Fault
 reading_identity text = judged (λ numbers. identity_of numbers.0 numbers.1 numbers.2) (three_numbers text)
 
--- the first `len` bits of an identity, where there are no more than 48 and those past them are 0
+-- the first `len` bits of an identity, where `len` is at most 48 and the bits past them are 0
 unfoldable pub prefix_of : Identity → ℕ → Result Path Fault
 prefix_of identity len =
     if nat_le len 48 && (number (drop len (id_path identity)) == 0) then Ok (take len (id_path identity)) else Err OutOfRange
 
--- the digits of an identity's numbers and those of a length
+-- the digits of the three numbers of an identity and of a length
 unfoldable pub prefix_form : List Byte → Option ((List Byte × List Byte × List Byte) × List Byte)
 prefix_form text = option_and_then (λ p. option_and_then (λ numbers. if is_number p.1 then Some (numbers, p.1) else None) (three_numbers p.0)) (cut 47 text)
 
--- the first `len` bits of an identity that was read, or the fault
+-- the first `len` bits of an identity that was read, or the fault of its reading
 abbrev pub prefix_within : ℕ → Result Identity Fault → Result Path Fault
 prefix_within len (Err fault) = Err fault
 prefix_within len (Ok identity) = prefix_of identity len
 
--- what a text says that is to be a prefix
+-- the prefix that is read from a text, or the fault
 unfoldable pub reading_prefix : List Byte → Result Path Fault
 reading_prefix text = judged (λ form. prefix_within (value form.1) (identity_of form.0.0 form.0.1 form.0.2)) (prefix_form text)

@@ -1,5 +1,6 @@
 -- Numbers as text: decimal digits without leading zeros.
-use Rattle.std.specs.Prelude.{◌≡◌, ℕ, length, take, Bool, false, not, ◌&&◌, ◌==◌, List, [], ◌∷◌, Option, Some, None, option_map, Result, Ok, Err, nat_le, if◌then◌else◌}
+use Rattle.std.specs.Prelude.{◌≡◌, ℕ, length, take, Bool, false, not, ◌&&◌, ◌==◌, List, [], ◌∷◌, Option}
+use Rattle.std.specs.Prelude.{Some, None, option_map, Result, Ok, Err, nat_le, if◌then◌else◌}
 use Rattle.std.specs.Char.{is_ascii_digit}
 use Rattle.std.specs.List.{list_all}
 use Rattle.std.specs.Str.Parse.{digits_value}
@@ -13,24 +14,24 @@ is_number [] = false
 is_number (c ∷ []) = is_ascii_digit c
 is_number (c ∷ d ∷ text) = not (c == 48) && list_all is_ascii_digit (c ∷ d ∷ text)
 
--- the number that digits are
+-- the value of digits
 abbrev pub value : List Byte → ℕ
 value digits = digits_value 10 digits
 
--- what a text says that is to be a number of at most `most`: the form is judged before the range
+-- the number of at most `most` that is read from a text, or the fault: the form is judged before the range
 unfoldable pub reading_number : ℕ → List Byte → Result ℕ Fault
 reading_number most text = if is_number text then (if nat_le (value text) most then Ok (value text) else Err OutOfRange) else Err BadText
 
--- what stands before the first byte `mark`, and what stands behind it
+-- what is before the first byte `mark`, and what is after it
 unfoldable pub cut : Byte → List Byte → Option (List Byte × List Byte)
 cut mark [] = None
 cut mark (b ∷ text) = if b == mark then Some ([], text) else option_map (λ parts. (b ∷ parts.0, parts.1)) (cut mark text)
 
--- what `range` says of the form that was found in a text, and `BadText` where there is none
+-- the result of `range` for the form that was found in a text, and `BadText` where none was found
 abbrev pub judged : {A B : Type 0} → (A → Result B Fault) → Option A → Result B Fault
 judged range None = Err BadText
 judged range (Some form) = range form
 
--- what was in a buffer is there still, at its front
-abbrev pub IsFrontOf : List Byte → List Byte → Type 0
-IsFrontOf old new = take (length old) new ≡ old
+-- the old contents of a buffer are a prefix of the new ones
+abbrev pub IsPrefixOf : List Byte → List Byte → Type 0
+IsPrefixOf old new = take (length old) new ≡ old

@@ -10,7 +10,7 @@ use Rattle.identity.specs.Number.{num, number}
 abbrev pub Path : Type 0
 Path = List Bool
 
--- a prefix before its extensions, and else by the first bit that differs
+-- the order: a prefix is before its extensions, and else the first bit that differs decides
 abbrev pub path_cmp : Path → Path → Ordering
 path_cmp = slice_cmp bool_cmp
 
@@ -18,11 +18,11 @@ path_cmp = slice_cmp bool_cmp
 unfoldable pub id_path : Identity → Path
 id_path v = num 48 v
 
--- the identity that begins with a prefix and has only zeros behind it
+-- the identity of a prefix and only zeros after it
 unfoldable pub left_aligned : Path → Identity
 left_aligned p = number (p ++ replicate (48 - length p) false)
 
--- the first list begins the second
+-- the first list is a prefix of the second
 abbrev pub begins : Path → Path → Bool
 begins [] q = true
 begins (b ∷ p) [] = false

@@ -53,7 +53,7 @@ impl<A: Allocator> Bits<A> {
         bit_in(&self.bytes, at)
     }
 
-    /// A copy under the given allocator; `Fault::NoMemory` where it has none left.
+    /// A copy under the given allocator; `Fault::NoMemory` where that is out of memory.
     pub fn try_copy<B: Allocator>(&self, alloc: B) -> Result<Bits<B>, Fault>
         ensures ok { IfOk result (λ copy. copy ≡ self.now) }
         ensures err { IfErr result (λ e. e ≡ NoMemory) }
@@ -64,8 +64,8 @@ impl<A: Allocator> Bits<A> {
         })
     }
 
-    /// Its bits packed in bytes: eight to a byte, the first of them the greatest, in no more bytes than they
-    /// need; what fills the last byte is 0.
+    /// Its bits packed in as few bytes as they need: eight to a byte, the first of them the greatest. What fills
+    /// the last byte is 0.
     pub fn as_bytes(&self) -> &[u8]
         ensures packed { IsPacked result.now (length self.now) }
         ensures bits { take (length self.now) (bits_of result.now) ≡ self.now }
@@ -73,7 +73,7 @@ impl<A: Allocator> Bits<A> {
         self.bytes.as_slice()
     }
 
-    /// Whether the two are the same bits; they may lie under different allocators.
+    /// Whether the two are the same bits. Their allocators may differ.
     pub fn same<B: Allocator>(&self, other: &Bits<B>) -> bool
         ensures equal { IsTrue result ↔ (self.now ≡ other.now) }
         ensures test { result ≡ eq_by_cmp path_cmp self.now other.now }
@@ -98,7 +98,7 @@ impl<A: Allocator> Bits<A> {
         Bits { bytes, len }
     }
 
-    /// Puts the low bits of `value` at the end.
+    /// Appends the low `width` bits of `value`, the greatest first.
     #[inline(always)]
     pub(crate) fn append(&mut self, value: u64, width: u32) -> Result<(), Fault>
         requires { width ≤ 64 }
@@ -134,8 +134,8 @@ impl<A: Allocator> Eq for Bits<A> {
     ghost laws = { eq_by_cmp_equiv paths_total };
 }
 
-/// Writes what [`print_bits`](crate::print_bits) appends, whatever options stand in `{}`. There is no `FromStr`
-/// beside it, since bits lie in memory: [`parse_bits`](crate::parse_bits) takes where.
+/// Writes what [`print_bits`](crate::print_bits) appends, whatever options are in `{}`. There is no `FromStr`,
+/// since bits need an allocator: [`parse_bits`](crate::parse_bits) takes one.
 ///
 /// ```
 /// let bits = parse_bits(rt.alloc(), b"10:264")?;

@@ -1,12 +1,13 @@
 //! Strings of bits as text.
 
-ghost use Rattle.std.specs.Prelude.{◌≡◌, ◌<◌, ◌≤◌, ◌^◌, ◌*◌, ◌+◌, ◌-◌, ◌/◌, ◌%◌, ◌++◌, ◌∷◌, ◌⊎◌, true, false, replicate, OnOk, OnErr, IfOk, IfErr, IfSome, Ok, Err, IsTrue, IsOk, length, take, drop, vec_len, vec_capacity, ◌==◌};
+ghost use Rattle.std.specs.Prelude.{◌≡◌, ◌<◌, ◌≤◌, ◌^◌, ◌*◌, ◌+◌, ◌-◌, ◌/◌, ◌%◌, ◌++◌, ◌∷◌, ◌⊎◌, true, false, replicate, OnOk, OnErr};
+ghost use Rattle.std.specs.Prelude.{IfOk, IfErr, IfSome, Ok, Err, IsTrue, IsOk, length, take, drop, vec_len, vec_capacity, ◌==◌};
 ghost use Rattle.std.specs.Char.{digit_value, is_ascii_hexdigit};
 ghost use Rattle.std.specs.Fmt.{digit_glyph};
 ghost use Rattle.std.specs.List.{list_all};
 ghost use Rattle.identity.specs.Number.{num, number};
 ghost use Rattle.identity.specs.Packed.{bits_of as packed_bits};
-ghost use Rattle.identity.specs.NumberText.{is_number, value, IsFrontOf};
+ghost use Rattle.identity.specs.NumberText.{is_number, value, IsPrefixOf};
 ghost use Rattle.identity.specs.BitsText.{hex_of, bits_text, digit_bits, bits_len, is_filled, reading_bits};
 ghost use Rattle.identity.specs.declared.fault.Fault.TheVariants.{NoMemory};
 
@@ -50,7 +51,7 @@ fn ends_in_zeros(digits: &[u8], fill: u32) -> bool
     }
 }
 
-/// How many bits a text has whose form is good.
+/// How many bits a text has, by its count and its digits; `None` where its form is not good.
 #[inline(always)]
 #[tactic(auto, unfolding(crate::specs::BitsText::bits_len, crate::specs::BitsText::is_filled))]
 fn bits_len(count: &[u8], digits: &[u8]) -> Option<u128>
@@ -81,7 +82,7 @@ fn byte_of(high: u8, low: u8) -> u8
     (16 * digit_of(high) + digit_of(low)) as u8
 }
 
-/// The bytes of hexadecimal digits; the last one's low half is 0 where the digits are odd in number.
+/// The bytes of hexadecimal digits. Where the number of digits is odd, the low half of the last byte is 0.
 #[inline(always)]
 fn bytes_of<A: Allocator>(alloc: A, digits: &[u8]) -> Result<Vec<u8, A>, AllocError>
     requires { IsTrue (list_all is_ascii_hexdigit digits.now) }
@@ -108,8 +109,8 @@ fn bits_of<A: Allocator>(alloc: A, digits: &[u8], len: usize) -> Result<Bits<A>,
     Ok(Bits::packed(bytes_of(alloc, digits)?, len))
 }
 
-/// The bits that a text `bits:HEX` says, at most [`MOST_BITS`] of them; `Fault::BadText` where the text has not that
-/// form, and else `Fault::OutOfRange` where they are more; `Fault::NoMemory` only for a good text.
+/// The bits of a text `bits:HEX`, at most [`MOST_BITS`] of them. `Fault::BadText` where the text has not that form,
+/// else `Fault::OutOfRange` where the bits are more. `Fault::NoMemory` is reported only for a good text.
 #[inline(always)]
 #[tactic(auto, unfolding(crate::specs::BitsText::reading_bits, crate::specs::BitsText::bits_form))]
 pub fn parse_bits<A: Allocator>(alloc: A, text: &[u8]) -> Result<Bits<A>, Fault>
@@ -141,7 +142,7 @@ fn glyph(value: u64) -> u8
     }
 }
 
-/// Four bits that begin with the `width` bits of `value` and end in zeros.
+/// The `width` bits of `value`, filled up to four bits by zeros at the end.
 fn filled(value: u64, width: u32) -> u64
     requires width { width ≤ 4 }
     requires fits { value < 2 ^ width }
@@ -169,7 +170,7 @@ pub(crate) fn next_digit(reader: &mut BitReader<'_>) -> u8
     glyph(filled(value, width))
 }
 
-/// The digit of the half of a byte that begins at place `4 * i`.
+/// The digit of the four bits from place `4 * i` on, which are half of a byte.
 fn half_digit(bytes: &[u8], i: usize) -> u8
     requires { i / 2 < length bytes.now }
     ensures { result ≡ digit_glyph true (number (take 4 (drop (4 * i) (packed_bits bytes.now)))) }
@@ -187,13 +188,13 @@ fn digit_at<B: Allocator>(bits: &Bits<B>, i: usize) -> u8
     half_digit(bits.as_bytes(), i)
 }
 
-/// Puts the two digits of each whole byte.
+/// Appends the two digits of each whole byte.
 fn put_whole_digits<A: Allocator, B: Allocator>(
     out: &mut Vec<u8, A>,
     bits: &Bits<B>,
 ) -> Result<(), AllocError>
     ensures ok { OnOk result (out.new.items ++ hex_of (drop (8 * (length bits.now / 8)) bits.now) ≡ out.old.items ++ hex_of bits.now) }
-    ensures front { IsFrontOf out.old.items out.new.items }
+    ensures prefix { IsPrefixOf out.old.items out.new.items }
     ensures full { OnErr result (vec_capacity out.old < vec_len out.old + length (hex_of bits.now)) }
     ensures capacity { vec_capacity out.old ≤ vec_capacity out.new }
 {
@@ -208,7 +209,7 @@ fn put_digits<A: Allocator>(
     reader: &mut BitReader<'_>,
 ) -> Result<(), AllocError>
     ensures ok { OnOk result (out.new.items ≡ out.old.items ++ hex_of reader.old) }
-    ensures err { OnErr result (IsFrontOf out.old.items out.new.items) }
+    ensures err { OnErr result (IsPrefixOf out.old.items out.new.items) }
     ensures full { OnErr result (vec_capacity out.old < vec_len out.old + length (hex_of reader.old)) }
     ensures capacity { vec_capacity out.old ≤ vec_capacity out.new }
 {
@@ -218,18 +219,18 @@ fn put_digits<A: Allocator>(
     Ok(())
 }
 
-#[tactic(auto, using(crate::proofs::HexSteps::front_of_front))]
+#[tactic(auto, using(crate::proofs::HexSteps::prefix_of_prefix))]
 fn put_hex<A: Allocator, B: Allocator>(
     out: &mut Vec<u8, A>,
     bits: &Bits<B>,
 ) -> Result<(), AllocError>
     ensures ok { OnOk result (out.new.items ≡ out.old.items ++ hex_of bits.now) }
-    ensures err { OnErr result (IsFrontOf out.old.items out.new.items) }
+    ensures err { OnErr result (IsPrefixOf out.old.items out.new.items) }
     ensures full { OnErr result (vec_capacity out.old < vec_len out.old + length (hex_of bits.now)) }
     ensures capacity { vec_capacity out.old ≤ vec_capacity out.new }
 {
     put_whole_digits(out, bits)?;
-    put_digits(out, &mut BitReader::behind(bits, 8 * (bits.len() / 8)))?;
+    put_digits(out, &mut BitReader::from_place(bits, 8 * (bits.len() / 8)))?;
     Ok(())
 }
 
@@ -239,7 +240,7 @@ fn put_bits<A: Allocator, B: Allocator>(
     bits: &Bits<B>,
 ) -> Result<(), AllocError>
     ensures ok { OnOk result (out.new.items ≡ out.old.items ++ bits_text bits.now) }
-    ensures err { OnErr result (IsFrontOf out.old.items out.new.items) }
+    ensures err { OnErr result (IsPrefixOf out.old.items out.new.items) }
     ensures full { OnErr result (vec_capacity out.old < vec_len out.old + length (bits_text bits.now)) }
     ensures capacity { vec_capacity out.old ≤ vec_capacity out.new }
 {

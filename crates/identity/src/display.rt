@@ -1,4 +1,4 @@
-//! What `{}` writes of identities and bits: the texts that the print calls append, without memory.
+//! What `{}` writes of identities and bits: the texts that the print calls append. This takes no memory.
 
 ghost use Rattle.std.specs.Prelude.{◌≡◌, ◌<◌, ◌^◌, Some};
 ghost use Rattle.std.specs.Fmt.{DisplaysOnOk};
@@ -13,7 +13,7 @@ use std::fmt::{Display, InlineText};
 /// How many bytes the longest text of a prefix has.
 const MOST_BYTES: usize = 22;
 
-/// Writes a text, or through a buffer where a width or a precision holds for the whole of it.
+/// Writes a text. Where a width or a precision is given, it goes through a buffer, since they hold for the whole text.
 pub(crate) fn pad<W: fmt::Write, D: Display + Drop>(
     f: &mut fmt::Formatter<W>,
     text: D,

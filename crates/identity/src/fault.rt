@@ -1,4 +1,4 @@
-//! Why bits and texts are refused.
+//! The faults of bits and texts.
 
 ghost use Rattle.std.specs.Prelude.{◌≡◌};
 ghost use Rattle.identity.specs.declared.fault.Fault.TheVariants.{NoMemory};
@@ -15,10 +15,10 @@ pub enum Fault {
     /// The text has not the form, whatever its numbers are.
     #[error("the text has not the form")]
     BadText,
-    /// The text has the form, and a number in it is too great, a bit past a prefix is 1 or the bits are too many.
+    /// The text has the form, but a number in it is too great, a bit past a prefix is 1, or the bits are too many.
     #[error("a number is out of range")]
     OutOfRange,
-    /// A growth was refused.
+    /// The allocator is out of memory.
     #[error("out of memory")]
     NoMemory,
 }

@@ -3,7 +3,7 @@
 ghost use Rattle.std.specs.Prelude.{◌≡◌, ◌<◌, ◌^◌, ◌↔◌, IsSome, IfSome};
 ghost use Rattle.identity.specs.Identity.{identity_number, AreFields, mcc_of, mnc_of, ssi_of};
 
-/// How many numbers 48 bits have.
+/// How many identities there are: one for each number of 48 bits.
 pub const IDENTITIES: u64 = 1 << 48;
 /// The greatest country code, of 10 bits.
 pub const MOST_MCC: u32 = 1023;
@@ -12,7 +12,7 @@ pub const MOST_MNC: u32 = 16_383;
 /// The greatest subscriber number, of 24 bits.
 pub const MOST_SSI: u32 = 16_777_215;
 
-/// The identity's number.
+/// The number of an identity.
 pub fn number_of(mcc: u32, mnc: u32, ssi: u32) -> u64
     requires { AreFields mcc mnc ssi }
     ensures value { result ≡ identity_number mcc mnc ssi }
@@ -21,7 +21,7 @@ pub fn number_of(mcc: u32, mnc: u32, ssi: u32) -> u64
     (u64::from(mcc) << 38) + (u64::from(mnc) << 24) + u64::from(ssi)
 }
 
-/// The identity's number, where each of the three is in its range.
+/// The number of an identity, where each of the three numbers is in its range.
 pub fn checked_number(mcc: u32, mnc: u32, ssi: u32) -> Option<u64>
     ensures fits { IsSome result ↔ AreFields mcc mnc ssi }
     ensures value { IfSome result (λ n. n ≡ identity_number mcc mnc ssi) }

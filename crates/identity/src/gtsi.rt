@@ -1,4 +1,4 @@
-//! Identities of groups.
+//! Identities of groups. Why this file is so like `itsi.rt` is said there.
 
 ghost use Rattle.std.specs.Prelude.{◌≡◌, ◌<◌, ◌^◌, ◌↔◌, IsSome, IfSome, Some};
 ghost use Rattle.identity.specs.Path.{id_path};
@@ -11,7 +11,8 @@ use std::fmt;
 use std::marker::Model;
 use std::str::FromStr;
 
-/// The identity of a group of radios: its 48-bit TETRA subscriber identity (ETSI EN 300 392-1, clause 7).
+/// The identity of a group of radios: its 48-bit TETRA subscriber identity (ETSI EN 300 392-1, clause 7). That of a
+/// radio is an [`Itsi`](crate::Itsi).
 #[derive(Clone, Copy, Debug, PartialEq, Eq)]
 pub struct Gtsi {
     number: u64,

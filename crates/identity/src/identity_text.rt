@@ -1,16 +1,18 @@
 //! Identities and prefixes as text.
 
 ghost use Rattle.std.specs.Prelude.{◌≡◌, ◌<◌, ◌≤◌, ◌^◌, ◌+◌, ◌++◌, OnOk, OnErr, IfOk, IfSome, IsTrue, length, vec_len, vec_capacity};
-ghost use Rattle.identity.specs.NumberText.{IsFrontOf};
+ghost use Rattle.identity.specs.NumberText.{IsPrefixOf};
 ghost use Rattle.identity.specs.IdentityText.{identity_text, prefix_text, reading_identity, prefix_of, reading_prefix};
 
 use crate::number_text::{cut, parse_number, print_number, put_whole};
 use crate::{Fault, Gtsi, Itsi, Prefix, fields};
 use std::alloc::{AllocError, Allocator};
 
-/// The number of the identity that a text says, in one pass over its bytes.
+/// The number of the identity that a text names, in one pass over its bytes.
 #[inline(always)]
-#[tactic(auto, unfolding(crate::specs::IdentityText::reading_identity, crate::specs::IdentityText::three_numbers, crate::specs::IdentityText::identity_of, crate::specs::NumberText::reading_number))]
+#[tactic(auto, unfolding(crate::specs::IdentityText::reading_identity, crate::specs::IdentityText::three_numbers,
+// and its numbers
+crate::specs::IdentityText::identity_of, crate::specs::NumberText::reading_number))]
 fn reading_identity(text: &[u8]) -> Result<u64, Fault>
     ensures value { result ≡ reading_identity text.now }
     ensures below { IfOk result (λ n. n < 2 ^ 48) }
@@ -33,8 +35,8 @@ fn reading_identity(text: &[u8]) -> Result<u64, Fault>
     }
 }
 
-/// The radio that a text `mcc-mnc-ssi` names; `Fault::BadText` where the text is no three numbers, and else
-/// `Fault::OutOfRange` where one of them is too great.
+/// The radio that a text `mcc-mnc-ssi` names. `Fault::BadText` where the text has not that form, else
+/// `Fault::OutOfRange` where a number is too great.
 pub fn parse_itsi(text: &[u8]) -> Result<Itsi, Fault>
     ensures { result ≡ reading_identity text.now }
 {
@@ -44,7 +46,7 @@ pub fn parse_itsi(text: &[u8]) -> Result<Itsi, Fault>
     }
 }
 
-/// The group that a text `mcc-mnc-ssi` names; faults as for a radio.
+/// The group that a text `mcc-mnc-ssi` names; the faults are those of [`parse_itsi`].
 pub fn parse_gtsi(text: &[u8]) -> Result<Gtsi, Fault>
     ensures { result ≡ reading_identity text.now }
 {
@@ -66,9 +68,13 @@ fn prefix_of(identity: u64, len: u64) -> Result<Prefix, Fault>
     }
 }
 
-/// The prefix that a text `mcc-mnc-ssi/len` names; `Fault::BadText` where the text is no four numbers, and
-/// else `Fault::OutOfRange` where one of them is too great or a bit past `len` is 1.
-#[tactic(auto, unfolding(crate::specs::IdentityText::reading_prefix, crate::specs::IdentityText::prefix_form, crate::specs::IdentityText::reading_identity, crate::specs::IdentityText::three_numbers, crate::specs::IdentityText::identity_of, crate::specs::IdentityText::prefix_of, crate::specs::NumberText::reading_number))]
+/// The prefix that a text `mcc-mnc-ssi/len` names. `Fault::BadText` where the text has not that form, else
+/// `Fault::OutOfRange` where a number is too great or a bit past `len` is 1.
+#[tactic(auto, unfolding(crate::specs::IdentityText::reading_prefix, crate::specs::IdentityText::prefix_form,
+// its identity
+crate::specs::IdentityText::reading_identity, crate::specs::IdentityText::three_numbers, crate::specs::IdentityText::identity_of,
+// and its numbers
+crate::specs::IdentityText::prefix_of, crate::specs::NumberText::reading_number))]
 pub fn parse_prefix(text: &[u8]) -> Result<Prefix, Fault>
     ensures { result ≡ reading_prefix text.now }
 {
@@ -87,7 +93,7 @@ pub fn parse_prefix(text: &[u8]) -> Result<Prefix, Fault>
 fn put_identity<A: Allocator>(out: &mut Vec<u8, A>, number: u64) -> Result<(), AllocError>
     requires { number < 2 ^ 48 }
     ensures ok { OnOk result (out.new.items ≡ out.old.items ++ identity_text number) }
-    ensures err { OnErr result (IsFrontOf out.old.items out.new.items) }
+    ensures err { OnErr result (IsPrefixOf out.old.items out.new.items) }
     ensures full { OnErr result (vec_capacity out.old < vec_len out.old + length (identity_text number)) }
     ensures capacity { vec_capacity out.old ≤ vec_capacity out.new }
 {
@@ -134,7 +140,7 @@ pub fn print_gtsi<A: Allocator>(out: &mut Vec<u8, A>, gtsi: Gtsi) -> Result<(), 
 #[tactic(auto, unfolding(crate::specs::IdentityText::prefix_text), using(crate::proofs::Printed::printed))]
 fn put_prefix<A: Allocator>(out: &mut Vec<u8, A>, prefix: Prefix) -> Result<(), AllocError>
     ensures ok { OnOk result (out.new.items ≡ out.old.items ++ prefix_text prefix) }
-    ensures err { OnErr result (IsFrontOf out.old.items out.new.items) }
+    ensures err { OnErr result (IsPrefixOf out.old.items out.new.items) }
     ensures full { OnErr result (vec_capacity out.old < vec_len out.old + length (prefix_text prefix)) }
     ensures capacity { vec_capacity out.old ≤ vec_capacity out.new }
 {

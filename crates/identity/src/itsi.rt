@@ -1,5 +1,8 @@
 //! Identities of radios.
 
+// `itsi.rt` and `gtsi.rt` differ in names, docs and examples alone. A macro of the kit writes no contract, and of one
+// generic type the contracts of every crate would name the arguments. So there are two types.
+
 ghost use Rattle.std.specs.Prelude.{◌≡◌, ◌<◌, ◌^◌, ◌↔◌, IsSome, IfSome, Some};
 ghost use Rattle.identity.specs.Path.{id_path};
 ghost use Rattle.identity.specs.Identity.{identity_number, AreFields, mcc_of, mnc_of, ssi_of};
@@ -11,7 +14,8 @@ use std::fmt;
 use std::marker::Model;
 use std::str::FromStr;
 
-/// The identity of a radio: its 48-bit TETRA subscriber identity (ETSI EN 300 392-1, clause 7).
+/// The identity of a radio: its 48-bit TETRA subscriber identity (ETSI EN 300 392-1, clause 7). That of a group is a
+/// [`Gtsi`](crate::Gtsi).
 #[derive(Clone, Copy, Debug, PartialEq, Eq)]
 pub struct Itsi {
     number: u64,

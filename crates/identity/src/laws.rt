@@ -1,5 +1,5 @@
-//! Laws of numbers, identities and prefixes, and of their texts: what is printed is what is read back, nothing
-//! else is read, and a text is refused for its form exactly where it has not the form, whatever its numbers are.
+//! Laws of numbers, identities and prefixes, and of their texts. What is printed is read back, and no other text
+//! is read so. A text is refused for its form exactly where it has not the form, whatever its numbers are.
 
 ghost use Rattle.std.specs.Prelude.{◌≡◌, ◌<◌, ◌≤◌, ◌^◌, ◌↔◌, ◌⊎◌, ◌++◌, ◌∷◌, ℕ, List, Bool, true, false, Ok, Err, length, take, decimal};
 ghost use Rattle.std.specs.declared.cmp.Ordering.TheVariants.{Less};
@@ -13,7 +13,7 @@ ghost use Rattle.identity.specs.Path.{Path, path_cmp, id_path, begins};
 ghost use Rattle.identity.specs.declared.fault.Fault.{Fault};
 ghost use Rattle.identity.specs.declared.fault.Fault.TheVariants.{BadText, OutOfRange};
 
-/// A number and its bits give each other back.
+/// A number and its bits determine each other.
 pub fn numbers()
     ensures size { (w v : ℕ) → length (num w v) ≡ w }
     ensures back { (w v : ℕ) → v < 2 ^ w → number (num w v) ≡ v }
@@ -22,17 +22,19 @@ pub fn numbers()
 
 /// Bits are packed in bytes in one way.
 pub fn packed_bits()
-    ensures { (one other : List ℕ) (len : ℕ) → AreBytes one → AreBytes other → IsPacked one len → IsPacked other len → take len (bits_of one) ≡ take len (bits_of other) → one ≡ other }
+    ensures { (one other : List ℕ) (len : ℕ) → AreBytes one → AreBytes other → IsPacked one len → IsPacked other len
+        → take len (bits_of one) ≡ take len (bits_of other) → one ≡ other }
 {}
 
-/// The 48 bits of an identity are those of its three numbers, one after the other, and each 48 bits are an identity.
+/// The 48 bits of an identity are those of its three numbers, one after the other. Any 48 bits are an identity.
 pub fn identities()
     ensures bits { (mcc mnc ssi : ℕ) → AreFields mcc mnc ssi → id_path (identity_number mcc mnc ssi) ≡ num 10 mcc ++ num 14 mnc ++ num 24 ssi }
-    ensures fields { (mcc mnc ssi : ℕ) → AreFields mcc mnc ssi → (mcc_of (identity_number mcc mnc ssi) ≡ mcc) × (mnc_of (identity_number mcc mnc ssi) ≡ mnc) × (ssi_of (identity_number mcc mnc ssi) ≡ ssi) }
+    ensures fields { (mcc mnc ssi : ℕ) → AreFields mcc mnc ssi → (mcc_of (identity_number mcc mnc ssi) ≡ mcc)
+        × (mnc_of (identity_number mcc mnc ssi) ≡ mnc) × (ssi_of (identity_number mcc mnc ssi) ≡ ssi) }
     ensures whole { (n : ℕ) → n < 2 ^ 48 → AreFields (mcc_of n) (mnc_of n) (ssi_of n) × (identity_number (mcc_of n) (mnc_of n) (ssi_of n) ≡ n) }
 {}
 
-/// A prefix begins what it is the front of; it comes before its extensions, and else the first bit that differs decides.
+/// A prefix begins what it is the prefix of. It is ordered before its extensions; else the first bit that differs decides.
 pub fn prefixes()
     ensures begins { (p q : Path) → (begins p q ≡ true) ↔ (p ≡ take (length p) q) }
     ensures extension { (p : Path) (b : Bool) (rest : Path) → path_cmp p (p ++ b ∷ rest) ≡ Less }
@@ -63,7 +65,7 @@ pub fn prefix_texts()
     ensures faults { (text : List ℕ) (fault : Fault) → reading_prefix text ≡ Err fault → (fault ≡ BadText) ⊎ (fault ≡ OutOfRange) }
 {}
 
-/// Bits have the text that is printed, and those whose digits differ from it only in their case.
+/// Bits have the text that is printed, and those texts whose digits differ from it only in case.
 pub fn bits_texts()
     ensures printed { (bits : List Bool) → length bits < 2 ^ 64 → SpellsBits (bits_text bits) bits }
     ensures again { (bits : List Bool) (text : List ℕ) → length bits ≤ most_bits → SpellsBits text bits → reading_bits text ≡ Ok bits }

@@ -1,4 +1,5 @@
-//! Identities of radios and groups, prefixes of identities, and strings of bits.
+//! Identities of radios and groups, prefixes of identities, and strings of bits; each as a value and as text.
+//! It takes memory only from the allocator that it is given, and knows nothing of PDUs, commands, registers and disks.
 #![tactic(auto)]
 
 mod bits;

@@ -1,6 +1,7 @@
 //! Numbers as text: decimal digits without leading zeros.
 
-ghost use Rattle.std.specs.Prelude.{◌≡◌, ◌<◌, ◌≤◌, ◌^◌, ◌+◌, ◌++◌, ◌==◌, Some, None, OnOk, OnErr, IsTrue, decimal, nat_le, option_map, position, length, take, vec_len, vec_capacity, if◌then◌else◌};
+ghost use Rattle.std.specs.Prelude.{◌≡◌, ◌<◌, ◌≤◌, ◌^◌, ◌+◌, ◌++◌, ◌==◌, Some, None, OnOk, OnErr, IsTrue, decimal};
+ghost use Rattle.std.specs.Prelude.{nat_le, option_map, position, length, take, vec_len, vec_capacity, if◌then◌else◌};
 ghost use Rattle.std.specs.Char.{is_ascii_digit};
 ghost use Rattle.std.specs.List.{list_all};
 ghost use Rattle.identity.specs.NumberText.{is_number, value, reading_number, cut};
@@ -15,7 +16,7 @@ fn first(text: &[u8], mark: u8) -> Option<usize>
     text.iter().position(|byte| *byte == mark)
 }
 
-/// What stands before the first byte `mark`, and what stands behind it.
+/// What is before the first byte `mark`, and what is after it.
 #[inline(always)]
 pub(crate) fn cut(text: &[u8], mark: u8) -> Option<(&[u8], &[u8])>
     ensures { option_map (λ parts. (parts.0.now, parts.1.now)) result ≡ cut mark text.now }
@@ -46,10 +47,10 @@ pub(crate) fn is_number(text: &[u8]) -> bool
     all_digits(text)
 }
 
-/// So many digits are a number below 2^60.
+/// How many digits a short number has at most: it is below 2^60.
 const DIGITS: usize = 15;
 
-/// The number that a few digits are.
+/// The value of a few digits.
 #[inline(always)]
 fn short_value(digits: &[u8]) -> u64
     requires digits { IsTrue (list_all is_ascii_digit digits.now) }
@@ -63,7 +64,7 @@ fn short_value(digits: &[u8]) -> u64
     value
 }
 
-/// The number that a few bytes are, where all of them are digits.
+/// The value of a few bytes, where all of them are digits.
 #[inline(always)]
 fn digits_in(text: &[u8]) -> Option<u64>
     requires few { length text.now ≤ 15 }
@@ -79,9 +80,9 @@ fn digits_in(text: &[u8]) -> Option<u64>
     Some(value)
 }
 
-/// The number that a text of a few bytes is, where it has the form of one.
+/// The number of a text of a few bytes, where it has the form of a number.
 #[inline(always)]
-#[tactic(auto, using(crate::proofs::NumberText::number_empty, crate::proofs::NumberText::number_zero, crate::proofs::NumberText::number_form, crate::proofs::NumberText::value_zero))]
+#[tactic(auto, using(crate::proofs::NumberText::short_forms))]
 fn short_number(text: &[u8]) -> Option<u64>
     requires few { length text.now ≤ 15 }
     ensures { result ≡ (if is_number text.now then Some (value text.now) else None) }
@@ -95,16 +96,16 @@ fn short_number(text: &[u8]) -> Option<u64>
     digits_in(text)
 }
 
-/// The number that digits are, where it is at most `most`.
+/// The value of digits, where it is at most `most`.
 #[inline(always)]
 pub(crate) fn value_of(digits: &[u8], most: u128) -> Option<u128>
     requires form { IsTrue (is_number digits.now) }
     requires room { most < 2 ^ 120 }
     ensures { result ≡ (if nat_le (value digits.now) most then Some (value digits.now) else None) }
 {
-    let front = digits.len().min(DIGITS);
-    let mut value = u128::from(short_value(&digits[..front]));
-    for at in front..digits.len() {
+    let prefix = digits.len().min(DIGITS);
+    let mut value = u128::from(short_value(&digits[..prefix]));
+    for at in prefix..digits.len() {
         if value > most {
             return None;
         }
@@ -127,8 +128,8 @@ fn long_number(text: &[u8], most: u64) -> Result<u64, Fault>
     }
 }
 
-/// The number of at most `most` that a text says, in decimal without leading zeros; `Fault::BadText` where
-/// the text is none, and else `Fault::OutOfRange` where the number is greater.
+/// The number of a text, in decimal without leading zeros. `Fault::BadText` where the text has not that form, else
+/// `Fault::OutOfRange` where the number is above `most`.
 #[inline(always)]
 #[tactic(auto, unfolding(crate::specs::NumberText::reading_number))]
 pub fn parse_number(text: &[u8], most: u64) -> Result<u64, Fault>
@@ -144,8 +145,8 @@ pub fn parse_number(text: &[u8], most: u64) -> Result<u64, Fault>
     }
 }
 
-/// Appends a number in decimal. Where there is no memory for it, `out` holds what it held: so it is with
-/// each print call, and each fails only where `out` has no room for its text.
+/// Appends a number in decimal. It fails only where the capacity of `out` is too small for the text and the allocator
+/// is out of memory. Then `out` is unchanged. Each print call does so.
 #[inline(always)]
 #[tactic(auto, using(std::proofs::lemmas::Fmt::decimal_digit))]
 pub fn print_number<A: Allocator>(out: &mut Vec<u8, A>, number: u64) -> Result<(), AllocError>
@@ -161,7 +162,7 @@ pub fn print_number<A: Allocator>(out: &mut Vec<u8, A>, number: u64) -> Result<(
     out.extend_from_slice(Buffer::new().format(number).as_bytes())
 }
 
-/// Takes back what was put behind the first `before` bytes, where not all of it could be put; `put` tells.
+/// Where `put` is an error, removes what was appended after the first `before` bytes. It returns `put`.
 pub fn put_whole<A: Allocator>(
     out: &mut Vec<u8, A>,
     before: usize,

@@ -1,4 +1,4 @@
-//! The first bits of identities.
+//! Prefixes of identities.
 
 ghost use Rattle.std.specs.Prelude.{◌≡◌, ◌<◌, ◌≤◌, ◌^◌, ◌-◌, ◌++◌, ◌↔◌, length, take, drop, replicate, false, IsSome, IfSome, IsTrue, Some};
 ghost use Rattle.std.specs.Ordering.{eq_by_cmp};
@@ -38,8 +38,8 @@ impl Model for Prefix {
 }
 
 impl Prefix {
-    /// The first `len` of the 48 bits of `bits`, the greatest first; `None` where `bits` has more than 48
-    /// bits, `len` is above 48 or a bit past `len` is 1.
+    /// The first `len` of the 48 bits of `bits`, the greatest first. `None` where `bits` has more than 48 bits,
+    /// `len` is above 48, or a bit past `len` is 1.
     pub fn new(bits: u64, len: u32) -> Option<Prefix>
         ensures fits { IsSome result ↔ ((len ≤ 48) × (bits < 2 ^ 48) × (drop len (id_path bits) ≡ replicate (48 - len) false)) }
         ensures value { IfSome result (λ p. p ≡ take len (id_path bits)) }
@@ -69,7 +69,7 @@ impl Prefix {
         Prefix::of(number, 48)
     }
 
-    /// Its bits at the left of 48, with zeros behind them.
+    /// Its bits and after them zeros, 48 in all, as a number.
     pub fn bits(&self) -> u64
         ensures value { result ≡ left_aligned self.now }
         ensures bits { id_path result ≡ self.now ++ replicate (48 - length self.now) false }
@@ -86,14 +86,14 @@ impl Prefix {
         self.len
     }
 
-    /// Whether it has no bits, and so begins each identity.
+    /// Whether it has no bits, and so is a prefix of each identity.
     pub fn is_empty(&self) -> bool
         ensures { IsTrue result ↔ (length self.now ≡ 0) }
     {
         self.len == 0
     }
 
-    /// The number that its bits alone are.
+    /// Its bits alone as a number.
     pub fn number(&self) -> u64
         ensures fits { result < 2 ^ length self.now }
         ensures value { num (length self.now) result ≡ self.now }
@@ -101,14 +101,14 @@ impl Prefix {
         self.bits
     }
 
-    /// Whether an identity's 48 bits begin with it; greater bits of `identity` do not matter.
+    /// Whether it is a prefix of an identity's 48 bits; greater bits of `identity` do not matter.
     pub fn begins(&self, identity: u64) -> bool
         ensures { result ≡ begins self.now (id_path identity) }
     {
         (identity % IDENTITIES) >> (48 - self.len) == self.bits
     }
 
-    /// Whether the two are one prefix.
+    /// Whether the two are the same prefix.
     pub fn same(&self, other: &Prefix) -> bool
         ensures equal { IsTrue result ↔ (self.now ≡ other.now) }
         ensures test { result ≡ eq_by_cmp path_cmp self.now other.now }

@@ -25,7 +25,7 @@ impl<'a> Model for BitReader<'a> {
     ghost invariant = { λ r. (r.at ≤ r.end) × (r.end ≤ length (bits_of r.bytes.now)) };
 }
 
-/// The number that all the bits of a few bytes are.
+/// All the bits of a few bytes as one number.
 fn number_of_bytes(bytes: &[u8]) -> u64
     requires few { length bytes.now ≤ 7 }
     ensures { result ≡ number (bits_of bytes.now) }
@@ -37,7 +37,7 @@ fn number_of_bytes(bytes: &[u8]) -> u64
     value
 }
 
-/// The number that the `width` bits from place `at` on are.
+/// The `width` bits from place `at` on as a number.
 fn number_at(bytes: &[u8], at: usize, width: u32) -> u64
     requires width { width ≤ 48 }
     requires room { at + width ≤ 8 * length bytes.now }
@@ -47,8 +47,8 @@ fn number_at(bytes: &[u8], at: usize, width: u32) -> u64
 {
     let end = at + width as usize;
     let whole = number_of_bytes(&bytes[at / 8..end.div_ceil(8)]);
-    let behind = (8 - end % 8) % 8;
-    (whole >> behind) % (1 << width)
+    let trailing = (8 - end % 8) % 8;
+    (whole >> trailing) % (1 << width)
 }
 
 impl<'a> BitReader<'a> {
@@ -56,11 +56,11 @@ impl<'a> BitReader<'a> {
     pub fn new<A: Allocator>(bits: &'a Bits<A>) -> BitReader<'a>
         ensures { result ≡ bits.now }
     {
-        BitReader::behind(bits, 0)
+        BitReader::from_place(bits, 0)
     }
 
     /// A reader of the bits from place `at` on.
-    pub(crate) fn behind<A: Allocator>(bits: &'a Bits<A>, at: usize) -> BitReader<'a>
+    pub(crate) fn from_place<A: Allocator>(bits: &'a Bits<A>, at: usize) -> BitReader<'a>
         requires { at ≤ length bits.now }
         ensures { result ≡ drop at bits.now }
     {
@@ -78,7 +78,7 @@ impl<'a> BitReader<'a> {
         self.end - self.at
     }
 
-    /// The number that the next `width` bits, at most 48, are. `Fault::Short`, and nothing changes, where fewer are left.
+    /// Reads the next `width` bits, at most 48, as a number. `Fault::Short`, and nothing changes, where fewer are left.
     pub fn take(&mut self, width: u32) -> Result<u64, Fault>
         requires { width ≤ 48 }
         ensures value { result ≡ (if nat_lt (length self.old) width then Err Short else Ok (number (take width self.old))) }

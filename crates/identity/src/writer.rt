@@ -1,4 +1,4 @@
-//! Makes a string of bits out of numbers.
+//! Writes numbers to a string of bits.
 
 ghost use Rattle.std.specs.Prelude.{◌≡◌, ◌<◌, ◌≤◌, ◌^◌, ◌++◌, Bool, List, [], IfErr, OnOk};
 ghost use Rattle.identity.specs.Number.{num};
@@ -8,7 +8,7 @@ use crate::{Bits, Fault};
 use std::alloc::{Allocator, Global};
 use std::marker::Model;
 
-/// Bits that are put one number after the other.
+/// A string of bits that grows by one number after the other.
 #[derive(Drop)]
 pub struct BitWriter<A: Allocator = Global> {
     bits: Bits<A>,
@@ -30,7 +30,7 @@ impl<A: Allocator> BitWriter<A> {
         }
     }
 
-    /// Puts `value` at the end, the greatest of its `width` bits, at most 48, first. On `Fault::NoMemory` nothing has changed.
+    /// Appends the `width` bits of `value`, at most 48, the greatest first. On `Fault::NoMemory` nothing has changed.
     #[inline(always)]
     pub fn put(&mut self, value: u64, width: u32) -> Result<(), Fault>
         requires width { width ≤ 48 }
@@ -41,7 +41,7 @@ impl<A: Allocator> BitWriter<A> {
         self.bits.append(value, width)
     }
 
-    /// The bits that were put; this takes no memory.
+    /// All the bits. This takes no memory.
     pub fn finish(self) -> Bits<A>
         ensures { result ≡ self }
     {

@@ -27,7 +27,7 @@ use Rattle.image_rows.specs.declared.place.RowPlace.{RowPlace}
 use Rattle.image_rows.specs.declared.place.RowPlace.TheVariants as place
 use Rattle.image_rows.specs.Rows.{Row, MailRow, ServedRow, rule_row, radio_row, served_rows}
 use Rattle.image_rows.specs.Walking.{place_of, part_of, within_part, place_cmp, row_after}
-use Rattle.image_rows.specs.Parts.{first, after_station, after_item, after_radio, after_rule, told_after, PlaceInRange}
+use Rattle.image_rows.specs.Parts.{first, after_station, after_item, after_radio, after_rule, row_by_tables, PlaceInRange}
 use Rattle.image_rows.proofs.Stations.{Entries}
 use Rattle.image_rows.proofs.Walking.{UpTo, Past, parts_rise, by_bits, later_stations, rule_rows, radio_rows, mail_rows, to_rules, to_radios, to_mail, past_header, past_rules, past_radios, past_mail}
 
@@ -51,7 +51,7 @@ none_in part p (row ∷ rows) low below =
     let here = All-head (λ r. part_of (place_of r) ≤ part) row rows low in
     ap (λ b. cond b (Some row) (found rows (Some p))) (not_after p (place_of row) (omega (arith, here, below))) ∙ none_in part p rows (All-tail (λ r. part_of (place_of r) ≤ part) row rows low) below
 
--- the place is behind these rows
+-- the place is after these rows
 skipped : (part : ℕ) (p : RowPlace) (xs ys : List Row) → UpTo part xs → part < part_of p → found (xs ++ ys) (Some p) ≡ found ys (Some p)
 skipped part p xs ys low below = find-append (is_after place_cmp place_of (Some p)) xs ys ∙ ap (λ o. option_or o (found ys (Some p))) (none_in part p xs low below)
 
@@ -60,12 +60,12 @@ first_found [] = refl
 first_found (row ∷ rows) = refl
 
 -- the place is before all of them
-all_behind : (p : RowPlace) (rows : List Row) → All (λ row. place_cmp p (place_of row) ≡ Less) rows → found rows (Some p) ≡ first rows
-all_behind p [] all = refl
-all_behind p (row ∷ rows) all = ap (λ o. cond (is_lt o) (Some row) (found rows (Some p))) (All-head (λ r. place_cmp p (place_of r) ≡ Less) row rows all)
+all_after : (p : RowPlace) (rows : List Row) → All (λ row. place_cmp p (place_of row) ≡ Less) rows → found rows (Some p) ≡ first rows
+all_after p [] all = refl
+all_after p (row ∷ rows) all = ap (λ o. cond (is_lt o) (Some row) (found rows (Some p))) (All-head (λ r. place_cmp p (place_of r) ≡ Less) row rows all)
 
 of_later : (p : RowPlace) (rows : List Row) → Past (part_of p) rows → found rows (Some p) ≡ first rows
-of_later p rows past = all_behind p rows (All-weaker (λ row. part_of p < part_of (place_of row)) (λ row. place_cmp p (place_of row) ≡ Less) (λ row lt. parts_rise p (place_of row) lt) rows past)
+of_later p rows past = all_after p rows (All-weaker (λ row. part_of p < part_of (place_of row)) (λ row. place_cmp p (place_of row) ≡ Less) (λ row lt. parts_rise p (place_of row) lt) rows past)
 
 find_each : {X Y : Type 0} (f : X → Y) (p : Y → Bool) (q : X → Bool) (xs : List X) → All (λ x. p (f x) ≡ q x) xs → find p (each f xs) ≡ option_map f (find q xs)
 find_each f p q [] all = refl
@@ -101,19 +101,19 @@ module _ (s : State) where
           alone (nat_cmp itsi (number e.0))
           ∙ ap is_lt (sym (by_number (id_path itsi) e.0 (length-id_path itsi ∙ sym range.0) ∙ ap (λ n. nat_cmp n (number e.0)) (number-id_path itsi fits)))
 
--- the stations behind one
+-- the stations after one
 in_stations : (station k n : ℕ) (os : Entries) → k + n ≡ station + 1 → found (served_rows k os) (Some (place.Served station)) ≡ first (served_rows (station + 1) (drop n os))
 in_stations station k zero os e =
-    all_behind (place.Served station) (served_rows k os) (later_stations station k os (omega (arith, e)))
+    all_after (place.Served station) (served_rows k os) (later_stations station k os (omega (arith, e)))
     ∙ (let same : k ≡ station + 1 = omega (arith, e) in ap (λ j. first (served_rows j os)) same)
 in_stations station k (suc n) [] e = refl
 in_stations station k (suc n) (None ∷ os) e = in_stations station (k + 1) n os (omega (arith, e))
 in_stations station k (suc n) (Some last ∷ os) e =
-    ap (λ b. cond b (Some (ServedRow k last)) (found (served_rows (k + 1) os) (Some (place.Served station)))) (behind station k (omega (arith, e)))
+    ap (λ b. cond b (Some (ServedRow k last)) (found (served_rows (k + 1) os) (Some (place.Served station)))) (following station k (omega (arith, e)))
     ∙ in_stations station (k + 1) n os (omega (arith, e))
   where
-    behind : (x y : ℕ) → y ≤ x → is_lt (place_cmp (place.Served x) (place.Served y)) ≡ false
-    behind x y le = alone (nat_cmp x y) ∙ not_less x y le
+    following : (x y : ℕ) → y ≤ x → is_lt (place_cmp (place.Served x) (place.Served y)) ≡ false
+    following x y le = alone (nat_cmp x y) ∙ not_less x y le
 
 -- ---- part after part
 
@@ -139,22 +139,22 @@ module _ (s : State) where
       first_of [] = first_radio
       first_of (e ∷ es) = refl
 
-pub told_is_after : (epoch : ℕ) (s : State) (after : Option RowPlace) → StateInRange s → PlaceInRange after → row_after epoch s after ≡ told_after epoch s after
-told_is_after epoch s None ranges fits = refl
-told_is_after epoch s (Some place.Header) ranges fits = of_later place.Header _ (past_header s) ∙ first_rule s
-told_is_after epoch s (Some (place.Rule prefix)) ranges fits =
+pub row_is_by_tables : (epoch : ℕ) (s : State) (after : Option RowPlace) → StateInRange s → PlaceInRange after → row_after epoch s after ≡ row_by_tables epoch s after
+row_is_by_tables epoch s None ranges fits = refl
+row_is_by_tables epoch s (Some place.Header) ranges fits = of_later place.Header _ (past_header s) ∙ first_rule s
+row_is_by_tables epoch s (Some (place.Rule prefix)) ranges fits =
     find-append (is_after place_cmp place_of (Some (place.Rule prefix))) (rule_rows s) _
     ∙ (λ i. option_or (in_rules s prefix i) ((of_later (place.Rule prefix) _ (past_rules s) ∙ first_radio s) i))
-told_is_after epoch s (Some (place.Radio itsi)) ranges fits =
+row_is_by_tables epoch s (Some (place.Radio itsi)) ranges fits =
     skipped 1 (place.Radio itsi) (rule_rows s) _ (to_rules s) (omega arith)
     ∙ find-append (is_after place_cmp place_of (Some (place.Radio itsi))) (radio_rows s) _
     ∙ (λ i. option_or (in_radios s itsi fits ranges i) ((of_later (place.Radio itsi) _ (past_radios s) ∙ first_item s) i))
-told_is_after epoch s (Some (place.Mail n key)) ranges fits =
+row_is_by_tables epoch s (Some (place.Mail n key)) ranges fits =
     skipped 1 (place.Mail n key) (rule_rows s) _ (to_rules s) (omega arith)
     ∙ skipped 2 (place.Mail n key) (radio_rows s) _ (to_radios s) (omega arith)
     ∙ find-append (is_after place_cmp place_of (Some (place.Mail n key))) (mail_rows s) _
     ∙ (λ i. option_or (in_mail s n key i) (of_later (place.Mail n key) _ (past_mail s) i))
-told_is_after epoch s (Some (place.Served station)) ranges fits =
+row_is_by_tables epoch s (Some (place.Served station)) ranges fits =
     skipped 1 (place.Served station) (rule_rows s) _ (to_rules s) (omega arith)
     ∙ skipped 2 (place.Served station) (radio_rows s) _ (to_radios s) (omega arith)
     ∙ skipped 3 (place.Served station) (mail_rows s) _ (to_mail s) (omega arith)

@@ -10,8 +10,8 @@ use Rattle.std.proofs.lemmas.List.Sums.{count_by-le-length}
 use Rattle.registration.specs.declared.limits.Limits.{Limits}
 use Rattle.centre_core.specs.State.{State, IsState}
 use Rattle.image_rows.specs.Rows.{Row, RowInRange, HeaderRow, MailRow, Header, row_count, rule_row, radio_row, served_rows, rows_of, header_of, how_many}
-use Rattle.image_rows.specs.Loading.{stood_for}
-use Rattle.image_rows.proofs.Exactly.{stood_only}
+use Rattle.image_rows.specs.Loading.{state_of_rows}
+use Rattle.image_rows.proofs.Exactly.{only_these_rows}
 use Rattle.image_rows.proofs.Groups.{length_each}
 use Rattle.image_rows.proofs.Order.{no_length}
 use Rattle.image_rows.proofs.Stations.{Entries, how_many-cons}
@@ -38,18 +38,18 @@ rows_counted epoch s =
 
 pub rows_fit : (epoch : ℕ) (s : State) → IsState s → length (rows_of epoch s) ≤ 1 + s.registered.limits.rules + s.registered.limits.radios + s.registered.limits.mail + s.registered.limits.stations
 rows_fit epoch s is =
-    let told = rows_counted epoch s in
+    let stated = rows_counted epoch s in
     let served = count_by-le-length is_some s.served in
-    omega (arith, told, is.within.rules, is.within.radios, is.mail.in_order.fits, is.mail.room, served, is.stations)
+    omega (arith, stated, is.within.rules, is.within.radios, is.mail.in_order.fits, is.mail.room, served, is.stations)
 
 same_first : (h k : Header) (xs ys : List Row) → HeaderRow h ∷ xs ≡ HeaderRow k ∷ ys → h ≡ k
 same_first h k xs ys e = cc
 
--- an image tells how long it is, so nothing can stand behind it
-pub none_longer : (limits : Limits) (rows more : List Row) (epoch later : ℕ) (s t : State) → All RowInRange rows → All RowInRange more → stood_for limits rows ≡ Some (epoch, s) → stood_for limits (rows ++ more) ≡ Some (later, t) → more ≡ []
+-- an image states how long it is, so nothing can follow it
+pub none_longer : (limits : Limits) (rows more : List Row) (epoch later : ℕ) (s t : State) → All RowInRange rows → All RowInRange more → state_of_rows limits rows ≡ Some (epoch, s) → state_of_rows limits (rows ++ more) ≡ Some (later, t) → more ≡ []
 none_longer limits rows more epoch later s t some others short long =
-    let is : rows ≡ rows_of epoch s = (stood_only limits rows epoch s some short).0 in
-    let with_more : rows ++ more ≡ rows_of later t = (stood_only limits (rows ++ more) later t (All-append RowInRange rows more some others) long).0 in
+    let is : rows ≡ rows_of epoch s = (only_these_rows limits rows epoch s some short).0 in
+    let with_more : rows ++ more ≡ rows_of later t = (only_these_rows limits (rows ++ more) later t (All-append RowInRange rows more some others) long).0 in
     let header : header_of epoch s ≡ header_of later t = same_first (header_of epoch s) (header_of later t) _ _ (sym (ap (λ (l : List Row). l ++ more) is) ∙ with_more) in
     let a = ap length is in
     let b = ap length with_more in

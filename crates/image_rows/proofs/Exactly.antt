@@ -18,7 +18,7 @@ use Rattle.centre_core.specs.State.{State, IsState, IsOfAccepted, empty, last_nu
 use Rattle.centre_core.specs.StateRanges.{StateInRange}
 use Rattle.centre_core.proofs.RangeLaws.{empty_is_in_range}
 use Rattle.image_rows.specs.Rows.{Row, RowInRange, HeaderRow, RuleRow, RadioRow, MailRow, ServedRow, Header, rule_row, radio_row, served_rows, rows_of, header_of, how_many}
-use Rattle.image_rows.specs.Loading.{◌>>=◌, Loading, row_taken, all_taken, begun, stood_for, finished, header_may, rules_done, radios_done, mail_done, all_done, put}
+use Rattle.image_rows.specs.Loading.{◌>>=◌, Loading, row_taken, all_taken, begun, state_of_rows, finished, header_may, rules_done, radios_done, mail_done, all_done, put}
 use Rattle.identity.proofs.NumberText.{and_left as left, and_right as right}
 use Rattle.image_rows.proofs.Order.{entries-empty}
 use Rattle.image_rows.proofs.Rules.{at}
@@ -86,14 +86,14 @@ same_header h n count whole =
     let served : how_many n.served ≡ h.served = eqb-true _ _ (right (mail_done h n) _ whole) in
     λ i. record { epoch = h.epoch; count = sym count i; rules = sym rules i; radios = sym radios i; mail = sym mail i; served = sym served i }
 
-pub stood_only : (limits : Limits) (rows : List Row) (epoch : ℕ) (s : State) → All RowInRange rows → stood_for limits rows ≡ Some (epoch, s) → (rows ≡ rows_of epoch s) × IsState s × StateInRange s × (s.registered.limits ≡ limits)
+pub only_these_rows : (limits : Limits) (rows : List Row) (epoch : ℕ) (s : State) → All RowInRange rows → state_of_rows limits rows ≡ Some (epoch, s) → (rows ≡ rows_of epoch s) × IsState s × StateInRange s × (s.registered.limits ≡ limits)
 unfolding row_taken finished
-stood_only limits [] epoch s ranges e = absurd cc
-stood_only limits (RuleRow prefix rule ∷ rest) epoch s ranges e = absurd cc
-stood_only limits (RadioRow itsi radio gs ∷ rest) epoch s ranges e = absurd cc
-stood_only limits (MailRow w ∷ rest) epoch s ranges e = absurd cc
-stood_only limits (ServedRow station x ∷ rest) epoch s ranges e = absurd cc
-stood_only limits (HeaderRow h ∷ rest) epoch s ranges e =
+only_these_rows limits [] epoch s ranges e = absurd cc
+only_these_rows limits (RuleRow prefix rule ∷ rest) epoch s ranges e = absurd cc
+only_these_rows limits (RadioRow itsi radio gs ∷ rest) epoch s ranges e = absurd cc
+only_these_rows limits (MailRow w ∷ rest) epoch s ranges e = absurd cc
+only_these_rows limits (ServedRow station x ∷ rest) epoch s ranges e = absurd cc
+only_these_rows limits (HeaderRow h ∷ rest) epoch s ranges e =
     let s0 : State = with_header limits h.count in
     let a = bind_some (all_taken (begun limits) (HeaderRow h ∷ rest)) finished (epoch, s) e in
     let b = bind_some (row_taken (begun limits) (HeaderRow h)) (λ n. all_taken n rest) a.0 a.1 in
@@ -110,7 +110,7 @@ stood_only limits (HeaderRow h ∷ rest) epoch s ranges e =
     let n : State = d.0 in
     let g = chosen (all_done h n) (h.epoch, n) (epoch, s) (ap finished d.1 ∙ a.2) in
     let whole : all_done h n ≡ true = g.0 in
-    let told : HeaderRow h ∷ rest ≡ so_far h n = sym (d.2.rows_are ∙ ap (λ (l : List Row). l ++ rest) (header_rows h limits)) in
+    let stated : HeaderRow h ∷ rest ≡ so_far h n = sym (d.2.rows_are ∙ ap (λ (l : List Row). l ++ rest) (header_rows h limits)) in
     let same : so_far h n ≡ rows_of h.epoch n = ap (λ (k : Header). so_far k n) (same_header h n d.2.count whole) in
     let lim = d.2.limits in
     let all_rules : map.len n.registered.rules ≡ h.rules = eqb-true _ _ (left _ _ (left _ _ (left _ _ whole))) in
@@ -127,4 +127,4 @@ stood_only limits (HeaderRow h ∷ rest) epoch s ranges e =
       count = subst (λ k. k ≤ last_number) (sym d.2.count) count;
       last = sound.numbered;
     } in
-    subst (λ (p : ℕ × State). (HeaderRow h ∷ rest ≡ rows_of p.0 p.1) × IsState p.1 × StateInRange p.1 × (p.1.registered.limits ≡ limits)) g.1 (told ∙ same, state, sound.ranges, lim)
+    subst (λ (p : ℕ × State). (HeaderRow h ∷ rest ≡ rows_of p.0 p.1) × IsState p.1 × StateInRange p.1 × (p.1.registered.limits ≡ limits)) g.1 (stated ∙ same, state, sound.ranges, lim)

@@ -102,8 +102,8 @@ is_all gs left n None none first is =
     let zeros = ap length nothing in
     record { all = sym (append-nil (take n gs)) ∙ ap (λ (l : List Group). take n gs ++ l) (sym nothing) ∙ take-append-drop n gs; few = omega (arith, short, zeros) }
 
-pub told_order : (list : List Attachment) (itsi : ℕ) (gs : List Group) (n : ℕ) (r : Bool) → IsAll gs n → n ≤ most_of_radio → take n list ≡ each (attachment_in itsi) (take n gs) → r ≡ is_sorted nat_cmp (each group_in (take n list)) → r ≡ (nat_le (length gs) most_of_radio && is_sorted nat_cmp gs)
-told_order list itsi gs n r all few taken is =
+pub stated_order : (list : List Attachment) (itsi : ℕ) (gs : List Group) (n : ℕ) (r : Bool) → IsAll gs n → n ≤ most_of_radio → take n list ≡ each (attachment_in itsi) (take n gs) → r ≡ is_sorted nat_cmp (each group_in (take n list)) → r ≡ (nat_le (length gs) most_of_radio && is_sorted nat_cmp gs)
+stated_order list itsi gs n r all few taken is =
     let short = all.few in
     let le : nat_le (length gs) most_of_radio ≡ true = le-leb _ _ (omega (arith, short, few)) in
     is ∙ ap (is_sorted nat_cmp) (ap (each group_in) (taken ∙ ap (each (attachment_in itsi)) all.all) ∙ groups_back itsi gs) ∙ ap (λ (b : Bool). b && is_sorted nat_cmp gs) (sym le)

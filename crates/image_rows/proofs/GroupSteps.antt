@@ -9,8 +9,8 @@ use Rattle.image_rows.specs.RowReading.{group_at, groups_at}
 use Rattle.image_rows.specs.Inside.GroupViews.{listed, groups_from}
 
 -- the bytes after so many groups
-abbrev pub behind_groups : ℕ → List ℕ → Option (List ℕ)
-behind_groups n bytes = option_map (λ x. x.1) (groups_at n bytes)
+abbrev pub after_groups : ℕ → List ℕ → Option (List ℕ)
+after_groups n bytes = option_map (λ x. x.1) (groups_at n bytes)
 
 more : Group → List Group × List ℕ → Read (List Group)
 more g gs = Some (g ∷ gs.0, gs.1)
@@ -18,7 +18,7 @@ more g gs = Some (g ∷ gs.0, gs.1)
 next : ℕ → Group × List ℕ → Read (List Group)
 next n g = groups_at n g.1 >>= more g.0
 
-one_on : (n : ℕ) (rest : List ℕ) (g : Group) (after : List ℕ) → group_at rest ≡ Some (g, after) → behind_groups (suc n) rest ≡ behind_groups n after
+one_on : (n : ℕ) (rest : List ℕ) (g : Group) (after : List ℕ) → group_at rest ≡ Some (g, after) → after_groups (suc n) rest ≡ after_groups n after
 unfolding next more
 one_on n rest g after is = ap (λ (r : Read Group). option_map (λ x. x.1) (r >>= next n)) is ∙ by (groups_at n after)
   where
@@ -26,32 +26,32 @@ one_on n rest g after is = ap (λ (r : Read Group). option_map (λ x. x.1) (r >>
     by None = refl
     by (Some gs) = refl
 
-none_on : (n : ℕ) (rest : List ℕ) → group_at rest ≡ None → behind_groups (suc n) rest ≡ None
+none_on : (n : ℕ) (rest : List ℕ) → group_at rest ≡ None → after_groups (suc n) rest ≡ None
 unfolding next more
 none_on n rest is = ap (λ (r : Read Group). option_map (λ x. x.1) (r >>= next n)) is
 
-pub passed_one : (count i : ℕ) (bytes rest : List ℕ) (g : Group) (after : List ℕ) → i < count → Some (g, after) ≡ group_at rest → behind_groups count bytes ≡ behind_groups (count - i) rest → behind_groups count bytes ≡ behind_groups (count - (i + 1)) after
+pub passed_one : (count i : ℕ) (bytes rest : List ℕ) (g : Group) (after : List ℕ) → i < count → Some (g, after) ≡ group_at rest → after_groups count bytes ≡ after_groups (count - i) rest → after_groups count bytes ≡ after_groups (count - (i + 1)) after
 passed_one count i bytes rest g after lt is was =
     let left : count - i ≡ suc (count - (i + 1)) = omega arith in
-    was ∙ ap (λ (n : ℕ). behind_groups n rest) left ∙ one_on (count - (i + 1)) rest g after (sym is)
+    was ∙ ap (λ (n : ℕ). after_groups n rest) left ∙ one_on (count - (i + 1)) rest g after (sym is)
 
-pub stopped : (count i : ℕ) (bytes rest : List ℕ) → i < count → None ≡ group_at rest → behind_groups count bytes ≡ behind_groups (count - i) rest → None ≡ behind_groups count bytes
+pub stopped : (count i : ℕ) (bytes rest : List ℕ) → i < count → None ≡ group_at rest → after_groups count bytes ≡ after_groups (count - i) rest → None ≡ after_groups count bytes
 stopped count i bytes rest lt is was =
     let left : count - i ≡ suc (count - (i + 1)) = omega arith in
-    sym (was ∙ ap (λ (n : ℕ). behind_groups n rest) left ∙ none_on (count - (i + 1)) rest (sym is))
+    sym (was ∙ ap (λ (n : ℕ). after_groups n rest) left ∙ none_on (count - (i + 1)) rest (sym is))
 
-pub all_passed : (count i : ℕ) (bytes rest : List ℕ) → count - i ≡ 0 → behind_groups count bytes ≡ behind_groups (count - i) rest → Some rest ≡ behind_groups count bytes
-all_passed count i bytes rest e was = sym (was ∙ ap (λ (n : ℕ). behind_groups n rest) e)
+pub all_passed : (count i : ℕ) (bytes rest : List ℕ) → count - i ≡ 0 → after_groups count bytes ≡ after_groups (count - i) rest → Some rest ≡ after_groups count bytes
+all_passed count i bytes rest e was = sym (was ∙ ap (λ (n : ℕ). after_groups n rest) e)
 
 -- there are groups where the bytes after them are there
-pub are_there : (n : ℕ) (bytes rest : List ℕ) → Some rest ≡ behind_groups n bytes → IsSome (groups_at n bytes)
+pub are_there : (n : ℕ) (bytes rest : List ℕ) → Some rest ≡ after_groups n bytes → IsSome (groups_at n bytes)
 are_there n bytes rest e = by (groups_at n bytes) e
   where
     by : (r : Read (List Group)) → Some rest ≡ option_map (λ x. x.1) r → IsSome r
     by None e = absurd cc
     by (Some x) e = refl
 
-pub none_there : (n : ℕ) (bytes : List ℕ) → None ≡ behind_groups n bytes → groups_at n bytes ≡ None
+pub none_there : (n : ℕ) (bytes : List ℕ) → None ≡ after_groups n bytes → groups_at n bytes ≡ None
 none_there n bytes e = by (groups_at n bytes) e
   where
     by : (r : Read (List Group)) → None ≡ option_map (λ x. x.1) r → r ≡ None

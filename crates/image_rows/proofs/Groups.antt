@@ -20,7 +20,7 @@ use Rattle.image_rows.specs.Loading.{with_attachments, attachment_in}
 use Rattle.identity.proofs.NumberText.{and_left as left, and_right as right}
 use Rattle.image_rows.proofs.Order.{both, same_number}
 
--- with one radio pairs stand as their groups
+-- with one radio pairs are as their groups
 pub within_one : (itsi a b : ℕ) → pair_cmp (itsi, a) (itsi, b) ≡ nat_cmp a b
 within_one itsi a b = ap (λ r. ordering_then r (nat_cmp a b)) (equal (nat_cmp itsi itsi) (unsigned_tied itsi itsi ∙ same_number itsi))
   where

@@ -16,8 +16,8 @@ use Rattle.image_rows.specs.Slot.{slot_read}
 use Rattle.image_rows.specs.Image.{sectors_of, slot_of, IsSpelt}
 use Rattle.image_rows.proofs.Stations.{Entries}
 use Rattle.image_rows.proofs.Ranges.{rows_in_range}
-use Rattle.image_rows.proofs.Standing.{rows_stand}
-use Rattle.image_rows.proofs.Exactly.{stood_only}
+use Rattle.image_rows.proofs.RowsOfState.{rows_make_state}
+use Rattle.image_rows.proofs.Exactly.{only_these_rows}
 use Rattle.image_rows.proofs.Settled.{row_is_spelt, written_is_read}
 use Rattle.image_rows.proofs.Slots.{slot_reads, slot_begins}
 
@@ -46,33 +46,33 @@ read_all (row ∷ rows) all =
     let here : row_in (sector_of row) ≡ Some row = written_is_read row (replicate (512 - length (row_bytes row)) 0) (All-head IsRow row rows all) in
     λ i. here i ∷ read_all rows (All-tail IsRow row rows all) i
 
-pub written_is_image : (epoch : ℕ) (s : State) (behind : List (List ℕ)) → 0 < epoch → epoch ≤ last_epoch → IsState s → StateInRange s → slot_of s.registered.limits (sectors_of epoch s ++ behind) ≡ Ok (epoch, s)
-written_is_image epoch s behind some most is ranges =
+pub written_is_image : (epoch : ℕ) (s : State) (following : List (List ℕ)) → 0 < epoch → epoch ≤ last_epoch → IsState s → StateInRange s → slot_of s.registered.limits (sectors_of epoch s ++ following) ≡ Ok (epoch, s)
+written_is_image epoch s following some most is ranges =
     let rows = rows_of epoch s in
-    ap (slot_read s.registered.limits) (map-append row_in (each sector_of rows) behind ∙ ap (λ (l : List (Option Row)). l ++ each row_in behind) (read_all rows (are_rows epoch s some most is ranges)))
-    ∙ slot_reads s.registered.limits rows (each row_in behind) (epoch, s) (rows_in_range epoch s some most is ranges) (rows_stand epoch s is ranges)
+    ap (slot_read s.registered.limits) (map-append row_in (each sector_of rows) following ∙ ap (λ (l : List (Option Row)). l ++ each row_in following) (read_all rows (are_rows epoch s some most is ranges)))
+    ∙ slot_reads s.registered.limits rows (each row_in following) (epoch, s) (rows_in_range epoch s some most is ranges) (rows_make_state epoch s is ranges)
 
--- sectors that are read as these rows, and whatever stands behind
+-- sectors that are read as these rows, and whatever follows
 record Parted (sectors : List (List ℕ)) (rows : List Row) : Type 0 where
-  front : List (List ℕ)
-  behind : List (List ℕ)
-  are : sectors ≡ front ++ behind
-  spelt : AllZip SpellsRow rows front
+  prefix : List (List ℕ)
+  following : List (List ℕ)
+  are : sectors ≡ prefix ++ following
+  spelt : AllZip SpellsRow rows prefix
   ranges : All RowInRange rows
 
 same_head : (a : Option Row) (row : Row) (xs ys : List (Option Row)) → a ∷ xs ≡ Some row ∷ ys → (a ≡ Some row) × (xs ≡ ys)
 same_head a row xs ys e = (cc, cc)
 
-parted : (sectors : List (List ℕ)) (rows : List Row) (behind : List (Option Row)) → All AreBytes sectors → each row_in sectors ≡ each Some rows ++ behind → Parted sectors rows
-parted sectors [] behind bytes e = record { front = []; behind = sectors; are = refl; spelt = tt; ranges = All-nil RowInRange }
-parted [] (row ∷ rows) behind bytes e = absurd cc
-parted (sector ∷ sectors) (row ∷ rows) behind bytes e =
-    let first = same_head (row_in sector) row (each row_in sectors) (each Some rows ++ behind) e in
+parted : (sectors : List (List ℕ)) (rows : List Row) (following : List (Option Row)) → All AreBytes sectors → each row_in sectors ≡ each Some rows ++ following → Parted sectors rows
+parted sectors [] following bytes e = record { prefix = []; following = sectors; are = refl; spelt = tt; ranges = All-nil RowInRange }
+parted [] (row ∷ rows) following bytes e = absurd cc
+parted (sector ∷ sectors) (row ∷ rows) following bytes e =
+    let first = same_head (row_in sector) row (each row_in sectors) (each Some rows ++ following) e in
     let here = row_is_spelt row sector (All-head AreBytes sector sectors bytes) first.0 in
-    let rest = parted sectors rows behind (All-tail AreBytes sector sectors bytes) first.1 in
+    let rest = parted sectors rows following (All-tail AreBytes sector sectors bytes) first.1 in
     record {
-      front = sector ∷ rest.front;
-      behind = rest.behind;
+      prefix = sector ∷ rest.prefix;
+      following = rest.following;
       are = ap (λ (l : List (List ℕ)). sector ∷ l) rest.are;
       spelt = (here.1, rest.spelt);
       ranges = All-cons RowInRange row rows here.0.range rest.ranges;
@@ -81,10 +81,10 @@ parted (sector ∷ sectors) (row ∷ rows) behind bytes e =
 pub image_is_spelt : (limits : Limits) (sectors : List (List ℕ)) (epoch : ℕ) (s : State) → All AreBytes sectors → slot_of limits sectors ≡ Ok (epoch, s) → IsState s × StateInRange s × (s.registered.limits ≡ limits) × IsSpelt sectors epoch s
 image_is_spelt limits sectors epoch s bytes e =
     let begins = slot_begins limits (each row_in sectors) (epoch, s) e in
-    let parts = parted sectors begins.rows begins.behind bytes begins.are in
-    let only = stood_only limits begins.rows epoch s parts.ranges begins.stand in (
+    let parts = parted sectors begins.rows begins.following bytes begins.are in
+    let only = only_these_rows limits begins.rows epoch s parts.ranges begins.state_is in (
       only.1,
       only.2,
       only.3,
-      record { front = parts.front; behind = parts.behind; are = parts.are; spelt = subst (λ (rows : List Row). AllZip SpellsRow rows parts.front) only.0 parts.spelt },
+      record { prefix = parts.prefix; following = parts.following; are = parts.are; spelt = subst (λ (rows : List Row). AllZip SpellsRow rows parts.prefix) only.0 parts.spelt },
     )

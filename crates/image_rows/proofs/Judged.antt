@@ -1,4 +1,4 @@
--- Whether an item may come, as the mail tells it.
+-- Whether an item may come, as the mail states it.
 use Rattle.std.proofs.Common.{◌≡◌, ℕ, ◌+◌, ◌<◌, ◌≤◌, Bool, true, false, cond, List, [], ◌∷◌, ◌++◌, length, Some, None, refl, sym, ap, ◌∙◌, arith}
 use mathlib.Core.Bool.{false≢true}
 use Rattle.std.specs.Prelude.{◌&&◌, not, nat_lt, count_by, IsTrue}
@@ -19,7 +19,7 @@ use Rattle.mailbox.specs.Order.{ComesLast, named, named_cmp}
 use Rattle.mailbox.specs.Refusals.{most_for_one, crowd_refusal, full_refusal, restore_refusal}
 use Rattle.mailbox.specs.Item.{is_to}
 use Rattle.centre_core.specs.State.{State}
-use Rattle.prefix_tree.proofs.Places.{less_of}
+use Rattle.prefix_tree.proofs.Order.{less_of}
 use Rattle.identity.proofs.NumberText.{and_left as left, and_right as right}
 use Rattle.image_rows.specs.Rows.{Header}
 use Rattle.image_rows.specs.Loading.{radios_done, is_numbered, mail_may, before_place}
@@ -36,9 +36,9 @@ less_all : (f : Item → Ordering) (ws : List Item) → All (λ o. f o ≡ Less)
 less_all f [] all = refl
 less_all f (w ∷ ws) all = both _ _ (ap is_lt (All-head (λ o. f o ≡ Less) w ws all)) (less_all f ws (All-tail (λ o. f o ≡ Less) w ws all))
 
-pub last_told : (f : Item → Ordering) (ws : List Item) (r : Bool) → (IsTrue r → All (λ o. f o ≡ Less) ws) → (All (λ o. f o ≡ Less) ws → IsTrue r) → r ≡ list_all (λ o. is_lt (f o)) ws
-last_told f ws true to from = sym (less_all f ws (to refl))
-last_told f ws false to from =
+pub last_stated : (f : Item → Ordering) (ws : List Item) (r : Bool) → (IsTrue r → All (λ o. f o ≡ Less) ws) → (All (λ o. f o ≡ Less) ws → IsTrue r) → r ≡ list_all (λ o. is_lt (f o)) ws
+last_stated f ws true to from = sym (less_all f ws (to refl))
+last_stated f ws false to from =
     elim (list_all (λ o. is_lt (f o)) ws) as (λ b. list_all (λ o. is_lt (f o)) ws ≡ b → false ≡ b) [
       | true ↦ λ e. absurd (false≢true (from (all_less f ws e)))
       | false ↦ λ e. refl

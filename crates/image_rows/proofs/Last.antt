@@ -1,4 +1,4 @@
--- That a key comes after all others, as the table tells it: nothing stands after it, and it does not stand there itself.
+-- That a key comes after all others, as the table states it: nothing is after it, and it is not there itself.
 use Rattle.std.proofs.Common.{◌≡◌, ℕ, ◌-◌, ◌<◌, ◌++◌, Bool, true, false, cond, List, [], ◌∷◌, length, take, replicate, Option, Some, None, refl, sym, ap, subst, ◌∙◌, arith}
 use mathlib.Core.Bool.{false≢true}
 use Rattle.std.specs.Prelude.{◌&&◌, not, nat_lt, option_map}
@@ -41,7 +41,7 @@ module _ {K X : Type 0} {R : K → K → Ordering} (o : IsTotalOrder R) where
   unfolding is_next
   none_past m k = below_all k (map.entries m) ∙ ap (λ (r : Option X). is_none (first_past k (map.entries m)) && is_none r) (sym (map.get-entries m k))
 
-  -- what stands in the list does not stand after a key after which there is nothing
+  -- what is in the list is not after a key after which there is nothing
   none_beyond : (k x : K) (v : X) (es : List (K × X)) → ((a b : K) → eq_by_cmp R a b ≡ true → a ≡ b) → first_past k es ≡ None → entries.find R x es ≡ Some v → is_lt (R k x) ≡ false
   none_beyond k x v [] exact none there = absurd cc
   none_beyond k x v (e ∷ es) exact none there =
@@ -70,10 +70,10 @@ shorter_before (false ∷ p) (true ∷ r) (true ∷ q) a b lt = absurd (false≢
 shorter_before (false ∷ p) (true ∷ r) (false ∷ q) a b lt = absurd (false≢true b)
 shorter_before (false ∷ p) (false ∷ r) (true ∷ q) a b lt = absurd (false≢true a)
 
-begins_front : (p zs : Path) → begins p (p ++ zs) ≡ true
-begins_front [] zs = refl
-begins_front (true ∷ p) zs = begins_front p zs
-begins_front (false ∷ p) zs = begins_front p zs
+begins_prefix : (p zs : Path) → begins p (p ++ zs) ≡ true
+begins_prefix [] zs = refl
+begins_prefix (true ∷ p) zs = begins_prefix p zs
+begins_prefix (false ∷ p) zs = begins_prefix p zs
 
 -- two beginnings of one path of one length are one
 one_length : (p r q : Path) → begins p q ≡ true → begins r q ≡ true → length p ≡ length r → p ≡ r
@@ -102,12 +102,12 @@ module _ {V : Type 0} where
 
   pub rule_there : (m : PathMap V) (p : Path) (a : ℕ) (e : Path × V) → next_entry m (Some p) ≡ None → id_path a ≡ p ++ replicate (48 - length p) false → Some e ≡ longest m (id_path a) → eq_by_cmp path_cmp e.0 p ≡ is_some (map.get m p)
   rule_there m p a e none bits is =
-      there_longest m p (id_path a) e none (subst (λ q. begins p q ≡ true) (sym bits) (begins_front p (replicate (48 - length p) false))) (subst (λ r. NamesLongest m (id_path a) r) (sym is) (names_longest m (id_path a)))
+      there_longest m p (id_path a) e none (subst (λ q. begins p q ≡ true) (sym bits) (begins_prefix p (replicate (48 - length p) false))) (subst (λ r. NamesLongest m (id_path a) r) (sym is) (names_longest m (id_path a)))
 
   pub rule_not_there : (m : PathMap V) (p : Path) (a : ℕ) → id_path a ≡ p ++ replicate (48 - length p) false → None ≡ longest m (id_path a) → false ≡ is_some (map.get m p)
   rule_not_there m p a bits is =
       let named : NamesLongest m (id_path a) None = subst (λ r. NamesLongest m (id_path a) r) (sym is) (names_longest m (id_path a)) in
-      sym (ap is_some (named p (subst (λ q. begins p q ≡ true) (sym bits) (begins_front p (replicate (48 - length p) false)))))
+      sym (ap is_some (named p (subst (λ q. begins p q ≡ true) (sym bits) (begins_prefix p (replicate (48 - length p) false)))))
 
 module _ {K X : Type 0} {R : K → K → Ordering} (o : IsTotalOrder R) where
   abbrev past : map.FinMap R X → K → Option (K × X)

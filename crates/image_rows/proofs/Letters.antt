@@ -21,7 +21,7 @@ use Rattle.image_rows.proofs.Order.{both, same_number}
 use Rattle.image_rows.proofs.Rules.{at}
 
 module _ {X : Type 0} where
-  -- what holds of all holds of the one behind these
+  -- what holds of all holds of the one after these
   pub all_at : (P : X → Type 0) (xs ys : List X) (y : X) → All P (xs ++ y ∷ ys) → P y
   all_at P [] ys y all = All-head P y ys all
   all_at P (x ∷ xs) ys y all = all_at P xs ys y (All-tail P x (xs ++ y ∷ ys) all)
@@ -48,10 +48,10 @@ room_left most w xs ys few =
 pub mail_taken : (h : Header) (s : State) (m : Mailed) (ws : List Item) → radios_done h s ≡ true → h.mail ≡ length m.items → IsMail s.count m → s.mail.items ++ ws ≡ m.items
     → all_taken (at h s) (each MailRow ws) ≡ Some (at h (with_mail s m.items))
 unfolding row_taken
-mail_taken h s m [] placed told mail is = ap (λ (l : List Item). Some (at h (with_mail s l))) (sym (append-nil s.mail.items) ∙ is)
-mail_taken h s m (w ∷ ws) placed told mail is =
+mail_taken h s m [] placed stated mail is = ap (λ (l : List Item). Some (at h (with_mail s l))) (sym (append-nil s.mail.items) ∙ is)
+mail_taken h s m (w ∷ ws) placed stated mail is =
     let old = s.mail.items in
-    let fewer : length old < h.mail = let a = length-append old (w ∷ ws) in let b = ap length is in omega (arith, a, b, told) in
+    let fewer : length old < h.mail = let a = length-append old (w ∷ ws) in let b = ap length is in omega (arith, a, b, stated) in
     let number = all_at (IsNumbered s.count) old ws w (subst (All (IsNumbered s.count)) (sym is) mail.numbered) in
     let before = list_all-from_AllPass (λ o. is_lt (named_cmp (named o) (named w))) old (All-weaker (λ o. IsBefore o w) (λ o. is_lt (named_cmp (named o) (named w)) ≡ true) (λ o less. ap is_lt less) old (all_before IsBefore old ws w (subst (AllPairs IsBefore) (sym is) mail.ordered))) in
     let free = list_any_none (is_at w.key) old (all_before (λ a b. same_key b.key a.key ≡ false) old ws w (subst (AllPairs (λ a b. same_key b.key a.key ≡ false)) (sym is) mail.apart)) in
@@ -62,4 +62,4 @@ mail_taken h s m (w ∷ ws) placed told mail is =
     let n : State = taken_mail s w in
     let here : row_taken (at h s) (MailRow w) ≡ Some (at h n) = rw may refl in
     ap (λ (r : Option Loading). r >>= λ n. all_taken n (each MailRow ws)) here
-    ∙ mail_taken h n m ws placed told mail (append_assoc old (w ∷ []) ws ∙ is)
+    ∙ mail_taken h n m ws placed stated mail (append_assoc old (w ∷ []) ws ∙ is)

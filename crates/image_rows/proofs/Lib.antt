@@ -12,7 +12,7 @@ pub mod Groups
 pub mod Radios
 pub mod Letters
 pub mod Stations
-pub mod Standing
+pub mod RowsOfState
 pub mod WithAttachments
 pub mod Only
 pub mod Exactly

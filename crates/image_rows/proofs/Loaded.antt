@@ -13,7 +13,7 @@ use Rattle.image_rows.specs.Held.{IsLoaded, IsHeld}
 use Rattle.identity.proofs.NumberText.{and_left as left, and_right as right}
 use Rattle.image_rows.proofs.Rules.{at, all_taken-append}
 use Rattle.image_rows.proofs.Only.{chosen}
-use Rattle.image_rows.proofs.Exactly.{bind_some, some_is, with_header, header_sound, all_only, stood_only}
+use Rattle.image_rows.proofs.Exactly.{bind_some, some_is, with_header, header_sound, all_only, only_these_rows}
 
 pub begun_is_loaded : (limits : Limits) → IsLoaded (begun limits)
 begun_is_loaded limits = record { limits = limits; rows = []; in_range = All-nil RowInRange; taken = refl }
@@ -30,7 +30,7 @@ one_more l n row loaded range is = record {
 -- with all rows it is a state, in its ranges
 pub is_state : (l : Loading) (epoch : ℕ) (s : State) → IsLoaded l → finished l ≡ Some (epoch, s) → IsState s × StateInRange s
 is_state l epoch s loaded is =
-    let only = stood_only loaded.limits loaded.rows epoch s loaded.in_range (ap (λ r. r >>= finished) loaded.taken ∙ is) in
+    let only = only_these_rows loaded.limits loaded.rows epoch s loaded.in_range (ap (λ r. r >>= finished) loaded.taken ∙ is) in
     (only.1, only.2)
 
 same_header : (h k : Header) (s n : State) → at h n ≡ record { header = Some k; state = s } → (h ≡ k) × (n ≡ s)

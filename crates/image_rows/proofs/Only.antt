@@ -29,7 +29,7 @@ use Rattle.centre_core.proofs.EntriesLaws.{insert_all}
 use Rattle.image_rows.specs.Rows.{Row, HeaderRow, RuleRow, RadioRow, MailRow, ServedRow, Header, Group, RadioRowInRange, MailRowInRange, ServedRowInRange, RowInRange, rule_row, radio_row, served_rows, groups_of, how_many}
 use Rattle.image_rows.specs.Loading.{is_next, is_numbered, rules_done, radios_done, mail_done, rule_may, taken_rule, radio_may, taken_radio, with_attachments, mail_may, taken_mail, are_free, served_may, taken_served, put}
 use Rattle.identity.proofs.NumberText.{and_left as left, and_right as right}
-use Rattle.prefix_tree.proofs.Places.{less_of}
+use Rattle.prefix_tree.proofs.Order.{less_of}
 use Rattle.image_rows.proofs.Order.{entries_next, get_next}
 use Rattle.image_rows.proofs.WithAttachments.{own_on, few_on, known_on, rows_before, ranges_on}
 use Rattle.image_rows.proofs.Stations.{Entries}
@@ -67,12 +67,12 @@ no_rows k [] e = refl
 no_rows k (None ∷ os) e = no_rows (k + 1) os e
 no_rows k (Some x ∷ os) e = absurd cc
 
--- a row behind a part with nothing behind it
+-- a row after a part with nothing after it
 at_end : (a rest : List Row) (row : Row) → rest ≡ [] → (a ++ row ∷ []) ++ rest ≡ (a ++ rest) ++ row ∷ []
 at_end a rest row none = ap (λ (l : List Row). (a ++ row ∷ []) ++ l) none ∙ append-nil (a ++ row ∷ []) ∙ sym (ap (λ (l : List Row). (a ++ l) ++ row ∷ []) none ∙ ap (λ (l : List Row). l ++ row ∷ []) (append-nil a))
 
-nothing_behind : (a b : List Row) → a ≡ [] → b ≡ [] → a ++ b ≡ []
-nothing_behind a b e f = ap (λ (l : List Row). l ++ b) e ∙ f
+nothing_after : (a b : List Row) → a ≡ [] → b ≡ [] → a ++ b ≡ []
+nothing_after a b e f = ap (λ (l : List Row). l ++ b) e ∙ f
 
 not_yet : (n m : ℕ) → n < m → (n == m) ≡ false
 not_yet n m lt = ne_eqb n m (λ same. absurd (omega (arith, lt, same)))
@@ -95,7 +95,7 @@ rule_only h s prefix rule sound range may =
     let free = sound.no_served without_mail in
     let a = each rule_row (map.entries old) in
     let rest = each (radio_row s.groups) (map.entries s.registered.radios) ++ (each MailRow s.mail.items ++ served_rows 1 s.served) in
-    let none : rest ≡ [] = nothing_behind _ _ (ap (each (radio_row s.groups)) radios) (nothing_behind _ _ (ap (each MailRow) items) (no_rows 1 s.served free)) in
+    let none : rest ≡ [] = nothing_after _ _ (ap (each (radio_row s.groups)) radios) (nothing_after _ _ (ap (each MailRow) items) (no_rows 1 s.served free)) in
     let ranges = sound.ranges in
     record {
       sound = record {
@@ -156,7 +156,7 @@ radio_only h s itsi radio gs sound range may =
     let grown : each (radio_row groups) (map.entries (map.insert old (id_path itsi) radio)) ≡ b ++ row ∷ [] =
     ap (each (radio_row groups)) (entries_next paths_total old (id_path itsi) radio next) ∙ each_push (radio_row groups) (map.entries old) (id_path itsi, radio)
     ∙ (λ i. rows_before s.groups itsi gs order (map.entries old) whole next i ++ last i ∷ []) in
-    let ended : (b ++ row ∷ []) ++ rest ≡ (b ++ rest) ++ row ∷ [] = at_end b rest row (nothing_behind _ _ (ap (each MailRow) items) (no_rows 1 s.served free)) in
+    let ended : (b ++ row ∷ []) ++ rest ≡ (b ++ rest) ++ row ∷ [] = at_end b rest row (nothing_after _ _ (ap (each MailRow) items) (no_rows 1 s.served free)) in
     record {
       sound = record {
         no_radios = opposite (rules_done h s) ruled;

@@ -10,7 +10,7 @@ use Rattle.std.specs.FinMap as map
 use Rattle.std.specs.FinMap.Entries.{below_all, is_sorted, find, put, by_order}
 use Rattle.std.proofs.lemmas.List.{length-append}
 use Rattle.identity.proofs.NumberText.{and_left as left, and_right as right}
-use Rattle.prefix_tree.proofs.Places.{less_of}
+use Rattle.prefix_tree.proofs.Order.{less_of}
 use Rattle.group_attach.proofs.Filtered.{to_T, from_T}
 use Rattle.image_rows.specs.Loading.{is_next}
 
@@ -54,15 +54,15 @@ module _ {K X : Type 0} (R : K → K → Ordering) where
   among x (d ∷ es) fs e h = among x es fs e (to_T _ (right (is_lt (R x d.0)) _ (from_T _ h)))
 
   -- in a list in order an entry comes after those before it
-  front_below : (es fs : List (K × X)) (e : K × X) → T (is_sorted R (es ++ e ∷ fs)) → AllBelow R e.0 es
-  front_below [] fs e h = refl
-  front_below (d ∷ es) fs e h =
-      both _ _ (among d.0 es fs e (to_T _ (left _ _ (from_T _ h)))) (front_below es fs e (to_T _ (right (below_all R d.0 (es ++ e ∷ fs)) _ (from_T _ h))))
+  prefix_below : (es fs : List (K × X)) (e : K × X) → T (is_sorted R (es ++ e ∷ fs)) → AllBelow R e.0 es
+  prefix_below [] fs e h = refl
+  prefix_below (d ∷ es) fs e h =
+      both _ _ (among d.0 es fs e (to_T _ (left _ _ (from_T _ h)))) (prefix_below es fs e (to_T _ (right (below_all R d.0 (es ++ e ∷ fs)) _ (from_T _ h))))
 
   -- a map that has the first entries of another takes its next one
   pub next_of : (m full : map.FinMap R X) (e : K × X) (fs : List (K × X)) → map.entries m ++ e ∷ fs ≡ map.entries full → is_next m e.0 ≡ true
   unfolding is_next
-  next_of m full e fs is = front_below (map.entries m) fs e (subst (λ (l : List (K × X)). T (is_sorted R l)) (sym is) (map.entries_sorted full))
+  next_of m full e fs is = prefix_below (map.entries m) fs e (subst (λ (l : List (K × X)). T (is_sorted R l)) (sym is) (map.entries_sorted full))
 
   pub fewer : (m full : map.FinMap R X) (e : K × X) (fs : List (K × X)) → map.entries m ++ e ∷ fs ≡ map.entries full → map.len m < map.len full
   fewer m full e fs is =

@@ -1,4 +1,4 @@
--- What tells of some bits that they are a message's PDU or a report's.
+-- What states some bits that they are a message's PDU or a report's.
 use Rattle.std.proofs.Common.{◌≡◌, ℕ, zero, suc, ◌-◌, ◌*◌, ◌/◌, ◌%◌, ◌<◌, ◌≤◌, ◌^◌, Bool, true, false, cond, eqb, leb, List, length, take, drop, None, Result, Ok, Err, refl, sym, ap, ◌∙◌, arith}
 use Rattle.std.specs.Prelude.{◌&&◌, not}
 use Rattle.std.proofs.lemmas.Bool.{eqb-true, leb-true, le-leb, eq-eqb}
@@ -100,7 +100,7 @@ too_short pdu kind octets reference short = not_true (is_of_type pdu kind octets
 pub too_long : (pdu : List Bool) (kind octets reference : ℕ) → 2047 < length pdu → false ≡ is_of_type pdu kind octets reference
 too_long pdu kind octets reference long = not_true (is_of_type pdu kind octets reference) (λ e. omega (arith, long, (tests_say pdu kind octets reference e).most))
 
--- without fault the head tells the type
+-- without fault the head states the type
 message_by : (a b : Bool) (n : ℕ) (q : DeliveryReportRequest) (r : ℕ) (k : Bool) (s t u v : ℕ) → is_head_of Message n (Ok (cond a (heads.Transfer q r) (cond b (heads.Report k s t) (heads.Ack u v)))) ≡ true → (a ≡ true) × (r ≡ n)
 message_by true b n q r k s t u v e = (refl, eqb-true _ _ e)
 message_by false true n q r k s t u v e = absurd cc
@@ -164,11 +164,11 @@ report_test pdu n = same_truth (is_of_type pdu 1 4 n) (is_head_of Report n (head
         tests_hold pdu 1 4 n (record { room = fits.1; most = p.most; layer = p.layer; is_kind = head.0; control = fits.0; is_reference = head.1 })
 
 -- the six tests, made on the octets
-pub octets_tell : (pdu : List Bool) (kind octets reference first second last : ℕ) → first < 2 ^ 8 → second < 2 ^ 8 → last < 2 ^ 8 → 8 * octets ≤ length pdu → length pdu ≤ 2047
+pub octets_state : (pdu : List Bool) (kind octets reference first second last : ℕ) → first < 2 ^ 8 → second < 2 ^ 8 → last < 2 ^ 8 → 8 * octets ≤ length pdu → length pdu ≤ 2047
     → take 8 (drop (8 * 0) pdu) ≡ num 8 first → take 8 (drop (8 * 1) pdu) ≡ num 8 second → take 8 (drop (8 * (octets - 1)) pdu) ≡ num 8 last
     → (leb 128 first && eqb (second / 16) kind && eqb (second % 2) 0 && eqb last reference) ≡ is_of_type pdu kind octets reference
 unfolding is_of_type
-octets_tell pdu kind octets reference first second last small mid high room most is_first is_second is_last =
+octets_state pdu kind octets reference first second last small mid high room most is_first is_second is_last =
     rw (
       le-leb _ _ room,
       le-leb _ _ most,

@@ -19,7 +19,7 @@ use Rattle.centre_core.specs.State.{State, LastAccepted}
 use Rattle.identity.proofs.NumberText.{and_left as left, and_right as right}
 use Rattle.image_rows.specs.Rows.{Row, RowInRange, Header, Group, RadioRow, ServedRow, how_many}
 use Rattle.image_rows.specs.Loading.{◌>>=◌, Loading, begin, row_taken, take_by, is_next, rules_done, mail_done, with_attachments, attachment_in, put, taken_radio, served_may, all_done, finished, finished_by, place_may}
-use Rattle.image_rows.specs.Held.{Came, IsHeld, IsLoaded, IsPlace, loading, with_groups}
+use Rattle.image_rows.specs.Held.{IsOutcome, IsHeld, IsLoaded, IsPlace, loading, with_groups}
 use Rattle.image_rows.proofs.Order.{get_next}
 use Rattle.image_rows.proofs.Rules.{at}
 use Rattle.image_rows.proofs.Only.{no_attachment}
@@ -53,12 +53,12 @@ no_groups_yet r m itsi known none =
     ] refl))
 
 pub with_own : (s : State) (itsi : ℕ) (radio : Radio) (gs : List Group) (list : List Attachment) (reg : Registered) (m : Attached) → IsPlace s itsi → (nat_le (length gs) most_of_radio && map.is_sorted nat_cmp gs) ≡ true
-    → list ≡ each (attachment_in itsi) gs → reg ≡ with_radio s.registered itsi radio → m ≡ restored s.groups itsi list → Came (with_groups s itsi radio gs) s true (record s { registered = reg; groups = m })
+    → list ≡ each (attachment_in itsi) gs → reg ≡ with_radio s.registered itsi radio → m ≡ restored s.groups itsi list → IsOutcome (with_groups s itsi radio gs) s true (record s { registered = reg; groups = m })
 with_own s itsi radio gs list reg m place may own is groups =
     let with_attachments_so : m ≡ with_attachments s.groups itsi gs = groups ∙ ap (restored s.groups itsi) own ∙ ap (λ (n : Attached). all_attached n (each (attachment_in itsi) gs)) (no_groups_yet s.registered s.groups itsi place.known place.new) in
     rw may (refl, λ i. record s { registered = is i; groups = with_attachments_so i })
 
-pub without_own : (s : State) (itsi : ℕ) (radio : Radio) (gs : List Group) → (nat_le (length gs) most_of_radio && map.is_sorted nat_cmp gs) ≡ false → Came (with_groups s itsi radio gs) s false s
+pub without_own : (s : State) (itsi : ℕ) (radio : Radio) (gs : List Group) → (nat_le (length gs) most_of_radio && map.is_sorted nat_cmp gs) ≡ false → IsOutcome (with_groups s itsi radio gs) s false s
 without_own s itsi radio gs may = rw may (refl, refl)
 
 pub some_with_groups : (s : State) (itsi : ℕ) (radio : Radio) (gs : List Group) → (nat_le (length gs) most_of_radio && map.is_sorted nat_cmp gs) ≡ true → IsSome (with_groups s itsi radio gs)
@@ -82,7 +82,7 @@ is_place h s itsi radio held may =
 
 -- ---- any row
 
-pub came_with : (h : Header) (s n : State) (r : Option State) (t : Bool) → Came r s t n → Came (r >>= λ m. Some (at h m)) (at h s) t (at h n)
+pub came_with : (h : Header) (s n : State) (r : Option State) (t : Bool) → IsOutcome r s t n → IsOutcome (r >>= λ m. Some (at h m)) (at h s) t (at h n)
 came_with h s n None t came = (came.0, ap (at h) came.1)
 came_with h s n (Some m) t came = (came.0, ap (at h) came.1)
 
@@ -90,30 +90,30 @@ pub some_with : (h : Header) (r : Option State) → IsSome r → IsSome (r >>= �
 some_with h None some = some
 some_with h (Some m) some = refl
 
-pub stays_loaded : (l n : Loading) (row : Row) (t : Bool) → IsLoaded l → RowInRange row → Came (row_taken l row) l t n → IsLoaded n
+pub stays_loaded : (l n : Loading) (row : Row) (t : Bool) → IsLoaded l → RowInRange row → IsOutcome (row_taken l row) l t n → IsLoaded n
 stays_loaded l n row t loaded range came =
-    elim (row_taken l row) as (λ r. row_taken l row ≡ r → Came r l t n → IsLoaded n) [
+    elim (row_taken l row) as (λ r. row_taken l row ≡ r → IsOutcome r l t n → IsLoaded n) [
       | None ↦ λ e was. subst IsLoaded (sym was.1) loaded
       | Some m ↦ λ e is. subst IsLoaded (sym is.1) (one_more l m row loaded range e)
     ] refl came
 
-pub told_taken : (l n : Loading) (row : Row) (r : Option Row) (t : Bool) → Some row ≡ r → Came (row_taken l row) l t n → t ≡ true → (r >>= row_taken l) ≡ Some n
-told_taken l n row r t is came so =
+pub stated_taken : (l n : Loading) (row : Row) (r : Option Row) (t : Bool) → Some row ≡ r → IsOutcome (row_taken l row) l t n → t ≡ true → (r >>= row_taken l) ≡ Some n
+stated_taken l n row r t is came so =
     ap (λ o. o >>= row_taken l) (sym is)
-    ∙ (elim (row_taken l row) as (λ o. Came o l t n → o ≡ Some n) [
+    ∙ (elim (row_taken l row) as (λ o. IsOutcome o l t n → o ≡ Some n) [
       | None ↦ λ was. let both : true ≡ false = sym so ∙ was.0 in absurd cc
       | Some m ↦ λ now. ap Some (sym now.1)
     ] came)
 
-pub told_refused : (l n : Loading) (row : Row) (r : Option Row) (t : Bool) → Some row ≡ r → Came (row_taken l row) l t n → t ≡ false → ((r >>= row_taken l) ≡ None) × (n ≡ l)
-told_refused l n row r t is came so =
-    let told = elim (row_taken l row) as (λ o. Came o l t n → (o ≡ None) × (n ≡ l)) [
+pub stated_refused : (l n : Loading) (row : Row) (r : Option Row) (t : Bool) → Some row ≡ r → IsOutcome (row_taken l row) l t n → t ≡ false → ((r >>= row_taken l) ≡ None) × (n ≡ l)
+stated_refused l n row r t is came so =
+    let stated = elim (row_taken l row) as (λ o. IsOutcome o l t n → (o ≡ None) × (n ≡ l)) [
       | None ↦ λ was. (refl, was.1)
       | Some m ↦ λ now. let both : true ≡ false = sym now.0 ∙ so in absurd cc
     ] came in
-    (ap (λ o. o >>= row_taken l) (sym is) ∙ told.0, told.1)
+    (ap (λ o. o >>= row_taken l) (sym is) ∙ stated.0, stated.1)
 
-pub loaded_after : {E : Type 0} (r : Result Bool E) (h k : Option Header) (s n : State) (row : Row) → IsLoaded (loading h s) → RowInRange row → IfOk r (λ t. Came (row_taken (loading h s) row) (loading h s) t (loading k n)) → OnErr r ((k ≡ h) × (n ≡ s)) → IsLoaded (loading k n)
+pub loaded_after : {E : Type 0} (r : Result Bool E) (h k : Option Header) (s n : State) (row : Row) → IsLoaded (loading h s) → RowInRange row → IfOk r (λ t. IsOutcome (row_taken (loading h s) row) (loading h s) t (loading k n)) → OnErr r ((k ≡ h) × (n ≡ s)) → IsLoaded (loading k n)
 loaded_after (Ok t) h k s n row loaded range came same = stays_loaded (loading h s) (loading k n) row t loaded range came
 loaded_after (Err e) h k s n row loaded range came same = subst (λ (o : Option Header). IsLoaded (loading o n)) (sym same.0) (subst (λ (m : State). IsLoaded (loading h m)) (sym same.1) loaded)
 
@@ -125,24 +125,24 @@ served_place h s station x may =
     let three = left _ _ four in
     (ltb-true _ _ (right (mail_done h s && nat_lt (how_many s.served) h.served) _ three), leb-true _ _ (right (mail_done h s && nat_lt (how_many s.served) h.served && nat_lt 0 station) _ four))
 
-pub with_last : (h : Header) (s : State) (station : ℕ) (x : LastAccepted) (served : List (Option LastAccepted)) → served_may h s station x ≡ true → served ≡ slice_set s.served (station - 1) (Some x) → Came (put h s (ServedRow station x)) s true (record s { served = served })
+pub with_last : (h : Header) (s : State) (station : ℕ) (x : LastAccepted) (served : List (Option LastAccepted)) → served_may h s station x ≡ true → served ≡ slice_set s.served (station - 1) (Some x) → IsOutcome (put h s (ServedRow station x)) s true (record s { served = served })
 with_last h s station x served may is = rw may (refl, λ i. record s { served = is i })
 
-pub without_last : (h : Header) (s : State) (station : ℕ) (x : LastAccepted) → served_may h s station x ≡ false → Came (put h s (ServedRow station x)) s false s
+pub without_last : (h : Header) (s : State) (station : ℕ) (x : LastAccepted) → served_may h s station x ≡ false → IsOutcome (put h s (ServedRow station x)) s false s
 without_last h s station x may = rw may (refl, refl)
 
 pub some_last : (h : Header) (s : State) (station : ℕ) (x : LastAccepted) → served_may h s station x ≡ true → IsSome (put h s (ServedRow station x))
 some_last h s station x may = rw may refl
 
--- ---- the first row, and those behind it
+-- ---- the first row, and those after it
 
-pub came_first : (o : Option Header) (s : State) (row : Row) (t : Bool) (n : Loading) → o ≡ None → Came (begin s row) (loading o s) t n → Came (row_taken (loading o s) row) (loading o s) t n
+pub came_first : (o : Option Header) (s : State) (row : Row) (t : Bool) (n : Loading) → o ≡ None → IsOutcome (begin s row) (loading o s) t n → IsOutcome (row_taken (loading o s) row) (loading o s) t n
 unfolding row_taken
-came_first o s row t n is came = subst (λ (p : Option Header). Came (take_by p s row) (loading o s) t n) (sym is) came
+came_first o s row t n is came = subst (λ (p : Option Header). IsOutcome (take_by p s row) (loading o s) t n) (sym is) came
 
-pub came_later : (o : Option Header) (h : Header) (s n : State) (row : Row) (t : Bool) → o ≡ Some h → Came (put h s row) s t n → Came (row_taken (loading o s) row) (loading o s) t (loading o n)
+pub came_later : (o : Option Header) (h : Header) (s n : State) (row : Row) (t : Bool) → o ≡ Some h → IsOutcome (put h s row) s t n → IsOutcome (row_taken (loading o s) row) (loading o s) t (loading o n)
 unfolding row_taken
-came_later o h s n row t is came = subst (λ (p : Option Header). Came (take_by p s row) (loading p s) t (loading p n)) (sym is) (came_with h s n (put h s row) t came)
+came_later o h s n row t is came = subst (λ (p : Option Header). IsOutcome (take_by p s row) (loading p s) t (loading p n)) (sym is) (came_with h s n (put h s row) t came)
 
 pub some_later : (o : Option Header) (h : Header) (s : State) (row : Row) → o ≡ Some h → IsSome (put h s row) → IsSome (row_taken (loading o s) row)
 unfolding row_taken

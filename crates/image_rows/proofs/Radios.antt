@@ -101,10 +101,10 @@ pub radios_taken : (h : Header) (s : State) (full : PathMap Radio) (groups : Att
     → map.entries s.registered.radios ++ es ≡ map.entries full → s.groups ≡ known_of groups s.registered.radios
     → all_taken (at h s) (each (radio_row groups) es) ≡ Some (at h (with_radios s full (known_of groups full)))
 unfolding row_taken
-radios_taken h s full groups [] ruled told few ranges all is so =
+radios_taken h s full groups [] ruled stated few ranges all is so =
     let same : s.registered.radios ≡ full = map.same_entries_map s.registered.radios full (sym (append-nil (map.entries s.registered.radios)) ∙ is) in
     ap (λ (g : Attached). Some (at h (record s { groups = g }))) so ∙ ap (λ (r : PathMap Radio). Some (at h (with_radios s r (known_of groups r)))) same
-radios_taken h s full groups (e ∷ es) ruled told few ranges all is so =
+radios_taken h s full groups (e ∷ es) ruled stated few ranges all is so =
     let itsi = number e.0 in
     let gs = groups_of groups itsi in
     let old = s.registered.radios in
@@ -113,11 +113,11 @@ radios_taken h s full groups (e ∷ es) ruled told few ranges all is so =
     let fits : itsi < 2 ^ 48 = subst (λ n. itsi < 2 ^ n) here_in.0 (number-lt e.0) in
     let ordered : is_next old (id_path itsi) ≡ true = ap (is_next old) bits ∙ next_of path_cmp old full e es is in
     let may : radio_may h s itsi e.1 gs ≡ true =
-    both _ _ (both _ _ (both _ _ (both _ _ (both _ _ (both _ _ ruled (lt-ltb (map.len old) h.radios (rw told (fewer path_cmp old full e es is)))) ordered) (lt-ltb 0 e.1.station here_in.1)) (le-leb _ _ here_in.2)) (le-leb _ _ (rw (length_groups groups itsi) (few itsi)))) (groups_sorted groups itsi) in
+    both _ _ (both _ _ (both _ _ (both _ _ (both _ _ (both _ _ ruled (lt-ltb (map.len old) h.radios (rw stated (fewer path_cmp old full e es is)))) ordered) (lt-ltb 0 e.1.station here_in.1)) (le-leb _ _ here_in.2)) (le-leb _ _ (rw (length_groups groups itsi) (few itsi)))) (groups_sorted groups itsi) in
     let n : State = taken_radio s itsi e.1 gs in
     let here : row_taken (at h s) (radio_row groups e) ≡ Some (at h n) = rw may refl in
     let more : map.entries n.registered.radios ++ es ≡ map.entries full =
     ap (λ (l : List (Path × Radio)). l ++ es) (entries_next paths_total old (id_path itsi) e.1 ordered) ∙ append_assoc (map.entries old) ((id_path itsi, e.1) ∷ []) es
     ∙ ap (λ (p : Path). map.entries old ++ (p, e.1) ∷ es) bits ∙ is in
     ap (λ (r : Option Loading). r >>= λ n. all_taken n (each (radio_row groups) es)) here
-    ∙ radios_taken h n full groups es ruled told few ranges (All-tail (of_stations s.registered.limits.stations) e es all) more (ap (λ (g : Attached). with_attachments g itsi gs) so ∙ one_more groups old itsi e.1 ranges fits)
+    ∙ radios_taken h n full groups es ruled stated few ranges (All-tail (of_stations s.registered.limits.stations) e es all) more (ap (λ (g : Attached). with_attachments g itsi gs) so ∙ one_more groups old itsi e.1 ranges fits)

@@ -1,4 +1,4 @@
--- The two laws of a row: what is read is its bytes, in range, and its bytes are read again, whatever stands behind them.
+-- The two laws of a row: what is read is its bytes, in range, and its bytes are read again, whatever follows them.
 use Rattle.std.proofs.Common.{◌≡◌, ℕ, zero, suc, ◌^◌, ◌<◌, ◌≤◌, Bool, true, false, cond, leb, eqb, List, [], ◌∷◌, ◌++◌, length, Option, Some, None, refl, sym, ap, subst, ◌∙◌, arith, inl, inr, ◌||◌}
 use Rattle.std.specs.Prelude.{IfSome}
 use Rattle.std.specs.List.{flat_map}
@@ -15,14 +15,14 @@ use Rattle.command_bytes.specs.Fields.{◌>>=◌, big, number_at}
 use Rattle.command_bytes.specs.Text.{prefix_text, rule_text, key_text, bits_text}
 use Rattle.command_bytes.specs.Reading.{Read, prefix_at, rule_at, area_at, key_at, bits_at}
 use Rattle.command_bytes.proofs.Numbers.{number_small, number_again}
-use Rattle.command_bytes.proofs.Steps.{Takes, behind, bind_some, some_is, some_where, some_unless, then_again, last_again}
+use Rattle.command_bytes.proofs.Steps.{Takes, takes_both, bind_some, some_is, some_where, some_unless, then_again, last_again}
 use Rattle.command_bytes.proofs.PartLaws.{number_read, prefix_takes, prefix_again, rule_takes, rule_again, area_takes, area_again, key_takes, key_again, bits_takes, bits_again}
 use Rattle.image_rows.specs.Rows.{Row, HeaderRow, RuleRow, RadioRow, MailRow, ServedRow, Header, Group, RadioRowInRange, ServedRowInRange}
 use Rattle.image_rows.specs.RowText.{present_number, group_text, radio_text, copied_text, item_text, reply_bits, served_text, mail_tag, header_tag, plain_header_tag, tag_of, fields_of}
 use Rattle.image_rows.specs.RowReading.{header_at, rule_row_at, present_of, groups_at, radio_row_at, copied_at, item_at, reply_of, served_row_at, is_header_tag, fields_at, row_at, ItemAsRead, RowAsRead, IsTagOf}
 use Rattle.image_rows.proofs.RowParts.{header_takes, header_again, present_is, present_back, groups_take, groups_again}
 
--- what was read behind a tag
+-- what was read after a tag
 record Reads (tag : ℕ) (bytes : List ℕ) (x : Row × List ℕ) : Type 0 where
   pub tagged : IsTagOf x.0 tag
   pub takes : Takes bytes (fields_of x.0) x.1
@@ -42,11 +42,11 @@ header_tagged tag h e = by (eqb tag header_tag) refl e
 
 header_row_takes : (tag : ℕ) (bytes : List ℕ) (x : Row × List ℕ) → AreBytes bytes → is_header_tag tag ≡ true → (header_at bytes >>= header_row) ≡ Some x → Reads tag bytes x
 unfolding header_row
-header_row_takes tag bytes x are told e =
+header_row_takes tag bytes x are stated e =
     let a = bind_some (header_at bytes) header_row x e in
     let h : Header × List ℕ = a.0 in
     let first = header_takes bytes h are a.1 in
-    subst (λ (y : Row × List ℕ). Reads tag bytes y) (some_is (HeaderRow h.0, h.1) x a.2) (record { tagged = header_tagged tag h.0 told; takes = first.0; fits = first.1 })
+    subst (λ (y : Row × List ℕ). Reads tag bytes y) (some_is (HeaderRow h.0, h.1) x a.2) (record { tagged = header_tagged tag h.0 stated; takes = first.0; fits = first.1 })
 
 -- ---- a rule
 
@@ -66,7 +66,7 @@ rule_row_takes bytes x are e =
     let rule : Rule × List ℕ = b.0 in
     let second = rule_takes prefix.1 rule first.0.are b.1 in
     subst (λ (y : Row × List ℕ). Reads 17 bytes y) (some_is (RuleRow prefix.0 rule.0, rule.1) x b.2)
-    (record { tagged = inl refl; takes = behind (prefix_text prefix.0) (rule_text rule.0) first.0 second.0; fits = (first.1, second.1) })
+    (record { tagged = inl refl; takes = takes_both (prefix_text prefix.0) (rule_text rule.0) first.0 second.0; fits = (first.1, second.1) })
 
 -- ---- a radio
 
@@ -122,11 +122,11 @@ radio_row_takes bytes x are e =
     (record {
       tagged = inl refl;
       takes =
-          behind (big 6 itsi.0) (big 2 station.0 ++ big 2 area.0 ++ big 1 (present_number present) ++ big 1 (length groups.0) ++ flat_map group_text groups.0) first
-          (behind (big 2 station.0) (big 2 area.0 ++ big 1 (present_number present) ++ big 1 (length groups.0) ++ flat_map group_text groups.0) second
-          (behind (big 2 area.0) (big 1 (present_number present) ++ big 1 (length groups.0) ++ flat_map group_text groups.0) third.0
-          (behind (big 1 (present_number present)) (big 1 (length groups.0) ++ flat_map group_text groups.0) named
-          (behind (big 1 (length groups.0)) (flat_map group_text groups.0) counted sixth.0))));
+          takes_both (big 6 itsi.0) (big 2 station.0 ++ big 2 area.0 ++ big 1 (present_number present) ++ big 1 (length groups.0) ++ flat_map group_text groups.0) first
+          (takes_both (big 2 station.0) (big 2 area.0 ++ big 1 (present_number present) ++ big 1 (length groups.0) ++ flat_map group_text groups.0) second
+          (takes_both (big 2 area.0) (big 1 (present_number present) ++ big 1 (length groups.0) ++ flat_map group_text groups.0) third.0
+          (takes_both (big 1 (present_number present)) (big 1 (length groups.0) ++ flat_map group_text groups.0) named
+          (takes_both (big 1 (length groups.0)) (flat_map group_text groups.0) counted sixth.0))));
       fits = record {
         number = number_small 6 bytes itsi are a.1;
         station = number_small 2 itsi.1 station first.are b.1;
@@ -214,10 +214,10 @@ item_takes copied bytes x are e =
     let made : Item × List ℕ = (record { key = key.0; number = number.0; deadline = deadline.0; pdu = pdu.0; group = group.0 }, pdu.1) in
     let h = some_where (leb deadline.0 latest_deadline) (Some made) x f.2 in
     subst (λ (y : Item × List ℕ). Takes bytes (item_text y.0) y.1 × ItemAsRead y.0 × (mail_tag y.0.group ≡ cond copied 21 19)) (some_is made x h.1) (
-      behind (big 8 number.0) (big 8 deadline.0 ++ key_text key.0 ++ copied_text group.0 ++ bits_text pdu.0) first
-          (behind (big 8 deadline.0) (key_text key.0 ++ copied_text group.0 ++ bits_text pdu.0) second
-          (behind (key_text key.0) (copied_text group.0 ++ bits_text pdu.0) third.0
-          (behind (copied_text group.0) (bits_text pdu.0) fourth.0 fifth.0))),
+      takes_both (big 8 number.0) (big 8 deadline.0 ++ key_text key.0 ++ copied_text group.0 ++ bits_text pdu.0) first
+          (takes_both (big 8 deadline.0) (key_text key.0 ++ copied_text group.0 ++ bits_text pdu.0) second
+          (takes_both (key_text key.0) (copied_text group.0 ++ bits_text pdu.0) third.0
+          (takes_both (copied_text group.0) (bits_text pdu.0) fourth.0 fifth.0))),
       record { key = third.1; number = number_small 8 bytes number are a.1; deadline = leb-true _ _ h.0; pdu = fifth.1; group = fourth.1 },
       fourth.2,
     )
@@ -300,9 +300,9 @@ served_row_takes bytes x are e =
     (record {
       tagged = inl refl;
       takes =
-          behind (big 2 station.0) (big 4 sequence.0 ++ big 8 number.0 ++ bits_text (reply_bits (reply_of pdu.0))) first
-          (behind (big 4 sequence.0) (big 8 number.0 ++ bits_text (reply_bits (reply_of pdu.0))) second
-          (behind (big 8 number.0) (bits_text (reply_bits (reply_of pdu.0))) third said));
+          takes_both (big 2 station.0) (big 4 sequence.0 ++ big 8 number.0 ++ bits_text (reply_bits (reply_of pdu.0))) first
+          (takes_both (big 4 sequence.0) (big 8 number.0 ++ bits_text (reply_bits (reply_of pdu.0))) second
+          (takes_both (big 8 number.0) (bits_text (reply_bits (reply_of pdu.0))) third said));
       fits = record {
         place = number_small 2 bytes station are a.1;
         kept = record { above = not_zero sequence.0 h.0; sequence = number_small 4 station.1 sequence first.are b.1; pdu = reply.1 };
@@ -402,7 +402,7 @@ tagged_small row tag (inr (h, is, plain)) = omega (arith, plain)
 tag_step : ℕ × List ℕ → Read Row
 tag_step tag = fields_at tag.0 tag.1
 
--- what is read, its PDU as it stands there, is a tag that it may have, and its fields
+-- what is read, its PDU as it is there, is a tag that it may have, and its fields
 pub row_takes : (bytes : List ℕ) (x : Row × List ℕ) → AreBytes bytes → row_at bytes ≡ Some x → (tag : ℕ) × IsTagOf x.0 tag × (bytes ≡ big 1 tag ++ fields_of x.0 ++ x.1) × RowAsRead x.0
 unfolding row_at tag_step
 row_takes bytes x are e =
@@ -410,7 +410,7 @@ row_takes bytes x are e =
     let tag : ℕ × List ℕ = a.0 in
     let first = number_read 1 bytes tag are a.1 in
     let second = fields_take tag.0 tag.1 x first.are a.2 in
-    (tag.0, second.tagged, (behind (big 1 tag.0) (fields_of x.0) first second.takes).is, second.fits)
+    (tag.0, second.tagged, (takes_both (big 1 tag.0) (fields_of x.0) first second.takes).is, second.fits)
 
 -- these bytes are read again
 pub row_again : (row : Row) (tag : ℕ) (rest : List ℕ) → IsTagOf row tag → RowAsRead row → row_at (big 1 tag ++ fields_of row ++ rest) ≡ Some (row, rest)

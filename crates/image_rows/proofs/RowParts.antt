@@ -12,7 +12,7 @@ use Rattle.identity.specs.Packed.{AreBytes}
 use Rattle.command_bytes.specs.Fields.{◌>>=◌, big, number_at}
 use Rattle.command_bytes.specs.Reading.{Read}
 use Rattle.command_bytes.proofs.Numbers.{number_small, number_again}
-use Rattle.command_bytes.proofs.Steps.{Takes, behind, bind_some, some_is, some_where, then_again, last_again}
+use Rattle.command_bytes.proofs.Steps.{Takes, takes_both, bind_some, some_is, some_where, then_again, last_again}
 use Rattle.command_bytes.proofs.PartLaws.{number_read, lifetime_is, lifetime_back}
 use Rattle.image_rows.specs.Rows.{Header, HeaderInRange, Group, GroupInRange, last_epoch}
 use Rattle.image_rows.specs.RowText.{header_text, present_number, usage_number, group_text}
@@ -71,11 +71,11 @@ header_takes bytes x are e =
     let h = some_where (ltb 0 epoch.0 && leb epoch.0 last_epoch) (Some made) x g.2 in
     let range = both_true (ltb 0 epoch.0) (leb epoch.0 last_epoch) h.0 in
     subst (λ (y : Header × List ℕ). Takes bytes (header_text y.0) y.1 × HeaderInRange y.0) (some_is made x h.1) (
-      behind (big 8 epoch.0) (big 8 count.0 ++ big 4 rules.0 ++ big 4 radios.0 ++ big 4 mail.0 ++ big 4 served.0) first
-          (behind (big 8 count.0) (big 4 rules.0 ++ big 4 radios.0 ++ big 4 mail.0 ++ big 4 served.0) second
-          (behind (big 4 rules.0) (big 4 radios.0 ++ big 4 mail.0 ++ big 4 served.0) third
-          (behind (big 4 radios.0) (big 4 mail.0 ++ big 4 served.0) fourth
-          (behind (big 4 mail.0) (big 4 served.0) fifth sixth)))),
+      takes_both (big 8 epoch.0) (big 8 count.0 ++ big 4 rules.0 ++ big 4 radios.0 ++ big 4 mail.0 ++ big 4 served.0) first
+          (takes_both (big 8 count.0) (big 4 rules.0 ++ big 4 radios.0 ++ big 4 mail.0 ++ big 4 served.0) second
+          (takes_both (big 4 rules.0) (big 4 radios.0 ++ big 4 mail.0 ++ big 4 served.0) third
+          (takes_both (big 4 radios.0) (big 4 mail.0 ++ big 4 served.0) fourth
+          (takes_both (big 4 mail.0) (big 4 served.0) fifth sixth)))),
       record {
         some = ltb-true _ _ range.0;
         most = leb-true _ _ range.1;
@@ -172,7 +172,7 @@ group_takes bytes x are e =
     let is = usage_is number.0 usage c.1 in
     let named : Takes gtsi.1 (big 1 (usage_number usage)) number.1 = subst (λ (n : ℕ). Takes gtsi.1 (big 1 n) number.1) (sym is.0) second in
     subst (λ (y : Group × List ℕ). Takes bytes (group_text y.0) y.1 × GroupInRange y.0) (some_is ((gtsi.0, usage), number.1) x c.2)
-    (behind (big 6 gtsi.0) (big 1 (usage_number usage)) first named, (number_small 6 bytes gtsi are a.1, is.1))
+    (takes_both (big 6 gtsi.0) (big 1 (usage_number usage)) first named, (number_small 6 bytes gtsi are a.1, is.1))
 
 group_again : (g : Group) (rest : List ℕ) → GroupInRange g → group_at (group_text g ++ rest) ≡ Some (g, rest)
 unfolding group_at gtsi_step number_step known_step big
@@ -203,7 +203,7 @@ groups_take (suc n) bytes x are e =
     let gs : List Group × List ℕ = b.0 in
     let rest = groups_take n g.1 gs first.0.are b.1 in
     subst (λ (y : List Group × List ℕ). Takes bytes (flat_map group_text y.0) y.1 × (length y.0 ≡ suc n) × All GroupInRange y.0) (some_is (g.0 ∷ gs.0, gs.1) x b.2)
-    (behind (group_text g.0) (flat_map group_text gs.0) first.0 rest.0, ap suc rest.1, All-cons GroupInRange g.0 gs.0 first.1 rest.2)
+    (takes_both (group_text g.0) (flat_map group_text gs.0) first.0 rest.0, ap suc rest.1, All-cons GroupInRange g.0 gs.0 first.1 rest.2)
 
 pub groups_again : (gs : List Group) (rest : List ℕ) → All GroupInRange gs → groups_at (length gs) (flat_map group_text gs ++ rest) ≡ Some (gs, rest)
 unfolding one_step more_step

@@ -32,12 +32,12 @@ with_rules s rules = record s { registered = record s.registered { rules = rules
 pub rules_taken : (h : Header) (s : State) (full : PathMap Rule) (es : List (Path × Rule)) → h.rules ≡ map.len full → map.entries s.registered.rules ++ es ≡ map.entries full
     → all_taken (at h s) (each rule_row es) ≡ Some (at h (with_rules s full))
 unfolding row_taken
-rules_taken h s full [] told is = ap (λ (r : PathMap Rule). Some (at h (with_rules s r))) (map.same_entries_map s.registered.rules full (sym (append-nil (map.entries s.registered.rules)) ∙ is))
-rules_taken h s full (e ∷ es) told is =
+rules_taken h s full [] stated is = ap (λ (r : PathMap Rule). Some (at h (with_rules s r))) (map.same_entries_map s.registered.rules full (sym (append-nil (map.entries s.registered.rules)) ∙ is))
+rules_taken h s full (e ∷ es) stated is =
     let old = s.registered.rules in
-    let may : rule_may h s e.0 ≡ true = both _ _ (lt-ltb (map.len old) h.rules (rw told (fewer path_cmp old full e es is))) (next_of path_cmp old full e es is) in
+    let may : rule_may h s e.0 ≡ true = both _ _ (lt-ltb (map.len old) h.rules (rw stated (fewer path_cmp old full e es is))) (next_of path_cmp old full e es is) in
     let n : State = taken_rule s e.0 e.1 in
     let here : row_taken (at h s) (rule_row e) ≡ Some (at h n) = rw may refl in
     let more : map.entries n.registered.rules ++ es ≡ map.entries full =
     ap (λ (l : List (Path × Rule)). l ++ es) (entries_next paths_total old e.0 e.1 (right _ _ may)) ∙ append_assoc (map.entries old) ((e.0, e.1) ∷ []) es ∙ is in
-    ap (λ (r : Option Loading). r >>= λ n. all_taken n (each rule_row es)) here ∙ rules_taken h n full es told more
+    ap (λ (r : Option Loading). r >>= λ n. all_taken n (each rule_row es)) here ∙ rules_taken h n full es stated more

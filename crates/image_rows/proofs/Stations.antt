@@ -45,34 +45,34 @@ abbrev pub with_served : State → Entries → State
 with_served s served = record s { served = served }
 
 -- the stations that are left
-pub served_taken : (h : Header) (s : State) (front os : Entries) → mail_done h s ≡ true → h.served ≡ how_many (front ++ os) → All (IsOfAccepted s.count) os → s.served ≡ front ++ blanks (length os)
-    → all_taken (at h s) (served_rows (length front + 1) os) ≡ Some (at h (with_served s (front ++ os)))
+pub served_taken : (h : Header) (s : State) (prefix os : Entries) → mail_done h s ≡ true → h.served ≡ how_many (prefix ++ os) → All (IsOfAccepted s.count) os → s.served ≡ prefix ++ blanks (length os)
+    → all_taken (at h s) (served_rows (length prefix + 1) os) ≡ Some (at h (with_served s (prefix ++ os)))
 unfolding row_taken
-served_taken h s front [] placed told numbered is = ap (λ (l : Entries). Some (at h (with_served s l))) is
-served_taken h s front (None ∷ os) placed told numbered is =
-    let longer : Entries = front ++ None ∷ [] in
-    let regrouped : longer ++ os ≡ front ++ None ∷ os = append_assoc front (None ∷ []) os in
-    ap (λ k. all_taken (at h s) (served_rows (k + 1) os)) (sym (length_push front None))
-    ∙ served_taken h s longer os placed (told ∙ ap how_many (sym regrouped)) (All-tail (IsOfAccepted s.count) None os numbered) (is ∙ sym (append_assoc front (None ∷ []) (blanks (length os))))
+served_taken h s prefix [] placed stated numbered is = ap (λ (l : Entries). Some (at h (with_served s l))) is
+served_taken h s prefix (None ∷ os) placed stated numbered is =
+    let longer : Entries = prefix ++ None ∷ [] in
+    let regrouped : longer ++ os ≡ prefix ++ None ∷ os = append_assoc prefix (None ∷ []) os in
+    ap (λ k. all_taken (at h s) (served_rows (k + 1) os)) (sym (length_push prefix None))
+    ∙ served_taken h s longer os placed (stated ∙ ap how_many (sym regrouped)) (All-tail (IsOfAccepted s.count) None os numbered) (is ∙ sym (append_assoc prefix (None ∷ []) (blanks (length os))))
     ∙ ap (λ (l : Entries). Some (at h (with_served s l))) regrouped
-served_taken h s front (Some last ∷ os) placed told numbered is =
-    let station = length front + 1 in
-    let place : station - 1 ≡ length front = omega arith in
+served_taken h s prefix (Some last ∷ os) placed stated numbered is =
+    let station = length prefix + 1 in
+    let place : station - 1 ≡ length prefix = omega arith in
     let rest : Entries = blanks (length os) in
-    let now : s.served ≡ front ++ None ∷ rest = is in
-    let free : are_free (drop (station - 1) s.served) ≡ true = ap (λ k. are_free (drop k s.served)) place ∙ ap (λ (l : Entries). are_free (drop (length front) l)) now ∙ ap are_free (drop_at front (None ∷ rest) (length front) refl) ∙ free_blanks (length os) in
+    let now : s.served ≡ prefix ++ None ∷ rest = is in
+    let free : are_free (drop (station - 1) s.served) ≡ true = ap (λ k. are_free (drop k s.served)) place ∙ ap (λ (l : Entries). are_free (drop (length prefix) l)) now ∙ ap are_free (drop_at prefix (None ∷ rest) (length prefix) refl) ∙ free_blanks (length os) in
     let fewer : how_many s.served < h.served =
-    let a = ap how_many now in let b = how_many-append front (None ∷ rest) in let c = none_in_blanks (suc (length os)) in let d = how_many-append front (Some last ∷ os) in let e = how_many-cons (Some last) os in omega (arith, a, b, c, d, e, told) in
-    let within : station ≤ length s.served = let a = ap length now in let b = length-append front (None ∷ rest) in omega (arith, a, b) in
+    let a = ap how_many now in let b = how_many-append prefix (None ∷ rest) in let c = none_in_blanks (suc (length os)) in let d = how_many-append prefix (Some last ∷ os) in let e = how_many-cons (Some last) os in omega (arith, a, b, c, d, e, stated) in
+    let within : station ≤ length s.served = let a = ap length now in let b = length-append prefix (None ∷ rest) in omega (arith, a, b) in
     let number = All-head (IsOfAccepted s.count) (Some last) os numbered in
     let may : served_may h s station last ≡ true =
     both _ _ (both _ _ (both _ _ (both _ _ (both _ _ placed (lt-ltb _ _ fewer)) (lt-ltb 0 station (omega arith))) (le-leb _ _ within)) free) (both _ _ (lt-ltb _ _ number.0) (le-leb _ _ number.1)) in
     let n : State = taken_served s station last in
     let here : row_taken (at h s) (ServedRow station last) ≡ Some (at h n) = rw may refl in
-    let longer : Entries = front ++ Some last ∷ [] in
-    let regrouped : longer ++ os ≡ front ++ Some last ∷ os = append_assoc front (Some last ∷ []) os in
-    let set : n.served ≡ longer ++ rest = ap (λ k. slice_set s.served k (Some last)) place ∙ ap (λ (l : Entries). slice_set l (length front) (Some last)) now ∙ set_there front rest None (Some last) ∙ sym (append_assoc front (Some last ∷ []) rest) in
+    let longer : Entries = prefix ++ Some last ∷ [] in
+    let regrouped : longer ++ os ≡ prefix ++ Some last ∷ os = append_assoc prefix (Some last ∷ []) os in
+    let set : n.served ≡ longer ++ rest = ap (λ k. slice_set s.served k (Some last)) place ∙ ap (λ (l : Entries). slice_set l (length prefix) (Some last)) now ∙ set_there prefix rest None (Some last) ∙ sym (append_assoc prefix (Some last ∷ []) rest) in
     ap (λ (r : Option Loading). r >>= λ n. all_taken n (served_rows (station + 1) os)) here
-    ∙ ap (λ k. all_taken (at h n) (served_rows (k + 1) os)) (sym (length_push front (Some last)))
-    ∙ served_taken h n longer os placed (told ∙ ap how_many (sym regrouped)) (All-tail (IsOfAccepted s.count) (Some last) os numbered) set
+    ∙ ap (λ k. all_taken (at h n) (served_rows (k + 1) os)) (sym (length_push prefix (Some last)))
+    ∙ served_taken h n longer os placed (stated ∙ ap how_many (sym regrouped)) (All-tail (IsOfAccepted s.count) (Some last) os numbered) set
     ∙ ap (λ (l : Entries). Some (at h (with_served s l))) regrouped

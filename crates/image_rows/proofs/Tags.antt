@@ -35,12 +35,12 @@ header_has_tag h bytes are e =
     first_byte bytes (fields_of spells.seen) spells.rest spells.tag spells.is
     (tag_of_header spells.seen h spells.tag (seen_header spells.seen h spells.same) spells.tagged)
 
-behind_tag : ℕ × List ℕ → Option Row
-behind_tag tag = fields_in tag.0 tag.1
+after_tag : ℕ × List ℕ → Option Row
+after_tag tag = fields_in tag.0 tag.1
 
 tag_read : (tag : ℕ) (fields : List ℕ) → tag < 256 ^ 1 → row_in (big 1 tag ++ fields) ≡ fields_in tag fields
-unfolding row_in behind_tag
-tag_read tag fields lt = ap (λ (read : Option (ℕ × List ℕ)). read >>= behind_tag) (number_again 1 tag fields lt)
+unfolding row_in after_tag
+tag_read tag fields lt = ap (λ (read : Option (ℕ × List ℕ)). read >>= after_tag) (number_again 1 tag fields lt)
 
 pub either_tag : (fields : List ℕ) → row_in (plain_header_tag ∷ fields) ≡ row_in (header_tag ∷ fields)
 unfolding fields_in fields_at big

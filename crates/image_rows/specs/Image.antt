@@ -10,7 +10,7 @@ use Rattle.image_rows.specs.RowText.{sector_of}
 use Rattle.image_rows.specs.RowReading.{Spells, row_in}
 use Rattle.image_rows.specs.Slot.{SlotRead, slot_read}
 
--- each row of a state in a sector
+-- the sectors of a state's image, one for each row
 abbrev pub sectors_of : Epoch → State → List (List Byte)
 sectors_of epoch s = each sector_of (rows_of epoch s)
 
@@ -20,7 +20,7 @@ slot_of limits sectors = slot_read limits (each row_in sectors)
 
 -- the first sectors spell the rows of the state, one after another
 pub record IsSpelt (sectors : List (List Byte)) (epoch : Epoch) (s : State) : Type 0 where
-  pub front : List (List Byte)
-  pub behind : List (List Byte)
-  pub are : sectors ≡ front ++ behind
-  pub spelt : AllZip Spells (rows_of epoch s) front
+  pub prefix : List (List Byte)
+  pub following : List (List Byte)
+  pub are : sectors ≡ prefix ++ following
+  pub spelt : AllZip Spells (rows_of epoch s) prefix

@@ -1,4 +1,4 @@
--- A row as a walk tells it.
+-- A row as a walk over the image returns it.
 use Rattle.std.specs.Prelude.{List}
 use Rattle.identity.specs.Numbers.{Byte}
 use Rattle.image_rows.specs.declared.place.RowPlace.{RowPlace}
@@ -6,6 +6,6 @@ use Rattle.image_rows.specs.Rows.{Row}
 use Rattle.image_rows.specs.RowText.{sector_of}
 use Rattle.image_rows.specs.Walking.{place_of}
 
--- where it stands, and its bytes
-abbrev pub told_row : Row → RowPlace × List Byte
-told_row row = (place_of row, sector_of row)
+-- the row's place and its bytes
+abbrev pub placed_row : Row → RowPlace × List Byte
+placed_row row = (place_of row, sector_of row)

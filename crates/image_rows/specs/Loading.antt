@@ -1,5 +1,6 @@
--- What rows stand for, taken one after another.
-use Rattle.std.specs.Prelude.{◌-◌, ◌==◌, Bool, ◌&&◌, not, List, [], ◌∷◌, length, map as each, count_by, drop, slice_set, Option, Some, None, nat_le, nat_lt, if◌then◌else◌}
+-- The state that rows make, taken one after another.
+use Rattle.std.specs.Prelude.{◌-◌, ◌==◌, Bool, ◌&&◌, not, nat_le, nat_lt, if◌then◌else◌, Option, Some, None}
+use Rattle.std.specs.Prelude.{List, [], ◌∷◌, length, map as each, count_by, drop, slice_set}
 use Rattle.std.specs.List.{list_all}
 use Rattle.std.specs.Option.{is_some}
 use Rattle.std.specs.Ordering.{nat_cmp, is_lt}
@@ -27,7 +28,7 @@ use Rattle.image_rows.specs.Numbers.{Epoch}
 use Rattle.image_rows.specs.Rows.{Row, HeaderRow, RuleRow, RadioRow, MailRow, ServedRow, Header, Group, how_many}
 
 infixl 10 ◌>>=◌
--- one step and what comes after it, or nothing where there is none
+-- a step and then the next one; nothing if either gives nothing
 abbrev pub ◌>>=◌ : {A B : Type 0} → Option A → (A → Option B) → Option B
 (Some x) >>= f = f x
 None >>= f = None
@@ -47,27 +48,29 @@ is_next {K} {X} {R} m k = list_all (λ e. is_lt (R e.0 k)) (map.entries m)
 
 -- ---- each kind of row: whether it may come now, and the state with it
 
--- no more rows come than the limits allow, nor were more commands accepted than have numbers
+-- the header states no more rows than the limits allow, and no more commands than there are numbers
 abbrev pub header_may : Limits → Header → Bool
-header_may limits h = nat_le h.count last_number && nat_le h.rules limits.rules && nat_le h.radios limits.radios && nat_le h.mail limits.mail && nat_le h.served limits.stations
+header_may limits h =
+    nat_le h.count last_number && nat_le h.rules limits.rules && nat_le h.radios limits.radios
+    && nat_le h.mail limits.mail && nat_le h.served limits.stations
 
--- all rules came of which the header told
+-- all rules that the header states have come
 abbrev pub rules_done : Header → State → Bool
 rules_done h s = map.len s.registered.rules == h.rules
 
--- all rules and radios came
+-- all rules and radios have come
 abbrev pub radios_done : Header → State → Bool
 radios_done h s = rules_done h s && (map.len s.registered.radios == h.radios)
 
--- all rules, radios and items came
+-- all rules, radios and items have come
 abbrev pub mail_done : Header → State → Bool
 mail_done h s = radios_done h s && (length s.mail.items == h.mail)
 
--- all rows came of which the header told
+-- all rows that the header states have come
 abbrev pub all_done : Header → State → Bool
 all_done h s = mail_done h s && (how_many s.served == h.served)
 
--- a number of a command that was accepted
+-- the number is that of an accepted command
 abbrev pub is_numbered : Count → Number → Bool
 is_numbered count number = nat_lt 0 number && nat_le number count
 
@@ -83,11 +86,11 @@ taken_rule s prefix rule = record s { registered = with_rule s.registered prefix
 abbrev pub radio_due : Header → State → Itsi → Bool
 radio_due h s itsi = rules_done h s && nat_lt (map.len s.registered.radios) h.radios && is_next s.registered.radios (id_path itsi)
 
--- the radio is due, and is of one of the stations
+-- the radio is due, and its station exists
 abbrev pub place_may : Header → State → Itsi → Radio → Bool
 place_may h s itsi radio = radio_due h s itsi && nat_lt 0 radio.station && nat_le radio.station s.registered.limits.stations
 
--- the radio is due, is of one of the stations, and has its groups in order, not too many
+-- the radio is due, its station exists, and its groups are in order and not too many
 abbrev pub radio_may : Header → State → Itsi → Radio → List Group → Bool
 radio_may h s itsi radio groups = place_may h s itsi radio && nat_le (length groups) most_of_radio && map.is_sorted nat_cmp groups
 
@@ -110,15 +113,15 @@ taken_radio s itsi radio groups = record s {
 abbrev pub comes_last : List Item → Item → Bool
 comes_last items w = list_all (λ o. is_lt (named_cmp (named o) (named w))) items
 
--- one more item is to come, under a number that was given, and comes after all that wait
+-- one more item is to come, its number is that of an accepted command, and it comes after all waiting items
 abbrev pub before_place : Header → State → Item → Bool
 before_place h s w = radios_done h s && nat_lt (length s.mail.items) h.mail && is_numbered s.count w.number && comes_last s.mail.items w
 
--- fewer of these items than may are for this destination
+-- the destination has fewer of these items than it may have
 abbrev pub has_room_for : List Item → Itsi → Bool
 has_room_for items destination = nat_lt (count_by (is_to destination) items) most_for_one
 
--- it comes after all that wait, under a key of its own, there is room for it, and it is what its key says
+-- the item comes after all waiting items, its key is new, there is room for it, and its PDU fits its key
 abbrev pub mail_may : Header → State → Item → Bool
 mail_may h s w =
     before_place h s w && not (holds s.mail w.key) && has_room_for s.mail.items w.key.destination
@@ -128,27 +131,27 @@ mail_may h s w =
 abbrev pub taken_mail : State → Item → State
 taken_mail s w = record s { mail = with_item s.mail w }
 
--- nothing is kept of these stations
+-- none of these stations has an accepted command
 abbrev pub are_free : List (Option LastAccepted) → Bool
 are_free served = list_all (λ last. not (is_some last)) served
 
--- one more station is to come, and it is one of these, behind those of which something is kept
+-- one more station is to come, it exists, and it comes after those that have an accepted command
 abbrev pub station_due : Header → State → Station → Bool
 station_due h s station =
     mail_done h s && nat_lt (how_many s.served) h.served && nat_lt 0 station && nat_le station (length s.served)
     && are_free (drop (station - 1) s.served)
 
--- the station is due, and what is kept of it has a number that was given
+-- the station is due, and its last accepted command has a number that was given
 abbrev pub served_may : Header → State → Station → LastAccepted → Bool
 served_may h s station last = station_due h s station && is_numbered s.count last.number
 
--- the state with what is kept of the station
+-- the state with the station's last accepted command
 abbrev pub taken_served : State → Station → LastAccepted → State
 taken_served s station last = record s { served = slice_set s.served (station - 1) (Some last) }
 
 -- ---- one row, and all of them
 
--- a row after the header
+-- the state with a row after the header, if that row may come
 abbrev pub put : Header → State → Row → Option State
 put h s (HeaderRow again) = None
 put h s (RuleRow prefix rule) = if rule_may h s prefix then Some (taken_rule s prefix rule) else None
@@ -156,7 +159,7 @@ put h s (RadioRow itsi radio groups) = if radio_may h s itsi radio groups then S
 put h s (MailRow w) = if mail_may h s w then Some (taken_mail s w) else None
 put h s (ServedRow station last) = if served_may h s station last then Some (taken_served s station last) else None
 
--- the first row
+-- the loading with the first row, if that is a header that may come
 abbrev pub begin : State → Row → Option Loading
 begin s (HeaderRow h) = if header_may s.registered.limits h then Some (record { header = Some h; state = record s { count = h.count } }) else None
 begin s (RuleRow prefix rule) = None
@@ -164,12 +167,12 @@ begin s (RadioRow itsi radio groups) = None
 begin s (MailRow w) = None
 begin s (ServedRow station last) = None
 
--- the header as the first row, and any other row behind it
+-- the header as the first row, and any other row after it
 abbrev pub take_by : Option Header → State → Row → Option Loading
 take_by None s row = begin s row
 take_by (Some h) s row = put h s row >>= λ n. Some (record { header = Some h; state = n })
 
--- the loading with one more row, where that can come next
+-- the loading with one more row, if that row may come next
 unfoldable pub row_taken : Loading → Row → Option Loading
 row_taken l row = take_by l.header l.state row
 
@@ -178,15 +181,15 @@ abbrev pub all_taken : Loading → List Row → Option Loading
 all_taken l [] = Some l
 all_taken l (row ∷ rows) = row_taken l row >>= λ n. all_taken n rows
 
--- once all rows of which the header told came: the epoch and the state
+-- the epoch and the state, once all rows that the header states have come
 abbrev pub finished_by : Option Header → State → Option (Epoch × State)
 finished_by None s = None
 finished_by (Some h) s = if all_done h s then Some (h.epoch, s) else None
 
--- the epoch and the state of a loading, once all its rows came
+-- the epoch and the state of a loading, once all its rows have come
 unfoldable pub finished : Loading → Option (Epoch × State)
 finished l = finished_by l.header l.state
 
--- the epoch and the state that rows stand for
-abbrev pub stood_for : Limits → List Row → Option (Epoch × State)
-stood_for limits rows = all_taken (begun limits) rows >>= finished
+-- the epoch and the state that rows make
+abbrev pub state_of_rows : Limits → List Row → Option (Epoch × State)
+state_of_rows limits rows = all_taken (begun limits) rows >>= finished

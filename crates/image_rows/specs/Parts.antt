@@ -1,4 +1,4 @@
--- The row after a place, as the tables tell it: the next entry of the place's part, or else the first one of a later part.
+-- The row after a place, by the tables: the next entry of the place's part, or else the first one of a later part.
 use Rattle.std.specs.Prelude.{◌+◌, ◌<◌, ◌^◌, List, [], ◌∷◌, drop, Option, Some, None}
 use Rattle.std.specs.Option.{option_map, option_or}
 use Rattle.identity.specs.Numbers.{Itsi}
@@ -19,30 +19,30 @@ abbrev pub first : List Row → Option Row
 first [] = None
 first (row ∷ rows) = Some row
 
--- of the stations behind this one the first of which something is kept
+-- the row of the first station after this one that has an accepted command
 abbrev pub after_station : State → Station → Option Row
 after_station s station = first (served_rows (station + 1) (drop station s.served))
 
--- the row of the first item after this one, or of all, or else the first one behind the items
+-- the row of the first item after this one, or of all, or else the first one after the items
 abbrev pub after_item : State → Option (Number × Key) → Option Row
 after_item s after = option_or (option_map MailRow (next_item s.mail after)) (after_station s 0)
 
--- the row of the first radio after this one, or of all, or else the first one behind the radios
+-- the row of the first radio after this one, or of all, or else the first one after the radios
 abbrev pub after_radio : State → Option Itsi → Option Row
 after_radio s after = option_or (option_map (radio_row s.groups) (next_entry s.registered.radios (option_map id_path after))) (after_item s None)
 
--- the row of the first rule after this one, or of all, or else the first one behind the rules
+-- the row of the first rule after this one, or of all, or else the first one after the rules
 abbrev pub after_rule : State → Option Path → Option Row
 after_rule s after = option_or (option_map rule_row (next_entry s.registered.rules after)) (after_radio s None)
 
 -- the row after a place of the image; the first of all is the header
-abbrev pub told_after : Epoch → State → Option RowPlace → Option Row
-told_after epoch s None = Some (HeaderRow (header_of epoch s))
-told_after epoch s (Some place.Header) = after_rule s None
-told_after epoch s (Some (place.Rule prefix)) = after_rule s (Some prefix)
-told_after epoch s (Some (place.Radio itsi)) = after_radio s (Some itsi)
-told_after epoch s (Some (place.Mail number key)) = after_item s (Some (number, key))
-told_after epoch s (Some (place.Served station)) = after_station s station
+abbrev pub row_by_tables : Epoch → State → Option RowPlace → Option Row
+row_by_tables epoch s None = Some (HeaderRow (header_of epoch s))
+row_by_tables epoch s (Some place.Header) = after_rule s None
+row_by_tables epoch s (Some (place.Rule prefix)) = after_rule s (Some prefix)
+row_by_tables epoch s (Some (place.Radio itsi)) = after_radio s (Some itsi)
+row_by_tables epoch s (Some (place.Mail number key)) = after_item s (Some (number, key))
+row_by_tables epoch s (Some (place.Served station)) = after_station s station
 
 -- a radio's number has 48 bits
 abbrev pub PlaceInRange : Option RowPlace → Type 0

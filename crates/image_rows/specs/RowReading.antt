@@ -1,5 +1,6 @@
--- Reading rows from bytes: the fields of the table one after the other, each judged by its range.
-use Rattle.std.specs.Prelude.{◌≡◌, ◌⊎◌, ℕ, zero, suc, ◌^◌, ◌<◌, ◌≤◌, ◌==◌, ◌/◌, ◌%◌, Bool, true, false, ◌&&◌, ◌||◌, List, [], ◌∷◌, ◌++◌, length, Option, Some, None, IfSome, nat_le, nat_lt, if◌then◌else◌}
+-- Reading rows from bytes: one field after the other, each checked for its range.
+use Rattle.std.specs.Prelude.{◌≡◌, ◌⊎◌, ℕ, zero, suc, ◌^◌, ◌<◌, ◌≤◌, ◌==◌, ◌/◌, ◌%◌, nat_le, nat_lt}
+use Rattle.std.specs.Prelude.{Bool, true, false, ◌&&◌, ◌||◌, if◌then◌else◌, List, [], ◌∷◌, ◌++◌, length, Option, Some, None, IfSome}
 use Rattle.identity.specs.Numbers.{Gtsi, Byte}
 use Rattle.mm_pdus.specs.Values.{lifetime_of}
 use Rattle.sds_tl.specs.Reading.{cleared}
@@ -11,7 +12,8 @@ use Rattle.identity.specs.BitsText.{most_bits}
 use Rattle.centre_core.specs.StateRanges.{RuleEntryInRange}
 use Rattle.command_bytes.specs.Fields.{◌>>=◌, big, number_at}
 use Rattle.command_bytes.specs.Reading.{Read, prefix_at, rule_at, area_at, key_at, bits_at}
-use Rattle.image_rows.specs.Rows.{Row, HeaderRow, RuleRow, RadioRow, MailRow, ServedRow, Header, Group, RowInRange, HeaderInRange, RadioRowInRange, ServedRowInRange, last_epoch}
+use Rattle.image_rows.specs.Rows.{Row, HeaderRow, RuleRow, RadioRow, MailRow, ServedRow, Header, Group, last_epoch}
+use Rattle.image_rows.specs.Rows.{RowInRange, HeaderInRange, RadioRowInRange, ServedRowInRange}
 use Rattle.image_rows.specs.RowText.{fields_of, header_tag, plain_header_tag, tag_of}
 
 -- ---- each kind of row
@@ -20,7 +22,7 @@ use Rattle.image_rows.specs.RowText.{fields_of, header_tag, plain_header_tag, ta
 abbrev pub is_epoch : ℕ → Bool
 is_epoch number = nat_lt 0 number && nat_le number last_epoch
 
--- the epoch, and the numbers behind it
+-- a header: the epoch, and the numbers after it
 unfoldable pub header_at : List Byte → Read Header
 header_at bytes = do
   epoch ← number_at 8 bytes
@@ -29,9 +31,11 @@ header_at bytes = do
   radios ← number_at 4 rules.1
   mail ← number_at 4 radios.1
   served ← number_at 4 mail.1
-  if is_epoch epoch.0 then Some (record { epoch = epoch.0; count = count.0; rules = rules.0; radios = radios.0; mail = mail.0; served = served.0 }, served.1) else None
+  if is_epoch epoch.0
+      then Some (record { epoch = epoch.0; count = count.0; rules = rules.0; radios = radios.0; mail = mail.0; served = served.0 }, served.1)
+      else None
 
--- a rule behind its prefix
+-- a prefix and its rule
 unfoldable pub rule_row_at : List Byte → Read Row
 rule_row_at bytes = do
   prefix ← prefix_at bytes
@@ -54,7 +58,7 @@ group_at bytes = do
   usage ← usage_of number.0
   Some ((gtsi.0, usage), number.1)
 
--- so many groups
+-- the first n groups in the bytes
 abbrev pub groups_at : ℕ → List Byte → Read (List Group)
 groups_at zero bytes = Some ([], bytes)
 groups_at (suc n) bytes = group_at bytes >>= λ g. groups_at n g.1 >>= λ gs. Some (g.0 ∷ gs.0, gs.1)
@@ -76,7 +80,7 @@ abbrev pub copied_at : Bool → List Byte → Read (Option Gtsi)
 copied_at false bytes = Some (None, bytes)
 copied_at true bytes = number_at 6 bytes >>= λ gtsi. Some (Some gtsi.0, gtsi.1)
 
--- an item, or a copy of a message to a group; its PDU as it stands there
+-- an item, or a copy of a message to a group, with its PDU unchanged
 unfoldable pub item_at : Bool → List Byte → Read Item
 item_at copied bytes = do
   number ← number_at 8 bytes
@@ -84,14 +88,16 @@ item_at copied bytes = do
   key ← key_at deadline.1
   group ← copied_at copied key.1
   pdu ← bits_at group.1
-  if nat_le deadline.0 latest_deadline then Some (record { key = key.0; number = number.0; deadline = deadline.0; pdu = pdu.0; group = group.0 }, pdu.1) else None
+  if nat_le deadline.0 latest_deadline
+      then Some (record { key = key.0; number = number.0; deadline = deadline.0; pdu = pdu.0; group = group.0 }, pdu.1)
+      else None
 
--- no bits are no reply
+-- the PDU of a reply: none where there are no bits
 abbrev pub reply_of : List Bool → Option (List Bool)
 reply_of [] = None
 reply_of (b ∷ bits) = Some (b ∷ bits)
 
--- sequences count from 1
+-- a station's last accepted command; sequences count from 1
 unfoldable pub served_row_at : List Byte → Read Row
 served_row_at bytes = do
   station ← number_at 2 bytes
@@ -102,11 +108,11 @@ served_row_at bytes = do
 
 -- ---- the whole
 
--- a header is told by the tag of either layout
+-- a header has the tag of either layout
 abbrev pub is_header_tag : Byte → Bool
 is_header_tag tag = tag == header_tag || tag == plain_header_tag
 
--- the fields behind a tag
+-- the fields after a tag
 unfoldable pub fields_at : Byte → List Byte → Read Row
 fields_at tag bytes =
     if is_header_tag tag then (header_at bytes >>= λ header. Some (HeaderRow header.0, header.1))
@@ -117,11 +123,11 @@ fields_at tag bytes =
     else if tag == 21 then (item_at true bytes >>= λ item. Some (MailRow item.0, item.1))
     else None
 
--- the row with which bytes begin, its PDU as it stands there, and the bytes after it
+-- the row that the bytes begin with, with its PDU unchanged, and the bytes after it
 unfoldable pub row_at : List Byte → Read Row
 row_at bytes = number_at 1 bytes >>= λ tag. fields_at tag.0 tag.1
 
--- what waits is what its key says: a message an SDS-TRANSFER of its reference, a report an SDS-REPORT; a copy is a message
+-- an item's PDU fits its key: an SDS-TRANSFER or SDS-REPORT of its reference; a copy is a message
 abbrev pub is_known : Row → Bool
 is_known (HeaderRow h) = true
 is_known (RuleRow prefix rule) = true
@@ -129,7 +135,7 @@ is_known (RadioRow itsi radio groups) = true
 is_known (MailRow w) = is_as_named w
 is_known (ServedRow station last) = true
 
--- a row with its PDU as it is written, the reserved bits 0
+-- a row as it is written: the reserved bits of its PDU are 0
 abbrev pub written : Row → Row
 written (HeaderRow h) = HeaderRow h
 written (RuleRow prefix rule) = RuleRow prefix rule
@@ -137,26 +143,26 @@ written (RadioRow itsi radio groups) = RadioRow itsi radio groups
 written (MailRow w) = MailRow (record w { pdu = cleared w.pdu })
 written (ServedRow station last) = ServedRow station last
 
--- the row as it is written, where what waits is what its key says
+-- the row as it is written, if an item's PDU fits its key
 abbrev pub settled : Row → Option Row
 settled row = if is_known row then Some (written row) else None
 
--- the row of the fields behind a tag; what stands behind them is ignored
+-- the row of the fields after a tag; bytes after them are ignored
 unfoldable pub fields_in : Byte → List Byte → Option Row
 fields_in tag bytes = fields_at tag bytes >>= λ row. settled row.0
 
--- the row of bytes
+-- the row that the bytes begin with; bytes after it are ignored
 unfoldable pub row_in : List Byte → Option Row
 row_in bytes = number_at 1 bytes >>= λ tag. fields_in tag.0 tag.1
 
 -- ---- what has bytes
 
--- a row that has bytes: its fields are in their ranges, and what waits is what its key says
+-- a row that has bytes: its fields are in their ranges, and an item's PDU fits its key
 pub record IsRow (row : Row) : Type 0 where
   pub range : RowInRange row
   pub known : is_known row ≡ true
 
--- an item as it is read: its PDU are any bits for which there is room
+-- an item as it is read: its PDU is any bits for which there is room
 pub record ItemAsRead (w : Item) : Type 0 where
   pub key : KeyInRange w.key
   pub number : w.number < 2 ^ 64
@@ -164,7 +170,7 @@ pub record ItemAsRead (w : Item) : Type 0 where
   pub pdu : length w.pdu ≤ most_bits
   pub group : IfSome w.group (λ gtsi. gtsi < 2 ^ 48)
 
--- a row as it is read
+-- the fields of a row as it is read are in their ranges
 abbrev pub RowAsRead : Row → Type 0
 RowAsRead (HeaderRow h) = HeaderInRange h
 RowAsRead (RuleRow prefix rule) = RuleEntryInRange prefix rule
@@ -172,11 +178,11 @@ RowAsRead (RadioRow itsi radio groups) = RadioRowInRange itsi radio groups
 RowAsRead (MailRow w) = ItemAsRead w
 RowAsRead (ServedRow station last) = ServedRowInRange station last
 
--- a tag that a row may have: the one with which it is written, and a header that of layout 1 too
+-- a tag that a row may have: the one it is written with; for a header also that of layout 1
 abbrev pub IsTagOf : Row → Byte → Type 0
 IsTagOf row tag = (tag ≡ tag_of row) ⊎ ((h : Header) × (row ≡ HeaderRow h) × (tag ≡ plain_header_tag))
 
--- bytes spell a row: they begin with a tag and the fields of a row that differs from it in the reserved bits of its PDU at most
+-- bytes spell a row: they begin with a tag and the fields of a row that equals it but for reserved bits of its PDU
 pub record Spells (row : Row) (bytes : List Byte) : Type 0 where
   pub seen : Row
   pub tag : Byte

@@ -1,9 +1,9 @@
--- How long rows are.
+-- How long rows are at most.
 use Rattle.std.specs.Prelude.{ℕ, ◌≤◌, length}
 use Rattle.group_attach.specs.Applied.{most_of_radio}
 use Rattle.image_rows.specs.Rows.{Row, HeaderRow, RuleRow, RadioRow, MailRow, ServedRow}
 
--- a radio has no more groups than it may
+-- a radio's row has no more groups than a radio may have
 abbrev pub HasFewGroups : Row → Type 0
 HasFewGroups (HeaderRow h) = Unit {0}
 HasFewGroups (RuleRow prefix rule) = Unit {0}

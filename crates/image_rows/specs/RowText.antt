@@ -15,7 +15,7 @@ use Rattle.image_rows.specs.Rows.{Row, HeaderRow, RuleRow, RadioRow, MailRow, Se
 
 -- ---- the parts
 
--- the epoch, how many commands were accepted, and how many rows of each kind come
+-- the epoch, how many commands were accepted, and how many rows of each kind follow
 abbrev pub header_text : Header → List Byte
 header_text h = big 8 h.epoch ++ big 8 h.count ++ big 4 h.rules ++ big 4 h.radios ++ big 4 h.mail ++ big 4 h.served
 
@@ -24,11 +24,11 @@ abbrev pub present_number : Bool → ℕ
 present_number false = 0
 present_number true = 1
 
--- how a radio is attached: four times the class of usage, and the lifetime
+-- how a radio is attached to a group: four times the class of usage, plus the lifetime
 abbrev pub usage_number : Usage → ℕ
 usage_number usage = 4 * usage.0 + lifetime_number usage.1
 
--- an attachment of a row's radio
+-- an attachment as a group of its radio's row
 abbrev pub group_in : Attachment → Group
 group_in a = (a.gtsi, (a.class, a.lifetime))
 
@@ -36,11 +36,13 @@ group_in a = (a.gtsi, (a.class, a.lifetime))
 abbrev pub group_text : Group → List Byte
 group_text g = big 6 g.0 ++ big 1 (usage_number g.1)
 
--- a radio's number, where it is, how many groups it has, and they
+-- a radio's number, where it is, how many groups it has, and those groups
 abbrev pub radio_text : Itsi → Radio → List Group → List Byte
-radio_text itsi radio groups = big 6 itsi ++ big 2 radio.station ++ big 2 radio.area ++ big 1 (present_number radio.present) ++ big 1 (length groups) ++ flat_map group_text groups
+radio_text itsi radio groups =
+    big 6 itsi ++ big 2 radio.station ++ big 2 radio.area ++ big 1 (present_number radio.present) ++ big 1 (length groups)
+    ++ flat_map group_text groups
 
--- the group that a copy was sent to; nothing of an item that is none
+-- the group that a copy was sent to; nothing for an item that is no copy
 abbrev pub copied_text : Option Gtsi → List Byte
 copied_text None = []
 copied_text (Some gtsi) = big 6 gtsi
@@ -54,7 +56,7 @@ abbrev pub reply_bits : Option (List Bool) → List Bool
 reply_bits None = []
 reply_bits (Some bits) = bits
 
--- a station, and what is kept of it
+-- a station and its last accepted command
 abbrev pub served_text : Station → LastAccepted → List Byte
 served_text station last = big 2 station ++ big 4 last.sequence ++ big 8 last.number ++ bits_text (reply_bits last.pdu)
 
@@ -65,15 +67,15 @@ abbrev pub mail_tag : Option Gtsi → Byte
 mail_tag None = 19
 mail_tag (Some gtsi) = 21
 
--- a header of layout 2: behind its image the records tell the number of their first command
+-- a header of layout 2: the records after its image state the number of their first command
 abbrev pub header_tag : Byte
 header_tag = 22
 
--- a header of layout 1: behind its image the records tell no number; none is written any more
+-- a header of layout 1: the records after its image state no number; it is read, and no longer written
 abbrev pub plain_header_tag : Byte
 plain_header_tag = 16
 
--- the tag with which a row is written
+-- the tag that a row is written with
 abbrev pub tag_of : Row → Byte
 tag_of (HeaderRow h) = header_tag
 tag_of (RuleRow prefix rule) = 17
@@ -81,7 +83,7 @@ tag_of (RadioRow itsi radio groups) = 18
 tag_of (MailRow w) = mail_tag w.group
 tag_of (ServedRow station last) = 20
 
--- what stands behind the tag
+-- what follows the tag
 abbrev pub fields_of : Row → List Byte
 fields_of (HeaderRow h) = header_text h
 fields_of (RuleRow prefix rule) = prefix_text prefix ++ rule_text rule
@@ -93,7 +95,7 @@ fields_of (ServedRow station last) = served_text station last
 unfoldable pub row_bytes : Row → List Byte
 row_bytes row = big 1 (tag_of row) ++ fields_of row
 
--- bytes that fill a sector, with zeros behind them
+-- a sector that begins with these bytes, with zeros after them
 abbrev pub padded : List Byte → List Byte
 padded bytes = bytes ++ replicate (512 - length bytes) 0
 

@@ -1,4 +1,4 @@
--- What was read, its bits and its groups still in the bytes, as a value.
+-- A row that was read, with its bits and groups still in the bytes, as a row.
 use Rattle.image_rows.specs.Rows.{Row, HeaderRow, RuleRow, RadioRow, MailRow, ServedRow}
 use Rattle.image_rows.specs.declared.reading.ReadRow.{ReadRow}
 use Rattle.image_rows.specs.declared.reading.ReadRow.TheVariants as read

@@ -1,4 +1,4 @@
--- The rows of an image, as values: a state is kept as these, in this order.
+-- The rows of an image, as values: a state is stored as these, in this order.
 use Rattle.std.specs.Prelude.{ℕ, ◌+◌, ◌<◌, ◌≤◌, ◌^◌, ◌≡◌, List, [], ◌∷◌, ◌++◌, length, map as each, count_by, Option, Some, None}
 use Rattle.std.specs.List.{All}
 use Rattle.std.specs.Option.{is_some}
@@ -17,7 +17,7 @@ use Rattle.centre_core.specs.State.{State, LastAccepted}
 use Rattle.centre_core.specs.StateRanges.{RuleEntryInRange, ItemInRange, LastAcceptedInRange}
 use Rattle.image_rows.specs.Numbers.{Epoch}
 
--- the first row: the image's epoch, how many commands were accepted, and how many rows of each kind come
+-- the first row: the image's epoch, how many commands were accepted, and how many rows of each kind follow
 pub record Header : Type 0 where
   pub epoch : Epoch
   pub count : Count
@@ -26,7 +26,7 @@ pub record Header : Type 0 where
   pub mail : ℕ
   pub served : ℕ
 
--- how many rows the header tells of, itself among them
+-- how many rows the header states, itself among them
 abbrev pub row_count : Header → ℕ
 row_count h = 1 + h.rules + h.radios + h.mail + h.served
 
@@ -34,7 +34,7 @@ row_count h = 1 + h.rules + h.radios + h.mail + h.served
 abbrev pub Group : Type 0
 Group = Gtsi × Usage
 
--- a rule under its prefix; a radio's number, where it is, and its groups; an item that waits; what is kept of a station
+-- a rule under its prefix; a radio's number, where it is, and its groups; a waiting item; a station's last accepted command
 pub data Row : Type 0 where
   HeaderRow : Header → Row
   RuleRow : Path → Rule → Row
@@ -111,7 +111,7 @@ header_of epoch s = record {
 abbrev pub rule_row : Path × Rule → Row
 rule_row e = RuleRow e.0 e.1
 
--- the groups of a radio, in order
+-- a group of a radio, and how the radio is attached to it
 abbrev pub group_of : Pair × Usage → Group
 group_of e = (e.0.1, e.1)
 
@@ -119,17 +119,18 @@ group_of e = (e.0.1, e.1)
 abbrev pub groups_of : Attached → Itsi → List Group
 groups_of m itsi = each group_of (map.entries (of_radio m itsi))
 
--- a radio stands under the bits of its number
+-- the row of a radio, whose path is the bits of its number
 abbrev pub radio_row : Attached → Path × Radio → Row
 radio_row groups e = RadioRow (number e.0) e.1 (groups_of groups (number e.0))
 
--- what is kept of the stations from this one on
+-- the rows of the stations from this one on that have an accepted command
 abbrev pub served_rows : Station → List (Option LastAccepted) → List Row
 served_rows station [] = []
 served_rows station (None ∷ served) = served_rows (station + 1) served
 served_rows station (Some last ∷ served) = ServedRow station last ∷ served_rows (station + 1) served
 
--- the header; the rules in the order of their prefixes; the radios by number, each with its groups by number; what waits, the oldest first; and what is kept of each station that had a command accepted
+-- the rows of a state: the header; the rules by prefix; the radios by number, each with its groups by number; the waiting
+-- items, oldest first; and the stations that have an accepted command
 abbrev pub rows_of : Epoch → State → List Row
 rows_of epoch s =
     HeaderRow (header_of epoch s)

@@ -1,4 +1,4 @@
--- The rows of a state one after another: each is the first one after the place of the one before.
+-- The rows of a state one after another: each is the first after the place of the one before.
 use Rattle.std.specs.Prelude.{ℕ, List, [], ◌∷◌, map as each, Option}
 use Rattle.std.specs.Int.{from_bool}
 use Rattle.std.specs.Ordering.{nat_cmp}
@@ -12,7 +12,7 @@ use Rattle.image_rows.specs.declared.place.RowPlace.{RowPlace}
 use Rattle.image_rows.specs.declared.place.RowPlace.TheVariants as place
 use Rattle.image_rows.specs.Rows.{Row, HeaderRow, RuleRow, RadioRow, MailRow, ServedRow, rows_of}
 
--- where a row stands in its image
+-- where a row is in its image
 abbrev pub place_of : Row → RowPlace
 place_of (HeaderRow h) = place.Header
 place_of (RuleRow prefix rule) = place.Rule prefix
@@ -40,6 +40,6 @@ within_part (place.Served station) = station ∷ []
 abbrev pub place_cmp : RowPlace → RowPlace → Ordering
 place_cmp p q = slice_cmp nat_cmp (part_of p ∷ within_part p) (part_of q ∷ within_part q)
 
--- the first row after a place, also where no row stands there, or the first of all
+-- the first row after a place, which may have no row itself, or the first row of all
 abbrev pub row_after : Epoch → State → Option RowPlace → Option Row
 row_after epoch s after = next_of place_cmp place_of (rows_of epoch s) after

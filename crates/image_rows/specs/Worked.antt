@@ -1,4 +1,4 @@
--- The first header's bytes, and a register with one of each and its image.
+-- The bytes of a new register's header; a register with one entry of each kind, and its image.
 use Rattle.std.specs.Prelude.{List, [], ◌∷◌, replicate, Some, None}
 use Rattle.std.specs.FinMap as map
 use Rattle.identity.specs.Numbers.{Itsi, Gtsi, Byte}
@@ -12,7 +12,7 @@ use Rattle.centre_core.specs.State.{State, LastAccepted}
 use Rattle.image_rows.specs.Numbers.{Epoch}
 use Rattle.image_rows.specs.Rows.{Row, HeaderRow, RuleRow, RadioRow, MailRow, ServedRow, Header}
 
--- nothing but an epoch
+-- the header of an empty register: nothing but an epoch
 abbrev pub bare : Epoch → Header
 bare epoch = record { epoch = epoch; count = 0; rules = 0; radios = 0; mail = 0; served = 0 }
 

@@ -1,4 +1,4 @@
-// The groups of a radio's row, as its attachments: in a fixed place, so that no memory is needed.
+// The groups of a radio's row, as its attachments. They go into an array, so that no memory is needed.
 ghost use Rattle.std.specs.Prelude.{◌≡◌, ◌<◌, ◌≤◌, ◌&&◌, [], IfSome, drop, length, map as each, nat_le, take};
 ghost use Rattle.std.specs.Option.{is_some};
 ghost use Rattle.std.specs.Ordering.{nat_cmp};
@@ -12,8 +12,7 @@ use crate::PackedGroups;
 use group_attach::Attachment;
 use identity::Itsi;
 
-// Puts the row's groups into the list, as attachments of its radio, as far as there is room for them; how many they
-// are.
+// Writes the groups into the list, as attachments of this radio, while it has room. Returns how many it wrote.
 fn fill(list: &mut [Attachment], itsi: Itsi, groups: &mut PackedGroups<'_>) -> usize
     ensures same { length list.new ≡ length list.old }
     ensures room { result ≤ length list.old }
@@ -30,8 +29,8 @@ fn fill(list: &mut [Attachment], itsi: Itsi, groups: &mut PackedGroups<'_>) -> u
     list.len()
 }
 
-/// The attachments of a radio's row, put in the first places of 32; how many they are. None where there are more, or where
-/// they are not in order of their groups, each group once.
+/// Writes the attachments of a radio's row into the first of 32 places, and returns how many they are. It is `None`
+/// where there are more, or where they are not in order of their groups, each group once.
 pub fn own_groups(list: &mut [Attachment], itsi: Itsi, groups: PackedGroups<'_>) -> Option<usize>
     requires { length list.old ≡ most_of_radio }
     ensures fits { is_some result ≡ (nat_le (length groups.entry) most_of_radio && map.is_sorted nat_cmp groups.entry) }

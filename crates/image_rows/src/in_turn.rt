@@ -1,5 +1,5 @@
-//! The rows of a register one after another, each found by the place of the one before. Only a list of them takes
-//! memory.
+//! The rows of a register one after another, each found by the place of the one before. Only a list of them
+//! allocates.
 ghost use Rattle.std.specs.Prelude.{◌≡◌, ◌<◌, ◌≤◌, ◌^◌, IfOk, IfSome, length, map, option_map};
 ghost use Rattle.centre_core.specs.Ranges.{IsShort};
 ghost use Rattle.group_attach.specs.Applied.{most_of_radio};
@@ -7,7 +7,7 @@ ghost use Rattle.image_rows.specs.Rows.{RadioRow, ServedRow, header_of, how_many
 ghost use Rattle.image_rows.specs.RowText.{group_in};
 ghost use Rattle.image_rows.specs.Walking.{row_after};
 ghost use Rattle.image_rows.specs.Parts.{after_item, after_radio, after_rule, after_station};
-ghost use Rattle.image_rows.specs.InTurn.{told_row};
+ghost use Rattle.image_rows.specs.InTurn.{placed_row};
 ghost use Rattle.image_rows.specs.Image.{sectors_of};
 
 use crate::{Header, RowPlace, header_row, mail_row, radio_row, rule_row, served_row};
@@ -40,13 +40,13 @@ fn header<A: Allocator + Clone>(register: &Register<A>, epoch: u64) -> Header
     }
 }
 
-// The row of a station of which something is kept.
+// The row of a station that has an accepted command.
 fn station_row<A: Allocator>(
     station: Station,
     last: &Option<LastAccepted<A>>,
 ) -> Option<(RowPlace, [u8; 512])>
     requires { IfSome last.now (λ k. IsShort k.pdu) }
-    ensures { result ≡ option_map (λ k. told_row (ServedRow station k)) last.now }
+    ensures { result ≡ option_map (λ k. placed_row (ServedRow station k)) last.now }
 {
     match last {
         Some(kept) => {
@@ -61,14 +61,14 @@ fn station_after<A: Allocator + Clone>(
     register: &Register<A>,
     after: u16,
 ) -> Option<(RowPlace, [u8; 512])>
-    ensures { result ≡ option_map told_row (after_station register.now after) }
+    ensures { result ≡ option_map placed_row (after_station register.now after) }
 {
     registers(register);
     let served = register.served();
     for station in after..served.len() as u16 {
         let next = Station::new(station + 1);
-        if let Some(told) = station_row(next, &served[usize::from(station)]) {
-            return Some(told);
+        if let Some(coming) = station_row(next, &served[usize::from(station)]) {
+            return Some(coming);
         }
     }
     None
@@ -78,7 +78,7 @@ fn item_after<A: Allocator + Clone>(
     register: &Register<A>,
     after: Option<(u64, Key)>,
 ) -> Option<(RowPlace, [u8; 512])>
-    ensures { result ≡ option_map told_row (after_item register.now after) }
+    ensures { result ≡ option_map placed_row (after_item register.now after) }
 {
     registers(register);
     match register.mail().next(after) {
@@ -87,10 +87,10 @@ fn item_after<A: Allocator + Clone>(
     }
 }
 
-// The place of a radio and its row.
-fn radio_told(itsi: Itsi, radio: Radio, groups: &[Attachment]) -> (RowPlace, [u8; 512])
+// The row of a radio, with its place.
+fn placed_radio(itsi: Itsi, radio: Radio, groups: &[Attachment]) -> (RowPlace, [u8; 512])
     requires { length groups.now ≤ most_of_radio }
-    ensures row { result ≡ told_row (RadioRow itsi radio (map group_in groups.now)) }
+    ensures row { result ≡ placed_row (RadioRow itsi radio (map group_in groups.now)) }
     ensures below { itsi < 2 ^ 48 }
 {
     let row = radio_row(itsi, &radio, groups);
@@ -102,13 +102,13 @@ fn radio_after<A: Allocator + Clone>(
     register: &Register<A>,
     after: Option<Itsi>,
 ) -> Option<(RowPlace, [u8; 512])>
-    ensures { result ≡ option_map told_row (after_radio register.now after) }
+    ensures { result ≡ option_map placed_row (after_radio register.now after) }
 {
     registers(register);
     match register.registry().next_radio(after) {
         Some((itsi, radio)) => {
             let groups = register.groups().attachments(itsi);
-            Some(radio_told(itsi, radio, groups))
+            Some(placed_radio(itsi, radio, groups))
         }
         None => item_after(register, None),
     }
@@ -118,7 +118,7 @@ fn rule_after<A: Allocator + Clone>(
     register: &Register<A>,
     after: Option<Prefix>,
 ) -> Option<(RowPlace, [u8; 512])>
-    ensures { result ≡ option_map told_row (after_rule register.now after) }
+    ensures { result ≡ option_map placed_row (after_rule register.now after) }
 {
     match register.registry().next_rule(after) {
         Some((prefix, rule)) => Some((RowPlace::Rule(prefix), rule_row(&prefix, &rule))),
@@ -126,15 +126,16 @@ fn rule_after<A: Allocator + Clone>(
     }
 }
 
-/// The first row of the register's image of this epoch behind a place, also where no row stands there, or the first
-/// of all, with its own place; none behind the last. It takes no memory, and always succeeds. An epoch is from 1 to
-/// 2 to the 62nd: of any other the header is no row that can be read.
+/// The first row after a place in the register's image of this epoch, or the first of all, with its own place. It is
+/// `None` after the last. The place itself may have no row. It never allocates, and never fails.
+///
+/// An epoch is from 1 to 2 to the 62nd. With any other the header can't be read back.
 pub fn row_after<A: Allocator + Clone>(
     register: &Register<A>,
     epoch: u64,
     after: Option<RowPlace>,
 ) -> Option<(RowPlace, [u8; 512])>
-    ensures { result ≡ option_map told_row (row_after epoch register.now after) }
+    ensures { result ≡ option_map placed_row (row_after epoch register.now after) }
 {
     registers(register);
     match &after {
@@ -153,8 +154,7 @@ pub fn row_after<A: Allocator + Clone>(
     }
 }
 
-/// All rows of the register's image of this epoch, in order. It fails only where there is no memory left for the
-/// list.
+/// All rows of the register's image of this epoch, in order. It fails only when the list is out of memory.
 pub fn rows<A: Allocator + Clone, C: Allocator>(
     register: &Register<A>,
     epoch: u64,
@@ -164,11 +164,11 @@ pub fn rows<A: Allocator + Clone, C: Allocator>(
 {
     registers(register);
     let mut list = Vec::new(alloc);
-    let mut told = row_after(register, epoch, None);
-    while let Some(next) = &told {
+    let mut coming = row_after(register, epoch, None);
+    while let Some(next) = &coming {
         let row = next.1;
         list.push(row)?;
-        told = row_after(register, epoch, Some(next.0));
+        coming = row_after(register, epoch, Some(next.0));
     }
     Ok(list)
 }

@@ -1,4 +1,4 @@
-// Whether a row may come next. No call takes memory.
+// Whether a row may come next. No call allocates.
 ghost use Rattle.std.specs.Prelude.{◌≡◌, ◌<◌, ◌&&◌, Bool, List, None, Option, Some, count_by, length, nat_lt, not, ℕ};
 ghost use Rattle.std.specs.List.{list_all};
 ghost use Rattle.std.specs.Ordering.{is_lt};
@@ -11,7 +11,8 @@ ghost use Rattle.mailbox.specs.Order.{named, named_cmp};
 ghost use Rattle.mailbox.specs.Refusals.{most_for_one};
 ghost use Rattle.mailbox.specs.Item.{is_to};
 ghost use Rattle.image_rows.specs.Rows.{how_many};
-ghost use Rattle.image_rows.specs.Loading.{all_done, are_free, header_may, is_next, is_numbered, mail_done, mail_may, radios_done, rule_may, rules_done, served_may, before_place, place_may};
+ghost use Rattle.image_rows.specs.Loading.{before_place, header_may, mail_may, place_may, rule_may, served_may};
+ghost use Rattle.image_rows.specs.Loading.{all_done, are_free, is_next, is_numbered, mail_done, radios_done, rules_done};
 ghost use Rattle.image_rows.specs.Held.{IsHeld};
 
 use crate::Header;
@@ -22,7 +23,7 @@ use mailbox::{Key, Mail};
 use registration::{Limits, Radio, Registry, Station};
 use std::alloc::Allocator;
 
-/// Whether no more rows come than the limits allow, nor were more commands accepted than have numbers.
+/// Whether the header states no more rows than the limits allow, and no more commands than there are numbers.
 pub fn header_may(limits: &Limits, header: &Header) -> bool
     ensures { result ≡ header_may limits.now header.now }
 {
@@ -57,7 +58,7 @@ fn how_many<A: Allocator>(served: &[Option<LastAccepted<A>>]) -> usize
     served.iter().filter(|last| last.is_some()).count()
 }
 
-/// Whether all rows came of which the header told.
+/// Whether all rows that the header states have come.
 pub fn all_done<A: Allocator + Clone>(header: &Header, parts: &Parts<A>) -> bool
     ensures { result ≡ all_done header.now parts.now }
 {
@@ -70,7 +71,7 @@ fn is_numbered(count: u64, number: u64) -> bool
     0 < number && number <= count
 }
 
-// Whether a rule stands under the prefix, where none stands after it.
+// Whether the prefix has a rule, where no later prefix has one.
 fn has_rule<A: Allocator + Clone>(registry: &Registry<A>, prefix: &Prefix) -> bool
     requires { next_entry registry.now.rules (Some prefix.now) ≡ None }
     ensures { result ≡ is_some (map.get registry.now.rules prefix.now) }
@@ -93,14 +94,14 @@ fn is_next_radio<A: Allocator + Clone>(registry: &Registry<A>, itsi: Itsi) -> bo
     registry.next_radio(Some(itsi)).is_none() && registry.where_is(itsi).is_none()
 }
 
-/// Whether a rule may come, under this prefix.
+/// Whether a rule under this prefix may come.
 pub fn rule_may<A: Allocator + Clone>(header: &Header, parts: &Parts<A>, prefix: &Prefix) -> bool
     ensures { result ≡ rule_may header.now parts.now prefix.now }
 {
     parts.registry.rule_count() < header.rules && is_next_rule(&parts.registry, prefix)
 }
 
-/// Whether a radio may come, its groups aside.
+/// Whether a radio may come, before its groups are checked.
 pub fn place_may<A: Allocator + Clone>(
     header: &Header,
     parts: &Parts<A>,
@@ -116,14 +117,14 @@ pub fn place_may<A: Allocator + Clone>(
         && u32::from(radio.station.number()) <= parts.registry.limits().stations
 }
 
-// Whether this number and key come after those of all that wait.
+// Whether the item's number and key come after those of all waiting items.
 fn comes_last<A: Allocator + Clone>(mail: &Mail<A>, item: &ReadItem<'_>) -> bool
     ensures { result ≡ list_all (λ o. is_lt (named_cmp (named o) (named item.now))) mail.now.items }
 {
     mail.is_next(item.number(), &item.key())
 }
 
-// Whether nothing waits at the key, and there is room for one item more for its destination.
+// Whether no item has this key, and its destination has room for one more.
 fn is_free<A: Allocator + Clone>(mail: &Mail<A>, key: &Key) -> bool
     requires { length mail.now.items < mail.now.room }
     ensures { result ≡ (not (holds mail.now key.now) && nat_lt (count_by (is_to key.now.destination) mail.now.items) most_for_one) }
@@ -131,7 +132,7 @@ fn is_free<A: Allocator + Clone>(mail: &Mail<A>, key: &Key) -> bool
     mail.restore_refusal(key).is_none()
 }
 
-// Whether an item of this number may come.
+// Whether an item with this number may come, by the numbers alone.
 fn number_may<A: Allocator + Clone>(header: &Header, parts: &Parts<A>, number: u64) -> bool
     ensures { result ≡ (radios_done header.now parts.now && nat_lt (length parts.now.mail.items) header.now.mail && is_numbered parts.now.count number) }
 {
@@ -140,7 +141,7 @@ fn number_may<A: Allocator + Clone>(header: &Header, parts: &Parts<A>, number: u
         && is_numbered(parts.count, number)
 }
 
-// Whether an item may come, but for its key and for room for its destination.
+// Whether an item may come, before its key and the room for its destination are checked.
 fn before_place<A: Allocator + Clone>(
     header: &Header,
     parts: &Parts<A>,
@@ -167,21 +168,22 @@ pub fn mail_may<A: Allocator + Clone>(
     is_free(&parts.mail, &item.key())
 }
 
-// Whether nothing is kept of these stations.
+// Whether none of these stations has an accepted command.
 fn are_free<A: Allocator>(served: &[Option<LastAccepted<A>>]) -> bool
     ensures { result ≡ are_free served.now }
 {
     served.iter().all(|last| last.is_none())
 }
 
-/// Whether what is kept of a station may come, of the command of this number.
+/// Whether a station's last accepted command may come, if it has this number.
 pub fn served_may<A: Allocator + Clone>(
     header: &Header,
     parts: &Parts<A>,
     station: Station,
     number: u64,
 ) -> bool
-    ensures { (sequence : ℕ) (pdu : Option (List Bool)) → result ≡ served_may header.now parts.now station (record { sequence = sequence; number = number; pdu = pdu }) }
+    ensures { (sequence : ℕ) (pdu : Option (List Bool))
+        → result ≡ served_may header.now parts.now station (record { sequence = sequence; number = number; pdu = pdu }) }
 {
     mail_done(header, parts)
         && how_many(&parts.served) < header.served as usize

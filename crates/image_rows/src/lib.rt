@@ -1,4 +1,5 @@
-//! A register as the rows of an image, one row a sector, and what rows stand for.
+//! A register as the rows of its image, one sector for each row, and a register from such rows. It calls no disk, and
+//! knows nothing of files, journals and lines.
 #![tactic(auto)]
 
 mod attached;
@@ -15,7 +16,7 @@ mod reading;
 mod row_groups;
 pub mod row_laws;
 mod sector;
-mod seen;
+mod unchecked_item;
 mod writing;
 
 pub use header::{HEADER_TAG, Header, PLAIN_HEADER_TAG};

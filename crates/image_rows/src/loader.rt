@@ -1,4 +1,4 @@
-//! The register that the rows of an image stand for, made of them as they come one after another.
+//! Makes a register of the rows of its image, taken one after another.
 ghost use Rattle.std.specs.Prelude.{◌≡◌, IfOk, IfSome, IsSome, IsTrue, None, OnErr, Some, false, option_map, replicate, true};
 ghost use Rattle.std.specs.Option.{is_some};
 ghost use Rattle.image_rows.specs.RowReading.{row_in};
@@ -35,7 +35,7 @@ impl<A: Allocator> Model for Loader<A> {
     ghost invariant = { λ l. IsLoaded (loading l.header l.parts) };
 }
 
-// So many stations of which nothing is kept.
+// A list for so many stations, none with an accepted command.
 fn none_kept<A: Allocator + Clone>(
     alloc: &A,
     stations: u32,
@@ -50,7 +50,7 @@ fn none_kept<A: Allocator + Clone>(
 }
 
 impl<A: Allocator + Clone> Loader<A> {
-    /// Nothing taken yet.
+    /// A loader that has taken no row yet.
     pub fn new(alloc: A, limits: Limits) -> Result<Self, AllocError>
         ensures { IfOk result (λ loader. loader ≡ begun limits) }
     {
@@ -67,7 +67,7 @@ impl<A: Allocator + Clone> Loader<A> {
         })
     }
 
-    /// Takes the next row.
+    /// Takes the next row, and returns whether it did. A row that it does not take changes nothing.
     pub fn take(&mut self, row: &[u8; 512]) -> Result<bool, AllocError>
         ensures taken { IfOk result (λ taken. taken ≡ true → taken_from self.old row.now ≡ Some self.new) }
         ensures refused { IfOk result (λ taken. taken ≡ false → (taken_from self.old row.now ≡ None) × (self.new ≡ self.old)) }
@@ -81,7 +81,7 @@ impl<A: Allocator + Clone> Loader<A> {
         }
     }
 
-    /// Whether all rows came.
+    /// Whether all rows of the image have come.
     pub fn is_whole(&self) -> bool
         ensures { result ≡ is_some (finished self.now) }
     {
@@ -91,7 +91,7 @@ impl<A: Allocator + Clone> Loader<A> {
         }
     }
 
-    /// The epoch and the register.
+    /// The epoch and the register, once all rows have come.
     pub fn finish(self) -> Option<(u64, Register<A>)>
         ensures { result ≡ finished self }
     {
@@ -102,7 +102,7 @@ impl<A: Allocator + Clone> Loader<A> {
         Some((epoch, Register::from_parts(self.parts)))
     }
 
-    // The epoch, once all rows came.
+    // The epoch, once all rows have come.
     fn epoch(&self) -> Option<u64>
         ensures { finished self.now ≡ option_map (λ epoch. (epoch, self.now.state)) result }
     {

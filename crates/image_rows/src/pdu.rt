@@ -1,4 +1,4 @@
-// PDUs that still lie in the bytes they are read from.
+// Checks of PDUs that are still in the bytes they are read from.
 ghost use Rattle.std.specs.Prelude.{◌≡◌, ◌≤◌, ◌/◌, ◌%◌, ◌==◌, ◌&&◌, nat_le};
 ghost use Rattle.sds_tl.specs.Identifier.{first_identifier};
 ghost use Rattle.sds_tl.specs.Reading.{heading};
@@ -9,8 +9,8 @@ use command_bytes::bits::PackedBits;
 use mailbox::{Key, Kind};
 use sds_tl::{FIRST_IDENTIFIER, MOST_BITS};
 
-// Whether these octets are of a PDU of this message type and reference.
-fn tell(first: u8, second: u8, last: u8, kind: u8, reference: u8) -> bool
+// Whether a PDU with these octets has this message type and reference.
+fn are_octets_of(first: u8, second: u8, last: u8, kind: u8, reference: u8) -> bool
     ensures { result ≡ (nat_le first_identifier first && (second / 16 == kind) && (second % 2 == 0) && (last == reference)) }
 {
     first >= FIRST_IDENTIFIER && second / 16 == kind && second % 2 == 0 && last == reference
@@ -29,11 +29,12 @@ fn is_of_type(pdu: &PackedBits<'_>, kind: u8, octets: usize, reference: u8) -> b
     let first = pdu.octet(0);
     let second = pdu.octet(1);
     let last = pdu.octet(octets - 1);
-    tell(first, second, last, kind, reference)
+    are_octets_of(first, second, last, kind, reference)
 }
 
 #[tactic(auto, using(crate::proofs::PduTests::message_test, crate::proofs::PduTests::report_test))]
-/// Whether it is what the key says: of a message the SDS-TRANSFER of its reference, of a report the SDS-REPORT.
+/// Whether the PDU fits the key: it has the key's reference, and is an SDS-TRANSFER of a message, an SDS-REPORT of a
+/// report.
 pub fn is_of_key(pdu: &PackedBits<'_>, key: &Key) -> bool
     ensures { result ≡ is_head_of key.now.kind key.now.reference (heading pdu.now) }
 {

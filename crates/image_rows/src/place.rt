@@ -1,10 +1,10 @@
-//! Where a row stands in an image.
+//! Where a row is in an image.
 
 use identity::{Itsi, Prefix};
 use mailbox::Key;
 use registration::Station;
 
-/// The place of a row: places rise from the header to the last station.
+/// The place of a row. Places rise from the header to the last station.
 #[derive(Clone, Copy, Debug)]
 pub enum RowPlace {
     /// The first row.
@@ -15,6 +15,6 @@ pub enum RowPlace {
     Radio(Itsi),
     /// The item of this number and key.
     Mail(u64, Key),
-    /// What is kept of this station.
+    /// The last accepted command of this station.
     Served(Station),
 }

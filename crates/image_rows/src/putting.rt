@@ -1,4 +1,4 @@
-// Rows put into the parts of a register, one after another: each is judged first, without memory, and then put.
+// Puts rows into the parts of a register, one after another. Each row is first checked, without memory, and then put.
 ghost use Rattle.std.specs.Prelude.{◌≡◌, ◌<◌, ◌≤◌, ◌-◌, IfOk, IsSome, IsTrue, None, OnErr, OnOk, Some, length, slice_set, vec_len};
 ghost use Rattle.std.specs.List.{All};
 ghost use Rattle.std.specs.Option.{is_some};
@@ -9,7 +9,7 @@ ghost use Rattle.std.specs.FinMap as map;
 ghost use Rattle.image_rows.specs.Rows.{RuleRow, RadioRow, MailRow, ServedRow};
 ghost use Rattle.image_rows.specs.RowViews.{row_view};
 ghost use Rattle.image_rows.specs.Loading.{begin, put, row_taken};
-ghost use Rattle.image_rows.specs.Held.{Came, IsHeld, IsLoaded, IsPlace, loading, needs_memory, with_groups};
+ghost use Rattle.image_rows.specs.Held.{IsOutcome, IsHeld, IsLoaded, IsPlace, loading, needs_memory, with_groups};
 
 use crate::attached::own_groups;
 use crate::item::ReadItem;
@@ -24,7 +24,7 @@ use mm_pdus::{ClassOfUsage, Lifetime};
 use registration::{Radio, Registry, Rule, Station};
 use std::alloc::{AllocError, Allocator};
 
-/// What is kept of a station, the PDU of its reply still in the bytes that it is read from.
+/// A station's last accepted command. The PDU of its reply is still in the bytes it was read from.
 #[derive(Drop)]
 struct ReadLast<'a> {
     sequence: Sequence,
@@ -32,13 +32,13 @@ struct ReadLast<'a> {
     pdu: Option<PackedBits<'a>>,
 }
 
-// The first row.
+// Takes the first row, if it is a header that may come.
 fn begin<A: Allocator + Clone>(
     first: &mut Option<Header>,
     parts: &mut Parts<A>,
     row: &ReadRow<'_>,
 ) -> bool
-    ensures { Came (begin parts.old (row_view row.now)) (loading first.old parts.old) result (loading first.new parts.new) }
+    ensures { IsOutcome (begin parts.old (row_view row.now)) (loading first.old parts.old) result (loading first.new parts.new) }
 {
     let ReadRow::Header(header) = row else {
         return false;
@@ -58,7 +58,7 @@ fn put_rule<A: Allocator + Clone>(
     rule: Rule,
 ) -> Result<bool, AllocError>
     requires { IsHeld header.now parts.old }
-    ensures ok { IfOk result (λ taken. Came (put header.now parts.old (RuleRow prefix rule)) parts.old taken parts.new) }
+    ensures ok { IfOk result (λ taken. IsOutcome (put header.now parts.old (RuleRow prefix rule)) parts.old taken parts.new) }
     ensures err { OnErr result (parts.new ≡ parts.old) }
     ensures memory { OnErr result (IsSome (put header.now parts.old (RuleRow prefix rule))) }
 {
@@ -71,7 +71,7 @@ fn put_rule<A: Allocator + Clone>(
     }
 }
 
-// Both or neither.
+// Adds the radio and its attachments; out of memory it adds neither.
 fn add_radio<A: Allocator + Clone>(
     registry: &mut Registry<A>,
     groups: &mut Groups<A>,
@@ -99,8 +99,8 @@ fn add_radio<A: Allocator + Clone>(
     }
 }
 
-// An attachment, in whose place another comes.
-fn some_attachment(itsi: Itsi) -> Attachment {
+// An attachment that others overwrite.
+fn placeholder(itsi: Itsi) -> Attachment {
     Attachment {
         itsi,
         gtsi: gtsi_of(0),
@@ -116,11 +116,11 @@ fn put_groups<A: Allocator + Clone>(
     groups: PackedGroups<'_>,
 ) -> Result<bool, AllocError>
     requires { IsPlace parts.old itsi }
-    ensures ok { IfOk result (λ taken. Came (with_groups parts.old itsi radio groups.entry) parts.old taken parts.new) }
+    ensures ok { IfOk result (λ taken. IsOutcome (with_groups parts.old itsi radio groups.entry) parts.old taken parts.new) }
     ensures err { OnErr result (parts.new ≡ parts.old) }
     ensures memory { OnErr result (IsSome (with_groups parts.old itsi radio groups.entry)) }
 {
-    let mut list = [some_attachment(itsi); MOST_OF_RADIO];
+    let mut list = [placeholder(itsi); MOST_OF_RADIO];
     let Some(count) = own_groups(&mut list, itsi, groups) else {
         return Ok(false);
     };
@@ -142,7 +142,7 @@ fn put_radio<A: Allocator + Clone>(
     groups: PackedGroups<'_>,
 ) -> Result<bool, AllocError>
     requires { IsHeld header.now parts.old }
-    ensures ok { IfOk result (λ taken. Came (put header.now parts.old (RadioRow itsi radio groups.entry)) parts.old taken parts.new) }
+    ensures ok { IfOk result (λ taken. IsOutcome (put header.now parts.old (RadioRow itsi radio groups.entry)) parts.old taken parts.new) }
     ensures err { OnErr result (parts.new ≡ parts.old) }
     ensures memory { OnErr result (IsSome (put header.now parts.old (RadioRow itsi radio groups.entry))) }
 {
@@ -158,7 +158,7 @@ fn put_mail<A: Allocator + Clone>(
     item: &ReadItem<'_>,
 ) -> Result<bool, AllocError>
     requires { IsHeld header.now parts.old }
-    ensures ok { IfOk result (λ taken. Came (put header.now parts.old (MailRow item.now)) parts.old taken parts.new) }
+    ensures ok { IfOk result (λ taken. IsOutcome (put header.now parts.old (MailRow item.now)) parts.old taken parts.new) }
     ensures err { OnErr result (parts.new ≡ parts.old) }
     ensures memory { OnErr result (IsSome (put header.now parts.old (MailRow item.now))) }
 {
@@ -203,9 +203,12 @@ fn put_served<A: Allocator + Clone>(
     last: &ReadLast<'_>,
 ) -> Result<bool, AllocError>
     requires { IsHeld header.now parts.old }
-    ensures ok { IfOk result (λ taken. Came (put header.now parts.old (ServedRow station (record { sequence = last.now.sequence; number = last.now.number; pdu = last.now.pdu }))) parts.old taken parts.new) }
+    ensures ok { IfOk result (λ taken. IsOutcome
+        (put header.now parts.old (ServedRow station (record { sequence = last.now.sequence; number = last.now.number; pdu = last.now.pdu })))
+        parts.old taken parts.new) }
     ensures err { OnErr result (parts.new ≡ parts.old) }
-    ensures memory { OnErr result (IsSome (put header.now parts.old (ServedRow station (record { sequence = last.now.sequence; number = last.now.number; pdu = last.now.pdu })))) }
+    ensures memory { OnErr result (IsSome
+        (put header.now parts.old (ServedRow station (record { sequence = last.now.sequence; number = last.now.number; pdu = last.now.pdu })))) }
     ensures needed { OnErr result (IsTrue (is_some last.now.pdu)) }
 {
     if !served_may(header, parts, station, last.number) {
@@ -221,14 +224,14 @@ fn put_served<A: Allocator + Clone>(
     Ok(true)
 }
 
-// A row after the header.
+// Takes a row after the header, if it may come.
 fn put<A: Allocator + Clone>(
     parts: &mut Parts<A>,
     header: &Header,
     row: ReadRow<'_>,
 ) -> Result<bool, AllocError>
     requires { IsHeld header.now parts.old }
-    ensures ok { IfOk result (λ taken. Came (put header.now parts.old (row_view row.entry)) parts.old taken parts.new) }
+    ensures ok { IfOk result (λ taken. IsOutcome (put header.now parts.old (row_view row.entry)) parts.old taken parts.new) }
     ensures err { OnErr result (parts.new ≡ parts.old) }
     ensures memory { OnErr result (IsSome (put header.now parts.old (row_view row.entry))) }
     ensures needed { OnErr result (IsTrue (needs_memory (row_view row.entry))) }
@@ -258,14 +261,15 @@ fn put<A: Allocator + Clone>(
     }
 }
 
-/// Takes the row, where it can come next.
+/// Takes the row if it may come next, and returns whether it did.
 pub fn take<A: Allocator + Clone>(
     first: &mut Option<Header>,
     parts: &mut Parts<A>,
     row: ReadRow<'_>,
 ) -> Result<bool, AllocError>
     requires { IsLoaded (loading first.old parts.old) }
-    ensures ok { IfOk result (λ taken. Came (row_taken (loading first.old parts.old) (row_view row.entry)) (loading first.old parts.old) taken (loading first.new parts.new)) }
+    ensures ok { IfOk result (λ taken. IsOutcome (row_taken (loading first.old parts.old) (row_view row.entry))
+        (loading first.old parts.old) taken (loading first.new parts.new)) }
     ensures err { OnErr result ((first.new ≡ first.old) × (parts.new ≡ parts.old)) }
     ensures memory { OnErr result (IsSome (row_taken (loading first.old parts.old) (row_view row.entry))) }
     ensures needed { OnErr result (IsTrue (needs_memory (row_view row.entry))) }

@@ -1,12 +1,12 @@
-//! Rows as they are read. No call takes memory.
+//! Rows, read from bytes. No call allocates.
 ghost use Rattle.std.specs.Prelude.{◌≡◌, option_map};
 ghost use Rattle.image_rows.specs.RowText.{header_tag};
 ghost use Rattle.image_rows.specs.RowReading.{fields_in, present_of, reply_of, row_in};
 ghost use Rattle.image_rows.specs.RowViews.{row_view};
 
-use crate::item::{ReadItem, known};
+use crate::item::{ReadItem, checked};
 use crate::row_groups::{PackedGroups, groups};
-use crate::seen::item;
+use crate::unchecked_item::item;
 use crate::{HEADER_TAG, Header, PLAIN_HEADER_TAG};
 use centre_core::Sequence;
 use command_bytes::bits::{PackedBits, bits};
@@ -17,7 +17,7 @@ use registration::{Radio, Rule, Station};
 /// The last epoch, 2 to the 62nd.
 pub const LAST_EPOCH: u64 = 1 << 62;
 
-/// A row, its bits and its groups still in the bytes that it is read from.
+/// A row. Its bits and its groups are still in the bytes it was read from.
 #[derive(Drop)]
 pub enum ReadRow<'a> {
     /// The first row of an image.
@@ -27,15 +27,15 @@ pub enum ReadRow<'a> {
         prefix: Prefix,
         rule: Rule,
     },
-    /// A radio and its groups, in the order in which they stand.
+    /// A radio and its groups, in the order of their bytes.
     Radio {
         itsi: Itsi,
         radio: Radio,
         groups: PackedGroups<'a>,
     },
-    /// What waits.
+    /// A waiting item.
     Mail(ReadItem<'a>),
-    /// What is kept of a station's last accepted command: its sequence, its number and the PDU of its reply.
+    /// A station's last accepted command: its sequence, its number and the PDU of its reply.
     Served {
         station: Station,
         sequence: Sequence,
@@ -118,16 +118,16 @@ fn radio_row(bytes: &[u8]) -> Option<ReadRow<'_>>
 fn item_row(bytes: &[u8]) -> Option<ReadRow<'_>>
     ensures { option_map row_view result ≡ fields_in 19 bytes.now }
 {
-    let (seen, _) = item(false, bytes)?;
-    Some(ReadRow::Mail(known(seen)?))
+    let (unchecked, _) = item(false, bytes)?;
+    Some(ReadRow::Mail(checked(unchecked)?))
 }
 
 #[tactic(auto, unfolding(crate::specs::RowReading::fields_in, crate::specs::RowReading::fields_at))]
 fn copy_row(bytes: &[u8]) -> Option<ReadRow<'_>>
     ensures { option_map row_view result ≡ fields_in 21 bytes.now }
 {
-    let (seen, _) = item(true, bytes)?;
-    Some(ReadRow::Mail(known(seen)?))
+    let (unchecked, _) = item(true, bytes)?;
+    Some(ReadRow::Mail(checked(unchecked)?))
 }
 
 fn reply(bits: PackedBits<'_>) -> Option<PackedBits<'_>>
@@ -168,8 +168,10 @@ fn fields(tag: u8, bytes: &[u8]) -> Option<ReadRow<'_>>
     }
 }
 
-/// The row that the bytes spell, whatever stands behind it; `None` where they spell none: a value is out of its range, a
-/// bit that only fills is 1, a PDU that waits is not what its key says, the tag is unknown or bytes are missing.
+/// The row that the bytes begin with. What follows it is ignored.
+///
+/// It is `None` where a value is out of its range, a padding bit is 1, the PDU of an item does not fit its key, the tag
+/// is unknown, or bytes are missing.
 #[tactic(auto, unfolding(crate::specs::RowReading::row_in))]
 pub fn read_row(bytes: &[u8]) -> Option<ReadRow<'_>>
     ensures { option_map row_view result ≡ row_in bytes.now }

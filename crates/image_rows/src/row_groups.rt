@@ -9,7 +9,7 @@ use identity::Itsi;
 use mm_pdus::{ClassOfUsage, Lifetime};
 use std::marker::Model;
 
-/// The groups of a radio's row, that still lie in the bytes they are read from.
+/// The groups of a radio's row. They are still in the bytes they are read from.
 #[derive(Drop)]
 pub struct PackedGroups<'a> {
     count: u64,
@@ -29,7 +29,7 @@ impl<'a> Model for PackedGroups<'a> {
     ghost invariant = { λ g. IsSome (groups_at g.count g.bytes.now) };
 }
 
-// How a radio is attached: the class and the lifetime.
+// How a radio is attached to a group: the class of usage and the lifetime.
 fn usage(number: u64) -> Option<(ClassOfUsage, Lifetime)>
     ensures { result ≡ usage_of number }
 {
@@ -40,7 +40,7 @@ fn usage(number: u64) -> Option<(ClassOfUsage, Lifetime)>
     Some((ClassOfUsage::new((number / 4) as u8), lifetime))
 }
 
-// A group, as an attachment of this radio.
+// The group that the bytes begin with, as an attachment of this radio, and the bytes after it.
 #[tactic(auto, unfolding(crate::specs::RowReading::group_at))]
 fn group(itsi: Itsi, bytes: &[u8]) -> Option<(Attachment, &[u8])>
     ensures value { option_map (λ x. (group_in x.0, x.1.now)) result ≡ group_at bytes.now }
@@ -60,7 +60,7 @@ fn group(itsi: Itsi, bytes: &[u8]) -> Option<(Attachment, &[u8])>
     Some((attachment, rest))
 }
 
-// The bytes after so many groups.
+// The bytes after the first `count` groups.
 fn after_groups(itsi: Itsi, count: u64, bytes: &[u8]) -> Option<&[u8]>
     ensures { option_map (λ rest. rest.now) result ≡ option_map (λ x. x.1) (groups_at count bytes.now) }
 {
@@ -74,7 +74,7 @@ fn after_groups(itsi: Itsi, count: u64, bytes: &[u8]) -> Option<&[u8]>
     Some(rest)
 }
 
-/// So many groups of a radio, at the front of the bytes.
+/// The `count` groups of a radio that the bytes begin with.
 pub fn groups(itsi: Itsi, count: u64, bytes: &[u8]) -> Option<PackedGroups<'_>>
     ensures { option_map (λ groups. groups) result ≡ option_map (λ x. x.0) (groups_at count bytes.now) }
 {
@@ -83,7 +83,7 @@ pub fn groups(itsi: Itsi, count: u64, bytes: &[u8]) -> Option<PackedGroups<'_>>
 }
 
 impl<'a> PackedGroups<'a> {
-    /// Takes the first group that is left, as an attachment of this radio.
+    /// Takes the first of the groups, as an attachment of this radio.
     pub fn next(&mut self, itsi: Itsi) -> Option<Attachment>
         ensures value { option_map group_in result ≡ slice_get self.old 0 }
         ensures radio { IfSome result (λ a. a.itsi ≡ itsi) }

@@ -1,11 +1,11 @@
-// A sector that a row is written into.
+// The sector that a row is written into.
 ghost use Rattle.std.specs.Prelude.{◌≡◌, ◌≤◌, ◌+◌, ◌-◌, ◌++◌, [], length, take, drop};
 ghost use Rattle.image_rows.specs.RowText.{padded};
 
 use command_bytes::Room;
 use std::marker::Model;
 
-/// Bytes at the front of a sector, with zeros behind them.
+/// Bytes at the start of a sector, with zeros after them.
 #[derive(Drop)]
 pub struct SectorText {
     sector: [u8; 512],
@@ -22,7 +22,7 @@ impl Model for SectorText {
     ghost invariant = { λ s. (s.len ≤ 512) × (drop s.len s.sector ≡ replicate (512 - s.len) 0) };
 }
 
-// Bytes in the place of those that stand there.
+// Overwrites the bytes from `at` on.
 fn put_at(sector: &mut [u8], at: usize, bytes: &[u8])
     requires { at + length bytes.now ≤ length sector.old }
     ensures { sector.new ≡ take at sector.old ++ bytes.now ++ drop (at + length bytes.now) sector.old }
@@ -41,7 +41,7 @@ impl SectorText {
         }
     }
 
-    /// The sector that it fills.
+    /// The sector: the bytes, with zeros after them.
     pub fn finish(self) -> [u8; 512]
         ensures { result ≡ padded self }
     {

@@ -1,4 +1,4 @@
-//! Rows as they are written, each a sector. No call takes memory.
+//! Rows, written as sectors. No call allocates.
 ghost use Rattle.std.specs.Prelude.{◌≡◌, ◌≤◌, ◌+◌, ◌*◌, ◌++◌, IfSome, length, map};
 ghost use Rattle.std.specs.List.{flat_map};
 ghost use Rattle.identity.specs.BitsText.{most_bits};
@@ -8,7 +8,8 @@ ghost use Rattle.group_attach.specs.Applied.{most_of_radio};
 ghost use Rattle.command_bytes.specs.Fields.{big, bytes_for};
 ghost use Rattle.command_bytes.specs.Text.{bits_text};
 ghost use Rattle.image_rows.specs.Rows.{HeaderRow, RuleRow, RadioRow, MailRow, ServedRow};
-ghost use Rattle.image_rows.specs.RowText.{header_text, present_number, usage_number, group_in, group_text, radio_text, copied_text, item_text, mail_tag, reply_bits, served_text, sector_of};
+ghost use Rattle.image_rows.specs.RowText.{copied_text, group_text, header_text, item_text, radio_text, sector_of, served_text};
+ghost use Rattle.image_rows.specs.RowText.{group_in, mail_tag, present_number, reply_bits, usage_number};
 
 use crate::sector::SectorText;
 use crate::{HEADER_TAG, Header};
@@ -136,7 +137,7 @@ fn put_item<R: Room, A: Allocator>(out: &mut R, item: &Item<A>)
     put_bits(out, item.pdu());
 }
 
-/// The row of what waits, its PDU at most 2,048 bits.
+/// The row of a waiting item, with a PDU of at most 2,048 bits.
 #[tactic(auto, unfolding(crate::specs::RowText::sector_of, crate::specs::RowText::row_bytes), using(std::proofs::Common::append_assoc))]
 pub fn mail_row<A: Allocator>(item: &Item<A>) -> [u8; 512]
     requires { length item.now.pdu ≤ most_bits }

@@ -2,18 +2,20 @@
 use crate::rows::{again, sector};
 use std::alloc::{AllocError, Global};
 
-/// A row's bytes; then what comes of each of them with its first bit changed, and with its last: `r` it is refused,
-/// `t` another row is taken and has these bytes, `s` one is taken that has others: it ends earlier, or is a header of layout 1.
-/// Written by hand from the table.
+/// A row's bytes; then the outcome of each byte with its first bit changed, and with its last bit changed. `r`: no row is
+/// read. `t`: another row is read, and written as these bytes. `s`: a row is read that is written as others, since it ends
+/// earlier or is a header of layout 1. Written by hand from the table.
 const CHANGED: &str = "\
 16 0000000000000001 0000000000000000 00000000 00000000 00000000 00000000|r rttttttt tttttttt tttt tttt tttt tttt|r tttttttr tttttttt tttt tttt tttt tttt
 11 18 3a800e000000 0001 0063 01 00000e10|r r tttrrr rr rt r tttt|s t tttrrr rt tt t tttt
 12 3a800e0007d1 0001 0007 01 01 3a800e0003e8 13|r tttttt tt rt r r tttttt r|r tttttt tt tt t s tttttt t
-13 0000000000000008 0000000000000e74 3a800e0007d2 3a800e0007d1 05 00 0030 820405014849|r tttttttt rrrrtttt tttttt tttttt r r rt rrrttt|s tttttttt rrrttttt tttttt tttttt r r tt trrttt
-15 0000000000000006 0000000000000e74 3a800e0007d2 3a800e0007d1 05 00 3a800e0003e8 0030 820405014849|r tttttttt rrrrtttt tttttt tttttt r r tttttt rt rrrttt|r tttttttt rrrttttt tttttt tttttt r r tttttt tt trrttt
+13 0000000000000008 0000000000000e74 3a800e0007d2 3a800e0007d1 05 00 0030 820405014849|\
+r tttttttt rrrrtttt tttttt tttttt r r rt rrrttt|s tttttttt rrrttttt tttttt tttttt r r tt trrttt
+15 0000000000000006 0000000000000e74 3a800e0007d2 3a800e0007d1 05 00 3a800e0003e8 0030 820405014849|\
+r tttttttt rrrrtttt tttttt tttttt r r tttttt rt rrrttt|r tttttttt rrrttttt tttttt tttttt r r tttttt tt trrttt
 14 0001 00000002 0000000000000002 0008 56|r tt tttt tttttttt rt t|r tt tttt tttttttt tt t";
 
-/// What comes of the bytes, as a letter.
+/// The outcome of these bytes, as a letter.
 fn letter(alloc: Global, bytes: &[u8]) -> Result<u8, AllocError> {
     match again(alloc, bytes)? {
         None => Ok(b'r'),
@@ -21,7 +23,7 @@ fn letter(alloc: Global, bytes: &[u8]) -> Result<u8, AllocError> {
     }
 }
 
-/// What comes of the sector with its byte at this place changed by the mask, as a letter.
+/// The outcome of the sector with its byte at this place changed by the mask, as a letter.
 fn changed(alloc: Global, text: &str, place: usize, mask: u8) -> Result<u8, AllocError> {
     let mut bytes = sector(alloc, text, 0)?;
     if let Some(byte) = bytes.get_mut(place) {
@@ -32,7 +34,7 @@ fn changed(alloc: Global, text: &str, place: usize, mask: u8) -> Result<u8, Allo
     letter
 }
 
-/// How many bytes come of what the letters say, one after the other, from the first on.
+/// How many bytes, from the first on, have the outcome that their letter names.
 fn right(alloc: Global, text: &str, letters: &str, mask: u8) -> Result<usize, AllocError> {
     let mut place = 0;
     for expected in letters.bytes() {
@@ -72,6 +74,6 @@ fn first_wrong(alloc: Global) -> Option<&'static str> {
 }
 
 #[test]
-fn each_byte_tells(rt: HostRuntime) {
+fn each_byte_counts(rt: HostRuntime) {
     assert_eq!(rt; first_wrong(rt.alloc()), None);
 }

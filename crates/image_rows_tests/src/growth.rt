@@ -18,7 +18,7 @@ const ROWS: &str = "\
 /// How much a heap has.
 const ROOM: usize = 16_384;
 
-/// Takes the row; where memory is wanted, once more without the weight. Nothing where that goes wrong.
+/// Takes the row; where memory runs out, once more without the weight. Nothing where that goes wrong.
 fn taken<'a>(
     loader: &mut Loader<&'a LocalHeap>,
     weight: &mut Option<Vec<u8, &'a LocalHeap>>,
@@ -37,7 +37,7 @@ fn taken<'a>(
     }
 }
 
-/// How many times memory was wanted until the loader was whole; nothing where that goes wrong.
+/// How many times memory ran out until the loader was whole; nothing where that goes wrong.
 fn all_taken<'a>(
     alloc: Global,
     loader: &mut Loader<&'a LocalHeap>,
@@ -62,7 +62,7 @@ fn all_loaded<'a>(
     if is_finished(loader) { wanted } else { None }
 }
 
-/// How many times memory was wanted beside so great a weight; nothing where that goes wrong.
+/// How many times memory ran out beside so great a weight; nothing where that goes wrong.
 fn wanted(alloc: Global, heap: &LocalHeap, size: usize) -> Option<usize> {
     let limits = limits()?;
     let mut weight = Some(Vec::with_capacity(heap, size).ok()?);
@@ -81,7 +81,7 @@ fn wanted_beside(alloc: Global, size: usize) -> Option<usize> {
     if heap.used() > 0 { None } else { wanted }
 }
 
-/// Beside how many weights memory was wanted, from the greatest on; nothing where something goes wrong.
+/// Beside how many weights memory ran out, from the greatest on; nothing where something goes wrong.
 fn weights(alloc: Global) -> Option<usize> {
     for k in 0..ROOM / 8 {
         if wanted_beside(alloc, ROOM.saturating_sub(64 + 8 * k))? == 0 {

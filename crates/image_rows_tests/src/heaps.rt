@@ -7,7 +7,7 @@ use std::alloc::Global;
 const REPORT: &str =
     "13 0000000000000009 0000000000000e74 3a800e0007d1 3a800e0007d2 05 01 0060 821000050102030405060708";
 
-/// Nothing where memory is wanted, else whether the item is read and written again under this heap.
+/// Nothing where memory runs out, else whether the item is read and written again under this heap.
 fn is_done<'a>(heap: &'a LocalHeap, bytes: &[u8]) -> Option<bool> {
     let Some(ReadRow::Mail(read)) = read_row(bytes) else {
         return Some(false);

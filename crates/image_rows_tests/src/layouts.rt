@@ -1,4 +1,4 @@
-//! An image of layout 1, whose header has another tag: it is the same register, which is written with the tag of layout 2.
+//! An image of layout 1, whose header has another tag, makes the same register. That is written with the tag of layout 2.
 use crate::loaded::{loaded, row};
 use centre_core::Register;
 use image_rows::rows;

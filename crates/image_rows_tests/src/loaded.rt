@@ -1,6 +1,6 @@
 //! The rows of registers, taken one after another: the register is the one that its commands make.
 use crate::rows::sector;
-use centre_core::{Command, Query, Refusal, Register, Reply, Told};
+use centre_core::{Command, Query, QueryAnswer, Refusal, Register, Reply};
 use identity::{Gtsi, Itsi};
 use image_rows::Loader;
 use mailbox::Item;
@@ -160,24 +160,25 @@ fn same_items(a: &[Item<Global>], b: &[Item<Global>]) -> bool {
 }
 
 /// Whether two answers are one.
-fn same(a: &Told<Global>, b: &Told<Global>) -> bool {
+fn same(a: &QueryAnswer<Global>, b: &QueryAnswer<Global>) -> bool {
     match (a, b) {
-        (Told::Whereabouts { radio: a, .. }, Told::Whereabouts { radio: b, .. }) => a == b,
-        (Told::Look { rule: a, .. }, Told::Look { rule: b, .. }) => match (a, b) {
+        (QueryAnswer::Whereabouts { radio: a, .. }, QueryAnswer::Whereabouts { radio: b, .. }) => a
+            == b,
+        (QueryAnswer::Look { rule: a, .. }, QueryAnswer::Look { rule: b, .. }) => match (a, b) {
             (Some((p, r)), Some((q, s))) => p.same(q) && r == s,
             (None, None) => true,
             _ => false,
         },
-        (Told::Groups { groups: a, .. }, Told::Groups { groups: b, .. }) => {
+        (QueryAnswer::Groups { groups: a, .. }, QueryAnswer::Groups { groups: b, .. }) => {
             a.as_slice() == b.as_slice()
         }
-        (Told::Members { members: a, .. }, Told::Members { members: b, .. }) => {
+        (QueryAnswer::Members { members: a, .. }, QueryAnswer::Members { members: b, .. }) => {
             a.as_slice() == b.as_slice()
         }
-        (Told::Waiting { items: a, .. }, Told::Waiting { items: b, .. }) => {
+        (QueryAnswer::Waiting { items: a, .. }, QueryAnswer::Waiting { items: b, .. }) => {
             same_items(a.as_slice(), b.as_slice())
         }
-        (Told::Total(a), Told::Total(b)) => a == b,
+        (QueryAnswer::Total(a), QueryAnswer::Total(b)) => a == b,
         _ => false,
     }
 }

@@ -3,7 +3,7 @@ use crate::loaded::{is_finished, limits, row};
 use image_rows::Loader;
 use std::alloc::Global;
 
-/// Rows one after another: `+` it is taken, `-` it is refused, and why.
+/// Rows one after another: `+` for a row that is taken, `-` for one that is refused, and why.
 const ROWS: &str = "\
 -11 18 3a800e000000 0001 0063 01 00000e10=a rule before the header
 -16 0000000000000001 4000000000000001 00000002 00000002 00000002 00000002=more commands than have numbers
@@ -50,9 +50,9 @@ const ROWS: &str = "\
 -14 0001 00000006 0000000000000006 0000=a station that comes before
 +14 0004 00000007 0000000000000006 0000=the last station
 -14 0003 00000006 0000000000000006 0000=a station too many
--16 0000000000000001 0000000000000006 00000002 00000002 00000002 00000002=a header behind the last row";
+-16 0000000000000001 0000000000000006 00000002 00000002 00000002 00000002=a header after the last row";
 
-/// Whether the row is taken where a `+` says so, and refused where not.
+/// Whether the row is taken if it has a `+`, and else refused.
 fn is_right(alloc: Global, loader: &mut Loader<Global>, text: &str) -> bool {
     match row(alloc, text) {
         Some(row) => loader.take(&row) == Ok(text.starts_with('+')),
@@ -60,8 +60,8 @@ fn is_right(alloc: Global, loader: &mut Loader<Global>, text: &str) -> bool {
     }
 }
 
-/// Why the first row that is answered wrongly is in the table; nothing where all are right and the last one leaves the
-/// image whole.
+/// The reason beside the first row that is answered wrongly. It is nothing where all are right and the last one leaves
+/// the image whole.
 fn wrong_row(alloc: Global, loader: &mut Loader<Global>) -> Option<&'static str> {
     for line in ROWS.lines() {
         let Some((text, why)) = line.split_once('=') else {

@@ -33,10 +33,10 @@ fn bytes_of(alloc: Global, text: &str) -> Result<Vec<u8>, AllocError> {
     Ok(bytes)
 }
 
-/// The sector that begins with the bytes of hexadecimal digits, and has this byte behind them.
-pub fn sector(alloc: Global, text: &str, behind: u8) -> Result<Vec<u8>, AllocError> {
+/// The sector that begins with the bytes of hexadecimal digits, and has this byte after them.
+pub fn sector(alloc: Global, text: &str, following: u8) -> Result<Vec<u8>, AllocError> {
     let mut bytes = bytes_of(alloc, text)?;
-    bytes.resize(512, behind)?;
+    bytes.resize(512, following)?;
     Ok(bytes)
 }
 

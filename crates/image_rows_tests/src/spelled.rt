@@ -1,4 +1,4 @@
-//! Each worked row is read, whatever stands behind it, and written as its bytes; other bytes are no row.
+//! Each worked row is read, whatever follows it, and written as its bytes; other bytes are no row.
 use crate::loaded::row;
 use crate::rows::{again, sector};
 use std::alloc::{AllocError, Global};
@@ -37,8 +37,8 @@ ff 0000000000000001=a header with tag 255
 12 3a800e0007d1 0001 0007 01 01 3a800e0003e8 20=class 8
 13 0000000000000008 00000001ffffffff 3a800e0007d2 3a800e0007d1 05 00 0030 820405014849=a deadline above the latest
 13 0000000000000008 0000000000000e74 3a800e0007d2 3a800e0007d1 05 02 0030 820405014849=kind 2
-13 0000000000000008 0000000000000e74 3a800e0007d2 3a800e0007d1 05 01 0030 820405014849=a message where a report is told
-13 0000000000000008 0000000000000e74 3a800e0007d2 3a800e0007d1 05 00 0020 82100005=a report where a message is told
+13 0000000000000008 0000000000000e74 3a800e0007d2 3a800e0007d1 05 01 0030 820405014849=a message under the key of a report
+13 0000000000000008 0000000000000e74 3a800e0007d2 3a800e0007d1 05 00 0020 82100005=a report under the key of a message
 13 0000000000000008 0000000000000e74 3a800e0007d2 3a800e0007d1 05 01 0020 82200005=an acknowledgement
 15 0000000000000008 0000000000000e74 3a800e0007d2 3a800e0007d1 05 01 3a800e0003e8 0020 82100005=a copy of a report
 13 0000000000000008 0000000000000e74 3a800e0007d2 3a800e0007d1 05 01 0018 821000=a report cut short
@@ -46,7 +46,7 @@ ff 0000000000000001=a header with tag 255
 13 0000000000000008 0000000000000e74 3a800e0007d2 3a800e0007d1 05 00 0800 820405=a PDU of 2048 bits
 14 0001 00000000 0000000000000002 0008 56=sequence 0
 14 0001 00000002 0000000000000002 0801 56=a reply of 2049 bits
-14 0001 00000002 0000000000000002 0007 57=a bit that fills";
+14 0001 00000002 0000000000000002 0007 57=a padding bit";
 
 /// Headers of layout 1, and as they are written.
 const PLAIN: &str = "\
@@ -55,20 +55,22 @@ const PLAIN: &str = "\
 
 /// Rows with reserved bits 1, and as they are written.
 const RESERVED: &str = "\
-13 0000000000000009 0000000000000e74 3a800e0007d1 3a800e0007d2 05 01 0020 82160005=13 0000000000000009 0000000000000e74 3a800e0007d1 3a800e0007d2 05 01 0020 82100005
-13 0000000000000009 0000000000000e74 3a800e0007d1 3a800e0007d2 05 01 0028 821a0205ff=13 0000000000000009 0000000000000e74 3a800e0007d1 3a800e0007d2 05 01 0028 82180205ff";
+13 0000000000000009 0000000000000e74 3a800e0007d1 3a800e0007d2 05 01 0020 82160005=\
+13 0000000000000009 0000000000000e74 3a800e0007d1 3a800e0007d2 05 01 0020 82100005
+13 0000000000000009 0000000000000e74 3a800e0007d1 3a800e0007d2 05 01 0028 821a0205ff=\
+13 0000000000000009 0000000000000e74 3a800e0007d1 3a800e0007d2 05 01 0028 82180205ff";
 
-/// Whether the sector of one text, with this byte behind it, is read and written as the sector of the other.
-fn is_written(alloc: Global, text: &str, behind: u8, other: &str) -> bool {
-    let (Some(row), Some(expected)) = (written(alloc, text, behind), row(alloc, other)) else {
+/// Whether the sector of one text, with this byte after it, is read and written as the sector of the other.
+fn is_written(alloc: Global, text: &str, following: u8, other: &str) -> bool {
+    let (Some(row), Some(expected)) = (written(alloc, text, following), row(alloc, other)) else {
         return false;
     };
     row == Some(expected)
 }
 
-/// What is written again of the sector of a text with this byte behind it; nothing where memory is wanted.
-fn written(alloc: Global, text: &str, behind: u8) -> Option<Option<[u8; 512]>> {
-    let bytes = sector(alloc, text, behind).ok()?;
+/// What is written again of the sector of a text with this byte after it; nothing where memory runs out.
+fn written(alloc: Global, text: &str, following: u8) -> Option<Option<[u8; 512]>> {
+    let bytes = sector(alloc, text, following).ok()?;
     again(alloc, &bytes).ok()
 }
 
@@ -77,7 +79,7 @@ fn written(alloc: Global, text: &str, behind: u8) -> Option<Option<[u8; 512]>> {
 enum Form {
     Row,
     Other,
-    /// It is written as the text behind the `=`.
+    /// It is written as the text after the `=`.
     Rewritten,
 }
 
@@ -102,7 +104,7 @@ fn first_wrong(alloc: Global, form: Form, lines: &'static str) -> Option<&'stati
     None
 }
 
-/// A message of so many bits, all behind its reference 0.
+/// A message of so many bits, all after its reference 0.
 fn message(alloc: Global, bits: u16) -> Result<Vec<u8>, AllocError> {
     let mut bytes = sector(
         alloc,
@@ -117,7 +119,7 @@ fn message(alloc: Global, bits: u16) -> Result<Vec<u8>, AllocError> {
     Ok(bytes)
 }
 
-/// Whether a message of so many bits is written as its bytes, if it is read; nothing where memory is wanted.
+/// Whether a message of so many bits is written as its bytes, if it is read; nothing where memory runs out.
 fn is_message(alloc: Global, bits: u16) -> Option<Option<bool>> {
     let bytes = message(alloc, bits).ok()?;
     match again(alloc, &bytes) {
@@ -148,7 +150,7 @@ fn headers_of_layout_1_are_read(rt: HostRuntime) {
 }
 
 #[test]
-fn what_waits_has_at_most_2047_bits(rt: HostRuntime) {
+fn an_item_has_at_most_2047_bits(rt: HostRuntime) {
     let alloc = rt.alloc();
     assert!(rt;
         is_message(alloc, 2047) == Some(Some(true)) && is_message(alloc, 2048) == Some(None)

@@ -1,4 +1,4 @@
-//! A register's rows, told one after another and all together.
+//! A register's rows, taken one after another and all together.
 use crate::loaded::{is_accepted, row};
 use crate::rows::again;
 use centre_core::Register;
@@ -61,21 +61,21 @@ fn is_row(alloc: Global, bytes: [u8; 512], line: &str) -> bool {
     again(alloc, &bytes) == Ok(Some(bytes)) && row(alloc, text) == Some(bytes)
 }
 
-/// The place of the row after this one, where it is the row of this line.
+/// The place of the row after this place, if it is the row of this line.
 fn next_in(
     alloc: Global,
     register: &Register<Global>,
     after: Option<RowPlace>,
     line: &str,
 ) -> Option<RowPlace> {
-    let told = row_after(register, 1, after);
-    let Some(next) = &told else {
+    let found = row_after(register, 1, after);
+    let Some(next) = &found else {
         return None;
     };
     is_row(alloc, next.1, line).then_some(next.0)
 }
 
-/// Whether from none to the first row, and from each to the next, these come and no more.
+/// Whether a walk from the first row, and from each to the next, gives these rows and no more.
 fn are_walked(alloc: Global, register: &Register<Global>) -> bool {
     let mut after = None;
     for line in ROWS.lines() {
@@ -105,8 +105,8 @@ fn are_listed(alloc: Global, register: &Register<Global>) -> bool {
     }
 }
 
-/// Whether the row after the place is the one of this name, or none where no row has it.
-fn is_told(
+/// Whether the row after the place has this name; whether there is none, if no row has it.
+fn is_followed_by(
     alloc: Global,
     register: &Register<Global>,
     after: Option<RowPlace>,
@@ -138,54 +138,54 @@ fn mail_place(number: u64, reference: u8) -> Option<RowPlace> {
     Some(RowPlace::Mail(number, key))
 }
 
-/// The place of what is kept of a station.
+/// The place of a station's row.
 fn served_place(number: u16) -> Option<RowPlace> {
     Some(RowPlace::Served(Station::new(number)))
 }
 
-/// Whether one goes on from places where no row stands.
+/// Whether a walk goes on from places that have no row.
 fn goes_on(alloc: Global, register: &Register<Global>) -> bool {
-    is_told(
+    is_followed_by(
         alloc,
         register,
         rule_place(0x3a80_0e00_0000, 23),
         "the other rule",
-    ) && is_told(
+    ) && is_followed_by(
         alloc,
         register,
         rule_place(0x3a80_0e00_07d1, 48),
         "=radio 2001",
-    ) && is_told(alloc, register, radio_place(2000), "=radio 2001")
-        && is_told(
+    ) && is_followed_by(alloc, register, radio_place(2000), "=radio 2001")
+        && is_followed_by(
             alloc,
             register,
             radio_place(2003),
             "the copy for radio 2001",
         )
-        && is_told(
+        && is_followed_by(
             alloc,
             register,
             mail_place(8, 0),
             "the message for radio 2002",
         )
-        && is_told(
+        && is_followed_by(
             alloc,
             register,
             mail_place(9, 8),
             "the message for radio 2002",
         )
-        && is_told(
+        && is_followed_by(
             alloc,
             register,
             mail_place(9, 10),
             "the report for radio 2001",
         )
-        && is_told(alloc, register, mail_place(11, 0), "station 1")
-        && is_told(alloc, register, served_place(2), "station 3")
-        && is_told(alloc, register, served_place(u16::MAX), "none")
+        && is_followed_by(alloc, register, mail_place(11, 0), "station 1")
+        && is_followed_by(alloc, register, served_place(2), "station 3")
+        && is_followed_by(alloc, register, served_place(u16::MAX), "none")
 }
 
-/// Whether the rows are listed under this heap, or nothing where memory is wanted.
+/// Whether the rows are listed under this heap, or nothing where memory runs out.
 fn is_done<'a>(heap: &'a LocalHeap, register: &Register<Global>) -> Option<bool> {
     let Ok(list) = rows(register, 1, heap) else {
         return None;
@@ -218,7 +218,7 @@ fn is_header(alloc: Global, register: &Register<Global>) -> bool {
     list.as_slice() == [header].as_slice()
 }
 
-fn is_told_so(alloc: Global, register: &mut Register<Global>) -> bool {
+fn are_its_rows(alloc: Global, register: &mut Register<Global>) -> bool {
     is_header(alloc, register)
         && are_accepted(alloc, register)
         && are_walked(alloc, register)
@@ -227,15 +227,15 @@ fn is_told_so(alloc: Global, register: &mut Register<Global>) -> bool {
         && refused(alloc, register).is_some_and(|heaps| heaps > 9)
 }
 
-/// Whether a register is told by its rows, before and after the commands.
-fn is_told_by_rows(alloc: Global) -> Option<bool> {
+/// Whether a register gives its rows, before and after the commands.
+fn are_given(alloc: Global) -> Option<bool> {
     let mut register = Register::new(alloc, Limits::new(16, 16, 256, 4)?).ok()?;
-    let is_told_so = is_told_so(alloc, &mut register);
+    let are_its_rows = are_its_rows(alloc, &mut register);
     drop(register);
-    Some(is_told_so)
+    Some(are_its_rows)
 }
 
 #[test]
-fn each_row_is_told_once(rt: HostRuntime) {
-    assert!(rt; is_told_by_rows(rt.alloc()) == Some(true));
+fn each_row_comes_once(rt: HostRuntime) {
+    assert!(rt; are_given(rt.alloc()) == Some(true));
 }

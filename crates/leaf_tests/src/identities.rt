@@ -1,4 +1,4 @@
-//! Each call of `identity` once with ample memory, and texts at the borders of form and range.
+//! Each call of `identity` once, with ample memory, and texts at the limits of form and range.
 
 use identity::{
     BitReader, BitWriter, Bits, Fault, Gtsi, Itsi, Prefix, parse_bits, parse_gtsi, parse_itsi,
@@ -13,7 +13,7 @@ fn written(alloc: Global) -> Result<Bits<Global>, Fault> {
     writer.finish().try_copy(alloc)
 }
 
-/// Whether the bits are read in a part of four and one of six.
+/// Whether the bits are read in parts of four and six.
 fn are_taken(bits: &Bits<Global>) -> Result<bool, Fault> {
     let mut reader = BitReader::new(bits);
     let (first, rest) = (reader.take(4)?, reader.cut(6)?.take(6)?);
@@ -38,8 +38,8 @@ fn bits_are_put_and_taken(rt: HostRuntime) -> Result<(), Fail> {
 /// Bits of other values and lengths.
 const OTHERS: [&str; 3] = ["10:260", "11:264", "9:260"];
 
-/// Whether the bits are told apart from those of this text.
-fn is_told_apart(alloc: Global, bits: &Bits<Global>, text: &str) -> bool {
+/// Whether the bits differ from those of this text.
+fn differs(alloc: Global, bits: &Bits<Global>, text: &str) -> bool {
     match parse_bits(alloc, text.as_bytes()) {
         Ok(other) => *bits != other && !bits.same(&other),
         Err(_) => false,
@@ -56,7 +56,7 @@ fn is_same_copy(alloc: Global, bits: &Bits<Global>) -> bool {
 fn are_packed(alloc: Global) -> Result<bool, Fault> {
     let bits = parse_bits(alloc, "10:264".as_bytes())?;
     let packed = bits.as_bytes() == [0x26, 0x40].as_slice() && is_same_copy(alloc, &bits);
-    Ok(packed && OTHERS.iter().all(|text| is_told_apart(alloc, &bits, text)))
+    Ok(packed && OTHERS.iter().all(|text| differs(alloc, &bits, text)))
 }
 
 #[test]
@@ -90,7 +90,7 @@ fn is_nothing_beyond() -> bool {
         && Gtsi::from_number(1 << 48).is_none()
 }
 
-/// Three numbers, and what identity they are.
+/// Three numbers, and the identity that they make.
 const PARTS: [((u32, u32, u32), u64); 2] = [
     ((234, 14, 2001), 64_321_665_107_921),
     ((1023, 16_383, 16_777_215), (1 << 48) - 1),
@@ -131,8 +131,8 @@ fn prefixes_begin_identities(rt: HostRuntime) {
     assert!(rt; is_begun());
 }
 
-/// What a text is read as, the text, and what it is printed as once it was read; or why it can't be: `bad` its form, `far` its
-/// range. A digit is a number up to 9, `long` one of 64 bits.
+/// What a text is read as, the text, and what it is printed as once it was read, or why it is refused: `bad` for its form,
+/// `far` for its range. A digit is a number up to 9, `long` one of 64 bits.
 ///
 /// Form is judged before range.
 const ROWS: &str = "long|18446744073709551615|18446744073709551615\n\
@@ -220,7 +220,7 @@ fn is_right(alloc: Global, row: &str) -> bool {
     is_wanted(alloc, kind, text, want)
 }
 
-/// The first row that is read otherwise.
+/// The first row that is wrong.
 fn first_wrong(alloc: Global) -> Option<&'static str> {
     for row in ROWS.lines() {
         if !is_right(alloc, row) {

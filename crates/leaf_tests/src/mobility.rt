@@ -42,7 +42,7 @@ fn word(fault: MmFault) -> &'static str {
     }
 }
 
-/// Whether this is the text, or the fault.
+/// Whether this is the wanted text or fault.
 fn is_wanted(got: Result<Vec<u8>, MmFault>, want: &str) -> bool {
     match got {
         Ok(text) => text.as_slice() == want.as_bytes(),
@@ -56,7 +56,7 @@ enum Way {
     Down,
 }
 
-/// A row is the text of bits, and what is written of the PDU that is read of them, or the fault.
+/// Whether a row is right: the text of bits, and the text of the PDU that is read of them once it is written again, or the fault.
 fn is_right(alloc: Global, way: Way, row: &str) -> bool {
     let Some((text, want)) = row.split_once(' ') else {
         return false;
@@ -67,7 +67,7 @@ fn is_right(alloc: Global, way: Way, row: &str) -> bool {
     }
 }
 
-/// The first row that is read otherwise.
+/// The first row that is wrong.
 fn first_wrong(alloc: Global, way: Way, rows: &'static str) -> Option<&'static str> {
     for row in rows.lines() {
         if !is_right(alloc, way, row) {
@@ -77,7 +77,7 @@ fn first_wrong(alloc: Global, way: Way, rows: &'static str) -> Option<&'static s
     None
 }
 
-/// The last of those that are written have an element 3, three elements with groups, and the report bit.
+/// Of the rows that are written again the last ones have an element 3, three elements with groups, and the report bit.
 const UP: &str = "5:10 5:10\n\
      31:1CEA0038 5:10\n\
      10:260 10:260\n\
@@ -114,9 +114,9 @@ fn uplink_is_read_and_written(rt: HostRuntime) {
     assert_eq!(rt; first_wrong(rt.alloc(), Way::Up, UP), None);
 }
 
-/// First accepts, rejects and acknowledgements. The bit that tells of a rejection is judged last, the bit behind it not at all.
-/// Bits may be missing inside the element and none behind it; there may be no element, an element 6 or 15 and a second one, an
-/// element of no bits, and half of a length.
+/// First accepts, rejects and acknowledgements. The bit that reports a rejection is judged last, and the bit after it is not
+/// judged. Among the faults are missing bits inside the element, no element, an element 6 or 15 and a second one, an element
+/// of no bits, and half of a length.
 const DOWN: &str = "8:56 8:56\n\
      14:7610 14:7610\n\
      14:7630 14:7630\n\
@@ -273,7 +273,7 @@ fn groups_have_their_values(rt: HostRuntime) -> Result<(), Fail> {
     Ok(())
 }
 
-/// Whether the type is accepted as itself, or not at all.
+/// Whether an update of this type is accepted with the same type, or never accepted.
 fn is_accepted_as_itself(number: u8) -> bool {
     let update = LocationUpdateType::from_number(number.min(7));
     let as_itself = match update.accept_type() {
@@ -328,7 +328,7 @@ fn a_short_address_is_of_the_radios_network(rt: HostRuntime) -> Result<(), Fail>
     Ok(())
 }
 
-/// Numbers from 0 on, until there is no room: how many there are, and why there is none more.
+/// How many numbers are pushed until one is refused, and why it is.
 fn filled<A: Allocator>(alloc: A) -> (usize, Option<MmFault>) {
     let mut items = GroupItems::new(alloc);
     for number in 0..40u64 {
@@ -367,7 +367,7 @@ fn longest_up(alloc: Global) -> Result<Bits<Global>, MmFault> {
     write_up(alloc, &MmUp::Groups { mode, items })
 }
 
-/// Its acknowledgement.
+/// The acknowledgement of that demand.
 fn longest_down(alloc: Global) -> Result<Bits<Global>, MmFault> {
     let mut items = GroupItems::new(alloc);
     for group in 0..32 {
@@ -381,7 +381,7 @@ fn longest_down(alloc: Global) -> Result<Bits<Global>, MmFault> {
     write_down(alloc, &MmDown::Acknowledge { items })
 }
 
-/// Why the bits can't be read and written again in this heap.
+/// The fault of reading the bits and writing them again in this heap.
 fn fault_up(heap: &LocalHeap, bits: &Bits<Global>) -> Option<MmFault> {
     match read_up(heap, bits) {
         Ok(pdu) => write_up(heap, &pdu).err(),
@@ -396,7 +396,7 @@ fn fault_down(heap: &LocalHeap, bits: &Bits<Global>) -> Option<MmFault> {
     }
 }
 
-/// How often there was no fault, and how often a want of memory.
+/// How often there was no fault, how often out of memory, and how often another fault.
 #[derive(Clone, Copy)]
 struct Faults {
     none: u32,

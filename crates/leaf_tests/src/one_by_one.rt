@@ -1,4 +1,4 @@
-//! From each rule and each radio to the next, without memory.
+//! From each rule and each radio to the next, without taking memory.
 
 use identity::{Itsi, Prefix};
 use mm_pdus::{Lifetime, LocationUpdateType};
@@ -28,7 +28,7 @@ const RULES: [(u32, u32); 4] = [(2001, 48), (0, 24), (0, 0), (2000, 47)];
 
 const RULES_IN_ORDER: [(u32, u32); 4] = [(0, 0), (0, 24), (2000, 47), (2001, 48)];
 
-// A prefix under which no rule stands, and that of the rule after it.
+// A prefix without a rule, and the prefix of the rule after it.
 const BESIDE_RULES: [(u32, u32, u32, u32); 3] = [
     (0, 1, 0, 24),
     (0, 48, 2000, 47),
@@ -39,7 +39,7 @@ const RADIOS: [u32; 3] = [2002, 7, 2001];
 
 const RADIOS_IN_ORDER: [u32; 3] = [7, 2001, 2002];
 
-// Sets the rules and the radios, in another order than theirs: each rule keeps as many seconds as its prefix has
+// Sets the rules and the radios, in another order than theirs. Each rule keeps messages for as many seconds as its prefix has
 // bits, and each radio comes by the station of its number.
 fn fill(registry: &mut Registry<Global>) -> Result<(), Fail> {
     for (ssi, len) in RULES {
@@ -56,7 +56,7 @@ fn fill(registry: &mut Registry<Global>) -> Result<(), Fail> {
     Ok(())
 }
 
-// Whether the rule after this prefix is the one under these bits.
+// Whether the rule after this prefix, or the first of all, is the one under the wanted prefix.
 fn is_next_rule(registry: &Registry<Global>, after: Option<Prefix>, want: Option<Prefix>) -> bool {
     match (registry.next_rule(after), want) {
         (Some((prefix, rule)), Some(want)) => prefix.same(&want) && rule.keep() == want.len(),
@@ -65,7 +65,7 @@ fn is_next_rule(registry: &Registry<Global>, after: Option<Prefix>, want: Option
     }
 }
 
-// Whether the rules come one after the other, and then none; and each after what is no rule's prefix.
+// Whether the rules come one after another, and then none, and one comes after each prefix without a rule.
 fn rules_follow(registry: &Registry<Global>) -> Result<bool, Fail> {
     let (mut after, mut right) = (None, true);
     for (ssi, len) in RULES_IN_ORDER {
@@ -80,7 +80,7 @@ fn rules_follow(registry: &Registry<Global>) -> Result<bool, Fail> {
     Ok(right && is_next_rule(registry, after, None))
 }
 
-// The number of the radio after this one, as its identity and its station tell it; 0 where there is none.
+// The number of the radio after this one, by its identity and by its station; 0 where there is none.
 fn next_ssi(registry: &Registry<Global>, after: Option<Itsi>) -> (u32, u32) {
     match registry.next_radio(after) {
         Some((itsi, radio)) => (itsi.ssi(), u32::from(radio.station.number())),
@@ -88,7 +88,7 @@ fn next_ssi(registry: &Registry<Global>, after: Option<Itsi>) -> (u32, u32) {
     }
 }
 
-// Whether the radios come one after the other, and then none; and one after a radio that never came.
+// Whether the radios come one after another, and then none, and one comes after a radio that never came.
 fn radios_follow(registry: &Registry<Global>) -> Result<bool, Fail> {
     let (mut after, mut right) = (None, true);
     for ssi in RADIOS_IN_ORDER {

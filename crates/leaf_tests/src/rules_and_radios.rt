@@ -1,4 +1,5 @@
-//! A registry in small heaps, and the values in it. What its calls answer is shown by the program's rows, in tests/rows.
+//! A registry in small heaps, and the values in it. What its calls answer is tested by the program's rows, in
+//! tests/program/rows.
 
 use identity::{Itsi, Prefix};
 use linked_list_allocator::LocalHeap;
@@ -91,7 +92,7 @@ fn a_station_has_any_number(rt: HostRuntime) {
     assert!(rt; Station::new(1) == Station::new(1) && Station::new(1) != Station::new(2));
 }
 
-/// All rules and radios: the bits of each prefix, or identity, with two numbers of what stands there.
+/// All rules and radios: the bits of each prefix, or identity, with two numbers of what is there.
 fn listed(alloc: Global, registry: &Registry<&LocalHeap>) -> Result<Vec<(u64, u32, u32)>, Fail> {
     let mut list = Vec::new(alloc);
     for (prefix, rule) in registry.rules(alloc)? {
@@ -116,7 +117,7 @@ fn left(area: LocationArea) -> Radio {
     }
 }
 
-/// How many calls there are: three rules, and more radios than one node of their map holds.
+/// How many calls there are: of three rules, and of more radios than one node of their map holds.
 const CALLS: u32 = 19;
 
 /// The call of this turn: rules under 0, 3 and 9 bits, then radios, of which the first attaches.
@@ -136,15 +137,15 @@ fn called(
     }
 }
 
-/// How many calls a heap takes, and then a copy and the lists. `unchanged`: the first that it refused left it and the
-/// registry as they were.
+/// How many calls have memory in a heap, a copy and the lists among them as the last. `unchanged`: the first refused call
+/// left the heap and the registry as they were.
 #[derive(Clone, Copy)]
 struct Taken {
     calls: u32,
     unchanged: bool,
 }
 
-/// Whether the turn finds memory; where it does not, whether it left all as it was.
+/// Nothing where the call of this turn has memory; else whether it left all as it was.
 fn turn(
     alloc: Global,
     heap: &LocalHeap,
@@ -189,8 +190,8 @@ fn calls_taken(alloc: Global, size: usize) -> Result<Taken, Fail> {
     calls_until_refused(alloc, &heap, &mut registry)
 }
 
-/// How many calls the largest of these heaps takes, and at how many numbers of calls heaps are full: none of these takes
-/// fewer than the one before.
+/// How many calls have memory in the largest of these heaps, and how often a larger heap has memory for more calls. In no
+/// heap there may be fewer than in the one before.
 fn most_calls(alloc: Global) -> Result<Option<(u32, u32)>, Fail> {
     let (mut last, mut ends) = (0u32, 0u32);
     for size in 2..256usize {
@@ -204,8 +205,8 @@ fn most_calls(alloc: Global) -> Result<Option<(u32, u32)>, Fail> {
     Ok(Some((last, ends)))
 }
 
-// Each rule wants a node, and so does the first radio; fourteen more lie beside it, the next wants two nodes at once, and
-// then the copy and the lists want theirs.
+// Each rule takes a node, and so does the first radio. Fourteen more radios are in that node; the next one takes two nodes
+// at once, and then the copy and the lists take theirs.
 #[test]
 fn each_growth_is_refused_in_turn(rt: HostRuntime) -> Result<(), Fail> {
     assert!(rt; most_calls(rt.alloc())? == Some((20, 6)));
@@ -221,7 +222,7 @@ fn with_radio(alloc: Global, here: Itsi, rule: Rule) -> Result<Registry<Global>,
     Ok(registry)
 }
 
-/// Whether the radio is present in a copy, and in the registry that it then leaves.
+/// Whether the radio is present in a copy, and in the registry from which it then detaches.
 fn is_present_apart(registry: &mut Registry<Global>, here: Itsi) -> [bool; 2] {
     let Ok(copy) = registry.try_copy() else {
         return [false; 2];
@@ -242,7 +243,7 @@ fn a_copy_is_apart(rt: HostRuntime) -> Result<(), Fail> {
     Ok(())
 }
 
-/// Where a radio is that was restored under no rule, and what a second one is told where one may be known.
+/// Where a radio is that was restored without a rule, and what restoring a second one answers where only one may be known.
 fn restored(
     alloc: Global,
     here: Itsi,
@@ -257,19 +258,19 @@ fn restored(
     };
     let mut registry = Registry::new(alloc, one)?;
     let _ = registry.restore(here, left(area));
-    let told = registry.restore(other, left(area));
-    Ok((registry.where_is(here), told))
+    let second = registry.restore(other, left(area));
+    Ok((registry.where_is(here), second))
 }
 
 #[test]
 fn a_radio_is_restored_where_it_was(rt: HostRuntime) -> Result<(), Fail> {
     let (here, other, area) = (radio(2001)?, radio(2000)?, area(77)?);
-    let (at, told) = restored(rt.alloc(), here, other, area)?;
-    assert!(rt; at == Some(left(area)) && told == Err(RegFault::Congestion));
+    let (at, second) = restored(rt.alloc(), here, other, area)?;
+    assert!(rt; at == Some(left(area)) && second == Err(RegFault::Congestion));
     Ok(())
 }
 
-/// Whether a radio that comes and is forgotten leaves the registry and the heap as they were, rule and other radio too.
+/// Whether a radio that comes and is forgotten leaves the registry and the heap as they were, with the rule and the other radio.
 fn is_forgotten(heap: &LocalHeap, here: Itsi, other: Itsi, rule: Rule) -> Result<bool, AllocError> {
     let mut registry = Registry::new(heap, limits())?;
     let _ = registry.set_rule(here.path(), rule);
@@ -277,11 +278,11 @@ fn is_forgotten(heap: &LocalHeap, here: Itsi, other: Itsi, rule: Rule) -> Result
     let used = heap.used();
     let _ = registry.restore(here, left(rule.low()));
     let counted = (registry.rule_count(), registry.radio_count()) == (1, 2);
-    let told = [registry.forget(here), registry.forget(here)] == [true, false];
+    let forgotten = [registry.forget(here), registry.forget(here)] == [true, false];
     let is_as_before = registry.radio_count() == 1
         && registry.where_is(here).is_none()
         && registry.where_is(other) == Some(left(rule.low()));
-    Ok(counted && told && is_as_before && heap.used() == used)
+    Ok(counted && forgotten && is_as_before && heap.used() == used)
 }
 
 #[test]

@@ -64,7 +64,7 @@ impl Disk for DeadDisk {
 /// A call of a disk, and what it answers.
 #[derive(Clone, Copy)]
 enum Call {
-    /// Reads a sector; the byte that all of it are.
+    /// Reads a sector whose bytes are all this one.
     Read(u64, Result<u8, DiskError>),
     /// Writes a sector whose bytes are all this one.
     Write(u64, u8, Result<(), DiskError>),
@@ -72,7 +72,7 @@ enum Call {
     Failures(u64),
 }
 
-/// What a read gives, where all bytes are alike; else 255.
+/// The byte that a read gives, where all are alike; else 255.
 fn byte_of<D: Disk>(disk: &mut D, at: u64) -> Result<u8, DiskError> {
     let mut bytes = [7; 512];
     disk.read(at, &mut bytes)?;
@@ -133,7 +133,7 @@ const BEFORE_THE_STOP: [Call; 6] = [
     Call::Read(3, Ok(13)),
 ];
 
-/// A settled sector, one of no disk, a pending one, and one that is named twice.
+/// A settled sector, one out of range, a pending one, and one that is named twice.
 const FILL: [(u64, [u8; 512]); 5] = [
     (0, [70; 512]),
     (5, [75; 512]),
@@ -150,7 +150,7 @@ const AFTER_THE_STOP: [Call; 5] = [
     Call::Read(4, Ok(84)),
 ];
 
-/// A disk that stopped, where all was answered before.
+/// A disk that stopped, if all calls before were answered as they must be.
 fn stopped(alloc: Global) -> Result<Option<MemoryDisk<Global>>, AllocError> {
     let mut disk = MemoryDisk::new(alloc, 5, 99)?;
     let before = are_answered(&mut disk, &BEFORE_THE_STOP) && are_pending(alloc, &disk, &[1, 3, 4]);
@@ -208,7 +208,7 @@ fn a_full_record_fails(rt: HostRuntime) -> Result<(), Fail> {
     Ok(())
 }
 
-/// Six calls, of which those fail that are named; calls out of range among them count for nothing.
+/// Whether of six calls exactly the wanted ones fail. Two calls out of range among them are not counted.
 fn are_failing<D: Disk>(disk: &mut D, want: [bool; 6]) -> bool {
     let mut bytes = [0; 512];
     let _ = disk.read(9, &mut bytes);
@@ -221,7 +221,7 @@ fn are_failing<D: Disk>(disk: &mut D, want: [bool; 6]) -> bool {
     [first, second, third, fourth, fifth, disk.sync().is_err()] == want
 }
 
-/// The call that fails, whether all later ones do, which of six do, and how many.
+/// The number of the call that fails, whether all later ones do, which of six do, and how many.
 const FAILING: [(u64, Failing, [bool; 6], u64); 16] = [
     (
         0,
@@ -306,7 +306,7 @@ const FAILING: [(u64, Failing, [bool; 6], u64); 16] = [
     ),
 ];
 
-/// Whether the calls fail that are named, and none within.
+/// Whether exactly the wanted calls fail, and none of the disk inside.
 fn is_failing(
     alloc: Global,
     call: u64,
@@ -330,7 +330,7 @@ fn the_call_of_the_number_fails(rt: HostRuntime) -> Result<(), Fail> {
     Ok(())
 }
 
-/// The second call fails within.
+/// Whether a failure of the disk inside is passed on: its second call fails.
 fn is_passed_on(alloc: Global) -> Result<bool, AllocError> {
     let inner = FailingDisk::new(MemoryDisk::new(alloc, 2, 5)?, 2, Failing::Once);
     let mut disk = FailingDisk::new(inner, 0, Failing::Once);
@@ -339,7 +339,7 @@ fn is_passed_on(alloc: Global) -> Result<bool, AllocError> {
 }
 
 #[test]
-fn a_failure_within_is_passed_on(rt: HostRuntime) -> Result<(), Fail> {
+fn a_failure_of_the_disk_inside_is_passed_on(rt: HostRuntime) -> Result<(), Fail> {
     assert!(rt; is_passed_on(rt.alloc())?);
     Ok(())
 }
@@ -351,8 +351,8 @@ fn are_bytes<D: Disk>(disk: &mut D, want: [u8; 3]) -> bool {
     byte_of(disk, 0) == Ok(first) && byte_of(disk, 1) == Ok(second) && byte_of(disk, 2) == Ok(third)
 }
 
-/// Whether three sectors hold these bytes after writing in order, a call of that number failing and all later ones, and a stop
-/// that leaves 9 in each pending sector.
+/// Whether three sectors hold these bytes after writing in order and a stop that leaves 9 in each pending sector. The call of
+/// that number fails, and all later ones.
 fn is_in_order(alloc: Global, call: u64, want: [u8; 3]) -> Result<bool, AllocError> {
     let mut disk = FailingDisk::new(MemoryDisk::new(alloc, 3, 20)?, call, Failing::Always);
     let written = write_in_order(&mut disk, &[1; 512], &[2; 512], &[3; 512]).is_ok();
@@ -378,7 +378,7 @@ fn a_stop_leaves_the_order(rt: HostRuntime) -> Result<(), Fail> {
 
 const DEAD: [Call; 2] = [Call::Sync(Err(FAULT)), Call::Failures(u64::MAX)];
 
-/// Its failures are the most that can be counted.
+/// Failures are counted up to the greatest number.
 const STILL_DEAD: [Call; 2] = [Call::Read(4, Err(OUT)), Call::Failures(u64::MAX)];
 
 fn is_dead<D: Disk>(disk: &mut D) -> bool {

@@ -89,7 +89,7 @@ fn each_kind_is_read(rt: HostRuntime) -> Result<(), Fail> {
     Ok(())
 }
 
-/// Whether both readers find this head.
+/// Whether both readers read this head.
 fn has_head(alloc: Global, text: &str, expected: &Head) -> Result<bool, Fail> {
     let bits = parse_bits(alloc, text.as_bytes())?;
     Ok(head(&bits)? == *expected && read(alloc, &bits)?.head() == *expected)
@@ -102,7 +102,7 @@ fn message(request: DeliveryReportRequest) -> Head {
     }
 }
 
-/// Of messages that ask for two kinds of report, and of a report.
+/// Whether the heads of two messages, which ask for different reports, and of a report are read.
 fn have_heads(alloc: Global) -> Result<bool, Fail> {
     let received = message(DeliveryReportRequest::Received);
     let both = message(DeliveryReportRequest::Both);
@@ -124,13 +124,13 @@ fn heads_are_read(rt: HostRuntime) -> Result<(), Fail> {
     Ok(())
 }
 
-/// Whether this is written of what is read of the bits.
+/// Whether the bits, read and written again, have this text.
 fn is_written_again(alloc: Global, bits: &Bits, expected: &str) -> Result<bool, Fail> {
     let sds = read(alloc, bits)?;
     shows(alloc, &write(alloc, &sds)?, expected)
 }
 
-/// Whether this is written of what is read of the text, and is its form with reserved bits 0.
+/// Whether the bits of this text, read and written again, have that text, which is the same with reserved bits 0.
 fn is_written(alloc: Global, text: &str, expected: &str) -> Result<bool, Fail> {
     let bits = parse_bits(alloc, text.as_bytes())?;
     Ok(
@@ -150,7 +150,7 @@ const WRITTEN: [(&str, &str); 7] = [
     ("32:822F0205", "32:82200205"),
 ];
 
-/// The first text that is written otherwise.
+/// The first text that is not written again as it must be.
 fn first_wrong(alloc: Global) -> Result<Option<&'static str>, Fail> {
     for (text, expected) in WRITTEN {
         if !is_written(alloc, text, expected)? {
@@ -194,13 +194,13 @@ fn first_without_fault(alloc: Global) -> Result<Option<&'static str>, Fail> {
 }
 
 #[test]
-fn faults_are_told(rt: HostRuntime) -> Result<(), Fail> {
+fn faults_are_reported(rt: HostRuntime) -> Result<(), Fail> {
     assert_eq!(rt; first_without_fault(rt.alloc())?, None);
     assert!(rt; ProtocolIdentifier::new(127).is_none());
     Ok(())
 }
 
-/// Whether a message with these zeros is read and written, or is too long for both.
+/// Whether a message with so many zeros is too long to be read; nothing where it is read or written wrong.
 fn is_too_long(alloc: Global, zeros: u32) -> Result<Option<bool>, Fail> {
     let bits = long_message(alloc, zeros)?;
     match read(alloc, &bits) {
@@ -209,7 +209,7 @@ fn is_too_long(alloc: Global, zeros: u32) -> Result<Option<bool>, Fail> {
     }
 }
 
-/// Why a message with so many bits as its user data can't be written.
+/// Why a message with this user data can't be written.
 fn fault_of_writing(alloc: Global, user_data: Bits) -> Result<Option<SdsFault>, Fail> {
     let message = Sds::Transfer {
         identifier: ProtocolIdentifier::new(130).ok_or("an identifier")?,
@@ -241,7 +241,7 @@ fn has_transfer_fault(alloc: Global, text: &str, fault: SdsFault) -> Result<bool
     Ok(transfer_reference(&bits) == Err(fault) && read_transfer(alloc, &bits).err() == Some(fault))
 }
 
-/// Whether both readers find the message of this reference.
+/// Whether both readers read a message of this reference.
 fn is_transfer(alloc: Global, text: &str, reference: u8) -> Result<bool, Fail> {
     let bits = parse_bits(alloc, text.as_bytes())?;
     let sds = read_transfer(alloc, &bits)?;

@@ -13,17 +13,17 @@ use std::thread::{Threads, for_each_mut, join_mut};
 
 /// What each session does in its thread. It is the gate of the rounds too.
 pub trait Task<J: Centre>: Gate {
-    /// It is called before each round, in the thread of the flusher.
+    /// Called before each round, in the thread of the flusher.
     fn before_round(&self);
 
-    /// Does it.
+    /// Does it, in the thread of this session.
     fn act<R: Wait>(&self, rt: &R, session: &mut Session<J>);
 }
 
-// More than there are sessions: no more rounds are made.
+// More than there are sessions. It is added to how many are left once no more rounds are made.
 const OVER: u64 = 1_000;
 
-// Acts, where rounds are still made. One session less is left then.
+// Acts, if rounds are still made. Then one session less is left.
 fn act<J: Centre, R: Wait, T: Task<J>>(
     rt: &R,
     task: &T,
@@ -36,8 +36,8 @@ fn act<J: Centre, R: Wait, T: Task<J>>(
     left.fetch_sub(1, Ordering::SeqCst);
 }
 
-// Each session acts in a thread of its own. Where no thread can be made it would wait for the flusher, so it does not act
-// once the rounds are over.
+// Each session acts in a thread of its own. If none can be made for it, it comes to act when the rounds are over; since it would
+// then wait for the flusher, it does not act.
 fn act_all<J: Centre + Send + Sync, R: Threads + Wait + Sync, T: Task<J> + Sync>(
     rt: &R,
     sessions: &mut Vec<Session<J>>,
@@ -56,7 +56,7 @@ fn act_all<J: Centre + Send + Sync, R: Threads + Wait + Sync, T: Task<J> + Sync>
     );
 }
 
-// A gate that also counts what is taken.
+// A gate that also counts the commands taken.
 #[derive(Drop)]
 struct Watched<'a, G: Gate> {
     gate: &'a G,
@@ -88,7 +88,7 @@ fn is_taken<J: Centre, R: Wait, G: Gate>(
     taken.load(Ordering::SeqCst) > 0
 }
 
-// Makes rounds until no session is left. False if nothing was taken for many rounds.
+// Makes rounds until no session is left. False if no command was taken for many rounds.
 fn serve<J: Centre, R: Wait, T: Task<J>>(
     rt: &R,
     flusher: &mut Flusher<J, WatchedDisk>,
@@ -114,7 +114,7 @@ fn serve<J: Centre, R: Wait, T: Task<J>>(
     left.fetch_add(OVER, Ordering::SeqCst) == 0
 }
 
-// Makes rounds while each session acts in a thread of its own. So many sessions are left.
+// Makes rounds while each session acts in a thread of its own. `left` is how many have still to act.
 fn serve_all<J: Centre + Send + Sync, R: Threads + Wait + Sync, T: Task<J> + Sync>(
     rt: &R,
     flusher: &mut Flusher<J, WatchedDisk>,
@@ -136,7 +136,7 @@ fn serve_all<J: Centre + Send + Sync, R: Threads + Wait + Sync, T: Task<J> + Syn
     served
 }
 
-/// Makes rounds while each session acts in a thread of its own. False if nothing was taken for many rounds before all had
+/// Makes rounds while each session acts in a thread of its own. False if no command was taken for many rounds before all had
 /// acted.
 pub fn serve_beside<J: Centre + Send + Sync, R: Threads + Wait + Sync, T: Task<J> + Sync>(
     rt: &R,

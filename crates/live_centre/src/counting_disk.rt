@@ -1,7 +1,7 @@
 use sector_disk::{Disk, DiskError, Failing, FailingDisk, MemoryDisk};
 use std::alloc::Global;
 
-/// A disk that counts the calls that the disk within has answered.
+/// A disk that counts the writes and syncs that the disk within has done.
 #[derive(Drop)]
 pub struct CountingDisk<D: Disk> {
     inner: D,
@@ -12,7 +12,7 @@ pub struct CountingDisk<D: Disk> {
 /// A disk in memory that may fail a call, and counts its writes and syncs.
 pub type WatchedDisk = CountingDisk<FailingDisk<MemoryDisk<Global>>>;
 
-/// That disk over a disk in memory: it fails the call of that number, or all from it on; none with 0 and `Once`.
+/// Such a disk over a disk in memory. It fails the call of this number, or all from it on; with 0 and `Once` it fails none.
 pub fn watched(disk: MemoryDisk<Global>, call: u64, failing: Failing) -> WatchedDisk {
     CountingDisk::new(FailingDisk::new(disk, call, failing))
 }

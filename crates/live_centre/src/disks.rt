@@ -9,8 +9,8 @@ use registration::{Limits, Station};
 use sector_disk::{Failing, MemoryDisk};
 use std::alloc::Global;
 
-/// A disk ready for an empty register with room for 16 rules, 16 radios, 256 items and so many stations, with so many
-/// sectors in each half of its journal, and room for a record of so many calls.
+/// A disk ready for an empty register with room for 16 rules, 16 radios, 256 items and this many stations. Each half of its
+/// journal has `journal` sectors, and there is room to record `calls` calls.
 pub fn worked_disk(
     alloc: Global,
     stations: u32,
@@ -48,7 +48,7 @@ pub fn with_rule(alloc: Global, disk: MemoryDisk<Global>) -> Option<MemoryDisk<G
     if done { Some(disk) } else { None }
 }
 
-/// What a disk of which no call fails opens to.
+/// The store that this disk opens to. No call of the disk fails.
 pub fn opened(alloc: Global, disk: MemoryDisk<Global>) -> Option<Store<Global, WatchedDisk>>
     ensures sound { IfSome result (λ store. store.broken ≡ false) }
 {

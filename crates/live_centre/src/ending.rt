@@ -9,14 +9,14 @@ use snapshots::Centre;
 use std::alloc::Global;
 use std::sync::Wait;
 
-// Each session finishes. More than 64 of them would wait for the flusher.
+// Finishes each session. More than 64 of them would wait for the flusher.
 fn finish_all<J: Centre, R: Wait>(rt: &R, sessions: Vec<Session<J>>) {
     for session in sessions {
         drop(session.finish(rt));
     }
 }
 
-/// Each of at most 64 sessions finishes, and the flusher takes their ends. Then it is given up, and the store comes back.
+/// Finishes at most 64 sessions, and lets the flusher take their ends. Then it abandons the flusher, and returns the store.
 pub fn end_all<J: Centre, R: Wait>(
     rt: &R,
     flusher: Flusher<J, WatchedDisk>,

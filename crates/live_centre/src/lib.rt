@@ -1,4 +1,5 @@
 //! Stores on disks in memory, and sessions in threads of their own beside a flusher, for tests and benchmarks of the flusher.
+//! It starts threads, and opens no file.
 #![tactic(auto)]
 
 mod beside;

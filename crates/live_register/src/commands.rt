@@ -8,7 +8,7 @@ use std::alloc::Global;
 // Mobile country code 234, network 14.
 const NETWORK: u64 = 0x3a80_0e00_0000;
 
-/// Room for so many radios, one rule, one item and 64 stations.
+/// Room for this many radios, one rule, one item and 64 stations.
 pub fn limits(radios: u32) -> Option<Limits> {
     Limits::new(1, radios, 1, 64)
 }
@@ -40,8 +40,8 @@ fn attach(alloc: Global, number: u32) -> Option<Body<Global>> {
     Some(Body::Mm { itsi, area, pdu })
 }
 
-/// The command of this number, from 1, all of station 1: the first sets a rule for all radios, and each later one attaches
-/// this radio.
+/// The command with this number, from 1 on, of station 1. The first sets a rule for all radios, each later one attaches this
+/// radio.
 pub fn command_for(alloc: Global, number: u32, radio: u32) -> Option<Command<Global>> {
     let sequence = Sequence::new(number)?;
     let body = if number == 1 {
@@ -52,7 +52,7 @@ pub fn command_for(alloc: Global, number: u32, radio: u32) -> Option<Command<Glo
     Command::new(Station::new(1), sequence, Moment::new(0), body)
 }
 
-/// The same, where each later one attaches the radio of its own number. After so many of them the radios 2 to that number
+/// The same, but each later command attaches the radio of its own number. After `number` commands the radios 2 to `number`
 /// are present.
 pub fn command(alloc: Global, number: u32) -> Option<Command<Global>> {
     command_for(alloc, number, number)

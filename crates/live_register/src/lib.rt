@@ -1,4 +1,5 @@
-//! A register that publishes the commands that it accepts, for tests and benchmarks of its viewers.
+//! A register that publishes the commands that it accepts, for tests and benchmarks of its viewers. It waits for viewers
+//! when it publishes, and starts no thread.
 #![tactic(auto)]
 
 mod commands;

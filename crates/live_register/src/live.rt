@@ -10,13 +10,13 @@ use std::alloc::{AllocError, Global};
 use std::marker::Model;
 use std::sync::{Arc, Wait};
 
-/// A register that judges commands, and the publisher of those that it accepted. Contracts see the publisher. It is not
-/// `Drop`: end it by `close`.
+/// A register that judges commands, and the publisher of those that it accepted. Contracts model it as the publisher. It is
+/// not `Drop`: end it by `close`.
 pub struct LiveRegister<J: Centre> {
     publisher: Publisher<J>,
     register: Register<Global>,
     alloc: Global,
-    // A command was applied that the publisher doesn't have. From then on none is taken.
+    // A command was applied that the publisher does not have. From then on none is applied.
     ahead: bool,
 }
 
@@ -54,7 +54,7 @@ pub fn make_live<J: Centre, R: Wait>(
     Ok((live, viewers))
 }
 
-// Applies the command; whether it was accepted. `None` without memory for it.
+// Applies the command; whether it was accepted. `None` if memory ran out, and then nothing has changed.
 fn judge(register: &mut Register<Global>, alloc: Global, command: &Command<Global>) -> Option<bool>
     ensures accepted { MatchOption result (register.new ≡ register.old)
         (λ r. (r ≡ accepts register.old command.now) × (register.new ≡ next register.old command.now)) }
@@ -66,8 +66,8 @@ fn judge(register: &mut Register<Global>, alloc: Global, command: &Command<Globa
     }
 }
 
-// Applies the command, and appends it if it is accepted: whether both were done. `None` without memory to apply it, and
-// then nothing has changed.
+// Applies the command, and appends it if it is accepted; whether both were done. `None` if memory ran out before it was
+// applied, and then nothing has changed.
 fn applied<J: Centre>(
     publisher: &mut Publisher<J>,
     register: &mut Register<Global>,
@@ -99,8 +99,8 @@ fn appended<J: Centre>(publisher: &mut Publisher<J>, command: Arc<Command<Global
 }
 
 impl<J: Centre> LiveRegister<J> {
-    /// Applies the command, and appends it if it is accepted; whether both were done. Without memory to apply it nothing
-    /// has changed. After a command that is not accepted, or not appended, no further one is taken.
+    /// Applies the command, and appends it if it is accepted; whether both were done. If memory runs out before it is
+    /// applied, nothing has changed. After a command that is not accepted, or not appended, no further one is applied.
     pub fn apply(&mut self, command: Arc<Command<Global>, Global>) -> bool {
         if self.ahead {
             return false;
@@ -115,12 +115,12 @@ impl<J: Centre> LiveRegister<J> {
         }
     }
 
-    /// Publishes what was accepted. Without memory what is published stays.
+    /// Publishes what was accepted. If memory runs out, what is published stays.
     pub fn publish<R: Wait>(&mut self, rt: &R) -> Result<(), AllocError> {
         self.publisher.publish(rt)
     }
 
-    /// What it publishes with.
+    /// Its publisher.
     pub fn publisher(&self) -> &Publisher<J> {
         &self.publisher
     }

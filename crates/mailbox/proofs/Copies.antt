@@ -37,14 +37,14 @@ itself_equal x Less h = absurd (omega (arith, h))
 itself_equal x Equal h = refl
 itself_equal x Greater h = absurd (omega (arith, h))
 
-abbrev behind : Item → List ℕ
-behind w = w.key.source ∷ w.key.reference ∷ kind_number w.key.kind ∷ []
+abbrev rest_of_place : Item → List ℕ
+rest_of_place w = w.key.source ∷ w.key.reference ∷ kind_number w.key.kind ∷ []
 
 -- and the one for the smaller member comes before
 pub before_other : (w : Item) (a b : ℕ) → a < b → IsBefore (addressed w a) (addressed w b)
 before_other w a b below =
-    ap (λ order. ordering_then order (slice_cmp nat_cmp (a ∷ behind w) (b ∷ behind w))) (itself_equal w.number (nat_cmp w.number w.number) (ranks w.number w.number))
-    ∙ ap (λ order. ordering_then order (slice_cmp nat_cmp (behind w) (behind w))) (first_less a b (nat_cmp a b) (ranks a b) below)
+    ap (λ order. ordering_then order (slice_cmp nat_cmp (a ∷ rest_of_place w) (b ∷ rest_of_place w))) (itself_equal w.number (nat_cmp w.number w.number) (ranks w.number w.number))
+    ∙ ap (λ order. ordering_then order (slice_cmp nat_cmp (rest_of_place w) (rest_of_place w))) (first_less a b (nat_cmp a b) (ranks a b) below)
 
 -- those before an element of a rising list are below it
 below_next : (members : List ℕ) (i d : ℕ) → AllPairs (λ a b. a < b) members → i < length members → All (λ a. a < get_or members i d) (take i members)

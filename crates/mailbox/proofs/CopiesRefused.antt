@@ -1,4 +1,4 @@
--- Why copies are refused, told by their members.
+-- Why copies are refused, judged member by member.
 use Rattle.std.proofs.Common.{◌≡◌, ℕ, ◌+◌, ◌<◌, Bool, true, false, cond, List, [], ◌∷◌, ◌++◌, length, get_or, map, refl, ap, sym, ◌∙◌, arith, length-append}
 use Rattle.std.specs.Prelude.{◌==◌, ◌&&◌, ◌||◌, nat_le, nat_lt, count_by}
 use Rattle.std.specs.List.{All, AllPairs, filter, list_any}
@@ -83,11 +83,11 @@ module _ (s : Registered) (e : GroupEnvelope) (stamp : Stamp) (pdu : List Bool) 
       above_one n more is = grind (arith, nat_tests)
 
   -- what is asked of the copies is asked of the members
-  pub told_by_members : (m : Mailed) (members : List ℕ) → AllPairs (λ a b. a < b) members
+  pub judged_by_members : (m : Mailed) (members : List ℕ) → AllPairs (λ a b. a < b) members
       → first_of_copies (count_by (is_receiver s e.source) members == 0) (list_any (λ d. is_receiver s e.source d && holds m (copy_key e d)) members)
       (list_any (λ d. is_receiver s e.source d && nat_le most_for_one (count_by (is_to d) m.items)) members) (nat_lt m.room (length m.items + count_by (is_receiver s e.source) members))
       ≡ copies_refusal m (copies s e members stamp pdu)
-  told_by_members m members rising =
+  judged_by_members m members rising =
       let r : ℕ → Bool = is_receiver s e.source in
       let xs : List ℕ = filter r members in
       let ws : List Item = map copy xs in

@@ -26,21 +26,21 @@ others (p ∷ ps) = ps
 
 -- items whose places end in a place end in its item
 record EndsIn (ws : List Item) (left : List Place) (last : Place) : Type 0 where
-  front : List Item
+  prefix : List Item
   item : Item
-  is : ws ≡ front ++ item ∷ []
-  placed : map place_of front ≡ left
+  is : ws ≡ prefix ++ item ∷ []
+  placed : map place_of prefix ≡ left
   at : place_of item ≡ last
 
 ends_in : (ws : List Item) (left : List Place) (last : Place) → map place_of ws ≡ left ++ last ∷ [] → EndsIn ws left last
 unfolding first_or others
 ends_in [] [] last e = absurd cc
 ends_in [] (l ∷ left) last e = absurd cc
-ends_in (w ∷ []) [] last e = record { front = []; item = w; is = refl; placed = refl; at = ap (first_or last) e }
+ends_in (w ∷ []) [] last e = record { prefix = []; item = w; is = refl; placed = refl; at = ap (first_or last) e }
 ends_in (w ∷ (v ∷ ws)) [] last e = let none : place_of v ∷ map place_of ws ≡ [] = ap others e in absurd cc
 ends_in (w ∷ ws) (l ∷ left) last e =
     let rest : EndsIn ws left last = ends_in ws left last (ap others e) in
-    record { front = w ∷ rest.front; item = rest.item; is = ap (λ os. w ∷ os) rest.is; placed = λ i. first_or l (e i) ∷ rest.placed i; at = rest.at }
+    record { prefix = w ∷ rest.prefix; item = rest.item; is = ap (λ os. w ∷ os) rest.is; placed = λ i. first_or l (e i) ∷ rest.placed i; at = rest.at }
 
 at_end : (P : Item → Type 0) (xs : List Item) (x : Item) → All P (xs ++ x ∷ []) → P x
 at_end P [] x h = All-head P x [] h
@@ -54,8 +54,8 @@ last_goes (y ∷ xs) x apart =
     let rest : filter (λ w. not (is_at x.key w)) (xs ++ x ∷ []) ≡ xs = last_goes xs x (pairs_tail (λ a b. same_key b.key a.key ≡ false) y (xs ++ x ∷ []) apart) in
     λ i. cond (not (first i)) (y ∷ rest i) (rest i)
 
-front_of : (ws xs : List Item) (x : Item) → ws ≡ xs ++ x ∷ [] → take (length ws - 1) ws ≡ xs
-front_of ws xs x is =
+prefix_of : (ws xs : List Item) (x : Item) → ws ≡ xs ++ x ∷ [] → take (length ws - 1) ws ≡ xs
+prefix_of ws xs x is =
     let shorter : length ws - 1 ≡ length xs = omega (arith, ap length is, length-append xs (x ∷ [])) in
     ap (λ n. take n ws) shorter ∙ ap (take (length xs)) is ∙ take-append_seam xs (x ∷ [])
 
@@ -65,11 +65,11 @@ filed_dropped ws boxes new order left last filed ended swept_so =
     let end : EndsIn ws left last = ends_in ws left last (sym filed.indexed ∙ ended) in
     let k : Key = end.item.key in
     let same : last.key ≡ k = ap (λ p. p.key) (sym end.at) in
-    let gone : filter (λ w. not (is_at k w)) ws ≡ end.front =
-    ap (filter (λ w. not (is_at k w))) end.is ∙ last_goes end.front end.item (subst (AllPairs (λ a b. same_key b.key a.key ≡ false)) end.is filed.apart) in
+    let gone : filter (λ w. not (is_at k w)) ws ≡ end.prefix =
+    ap (filter (λ w. not (is_at k w))) end.is ∙ last_goes end.prefix end.item (subst (AllPairs (λ a b. same_key b.key a.key ≡ false)) end.is filed.apart) in
     let places : filter (λ place. not (same_key k place.key)) order ≡ left =
     ap (filter (λ place. not (same_key k place.key))) filed.indexed ∙ filter_mapped place_of (λ place. not (same_key k place.key)) ws ∙ ap (map place_of) gone ∙ end.placed in
-    subst (λ os. AreFiled os new left) (gone ∙ sym (front_of ws end.front end.item end.is))
+    subst (λ os. AreFiled os new left) (gone ∙ sym (prefix_of ws end.prefix end.item end.is))
     (filed_removed ws boxes new order left k filed (swept_so ∙ ap (λ j. swept boxes (id_path j.destination) (is_at j)) same) (sym places))
 
 -- to take fewer of those taken

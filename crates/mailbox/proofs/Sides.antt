@@ -54,9 +54,9 @@ module _ {X : Type 0} where
   pairs_back R [] ys h = h
   pairs_back R (x ∷ xs) ys h = pairs_back R xs ys (pairs_tail R x (xs ++ ys) h)
 
-  all_front : (P : X → Type 0) (xs ys : List X) → All P (xs ++ ys) → All P xs
-  all_front P [] ys h = All-nil P
-  all_front P (x ∷ xs) ys h = All-cons P x xs (All-head P x (xs ++ ys) h) (all_front P xs ys (All-tail P x (xs ++ ys) h))
+  all_prefix : (P : X → Type 0) (xs ys : List X) → All P (xs ++ ys) → All P xs
+  all_prefix P [] ys h = All-nil P
+  all_prefix P (x ∷ xs) ys h = All-cons P x xs (All-head P x (xs ++ ys) h) (all_prefix P xs ys (All-tail P x (xs ++ ys) h))
 
   pairs_cons : (R : X → X → Type 0) (x : X) (xs : List X) → All (R x) xs → AllPairs R xs → AllPairs R (x ∷ xs)
   pairs_cons R x xs first rest zero zero d less below = absurd (omega (arith, less))
@@ -64,9 +64,9 @@ module _ {X : Type 0} where
   pairs_cons R x xs first rest (suc i) zero d less below = absurd (omega (arith, less))
   pairs_cons R x xs first rest (suc i) (suc j) d less below = rest i j d (omega (arith, less)) (omega (arith, below))
 
-  pairs_front : (R : X → X → Type 0) (xs ys : List X) → AllPairs R (xs ++ ys) → AllPairs R xs
-  pairs_front R [] ys h = λ i j d less below. absurd (omega (arith, below))
-  pairs_front R (x ∷ xs) ys h = pairs_cons R x xs (all_front (R x) xs ys (pairs_head R x (xs ++ ys) h)) (pairs_front R xs ys (pairs_tail R x (xs ++ ys) h))
+  pairs_prefix : (R : X → X → Type 0) (xs ys : List X) → AllPairs R (xs ++ ys) → AllPairs R xs
+  pairs_prefix R [] ys h = λ i j d less below. absurd (omega (arith, below))
+  pairs_prefix R (x ∷ xs) ys h = pairs_cons R x xs (all_prefix (R x) xs ys (pairs_head R x (xs ++ ys) h)) (pairs_prefix R xs ys (pairs_tail R x (xs ++ ys) h))
 
 -- a node with one place more at its end
 pub all_with : {A : Type 0} (p q : Place) (e l m : Option (Box Branch A)) → places_of m ≡ places_of l ++ q ∷ [] → all_of p e m ≡ all_of p e l ++ q ∷ []
@@ -143,7 +143,7 @@ module _ (es : List Place) (own : Place) (ls : List Place) (order : InOrder (es 
   befores = pairs_before IsBeforePlace es own ls order
 
   pub order_earlier : InOrder es
-  order_earlier = pairs_front IsBeforePlace es (own ∷ ls) order
+  order_earlier = pairs_prefix IsBeforePlace es (own ∷ ls) order
 
   pub order_later : InOrder ls
   order_later = pairs_tail IsBeforePlace own ls (pairs_back IsBeforePlace es (own ∷ ls) order)

@@ -1,4 +1,4 @@
--- A message to a group: a copy waits for each member that is present, but not for the sender; or nothing does.
+-- A message to a group: either a copy waits for each member that is present, but not for the sender, or nothing changes.
 use Rattle.std.specs.Prelude.{ℕ, ◌==◌, nat_lt, Bool, not, ◌&&◌, List, [], ◌∷◌, ◌++◌, length, map, take, count_by, Option, Some}
 use Rattle.std.specs.List.{filter, list_any}
 use Rattle.identity.specs.Numbers.{Itsi}
@@ -19,11 +19,11 @@ use Rattle.mailbox.specs.Refusals.{unknown_refusal, absent_refusal, most_for_one
 abbrev pub copy_key : GroupEnvelope → Itsi → Key
 copy_key e member = record { destination = member; source = e.source; reference = e.reference; kind = Message }
 
--- a member that has a copy: it is present, and not the sender
+-- a member that gets a copy: it is present, and not the sender
 abbrev pub is_receiver : Registered → Itsi → Itsi → Bool
 is_receiver s source member = is_present (radio_of s member) && not (member == source)
 
--- the copy for a member: it ends after the keep of the group's rule, and keeps the group
+-- the copy for a member: it ends after the keep of the group's rule, and names the group
 abbrev pub copy_for : Registered → GroupEnvelope → Stamp → List Bool → Itsi → Item
 copy_for s e stamp pdu member = record {
   key = copy_key e member;
@@ -37,11 +37,11 @@ copy_for s e stamp pdu member = record {
 abbrev pub copies : Registered → GroupEnvelope → List Itsi → Stamp → List Bool → List Item
 copies s e members stamp pdu = map (copy_for s e stamp pdu) (filter (is_receiver s e.source) members)
 
--- they are put at the end
+-- the mail with these copies at the end
 abbrev pub group_posted : Mailed → List Item → Mailed
 group_posted m ws = record { room = m.room; items = m.items ++ ws }
 
--- of: nobody has a copy; a copy's key is taken; too many for a member; too many in all: the first
+-- the first that applies: nobody gets a copy, a copy's key is taken, too many items for a member, too many in all
 abbrev pub first_of_copies : Bool → Bool → Bool → Bool → Option MailFault
 first_of_copies none busy full crowded =
     first_of
@@ -55,11 +55,11 @@ first_of_copies none busy full crowded =
 abbrev pub any_taken : Mailed → List Item → Bool
 any_taken m ws = list_any (λ w. holds m w.key) ws
 
--- more items than may be wait for the destination of one of them
+-- too many items wait for the destination of one of them
 abbrev pub any_crowded : Mailed → List Item → Bool
 any_crowded m ws = list_any (λ w. nat_lt most_for_one (count_by (is_to w.key.destination) m.items)) ws
 
--- the last two of the mail as it would be
+-- why the copies are refused; the last two are judged on the mail with the copies
 abbrev pub copies_refusal : Mailed → List Item → Option MailFault
 copies_refusal m ws =
     let new = group_posted m ws in
@@ -78,6 +78,6 @@ group_refusal s m e ws =
 abbrev pub addressed : Item → Itsi → Item
 addressed w destination = record w { key = record w.key { destination = destination } }
 
--- the first so many items
+-- the mail with its first so many items
 abbrev pub shortened : Mailed → ℕ → Mailed
 shortened m n = record { room = m.room; items = take n m.items }

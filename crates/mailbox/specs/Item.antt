@@ -1,4 +1,4 @@
--- What is asked of a single item.
+-- Tests of a single item.
 use Rattle.std.specs.Prelude.{◌==◌, nat_le, Bool, true, false, ◌&&◌, ◌||◌, not, List, Result, Ok, Err}
 use Rattle.identity.specs.Numbers.{Itsi}
 use Rattle.sds_tl.specs.Numbers.{Status}
@@ -15,14 +15,14 @@ use Rattle.mailbox.specs.declared.key.Key.{Key}
 use Rattle.mailbox.specs.declared.key.Envelope.{Envelope}
 use Rattle.mailbox.specs.Values.{Item}
 
--- two kinds are one
+-- the two kinds are the same
 abbrev pub same_kind : Kind → Kind → Bool
 same_kind Message Message = true
 same_kind Message Report = false
 same_kind Report Message = false
 same_kind Report Report = true
 
--- two keys are one, in all four parts
+-- the two keys are the same, in all four parts
 abbrev pub same_key : Key → Key → Bool
 same_key k j = (k.destination == j.destination) && (k.source == j.source) && (k.reference == j.reference) && same_kind k.kind j.kind
 
@@ -75,7 +75,7 @@ abbrev pub is_message_kind : Kind → Bool
 is_message_kind Message = true
 is_message_kind Report = false
 
--- the item is a message, and no report
+-- the item is a message, not a report
 abbrev pub is_message : Item → Bool
 is_message w = is_message_kind w.key.kind
 
@@ -87,7 +87,7 @@ is_to destination w = w.key.destination == destination
 abbrev pub is_at : Key → Item → Bool
 is_at k w = same_key k w.key
 
--- a report of this status ends a message with this request: it was consumed, or it was received and that was all it asked
+-- a report of this status ends a message with this request: it was consumed, or it was received and asks for no report of consumption
 abbrev pub ends_request : Status → DeliveryReportRequest → Bool
 ends_request status request = (status == 2) || ((status == 0) && not (asks_consumed request))
 
@@ -95,16 +95,16 @@ ends_request status request = (status == 2) || ((status == 0) && not (asks_consu
 abbrev pub is_reported : Envelope → Status → Item → Bool
 is_reported e status w = is_at (answered e Message) w && ends_request status (request_of w.pdu)
 
--- a report in this envelope ends this message, or takes the place of this report
+-- a report in this envelope ends this message, or replaces this report
 abbrev pub is_ended_by : Envelope → Status → Item → Bool
 is_ended_by e status w = is_reported e status w || is_at (key_of e Report) w
 
--- nothing that was sent so waits for an answer: a message that asks for no report, a report that asks for no acknowledgement
+-- an item that asks for no answer: a message that asks for no report, a report that asks for no acknowledgement
 abbrev pub is_answerless : Kind → List Bool → Bool
 is_answerless Message pdu = asks_nothing (request_of pdu)
 is_answerless Report pdu = not (wants_acknowledgement pdu)
 
--- it is at this key, and ends when it is sent
+-- it is at this key, and is removed once it was sent
 abbrev pub is_confirmed : Key → Item → Bool
 is_confirmed k w = is_at k w && is_answerless w.key.kind w.pdu
 

@@ -1,4 +1,4 @@
--- What judging finds out, and the item that is made of it.
+-- What judging finds, and the item that is made by it.
 use Rattle.std.specs.Prelude.{◌+◌, ◌≡◌, ◌==◌, ◌&&◌, not, Bool, List, length, Option, Some, None}
 use Rattle.std.specs.List.{find, list_all, list_any}
 use Rattle.std.specs.Option.{option_map}
@@ -28,15 +28,15 @@ keep_of (Some rule) = rule.keep
 abbrev pub none_waits : Mailed → Itsi → Bool
 none_waits m destination = length (waiting m destination) == 0
 
--- whether nothing but what is at a key waits for its destination
+-- whether only what is at a key waits for its destination
 abbrev pub waits_alone : Mailed → Key → Bool
 waits_alone m k = list_all (is_at k) (waiting m k.destination)
 
--- the place of a new item at a key, which is kept so long
+-- what judging finds for a new item at a key, which is kept so long
 abbrev pub opening : Mailed → Seconds → Key → Opening
 opening m keep k = record { key = k; keep = keep; is_first = none_waits m k.destination }
 
--- the item that is made there
+-- the item that is made by it
 abbrev pub item_in : Opening → Stamp → List Bool → Item
 item_in o stamp pdu = record { key = o.key; number = stamp.number; deadline = stamp.moment + o.keep; pdu = pdu; group = None }
 
@@ -44,7 +44,8 @@ item_in o stamp pdu = record { key = o.key; number = stamp.number; deadline = st
 abbrev pub item_at : Mailed → Key → Option Item
 item_at m k = find (is_at k) m.items
 
--- the place of a report on a message, that of the one before, whether the message ends, and whether nothing else waits for its destination then, the report neither
+-- what judging finds for a report: what it finds for it as a new item, the place of the report that it replaces, whether it ends the
+-- message, and whether only the message waits for the message's destination, once the report is put
 abbrev pub report_opening : Mailed → Seconds → Envelope → Status → ReportOpening
 report_opening m keep e status =
     record {
@@ -54,10 +55,10 @@ report_opening m keep e status =
       is_alone = not (e.destination == e.source) && waits_alone m (answered e Message);
     }
 
--- some rules and radios let the message, or the report, pass
+-- with some rules and radios the message is not refused
 abbrev pub MayPost : Mailed → Item → Type 0
 MayPost m w = (s : Registered) × (post_refusal s m w ≡ None)
 
--- so too a report, with this envelope and status
+-- with some rules and radios the report is not refused, with this envelope and status
 abbrev pub MayReport : Mailed → Envelope → Status → Item → Type 0
 MayReport m e status w = (s : Registered) × (report_refusal s m e status w ≡ None)

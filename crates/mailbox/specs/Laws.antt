@@ -1,4 +1,4 @@
--- What holds of the mail is kept by each effect. (The laws on public calls name these statements.)
+-- Each effect keeps what holds of the mail. (The laws on public calls name these statements.)
 use Rattle.std.specs.Prelude.{◌≡◌, ◌+◌, ◌<◌, ◌≤◌, Bool, true, List, None}
 use Rattle.std.specs.List.{AllPairs}
 use Rattle.identity.specs.Numbers.{Itsi}
@@ -43,7 +43,7 @@ PostIsMail =
     → post_refusal s m w ≡ None
     → IsMail (count + 1) (posted m w)
 
--- so too with a report of the next accepted command, and without what that ends
+-- it holds with a report of the next accepted command, and without what that report ends
 abbrev pub ReportIsMail : Type 0
 ReportIsMail =
     (s : Registered) (count : Count) (m : Mailed) (e : Envelope) (status : Status) (w : Item)
@@ -54,7 +54,7 @@ ReportIsMail =
     → report_refusal s m e status w ≡ None
     → IsMail (count + 1) (reported m e status w)
 
--- the copies of a message to a group, for members in order of number
+-- it holds with the copies of a message to a group, for members in order of number
 abbrev pub GroupPostIsMail : Type 0
 GroupPostIsMail =
     (s : Registered) (count : Count) (m : Mailed) (e : GroupEnvelope) (members : List Itsi) (stamp : Stamp) (pdu : List Bool)
@@ -70,6 +70,6 @@ GroupPostIsMail =
 abbrev pub NewComesLast : Type 0
 NewComesLast = (count : Count) (m : Mailed) (number : Number) (k : Key) → IsMail count m → count < number → ComesLast m number k
 
--- an item's PDU spells what it stands for, and is the written text of that
+-- an item's PDU spells its value, and is the written text of that value
 abbrev pub ItemsAreTexts : Type 0 → Type 0
 ItemsAreTexts A = (w : Item) → IsSpelt w → Spells {A = A} (value w.pdu) w.pdu × (w.pdu ≡ canon {A = A} (value w.pdu))

@@ -1,4 +1,4 @@
--- What each call makes of the mail: items are filtered out, or one is added at the end.
+-- The mail after each call: items are filtered out, or one is added at the end.
 use Rattle.std.specs.Prelude.{◌+◌, Bool, not, List, [], ◌∷◌, ◌++◌, Option, Some, None}
 use Rattle.std.specs.List.{filter, list_any}
 use Rattle.identity.specs.Numbers.{Itsi}
@@ -6,12 +6,12 @@ use Rattle.registration.specs.declared.rule.Rule.{Rule}
 use Rattle.registration.specs.Registered.{Registered, rule_of}
 use Rattle.sds_tl.specs.Numbers.{Status}
 use Rattle.mailbox.specs.Numbers.{Moment}
-use Rattle.mailbox.specs.declared.key.Kind.TheVariants.{Report}
+use Rattle.mailbox.specs.declared.key.Kind.TheVariants.{Message, Report}
 use Rattle.mailbox.specs.declared.key.Key.{Key}
 use Rattle.mailbox.specs.declared.key.Envelope.{Envelope}
 use Rattle.mailbox.specs.declared.key.Stamp.{Stamp}
 use Rattle.mailbox.specs.Values.{Item, Mailed}
-use Rattle.mailbox.specs.Item.{answered, is_at, is_to, is_ended_by, is_confirmed, is_expired}
+use Rattle.mailbox.specs.Item.{key_of, answered, is_at, is_to, is_ended_by, is_confirmed, is_expired}
 
 -- whether something waits at the key
 abbrev pub holds : Mailed → Key → Bool
@@ -30,7 +30,7 @@ abbrev pub deadline_by : Option Rule → Moment → Moment
 deadline_by None moment = moment
 deadline_by (Some rule) moment = moment + rule.keep
 
--- the item that a command makes
+-- the item at a key that a command makes
 abbrev pub item_for : Registered → Key → Stamp → List Bool → Item
 item_for s k stamp pdu = record {
   key = k;
@@ -40,11 +40,19 @@ item_for s k stamp pdu = record {
   group = None;
 }
 
+-- the item that a message in this envelope makes
+abbrev pub message_item : Registered → Envelope → Stamp → List Bool → Item
+message_item s e stamp pdu = item_for s (key_of e Message) stamp pdu
+
+-- the item that a report in this envelope makes
+abbrev pub report_item : Registered → Envelope → Stamp → List Bool → Item
+report_item s e stamp pdu = item_for s (key_of e Report) stamp pdu
+
 -- a new message is the last item
 abbrev pub posted : Mailed → Item → Mailed
 posted = with_item
 
--- the message goes if the report ends it, an old report on it goes, and the new report is the last
+-- a message that the report ends goes, an earlier report on it goes, and the new report is the last item
 abbrev pub reported : Mailed → Envelope → Status → Item → Mailed
 reported m e status w = with_item (without (is_ended_by e status) m) w
 
@@ -52,7 +60,7 @@ reported m e status w = with_item (without (is_ended_by e status) m) w
 abbrev pub acknowledged : Mailed → Envelope → Mailed
 acknowledged m e = without (is_at (answered e Report)) m
 
--- the item at the key was sent, and goes if it waits for no answer
+-- the item at the key was sent, and goes if it asks for no answer
 abbrev pub confirmed : Mailed → Key → Mailed
 confirmed m k = without (is_confirmed k) m
 

@@ -1,4 +1,4 @@
--- The numbers of what waits.
+-- The numbers of items.
 use Rattle.std.specs.Prelude.{ℕ}
 
 -- the place of an accepted command among all: 1 to 2 to the 62nd

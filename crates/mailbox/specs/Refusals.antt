@@ -35,7 +35,7 @@ missing_refusal m k = if holds m k then None else Some NoSuchMessage
 abbrev pub most_for_one : ℕ
 most_for_one = 128
 
--- of so many items for one destination, and so many in all
+-- so many items for one destination, or so many in all, are too many
 abbrev pub crowd_refusal : ℕ → ℕ → ℕ → Option MailFault
 crowd_refusal room for_one in_all =
     first_of
@@ -43,11 +43,11 @@ crowd_refusal room for_one in_all =
     ∷ refused_if (nat_lt room in_all) CentreFull
     ∷ [])
 
--- of the mail as a call would leave it, with a new item for this destination
+-- the mail, as a call with a new item for this destination would leave it, has too many items
 abbrev pub full_refusal : Mailed → Itsi → Option MailFault
 full_refusal m destination = crowd_refusal m.room (count_by (is_to destination) m.items) (length m.items)
 
--- an item has no place: its key is taken, or the mail is full
+-- why an item is not restored: its key is taken, or there is no room for it
 abbrev pub restore_refusal : Mailed → Item → Option MailFault
 restore_refusal m w =
     first_of
@@ -55,7 +55,7 @@ restore_refusal m w =
     ∷ full_refusal (with_item m w) w.key.destination
     ∷ [])
 
--- why a message is refused: no rule serves its destination, its sender is not present, or it has no place
+-- why a message is refused: no rule serves its destination, its sender is not present, its key is taken, or there is no room for it
 abbrev pub post_refusal : Registered → Mailed → Item → Option MailFault
 post_refusal s m w =
     first_of

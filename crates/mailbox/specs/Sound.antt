@@ -42,8 +42,8 @@ pub record IsSpelt (w : Item) : Type 0 where
 abbrev pub IsNumbered : Count → Item → Type 0
 IsNumbered count w = (0 < w.number) × (w.number ≤ count)
 
--- Of the mail after so many accepted commands: each item is of one of them, they are in order, no two have one key, there are
--- no more than may be, in all and for one destination, and each item is what its key says.
+-- What holds of the mail after so many accepted commands: each item is of one of them, they are in order, no two have the same key,
+-- there are no more than may be, in all and for one destination, and each item is what its key says.
 pub record IsMail (count : Count) (m : Mailed) : Type 0 where
   pub numbered : All (IsNumbered count) m.items
   pub ordered : AllPairs IsBefore m.items

@@ -29,14 +29,15 @@ pub record Mailed : Type 0 where
   pub room : ℕ
   pub items : List Item
 
--- how they are stored, for proofs
+-- the coding of an item, for proofs
 abbrev pub coded_item : Coded Item
 coded_item =
-    code_by (Key × (ℕ × (ℕ × (List Bool × Option ℕ)))) (coded× (key.the_row).coded (coded× coded_ℕ (coded× coded_ℕ (coded× (coded_list coded_bool) (coded_option coded_ℕ)))))
+    code_by (Key × (ℕ × (ℕ × (List Bool × Option ℕ))))
+    (coded× (key.the_row).coded (coded× coded_ℕ (coded× coded_ℕ (coded× (coded_list coded_bool) (coded_option coded_ℕ)))))
     (λ w. (w.key, (w.number, (w.deadline, (w.pdu, w.group)))))
     (λ p. record { key = p.0; number = p.1.0; deadline = p.1.1.0; pdu = p.1.1.1.0; group = p.1.1.1.1 }) (λ _. refl)
 
--- how the mail is stored: its room, and its items one after another
+-- the coding of the mail: its room, and its items one after another
 abbrev pub coded_mailed : Coded Mailed
 coded_mailed =
     code_by (ℕ × List Item) (coded× coded_ℕ (coded_list coded_item))

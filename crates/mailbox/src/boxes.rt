@@ -70,7 +70,7 @@ impl<A: Allocator> Boxes<A> {
         items::item_at(self.items_of(key.destination), key)
     }
 
-    /// The items at these places, as far as there are any.
+    /// The items at these places. A place without an item is left out.
     pub(crate) fn items_at<B: Allocator>(
         &self,
         alloc: B,
@@ -83,8 +83,8 @@ impl<A: Allocator> Boxes<A> {
         Ok(items)
     }
 
-    /// Takes the item at a key away, and the inbox where nothing is left, and answers the item's place. Told that
-    /// nothing else is in the inbox, it goes down once in all. It takes no memory.
+    /// Removes the item at a key, and the inbox if it is then empty, and returns the item's place. If the caller says
+    /// by `is_alone` that nothing else is in the inbox, it searches the tree only once. It takes no memory.
     pub(crate) fn remove_at(&mut self, key: &Key, is_alone: bool) -> Option<Place>
         requires { is_alone ≡ true → list_all (is_at key.now) (items_under self.old (id_path key.now.destination)) ≡ true }
         ensures left { self.new ≡ swept self.old (id_path key.now.destination) (is_at key.now) }
@@ -99,8 +99,9 @@ impl<A: Allocator> Boxes<A> {
 }
 
 impl<A: Allocator + Clone> Boxes<A> {
-    /// Puts the item at the end of its destination's inbox, in place of any at its key, and then
-    /// without memory. For want of it nothing changes. It is told whether there is no inbox yet.
+    /// Puts the item at the end of its destination's inbox, in place of any at its key. Replacing takes
+    /// no memory. When memory runs out, nothing changes. The caller says by `is_first` whether there is no
+    /// inbox yet.
     pub(crate) fn put(&mut self, alloc: &A, item: Item<A>, is_first: bool) -> Result<(), AllocError>
         requires { is_first ≡ is_none (finite.get self.old (id_path item.key.destination)) }
         ensures ok { OnOk result (self.new ≡ put self.old item) }
@@ -125,7 +126,7 @@ impl<A: Allocator + Clone> TryCopy for Boxes<A> {
     }
 }
 
-/// Adds the items at the places that the link leads to, as far as there are any.
+/// Adds the items at the places under the link. A place without an item is left out.
 #[cycle(push_items)]
 fn push_items<'i, A: Allocator, B: Allocator>(
     items: &mut Vec<&'i Item<A>, B>,
@@ -155,7 +156,7 @@ fn push_some<'i, A: Allocator, B: Allocator>(
     Ok(())
 }
 
-// Puts the item into an inbox of its own, where there is none yet.
+// Puts the item into a new inbox. There must be none yet.
 fn put_first<A: Allocator + Clone>(
     inboxes: &mut LazyMap<Inbox<A>, A>,
     alloc: &A,
@@ -173,7 +174,7 @@ fn put_first<A: Allocator + Clone>(
     Ok(())
 }
 
-// Puts the item into the inbox that is there.
+// Puts the item into its inbox, which must be there.
 fn put_there<A: Allocator>(
     inboxes: &mut LazyMap<Inbox<A>, A>,
     path: &Prefix,
@@ -189,7 +190,7 @@ fn put_there<A: Allocator>(
         .unwrap_or(Ok(()))
 }
 
-// Takes the item at the key out of its destination's inbox, and the inbox where nothing is left.
+// Removes the item at the key, and its destination's inbox if it is then empty.
 fn remove_at<A: Allocator>(inboxes: &mut LazyMap<Inbox<A>, A>, key: &Key) -> Option<Place>
     ensures left { inboxes.new ≡ swept inboxes.old (id_path key.now.destination) (is_at key.now) }
     ensures place { result ≡ option_map place_of (find (is_at key.now) (items_under inboxes.old (id_path key.now.destination))) }
@@ -197,7 +198,7 @@ fn remove_at<A: Allocator>(inboxes: &mut LazyMap<Inbox<A>, A>, key: &Key) -> Opt
     inboxes.change(&key.destination.path(), |inbox| inbox.without(key))?
 }
 
-// Takes the inbox of its destination away, in which nothing but the item at the key is.
+// Removes the inbox of the key's destination. Only the item at the key may be in it.
 fn remove_alone<A: Allocator>(inboxes: &mut LazyMap<Inbox<A>, A>, key: &Key) -> Option<Place>
     requires { list_all (is_at key.now) (items_under inboxes.old (id_path key.now.destination)) ≡ true }
     ensures left { inboxes.new ≡ swept inboxes.old (id_path key.now.destination) (is_at key.now) }

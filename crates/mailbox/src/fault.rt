@@ -1,4 +1,4 @@
-//! What the mail may answer in place of a change.
+//! The refusals of the mail.
 
 use thiserror::Error;
 

@@ -16,10 +16,10 @@ use std::alloc::{AllocError, Allocator};
 
 impl<A: Allocator + Clone> Mail<A> {
     /// Puts a copy of a message (SDS-TRANSFER) at the end for each member of a group that is present,
-    /// but not for the sender, in order of key and all under the command's number, which is above
-    /// those of all that wait. Copies are kept for as long as the group's rule says. The members are
-    /// in order of number. The refusals are those of `group_refusal`, and `NoMemory`; a refusal changes
-    /// nothing, so that all have a copy or nobody.
+    /// but not for the sender. The copies are in order of key, all under the command's number. This must
+    /// be greater than those of all items. The group's rule says how long the copies are kept. The
+    /// members must be in order of number. The refusals are those of `group_refusal`, and `NoMemory`. A
+    /// refusal changes nothing, so either each of these members gets a copy or nobody does.
     pub fn post_group(
         &mut self,
         registry: &Registry<A>,
@@ -30,8 +30,10 @@ impl<A: Allocator + Clone> Mail<A> {
     ) -> Result<(), MailFault>
         requires rising { AllPairs (λ a b. a < b) members.now }
         requires newest { All (λ o. o.number < stamp.number) self.old.items }
-        ensures ok { let ws = copies registry.now envelope.now members.now stamp pdu in OnOk result ((group_refusal registry.now self.old envelope.now ws ≡ None) × (self.new ≡ group_posted self.old ws)) }
-        ensures err { let ws = copies registry.now envelope.now members.now stamp pdu in IfErr result (λ e. (e ≡ unwrap_or (group_refusal registry.now self.old envelope.now ws) NoMemory) × (self.new ≡ self.old)) }
+        ensures ok { let ws = copies registry.now envelope.now members.now stamp pdu in
+            OnOk result ((group_refusal registry.now self.old envelope.now ws ≡ None) × (self.new ≡ group_posted self.old ws)) }
+        ensures err { let ws = copies registry.now envelope.now members.now stamp pdu in
+            IfErr result (λ e. (e ≡ unwrap_or (group_refusal registry.now self.old envelope.now ws) NoMemory) × (self.new ≡ self.old)) }
     {
         if let Some(fault) = self.group_refusal(registry, envelope, members) {
             return Err(fault);
@@ -45,7 +47,7 @@ impl<A: Allocator + Clone> Mail<A> {
         Ok(())
     }
 
-    /// Puts the copies at the end. For want of memory the items before are followed by some of them.
+    /// Puts the copies at the end. When memory runs out, some of them follow the items before.
     fn put_copies(
         &mut self,
         registry: &Registry<A>,
@@ -54,8 +56,10 @@ impl<A: Allocator + Clone> Mail<A> {
     ) -> Result<(), AllocError>
         requires rising { AllPairs (λ a b. a < b) members.now }
         requires newest { All (λ o. o.number < original.now.number) self.old.items }
-        requires free { list_any (λ d. is_receiver registry.now original.now.key.source d && holds self.old (addressed original.now d).key) members.now ≡ false }
-        ensures ok { OnOk result (self.new ≡ group_posted self.old (map (addressed original.now) (filter (is_receiver registry.now original.now.key.source) members.now))) }
+        requires free { list_any (λ d. is_receiver registry.now original.now.key.source d && holds self.old (addressed original.now d).key)
+            members.now ≡ false }
+        ensures ok { OnOk result (self.new ≡ group_posted self.old
+            (map (addressed original.now) (filter (is_receiver registry.now original.now.key.source) members.now))) }
         ensures err { OnErr result (shortened self.new (length self.old.items) ≡ self.old) }
     {
         for member in members {
@@ -64,15 +68,18 @@ impl<A: Allocator + Clone> Mail<A> {
         Ok(())
     }
 
-    /// Puts a member's copy at the end, if it has one. For want of memory nothing changes.
+    /// Puts a member's copy at the end, if it gets one. When memory runs out, nothing changes.
     fn put_copy(
         &mut self,
         registry: &Registry<A>,
         original: &Item<A>,
         member: Itsi,
     ) -> Result<(), AllocError>
-        requires { is_receiver registry.now original.now.key.source member ≡ true → ComesLast self.old original.now.number (addressed original.now member).key × (holds self.old (addressed original.now member).key ≡ false) }
-        ensures ok { OnOk result (self.new ≡ group_posted self.old (map (addressed original.now) (filter (is_receiver registry.now original.now.key.source) (member ∷ [])))) }
+        requires { is_receiver registry.now original.now.key.source member ≡ true
+            → ComesLast self.old original.now.number (addressed original.now member).key
+            × (holds self.old (addressed original.now member).key ≡ false) }
+        ensures ok { OnOk result (self.new ≡ group_posted self.old
+            (map (addressed original.now) (filter (is_receiver registry.now original.now.key.source) (member ∷ [])))) }
         ensures err { OnErr result (self.new ≡ self.old) }
     {
         if !is_receiver(registry, original.key().source, member) {
@@ -83,7 +90,7 @@ impl<A: Allocator + Clone> Mail<A> {
     }
 }
 
-/// A message to a group before it is copied for a member: it names its sender in a member's place.
+/// A message to a group before it is copied for the members. Its destination is still its sender.
 fn original<A: Allocator + Clone>(
     registry: &Registry<A>,
     envelope: &GroupEnvelope,

@@ -1,4 +1,4 @@
-//! Why the mail would refuse a message to a group, memory aside.
+//! Why the mail would refuse a message to a group if there were memory.
 
 ghost use Rattle.std.specs.Prelude.{◌≡◌, ◌+◌, ◌<◌, ◌==◌, ◌&&◌, nat_le, nat_lt, not, length, count_by, Bool, List};
 ghost use Rattle.std.specs.List.{AllPairs, list_any};
@@ -14,7 +14,7 @@ use identity::Itsi;
 use registration::Registry;
 use std::alloc::Allocator;
 
-/// Whether a member of a group has a copy of a message: it is present, and not the sender.
+/// Whether a member of a group gets a copy of a message: it is present, and not the sender.
 pub(crate) fn is_receiver<A: Allocator + Clone>(
     registry: &Registry<A>,
     source: Itsi,
@@ -25,7 +25,7 @@ pub(crate) fn is_receiver<A: Allocator + Clone>(
     registry.is_present(member) && member.number() != source.number()
 }
 
-/// How many members have a copy.
+/// How many members get a copy.
 fn count_receivers<A: Allocator + Clone>(
     registry: &Registry<A>,
     source: Itsi,
@@ -42,7 +42,7 @@ fn count_receivers<A: Allocator + Clone>(
 impl<A: Allocator + Clone> Mail<A> {
     /// Why `post_group` would refuse a message: `UnknownDestination` (the group), `NotAttached` (the
     /// source), `NoMembers`, `ReferenceBusy`, `MailboxFull` and `CentreFull`, in this order. The
-    /// members are in order of number. It takes no memory.
+    /// members must be in order of number. It takes no memory.
     pub fn group_refusal(
         &self,
         registry: &Registry<A>,
@@ -50,7 +50,8 @@ impl<A: Allocator + Clone> Mail<A> {
         members: &[Itsi],
     ) -> Option<MailFault>
         requires { AllPairs (λ a b. a < b) members.now }
-        ensures { (stamp : Stamp) (pdu : List Bool) → result ≡ group_refusal registry.now self.now envelope.now (copies registry.now envelope.now members.now stamp pdu) }
+        ensures { (stamp : Stamp) (pdu : List Bool)
+            → result ≡ group_refusal registry.now self.now envelope.now (copies registry.now envelope.now members.now stamp pdu) }
     {
         let rule = registry.rule_of(envelope.group.number());
         if let Some(fault) = unknown_refusal(rule) {
@@ -62,14 +63,19 @@ impl<A: Allocator + Clone> Mail<A> {
         self.copies_refusal(registry, envelope, members)
     }
 
-    /// Of the copies for these members.
+    /// Why the copies for these members are refused.
     fn copies_refusal(
         &self,
         registry: &Registry<A>,
         envelope: &GroupEnvelope,
         members: &[Itsi],
     ) -> Option<MailFault>
-        ensures { let receives = is_receiver registry.now envelope.now.source in result ≡ first_of_copies (count_by receives members.now == 0) (list_any (λ d. receives d && holds self.now (copy_key envelope.now d)) members.now) (list_any (λ d. receives d && nat_le most_for_one (count_by (is_to d) self.now.items)) members.now) (nat_lt self.now.room (length self.now.items + count_by receives members.now)) }
+        ensures { let receives = is_receiver registry.now envelope.now.source in
+            result ≡ first_of_copies
+            (count_by receives members.now == 0)
+            (list_any (λ d. receives d && holds self.now (copy_key envelope.now d)) members.now)
+            (list_any (λ d. receives d && nat_le most_for_one (count_by (is_to d) self.now.items)) members.now)
+            (nat_lt self.now.room (length self.now.items + count_by receives members.now)) }
     {
         let count = count_receivers(registry, envelope.source, members);
         if count == 0 {
@@ -96,7 +102,7 @@ impl<A: Allocator + Clone> Mail<A> {
         })
     }
 
-    /// Whether as many items wait for one that has a copy as may.
+    /// Whether a member that gets a copy has as many items waiting as may.
     fn any_full(&self, registry: &Registry<A>, source: Itsi, members: &[Itsi]) -> bool
         ensures { result ≡ list_any (λ d. is_receiver registry.now source d && nat_le most_for_one (count_by (is_to d) self.now.items)) members.now }
     {

@@ -47,8 +47,8 @@ impl<A: Allocator> Inbox<A> {
         &self.items
     }
 
-    /// Puts the item at the end, in place of any at its key, and then without memory. For want of it
-    /// nothing changes.
+    /// Puts the item at the end, in place of any at its key. Replacing takes no memory. When memory runs
+    /// out, nothing changes.
     pub(crate) fn put(&mut self, item: Item<A>) -> Result<(), AllocError>
         ensures ok { OnOk result (self.new ≡ put_last self.old item) }
         ensures err { OnErr result (self.new ≡ self.old) }
@@ -59,7 +59,7 @@ impl<A: Allocator> Inbox<A> {
         Ok(())
     }
 
-    /// The inbox with the item put at its end as `put` does, or as it was for want of memory.
+    /// What `put` returns, and the inbox after it. The inbox is as it was when memory runs out.
     pub(crate) fn with(mut self, item: Item<A>) -> (Result<(), AllocError>, Option<Self>)
         ensures ok { OnOk result.0 (result.1 ≡ Some (put_last self item)) }
         ensures err { OnErr result.0 (result.1 ≡ Some self) }
@@ -69,7 +69,7 @@ impl<A: Allocator> Inbox<A> {
         (put, Some(self))
     }
 
-    /// The place of the item at the key, and what is left without it, where that is anything.
+    /// The place of the item at the key, and the inbox without it, or `None` if that is empty.
     pub(crate) fn without(mut self, key: &Key) -> (Option<Place>, Option<Self>)
         ensures place { result.0 ≡ option_map place_of (find (is_at key.now) self) }
         ensures left { result.1 ≡ box_of (filter (λ w. not (is_at key.now w)) self) }
@@ -102,7 +102,7 @@ fn copied<A: Allocator + Clone>(alloc: &A, items: &[Item<A>]) -> Result<Vec<Item
     Ok(copy)
 }
 
-/// Takes the item at the key away, and where there is none, makes room for one.
+/// Removes the item at the key. If there is none, it makes room for one.
 fn make_room<A: Allocator>(items: &mut Vec<Item<A>, A>, key: &Key) -> Result<(), AllocError>
     ensures ok { OnOk result (items.new.items ≡ filter (λ w. not (is_at key.now w)) items.old.items) }
     ensures room { OnOk result (vec_len items.new < vec_capacity items.new) }

@@ -5,7 +5,8 @@ ghost use Rattle.sds_tl.specs.Reading.{heading};
 ghost use Rattle.mailbox.specs.Values.{latest_deadline};
 ghost use Rattle.mailbox.specs.Order.{place_of};
 ghost use Rattle.mailbox.specs.GroupPost.{addressed};
-ghost use Rattle.mailbox.specs.Item.{request_of, asks_nothing, asks_consumed, wants_acknowledgement, ends_request, is_at, is_to, is_reported, is_ended_by, is_answerless, is_confirmed, is_expired};
+ghost use Rattle.mailbox.specs.Item.{request_of, asks_nothing, asks_consumed, wants_acknowledgement, ends_request};
+ghost use Rattle.mailbox.specs.Item.{is_at, is_to, is_reported, is_ended_by, is_answerless, is_confirmed, is_expired};
 
 use crate::place::Place;
 use crate::{Envelope, Key, Kind, Moment};
@@ -38,9 +39,9 @@ impl<A: Allocator> Model for Item<A> {
 }
 
 impl<A: Allocator> Item<A> {
-    /// The item at a key that the command of this number made: it ends at the moment `deadline`, in
-    /// seconds, at most 8,589,934,590 (the greatest moment and the greatest keep). A copy of a message
-    /// to a group has that group.
+    /// The item at a key that the command of this number made. It ends at the moment `deadline`, in
+    /// seconds: at most 8,589,934,590, the greatest moment plus the greatest keep. A copy of a message
+    /// to a group names that group.
     pub fn new(key: Key, number: u64, deadline: u64, pdu: Bits<A>, group: Option<Gtsi>) -> Item<A>
         requires { deadline ≤ latest_deadline }
         ensures { result ≡ record { key = key; number = number; deadline = deadline; pdu = pdu; group = group } }
@@ -54,7 +55,7 @@ impl<A: Allocator> Item<A> {
         }
     }
 
-    /// By what it is named.
+    /// What identifies it.
     pub fn key(&self) -> Key
         ensures { result ≡ self.now.key }
     {
@@ -83,22 +84,21 @@ impl<A: Allocator> Item<A> {
         &self.pdu
     }
 
-    /// The group that it was sent to, of a copy of a message to a group.
+    /// The group that it was sent to, if it is a copy of a message to a group.
     pub fn group(&self) -> Option<Gtsi>
         ensures { result ≡ self.now.group }
     {
         self.group
     }
 
-    /// A copy under the given allocator; it fails only where that has no memory left.
+    /// A copy in memory of the given allocator. It fails only when memory runs out.
     pub fn copied<B: Allocator>(&self, alloc: B) -> Result<Item<B>, AllocError>
         ensures { IfOk result (λ copy. copy ≡ self.now) }
     {
         self.copied_to(alloc, self.key.destination)
     }
 
-    /// A copy for this destination, under the given allocator; it fails only where that has no memory
-    /// left.
+    /// A copy for this destination, in memory of the given allocator. It fails only when memory runs out.
     pub(crate) fn copied_to<B: Allocator>(
         &self,
         alloc: B,
@@ -140,14 +140,14 @@ impl<A: Allocator> Item<A> {
         self.key.destination.number() == destination.number()
     }
 
-    /// A report in this envelope is on the message, and ends it.
+    /// Whether it is a message that a report in this envelope ends.
     pub(crate) fn is_reported(&self, envelope: &Envelope, status: DeliveryStatus) -> bool
         ensures { result ≡ is_reported envelope.now status self.now }
     {
         self.is_at(&envelope.answered(Kind::Message)) && ends_request(status, request_of(&self.pdu))
     }
 
-    /// A report in this envelope ends the message, or takes the place of the report.
+    /// Whether it is a message that a report in this envelope ends, or a report that it replaces.
     pub(crate) fn is_ended_by(&self, envelope: &Envelope, status: DeliveryStatus) -> bool
         ensures { result ≡ is_ended_by envelope.now status self.now }
     {
@@ -163,7 +163,7 @@ impl<A: Allocator> Item<A> {
         }
     }
 
-    /// It is at the key, and nobody waits for an answer to it.
+    /// Whether it is at the key and asks for no answer.
     pub(crate) fn is_confirmed(&self, key: &Key) -> bool
         ensures { result ≡ is_confirmed key.now self.now }
     {

@@ -1,4 +1,4 @@
-//! What is asked of the items of one destination.
+//! Searches among the items of one destination.
 
 ghost use Rattle.std.specs.Prelude.{◌≡◌, not, length};
 ghost use Rattle.std.specs.List.{filter, find, list_all, list_any};
@@ -11,28 +11,28 @@ use crate::{Envelope, Item, Key};
 use sds_tl::DeliveryStatus;
 use std::alloc::Allocator;
 
-/// Whether one is at the key.
+/// Whether an item is at the key.
 pub(crate) fn any_at<A: Allocator>(items: &[Item<A>], key: &Key) -> bool
     ensures { result ≡ list_any (is_at key.now) items.now }
 {
     items.iter().any(|item| item.is_at(key))
 }
 
-/// Whether nothing but what is at the key is among them.
+/// Whether no item is at another key.
 pub(crate) fn all_at<A: Allocator>(items: &[Item<A>], key: &Key) -> bool
     ensures { result ≡ list_all (is_at key.now) items.now }
 {
     items.iter().all(|item| item.is_at(key))
 }
 
-/// The one at the key.
+/// The item at the key.
 pub(crate) fn item_at<'i, A: Allocator>(items: &'i [Item<A>], key: &Key) -> Option<&'i Item<A>>
     ensures { option_copied result ≡ find (is_at key.now) items.now }
 {
     items.iter().find(|item| item.is_at(key))
 }
 
-/// The place of the one at the key.
+/// The place of the item at the key.
 pub(crate) fn place_at<A: Allocator>(items: &[Item<A>], key: &Key) -> Option<Place>
     ensures { result ≡ option_map place_of (find (is_at key.now) items.now) }
 {
@@ -42,14 +42,14 @@ pub(crate) fn place_at<A: Allocator>(items: &[Item<A>], key: &Key) -> Option<Pla
     }
 }
 
-/// Whether one is at the key, and nobody waits for an answer to it.
+/// Whether an item at the key asks for no answer.
 pub(crate) fn any_confirmed<A: Allocator>(items: &[Item<A>], key: &Key) -> bool
     ensures { result ≡ list_any (is_confirmed key.now) items.now }
 {
     items.iter().any(|item| item.is_confirmed(key))
 }
 
-/// Whether one is a message that the report ends.
+/// Whether an item is a message that the report ends.
 pub(crate) fn any_reported<A: Allocator>(
     items: &[Item<A>],
     envelope: &Envelope,
@@ -81,7 +81,7 @@ pub(crate) fn count_reported<A: Allocator>(
         .count()
 }
 
-/// How many the report would leave.
+/// How many the report would neither end nor replace.
 pub(crate) fn count_left<A: Allocator>(
     items: &[Item<A>],
     envelope: &Envelope,

@@ -17,12 +17,12 @@ pub enum Kind {
     Report,
 }
 
-/// By what an item is named. No two that wait have the same key.
+/// What identifies an item. No two items that wait have the same key.
 #[derive(Clone, Copy, Debug, PartialEq, Eq)]
 pub struct Key {
-    /// For whom it waits.
+    /// The radio that it waits for.
     pub destination: Itsi,
-    /// Who sent it.
+    /// The radio that sent it.
     pub source: Itsi,
     /// The message reference.
     pub reference: MessageReference,
@@ -43,7 +43,7 @@ impl Key {
     }
 }
 
-/// What stands on a PDU that a radio sends: from whom, to whom and about which message.
+/// The envelope of a PDU that a radio sends: from whom, to whom and about which message.
 #[derive(Clone, Copy, Debug, PartialEq, Eq)]
 pub struct Envelope {
     /// The radio that sends it.
@@ -80,7 +80,7 @@ impl Envelope {
     }
 }
 
-/// What stands on a message that a radio sends to a group.
+/// The envelope of a message that a radio sends to a group.
 #[derive(Clone, Copy, Debug, PartialEq, Eq)]
 pub struct GroupEnvelope {
     /// The radio that sends it.

@@ -11,7 +11,7 @@ ghost use Rattle.mailbox.specs.Laws.{EmptyIsMail, MoreIsMail, RemovalIsMail, Pos
 use crate::Mail;
 use std::alloc::Allocator;
 
-/// What holds of every mail holds of the empty one, and each effect keeps it.
+/// What holds of every mail: it holds of the empty one, and each effect keeps it.
 pub fn mails()
     ensures empty { EmptyIsMail }
     ensures more { MoreIsMail }
@@ -29,13 +29,13 @@ pub fn in_order<A: Allocator>(mail: &Mail<A>)
     mail.hold_order()
 }
 
-/// Of the items of such a mail: the PDU is the written text of an SDS-TRANSFER or SDS-REPORT.
+/// The PDU of each item of such a mail is the written text of an SDS-TRANSFER or SDS-REPORT.
 pub fn items_are_texts<A: Allocator>()
     ensures { ItemsAreTexts A }
 {}
 
-/// From none to the first item, and from each by its number and key to the next, one comes to all that waits in
-/// order, to each once.
+/// `next` visits all that waits in order, each item once: first from `None`, then from the number and key of each
+/// to the next.
 pub fn next_comes_to_all()
     ensures { (count : ℕ) (m : Mailed) (n : _) → IsMail count m → length m.items ≤ n → one_by_one (next_item m) named n None ≡ m.items }
 {}

@@ -1,5 +1,6 @@
 //! The short messages and delivery reports that wait in a TETRA switch for their radios
-//! (ETSI EN 300 392-2, clause 29, the switch's side of the short data transport service).
+//! (ETSI EN 300 392-2, clause 29, the switch's side of the short data transport service). It reads a registry of
+//! radios and rules, and changes its own items alone; it knows nothing of attachments, commands and disks.
 #![tactic(auto)]
 
 mod boxes;

@@ -1,6 +1,7 @@
 //! The mail, and the calls that change it.
 
-ghost use Rattle.std.specs.Prelude.{◌≡◌, ◌↔◌, IsTrue, ℕ, ◌+◌, ◌*◌, ◌<◌, ◌≤◌, ◌-◌, is_some, if◌then◌else◌, length, count_by, true, false, map, None, OnOk, OnErr, IfOk, IfErr, unwrap_or};
+ghost use Rattle.std.specs.Prelude.{◌≡◌, ◌↔◌, IsTrue, ℕ, ◌+◌, ◌*◌, ◌<◌, ◌≤◌, ◌-◌, is_some, if◌then◌else◌, length, count_by, true, false, map};
+ghost use Rattle.std.specs.Prelude.{None, OnOk, OnErr, IfOk, IfErr, unwrap_or};
 ghost use Rattle.std.specs.List.{AllPairs, find, list_any};
 ghost use Rattle.std.specs.Option.{option_copied, option_map};
 ghost use Rattle.mailbox.specs.declared.fault.MailFault.TheVariants.{NoMemory};
@@ -8,7 +9,8 @@ ghost use Rattle.mailbox.specs.declared.key.Kind.TheVariants as kind;
 ghost use Rattle.mailbox.specs.Values.{empty_mailed, latest_deadline};
 ghost use Rattle.mailbox.specs.Item.{same_key, key_of, answered, is_to, is_at, is_reported, is_expired};
 ghost use Rattle.mailbox.specs.Order.{IsBefore, ComesLast, next_item, place_of};
-ghost use Rattle.mailbox.specs.Mail.{holds, without, with_item, deadline_by, item_for, posted, reported, acknowledged, confirmed, expired, deleted, waiting};
+ghost use Rattle.mailbox.specs.Mail.{holds, without, with_item, deadline_by, message_item, report_item, waiting};
+ghost use Rattle.mailbox.specs.Mail.{posted, reported, acknowledged, confirmed, expired, deleted};
 ghost use Rattle.mailbox.specs.Cost.{IsAboveAll, expiry_steps};
 ghost use Rattle.mailbox.specs.GroupPost.{shortened};
 ghost use Rattle.mailbox.specs.Judged.{none_waits, waits_alone, item_in, report_opening, MayPost, MayReport};
@@ -27,7 +29,7 @@ use std::alloc::{AllocError, Allocator};
 use std::marker::{Brand, Model};
 use std::sync::ledger::{Blank, Ledger};
 
-/// All that waits: by destination, and beside it the order of the commands that made it.
+/// All that waits, by destination, and the places of all items in order of the commands that made them.
 #[derive(Drop)]
 pub struct Mail<A: Allocator> {
     room: u32,
@@ -50,7 +52,7 @@ impl<A: Allocator> Model for Mail<A> {
 }
 
 impl<A: Allocator> Mail<A> {
-    /// Nothing waits; at most `limits.mail` items may. It takes no memory.
+    /// The empty mail, for at most `limits.mail` items. It takes no memory.
     pub fn new(alloc: A, limits: Limits) -> Self
         ensures { result ≡ empty_mailed limits }
     {
@@ -61,7 +63,7 @@ impl<A: Allocator> Mail<A> {
         }
     }
 
-    // What its fields keep, as clauses.
+    // States by its clauses that the items are in order, and that no two have the same key.
     pub(crate) fn hold_order(&self)
         ensures order { AllPairs IsBefore self.now.items }
         ensures apart { AllPairs (λ a b. same_key b.key a.key ≡ false) self.now.items }
@@ -83,7 +85,7 @@ impl<A: Allocator> Mail<A> {
         self.order.len()
     }
 
-    /// The allocator under which it is kept.
+    /// The allocator of its memory.
     pub(crate) fn allocator(&self) -> &A {
         self.order.allocator()
     }
@@ -120,8 +122,8 @@ impl<A: Allocator> Mail<A> {
         last.is_before(number, key)
     }
 
-    /// The first item after this number and key, in order of number, then key, also where no item waits there, or the
-    /// first of all. It takes no memory; its place is found in the order of all.
+    /// The first item after this number and key in order of number, then of key, or the first of all for `None`. No
+    /// item need wait under this number and key. It takes no memory.
     pub fn next(&self, after: Option<(u64, Key)>) -> Option<&Item<A>>
         ensures { option_copied result ≡ next_item self.now after }
     {
@@ -138,8 +140,8 @@ impl<A: Allocator> Mail<A> {
         expire_from::<A, Brand>(self, moment, Blank::new(1));
     }
 
-    /// The same. Each node of the tree of places that is visited is a step: where each tree of as many places is lower
-    /// than a height, at most three times that height for each item that goes, and one more.
+    /// The same. Each visited node of the tree of places is a step. If every tree of so many places is lower than
+    /// `height`, it takes at most three times `height` steps for each item that it removes, and one more.
     pub fn expire_counted<L: Ledger>(&mut self, moment: Moment, steps: &mut Steps<L>)
         ensures items { self.new ≡ expired self.old moment }
         ensures cost { (height : ℕ) → IsAboveAll height self.old → steps.new ≤ steps.old + expiry_steps height (length self.old.items - length self.new.items) }
@@ -149,7 +151,7 @@ impl<A: Allocator> Mail<A> {
         }
     }
 
-    /// The place of the first item that has expired. Each node that is visited is a step.
+    /// The place of the first item that has expired. Each visited node is a step.
     fn first_due<L: Ledger>(&self, moment: Moment, steps: &mut Steps<L>) -> Option<Place>
         ensures first { result ≡ option_map place_of (find (is_expired moment) self.now.items) }
         ensures apart { AllPairs (λ a b. same_key b.key a.key ≡ false) self.now.items }
@@ -158,8 +160,8 @@ impl<A: Allocator> Mail<A> {
         self.order.first_due(moment, steps).copied()
     }
 
-    /// Removes an item; `NoSuchMessage` where there is none at the key, and then nothing changes. It
-    /// takes no memory.
+    /// Removes the item at the key. If there is none, it is `NoSuchMessage`, and nothing changes. It takes
+    /// no memory.
     pub fn delete(&mut self, key: &Key) -> Result<(), MailFault>
         ensures ok { OnOk result ((delete_refusal self.old key.now ≡ None) × (self.new ≡ deleted self.old key.now)) }
         ensures err { IfErr result (λ e. (delete_refusal self.old key.now ≡ Some e) × (self.new ≡ self.old)) }
@@ -169,8 +171,8 @@ impl<A: Allocator> Mail<A> {
         Ok(())
     }
 
-    /// Takes the item at the key away, where one waits. Told that nothing else waits for its destination, it goes down
-    /// to the inbox once in all.
+    /// Removes the item at the key, if there is one. If the caller says by `is_alone` that nothing else waits for its
+    /// destination, it searches for the inbox only once.
     fn remove_at(&mut self, key: &Key, is_alone: bool)
         requires { is_alone ≡ true → waits_alone self.old key.now ≡ true }
         ensures { self.new ≡ deleted self.old key.now }
@@ -178,7 +180,7 @@ impl<A: Allocator> Mail<A> {
         remove_from::<A, Brand>(self, key, is_alone, Blank::new(1));
     }
 
-    /// The same. Each node of the tree of places that is visited is a step.
+    /// The same. Each visited node of the tree of places is a step.
     fn remove_counted<L: Ledger>(&mut self, key: &Key, is_alone: bool, steps: &mut Steps<L>)
         requires { is_alone ≡ true → waits_alone self.old key.now ≡ true }
         ensures items { self.new ≡ deleted self.old key.now }
@@ -218,7 +220,7 @@ impl<A: Allocator> Mail<A> {
         }
     }
 
-    /// Takes the newest items away until no more than this many wait. It takes no memory.
+    /// Removes the newest items until at most this many wait. It takes no memory.
     pub(crate) fn truncate(&mut self, len: usize)
         ensures { self.new ≡ shortened self.old len }
     {
@@ -256,9 +258,9 @@ impl<A: Allocator> Mail<A> {
 }
 
 impl<A: Allocator + Clone> Mail<A> {
-    /// Puts a message (SDS-TRANSFER) at the end. It is kept for as long as the rule of its destination
-    /// says. Its number and key come after those of all that wait. The refusals are those of
-    /// `post_refusal`, and `NoMemory`; a refusal changes nothing.
+    /// Puts a message (SDS-TRANSFER) at the end. The rule of its destination says how long it is kept. Its
+    /// number and key must come after those of all items. The refusals are those of `post_refusal`, and
+    /// `NoMemory`. A refusal changes nothing.
     pub fn post(
         &mut self,
         registry: &Registry<A>,
@@ -267,8 +269,10 @@ impl<A: Allocator + Clone> Mail<A> {
         pdu: Bits<A>,
     ) -> Result<(), MailFault>
         requires { ComesLast self.old stamp.number (key_of envelope.now kind.Message) }
-        ensures ok { let w = item_for registry.now (key_of envelope.now kind.Message) stamp pdu in OnOk result ((post_refusal registry.now self.old w ≡ None) × (self.new ≡ posted self.old w)) }
-        ensures err { let w = item_for registry.now (key_of envelope.now kind.Message) stamp pdu in IfErr result (λ e. (e ≡ unwrap_or (post_refusal registry.now self.old w) NoMemory) × (self.new ≡ self.old)) }
+        ensures ok { let w = message_item registry.now envelope.now stamp pdu in
+            OnOk result ((post_refusal registry.now self.old w ≡ None) × (self.new ≡ posted self.old w)) }
+        ensures err { let w = message_item registry.now envelope.now stamp pdu in
+            IfErr result (λ e. (e ≡ unwrap_or (post_refusal registry.now self.old w) NoMemory) × (self.new ≡ self.old)) }
     {
         let opening = self.judge_post(registry, envelope)?;
         let Ok(()) = self.post_judged(&opening, stamp, pdu) else {
@@ -277,8 +281,8 @@ impl<A: Allocator + Clone> Mail<A> {
         Ok(())
     }
 
-    /// Puts a message at the end that `judge_post` of this mail has let pass, with what it found. For
-    /// want of memory nothing changes.
+    /// Puts a message at the end that `judge_post` of this mail has let pass, by what it found. When
+    /// memory runs out, nothing changes.
     pub fn post_judged(
         &mut self,
         opening: &Opening,
@@ -295,10 +299,10 @@ impl<A: Allocator + Clone> Mail<A> {
     }
 
     /// Takes a delivery report (SDS-REPORT) on a message that waits, from the message's destination to
-    /// its source: the message goes where the status ends it, an earlier report on it goes, and this
-    /// one is put at the end. Its number and key come after those of all that wait. The refusals are
-    /// those of `report_refusal`, and `NoMemory`, though never where an earlier report is replaced; a
-    /// refusal changes nothing.
+    /// its source. It removes the message if the status ends it, replaces any earlier report on it, and
+    /// puts this one at the end. Its number and key must come after those of all items. The refusals are
+    /// those of `report_refusal`, and `NoMemory`. Replacing a report takes no memory. A refusal changes
+    /// nothing.
     pub fn report(
         &mut self,
         registry: &Registry<A>,
@@ -308,9 +312,13 @@ impl<A: Allocator + Clone> Mail<A> {
         pdu: Bits<A>,
     ) -> Result<(), MailFault>
         requires { ComesLast self.old stamp.number (key_of envelope.now kind.Report) }
-        ensures ok { let w = item_for registry.now (key_of envelope.now kind.Report) stamp pdu in OnOk result ((report_refusal registry.now self.old envelope.now status w ≡ None) × (self.new ≡ reported self.old envelope.now status w)) }
-        ensures err { let w = item_for registry.now (key_of envelope.now kind.Report) stamp pdu in IfErr result (λ e. (e ≡ unwrap_or (report_refusal registry.now self.old envelope.now status w) NoMemory) × (self.new ≡ self.old)) }
-        ensures memory { let w = item_for registry.now (key_of envelope.now kind.Report) stamp pdu in OnErr result (report_refusal registry.now self.old envelope.now status w ≡ None → holds self.old (key_of envelope.now kind.Report) ≡ false) }
+        ensures ok { let w = report_item registry.now envelope.now stamp pdu in
+            OnOk result ((report_refusal registry.now self.old envelope.now status w ≡ None) × (self.new ≡ reported self.old envelope.now status w)) }
+        ensures err { let w = report_item registry.now envelope.now stamp pdu in
+            IfErr result (λ e. (e ≡ unwrap_or (report_refusal registry.now self.old envelope.now status w) NoMemory) × (self.new ≡ self.old)) }
+        ensures memory { let w = report_item registry.now envelope.now stamp pdu in
+            OnErr result (report_refusal registry.now self.old envelope.now status w ≡ None
+            → holds self.old (key_of envelope.now kind.Report) ≡ false) }
     {
         let judged = self.judge_report(registry, envelope, status)?;
         let Ok(()) = self.report_judged(&judged, envelope, status, stamp, pdu) else {
@@ -319,8 +327,8 @@ impl<A: Allocator + Clone> Mail<A> {
         Ok(())
     }
 
-    /// Takes a report that `judge_report` of this mail has let pass, with what it found. For want of
-    /// memory, which is never wanted where an earlier report is replaced, nothing changes.
+    /// Takes a report that `judge_report` of this mail has let pass, by what it found. When memory runs
+    /// out, nothing changes. Replacing an earlier report takes no memory.
     pub fn report_judged(
         &mut self,
         judged: &ReportOpening,
@@ -347,8 +355,8 @@ impl<A: Allocator + Clone> Mail<A> {
     }
 
     /// Takes an acknowledgement (SDS-ACK) of a report that waits, from the report's destination to its
-    /// source: the report goes, whatever status is acknowledged. The refusals are those of
-    /// `ack_refusal`; a refusal changes nothing. It takes no memory.
+    /// source. It removes the report, whatever status is acknowledged. The refusals are those of
+    /// `ack_refusal`. A refusal changes nothing. It takes no memory.
     pub fn ack(&mut self, registry: &Registry<A>, envelope: &Envelope) -> Result<(), MailFault>
         ensures ok { OnOk result ((ack_refusal registry.now self.old envelope.now ≡ None) × (self.new ≡ acknowledged self.old envelope.now)) }
         ensures err { IfErr result (λ e. (ack_refusal registry.now self.old envelope.now ≡ Some e) × (self.new ≡ self.old)) }
@@ -358,9 +366,9 @@ impl<A: Allocator + Clone> Mail<A> {
         Ok(())
     }
 
-    /// An item was sent to its destination: a message that asks for no report goes, and so does a
-    /// report that asks for no acknowledgement; any other item waits on. The refusals are those of
-    /// `sent_refusal`; a refusal changes nothing. It takes no memory.
+    /// An item was sent to its destination. It removes a message that asks for no report, and a report
+    /// that asks for no acknowledgement. Any other item waits on. The refusals are those of
+    /// `sent_refusal`. A refusal changes nothing. It takes no memory.
     pub fn sent(&mut self, registry: &Registry<A>, key: &Key) -> Result<(), MailFault>
         ensures ok { OnOk result ((sent_refusal registry.now self.old key.now ≡ None) × (self.new ≡ confirmed self.old key.now)) }
         ensures err { IfErr result (λ e. (sent_refusal registry.now self.old key.now ≡ Some e) × (self.new ≡ self.old)) }
@@ -372,8 +380,8 @@ impl<A: Allocator + Clone> Mail<A> {
         Ok(())
     }
 
-    /// Puts an item at the end as it was kept; no rule and no radio is asked. Its number and key come
-    /// after those of all that wait. The refusals are those of `restore_refusal`, and `NoMemory`; a
+    /// Puts an item at the end as it was stored; rules and radios do not matter. Its number and key must
+    /// come after those of all items. The refusals are those of `restore_refusal`, and `NoMemory`. A
     /// refusal changes nothing.
     pub fn restore(&mut self, item: Item<A>) -> Result<(), MailFault>
         requires { ComesLast self.old item.number item.key }
@@ -389,8 +397,8 @@ impl<A: Allocator + Clone> Mail<A> {
         Ok(())
     }
 
-    /// Puts an item at the end at whose key none waits. Its number and key come after those of all
-    /// that wait. For want of memory nothing changes.
+    /// Puts an item at the end. No item may wait at its key, and its number and key must come after those
+    /// of all items. When memory runs out, nothing changes.
     pub(crate) fn put_new(&mut self, item: Item<A>) -> Result<(), AllocError>
         requires last { ComesLast self.old item.number item.key }
         requires free { holds self.old item.key ≡ false }
@@ -401,7 +409,7 @@ impl<A: Allocator + Clone> Mail<A> {
         self.put_last(item, is_first)
     }
 
-    /// As above, told whether nothing waits for its destination.
+    /// As above. The caller says by `is_first` whether nothing waits for its destination.
     fn put_last(&mut self, item: Item<A>, is_first: bool) -> Result<(), AllocError>
         requires last { ComesLast self.old item.number item.key }
         requires free { holds self.old item.key ≡ false }
@@ -417,9 +425,9 @@ impl<A: Allocator + Clone> Mail<A> {
         Ok(())
     }
 
-    /// Puts the item at the end, in place of the one at its key, which stands at the earlier place, and
-    /// then without memory. Its number and key come after those of all that wait. For want of memory
-    /// nothing changes.
+    /// Puts the item at the end, in place of any at its key: `earlier` is the place of that one.
+    /// Replacing takes no memory. Its number and key must come after those of all items. When memory
+    /// runs out, nothing changes.
     fn put(
         &mut self,
         item: Item<A>,
@@ -454,7 +462,7 @@ impl<A: Allocator + Clone> TryCopy for Mail<A> {
     }
 }
 
-/// When an item ends that is made at this moment, in seconds.
+/// When an item ends that is made at this moment, in seconds: after the keep of the rule.
 pub(crate) fn deadline_by(rule: Option<Rule>, moment: Moment) -> u64
     ensures deadline { result ≡ deadline_by rule moment }
     ensures latest { result ≤ latest_deadline }
@@ -465,7 +473,7 @@ pub(crate) fn deadline_by(rule: Option<Rule>, moment: Moment) -> u64
     }
 }
 
-/// The item that a command makes at this place.
+/// The item that a command makes, by what judging found.
 fn item_in<A: Allocator>(opening: &Opening, stamp: Stamp, pdu: Bits<A>) -> Item<A>
     ensures { result ≡ item_in opening.now stamp pdu }
 {
@@ -473,7 +481,7 @@ fn item_in<A: Allocator>(opening: &Opening, stamp: Stamp, pdu: Bits<A>) -> Item<
     Item::new(opening.key, stamp.number, deadline, pdu, None)
 }
 
-// As `remove_counted`, counted by this ledger.
+// `remove_counted`, with a step counter over this ledger.
 fn remove_from<A: Allocator, L: Ledger>(mail: &mut Mail<A>, key: &Key, is_alone: bool, blank: Blank)
     requires name { blank.name ≡ L.name }
     requires parts { blank.parts ≡ L.parts }
@@ -485,7 +493,7 @@ fn remove_from<A: Allocator, L: Ledger>(mail: &mut Mail<A>, key: &Key, is_alone:
     mail.remove_counted(key, is_alone, &mut steps);
 }
 
-// As `expire_counted`, counted by this ledger.
+// `expire_counted`, with a step counter over this ledger.
 fn expire_from<A: Allocator, L: Ledger>(mail: &mut Mail<A>, moment: Moment, blank: Blank)
     requires name { blank.name ≡ L.name }
     requires parts { blank.parts ≡ L.parts }

@@ -30,7 +30,7 @@ impl Moment {
         Moment { number }
     }
 
-    /// Its seconds.
+    /// The moment in seconds.
     pub fn number(&self) -> u32
         ensures value { result ≡ self.now }
         ensures below { result < 2 ^ 32 }

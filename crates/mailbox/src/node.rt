@@ -1,5 +1,5 @@
-//! The nodes of the tree of places. Of each node's two sides none stays more than a level higher than the other, so
-//! that a way down visits about as many nodes as the number of places has digits in base 2, half as many again at most.
+//! The nodes of the tree of places, an AVL tree: neither side of a node is more than one level higher than the other.
+//! A way down visits about as many nodes as the number of places has binary digits, half as many again at most.
 
 ghost use Rattle.std.specs.Prelude.{◌≡◌, ◌+◌, ◌*◌, ◌<◌, ◌≤◌, ◌^◌, ◌++◌, ◌∷◌, [], not, true, length, max, nat_lt, is_some, IsSome, IfNone, IfOk, if◌then◌else◌};
 ghost use Rattle.std.specs.List.{filter, find, list_any};
@@ -7,7 +7,8 @@ ghost use Rattle.std.specs.Option.{option_copied, option_map};
 ghost use Rattle.prefix_tree.specs.Following.{next_of};
 ghost use Rattle.mailbox.specs.Order.{named_cmp};
 ghost use Rattle.mailbox.specs.Inside.Boxes.{name_of};
-ghost use Rattle.mailbox.specs.Inside.Places.{same_place, InOrder, soonest, is_due, places_of, height_of, all_of, branch, IsLow, IsBalanced, IsFirstOf, IsLastOf, EndsWith};
+ghost use Rattle.mailbox.specs.Inside.Places.{same_place, InOrder, soonest, is_due, places_of, height_of, all_of, branch};
+ghost use Rattle.mailbox.specs.Inside.Places.{IsLow, IsBalanced, IsFirstOf, IsLastOf, EndsWith};
 
 use crate::Key;
 use crate::place::Place;
@@ -20,12 +21,12 @@ use std::sync::ledger::Ledger;
 /// A node in a box of its own.
 pub(crate) type Link<A> = Box<Node<A>, A>;
 
-/// A place, and on either side those before it and those after it.
+/// A place, with the places before it on one side and those after it on the other.
 #[derive(Drop)]
 pub(crate) struct Node<A: Allocator> {
     place: Place,
     height: u8,
-    // When the first item here ends.
+    // The earliest deadline in this node and under it.
     least: u64,
     earlier: Option<Link<A>>,
     later: Option<Link<A>>,
@@ -51,7 +52,7 @@ impl<A: Allocator> Model for Node<A> {
 }
 
 impl<A: Allocator> Node<A> {
-    /// A node with these sides, of which neither is more than a level higher than the other.
+    /// A node with these sides. Neither may be more than one level higher than the other.
     pub(crate) fn of(place: Place, earlier: Option<Link<A>>, later: Option<Link<A>>) -> Self
         requires earlier { height_of earlier ≤ height_of later + 1 }
         requires later { height_of later ≤ height_of earlier + 1 }
@@ -79,7 +80,7 @@ impl<A: Allocator> Node<A> {
         (&self.place, &self.earlier, &self.later)
     }
 
-    // Whether nothing here has ended by the moment.
+    // Whether no item in this node or under it has ended by the moment.
     fn is_later_than(&self, moment: u64) -> bool
         ensures { result ≡ nat_lt moment (soonest self.now.places) }
     {
@@ -109,7 +110,7 @@ pub(crate) fn height<A: Allocator>(link: &Option<Link<A>>) -> u8
     }
 }
 
-// When the first item ends that the link leads to.
+// The earliest deadline under the link.
 fn least<A: Allocator>(link: &Option<Link<A>>) -> u64
     ensures { result ≡ soonest (places_of link.now) }
 {
@@ -119,7 +120,8 @@ fn least<A: Allocator>(link: &Option<Link<A>>) -> u64
     }
 }
 
-// The parts of a node with its later side no lower than its earlier one: where it is, the earlier side's node comes up.
+// The parts of a node, turned so that its later side is no lower than its earlier one: if it is lower, the node of the
+// earlier side comes to the top.
 fn leaning_later<A: Allocator>(node: &mut Node<A>) -> (Place, Option<Link<A>>, Option<Link<A>>)
     ensures places { all_of result.0 result.1 result.2 ≡ node.old.places }
     ensures later { height_of result.2 + 1 ≡ node.old.height }
@@ -138,7 +140,7 @@ fn leaning_later<A: Allocator>(node: &mut Node<A>) -> (Place, Option<Link<A>>, O
     (next, first, Some(up))
 }
 
-// The same with the earlier side no lower than the later one.
+// The same, turned so that the earlier side is no lower than the later one.
 fn leaning_earlier<A: Allocator>(node: &mut Node<A>) -> (Place, Option<Link<A>>, Option<Link<A>>)
     ensures places { all_of result.0 result.1 result.2 ≡ node.old.places }
     ensures earlier { height_of result.1 + 1 ≡ node.old.height }
@@ -157,7 +159,7 @@ fn leaning_earlier<A: Allocator>(node: &mut Node<A>) -> (Place, Option<Link<A>>,
     (next, Some(up), last)
 }
 
-// The later side is two levels higher, and its node comes up.
+// The node where the later side is two levels higher: the node of that side comes to the top.
 fn turn_earlier<A: Allocator>(
     place: Place,
     earlier: Option<Link<A>>,
@@ -177,7 +179,7 @@ fn turn_earlier<A: Allocator>(
     Node::of(next, Some(up), last)
 }
 
-// The earlier side is two levels higher, and its node comes up.
+// The node where the earlier side is two levels higher: the node of that side comes to the top.
 fn turn_later<A: Allocator>(
     place: Place,
     earlier: Option<Link<A>>,
@@ -197,7 +199,7 @@ fn turn_later<A: Allocator>(
     Node::of(next, first, Some(up))
 }
 
-// A node with these sides, of which one may be two levels higher than the other.
+// A balanced node with these sides. One may be two levels higher than the other.
 fn balanced<A: Allocator>(place: Place, earlier: Option<Link<A>>, later: Option<Link<A>>) -> Node<A>
     requires earlier { height_of earlier ≤ height_of later + 2 }
     requires later { height_of later ≤ height_of earlier + 2 }
@@ -214,7 +216,7 @@ fn balanced<A: Allocator>(place: Place, earlier: Option<Link<A>>, later: Option<
     Node::of(place, earlier, later)
 }
 
-/// Puts the place at the end, in this box.
+/// Puts the place at the end, in a node in the given box.
 #[cycle(append)]
 pub(crate) fn append<A: Allocator>(link: &mut Option<Link<A>>, place: &Place, spare: Link<A>)
     requires few { length (places_of link.old) + 1 < 2 ^ 64 }
@@ -234,7 +236,7 @@ pub(crate) fn append<A: Allocator>(link: &mut Option<Link<A>>, place: &Place, sp
     *link = Some(node);
 }
 
-/// Takes the first place away, with a box that held a node. Each node that is visited is a step.
+/// Removes the first place, and returns it with a free box. Each visited node is a step.
 #[cycle(pop_first)]
 fn pop_first<A: Allocator, L: Ledger>(
     link: &mut Option<Link<A>>,
@@ -264,7 +266,7 @@ fn pop_first<A: Allocator, L: Ledger>(
     }
 }
 
-/// Takes the last place away.
+/// Removes the last place, and returns it.
 #[cycle(pop_last)]
 pub(crate) fn pop_last<A: Allocator>(link: &mut Option<Link<A>>) -> Option<Place>
     ensures places { IsLastOf (places_of link.old) (places_of link.new) result }
@@ -290,7 +292,7 @@ pub(crate) fn pop_last<A: Allocator>(link: &mut Option<Link<A>>) -> Option<Place
     }
 }
 
-// Two sides as one. Each node that is visited is a step.
+// Joins two sides to one. Each visited node is a step.
 fn join<A: Allocator, L: Ledger>(
     earlier: Option<Link<A>>,
     later: Option<Link<A>>,
@@ -314,7 +316,7 @@ fn join<A: Allocator, L: Ledger>(
     }
 }
 
-/// Takes the place away, and gives a box back that held a node, if it was there. Each node that is visited is a step.
+/// Removes the place if it is there, and then returns a free box. Each visited node is a step.
 #[cycle(remove_counted)]
 pub(crate) fn remove_counted<A: Allocator, L: Ledger>(
     link: &mut Option<Link<A>>,
@@ -384,7 +386,7 @@ pub(crate) fn first_after<'n, A: Allocator>(
     }
 }
 
-/// The first place whose item has ended by the moment. Each node that is visited is a step.
+/// The first place whose item has ended by the moment. Each visited node is a step.
 #[cycle(first_due)]
 pub(crate) fn first_due<'n, A: Allocator, L: Ledger>(
     link: &'n Option<Link<A>>,
@@ -412,7 +414,7 @@ pub(crate) fn first_due<'n, A: Allocator, L: Ledger>(
     first_due(later, moment, steps)
 }
 
-/// The same nodes again, in boxes of their own.
+/// A copy of the nodes, in boxes of their own.
 #[cycle(copied)]
 pub(crate) fn copied<A: Allocator + Clone>(
     link: &Option<Link<A>>,

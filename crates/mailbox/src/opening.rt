@@ -1,9 +1,9 @@
-//! What judging found out, which the change itself does not look up again.
+//! What judging found, so that the change need not look it up again.
 
 use crate::Key;
 use crate::place::Place;
 
-/// What judging found out of the place of a new item.
+/// What judging found for a new item.
 #[derive(Clone, Copy, Debug, PartialEq, Eq)]
 pub struct Opening {
     /// The key of the item.
@@ -14,15 +14,15 @@ pub struct Opening {
     pub(crate) is_first: bool,
 }
 
-/// What judging found out of a report.
+/// What judging found for a report.
 #[derive(Clone, Copy, Debug, PartialEq, Eq)]
 pub struct ReportOpening {
-    /// The place of the report itself.
+    /// What it found for the report as a new item.
     pub(crate) opening: Opening,
-    /// Where an earlier report stands that it replaces.
+    /// The place of the earlier report that it replaces.
     pub(crate) earlier: Option<Place>,
     /// Whether it ends the message.
     pub(crate) ends: bool,
-    /// Whether nothing else waits for the message's destination then, the report neither.
+    /// Whether only the message waits for the message's destination, once the report is put.
     pub(crate) is_alone: bool,
 }

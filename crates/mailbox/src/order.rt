@@ -61,7 +61,7 @@ impl<A: Allocator> Order<A> {
         self.count
     }
 
-    /// The node that the others are under.
+    /// The root of the tree.
     pub(crate) fn root(&self) -> &Option<Link<A>>
         ensures { places_of result.now ≡ self.now }
     {
@@ -82,7 +82,7 @@ impl<A: Allocator> Order<A> {
         node::first_after(&self.root, after)
     }
 
-    /// The first place whose item has ended by the moment. Each node that is visited is a step.
+    /// The first place whose item has ended by the moment. Each visited node is a step.
     pub(crate) fn first_due<L: Ledger>(
         &self,
         moment: Moment,
@@ -95,7 +95,7 @@ impl<A: Allocator> Order<A> {
         node::first_due(&self.root, u64::from(moment.number()), steps)
     }
 
-    /// Puts the place at the end, in this box.
+    /// Puts the place at the end, in a node in the given box.
     pub(crate) fn append(&mut self, place: &Place, spare: Link<A>)
         requires { length self.old + 1 < 2 ^ 64 }
         ensures { self.new ≡ self.old ++ place.now ∷ [] }
@@ -104,7 +104,7 @@ impl<A: Allocator> Order<A> {
         node::append(&mut self.root, place, spare);
     }
 
-    /// Takes the place away. Each node that is visited is a step.
+    /// Removes the place, if it is there. Each visited node is a step.
     pub(crate) fn remove_counted<L: Ledger>(&mut self, place: &Place, steps: &mut Steps<L>)
         requires { InOrder self.old }
         ensures places { self.new ≡ filter (λ other. not (same_place place.now other)) self.old }
@@ -116,7 +116,7 @@ impl<A: Allocator> Order<A> {
         }
     }
 
-    /// Takes a place away that is there, and puts another at the end. It takes no memory.
+    /// Removes a place, which must be there, and puts another at the end. It takes no memory.
     pub(crate) fn renew(&mut self, old: &Place, place: &Place)
         requires order { InOrder self.old }
         requires there { list_any (same_place old.now) self.old ≡ true }
@@ -125,7 +125,7 @@ impl<A: Allocator> Order<A> {
         renew_from::<A, Brand>(self, old, place, Blank::new(1));
     }
 
-    /// Takes the last place away.
+    /// Removes the last place, and returns it.
     pub(crate) fn pop(&mut self) -> Option<Place>
         ensures { IsLastOf self.old self.new result }
     {
@@ -157,7 +157,7 @@ impl<A: Allocator + Clone> TryCopy for Order<A> {
     }
 }
 
-// As `renew`, counted by this ledger.
+// `renew`, with a step counter over this ledger.
 fn renew_from<A: Allocator, L: Ledger>(
     order: &mut Order<A>,
     old: &Place,

@@ -12,7 +12,7 @@ ghost use Rattle.mailbox.specs.Inside.Places.{place_cmp};
 use crate::{Key, Kind};
 use std::cmp::Ordering;
 
-/// Where an item stands among all that wait, in order of number, then of key; and the moment at which it ends.
+/// Where an item is among all that wait, in order of number, then of key; and the moment at which it ends.
 #[derive(Clone, Copy, Debug, PartialEq, Eq)]
 pub(crate) struct Place {
     pub(crate) number: u64,
@@ -28,7 +28,7 @@ impl Place {
         self.numbers().cmp(&numbers(number, key)) == Ordering::Less
     }
 
-    /// Whether it comes after this number and key; each comes after none.
+    /// Whether it comes after this number and key. Each place comes after `None`.
     pub(crate) fn is_after(&self, after: &Option<(u64, Key)>) -> bool
         ensures { result ≡ is_after named_cmp name_of after.now self.now }
     {
@@ -51,7 +51,7 @@ impl Place {
     }
 }
 
-// By which a number and key are compared.
+// The numbers by which a number and key are compared.
 fn numbers(number: u64, key: &Key) -> [u64; 5]
     ensures { result ≡ place_at number key.now }
 {

@@ -1,4 +1,4 @@
-//! Why the mail would refuse a call, memory aside.
+//! Why the mail would refuse a call if there were memory.
 
 ghost use Rattle.std.specs.Prelude.{◌≡◌, ◌==◌, ◌+◌, ◌&&◌, not, ℕ, [], ◌∷◌, length, count_by, Bool, List, Option, IfOk};
 ghost use Rattle.mailbox.specs.declared.key.Kind.TheVariants as kind;
@@ -8,9 +8,10 @@ ghost use Rattle.std.specs.List.{list_all};
 ghost use Rattle.std.specs.Result.{result_err};
 ghost use Rattle.registration.specs.Refusals.{first_of};
 ghost use Rattle.registration.specs.Registered.{rule_of};
-ghost use Rattle.mailbox.specs.Mail.{without, waiting, item_for};
+ghost use Rattle.mailbox.specs.Mail.{without, waiting, message_item, report_item};
 ghost use Rattle.mailbox.specs.Judged.{keep_of, opening, waits_alone, item_in, report_opening};
-ghost use Rattle.mailbox.specs.Refusals.{unknown_refusal, absent_refusal, busy_refusal, missing_refusal, restore_refusal, crowd_refusal, post_refusal, report_refusal, ack_refusal, sent_refusal, delete_refusal};
+ghost use Rattle.mailbox.specs.Refusals.{unknown_refusal, absent_refusal, busy_refusal, missing_refusal, crowd_refusal};
+ghost use Rattle.mailbox.specs.Refusals.{restore_refusal, post_refusal, report_refusal, ack_refusal, sent_refusal, delete_refusal};
 
 use crate::items::{all_at, any_at, any_reported, count_at, count_left, count_reported, place_at};
 use crate::{Envelope, Item, Key, Kind, Mail, MailFault, Opening, ReportOpening};
@@ -44,7 +45,7 @@ pub(crate) fn absent_refusal<A: Allocator + Clone>(
     }
 }
 
-/// With one more item beside these for the destination and in all.
+/// Why one more item is refused where so many wait for its destination, and so many in all.
 fn crowd_refusal(room: u32, for_one: usize, in_all: usize) -> Option<MailFault>
     ensures { result ≡ crowd_refusal room (for_one + 1) (in_all + 1) }
 {
@@ -71,7 +72,7 @@ impl<A: Allocator> Mail<A> {
         self.judge_at(key).err()
     }
 
-    /// Whether nothing but the item at the key waits for its destination, or that there is none.
+    /// Whether only the item at the key waits for its destination; `NoSuchMessage` if no item is at the key.
     pub(crate) fn judge_at(&self, key: &Key) -> Result<bool, MailFault>
         ensures refusal { result_err result ≡ missing_refusal self.now key.now }
         ensures alone { IfOk result (λ b. b ≡ waits_alone self.now key.now) }
@@ -83,10 +84,11 @@ impl<A: Allocator> Mail<A> {
         Ok(all_at(items, key))
     }
 
-    // Of one more item, at this key, beside these for its destination.
+    // Why one more item at this key is refused. The items are those of its destination.
     fn item_refusal(&self, items: &[Item<A>], key: &Key) -> Option<MailFault>
         requires { items.now ≡ waiting self.now key.now.destination }
-        ensures { result ≡ first_of (busy_refusal self.now key.now ∷ crowd_refusal self.now.room (count_by (is_to key.now.destination) self.now.items + 1) (length self.now.items + 1) ∷ []) }
+        ensures { result ≡ first_of (busy_refusal self.now key.now
+            ∷ crowd_refusal self.now.room (count_by (is_to key.now.destination) self.now.items + 1) (length self.now.items + 1) ∷ []) }
     {
         if any_at(items, key) {
             return Some(MailFault::ReferenceBusy);
@@ -94,15 +96,16 @@ impl<A: Allocator> Mail<A> {
         crowd_refusal(self.room(), items.len(), self.len())
     }
 
-    /// Why an item with this key has no place: `ReferenceBusy`, `MailboxFull` and `CentreFull`, in this
-    /// order.
+    /// Why `restore` would refuse an item with this key: `ReferenceBusy`, `MailboxFull` and `CentreFull`,
+    /// in this order.
     pub fn restore_refusal(&self, key: &Key) -> Option<MailFault>
-        ensures { (number deadline : ℕ) (pdu : List Bool) (group : Option ℕ) → result ≡ restore_refusal self.now (record { key = key.now; number = number; deadline = deadline; pdu = pdu; group = group }) }
+        ensures { (number deadline : ℕ) (pdu : List Bool) (group : Option ℕ)
+            → result ≡ restore_refusal self.now (record { key = key.now; number = number; deadline = deadline; pdu = pdu; group = group }) }
     {
         self.item_refusal(self.items_of(key.destination), key)
     }
 
-    // Of a report, with what waits for its source and its destination.
+    // Why there is no room for a report, by what waits for its source and for its destination.
     fn full_by_report(
         &self,
         at_source: &[Item<A>],
@@ -112,9 +115,10 @@ impl<A: Allocator> Mail<A> {
     ) -> Option<MailFault>
         requires source { at_source.now ≡ waiting self.now envelope.now.source }
         requires destination { at_destination.now ≡ waiting self.now envelope.now.destination }
-        ensures { let left = without (is_ended_by envelope.now status) self.now in result ≡ crowd_refusal self.now.room (count_by (is_to envelope.now.destination) left.items + 1) (length left.items + 1) }
+        ensures { let left = without (is_ended_by envelope.now status) self.now in
+            result ≡ crowd_refusal self.now.room (count_by (is_to envelope.now.destination) left.items + 1) (length left.items + 1) }
     {
-        // (what is ended only leaves more room)
+        // (what the report ends only makes more room)
         if crowd_refusal(self.room(), at_destination.len(), self.len()).is_none() {
             return None;
         }
@@ -130,20 +134,21 @@ impl<A: Allocator + Clone> Mail<A> {
     /// Why `post` would refuse a message: `UnknownDestination`, `NotAttached` (the source),
     /// `ReferenceBusy`, `MailboxFull` and `CentreFull`, in this order.
     pub fn post_refusal(&self, registry: &Registry<A>, envelope: &Envelope) -> Option<MailFault>
-        ensures { (stamp : Stamp) (pdu : List Bool) → result ≡ post_refusal registry.now self.now (item_for registry.now (key_of envelope.now kind.Message) stamp pdu) }
+        ensures { (stamp : Stamp) (pdu : List Bool) → result ≡ post_refusal registry.now self.now (message_item registry.now envelope.now stamp pdu) }
     {
         self.judge_post(registry, envelope).err()
     }
 
-    /// Judges a message as `post_refusal` does; what it found is for `post_judged`. It takes no memory.
+    /// Judges a message as `post_refusal` does, and returns what `post_judged` needs. It takes no memory.
     pub fn judge_post(
         &self,
         registry: &Registry<A>,
         envelope: &Envelope,
     ) -> Result<Opening, MailFault>
-        ensures refusal { (stamp : Stamp) (pdu : List Bool) → result_err result ≡ post_refusal registry.now self.now (item_for registry.now (key_of envelope.now kind.Message) stamp pdu) }
+        ensures refusal { (stamp : Stamp) (pdu : List Bool)
+            → result_err result ≡ post_refusal registry.now self.now (message_item registry.now envelope.now stamp pdu) }
         ensures found { let k = key_of envelope.now kind.Message in IfOk result (λ o. o ≡ opening self.now (keep_of (rule_of registry.now k.destination)) k) }
-        ensures item { let k = key_of envelope.now kind.Message in IfOk result (λ o. (stamp : Stamp) (pdu : List Bool) → item_in o stamp pdu ≡ item_for registry.now k stamp pdu) }
+        ensures item { IfOk result (λ o. (stamp : Stamp) (pdu : List Bool) → item_in o stamp pdu ≡ message_item registry.now envelope.now stamp pdu) }
     {
         let Some(rule) = registry.rule_of(envelope.destination.number()) else {
             return Err(MailFault::UnknownDestination);
@@ -160,20 +165,21 @@ impl<A: Allocator + Clone> Mail<A> {
     }
 
     /// Why `report` would refuse a report of this status: `UnknownDestination`, `NotAttached` (the
-    /// source), `NoSuchMessage`, `MailboxFull` and `CentreFull`, in this order. The last two are
-    /// judged on the mail as the report would leave it.
+    /// source), `NoSuchMessage`, `MailboxFull` and `CentreFull`, in this order. It judges the last two on
+    /// the mail as the report would leave it.
     pub fn report_refusal(
         &self,
         registry: &Registry<A>,
         envelope: &Envelope,
         status: DeliveryStatus,
     ) -> Option<MailFault>
-        ensures { (stamp : Stamp) (pdu : List Bool) → result ≡ report_refusal registry.now self.now envelope.now status (item_for registry.now (key_of envelope.now kind.Report) stamp pdu) }
+        ensures { (stamp : Stamp) (pdu : List Bool)
+            → result ≡ report_refusal registry.now self.now envelope.now status (report_item registry.now envelope.now stamp pdu) }
     {
         self.judge_report(registry, envelope, status).err()
     }
 
-    /// Judges a report as `report_refusal` does; what it found is for `report_judged`. It takes no
+    /// Judges a report as `report_refusal` does, and returns what `report_judged` needs. It takes no
     /// memory.
     pub fn judge_report(
         &self,
@@ -181,9 +187,11 @@ impl<A: Allocator + Clone> Mail<A> {
         envelope: &Envelope,
         status: DeliveryStatus,
     ) -> Result<ReportOpening, MailFault>
-        ensures refusal { (stamp : Stamp) (pdu : List Bool) → result_err result ≡ report_refusal registry.now self.now envelope.now status (item_for registry.now (key_of envelope.now kind.Report) stamp pdu) }
+        ensures refusal { (stamp : Stamp) (pdu : List Bool)
+            → result_err result ≡ report_refusal registry.now self.now envelope.now status (report_item registry.now envelope.now stamp pdu) }
         ensures found { IfOk result (λ o. o ≡ report_opening self.now (keep_of (rule_of registry.now envelope.now.destination)) envelope.now status) }
-        ensures item { let k = key_of envelope.now kind.Report in IfOk result (λ o. (stamp : Stamp) (pdu : List Bool) → item_in o.opening stamp pdu ≡ item_for registry.now k stamp pdu) }
+        ensures item { IfOk result (λ o. (stamp : Stamp) (pdu : List Bool)
+            → item_in o.opening stamp pdu ≡ report_item registry.now envelope.now stamp pdu) }
     {
         let Some(rule) = registry.rule_of(envelope.destination.number()) else {
             return Err(MailFault::UnknownDestination);
@@ -216,8 +224,7 @@ impl<A: Allocator + Clone> Mail<A> {
         self.judge_ack(registry, envelope).err()
     }
 
-    /// Whether nothing but the report that is acknowledged waits for its destination, or why `ack` would
-    /// refuse.
+    /// Whether only the report that is acknowledged waits for its destination, or why `ack` would refuse.
     pub(crate) fn judge_ack(
         &self,
         registry: &Registry<A>,
@@ -248,7 +255,7 @@ impl<A: Allocator + Clone> Mail<A> {
     }
 }
 
-/// Of an item at this key, which the rule serves, beside these for its destination.
+/// The opening of an item at this key. The rule serves its destination, for which these items wait.
 fn opening<A: Allocator>(items: &[Item<A>], key: Key, rule: Rule) -> Opening
     ensures { result ≡ record { key = key; keep = rule.keep; is_first = length items.now == 0 } }
 {
@@ -259,8 +266,8 @@ fn opening<A: Allocator>(items: &[Item<A>], key: Key, rule: Rule) -> Opening
     }
 }
 
-/// Whether nothing else waits for the destination of the message that a report in this envelope is on, once the report is
-/// put: not beside these, and not the report itself.
+/// Whether only the message that a report in this envelope is on waits for the report's source, once the report is put.
+/// The items are those that wait for the source now.
 fn is_alone<A: Allocator>(at_source: &[Item<A>], envelope: &Envelope) -> bool
     ensures { result ≡ (not (envelope.now.destination == envelope.now.source) && list_all (is_at (answered envelope.now kind.Message)) at_source.now) }
 {

@@ -1,4 +1,4 @@
-//! What has ended goes, wherever it stands among what waits.
+//! Items that have ended are removed, wherever they are in the order.
 
 use crate::fixture::{Call, Made, called, envelope, limits, pdu, registry};
 use mailbox::{Mail, Moment, Stamp};
@@ -9,7 +9,7 @@ use std::test::Fail;
 /// When each message is given, numbered from 1; it ends an hour later.
 const GIVEN: [u32; 6] = [300, 100, 500, 200, 600, 400];
 
-/// At which moment what has ended goes, and the numbers of what then waits, as digits.
+/// A moment at which `expire` is called, and the numbers of the items that then wait, as digits.
 const LEFT: [(u32, u64); 7] = [
     (3_699, 123_456),
     (3_700, 13_456),
@@ -20,8 +20,8 @@ const LEFT: [(u32, u64); 7] = [
     (4_200, 0),
 ];
 
-/// A message of two reports, when both reports on it come and at which moment what has ended goes: the message ends an
-/// hour after its command, the report an hour after the later of its two.
+/// The same for a message that asks for two reports, of which both come. The message ends an hour after its command, the
+/// report an hour after the later of the two.
 const REPORTED: [(u32, u64); 4] = [(3_699, 13), (3_700, 3), (4_599, 3), (4_600, 0)];
 
 fn given(turn: u8, moment: u32, call: Call) -> Result<Made, Fail> {
@@ -58,7 +58,7 @@ fn digits(alloc: Global, mail: &Mail<Global>) -> Result<u64, Fail> {
     Ok(digits)
 }
 
-/// The first moment at which other numbers are left than these.
+/// The first moment at which other numbers wait than these.
 fn first_wrong(
     alloc: Global,
     mail: &mut Mail<Global>,

@@ -1,5 +1,5 @@
-//! Mail in a heap of fixed size: rounds of 12 changes, more than 10,000 in all, end with nothing that waits and take no more
-//! of it than none do; and once the mail is gone every byte is free again.
+//! Mail in a heap of fixed size: rounds of 12 changes, more than 10,000 in all, each end with an empty mail and leave the
+//! heap as it was. Once the mail is dropped, every byte is free again.
 
 use crate::fixture::{Call, Made, called, envelope, limits, pdu, registry};
 use crate::to_group::{MESSAGE, post_group};
@@ -9,8 +9,8 @@ use registration::Registry;
 use std::alloc::Global;
 use std::test::Fail;
 
-/// The changes of a round, each with its source, destination and reference: items end by an acknowledgement, by having been
-/// sent, by deletion and by their deadline.
+/// The changes of a round, each with its source, destination and reference. Items end by an acknowledgement, by being sent,
+/// by deletion and by their deadline.
 const ROUND: [(Call, u32, u32, u8); 10] = [
     (Call::Post(1), 1, 2, 5),
     (Call::Report(0, true), 2, 1, 5),
@@ -24,7 +24,7 @@ const ROUND: [(Call, u32, u32, u8); 10] = [
     (Call::Expire(3700), 1, 1, 0),
 ];
 
-/// The changes of a round, after so many others; whether each is made.
+/// Makes the changes of a round, after so many others, and returns whether each succeeds.
 fn is_round_made<'a>(
     heap: &'a LocalHeap,
     registry: &Registry<&'a LocalHeap>,
@@ -49,8 +49,8 @@ fn is_round_made<'a>(
     Ok(true)
 }
 
-/// Whether a message to a group is put, and its copies end.
-fn is_group_told<'a>(
+/// Puts a message to a group, lets its copies expire, and returns whether it was put.
+fn is_group_message_put<'a>(
     alloc: Global,
     heap: &'a LocalHeap,
     registry: &Registry<&'a LocalHeap>,
@@ -62,7 +62,7 @@ fn is_group_told<'a>(
     Ok(is_put)
 }
 
-/// Whether so many rounds are made, and each leaves the heap as it was.
+/// Makes so many rounds, and returns whether each leaves the heap as it was.
 fn is_even<'a>(
     alloc: Global,
     heap: &'a LocalHeap,
@@ -72,7 +72,7 @@ fn is_even<'a>(
 ) -> Result<bool, Fail> {
     let empty = heap.used();
     for round in 0..rounds {
-        if !is_group_told(alloc, heap, registry, mail)?
+        if !is_group_message_put(alloc, heap, registry, mail)?
             || !is_round_made(heap, registry, mail, round.saturating_mul(10))?
             || heap.used() != empty
         {
@@ -82,7 +82,7 @@ fn is_even<'a>(
     Ok(true)
 }
 
-/// The register lies in another heap.
+/// The register is in another heap.
 fn leaves_no_trace<'a>(
     alloc: Global,
     heap: &'a LocalHeap,

@@ -22,7 +22,7 @@ pub enum Call {
     Expire(u32),
 }
 
-/// A call, who makes it of whom and about which message, and the number and moment of its command.
+/// A call, its envelope, and the number and moment of its command.
 #[derive(Clone, Copy)]
 pub struct Made {
     pub call: Call,
@@ -30,7 +30,7 @@ pub struct Made {
     pub stamp: Stamp,
 }
 
-/// With room for so many items.
+/// Limits with room for so many items.
 pub fn limits(mail: u32) -> Result<Limits, Fail> {
     Ok(Limits::new(16, 16, mail, 4).ok_or("limits")?)
 }
@@ -105,7 +105,7 @@ pub fn refusal<A: Allocator + Clone>(
     }
 }
 
-/// Puts a message, whose number is above those of all that wait.
+/// Puts a message. Its number must be greater than those of all items.
 fn post<A: Allocator + Clone>(
     registry: &Registry<A>,
     mail: &mut Mail<A>,
@@ -119,7 +119,7 @@ fn post<A: Allocator + Clone>(
     mail.post(registry, envelope, stamp, pdu)
 }
 
-/// Takes a report, whose number is above those of all that wait.
+/// Takes a report. Its number must be greater than those of all items.
 fn report<A: Allocator + Clone>(
     registry: &Registry<A>,
     mail: &mut Mail<A>,
@@ -134,7 +134,7 @@ fn report<A: Allocator + Clone>(
     mail.report(registry, envelope, DeliveryStatus::new(code), stamp, pdu)
 }
 
-/// What the call is answered.
+/// The answer to the call.
 pub fn called<A: Allocator + Clone>(
     registry: &Registry<A>,
     mail: &mut Mail<A>,

@@ -1,4 +1,4 @@
-//! A message to a group waits for each member that is present but the sender, or for nobody.
+//! A message to a group waits for each member that is present, but not for the sender; or it waits for nobody.
 
 use crate::fixture::{Call, limits, pdu, registry};
 use crate::to_group::{MESSAGE, ToGroup, group_refusal, post_group};
@@ -73,7 +73,7 @@ fn are_answered(
     Ok(is_posted(alloc, registry, mail)? && are_refused(registry, mail))
 }
 
-fn are_told(alloc: Global) -> Result<bool, Fail> {
+fn tried(alloc: Global) -> Result<bool, Fail> {
     let limits = limits(3)?;
     let registry = registry(alloc)?;
     let mut mail = Mail::new(alloc, limits);
@@ -85,6 +85,6 @@ fn are_told(alloc: Global) -> Result<bool, Fail> {
 
 #[test]
 fn a_message_to_a_group_waits_for_its_members(rt: HostRuntime) -> Result<(), Fail> {
-    assert!(rt; are_told(rt.alloc())?);
+    assert!(rt; tried(rt.alloc())?);
     Ok(())
 }

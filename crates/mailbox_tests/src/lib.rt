@@ -1,5 +1,5 @@
-//! Tests of the public calls of `mailbox`. What messages, reports and acknowledgements are answered is shown by the program's
-//! rows too, in tests/rows.
+//! Tests of the public calls of `mailbox`. The program's rows in tests/program/rows also test how messages, reports and
+//! acknowledgements are answered.
 #![tactic(auto)]
 
 #[cfg(test)]

@@ -9,7 +9,7 @@ use std::test::Fail;
 /// The number of the command that posts a message, its source and its destination.
 const POSTED: [(u64, u32, u32); 3] = [(1, 1, 2), (2, 2, 1), (3, 1, 3)];
 
-/// After which number, source and destination one asks, and the number of the item that follows; 0 for none.
+/// A number, a source and a destination, and the number of the item that follows them; 0 for none.
 const FOLLOWING: [(u64, u32, u32, u64); 8] = [
     (0, 1, 3, 1),
     (1, 1, 1, 1),

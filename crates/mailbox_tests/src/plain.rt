@@ -4,7 +4,7 @@ use crate::fixture::Call;
 use mailbox::{Key, Kind, MailFault};
 use std::alloc::Global;
 
-/// For whom something waits, from whom, about which message, and what it is; radios by their number in the test.
+/// For whom an item waits, from whom, about which message, and of which kind. Radios have their numbers in the test.
 #[derive(Clone, Copy, PartialEq, Eq)]
 pub struct Name {
     pub destination: u32,
@@ -43,7 +43,7 @@ impl Name {
     }
 }
 
-/// What waits, and the call that made it.
+/// An item that waits, and the call that made it.
 #[derive(Clone, Copy)]
 pub struct Waits {
     pub name: Name,
@@ -53,7 +53,7 @@ pub struct Waits {
 }
 
 impl Waits {
-    /// A message that a report of this status ends.
+    /// Whether it is a message that a report of this status ends.
     fn is_ended(&self, code: u8) -> bool {
         match self.made {
             Call::Post(request) => code == 2 || code == 0 && request < 2,
@@ -61,7 +61,7 @@ impl Waits {
         }
     }
 
-    /// It asks for no answer.
+    /// Whether it asks for no answer.
     fn is_answerless(&self) -> bool {
         matches!(self.made, Call::Post(0) | Call::Report(_, false))
     }
@@ -117,7 +117,7 @@ impl PlainMail {
         }
     }
 
-    /// With one more than so many.
+    /// Why one more than so many is refused.
     fn crowded(&self, count: usize) -> Option<MailFault> {
         if count >= self.room {
             Some(MailFault::CentreFull)
@@ -135,8 +135,8 @@ impl PlainMail {
             .count()
     }
 
-    /// Makes the change of a call that isn't refused, by the command of this number, whose items end at this deadline;
-    /// whether there was memory.
+    /// Makes the change of a call that isn't refused, and returns whether there was memory. A new item has this number and
+    /// deadline.
     pub fn change(&mut self, call: Call, name: Name, number: u64, deadline: u64) -> bool {
         match call {
             Call::Post(_) => self.push(call, name.of(Kind::Message), number, deadline),

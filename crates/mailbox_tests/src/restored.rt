@@ -1,4 +1,4 @@
-//! Items put back as they were kept, without a rule and without a radio.
+//! Items restored as they were stored, without a rule and without a radio.
 
 use crate::fixture::{Call, envelope, limits, pdu, text};
 use identity::{Bits, parse_bits};
@@ -11,7 +11,7 @@ use std::test::Fail;
 /// The number of the command that made a message, its source and its destination.
 const RESTORED: [(u64, u32, u32); 3] = [(4, 8, 2), (4, 9, 100), (7, 1, 2)];
 
-/// What is answered to a message, which comes after all that wait.
+/// The answer to a restored message, which must come after all that wait.
 fn restored<A: Allocator + Clone>(
     mail: &mut Mail<A>,
     alloc: A,
@@ -71,7 +71,7 @@ fn items_are_restored_in_order(rt: HostRuntime) -> Result<(), Fail> {
     Ok(())
 }
 
-/// Which of these messages for one destination is the first that finds no place.
+/// Which of these messages for one destination is the first for which there is no room.
 fn first_refused(alloc: Global, mail: &mut Mail<Global>) -> Result<Option<u32>, Fail> {
     for source in 0..130u32 {
         if let Err(fault) = restored(mail, alloc, u64::from(source) + 1, source, 2)? {
@@ -94,7 +94,7 @@ fn one_destination_has_128_places(rt: HostRuntime) -> Result<(), Fail> {
     Ok(())
 }
 
-/// Whether the message finds memory; nothing where it is refused for another reason.
+/// Whether there is memory for the message; `None` if it is refused for another reason.
 fn is_put<'a>(mail: &mut Mail<&'a LocalHeap>, key: Key, pdu: Bits<&'a LocalHeap>) -> Option<bool> {
     if !mail.is_next(1, &key) {
         return None;
@@ -105,7 +105,7 @@ fn is_put<'a>(mail: &mut Mail<&'a LocalHeap>, key: Key, pdu: Bits<&'a LocalHeap>
     }
 }
 
-/// The same of a new mail in this heap; nothing where a refusal leaves something, too.
+/// The same of a new mail in this heap; `None` also if a refusal leaves something.
 fn is_put_in(heap: &LocalHeap, limits: Limits, key: Key) -> Option<bool> {
     let Ok(pdu) = parse_bits(heap, text(Call::Post(0)).as_bytes()) else {
         return Some(false);
@@ -117,7 +117,7 @@ fn is_put_in(heap: &LocalHeap, limits: Limits, key: Key) -> Option<bool> {
     (is_put == Some(is_there)).then_some(is_there)
 }
 
-/// The same of a heap of this size; nothing where some of it stays in use, too.
+/// The same of a heap of this size; `None` also if some of it stays in use.
 fn restored_in(alloc: Global, size: usize) -> Result<Option<bool>, Fail> {
     let (limits, key) = (limits(3)?, envelope(8, 2, 5)?.key(Kind::Message));
     let heap = LocalHeap::new(alloc, size)?;
@@ -125,7 +125,7 @@ fn restored_in(alloc: Global, size: usize) -> Result<Option<bool>, Fail> {
     Ok(if heap.used() == 0 { is_put } else { None })
 }
 
-/// The heap's size, in units of 16 bytes, from which on the message finds memory.
+/// The smallest heap with memory for the message, in units of 16 bytes.
 fn least_heap(alloc: Global) -> Result<Option<usize>, Fail> {
     for size in 2..200usize {
         match restored_in(alloc, 16 * size)? {

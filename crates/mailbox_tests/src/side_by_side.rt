@@ -32,7 +32,7 @@ fn call_of(number: u64, moment: u32) -> Call {
     }
 }
 
-/// Of few radios and references.
+/// The name that is made of a number, of few radios and references.
 fn name_of(number: u64) -> Name {
     Name {
         destination: DESTINATIONS[(number >> 24) as usize % 8],
@@ -66,7 +66,7 @@ fn are_same(alloc: Global, items: &[&Item<Global>], list: &[Waits], radio: u32) 
     count == items.len()
 }
 
-/// Whether all that is shown of both is the same.
+/// Whether both list the same items.
 fn are_alike(alloc: Global, mail: &Mail<Global>, plain: &PlainMail) -> Result<bool, Fail> {
     for number in [1, 2, 9] {
         let waiting = mail.waiting(alloc, radio(number)?)?;
@@ -84,7 +84,7 @@ struct Both {
     plain: PlainMail,
 }
 
-/// One call in both, whose answers have to be the same.
+/// Makes one call in both, and returns whether their answers are the same.
 fn is_answered_alike(
     registry: &Registry<Global>,
     both: &mut Both,
@@ -115,7 +115,7 @@ fn made_of(name: Name, call: Call, stamp: Stamp) -> Result<Made, Fail> {
     })
 }
 
-/// The call of this number in both, which then show the same.
+/// Makes the call of this number in both, and returns whether their answers and then their items are the same.
 fn is_turn_alike(
     alloc: Global,
     registry: &Registry<Global>,
@@ -132,7 +132,7 @@ fn is_turn_alike(
     are_alike(alloc, &both.mail, &both.plain)
 }
 
-/// The most items that waited in so many turns, after each of which both show the same.
+/// Makes so many turns, and returns the most items that waited. After each turn both have the same items.
 fn most_items(
     alloc: Global,
     registry: &Registry<Global>,
@@ -156,7 +156,7 @@ fn most_items(
     Ok(most)
 }
 
-/// Whether the copy shows the same once the mail is empty.
+/// Whether the copy still has the same items once the mail is empty.
 fn is_apart(alloc: Global, both: &mut Both, copy: &Mail<Global>) -> Result<bool, Fail> {
     both.mail.expire(Moment::new(u32::MAX));
     let empty = both.mail.items(alloc)?.is_empty();
@@ -170,7 +170,7 @@ fn is_copied(alloc: Global, both: &mut Both) -> Result<bool, Fail> {
     is_apart
 }
 
-/// Whether 1,000 turns are alike, with six items at most, and then a copy.
+/// Whether 1,000 turns are alike, with six items at most, and then a copy is.
 fn are_turns_alike(
     alloc: Global,
     registry: &Registry<Global>,

@@ -36,7 +36,7 @@ fn numbers<'a>(alloc: Global, mail: &Mail<&'a LocalHeap>) -> Result<Vec<u64>, Fa
     Ok(numbers)
 }
 
-/// Nothing where the call of this turn is carried out, or else whether it left all as it was. Its PDU lies in an ample heap.
+/// `None` if the call of this turn is carried out, else whether it left all as it was. Its PDU is in an ample heap.
 fn tried<'a>(
     alloc: Global,
     ample: &'a LocalHeap,
@@ -51,8 +51,8 @@ fn tried<'a>(
     }
 }
 
-/// How many calls are carried out until one is refused, and one more where the mail can then be copied; nothing where the
-/// refusal changed something.
+/// How many calls are carried out until one is refused, and one more if the mail can then be copied; `None` if the refusal
+/// changed something.
 fn taken<'a>(
     alloc: Global,
     ample: &'a LocalHeap,
@@ -100,8 +100,8 @@ fn ends(alloc: Global, ample: &LocalHeap) -> Result<[bool; 18], Fail> {
     Ok(seen)
 }
 
-/// Each item needs a node of its own, the first message and the first report an inbox too, the fifth of each a longer one,
-/// and what the shorter one leaves is room for the next three nodes; then there is no memory for a copy, and then for all.
+/// Each item needs a node of its own, the first message and the first report an inbox too, the fifth of each a longer one.
+/// The shorter one leaves room for the next three nodes. At last there is memory for all but a copy (16), and for all (17).
 const ENDS: [usize; 12] = [0, 1, 2, 3, 4, 8, 9, 10, 11, 12, 16, 17];
 
 fn are_seen(alloc: Global) -> Result<bool, Fail> {
@@ -116,8 +116,8 @@ fn each_growth_is_refused_in_turn(rt: HostRuntime) -> Result<(), Fail> {
     Ok(())
 }
 
-/// Whether a message to a group was put into this mail for both its receivers; nothing where it waits for one of them, or was
-/// refused and waits, or for another reason than want of memory.
+/// Whether a message to a group was put for both its receivers, or was put for nobody because memory ran out; `None` in any
+/// other case.
 fn is_posted<'a>(
     alloc: Global,
     ample: &'a LocalHeap,
@@ -184,7 +184,7 @@ fn put_eight(
     Ok(())
 }
 
-/// Whether neither list of what waits, eight items, finds memory in this heap.
+/// Whether this heap has too little memory for either list of what waits, eight items.
 fn are_lists_refused(alloc: Global, heap: &LocalHeap) -> Result<bool, Fail> {
     let (limits, itsi) = (limits(16)?, radio(2)?);
     let registry = registry(alloc)?;

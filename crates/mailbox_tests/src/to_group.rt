@@ -76,7 +76,7 @@ pub fn group_refusal<A: Allocator + Clone>(
     mail.group_refusal(registry, &envelope, &members)
 }
 
-/// Puts the message, where nothing waits, by command 4 at moment 100.
+/// Puts the message by command 4 at moment 100. Nothing may wait.
 pub fn post_group<A: Allocator + Clone>(
     alloc: Global,
     registry: &Registry<A>,

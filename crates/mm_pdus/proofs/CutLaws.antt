@@ -11,7 +11,7 @@ use Rattle.mm_pdus.proofs.FieldLaws.{field_takes, field_again, piece_takes, piec
 
 -- of what was read of all bits, on the first of them: bits are missing, or it is the same before what is left
 abbrev pub Cut : {X : Type 0} → (X → X) → Result X MmFault → X → Type 0
-Cut {X} behind r x = (r ≡ Err Short) ⊎ ((y : X) × (r ≡ Ok y) × (x ≡ behind y))
+Cut {X} following r x = (r ≡ Err Short) ⊎ ((y : X) × (r ≡ Ok y) × (x ≡ following y))
 
 pub cut_bind : {X Y : Type 0} (ex : X → X) (ey : Y → Y) (r s : Result X MmFault) (f g : X → Result Y MmFault) (z : Y)
     → ((x : X) → s ≡ Ok x → Cut ex r x) → ((y : X) → r ≡ Ok y → g (ex y) ≡ Ok z → Cut ey (f y) z) → (s >>= g) ≡ Ok z → Cut ey (r >>= f) z
@@ -125,7 +125,7 @@ module _ (more : List Bool) where
 
 -- ---- PDUs cut off
 
--- with one bit more at least behind the cut, nothing but missing bits is left
+-- with one bit more at least after the cut, nothing but missing bits is left
 pub whole_missing : {A : Type 0} (r : Result (A × List Bool) MmFault) (v : A) (b : Bool) (rest : List Bool) → Cut (value_on (b ∷ rest)) r (v, []) → whole r ≡ Err Short
 whole_missing {A} r v b rest cut = elim cut [
   | inl short ↦ ap whole short

@@ -20,7 +20,7 @@ use Rattle.mm_pdus.specs.Downlink.{identity_downlink, rejects, accept_text, reje
 use Rattle.mm_pdus.specs.Reading.{◌>>=◌, known, needs, clear_at, field_at, piece_at, whole, made_element, Gives}
 use Rattle.mm_pdus.specs.GroupReading.{group_down_at, body_at}
 use Rattle.mm_pdus.specs.DownlinkReading.{one_element_at, answers_at, accept_at, reject_at, acknowledge_at, down_at, reading_down}
-use Rattle.mm_pdus.proofs.Steps.{bind_ok, ok_is, chosen, join, err_ok, whole_takes, whole_behind}
+use Rattle.mm_pdus.proofs.Steps.{bind_ok, ok_is, chosen, join, err_ok, whole_takes, whole_after}
 use Rattle.mm_pdus.proofs.ValueLaws.{update_named, update_of-update_number, update_number-lt, accept_of-update_accepted, update_accepted-accept_of}
 use Rattle.mm_pdus.proofs.FieldLaws.{known_takes, clear_takes, field_takes, field_again, piece_takes, piece_again}
 use Rattle.mm_pdus.proofs.GroupLaws as groups
@@ -55,7 +55,7 @@ AreAnswers items = (length items ≤ most_groups) × AllByRecursion IsGroupDown 
 abbrev answers : List GroupDown → List Bool
 answers items = extension (groups_extension group_down identity_downlink items)
 
--- the one element with groups, and the bit 0 behind it
+-- the one element with groups, and the bit 0 after it
 one_element : List GroupDown → List Bool
 one_element items = (num 4 identity_downlink ++ num 11 (length (groups_body group_down items))) ++ groups_body group_down items
 
@@ -67,7 +67,7 @@ some_text : (items : List GroupDown) → ltb 0 (length items) ≡ true → answe
 some_text [] some = absurd cc
 some_text (g ∷ items) some = one_text g items
 
--- what is read behind each part of the element
+-- what is read after each part of the element
 ended_at : List Bool → List GroupDown → Result (List GroupDown × List Bool) MmFault
 ended_at bits items = needs (ltb 0 (length items)) >>= λ some. clear_at bits >>= λ rest. Ok (items, rest)
 
@@ -261,7 +261,7 @@ module _ {A : Type 0} where
   unfolding reading_down
   trailing p bits rest b spells =
       let read : down_at group_down_at (bits ++ b ∷ rest) ≡ Ok ((p, true), b ∷ rest) = ap (λ (t : List Bool). down_at group_down_at (t ++ b ∷ rest)) spells.2 ∙ down_again p spells.1 (b ∷ rest) spells.0 in
-      rw (ap whole read ∙ whole_behind (p, true) b rest) refl
+      rw (ap whole read ∙ whole_after (p, true) b rest) refl
 
   pub other_type : (kind : ℕ) (rest : List Bool) → kind < 16 → (kind ≡ 5 → ⊥) → (kind ≡ 7 → ⊥) → (kind ≡ 11 → ⊥) → reading_down {A = A} (num 4 kind ++ rest) ≡ Err UnknownType
   unfolding reading_down down_at

@@ -8,7 +8,7 @@ use Rattle.mm_pdus.specs.Syntax.{Element}
 use Rattle.mm_pdus.specs.Reading.{◌>>=◌, field_at, piece_at, element_at, elements_at}
 use Rattle.mm_pdus.proofs.Steps.{bind_ok, guard_ok, ok_rest, err_same}
 
--- what is left behind a field is no longer
+-- what is left after a field is no longer
 field_shorter : (w : ℕ) (bits : List Bool) (x : ℕ × List Bool) → field_at w bits ≡ Ok x → length x.1 ≤ length bits
 field_shorter w bits x e =
     let g = guard_ok (ltb (length bits) w) Short (number (take w bits), drop w bits) x e in

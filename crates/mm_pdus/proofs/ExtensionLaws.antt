@@ -43,13 +43,13 @@ module _ {S : Type 0} (into : S → Element → Result S MmFault) where
       ∙ ap (λ (r : Result S MmFault). r >>= λ t. elements_at into n t (flat_map element es ++ false ∷ rest)) b.1
       ∙ elements_again n b.0 es rest t (omega arith) fits.1 b.2
 
-behind : (x b c : List Bool) → length (b ++ c) ≤ length (x ++ b ++ c)
-behind x b c = omega (arith, length-append (x ++ b) c, length-append x b, length-append b c)
+following : (x b c : List Bool) → length (b ++ c) ≤ length (x ++ b ++ c)
+following x b c = omega (arith, length-append (x ++ b) c, length-append x b, length-append b c)
 
 -- as many elements have at least as many bits
 pub elements_long : (es : List Element) (rest : List Bool) → length es < length (flat_map element es ++ false ∷ rest)
 elements_long [] rest = omega arith
-elements_long (e ∷ es) rest = let h = elements_long es rest in let b = behind (num 4 e.identifier ++ num 11 (length e.body) ++ e.body) (flat_map element es) (false ∷ rest) in omega arith
+elements_long (e ∷ es) rest = let h = elements_long es rest in let b = following (num 4 e.identifier ++ num 11 (length e.body) ++ e.body) (flat_map element es) (false ∷ rest) in omega arith
 
 ignored : (es : List Element) → all_into ignore tt es ≡ Ok tt
 unfolding all_into

@@ -1,4 +1,4 @@
--- No reading of bits finds want of memory.
+-- No reading of bits finds out of memory.
 use Rattle.std.proofs.Common.{ℕ, zero, suc, Bool, true, false, cond, List, [], ◌∷◌, Option, Some, None, Result, Ok, Err}
 use Rattle.std.specs.Prelude.{◌≢◌}
 use Rattle.mm_pdus.specs.declared.fault.MmFault.{MmFault}

@@ -19,8 +19,8 @@ field_takes w bits v rest e =
     let len : length (take w bits) ≡ w = length-take-le w bits long in
     let v-is : number (take w bits) ≡ v = ap (λ (p : ℕ × List Bool). p.0) g.1 in
     let rest-is : drop w bits ≡ rest = ap (λ (p : ℕ × List Bool). p.1) g.1 in
-    let front : num w v ≡ take w bits = rw (← v-is) (ap (λ (n : ℕ). num n (number (take w bits))) (sym len) ∙ num-number (take w bits)) in (
-      sym (take-append-drop w bits) ∙ ap (λ (t : List Bool). t ++ drop w bits) (sym front) ∙ ap (λ (t : List Bool). num w v ++ t) rest-is,
+    let prefix : num w v ≡ take w bits = rw (← v-is) (ap (λ (n : ℕ). num n (number (take w bits))) (sym len) ∙ num-number (take w bits)) in (
+      sym (take-append-drop w bits) ∙ ap (λ (t : List Bool). t ++ drop w bits) (sym prefix) ∙ ap (λ (t : List Bool). num w v ++ t) rest-is,
       rw (← v-is) (let h = number-lt (take w bits) in rw len at h),
     )
 

@@ -16,28 +16,28 @@ use Rattle.mm_pdus.specs.declared.group.GroupDown.{GroupDown}
 use Rattle.mm_pdus.specs.declared.group.GroupDown.TheVariants as down
 use Rattle.mm_pdus.specs.Values.{lifetime_number, leave_number, detach_number, most_groups}
 use Rattle.mm_pdus.specs.Groups.{address, group_up, group_down, groups_body}
-use Rattle.mm_pdus.specs.GroupReading.{groups_at, with_front}
+use Rattle.mm_pdus.specs.GroupReading.{groups_at, with_prefix}
 
 module _ {T : Type 0} (group_at : List Bool → Result (T × List Bool) MmFault) where
-  regroup : (front : List T) (n : T) (read : Result (List T × List Bool) MmFault) → with_front front (read >>= λ x. Ok (n ∷ x.0, x.1)) ≡ with_front (front ++ n ∷ []) read
-  regroup front n (Ok x) = ap (λ (ns : List T). Ok (ns, x.1)) (sym (append_assoc front (n ∷ []) x.0))
-  regroup front n (Err f) = refl
+  regroup : (prefix : List T) (n : T) (read : Result (List T × List Bool) MmFault) → with_prefix prefix (read >>= λ x. Ok (n ∷ x.0, x.1)) ≡ with_prefix (prefix ++ n ∷ []) read
+  regroup prefix n (Ok x) = ap (λ (ns : List T). Ok (ns, x.1)) (sym (append_assoc prefix (n ∷ []) x.0))
+  regroup prefix n (Err f) = refl
 
-  pub goes_on : (front : List T) (count i : ℕ) (bits : List Bool) (n : T) (after : List Bool) → i < count → group_at bits ≡ Ok (n, after)
-      → with_front (front ++ n ∷ []) (groups_at group_at (count - (i + 1)) after) ≡ with_front front (groups_at group_at (count - i) bits)
+  pub goes_on : (prefix : List T) (count i : ℕ) (bits : List Bool) (n : T) (after : List Bool) → i < count → group_at bits ≡ Ok (n, after)
+      → with_prefix (prefix ++ n ∷ []) (groups_at group_at (count - (i + 1)) after) ≡ with_prefix prefix (groups_at group_at (count - i) bits)
   unfolding groups_at
-  goes_on front count i bits n after lt h =
+  goes_on prefix count i bits n after lt h =
       let k : count - i ≡ suc (count - (i + 1)) = omega arith in
-      let one : with_front front (groups_at group_at (count - i) bits) ≡ with_front (front ++ n ∷ []) (groups_at group_at (count - (i + 1)) after) = rw (k, h) (regroup front n (groups_at group_at (count - (i + 1)) after)) in
+      let one : with_prefix prefix (groups_at group_at (count - i) bits) ≡ with_prefix (prefix ++ n ∷ []) (groups_at group_at (count - (i + 1)) after) = rw (k, h) (regroup prefix n (groups_at group_at (count - (i + 1)) after)) in
       sym one
 
-  pub ends : (f : MmFault) (front : List T) (count i : ℕ) (bits : List Bool) → i < count → group_at bits ≡ Err f → with_front front (groups_at group_at (count - i) bits) ≡ Err f
+  pub ends : (f : MmFault) (prefix : List T) (count i : ℕ) (bits : List Bool) → i < count → group_at bits ≡ Err f → with_prefix prefix (groups_at group_at (count - i) bits) ≡ Err f
   unfolding groups_at
-  ends f front count i bits lt h = let k : count - i ≡ suc (count - (i + 1)) = omega arith in rw (k, h) refl
+  ends f prefix count i bits lt h = let k : count - i ≡ suc (count - (i + 1)) = omega arith in rw (k, h) refl
 
-  pub is_done : (front : List T) (count i : ℕ) (bits : List Bool) → count ≤ i → with_front front (groups_at group_at (count - i) bits) ≡ Ok (front, bits)
+  pub is_done : (prefix : List T) (count i : ℕ) (bits : List Bool) → count ≤ i → with_prefix prefix (groups_at group_at (count - i) bits) ≡ Ok (prefix, bits)
   unfolding groups_at
-  is_done front count i bits le = let k : count - i ≡ 0 = omega arith in rw k (ap (λ (ns : List T). Ok (ns, bits)) (append-nil front))
+  is_done prefix count i bits le = let k : count - i ≡ 0 = omega arith in rw k (ap (λ (ns : List T). Ok (ns, bits)) (append-nil prefix))
 
 -- ---- lengths
 

@@ -62,6 +62,6 @@ whole_takes {A} (Ok (y, rest)) x e =
     ap (λ (b : List Bool). Ok (y, b)) (nil_from_length rest (eqb-true _ _ g.0)) ∙ ap (λ (z : A). Ok (z, [])) g.1
 whole_takes (Err d) x e = absurd cc
 
--- bits are left behind a PDU
-pub whole_behind : {A : Type 0} (x : A) (b : Bool) (rest : List Bool) → whole (Ok (x, b ∷ rest)) ≡ Err Trailing
-whole_behind x b rest = rw (ne_eqb (suc (length rest)) 0 (λ e. absurd (omega (arith, e)))) refl
+-- bits are left after a PDU
+pub whole_after : {A : Type 0} (x : A) (b : Bool) (rest : List Bool) → whole (Ok (x, b ∷ rest)) ≡ Err Trailing
+whole_after x b rest = rw (ne_eqb (suc (length rest)) 0 (λ e. absurd (omega (arith, e)))) refl

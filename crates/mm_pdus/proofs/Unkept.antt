@@ -7,7 +7,7 @@ use Rattle.mm_pdus.specs.Values.{most_groups}
 use Rattle.mm_pdus.specs.Syntax.{Element}
 use Rattle.mm_pdus.specs.Uplink.{identity_uplink}
 use Rattle.mm_pdus.specs.Reading.{◌>>=◌, field_at, element_at, elements_at}
-use Rattle.mm_pdus.specs.GroupReading.{group_up_at, unkept, groups_at, counted_at, body_at, read_inside, behind}
+use Rattle.mm_pdus.specs.GroupReading.{group_up_at, unkept, groups_at, counted_at, body_at, read_inside, appended_to}
 use Rattle.mm_pdus.specs.UplinkReading.{join_groups}
 use Rattle.mm_pdus.proofs.Steps.{bind_ok}
 use Rattle.mm_pdus.proofs.ElementSteps.{elements_on, elements_fail, elements_refuse}
@@ -35,7 +35,7 @@ module _ {T : Type 0} (group_at : List Bool → Result (T × List Bool) MmFault)
   add_wants begin count bits x some (inl same) e = groups_want count begin x some (ap group_at (sym same) ∙ e)
   add_wants begin count bits x some (inr first) e = first
 
-  -- what is read with memory is read so without it, or memory is wanted
+  -- what is read with memory is read so without it, or memory runs out
   groups_same : (count : ℕ) (bits : List Bool) (x : List T × List Bool) → groups_at group_at count bits ≡ Ok x → (groups_at (unkept group_at) count bits ≡ Ok x) ⊎ (groups_at (unkept group_at) count bits ≡ Err NoMemory)
   unfolding groups_at
   groups_same zero bits x e = inl e
@@ -75,12 +75,12 @@ without = join_groups (unkept group_up_at)
 join_same : (items : List GroupUp) (e : Element) (x : List GroupUp) → join_groups group_up_at items e ≡ Ok x → (without items e ≡ Ok x) ⊎ (without items e ≡ Err NoMemory)
 join_same items e x h = by (eqb e.identifier identity_uplink) h
   where
-    by : (b : Bool) → cond b (behind items (body_at group_up_at (length items) e.body)) (Ok items) ≡ Ok x
-        → (cond b (behind items (body_at (unkept group_up_at) (length items) e.body)) (Ok items) ≡ Ok x) ⊎ (cond b (behind items (body_at (unkept group_up_at) (length items) e.body)) (Ok items) ≡ Err NoMemory)
+    by : (b : Bool) → cond b (appended_to items (body_at group_up_at (length items) e.body)) (Ok items) ≡ Ok x
+        → (cond b (appended_to items (body_at (unkept group_up_at) (length items) e.body)) (Ok items) ≡ Ok x) ⊎ (cond b (appended_to items (body_at (unkept group_up_at) (length items) e.body)) (Ok items) ≡ Err NoMemory)
     by false h = inl h
     by true h =
         let a = bind_ok (body_at group_up_at (length items) e.body) (λ more. Ok (items ++ more)) x h in
-        elim (body_same group_up_at (length items) e.body a.0 a.1) [ inl is ↦ inl (ap (behind items) is ∙ a.2) | inr wants ↦ inr (ap (behind items) wants) ]
+        elim (body_same group_up_at (length items) e.body a.0 a.1) [ inl is ↦ inl (ap (appended_to items) is ∙ a.2) | inr wants ↦ inr (ap (appended_to items) wants) ]
 
 abbrev all : List GroupUp → List Bool → Result (List GroupUp × List Bool) MmFault
 all items bits = elements_at without (length bits) items bits

@@ -16,9 +16,9 @@ use Rattle.mm_pdus.specs.Syntax.{optional, Element, element, IsElement, Extensio
 use Rattle.mm_pdus.specs.Groups.{group_up, IsGroupUp, groups_body, groups_extension}
 use Rattle.mm_pdus.specs.Uplink.{detach_widths, demand_widths, identity_uplink, GroupsOf, elements_of, SpellsUp, canon_up, demand_text, IsUp}
 use Rattle.mm_pdus.specs.Reading.{◌>>=◌, known, bit_at, field_at, optional_at, extension_at, whole, Gives}
-use Rattle.mm_pdus.specs.GroupReading.{group_up_at, body_at, behind}
+use Rattle.mm_pdus.specs.GroupReading.{group_up_at, body_at, appended_to}
 use Rattle.mm_pdus.specs.UplinkReading.{join_groups, all_groups_at, groups_up_at, detach_at, demand_at, up_at, reading_up}
-use Rattle.mm_pdus.proofs.Steps.{bind_ok, ok_is, chosen, join, err_ok, whole_takes, whole_behind}
+use Rattle.mm_pdus.proofs.Steps.{bind_ok, ok_is, chosen, join, err_ok, whole_takes, whole_after}
 use Rattle.mm_pdus.proofs.ValueLaws.{update_named, update_of-update_number, update_number-lt, mode_bit-mode_of, mode_of-mode_bit}
 use Rattle.mm_pdus.proofs.FieldLaws.{bit_takes, field_takes, field_again, known_takes, optional_takes, optional_again}
 use Rattle.mm_pdus.proofs.ExtensionLaws.{all_into, elements_take, elements_again, elements_long, extension_takes, extension_again}
@@ -42,14 +42,14 @@ unfolding all_into
 groups_into s [] t room h = let same = ok_is s t h in ([], sym same ∙ sym (append-nil s), refl, omega (arith, ap length same))
 groups_into s (e ∷ es) t room h =
     let a = bind_ok (join_groups group_up_at s e) (λ u. all_into (join_groups group_up_at) u es) t h in
-    elim (chosen (eqb e.identifier identity_uplink) (behind s (body_at group_up_at (length s) e.body)) (Ok s) (Ok a.0) a.1) [
+    elim (chosen (eqb e.identifier identity_uplink) (appended_to s (body_at group_up_at (length s) e.body)) (Ok s) (Ok a.0) a.1) [
       | inl known ↦
           let b = bind_ok (body_at group_up_at (length s) e.body) (λ more. Ok (s ++ more)) a.0 known.1 in
-          let front = body_takes up_text (length s) e.body b.0 b.1 in
+          let prefix = body_takes up_text (length s) e.body b.0 b.1 in
           let is = ok_is (s ++ b.0) a.0 b.2 in
-          let later = groups_into a.0 es t (omega (arith, ap length is, length-append s b.0, front.1)) a.2 in
+          let later = groups_into a.0 es t (omega (arith, ap length is, length-append s b.0, prefix.1)) a.2 in
           let whole : t ≡ s ++ (b.0 ++ later.0) = later.1 ∙ ap (λ (u : List GroupUp). u ++ later.0) (sym is) ∙ append_assoc s b.0 later.0 in
-          (b.0 ++ later.0, whole, (b.0, later.0, refl, pick (eqb e.identifier identity_uplink) (AllByRecursion IsGroupUp b.0 × (e.body ≡ groups_body group_up b.0)) (b.0 ≡ []) (inl (known.0, front.0)), later.2), later.3)
+          (b.0 ++ later.0, whole, (b.0, later.0, refl, pick (eqb e.identifier identity_uplink) (AllByRecursion IsGroupUp b.0 × (e.body ≡ groups_body group_up b.0)) (b.0 ≡ []) (inl (known.0, prefix.0)), later.2), later.3)
       | inr other ↦
           let is = ok_is s a.0 other.1 in
           let later = groups_into a.0 es t (omega (arith, ap length is)) a.2 in
@@ -59,15 +59,15 @@ groups_into s (e ∷ es) t room h =
 groups_again_into : (s : List GroupUp) (es : List Element) (more : List GroupUp) → GroupsOf es more → length s + length more ≤ most_groups → all_into (join_groups group_up_at) s es ≡ Ok (s ++ more)
 unfolding all_into
 groups_again_into s [] more none room = ap (λ (l : List GroupUp). Ok l) (sym (ap (λ (m : List GroupUp). s ++ m) none ∙ append-nil s))
-groups_again_into s (e ∷ es) more (front, back, is, body, later) room =
-    let len : length more ≡ length front + length back = ap length is ∙ length-append front back in
-    let first : join_groups group_up_at s e ≡ Ok (s ++ front) = one (eqb e.identifier identity_uplink) refl body (omega arith) in
+groups_again_into s (e ∷ es) more (prefix, back, is, body, later) room =
+    let len : length more ≡ length prefix + length back = ap length is ∙ length-append prefix back in
+    let first : join_groups group_up_at s e ≡ Ok (s ++ prefix) = one (eqb e.identifier identity_uplink) refl body (omega arith) in
     ap (λ (r : Result (List GroupUp) MmFault). r >>= λ u. all_into (join_groups group_up_at) u es) first
-    ∙ groups_again_into (s ++ front) es back later (omega (arith, length-append s front))
-    ∙ ap (λ (l : List GroupUp). Ok l) (append_assoc s front back ∙ ap (λ (m : List GroupUp). s ++ m) (sym is))
+    ∙ groups_again_into (s ++ prefix) es back later (omega (arith, length-append s prefix))
+    ∙ ap (λ (l : List GroupUp). Ok l) (append_assoc s prefix back ∙ ap (λ (m : List GroupUp). s ++ m) (sym is))
   where
-    one : (b : Bool) → eqb e.identifier identity_uplink ≡ b → MatchBool b (AllByRecursion IsGroupUp front × (e.body ≡ groups_body group_up front)) (front ≡ []) → length s + length front ≤ most_groups → join_groups group_up_at s e ≡ Ok (s ++ front)
-    one true test groups room = rw (test, groups.1, body_again up_text (length s) front groups.0 room) refl
+    one : (b : Bool) → eqb e.identifier identity_uplink ≡ b → MatchBool b (AllByRecursion IsGroupUp prefix × (e.body ≡ groups_body group_up prefix)) (prefix ≡ []) → length s + length prefix ≤ most_groups → join_groups group_up_at s e ≡ Ok (s ++ prefix)
+    one true test groups room = rw (test, groups.1, body_again up_text (length s) prefix groups.0 room) refl
     one false test none room = rw (test, none) (ap (λ (l : List GroupUp). Ok l) (sym (append-nil s)))
 
 all_groups_take : (bits : List Bool) (items : List GroupUp) (rest : List Bool) → all_groups_at group_up_at bits ≡ Ok (items, rest)
@@ -201,7 +201,7 @@ module _ {A : Type 0} where
 
   pub trailing : (p : MmUp A) (bits rest : List Bool) (b : Bool) → SpellsUp p bits → reading_up {A = A} (bits ++ b ∷ rest) ≡ Err Trailing
   unfolding reading_up
-  trailing p bits rest b spells = ap whole (up_again p bits (b ∷ rest) spells) ∙ whole_behind p b rest
+  trailing p bits rest b spells = ap whole (up_again p bits (b ∷ rest) spells) ∙ whole_after p b rest
 
   -- ---- the written form
 

@@ -12,9 +12,9 @@ use Rattle.mm_pdus.specs.Downlink.{identity_downlink, rejects}
 use Rattle.mm_pdus.specs.Reading.{Part, ◌>>=◌, known, needs, bit_at, clear_at, field_at, piece_at, whole}
 use Rattle.mm_pdus.specs.GroupReading.{group_down_at, unkept, body_at}
 
--- Each group is read by this function.
+-- `group_at` reads a group.
 module _ (group_at : List Bool → Part GroupDown) where
-  -- the one element with groups, at least one, and no element behind it
+  -- the one element with groups, of which there is at least one, and no element after it
   unfoldable pub one_element_at : List Bool → Part (List GroupDown)
   one_element_at bits = do
     more ← bit_at bits
@@ -38,9 +38,9 @@ module _ (group_at : List Bool → Part GroupDown) where
 abbrev pub names_groups : List Bool → Bool
 names_groups bits = number (take 4 bits) == 11
 
--- What is read is a PDU, and whether what it says of its groups is so.
+-- Each reading gives a PDU, and whether its bit for rejected groups agrees with its groups.
 module _ {A : Type 0} where
-  -- behind the accept type the O-bit
+  -- after the accept type the O-bit
   unfoldable pub accept_at : List Bool → Part (MmDown A × Bool)
   accept_at bits = do
     number ← field_at 3 bits
@@ -49,7 +49,7 @@ module _ {A : Type 0} where
     rest ← clear_at number.1
     Ok ((Accept accept, true), rest)
 
-  -- behind the cause cipher control and the O-bit
+  -- after the cause cipher control and the O-bit
   unfoldable pub reject_at : List Bool → Part (MmDown A × Bool)
   reject_at bits = do
     number ← field_at 3 bits
@@ -68,23 +68,23 @@ module _ {A : Type 0} where
       items ← answers_at group_at reserved.1
       Ok ((Acknowledge items.0, beq rejected.0 (rejects items.0)), items.1)
 
-    -- the PDU type, and what stands behind it in a PDU of that type
+    -- the PDU type, and what follows it in a PDU of that type
     unfoldable pub down_at : List Bool → Part (MmDown A × Bool)
     down_at bits = do
       kind ← field_at 4 bits
       if kind.0 == 5 then accept_at kind.1 else if kind.0 == 7 then reject_at kind.1 else if kind.0 == 11 then acknowledge_at kind.1 else Err UnknownType
 
-  -- judged last: whether an acknowledgement says rightly that a group is rejected
+  -- a PDU whose bit for rejected groups is wrong is refused; this is judged last
   abbrev pub judged : Result (MmDown A × Bool) MmFault → Result (MmDown A) MmFault
   judged all = do
     read ← all
     said ← needs read.1
     Ok read.0
 
-  -- the PDU to a radio that all of the bits are, or the first fault
+  -- the PDU to a radio that all of the bits spell, or the first fault
   unfoldable pub reading_down : List Bool → Result (MmDown A) MmFault
   reading_down bits = judged (whole (down_at group_down_at bits))
 
-  -- the same where no group can be kept
+  -- the same where there is no memory for any group
   unfoldable pub unkept_down : List Bool → Result (MmDown A) MmFault
   unkept_down bits = judged (whole (down_at (unkept group_down_at) bits))

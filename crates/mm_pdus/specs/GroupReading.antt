@@ -12,16 +12,16 @@ use Rattle.mm_pdus.specs.declared.group.GroupDown.TheVariants as down
 use Rattle.mm_pdus.specs.Values.{lifetime_of, leave_of, detach_of, most_groups}
 use Rattle.mm_pdus.specs.Reading.{Part, ◌>>=◌, known, bit_at, field_at}
 
--- behind the GSSI of a full address: the country code, and the network code
+-- after the GSSI of a full address: the country code, and the network code
 abbrev pub full_at : ℕ → List Bool → Part GroupAddress
 full_at gssi bits = do
   mcc ← field_at 10 bits
   mnc ← field_at 14 mcc.1
   Ok (Full (identity_number mcc.0 mnc.0 gssi), mnc.1)
 
--- behind an address type: the GSSI, which is all of a short address, whose type is 0
-abbrev pub address_behind : ℕ → List Bool → Part GroupAddress
-address_behind kind bits = do
+-- after an address type: the GSSI, and of a full address what follows it; the type of a short address is 0
+abbrev pub address_after : ℕ → List Bool → Part GroupAddress
+address_after kind bits = do
   gssi ← field_at 24 bits
   if kind == 0 then Ok (Short gssi.0, gssi.1) else full_at gssi.0 gssi.1
 
@@ -29,7 +29,7 @@ address_behind kind bits = do
 unfoldable pub address_at : List Bool → Part GroupAddress
 address_at bits = do
   kind ← field_at 2 bits
-  if nat_lt 1 kind.0 then Err fault.UnsupportedAddress else address_behind kind.0 kind.1
+  if nat_lt 1 kind.0 then Err fault.UnsupportedAddress else address_after kind.0 kind.1
 
 -- of a group that a radio leaves: the reason, and the address
 abbrev pub up_leave_at : List Bool → Part GroupUp
@@ -46,7 +46,7 @@ up_attach_at bits = do
   address ← address_at class.1
   Ok (up.Attach class.0 address.0, address.1)
 
--- one group from a radio: whether it leaves it, and what that needs
+-- one group from a radio: the bit whether the radio leaves it, and the fields of that case
 unfoldable pub group_up_at : List Bool → Part GroupUp
 group_up_at bits = do
   leaves ← bit_at bits
@@ -69,13 +69,13 @@ down_attach_at bits = do
   address ← address_at class.1
   Ok (down.Attach lifetime class.0 address.0, address.1)
 
--- one group to a radio: whether it is detached from it, and what that needs
+-- one group to a radio: the bit whether the radio is detached from it, and the fields of that case
 unfoldable pub group_down_at : List Bool → Part GroupDown
 group_down_at bits = do
   detached ← bit_at bits
   if detached.0 then down_detach_at detached.1 else down_attach_at detached.1
 
--- inside an element its length is known, so bits that are missing there are its fault
+-- inside an element, whose length is known, missing bits are a fault of the element
 abbrev pub inside : MmFault → MmFault
 inside fault.Short = fault.BadElement
 inside fault.Trailing = fault.Trailing
@@ -85,18 +85,18 @@ inside fault.UnsupportedAddress = fault.UnsupportedAddress
 inside fault.TooMany = fault.TooMany
 inside fault.NoMemory = fault.NoMemory
 
--- what is read inside an element, or its fault there
+-- the result of a reading inside an element
 abbrev pub read_inside : {X : Type 0} → Result X MmFault → Result X MmFault
 read_inside (Ok x) = Ok x
 read_inside (Err f) = Err (inside f)
 
--- a group that is read, and there is no memory to keep it
+-- the reading of a group where there is no memory for it: its fault, or else out of memory
 abbrev pub unkept : {T : Type 0} → (List Bool → Part T) → List Bool → Part T
 unkept group_at bits = group_at bits >>= λ group. Err fault.NoMemory
 
--- Groups one after the other, each read by this function.
+-- Groups one after the other; `group_at` reads a group.
 module _ {T : Type 0} (group_at : List Bool → Part T) where
-  -- so many groups, and the bits behind them
+  -- so many groups, and the bits after them
   unfoldable pub groups_at : ℕ → List Bool → Part (List T)
   groups_at zero bits = Ok ([], bits)
   groups_at (suc n) bits = do
@@ -104,26 +104,26 @@ module _ {T : Type 0} (group_at : List Bool → Part T) where
     others ← groups_at n first.1
     Ok (first.0 ∷ others.0, others.1)
 
-  -- so many groups, and no bit behind the last
+  -- so many groups, and no bit after the last
   abbrev pub only_groups_at : ℕ → List Bool → Result (List T) MmFault
   only_groups_at n bits = do
     items ← groups_at n bits
     if length items.1 == 0 then Ok items.0 else Err fault.BadElement
 
-  -- how many there are, which with those before them are no more than may be, and then each
+  -- the number of groups, which with `before` may be no more than a PDU may name, and then each group
   unfoldable pub counted_at : ℕ → List Bool → Result (List T) MmFault
   counted_at before bits = do
     count ← field_at 6 bits
     if nat_lt most_groups (before + count.0) then Err fault.TooMany else only_groups_at count.0 count.1
 
-  -- the groups of an element with these bits, behind so many of other elements
+  -- the groups of an element with these bits, where earlier elements had `before` groups
   abbrev pub body_at : ℕ → List Bool → Result (List T) MmFault
   body_at before bits = read_inside (counted_at before bits)
 
--- groups that there were, and those that are read behind them
-abbrev pub behind : {T : Type 0} → List T → Result (List T) MmFault → Result (List T) MmFault
-behind front read = read >>= λ more. Ok (front ++ more)
+-- earlier groups, and after them those that are read
+abbrev pub appended_to : {T : Type 0} → List T → Result (List T) MmFault → Result (List T) MmFault
+appended_to earlier read = read >>= λ more. Ok (earlier ++ more)
 
--- the same, with the bits behind them
-abbrev pub with_front : {T : Type 0} → List T → Part (List T) → Part (List T)
-with_front front read = read >>= λ x. Ok (front ++ x.0, x.1)
+-- the same, with the bits that are left
+abbrev pub with_prefix : {T : Type 0} → List T → Part (List T) → Part (List T)
+with_prefix earlier read = read >>= λ x. Ok (earlier ++ x.0, x.1)

@@ -1,4 +1,4 @@
--- The numbers that mobility management PDUs carry.
+-- The numbers in mobility management PDUs.
 use Rattle.std.specs.Prelude.{ℕ}
 
 -- a class of usage, how much a group matters to a radio: 3 bits, 0 to 7

@@ -1,14 +1,14 @@
--- How the parts of a PDU are spelt (clause 16.9, and annex E for the flag bits of type 2, 3 and 4 elements).
+-- The bits of the parts of a PDU (clause 16.9, and annex E for the flag bits of type 2, 3 and 4 elements).
 use Rattle.std.specs.Prelude.{◌≡◌, ℕ, ◌<◌, ◌^◌, Bool, true, false, List, [], ◌∷◌, ◌++◌, length, Option, Some, None, IfSome}
 use Rattle.std.specs.List.{flat_map, AllByRecursion}
 use Rattle.identity.specs.Number.{num}
 
--- A part that may be left out: the bit 0, or the bit 1 and the part.
+-- An optional part: the bit 0, or the bit 1 and the part.
 abbrev pub optional : Option (List Bool) → List Bool
 optional None = false ∷ []
 optional (Some part) = true ∷ part
 
--- Parts of these widths, each there or left out.
+-- The optional parts have these widths.
 abbrev pub AreParts : List ℕ → List (Option (List Bool)) → Type 0
 AreParts [] [] = Unit {0}
 AreParts (w ∷ ws) (part ∷ parts) = IfSome part (λ bits. length bits ≡ w) × AreParts ws parts

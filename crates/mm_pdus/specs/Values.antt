@@ -1,7 +1,8 @@
 -- The numbers of the values that PDUs carry.
 use Rattle.std.specs.Prelude.{ℕ, zero, suc, Bool, true, false, Option, Some, None}
 use Rattle.mm_pdus.specs.declared.update.LocationUpdateType.{LocationUpdateType}
-use Rattle.mm_pdus.specs.declared.update.LocationUpdateType.TheVariants.{Roaming, Migrating, Periodic, ItsiAttach, ServiceRestorationRoaming, ServiceRestorationMigrating, Demand, DisabledMs}
+use Rattle.mm_pdus.specs.declared.update.LocationUpdateType.TheVariants.{Roaming, Migrating, Periodic, ItsiAttach, ServiceRestorationRoaming}
+use Rattle.mm_pdus.specs.declared.update.LocationUpdateType.TheVariants.{ServiceRestorationMigrating, Demand, DisabledMs}
 use Rattle.mm_pdus.specs.declared.update.AcceptType.{AcceptType}
 use Rattle.mm_pdus.specs.declared.update.AcceptType.TheVariants as accept
 use Rattle.mm_pdus.specs.declared.lifetime.Lifetime.{Lifetime}
@@ -47,7 +48,7 @@ accept_of ServiceRestorationMigrating = None
 accept_of Demand = Some accept.Demand
 accept_of DisabledMs = None
 
--- the type of the update that was accepted so
+-- the type of the update that was accepted
 abbrev pub update_accepted : AcceptType → LocationUpdateType
 update_accepted accept.Roaming = Roaming
 update_accepted accept.Periodic = Periodic
@@ -100,12 +101,12 @@ detach_of (suc (suc zero)) = Some detach.TemporarySecond
 detach_of (suc (suc (suc zero))) = Some detach.Permanent
 detach_of (suc (suc (suc (suc n)))) = None
 
--- the mode as its bit
+-- the bit of a mode
 abbrev pub mode_bit : GroupMode → Bool
 mode_bit Amendment = false
 mode_bit DetachAllFirst = true
 
--- the mode that a bit stands for
+-- the mode of a bit
 abbrev pub mode_of : Bool → GroupMode
 mode_of false = Amendment
 mode_of true = DetachAllFirst

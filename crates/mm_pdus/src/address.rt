@@ -16,8 +16,8 @@ pub enum GroupAddress {
 }
 
 impl GroupAddress {
-    /// The group that the radio `itsi` means: a short address has the radio's country code and
-    /// network code.
+    /// The group that the address names for the radio `itsi`. A short address is completed by the radio's country code
+    /// and network code.
     pub fn gtsi(self, itsi: Itsi) -> Gtsi
         ensures { result ≡ gtsi_of self itsi }
     {

@@ -1,4 +1,4 @@
-//! Why a location update is rejected.
+//! Reject causes of location updates.
 
 ghost use Rattle.std.specs.Prelude.{◌≡◌, ◌<◌, ℕ};
 
@@ -6,7 +6,7 @@ use std::marker::Model;
 
 /// Why a location update is rejected (clause 16.10, reject cause): a number of five bits.
 ///
-/// Clauses see a cause as its number.
+/// A cause is modelled as its number.
 #[derive(Clone, Copy, Debug, PartialEq, Eq)]
 pub struct RejectCause {
     number: u8,
@@ -27,12 +27,12 @@ impl RejectCause {
     pub const ITSI_UNKNOWN: RejectCause = RejectCause { number: 1 };
     /// The radio may not use this location area.
     pub const LA_NOT_ALLOWED: RejectCause = RejectCause { number: 3 };
-    /// The network has no room for the radio.
+    /// The network is full.
     pub const CONGESTION: RejectCause = RejectCause { number: 6 };
-    /// The network takes no radio of another one.
+    /// The network serves no radios of other networks.
     pub const MIGRATION_NOT_SUPPORTED: RejectCause = RejectCause { number: 12 };
 
-    /// The cause that five bits name.
+    /// The cause of this number, which has five bits.
     pub fn new(number: u8) -> RejectCause
         requires { number < 32 }
         ensures { result ≡ number }
@@ -40,7 +40,7 @@ impl RejectCause {
         RejectCause { number }
     }
 
-    /// The number that names the cause, 0 to 31.
+    /// Its number, 0 to 31.
     pub fn number(self) -> u8
         ensures value { result ≡ self }
         ensures small { result < 32 }

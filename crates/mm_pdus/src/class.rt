@@ -6,7 +6,7 @@ use std::marker::Model;
 
 /// In which way a radio takes part in a group (clause 16.10, class of usage): a number of three bits.
 ///
-/// Clauses see a class as its number.
+/// A class is modelled as its number.
 #[derive(Clone, Copy, Debug, PartialEq, Eq)]
 pub struct ClassOfUsage {
     number: u8,
@@ -23,7 +23,7 @@ impl Model for ClassOfUsage {
 }
 
 impl ClassOfUsage {
-    /// The class that three bits name.
+    /// The class of this number, which has three bits.
     pub fn new(number: u8) -> ClassOfUsage
         requires { number < 8 }
         ensures { result ≡ number }
@@ -31,7 +31,7 @@ impl ClassOfUsage {
         ClassOfUsage { number }
     }
 
-    /// The number that names the class, 0 to 7.
+    /// Its number, 0 to 7.
     pub fn number(self) -> u8
         ensures value { result ≡ self }
         ensures small { result < 8 }

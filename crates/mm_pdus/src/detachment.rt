@@ -1,4 +1,4 @@
-//! Why a group is detached, as a radio and as the network says it.
+//! Why a group is detached, by a radio or by the network.
 
 ghost use Rattle.std.specs.Prelude.{◌≡◌, ◌<◌, Some};
 ghost use Rattle.mm_pdus.specs.Values.{leave_number, leave_of, detach_number, detach_of};
@@ -17,7 +17,7 @@ pub enum LeaveReason {
 }
 
 impl LeaveReason {
-    /// The reason that two bits name.
+    /// The reason of this number, which has two bits.
     pub fn from_number(number: u8) -> LeaveReason
         requires { number < 4 }
         ensures { leave_of number ≡ Some result }
@@ -30,7 +30,7 @@ impl LeaveReason {
         }
     }
 
-    /// The number that names the reason, 0 to 3.
+    /// Its number, 0 to 3.
     pub fn number(self) -> u8
         ensures value { result ≡ leave_number self }
         ensures small { result < 4 }
@@ -50,16 +50,16 @@ impl LeaveReason {
 pub enum DetachReason {
     /// 0: the network does not know the group.
     UnknownGroup,
-    /// 1: for a time, the first kind.
+    /// 1: for a time, of the first kind.
     TemporaryFirst,
-    /// 2: for a time, the second kind.
+    /// 2: for a time, of the second kind.
     TemporarySecond,
     /// 3: for good.
     Permanent,
 }
 
 impl DetachReason {
-    /// The reason that two bits name.
+    /// The reason of this number, which has two bits.
     pub fn from_number(number: u8) -> DetachReason
         requires { number < 4 }
         ensures { detach_of number ≡ Some result }
@@ -72,7 +72,7 @@ impl DetachReason {
         }
     }
 
-    /// The number that names the reason, 0 to 3.
+    /// Its number, 0 to 3.
     pub fn number(self) -> u8
         ensures value { result ≡ detach_number self }
         ensures small { result < 4 }

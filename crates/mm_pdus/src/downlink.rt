@@ -9,7 +9,8 @@ ghost use Rattle.mm_pdus.specs.Groups.{IsGroupDown};
 ghost use Rattle.mm_pdus.specs.Downlink.{SpellsDown, IsDown, canon_down, rejects, accept_text, reject_text, acknowledge_text};
 ghost use Rattle.mm_pdus.specs.Reading.{with_rest, Gives, WantsMemory};
 ghost use Rattle.mm_pdus.specs.GroupReading.{group_down_at, unkept};
-ghost use Rattle.mm_pdus.specs.DownlinkReading.{names_groups, one_element_at, answers_at, accept_at, reject_at, acknowledge_at, down_at, reading_down, unkept_down};
+ghost use Rattle.mm_pdus.specs.DownlinkReading.{names_groups, one_element_at, answers_at, accept_at, reject_at};
+ghost use Rattle.mm_pdus.specs.DownlinkReading.{acknowledge_at, down_at, reading_down, unkept_down};
 
 use crate::fields::{bit, clear_bit, field, need, piece};
 use crate::group_fields::{body_into, put_groups};
@@ -24,17 +25,16 @@ const GROUP_IDENTITY_DOWNLINK: u64 = 7;
 /// A PDU to a radio.
 #[derive(Drop)]
 pub enum MmDown<A: Allocator> {
-    /// D-LOCATION UPDATE ACCEPT: the radio is known at its location area.
+    /// D-LOCATION UPDATE ACCEPT: the radio is registered at its location area.
     Accept {
         update: AcceptType,
     },
-    /// D-LOCATION UPDATE REJECT: the update of this type was refused, and why.
+    /// D-LOCATION UPDATE REJECT: the update of this type was refused for this cause.
     Reject {
         update: LocationUpdateType,
         cause: RejectCause,
     },
-    /// D-ATTACH/DETACH GROUP IDENTITY ACKNOWLEDGEMENT: what became of each group that the radio
-    /// named.
+    /// D-ATTACH/DETACH GROUP IDENTITY ACKNOWLEDGEMENT: for each group that the radio named, whether it is attached.
     Acknowledge {
         items: GroupItems<GroupDown, A>,
     },
@@ -63,7 +63,7 @@ fn reject<A: Allocator>(reader: &mut BitReader<'_>) -> Result<(MmDown<A>, bool),
     Ok((MmDown::Reject { update, cause }, true))
 }
 
-/// Reads the one element with groups, at least one, and the end behind it.
+/// Reads the one element with groups, of which there is at least one, and the bit that no element follows.
 #[tactic(auto, unfolding(crate::specs::DownlinkReading::one_element_at))]
 fn one_element<A: Allocator>(
     alloc: A,
@@ -120,7 +120,7 @@ fn acknowledge<A: Allocator>(
     Ok((MmDown::Acknowledge { items }, agrees))
 }
 
-/// The PDU, and whether what it says of its groups is so.
+/// The PDU, and whether its bit for rejected groups agrees with its groups.
 #[tactic(auto, unfolding(crate::specs::DownlinkReading::down_at))]
 fn down<A: Allocator>(alloc: A, reader: &mut BitReader<'_>) -> Result<(MmDown<A>, bool), MmFault>
     ensures given { Gives (with_rest result reader.new) (down_at group_down_at reader.old) }
@@ -150,16 +150,16 @@ fn whole_down<A: Allocator, B: Allocator>(alloc: A, bits: &Bits<B>) -> Result<Mm
     Ok(pdu)
 }
 
-/// The PDU that the bits spell, all of them, or the first fault from the left. Its groups are kept
-/// under `alloc`; `NoMemory` where memory for them ran out.
+/// The PDU that all of the bits spell, or the first fault from the left. Its groups are kept under `alloc`; `NoMemory`
+/// where that is out of memory.
 pub fn read_down<A: Allocator, B: Allocator>(alloc: A, bits: &Bits<B>) -> Result<MmDown<A>, MmFault>
-    // What is read is spelt by the bits.
+    // If a PDU is read, the bits spell it.
     ensures spelt { IfOk result (λ pdu. SpellsDown pdu bits.now) }
-    // What the bits spell is read, unless memory ran out.
+    // If the bits spell a PDU, it is read, unless memory runs out.
     ensures found { (pdu : MmDown A) → SpellsDown pdu bits.now → Gives result (Ok pdu) }
-    // Else it is the first fault.
+    // Else the result is the first fault.
     ensures fault { Gives result (reading_down bits.now) }
-    // Memory is wanted only where a group is read, and before any other fault; so for groups alone.
+    // Memory runs out only where a group is read, and no fault comes before that group. A PDU of a type without groups needs none.
     ensures memory { WantsMemory result (unkept_down {A = A} bits.now) }
     ensures exact { names_groups bits.now ≡ false → result ≡ reading_down bits.now }
 {
@@ -227,7 +227,7 @@ fn put_down<A: Allocator, B: Allocator>(
 /// The canonical text of the PDU. The only error is `NoMemory`.
 pub fn write_down<A: Allocator, B: Allocator>(alloc: A, pdu: &MmDown<B>) -> Result<Bits<A>, MmFault>
     ensures ok { IfOk result (λ bits. bits ≡ canon_down pdu.now) }
-    // What is written spells the PDU, so `read_down` gives it back.
+    // The bits spell the PDU, so `read_down` reads it back.
     ensures spelt { IfOk result (λ bits. SpellsDown pdu.now bits) }
     ensures err { IfErr result (λ e. e ≡ NoMemory) }
 {

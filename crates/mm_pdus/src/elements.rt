@@ -1,4 +1,4 @@
-//! What may follow the fixed fields of a PDU.
+//! The optional parts and elements after the fixed fields of a PDU.
 
 ghost use Rattle.std.specs.Prelude.{◌≡◌, length};
 ghost use Rattle.mm_pdus.specs.Reading.{with_rest, giving, element_at, seen, optional_at, optionals_at, elements_at, ignore, extension_at};
@@ -7,7 +7,7 @@ use crate::MmFault;
 use crate::fields::{bit, field, piece};
 use identity::BitReader;
 
-/// Reads past a part of `width` bits that may be left out.
+/// Skips an optional part of `width` bits.
 #[tactic(auto, unfolding(crate::specs::Reading::optional_at))]
 pub fn skip_optional(reader: &mut BitReader<'_>, width: usize) -> Result<(), MmFault>
     ensures { optional_at width reader.old ≡ giving result reader.new }
@@ -28,7 +28,7 @@ fn skip_optionals(reader: &mut BitReader<'_>, widths: &[usize]) -> Result<(), Mm
     Ok(())
 }
 
-/// The next element's identifier and its bits, or `None` behind the last.
+/// The next element's identifier and bits, or `None` after the last element.
 #[tactic(auto, unfolding(crate::specs::Reading::element_at))]
 pub fn element<'a>(reader: &mut BitReader<'a>) -> Result<Option<(u64, BitReader<'a>)>, MmFault>
     ensures { element_at reader.old ≡ with_rest (seen result) reader.new }
@@ -49,7 +49,7 @@ fn skip_elements(reader: &mut BitReader<'_>) -> Result<(), MmFault>
     Ok(())
 }
 
-/// Reads past all that follows the fixed fields, where `widths` are those of the parts of type 2.
+/// Skips all parts and elements after the fixed fields; `widths` are those of the parts of type 2.
 #[tactic(auto, unfolding(crate::specs::Reading::extension_at))]
 pub fn skip_extension(reader: &mut BitReader<'_>, widths: &[usize]) -> Result<(), MmFault>
     ensures { extension_at widths.now reader.old ≡ giving result reader.new }

@@ -1,4 +1,4 @@
-//! What may be wrong with the bits of a PDU.
+//! The faults of the bits of a PDU.
 
 use thiserror::Error;
 
@@ -11,13 +11,13 @@ pub enum MmFault {
     /// Bits follow the end of the PDU.
     #[error("bits follow the end of the PDU")]
     Trailing,
-    /// The first four bits name no PDU that is read.
+    /// The first four bits are no PDU type that is read.
     #[error("the PDU type is unknown")]
     UnknownType,
     /// A field or an element has a value that it may not have.
     #[error("an element has a value that it may not have")]
     BadElement,
-    /// A group is named by a kind of address that is not supported.
+    /// A group has a type of address that is not supported.
     #[error("the address type is not supported")]
     UnsupportedAddress,
     /// More groups are named than one PDU may name.

@@ -6,7 +6,7 @@ ghost use Rattle.mm_pdus.specs.Reading.{with_rest, giving, needs, bit_at, clear_
 use crate::MmFault;
 use identity::BitReader;
 
-/// The number that the next `width` bits are.
+/// Reads the next `width` bits as a number.
 pub fn field(reader: &mut BitReader<'_>, width: u32) -> Result<u64, MmFault>
     requires { width ≤ 48 }
     ensures value { field_at width reader.old ≡ with_rest result reader.new }
@@ -22,7 +22,7 @@ pub fn piece<'a>(reader: &mut BitReader<'a>, len: usize) -> Result<BitReader<'a>
     reader.cut(len).or(Err(MmFault::Short))
 }
 
-/// The next bit.
+/// Reads the next bit.
 pub fn bit(reader: &mut BitReader<'_>) -> Result<bool, MmFault>
     ensures { bit_at reader.old ≡ with_rest result reader.new }
 {
@@ -39,7 +39,7 @@ pub fn clear_bit(reader: &mut BitReader<'_>) -> Result<(), MmFault>
     Ok(())
 }
 
-/// What must be so in a PDU.
+/// `BadElement` unless `holds`.
 pub fn need(holds: bool) -> Result<(), MmFault>
     ensures { result ≡ needs holds }
 {

@@ -1,4 +1,4 @@
-//! What is asked and answered for one group.
+//! What a radio asks, and the network answers, for one group.
 
 ghost use Rattle.std.specs.Prelude.{◌≡◌};
 ghost use Rattle.mm_pdus.specs.Values.{mode_bit, mode_of};
@@ -6,18 +6,17 @@ ghost use Rattle.mm_pdus.specs.Groups.{is_detach};
 
 use crate::{ClassOfUsage, DetachReason, GroupAddress, LeaveReason, Lifetime};
 
-/// What becomes of the groups that a radio was attached to before (clause 16.10, attach/detach
-/// mode).
+/// Whether a radio stays attached to its groups of before (clause 16.10, attach/detach mode).
 #[derive(Clone, Copy, Debug, PartialEq, Eq)]
 pub enum GroupMode {
-    /// 0: they stay, and the PDU changes them.
+    /// 0: it stays attached, and the PDU changes its groups.
     Amendment,
-    /// 1: the radio is detached from all of them first.
+    /// 1: it is detached from all of them first.
     DetachAllFirst,
 }
 
 impl GroupMode {
-    /// The mode that one bit names.
+    /// The mode of this bit.
     pub fn from_bit(bit: bool) -> GroupMode
         ensures { result ≡ mode_of bit }
     {
@@ -28,7 +27,7 @@ impl GroupMode {
         }
     }
 
-    /// The bit that names the mode.
+    /// Its bit.
     pub fn bit(self) -> bool
         ensures { result ≡ mode_bit self }
     {

@@ -8,7 +8,7 @@ ghost use Rattle.mm_pdus.specs.Values.{most_groups};
 ghost use Rattle.mm_pdus.specs.Reading.{with_rest, giving, Gives, WantsMemory, made_element};
 ghost use Rattle.mm_pdus.specs.Syntax.{element, extension};
 ghost use Rattle.mm_pdus.specs.Groups.{groups_body, groups_extension};
-ghost use Rattle.mm_pdus.specs.GroupReading.{unkept, groups_at, counted_at, body_at, behind, with_front};
+ghost use Rattle.mm_pdus.specs.GroupReading.{unkept, groups_at, counted_at, body_at, appended_to, with_prefix};
 
 use crate::fields::field;
 use crate::writing::{put, put_bit};
@@ -16,7 +16,7 @@ use crate::{GroupItems, MOST_GROUPS, MmFault};
 use identity::{BitReader, BitWriter};
 use std::alloc::Allocator;
 
-/// What a PDU says of one group, as bits.
+/// A group in a PDU, with its bits.
 pub trait GroupText: Copy {
     ghost group_at: { List Bool → Result (Self × List Bool) MmFault };
 
@@ -28,26 +28,26 @@ pub trait GroupText: Copy {
     fn read(reader: &mut BitReader<'_>) -> Result<Self, MmFault>
         ensures { group_at reader.old ≡ with_rest result reader.new };
 
-    /// How many bits the group has.
+    /// How many bits it has.
     fn text_len(self) -> u64
         ensures value { result ≡ length (text self) }
         ensures small { result ≤ 56 };
 
-    /// Puts the group at the end.
+    /// Appends its bits.
     fn put<A: Allocator>(self, writer: &mut BitWriter<A>) -> Result<(), MmFault>
         ensures ok { OnOk result (writer.new ≡ writer.old ++ text self) }
         ensures range { OnOk result (is_in_range self) }
         ensures err { IfErr result (λ e. e ≡ NoMemory) };
 }
 
-/// Reads `count` groups and puts them behind those that there are.
+/// Reads `count` groups and appends them to `items`.
 fn groups_into<T: GroupText, A: Allocator>(
     reader: &mut BitReader<'_>,
     count: u64,
     items: &mut GroupItems<T, A>,
 ) -> Result<(), MmFault>
     requires { length items.now + count ≤ most_groups }
-    ensures given { Gives (giving result (items.new, reader.new)) (with_front items.old (groups_at T.group_at count reader.old)) }
+    ensures given { Gives (giving result (items.new, reader.new)) (with_prefix items.old (groups_at T.group_at count reader.old)) }
     ensures memory { WantsMemory result (groups_at (unkept T.group_at) count reader.old) }
 {
     for _ in 0..count {
@@ -61,7 +61,7 @@ fn counted_into<T: GroupText, A: Allocator>(
     reader: &mut BitReader<'_>,
     items: &mut GroupItems<T, A>,
 ) -> Result<(), MmFault>
-    ensures given { Gives (giving result items.new) (behind items.old (counted_at T.group_at (length items.old) reader.old)) }
+    ensures given { Gives (giving result items.new) (appended_to items.old (counted_at T.group_at (length items.old) reader.old)) }
     ensures memory { WantsMemory result (counted_at (unkept T.group_at) (length items.old) reader.old) }
 {
     let count = field(reader, 6)?;
@@ -75,12 +75,12 @@ fn counted_into<T: GroupText, A: Allocator>(
     Ok(())
 }
 
-/// Reads all groups of an element with these bits and puts them behind those that there are.
+/// Reads all groups of an element with these bits and appends them to `items`.
 pub fn body_into<T: GroupText, A: Allocator>(
     mut body: BitReader<'_>,
     items: &mut GroupItems<T, A>,
 ) -> Result<(), MmFault>
-    ensures given { Gives (giving result items.new) (behind items.old (body_at T.group_at (length items.old) body.entry)) }
+    ensures given { Gives (giving result items.new) (appended_to items.old (body_at T.group_at (length items.old) body.entry)) }
     ensures memory { WantsMemory result (body_at (unkept T.group_at) (length items.old) body.entry) }
 {
     match counted_into(&mut body, items) {
@@ -116,7 +116,7 @@ fn put_each<T: GroupText, A: Allocator>(
     Ok(())
 }
 
-/// Puts one element with all groups at the end.
+/// Appends one element with all groups.
 fn put_element<T: GroupText, A: Allocator>(
     writer: &mut BitWriter<A>,
     identifier: u64,
@@ -135,8 +135,7 @@ fn put_element<T: GroupText, A: Allocator>(
     put_each(writer, items)
 }
 
-/// Puts what follows the fixed fields of a PDU at the end: nothing where there are no groups, else
-/// one element with all of them.
+/// Appends what follows the fixed fields of a PDU: no element where there are no groups, else one with all of them.
 pub fn put_groups<T: GroupText, A: Allocator>(
     writer: &mut BitWriter<A>,
     identifier: u64,

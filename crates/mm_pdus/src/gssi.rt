@@ -6,7 +6,7 @@ use std::marker::Model;
 
 /// A group's number within its network (GSSI, ETSI EN 300 392-1, clause 7): 24 bits.
 ///
-/// Clauses see it as its number.
+/// It is modelled as its number.
 #[derive(Clone, Copy, Debug, PartialEq, Eq)]
 pub struct Gssi {
     number: u32,
@@ -23,7 +23,7 @@ impl Model for Gssi {
 }
 
 impl Gssi {
-    /// The group that 24 bits name.
+    /// The group of this number, which has 24 bits.
     pub fn new(number: u32) -> Gssi
         requires { number < 2 ^ 24 }
         ensures { result ≡ number }

@@ -11,9 +11,9 @@ use std::marker::Model;
 /// How many groups one PDU may name.
 pub const MOST_GROUPS: usize = 32;
 
-/// What a PDU says of groups, in order: at most 32 of them, each a `GroupUp` or a `GroupDown`.
+/// The groups of a PDU in order: at most 32, each a `GroupUp` or a `GroupDown`.
 ///
-/// Clauses see the list alone.
+/// They are modelled as a list.
 #[derive(Drop)]
 pub struct GroupItems<T: Copy, A: Allocator> {
     items: Vec<T, A>,
@@ -60,14 +60,14 @@ impl<T: Copy, A: Allocator> GroupItems<T, A> {
         self.items.as_slice()
     }
 
-    /// Whether one more may be put behind them.
+    /// Whether one more may be appended.
     pub fn has_room(&self) -> bool
         ensures { result ≡ nat_lt (length self.now) most_groups }
     {
         self.len() < MOST_GROUPS
     }
 
-    /// Puts a group behind those that there are. On `NoMemory` nothing has changed.
+    /// Appends a group. On `NoMemory` nothing has changed.
     pub(crate) fn add(&mut self, item: T) -> Result<(), MmFault>
         requires { length self.now < most_groups }
         ensures ok { OnOk result (self.new ≡ self.old ++ item ∷ []) }
@@ -80,8 +80,7 @@ impl<T: Copy, A: Allocator> GroupItems<T, A> {
         }
     }
 
-    /// Puts a group behind those that there are. `TooMany` where there are 32, else `NoMemory` where
-    /// memory ran out; nothing has changed then.
+    /// Appends a group. `TooMany` where there are 32, else `NoMemory` where memory runs out. On both nothing has changed.
     pub fn push(&mut self, item: T) -> Result<(), MmFault>
         ensures ok { OnOk result (self.new ≡ self.old ++ item ∷ []) }
         ensures err { IfErr result (λ e. e ≡ (if nat_lt (length self.old) most_groups then NoMemory else TooMany)) }

@@ -1,5 +1,4 @@
-//! What holds of the definitions alone: each law is the contract of a function that does
-//! nothing, or only names constants.
+//! Laws of the definitions alone. Each law is the contract of a function that does nothing, or returns constants.
 
 ghost use Rattle.std.specs.Prelude.{◌≡◌, ◌≢◌, ◌<◌, ◌↔◌, ◌++◌, ◌∷◌, ℕ, Bool, not, List, [], Some, Ok, Err};
 ghost use Rattle.identity.specs.Number.{num};
@@ -9,7 +8,8 @@ ghost use Rattle.mm_pdus.specs.declared.update.AcceptType.{AcceptType};
 ghost use Rattle.mm_pdus.specs.declared.lifetime.Lifetime.{Lifetime};
 ghost use Rattle.mm_pdus.specs.declared.detachment.LeaveReason.{LeaveReason};
 ghost use Rattle.mm_pdus.specs.declared.detachment.DetachReason.{DetachReason};
-ghost use Rattle.mm_pdus.specs.Values.{update_number, update_of, accept_of, update_accepted, lifetime_number, lifetime_of, leave_number, leave_of, detach_number, detach_of};
+ghost use Rattle.mm_pdus.specs.Values.{update_number, update_of, accept_of, update_accepted, lifetime_number};
+ghost use Rattle.mm_pdus.specs.Values.{lifetime_of, leave_number, leave_of, detach_number, detach_of};
 ghost use Rattle.mm_pdus.specs.declared.uplink.MmUp.{MmUp};
 ghost use Rattle.mm_pdus.specs.declared.downlink.MmDown.{MmDown};
 ghost use Rattle.mm_pdus.specs.declared.downlink.MmDown.TheVariants.{Acknowledge};
@@ -24,7 +24,7 @@ ghost use Rattle.mm_pdus.specs.DownlinkReading.{reading_down};
 use crate::RejectCause;
 use std::alloc::Allocator;
 
-/// The causes that are used, which have the standard's numbers (clause 16.10, reject cause).
+/// The causes that the network gives have the standard's numbers (clause 16.10, reject cause).
 pub fn used_causes() -> [RejectCause; 4]
     ensures { result ≡ 1 ∷ 3 ∷ 6 ∷ 12 ∷ [] }
 {
@@ -36,7 +36,7 @@ pub fn used_causes() -> [RejectCause; 4]
     ]
 }
 
-/// Each value is named by its number, and by no other.
+/// Each value has one number, and no two values have the same.
 pub fn numbers_name_values()
     ensures update { (n : ℕ) (update : LocationUpdateType) → (update_of n ≡ Some update) ↔ (n ≡ update_number update) }
     ensures lifetime { (n : ℕ) (lifetime : Lifetime) → (lifetime_of n ≡ Some lifetime) ↔ (n ≡ lifetime_number lifetime) }
@@ -44,7 +44,7 @@ pub fn numbers_name_values()
     ensures detach { (n : ℕ) (reason : DetachReason) → (detach_of n ≡ Some reason) ↔ (n ≡ detach_number reason) }
 {}
 
-/// An update is accepted as what it is.
+/// An update is accepted as one of its own type.
 pub fn accepted_as_asked()
     ensures { (update : LocationUpdateType) (accept : AcceptType) → (accept_of update ≡ Some accept) ↔ (update ≡ update_accepted accept) }
 {}
@@ -55,7 +55,7 @@ pub fn one_value<A: Allocator>()
     ensures down { (p q : MmDown A) (bits : List Bool) → SpellsDown p bits → SpellsDown q bits → p ≡ q }
 {}
 
-/// The canonical text spells its PDU, so what was written is read back.
+/// The canonical text spells its PDU, so what is written is read back.
 pub fn read_back<A: Allocator>()
     ensures spelt_up { (pdu : MmUp A) → IsUp pdu → SpellsUp pdu (canon_up pdu) }
     ensures up { (pdu : MmUp A) → IsUp pdu → reading_up (canon_up pdu) ≡ Ok pdu }
@@ -63,30 +63,34 @@ pub fn read_back<A: Allocator>()
     ensures down { (pdu : MmDown A) → IsDown pdu → reading_down (canon_down pdu) ≡ Ok pdu }
 {}
 
-/// A PDU with bits behind it is `Trailing`, whatever they are.
-pub fn bits_behind_a_pdu<A: Allocator>()
+/// A PDU with any bits after it is `Trailing`.
+pub fn bits_after_a_pdu<A: Allocator>()
     ensures up { (pdu : MmUp A) (bits rest : List Bool) (b : Bool) → SpellsUp pdu bits → reading_up {A = A} (bits ++ b ∷ rest) ≡ Err Trailing }
     ensures down { (pdu : MmDown A) (bits rest : List Bool) (b : Bool) → SpellsDown pdu bits → reading_down {A = A} (bits ++ b ∷ rest) ≡ Err Trailing }
 {}
 
-/// Bits that begin with no PDU type that is read are `UnknownType`, whatever follows.
+/// Bits whose PDU type is not read are `UnknownType`, whatever follows.
 pub fn other_types<A: Allocator>()
-    ensures up { (kind : ℕ) (rest : List Bool) → kind < 16 → (kind ≡ 1 → ⊥) → (kind ≡ 2 → ⊥) → (kind ≡ 7 → ⊥) → reading_up {A = A} (num 4 kind ++ rest) ≡ Err UnknownType }
-    ensures down { (kind : ℕ) (rest : List Bool) → kind < 16 → (kind ≡ 5 → ⊥) → (kind ≡ 7 → ⊥) → (kind ≡ 11 → ⊥) → reading_down {A = A} (num 4 kind ++ rest) ≡ Err UnknownType }
+    ensures up { (kind : ℕ) (rest : List Bool) → kind < 16 → (kind ≡ 1 → ⊥) → (kind ≡ 2 → ⊥) → (kind ≡ 7 → ⊥)
+        → reading_up {A = A} (num 4 kind ++ rest) ≡ Err UnknownType }
+    ensures down { (kind : ℕ) (rest : List Bool) → kind < 16 → (kind ≡ 5 → ⊥) → (kind ≡ 7 → ⊥) → (kind ≡ 11 → ⊥)
+        → reading_down {A = A} (num 4 kind ++ rest) ≡ Err UnknownType }
 {}
 
-/// The first bits of a PDU, where one or more are missing, are `Short`.
+/// A PDU without its last bits, one or more, is `Short`.
 pub fn bits_missing<A: Allocator>()
     ensures up { (pdu : MmUp A) (bits rest : List Bool) (b : Bool) → SpellsUp pdu (bits ++ b ∷ rest) → reading_up {A = A} bits ≡ Err Short }
     ensures down { (pdu : MmDown A) (bits rest : List Bool) (b : Bool) → SpellsDown pdu (bits ++ b ∷ rest) → reading_down {A = A} bits ≡ Err Short }
 {}
 
-/// An acknowledgement that says wrongly whether a group is rejected is `BadElement`.
-pub fn rejection_told_wrongly<A: Allocator>()
-    ensures { (items : List GroupDown) (reserved : Bool) → IsDown {A = A} (Acknowledge items) → reading_down {A = A} (num 4 11 ++ not (rejects items) ∷ reserved ∷ extension (groups_extension group_down identity_downlink items)) ≡ Err BadElement }
+/// An acknowledgement whose bit for rejected groups is wrong is `BadElement`.
+pub fn rejection_reported_wrongly<A: Allocator>()
+    ensures { (items : List GroupDown) (reserved : Bool) → IsDown {A = A} (Acknowledge items)
+        → reading_down {A = A} (num 4 11 ++ not (rejects items) ∷ reserved ∷ extension (groups_extension group_down identity_downlink items))
+        ≡ Err BadElement }
 {}
 
-/// Want of memory is no fault of bits.
+/// `NoMemory` is no fault of bits.
 pub fn faults_of_bits<A: Allocator>()
     ensures up { (bits : List Bool) → reading_up {A = A} bits ≢ Err NoMemory }
     ensures down { (bits : List Bool) → reading_down {A = A} bits ≢ Err NoMemory }

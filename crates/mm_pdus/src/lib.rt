@@ -1,9 +1,10 @@
 //! The mobility management PDUs of the TETRA air interface (ETSI EN 300 392-2, clause 16), as bits.
+//! It takes memory only from the allocator that it is given, and knows nothing of registers, of commands and of what a PDU does.
 //!
 //! From a radio: U-ITSI DETACH, U-LOCATION UPDATE DEMAND and U-ATTACH/DETACH GROUP IDENTITY. To a
 //! radio: D-LOCATION UPDATE ACCEPT, D-LOCATION UPDATE REJECT and D-ATTACH/DETACH GROUP IDENTITY
-//! ACKNOWLEDGEMENT. A PDU is read from all of its bits, from left to right, and the
-//! first fault that is met is answered; what is written is always the one canonical text.
+//! ACKNOWLEDGEMENT. A PDU is read from left to right, to its last bit, and the first fault is
+//! reported. It is always written as its one canonical text.
 #![tactic(auto)]
 
 mod address;

@@ -17,7 +17,7 @@ pub enum Lifetime {
 }
 
 impl Lifetime {
-    /// The lifetime of this number, or `None` above 3.
+    /// The lifetime of this number; `None` above 3.
     pub fn from_number(number: u8) -> Option<Lifetime>
         ensures { result ≡ lifetime_of number }
     {
@@ -30,7 +30,7 @@ impl Lifetime {
         }
     }
 
-    /// The number that names the lifetime, 0 to 3.
+    /// Its number, 0 to 3.
     pub fn number(self) -> u8
         ensures value { result ≡ lifetime_number self }
         ensures small { result < 4 }

@@ -1,4 +1,4 @@
-//! The types of location updates, asked for and accepted.
+//! The types of location updates, as asked for and as accepted.
 
 ghost use Rattle.std.specs.Prelude.{◌≡◌, ◌<◌, Some};
 ghost use Rattle.mm_pdus.specs.Values.{update_number, update_of, accept_of, update_accepted};
@@ -25,7 +25,7 @@ pub enum LocationUpdateType {
 }
 
 impl LocationUpdateType {
-    /// The type that three bits name.
+    /// The type of this number, which has three bits.
     pub fn from_number(number: u8) -> LocationUpdateType
         requires { number < 8 }
         ensures { update_of number ≡ Some result }
@@ -42,7 +42,7 @@ impl LocationUpdateType {
         }
     }
 
-    /// The number that names the type, 0 to 7.
+    /// Its number, 0 to 7.
     pub fn number(self) -> u8
         ensures value { result ≡ update_number self }
         ensures small { result < 8 }
@@ -59,8 +59,8 @@ impl LocationUpdateType {
         }
     }
 
-    /// The type with which an update of this type is accepted, or `None` for one that is never
-    /// accepted here: migration, and the update of a disabled radio.
+    /// The type by which an update of this type is accepted. `None` for one that this network never accepts: migration,
+    /// and the update of a disabled radio.
     pub fn accept_type(self) -> Option<AcceptType>
         ensures { result ≡ accept_of self }
     {
@@ -95,7 +95,7 @@ pub enum AcceptType {
 }
 
 impl AcceptType {
-    /// The type of the update that is accepted so.
+    /// The type of the update that it accepts.
     pub fn update(self) -> LocationUpdateType
         ensures { result ≡ update_accepted self }
     {

@@ -25,11 +25,11 @@ const GROUP_IDENTITY_UPLINK: u64 = 8;
 /// A PDU from a radio.
 #[derive(Drop)]
 pub enum MmUp<A: Allocator> {
-    /// U-LOCATION UPDATE DEMAND: the radio asks to be known at its location area.
+    /// U-LOCATION UPDATE DEMAND: the radio asks to be registered at its location area.
     Demand {
         update: LocationUpdateType,
     },
-    /// U-ITSI DETACH: the radio goes.
+    /// U-ITSI DETACH: the radio leaves the network.
     Detach,
     /// U-ATTACH/DETACH GROUP IDENTITY: the radio joins and leaves groups.
     Groups {
@@ -57,7 +57,7 @@ fn detach<A: Allocator>(reader: &mut BitReader<'_>) -> Result<MmUp<A>, MmFault>
     Ok(MmUp::Detach)
 }
 
-/// Joins the groups of an element with groups to those that there are.
+/// Appends the groups of an element with groups to `items`; other elements are skipped.
 fn join_element<A: Allocator>(
     identifier: u64,
     body: BitReader<'_>,
@@ -139,16 +139,16 @@ fn whole_up<A: Allocator, B: Allocator>(alloc: A, bits: &Bits<B>) -> Result<MmUp
     Ok(pdu)
 }
 
-/// The PDU that the bits spell, all of them, or the first fault from the left. Its groups are kept
-/// under `alloc`; `NoMemory` where memory for them ran out.
+/// The PDU that all of the bits spell, or the first fault from the left. Its groups are kept under `alloc`; `NoMemory`
+/// where that is out of memory.
 pub fn read_up<A: Allocator, B: Allocator>(alloc: A, bits: &Bits<B>) -> Result<MmUp<A>, MmFault>
-    // What is read is spelt by the bits.
+    // If a PDU is read, the bits spell it.
     ensures spelt { IfOk result (λ pdu. SpellsUp pdu bits.now) }
-    // What the bits spell is read, unless memory ran out.
+    // If the bits spell a PDU, it is read, unless memory runs out.
     ensures found { (pdu : MmUp A) → SpellsUp pdu bits.now → Gives result (Ok pdu) }
-    // Else it is the first fault.
+    // Else the result is the first fault.
     ensures fault { Gives result (reading_up bits.now) }
-    // Memory is wanted only where a group is read, and before any other fault; so for groups alone.
+    // Memory runs out only where a group is read, and no fault comes before that group. A PDU of a type without groups needs none.
     ensures memory { WantsMemory result (unkept_up {A = A} bits.now) }
     ensures exact { names_groups bits.now ≡ false → result ≡ reading_up bits.now }
 {
@@ -214,7 +214,7 @@ fn put_up<A: Allocator, B: Allocator>(
 /// The canonical text of the PDU. The only error is `NoMemory`.
 pub fn write_up<A: Allocator, B: Allocator>(alloc: A, pdu: &MmUp<B>) -> Result<Bits<A>, MmFault>
     ensures ok { IfOk result (λ bits. bits ≡ canon_up pdu.now) }
-    // What is written spells the PDU, so `read_up` gives it back.
+    // The bits spell the PDU, so `read_up` reads it back.
     ensures spelt { IfOk result (λ bits. SpellsUp pdu.now bits) }
     ensures err { IfErr result (λ e. e ≡ NoMemory) }
 {

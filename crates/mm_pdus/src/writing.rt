@@ -8,7 +8,7 @@ use crate::MmFault;
 use identity::BitWriter;
 use std::alloc::Allocator;
 
-/// Puts `value` at the end, the greatest of its `width` bits first.
+/// Appends the `width` bits of `value`, the greatest first.
 pub fn put<A: Allocator>(writer: &mut BitWriter<A>, value: u64, width: u32) -> Result<(), MmFault>
     requires width { width ≤ 48 }
     requires fits { value < 2 ^ width }
@@ -18,7 +18,7 @@ pub fn put<A: Allocator>(writer: &mut BitWriter<A>, value: u64, width: u32) -> R
     writer.put(value, width).or(Err(MmFault::NoMemory))
 }
 
-/// Puts one bit at the end.
+/// Appends one bit.
 pub fn put_bit<A: Allocator>(writer: &mut BitWriter<A>, bit: bool) -> Result<(), MmFault>
     ensures ok { OnOk result (writer.new ≡ writer.old ++ bit ∷ []) }
     ensures err { IfErr result (λ e. e ≡ NoMemory) }

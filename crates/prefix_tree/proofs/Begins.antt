@@ -65,7 +65,7 @@ longer_side (false ∷ p) (false ∷ q) b e = let h = longer_side p q b e in ome
 longer_side (true ∷ p) (false ∷ q) b e = absurd (false≢true e)
 longer_side (false ∷ p) (true ∷ q) b e = absurd (false≢true e)
 
--- what stands at p, on its two sides and elsewhere
+-- what is at p, on its two sides and elsewhere
 abbrev pub pick : {X : Type 0} → Path → Path → Option X → Option X → Option X → Option X
 pick [] [] v a b = v
 pick [] (false ∷ q) v a b = a

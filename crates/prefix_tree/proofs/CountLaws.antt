@@ -7,7 +7,7 @@ use Rattle.std.specs.FinMap as map
 use Rattle.std.proofs.Math.Pow.{pow_mono}
 use Rattle.std.proofs.lemmas.Nat.{pow-add}
 use Rattle.prefix_tree.specs.declared.node.Node.TheInside.{Inside}
-use Rattle.prefix_tree.specs.Inside.Around.{NodeSeen, table_of, node_view}
+use Rattle.prefix_tree.specs.Inside.Around.{NodeModel, table_of, node_view}
 use Rattle.prefix_tree.specs.Visits.{is_place}
 use Rattle.prefix_tree.proofs.JoinLaws.{place_parts}
 use Rattle.prefix_tree.proofs.NodeLaws.{table_is, zero_keys, one_keys}
@@ -35,7 +35,7 @@ fits_below k n a le top p = let h : 2 ^ (49 - n) ≤ 2 ^ (48 - k) = pow_mono (om
 pub fits_word : (k a : ℕ) → a < 2 ^ (49 - k) → a < 2 ^ 64
 fits_word k a p = let le : 49 - k ≤ 64 = omega arith in let h : 2 ^ (49 - k) ≤ 2 ^ 64 = pow_mono {j = 64} le in omega (arith, h, p)
 
-module _ {V A : Type 0} (n : Inside V A) (d : NodeSeen V) (seen : node_view n.at n.value n.zero n.one ≡ d) (sound : IsTrue d.sound) where
+module _ {V A : Type 0} (n : Inside V A) (d : NodeModel V) (seen : node_view n.at n.value n.zero n.one ≡ d) (sound : IsTrue d.sound) where
   node_len : map.len d.table ≡ cond (is_some n.value) 1 0 + (map.len (table_of n.zero) + map.len (table_of n.one))
   node_len = sym (ap map.len (table_is n d seen)) ∙ len_around n.at n.value _ _ (zero_keys n d seen sound) (one_keys n d seen sound)
 

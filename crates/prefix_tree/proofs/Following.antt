@@ -52,7 +52,7 @@ module _ {K X : Type 0} (cmp : K → K → Ordering) (total : IsTotalOrder cmp) 
   not_before : (x y : X) → cmp (key x) (key y) ≡ Less → is_lt (cmp (key y) (key x)) ≡ false
   not_before x y less = ap is_lt (total.antisymm (key y) (key x) ∙ ap ordering_reverse less)
 
-  -- in a list whose keys rise, the first item after one of its keys is the one that stands next
+  -- in a list whose keys rise, the first item after one of its keys is the one that is next
   next_there : (cs bs : List X) (e : X) → AreRising cmp key (cs ++ e ∷ bs) → next_of cmp key (cs ++ e ∷ bs) (Some (key e)) ≡ next_of cmp key bs None
   next_there [] bs e h = ap (λ t. cond t (Some e) (next_of cmp key bs (Some (key e)))) (ap is_lt (tied_itself total (key e))) ∙ beyond bs h
     where

@@ -5,18 +5,18 @@ use Rattle.std.specs.Prelude.{IsTrue, not, ◌&&◌, ◌||◌}
 use Rattle.std.specs.FinMap as map
 use Rattle.std.specs.Option.{is_some}
 use Rattle.prefix_tree.specs.Visits.{is_place}
-use Rattle.prefix_tree.proofs.Standing.{place_single, place_around, goes_link, sound_when}
+use Rattle.prefix_tree.proofs.NodePlaces.{place_single, place_around, goes_link, sound_when}
 use Rattle.std.specs.declared.boxed.Box.{Box}
 use Rattle.identity.specs.Path.{Path, begins}
 use Rattle.prefix_tree.specs.Table.{PathMap}
 use Rattle.prefix_tree.specs.Inside.Paths.{common}
-use Rattle.prefix_tree.specs.Inside.Around.{NodeSeen, around, spread, KeysUnder, table_of, is_under, IsFirm, IsUnder, IsParting, leads_to}
+use Rattle.prefix_tree.specs.Inside.Around.{NodeModel, around, spread, KeysUnder, table_of, is_under, IsFirm, IsUnder, IsParting, leads_to}
 use Rattle.prefix_tree.proofs.Begins.{begins_self, common_second, common_under, common_parts, other_side, begins_whole, begins_length}
 use Rattle.prefix_tree.proofs.AroundLaws.{under_empty, keys_insert, insert_here, insert_zero, insert_one, around_zero, around_one, keys_around}
 use Rattle.prefix_tree.proofs.NodeLaws.{keys_of}
 
 module _ {V A : Type 0} where
-  pub parting_is : (b : Box (NodeSeen V) A) (at q : Path) (side : Bool) → IsFirm [] b.value → begins b.value.at q ≡ false → at ≡ common b.value.at q → IsTrue (begins (at ++ side ∷ []) b.value.at) → IsParting (Some b) q at side
+  pub parting_is : (b : Box (NodeModel V) A) (at q : Path) (side : Bool) → IsFirm [] b.value → begins b.value.at q ≡ false → at ≡ common b.value.at q → IsTrue (begins (at ++ side ∷ []) b.value.at) → IsParting (Some b) q at side
   parting_is b at q side firm off is goes =
       let second : begins at q ≡ true = ap (λ z. begins z q) is ∙ common_second b.value.at q in
       let goes_on : begins (common b.value.at q ++ side ∷ []) b.value.at ≡ true = subst (λ z. begins (z ++ side ∷ []) b.value.at ≡ true) is goes in
@@ -40,7 +40,7 @@ module _ {V : Type 0} where
   spread_beside p k false old x keys other = insert_one p None old map.empty keys (under_empty V _) k x other ∙ ap (λ m. map.insert m k x) (around_zero p old keys)
 
   -- a new node with the key's value alone is firm
-  pub sprout_firm : (d : NodeSeen V) (k : Path) (x : V) → d.at ≡ k → d.table ≡ map.insert map.empty k x → IsTrue d.sound → (p : Path) → IsTrue (begins p k) → IsFirm p d
+  pub sprout_firm : (d : NodeModel V) (k : Path) (x : V) → d.at ≡ k → d.table ≡ map.insert map.empty k x → IsTrue d.sound → (p : Path) → IsTrue (begins p k) → IsFirm p d
   sprout_firm d k x at table sound p begun = record {
     loose = record {
       extends = subst (λ z. begins p z ≡ true) (sym at) begun;
@@ -50,13 +50,13 @@ module _ {V : Type 0} where
     place = ap (is_place d.table) at ∙ ap (λ m. is_place m k) table ∙ place_single map.empty k x;
   }
 
-  pub top_firm : (d : NodeSeen V) (at p : Path) → d.at ≡ at → KeysUnder at d.table → IsTrue (is_place d.table at) → IsTrue d.sound → IsTrue (begins p at) → IsFirm p d
+  pub top_firm : (d : NodeModel V) (at p : Path) → d.at ≡ at → KeysUnder at d.table → IsTrue (is_place d.table at) → IsTrue d.sound → IsTrue (begins p at) → IsFirm p d
   top_firm d at p is keys place sound begun = record {
     loose = record { extends = subst (λ z. begins p z ≡ true) (sym is) begun; keys = subst (λ z. KeysUnder z d.table) (sym is) keys; sound = sound };
     place = ap (is_place d.table) is ∙ place;
   }
 
-module _ {V A : Type 0} (p : Path) (v : Option V) (side : Bool) (old other : Option (Box (NodeSeen V) A)) (u : IsUnder (p ++ side ∷ []) old) (w : IsUnder (p ++ not side ∷ []) other) where
+module _ {V A : Type 0} (p : Path) (v : Option V) (side : Bool) (old other : Option (Box (NodeModel V) A)) (u : IsUnder (p ++ side ∷ []) old) (w : IsUnder (p ++ not side ∷ []) other) where
   pub above_one : side ≡ true → KeysUnder p (around p v (table_of other) (table_of old))
   above_one e = keys_around p v (table_of other) (table_of old) (keys_of _ other (subst (λ b. IsUnder (p ++ not b ∷ []) other) e w)) (keys_of _ old (subst (λ b. IsUnder (p ++ b ∷ []) old) e u))
 
@@ -98,7 +98,7 @@ module _ {V A : Type 0} (p : Path) (v : Option V) (side : Bool) (old other : Opt
   pub sound_zero : side ≡ false → (is_under (p ++ false ∷ []) old && is_under (p ++ true ∷ []) other) ≡ true
   sound_zero e = sound_when p old other (subst (λ b. IsUnder (p ++ b ∷ []) old) e u) (subst (λ b. IsUnder (p ++ not b ∷ []) other) e w)
 
-module _ {V A : Type 0} (o : Option (Box (NodeSeen V) A)) (q p : Path) (side : Bool) (parting : IsParting o q p side) where
+module _ {V A : Type 0} (o : Option (Box (NodeModel V) A)) (q p : Path) (side : Bool) (parting : IsParting o q p side) where
   pub shorter : (length p ≡ length q → ⊥) → length p < length q
   shorter apart = let h : length p ≤ length q = begins_length p q parting.on_the_way in apart_less _ _ h apart
     where
@@ -108,17 +108,17 @@ module _ {V A : Type 0} (o : Option (Box (NodeSeen V) A)) (q p : Path) (side : B
         | inr other ↦ omega (arith, le, other)
       ]
 
-  pub grown_here : (old : Option (Box (NodeSeen V) A)) (t : PathMap V) (x : V) → old ≡ o → length p ≡ length q → t ≡ spread p (Some x) side (table_of old) map.empty → t ≡ map.insert (table_of o) q x
+  pub grown_here : (old : Option (Box (NodeModel V) A)) (t : PathMap V) (x : V) → old ≡ o → length p ≡ length q → t ≡ spread p (Some x) side (table_of old) map.empty → t ≡ map.insert (table_of o) q x
   grown_here old t x same lens is =
       let whole : p ≡ q = begins_whole p q parting.on_the_way (omega (arith, lens)) in
       is ∙ ap (λ z. spread p (Some x) side (table_of z) map.empty) same ∙ spread_here p side (table_of o) x (keys_of _ o parting.old_side) ∙ ap (λ z. map.insert (table_of o) z x) whole
 
-  pub grown_beside : (old : Option (Box (NodeSeen V) A)) (t low : PathMap V) (x : V) → old ≡ o → (length p ≡ length q → ⊥) → low ≡ map.insert map.empty q x → t ≡ spread p None side (table_of old) low → t ≡ map.insert (table_of o) q x
+  pub grown_beside : (old : Option (Box (NodeModel V) A)) (t low : PathMap V) (x : V) → old ≡ o → (length p ≡ length q → ⊥) → low ≡ map.insert map.empty q x → t ≡ spread p None side (table_of old) low → t ≡ map.insert (table_of o) q x
   grown_beside old t low x same apart leaf is =
       is ∙ (λ i. spread p None side (table_of (same i)) (leaf i)) ∙ spread_beside p q side (table_of o) x (keys_of _ o parting.old_side) (parting.other_side (shorter apart))
 
-  pub beside_firm : (d : NodeSeen V) → (length p ≡ length q → ⊥) → ((r : Path) → IsTrue (begins r q) → IsFirm r d) → IsFirm (p ++ not side ∷ []) d
+  pub beside_firm : (d : NodeModel V) → (length p ≡ length q → ⊥) → ((r : Path) → IsTrue (begins r q) → IsFirm r d) → IsFirm (p ++ not side ∷ []) d
   beside_firm d apart firm = firm (p ++ not side ∷ []) (parting.other_side (shorter apart))
 
-pub parting_here : {V A : Type 0} → (o : Option (Box (NodeSeen V) A)) (b : Box (NodeSeen V) A) (at q : Path) (side : Bool) → o ≡ Some b → IsUnder [] o → leads_to o q ≡ false → at ≡ common b.value.at q → IsTrue (begins (at ++ side ∷ []) b.value.at) → IsParting o q at side
+pub parting_here : {V A : Type 0} → (o : Option (Box (NodeModel V) A)) (b : Box (NodeModel V) A) (at q : Path) (side : Bool) → o ≡ Some b → IsUnder [] o → leads_to o q ≡ false → at ≡ common b.value.at q → IsTrue (begins (at ++ side ∷ []) b.value.at) → IsParting o q at side
 parting_here o b at q side is under off common goes = subst (λ z. IsParting z q at side) (sym is) (parting_is b at q side (subst (λ z. IsUnder [] z) is under) (ap (λ z. leads_to z q) (sym is) ∙ off) common goes)

@@ -7,11 +7,11 @@ use Rattle.std.specs.FinMap as map
 use Rattle.std.specs.declared.boxed.Box.{Box}
 use Rattle.identity.specs.Path.{Path, begins}
 use Rattle.prefix_tree.specs.declared.node.Node.TheInside.{Inside}
-use Rattle.prefix_tree.specs.Inside.Around.{NodeSeen, around, table_of, IsLoose, IsUnder, node_view}
+use Rattle.prefix_tree.specs.Inside.Around.{NodeModel, around, table_of, IsLoose, IsUnder, node_view}
 use Rattle.prefix_tree.proofs.Begins.{begins_trans, begins_self, side_begins}
 use Rattle.prefix_tree.proofs.AroundLaws.{around_zero, around_one}
-use Rattle.prefix_tree.proofs.NodeLaws.{at_is, table_is, fits, zero_keys, one_keys, none_behind}
-use Rattle.prefix_tree.proofs.Standing.{place_around, goes_link}
+use Rattle.prefix_tree.proofs.NodeLaws.{at_is, table_is, fits, zero_keys, one_keys, none_after}
+use Rattle.prefix_tree.proofs.NodePlaces.{place_around, goes_link}
 use Rattle.prefix_tree.specs.Visits.{is_place}
 
 pub none_if : {X : Type 0} → (o : Option X) → is_none o ≡ true → o ≡ None
@@ -38,18 +38,18 @@ one_not : (a b : Bool) → (a && b) ≡ false → b ≡ true → a ≡ false
 one_not true b e f = absurd (false≢true (sym e ∙ f))
 one_not false b e f = refl
 
-pub under_up : {V A : Type 0} → (p r : Path) (o : Option (Box (NodeSeen V) A)) → begins p r ≡ true → IsUnder r o → IsUnder p o
+pub under_up : {V A : Type 0} → (p r : Path) (o : Option (Box (NodeModel V) A)) → begins p r ≡ true → IsUnder r o → IsUnder p o
 under_up p r None begun h = tt
 under_up p r (Some b) begun h = record { loose = record { extends = begins_trans p r b.value.at begun h.loose.extends; keys = h.loose.keys; sound = h.loose.sound }; place = h.place }
 
 -- a node has a value or both sides where the map says that it is a place
-pub place_parts : {V A : Type 0} → (n : Inside V A) (d : NodeSeen V) (seen : node_view n.at n.value n.zero n.one ≡ d) → IsTrue d.sound → is_place d.table d.at ≡ (is_some n.value || is_some n.zero && is_some n.one)
+pub place_parts : {V A : Type 0} → (n : Inside V A) (d : NodeModel V) (seen : node_view n.at n.value n.zero n.one ≡ d) → IsTrue d.sound → is_place d.table d.at ≡ (is_some n.value || is_some n.zero && is_some n.one)
 place_parts n d seen sound =
     (λ i. is_place (sym (table_is n d seen) i) (sym (at_is n d seen) i))
     ∙ place_around n.at n.value _ _ (zero_keys n d seen sound) (one_keys n d seen sound)
     ∙ (λ i. is_some n.value || goes_link (n.at ++ false ∷ []) n.zero (fits n d seen sound).0 i && goes_link (n.at ++ true ∷ []) n.one (fits n d seen sound).1 i)
 
-module _ {V A : Type 0} (n : Inside V A) (d : NodeSeen V) (seen : node_view n.at n.value n.zero n.one ≡ d) (sound : IsTrue d.sound) (lone : is_place d.table d.at ≡ false) where
+module _ {V A : Type 0} (n : Inside V A) (d : NodeModel V) (seen : node_view n.at n.value n.zero n.one ≡ d) (sound : IsTrue d.sound) (lone : is_place d.table d.at ≡ false) where
   not_full : (is_some n.value || is_some n.zero && is_some n.one) ≡ false
   not_full = sym (place_parts n d seen sound) ∙ lone
 
@@ -79,8 +79,8 @@ module _ {V A : Type 0} (n : Inside V A) (d : NodeSeen V) (seen : node_view n.at
       ends : (p r : Path) (b : Bool) → begins p r ≡ true → begins p (r ++ b ∷ []) ≡ true
       ends p r b e = begins_trans p r (r ++ b ∷ []) e (side_begins r (r ++ b ∷ []) b (begins_self (r ++ b ∷ [])))
 
-pub none_to_take : {V A : Type 0} → (o : Option (Box (NodeSeen V) A)) (q : Path) → is_none o ≡ true → map.get (table_of o) q ≡ None
-none_to_take o q none = none_behind o q (none_if o none)
+pub none_to_take : {V A : Type 0} → (o : Option (Box (NodeModel V) A)) (q : Path) → is_none o ≡ true → map.get (table_of o) q ≡ None
+none_to_take o q none = none_after o q (none_if o none)
 
 -- what the code's `is_none` says
 pub none_test : {X : Type 0} → (o : Option X) (b c : Bool) → is_some o ≡ not b → b ≡ c → is_none o ≡ c

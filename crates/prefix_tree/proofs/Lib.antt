@@ -6,8 +6,8 @@ pub mod GrowLaws
 pub mod JoinLaws
 pub mod AroundLaws
 pub mod LazyLaws
-pub mod LendFacts
-pub mod LendLaws
+pub mod BorrowFacts
+pub mod BorrowLaws
 pub mod ListLaws
 pub mod Longest
 pub mod LongestLaws
@@ -17,9 +17,7 @@ pub mod Numbers
 pub mod Order
 pub mod OrderedLaws
 pub mod OrderLaws
-pub mod Places
-pub mod Removal
-pub mod Standing
+pub mod NodePlaces
 pub mod StepLaws
 pub mod VisitLaws
 pub mod WalkLaws

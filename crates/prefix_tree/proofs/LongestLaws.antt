@@ -7,11 +7,11 @@ use Rattle.std.specs.FinMap as map
 use Rattle.std.specs.declared.boxed.Box.{Box}
 use Rattle.identity.specs.Path.{Path, begins}
 use Rattle.prefix_tree.specs.Table.{PathMap, longest, longest_below}
-use Rattle.prefix_tree.specs.Inside.Around.{NodeSeen, table_of, IsFirm, IsUnder}
+use Rattle.prefix_tree.specs.Inside.Around.{NodeModel, table_of, IsFirm, IsUnder}
 use Rattle.prefix_tree.proofs.Begins.{begins_self, begins_trans, begins_length, side_begins, longer_side}
 use Rattle.prefix_tree.proofs.AroundLaws.{under_off}
-use Rattle.prefix_tree.proofs.Standing.{never_so}
-use Rattle.prefix_tree.proofs.NodeLaws.{firm_node, none_behind, table_behind}
+use Rattle.prefix_tree.proofs.NodePlaces.{never_so}
+use Rattle.prefix_tree.proofs.NodeLaws.{firm_node, none_after, table_after}
 
 module _ {V : Type 0} where
   -- where nothing is in the map from n bits on
@@ -65,7 +65,7 @@ taken_short (suc j) [] = omega arith
 taken_short zero (b ∷ q) = omega arith
 taken_short (suc j) (b ∷ q) = let h = taken_short j q in omega (arith, h)
 
-module _ {V : Type 0} (m : PathMap V) (q : Path) (d : NodeSeen V) (on : IsTrue (begins d.at q)) (same : (z : Path) → IsTrue (begins d.at z) → map.get d.table z ≡ map.get m z) where
+module _ {V : Type 0} (m : PathMap V) (q : Path) (d : NodeModel V) (on : IsTrue (begins d.at q)) (same : (z : Path) → IsTrue (begins d.at z) → map.get d.table z ≡ map.get m z) where
   here : map.get m (take (length d.at) q) ≡ map.get d.table d.at
   here = ap (map.get m) (take_begun d.at q on) ∙ sym (same d.at (begins_self d.at))
 
@@ -89,7 +89,7 @@ module _ {V : Type 0} (m : PathMap V) (q : Path) (d : NodeSeen V) (on : IsTrue (
   unfolding longest
   found_whole le = let h = begins_length d.at q on in let e : length d.at + 1 ≡ length q + 1 = omega (arith, le, h) in ap (longest_below m q) e
 
-  module _ {A : Type 0} (b : Bool) (o : Option (Box (NodeSeen V) A)) (side : IsTrue (begins (d.at ++ b ∷ []) q)) (under : IsUnder (d.at ++ b ∷ []) o) (table : (z : Path) → IsTrue (begins (d.at ++ b ∷ []) z) → map.get d.table z ≡ map.get (table_of o) z) where
+  module _ {A : Type 0} (b : Bool) (o : Option (Box (NodeModel V) A)) (side : IsTrue (begins (d.at ++ b ∷ []) q)) (under : IsUnder (d.at ++ b ∷ []) o) (table : (z : Path) → IsTrue (begins (d.at ++ b ∷ []) z) → map.get d.table z ≡ map.get (table_of o) z) where
     past : (j : ℕ) → length d.at + 1 ≤ j → map.get m (take j q) ≡ map.get (table_of o) (take j q)
     past j lo =
         let long : length (d.at ++ b ∷ []) ≤ j = let h = length-append d.at (b ∷ []) in omega (arith, lo, h) in
@@ -98,14 +98,14 @@ module _ {V : Type 0} (m : PathMap V) (q : Path) (d : NodeSeen V) (on : IsTrue (
 
     pub found_none : o ≡ None → longest_below m q (length d.at + 1) ≡ longest m q
     unfolding longest
-    found_none is = let h = begins_length d.at q on in upto (length q + 1) (omega (arith, h)) (λ j lo hi. past j lo ∙ none_behind o (take j q) is)
+    found_none is = let h = begins_length d.at q on in upto (length q + 1) (omega (arith, h)) (λ j lo hi. past j lo ∙ none_after o (take j q) is)
 
-    module _ (x : Box (NodeSeen V) A) (w : NodeSeen V) (is : o ≡ Some x) (at : w ≡ x.value) where
+    module _ (x : Box (NodeModel V) A) (w : NodeModel V) (is : o ≡ Some x) (at : w ≡ x.value) where
       firm : IsFirm (d.at ++ b ∷ []) w
       firm = firm_node (d.at ++ b ∷ []) o x w is at under
 
       outside : (j : ℕ) → length d.at + 1 ≤ j → begins w.at (take j q) ≡ false → map.get m (take j q) ≡ None
-      outside j lo off = past j lo ∙ ap (λ t. map.get t (take j q)) (sym (table_behind o x w is at)) ∙ under_off w.at (take j q) w.table firm.loose.keys off
+      outside j lo off = past j lo ∙ ap (λ t. map.get t (take j q)) (sym (table_after o x w is at)) ∙ under_off w.at (take j q) w.table firm.loose.keys off
 
       pub found_off : begins w.at q ≡ false → longest_below m q (length d.at + 1) ≡ longest m q
       unfolding longest

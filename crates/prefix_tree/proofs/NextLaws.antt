@@ -12,15 +12,15 @@ use Rattle.identity.specs.Path.{Path, path_cmp, begins}
 use Rattle.prefix_tree.specs.Table.{PathMap}
 use Rattle.prefix_tree.specs.Inside.Paths.{common}
 use Rattle.prefix_tree.specs.Visits.{goes_on, any_under}
-use Rattle.prefix_tree.specs.Inside.Around.{NodeSeen, own_entry, around, KeysUnder, table_of, IsUnder, node_view}
+use Rattle.prefix_tree.specs.Inside.Around.{NodeModel, own_entry, around, KeysUnder, table_of, IsUnder, node_view}
 use Rattle.prefix_tree.specs.Next.{first_entry, entry_past}
 use Rattle.prefix_tree.proofs.Begins.{begins_length, side_begins}
-use Rattle.prefix_tree.proofs.Standing.{never_so, place_goes}
+use Rattle.prefix_tree.proofs.NodePlaces.{never_so, place_goes}
 use Rattle.prefix_tree.proofs.VisitLaws.{one_side}
 use Rattle.prefix_tree.proofs.NodeLaws.{at_is, table_is, firm_node, zero_keys, one_keys}
 use Rattle.prefix_tree.proofs.OrderLaws.{AllUnder, entries_under, entries_around}
 
--- what is under a path that does not begin q stands to q as the path itself does
+-- what is under a path that does not begin q is to q as the path itself does
 pub cmp_under : (a q x : Path) → begins a q ≡ false → begins a x ≡ true → path_cmp q x ≡ path_cmp q a
 cmp_under [] q x off on = absurd (false≢true (sym off))
 cmp_under (c ∷ a) [] [] off on = absurd (false≢true (sym (nothing c a) ∙ on))
@@ -148,16 +148,16 @@ nil_of [] e = refl
 nil_of (x ∷ es) e = absurd (omega (arith, e))
 
 module _ {V A : Type 0} where
-  pub none_entries : (o : Option (Box (NodeSeen V) A)) → o ≡ None → map.entries (table_of o) ≡ []
+  pub none_entries : (o : Option (Box (NodeModel V) A)) → o ≡ None → map.entries (table_of o) ≡ []
   none_entries o is = nil_of _ (sym (len-entries (table_of o)) ∙ ap (λ z. map.len (table_of z)) is ∙ len-empty path_cmp V)
 
-  pub none_first : (o : Option (Box (NodeSeen V) A)) → o ≡ None → None ≡ first_entry (map.entries (table_of o))
+  pub none_first : (o : Option (Box (NodeModel V) A)) → o ≡ None → None ≡ first_entry (map.entries (table_of o))
   none_first o is = sym (ap first_entry (none_entries o is))
 
-  pub none_past : (q : Path) (o : Option (Box (NodeSeen V) A)) → o ≡ None → None ≡ entry_past q (map.entries (table_of o))
+  pub none_past : (q : Path) (o : Option (Box (NodeModel V) A)) → o ≡ None → None ≡ entry_past q (map.entries (table_of o))
   none_past q o is = sym (ap (entry_past q) (none_entries o is))
 
-  module _ (n : Inside V A) (d : NodeSeen V) (seen : node_view n.at n.value n.zero n.one ≡ d) (sound : IsTrue d.sound) where
+  module _ (n : Inside V A) (d : NodeModel V) (seen : node_view n.at n.value n.zero n.one ≡ d) (sound : IsTrue d.sound) where
     first_node : first_entry (map.entries d.table) ≡ option_or (first_entry (own_entry n.at n.value)) (option_or (first_entry (map.entries (table_of n.zero))) (first_entry (map.entries (table_of n.one))))
     first_node = ap (λ m. first_entry (map.entries m)) (sym (table_is n d seen)) ∙ first_around n.at n.value _ _ (zero_keys n d seen sound) (one_keys n d seen sound)
 
@@ -208,7 +208,7 @@ pub if_none : {R P Q : Type 0} → (r : Option R) → (P → Q) → IfNone r P �
 if_none None f h = f h
 if_none (Some x) f h = tt
 
-module _ {V A : Type 0} (o : Option (Box (NodeSeen V) A)) (b : Box (NodeSeen V) A) (w : NodeSeen V) (is : o ≡ Some b) (at : w ≡ b.value) where
+module _ {V A : Type 0} (o : Option (Box (NodeModel V) A)) (b : Box (NodeModel V) A) (w : NodeModel V) (is : o ≡ Some b) (at : w ≡ b.value) where
   -- a node below a link has a first entry
   pub first_is_there : {R : Type 0} (f : R → Path × V) (r : Option R) (P : Type 0) → IsUnder [] o → option_map f r ≡ first_entry (map.entries w.table) → IfNone r P
   first_is_there f None P under found = absurd (not_bare w.table w.at (place_goes w.table w.at (firm_node [] o b w is at under).place) found)
@@ -217,12 +217,12 @@ module _ {V A : Type 0} (o : Option (Box (NodeSeen V) A)) (b : Box (NodeSeen V) 
   pub longer_below : (p : Path) → IsUnder p o → length p ≤ length w.at
   longer_below p under = begins_length p w.at (firm_node p o b w is at under).loose.extends
 
-module _ {V A : Type 0} (o : Option (Box (NodeSeen V) A)) (b : Box (NodeSeen V) A) (q : Path) (is : o ≡ Some b) (under : IsUnder [] o) (off : begins b.value.at q ≡ false) where
+module _ {V A : Type 0} (o : Option (Box (NodeModel V) A)) (b : Box (NodeModel V) A) (q : Path) (is : o ≡ Some b) (under : IsUnder [] o) (off : begins b.value.at q ≡ false) where
   beside : entry_past q (map.entries (table_of o)) ≡ cond (is_lt (path_cmp q b.value.at)) (first_entry (map.entries b.value.table)) None
   beside = ap (λ z. entry_past q (map.entries (table_of z))) is ∙ past_beside b.value.at q b.value.table (subst (λ z. IsUnder [] z) is under).loose.keys off
 
-  pub past_ahead : (w : NodeSeen V) (r : Option (Path × V)) → w ≡ b.value → true ≡ is_lt (path_cmp q b.value.at) → r ≡ first_entry (map.entries w.table) → r ≡ entry_past q (map.entries (table_of o))
-  past_ahead w r at less found = found ∙ ap (λ (z : NodeSeen V). first_entry (map.entries z.table)) at ∙ sym (beside ∙ ap (λ t. cond t (first_entry (map.entries b.value.table)) None) (sym less))
+  pub past_ahead : (w : NodeModel V) (r : Option (Path × V)) → w ≡ b.value → true ≡ is_lt (path_cmp q b.value.at) → r ≡ first_entry (map.entries w.table) → r ≡ entry_past q (map.entries (table_of o))
+  past_ahead w r at less found = found ∙ ap (λ (z : NodeModel V). first_entry (map.entries z.table)) at ∙ sym (beside ∙ ap (λ t. cond t (first_entry (map.entries b.value.table)) None) (sym less))
 
-  pub past_behind : false ≡ is_lt (path_cmp q b.value.at) → None ≡ entry_past q (map.entries (table_of o))
-  past_behind less = sym (beside ∙ ap (λ t. cond t (first_entry (map.entries b.value.table)) None) (sym less))
+  pub past_after : false ≡ is_lt (path_cmp q b.value.at) → None ≡ entry_past q (map.entries (table_of o))
+  past_after less = sym (beside ∙ ap (λ t. cond t (first_entry (map.entries b.value.table)) None) (sym less))

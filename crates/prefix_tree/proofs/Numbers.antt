@@ -18,10 +18,10 @@ fits_cut w n b le fits = let e : n ≡ w + (n - w) = omega arith in shr_below b 
 pub begins_numbers : (p q : Path) (a b : ℕ) → a < 2 ^ length p → b < 2 ^ length q → num (length p) a ≡ p → num (length q) b ≡ q → length p ≤ length q → nat_eq (b / 2 ^ (length q - length p)) a ≡ begins p q
 begins_numbers p q a b small fits pa qb le =
     let x = b / 2 ^ (length q - length p) in
-    let front : take (length p) q ≡ num (length p) x = ap (take (length p)) (sym qb) ∙ take-num (length p) (length q) b le in
+    let prefix : take (length p) q ≡ num (length p) x = ap (take (length p)) (sym qb) ∙ take-num (length p) (length q) b le in
     begins_test (nat_eq x a) p q le
-    (λ t. let same : a ≡ x = grind (arith, nat_tests) in sym pa ∙ ap (num (length p)) same ∙ sym front)
-    (λ e. let same : a ≡ x = sym (number-num (length p) a small) ∙ ap number (pa ∙ e ∙ front) ∙ number-num (length p) x (fits_cut (length p) (length q) b le fits) in grind (arith, nat_tests))
+    (λ t. let same : a ≡ x = grind (arith, nat_tests) in sym pa ∙ ap (num (length p)) same ∙ sym prefix)
+    (λ e. let same : a ≡ x = sym (number-num (length p) a small) ∙ ap number (pa ∙ e ∙ prefix) ∙ number-num (length p) x (fits_cut (length p) (length q) b le fits) in grind (arith, nat_tests))
 
 pub too_long : (p q : Path) → length q < length p → false ≡ begins p q
 too_long p q longer = never (begins p q) (λ so. let h = begins_length p q so in absurd (omega (arith, h, longer)))
@@ -30,10 +30,10 @@ too_long p q longer = never (begins p q) (λ so. let h = begins_length p q so in
     never true h = absurd (h refl)
     never false h = refl
 
-pub begins_front : (p r : Path) → begins p (p ++ r) ≡ true
-begins_front [] r = refl
-begins_front (true ∷ p) r = begins_front p r
-begins_front (false ∷ p) r = begins_front p r
+pub begins_prefix : (p r : Path) → begins p (p ++ r) ≡ true
+begins_prefix [] r = refl
+begins_prefix (true ∷ p) r = begins_prefix p r
+begins_prefix (false ∷ p) r = begins_prefix p r
 
 num_one : (y : ℕ) → num 1 y ≡ nat_eq (y % 2) 1 ∷ []
 unfolding num
@@ -46,14 +46,14 @@ parts w n b lt =
     subst (λ m. num m b ≡ (num w (b / 2 ^ (n - w - 1) / 2 ^ 1) ++ nat_eq (b / 2 ^ (n - w - 1) % 2) 1 ∷ []) ++ num (n - w - 1) b) e
     (num-append (w + 1) (n - w - 1) b ∙ ap (λ (l : Path). l ++ num (n - w - 1) b) (num-append w 1 (b / 2 ^ (n - w - 1)) ∙ ap (λ (l : Path). num w (b / 2 ^ (n - w - 1) / 2 ^ 1) ++ l) (num_one (b / 2 ^ (n - w - 1)))))
 
-same_front : (p l r : Path) (c : Bool) → length l ≡ length p → begins p ((l ++ c ∷ []) ++ r) ≡ true → p ≡ l
-same_front [] [] r c e b = refl
-same_front [] (d ∷ l) r c e b = absurd (omega (arith, e))
-same_front (d ∷ p) [] r c e b = absurd (omega (arith, e))
-same_front (true ∷ p) (true ∷ l) r c e b = ap (λ (z : Path). true ∷ z) (same_front p l r c (omega (arith, e)) b)
-same_front (false ∷ p) (false ∷ l) r c e b = ap (λ (z : Path). false ∷ z) (same_front p l r c (omega (arith, e)) b)
-same_front (true ∷ p) (false ∷ l) r c e b = absurd (false≢true b)
-same_front (false ∷ p) (true ∷ l) r c e b = absurd (false≢true b)
+same_prefix : (p l r : Path) (c : Bool) → length l ≡ length p → begins p ((l ++ c ∷ []) ++ r) ≡ true → p ≡ l
+same_prefix [] [] r c e b = refl
+same_prefix [] (d ∷ l) r c e b = absurd (omega (arith, e))
+same_prefix (d ∷ p) [] r c e b = absurd (omega (arith, e))
+same_prefix (true ∷ p) (true ∷ l) r c e b = ap (λ (z : Path). true ∷ z) (same_prefix p l r c (omega (arith, e)) b)
+same_prefix (false ∷ p) (false ∷ l) r c e b = ap (λ (z : Path). false ∷ z) (same_prefix p l r c (omega (arith, e)) b)
+same_prefix (true ∷ p) (false ∷ l) r c e b = absurd (false≢true b)
+same_prefix (false ∷ p) (true ∷ l) r c e b = absurd (false≢true b)
 
 pub side_number : (p q : Path) (b : ℕ) → num (length q) b ≡ q → length p < length q → begins p q ≡ true → begins (p ++ nat_eq (b / 2 ^ (length q - length p - 1) % 2) 1 ∷ []) q ≡ true
 side_number p q b qb lt within =
@@ -61,8 +61,8 @@ side_number p q b qb lt within =
     let l = num (length p) (b / 2 ^ k / 2 ^ 1) in
     let c = nat_eq (b / 2 ^ k % 2) 1 in
     let split : q ≡ (l ++ c ∷ []) ++ num k b = sym qb ∙ parts (length p) (length q) b lt in
-    let same : p ≡ l = same_front p l (num k b) c (length-num (length p) _) (subst (λ z. begins p z ≡ true) split within) in
-    subst (λ (z : Path). begins (z ++ c ∷ []) q ≡ true) (sym same) (subst (λ z. begins (l ++ c ∷ []) z ≡ true) (sym split) (begins_front (l ++ c ∷ []) (num k b)))
+    let same : p ≡ l = same_prefix p l (num k b) c (length-num (length p) _) (subst (λ z. begins p z ≡ true) split within) in
+    subst (λ (z : Path). begins (z ++ c ∷ []) q ≡ true) (sym same) (subst (λ z. begins (l ++ c ∷ []) z ≡ true) (sym split) (begins_prefix (l ++ c ∷ []) (num k b)))
 
 -- what begins both of two paths
 pub common_self : (p : Path) → common p p ≡ p

@@ -1,14 +1,20 @@
--- Prefixes in order: by their bits at the left of 48 with zeros behind them, and where these tie by their length.
+-- Prefixes in order: by their bits at the left of 48 with zeros after them, and where these tie by their length.
 use Rattle.std.proofs.Common.{◌≡◌, ℕ, zero, suc, ◌+◌, ◌-◌, ◌*◌, ◌^◌, ◌<◌, ◌≤◌, true, false, [], ◌∷◌, ◌++◌, length, replicate, refl, sym, ap, ◌∙◌, length-append, arith}
 use Rattle.std.specs.declared.cmp.Ordering.{Ordering}
 use Rattle.std.specs.declared.cmp.Ordering.TheVariants.{Less, Equal, Greater}
-use Rattle.std.specs.Ordering.{nat_cmp, ordering_then}
+use Rattle.std.specs.Ordering.{is_lt, nat_cmp, ordering_then}
 use Rattle.std.proofs.Math.ListN.{length-replicate}
+use mathlib.Core.Bool.{false≢true}
 use Rattle.std.proofs.lemmas.Bool.Decides.{nat_tests}
 use Rattle.identity.specs.Number.{number}
 use Rattle.identity.specs.Inside.NumberLaws.{number-lt}
 use Rattle.identity.specs.Path.{Path, path_cmp, id_path}
 use Rattle.identity.specs.Inside.PathLaws.{length-id_path, number-id_path}
+
+pub less_of : (o : Ordering) → is_lt o ≡ true → o ≡ Less
+less_of Less e = refl
+less_of Equal e = absurd (false≢true e)
+less_of Greater e = absurd (false≢true e)
 
 above : (k x y : ℕ) → x < 2 ^ k → nat_cmp (1 * 2 ^ k + y) (0 * 2 ^ k + x) ≡ Greater
 above k x y lt = grind (arith, nat_tests)
@@ -61,7 +67,7 @@ none_after a = grind (arith, nat_tests)
 lengths : (a b : ℕ) → nat_cmp (suc a) (suc b) ≡ nat_cmp a b
 lengths a b = grind (arith, nat_tests)
 
--- zeros behind two lists leave their order, but for a tie, and then the shorter comes first
+-- zeros after two lists leave their order, but for a tie, and then the shorter comes first
 pub by_length : (p q : Path) (m n : ℕ) → length p + m ≡ length q + n → path_cmp p q ≡ ordering_then (path_cmp (p ++ replicate m false) (q ++ replicate n false)) (nat_cmp (length p) (length q))
 by_length [] [] m n e = let same : m ≡ n = omega arith in rw (same, zeros_tie n)
 by_length [] (b ∷ q) m n e = let m_is : m ≡ length (b ∷ q) + n = omega arith in rw (none_before (length q)) (sym (zeros_first m ((b ∷ q) ++ replicate n false) (m_is ∙ sym (padded (b ∷ q) n))))

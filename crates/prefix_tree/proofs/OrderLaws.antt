@@ -1,4 +1,4 @@
--- A joined map's entries stand in the order of the walk.
+-- A joined map's entries are in the order of the walk.
 use Rattle.std.proofs.Common.{◌≡◌, ◌+◌, Bool, true, false, cond, List, [], ◌∷◌, ◌++◌, Option, Some, None, length, length-append, refl, sym, ap, ◌∙◌}
 use mathlib.Core.Bool.{false≢true}
 use Rattle.std.specs.Prelude.{◌&&◌, T}

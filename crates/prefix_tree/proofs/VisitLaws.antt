@@ -12,11 +12,11 @@ use Rattle.std.specs.declared.boxed.Box.{Box}
 use Rattle.identity.specs.Path.{Path, path_cmp, begins}
 use Rattle.prefix_tree.specs.Table.{PathMap}
 use Rattle.prefix_tree.specs.Visits.{goes_on, is_place, visits, visits_beyond, nodes_on_way}
-use Rattle.prefix_tree.specs.Inside.Around.{NodeSeen, KeysUnder, table_of, IsUnder, link_visits}
+use Rattle.prefix_tree.specs.Inside.Around.{NodeModel, KeysUnder, table_of, IsUnder, link_visits}
 use Rattle.prefix_tree.proofs.Begins.{begins_self, begins_push, side_begins, begins_length, begins_whole}
-use Rattle.prefix_tree.proofs.Numbers.{begins_front}
+use Rattle.prefix_tree.proofs.Numbers.{begins_prefix}
 use Rattle.prefix_tree.proofs.AroundLaws.{under_off}
-use Rattle.prefix_tree.proofs.Standing.{never_so, goes_same, goes_wider, goes_none, place_same, place_goes}
+use Rattle.prefix_tree.proofs.NodePlaces.{never_so, goes_same, goes_wider, goes_none, place_same, place_goes}
 
 -- of two beginnings of a path, the shorter one begins the longer one
 begins_both : (r a k : Path) → begins r k ≡ true → begins a k ≡ true → length r ≤ length a → begins r a ≡ true
@@ -94,7 +94,7 @@ module _ {V : Type 0} where
   unfolding nodes_on_way
   way_is t m at q root is = λ i. 1 + visits_beyond (is i) (root i) q
 
-  -- below a place p a node stands at a, and no key that p begins stands beside it
+  -- below a place p a node is at a, and no key that p begins is beside it
   module _ (m x : PathMap V) (a : Path) (keys : KeysUnder a x) (place : is_place x a ≡ true) where
     apart : (p : Path) (b : Bool) → ((k : Path) → begins p k ≡ true → map.get m k ≡ map.get x k) → length p < length a → begins (p ++ b ∷ []) a ≡ false → goes_on m (p ++ b ∷ []) ≡ false
     apart p b f lt off = goes_none m (p ++ b ∷ []) (λ k on. f k (side_begins p k b on) ∙ under_off a k x keys (never_so _ (λ both.
@@ -119,7 +119,7 @@ module _ {V : Type 0} where
     way_here p r is f =
         ap (λ t. visits m p t r) (place_same m x p f ∙ ap (is_place x) is ∙ place) ∙ visits_same m x p true r f ∙ ap (λ z. visits x z true r) is
         ∙ ap (visits x a true) (sym (ap (λ z. drop (length a) (z ++ r)) is ∙ drop-append_seam a r))
-        ∙ sym (ap (λ t. cond t (visits x a true (drop (length a) (p ++ r))) 0) (ap (λ z. begins a (z ++ r)) is ∙ begins_front a r))
+        ∙ sym (ap (λ t. cond t (visits x a true (drop (length a) (p ++ r))) 0) (ap (λ z. begins a (z ++ r)) is ∙ begins_prefix a r))
 
     way : (p r : Path) → begins p a ≡ true → ((k : Path) → begins p k ≡ true → map.get m k ≡ map.get x k) → visits m p (is_place m p) r ≡ cond (begins a (p ++ r)) (visits_beyond x a (p ++ r)) 0
     unfolding visits
@@ -145,15 +145,15 @@ module _ {V : Type 0} where
             let none : visits m (p ++ b ∷ []) (is_place m (p ++ b ∷ [])) r ≡ 0 = none_visited m (p ++ b ∷ []) (is_place m (p ++ b ∷ [])) r off in
             (λ i. cond (is_place m p && off i) 1 0 + none i) ∙ no_one (is_place m p)
             ∙ sym (ap (λ t. cond t (visits_beyond x a (p ++ b ∷ r)) 0) (never_so _ (λ long. false≢true (sym is ∙ begins_both (p ++ b ∷ []) a (p ++ b ∷ r)
-            (subst (λ z. begins (p ++ b ∷ []) z ≡ true) (append_assoc p (b ∷ []) r) (begins_front (p ++ b ∷ []) r)) long
+            (subst (λ z. begins (p ++ b ∷ []) z ≡ true) (append_assoc p (b ∷ []) r) (begins_prefix (p ++ b ∷ []) r)) long
             (let h = length-append p (b ∷ []) in omega (arith, lt, h))))))
 
 module _ {V A : Type 0} where
   -- one step down
-  pub visits_step : (d : NodeSeen V) (b : Bool) (o : Option (Box (NodeSeen V) A)) (q : Path) → begins (d.at ++ b ∷ []) q ≡ true → IsUnder (d.at ++ b ∷ []) o → ((z : Path) → begins (d.at ++ b ∷ []) z ≡ true → map.get d.table z ≡ map.get (table_of o) z) → visits_beyond d.table d.at q ≡ link_visits o q
+  pub visits_step : (d : NodeModel V) (b : Bool) (o : Option (Box (NodeModel V) A)) (q : Path) → begins (d.at ++ b ∷ []) q ≡ true → IsUnder (d.at ++ b ∷ []) o → ((z : Path) → begins (d.at ++ b ∷ []) z ≡ true → map.get d.table z ≡ map.get (table_of o) z) → visits_beyond d.table d.at q ≡ link_visits o q
   unfolding visits_beyond visits
   visits_step d b o q side under table =
-      ap (visits d.table d.at true) (ap (drop (length d.at)) split ∙ drop-append_seam d.at (b ∷ rest)) ∙ behind o under table
+      ap (visits d.table d.at true) (ap (drop (length d.at)) split ∙ drop-append_seam d.at (b ∷ rest)) ∙ following o under table
     where
       rest : Path
       rest = drop (length (d.at ++ b ∷ [])) q
@@ -161,12 +161,12 @@ module _ {V A : Type 0} where
       split : q ≡ d.at ++ (b ∷ rest)
       split = begins_split (d.at ++ b ∷ []) q side ∙ append_assoc d.at (b ∷ []) rest
 
-      behind : (o : Option (Box (NodeSeen V) A)) → IsUnder (d.at ++ b ∷ []) o → ((z : Path) → begins (d.at ++ b ∷ []) z ≡ true → map.get d.table z ≡ map.get (table_of o) z) → cond (goes_on d.table (d.at ++ b ∷ [])) 1 0 + visits d.table (d.at ++ b ∷ []) (is_place d.table (d.at ++ b ∷ [])) rest ≡ link_visits o q
-      behind None under table =
+      following : (o : Option (Box (NodeModel V) A)) → IsUnder (d.at ++ b ∷ []) o → ((z : Path) → begins (d.at ++ b ∷ []) z ≡ true → map.get d.table z ≡ map.get (table_of o) z) → cond (goes_on d.table (d.at ++ b ∷ [])) 1 0 + visits d.table (d.at ++ b ∷ []) (is_place d.table (d.at ++ b ∷ [])) rest ≡ link_visits o q
+      following None under table =
           let off : goes_on d.table (d.at ++ b ∷ []) ≡ false = goes_none d.table (d.at ++ b ∷ []) (λ z on. table z on ∙ get-empty path_cmp z) in
           let none : visits d.table (d.at ++ b ∷ []) (is_place d.table (d.at ++ b ∷ [])) rest ≡ 0 = none_visited d.table (d.at ++ b ∷ []) (is_place d.table (d.at ++ b ∷ [])) rest off in
           λ i. cond (off i) 1 0 + none i
-      behind (Some c) under table =
+      following (Some c) under table =
           let some : goes_on d.table (d.at ++ b ∷ []) ≡ true = goes_same d.table c.value.table (d.at ++ b ∷ []) table ∙ goes_wider c.value.table (d.at ++ b ∷ []) c.value.at under.loose.extends (place_goes c.value.table c.value.at under.place) in
           let on : visits d.table (d.at ++ b ∷ []) (is_place d.table (d.at ++ b ∷ [])) rest ≡ cond (begins c.value.at q) (visits_beyond c.value.table c.value.at q) 0 =
           way d.table c.value.table c.value.at under.loose.keys under.place (d.at ++ b ∷ []) rest under.loose.extends table
@@ -175,7 +175,7 @@ module _ {V A : Type 0} where
 
 module _ {V : Type 0} where
   -- at the key itself none is left
-  pub visits_done : (d : NodeSeen V) (q : Path) → length q ≤ length d.at → visits_beyond d.table d.at q ≡ 0
+  pub visits_done : (d : NodeModel V) (q : Path) → length q ≤ length d.at → visits_beyond d.table d.at q ≡ 0
   unfolding visits_beyond visits
   visits_done d q le = ap (visits d.table d.at true) (drop_all (length d.at) q le)
     where

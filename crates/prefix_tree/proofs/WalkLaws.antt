@@ -9,7 +9,7 @@ use Rattle.std.specs.Borrow.{Bor}
 use Rattle.identity.specs.Path.{Path}
 use Rattle.prefix_tree.specs.Walk.{seen}
 use Rattle.prefix_tree.specs.declared.node.Node.TheInside.{Inside}
-use Rattle.prefix_tree.specs.Inside.Around.{NodeSeen, own_entry, table_of, node_view}
+use Rattle.prefix_tree.specs.Inside.Around.{NodeModel, own_entry, table_of, node_view}
 use Rattle.prefix_tree.proofs.NodeLaws.{at_is, read_here}
 use Rattle.prefix_tree.proofs.StepLaws.{entries_node}
 
@@ -21,7 +21,7 @@ module _ {X : Type 0} where
   pub none_added : (first more : List X) → more ≡ [] → first ≡ first ++ more
   none_added first more is = sym (ap (λ z. first ++ z) is ∙ append-nil first)
 
-module _ {V A : Type 0} (n : Inside V A) (d : NodeSeen V) (seen : node_view n.at n.value n.zero n.one ≡ d) (sound : IsTrue d.sound) where
+module _ {V A : Type 0} (n : Inside V A) (d : NodeModel V) (seen : node_view n.at n.value n.zero n.one ≡ d) (sound : IsTrue d.sound) where
   -- the node's own entry, then those on its two sides
   pub walk_node : (o x y z : List (Path × V)) → x ≡ o ++ own_entry d.at (map.get d.table d.at) → y ≡ x ++ map.entries (table_of n.zero) → z ≡ y ++ map.entries (table_of n.one) → z ≡ o ++ map.entries d.table
   walk_node o x y z a b c = in_turn _ _ _ _ o x y z (entries_node n d seen sound) (a ∙ ap (λ v. o ++ own_entry d.at v) (read_here n d seen sound)) b c

@@ -1,4 +1,3 @@
-pub mod PrefixList
 pub mod Around
 pub mod Paths
 pub mod Counts

@@ -1,7 +1,7 @@
 pub mod Table
 pub mod Visits
 pub mod Change
-pub mod Lending
+pub mod Borrowing
 pub mod Following
 pub mod Next
 pub mod Walk

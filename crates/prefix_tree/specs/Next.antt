@@ -17,6 +17,6 @@ entry_past q es = next_of path_cmp (λ e. e.0) es (Some q)
 abbrev pub next_entry : {V : Type 0} → PathMap V → Option Path → Option (Path × V)
 next_entry m after = next_of path_cmp (λ e. e.0) (map.entries m) after
 
--- the entries to which one comes from one to the next, n of them at most
+-- the entries that are found by going from each to the next, n of them at most
 abbrev pub followed : {V : Type 0} → PathMap V → ℕ → Option Path → List (Path × V)
 followed m n after = one_by_one (next_entry m) (λ e. e.0) n after

@@ -9,7 +9,7 @@ use Rattle.identity.specs.Path.{Path, path_cmp, begins}
 abbrev pub PathMap : Type 0 → Type 0
 PathMap V = map.FinMap path_cmp V
 
--- the path, with the value that stands under it
+-- the path, with the value that is under it
 abbrev pub entry_at : {V : Type 0} → PathMap V → Path → Option (Path × V)
 entry_at m p = option_map (λ v. (p, v)) (map.get m p)
 

@@ -1,4 +1,4 @@
-//! Copies of the tree: its entries as a list of their own, and the whole in boxes of its own.
+//! Copies of the tree: its entries as a list, and the whole tree in new boxes.
 
 ghost use Rattle.std.specs.Prelude.{◌≡◌, ◌++◌, [], IsTrue, IfOk, OnOk};
 ghost use Rattle.std.specs.FinMap as map;

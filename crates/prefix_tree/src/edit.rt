@@ -1,12 +1,14 @@
-//! Changing the tree: at most two new nodes, made before either is linked; a node that is left without a value and
-//! with one side goes.
+//! Changing the tree. An insert makes at most two nodes, and makes both before it links either. A node that is left
+//! without a value and with one side at most is removed.
 
-ghost use Rattle.std.specs.Prelude.{◌≡◌, cond, Option, Some, None, ◌+◌, ◌<◌, ◌≤◌, ◌∷◌, ◌++◌, [], IsTrue, IsSome, IsOk, OnOk, IfOk, IfErr, true, false, not, length};
+ghost use Rattle.std.specs.Prelude.{◌≡◌, cond, Option, Some, None, ◌+◌, ◌<◌, ◌≤◌, ◌∷◌, ◌++◌, [], true, false, not, length};
+ghost use Rattle.std.specs.Prelude.{IsTrue, IsSome, IsOk, OnOk, IfOk, IfErr};
 ghost use Rattle.std.specs.FinMap as map;
 ghost use Rattle.std.specs.Option.{is_some};
 ghost use Rattle.identity.specs.Path.{begins};
-ghost use Rattle.prefix_tree.specs.Change.{with_value, Makes};
-ghost use Rattle.prefix_tree.specs.Inside.Around.{table_of, nodes_of, leads_to, spread, KeysUnder, IsFirm, IsUnder, IsLoose, IsLooseUnder, PartsAt, is_lone, link_visits};
+ghost use Rattle.prefix_tree.specs.Change.{IsChanged, Makes};
+ghost use Rattle.prefix_tree.specs.Inside.Around.{table_of, nodes_of, leads_to, spread, is_lone, link_visits};
+ghost use Rattle.prefix_tree.specs.Inside.Around.{KeysUnder, IsFirm, IsUnder, IsLoose, IsLooseUnder, PartsAt};
 ghost use Rattle.prefix_tree.specs.Visits.{is_place, visits_beyond};
 
 use crate::node::{Link, Node};
@@ -16,7 +18,8 @@ use std::alloc::{AllocError, Allocator};
 use std::sync::ledger::Ledger;
 
 impl<V: Drop, A: Allocator + Clone> Node<V, A> {
-    /// The value before. For want of memory the value comes back, and nothing is changed.
+    /// Sets the value at this very prefix, and answers the one before. When memory runs out, the new value is returned,
+    /// and nothing is changed.
     #[cycle(insert)]
     pub(crate) fn insert(&mut self, alloc: &A, key: &Prefix, value: V) -> Result<Option<V>, V>
         requires within { IsTrue (begins self.old.at key.now) }
@@ -39,7 +42,7 @@ impl<V: Drop, A: Allocator + Clone> Node<V, A> {
         }
     }
 
-    // As `insert`, of what a link leads to.
+    // As `insert`, at or below the node that a link leads to.
     #[cycle(insert)]
     fn insert_below(
         link: &mut Option<Link<V, A>>,
@@ -64,7 +67,7 @@ impl<V: Drop, A: Allocator + Clone> Node<V, A> {
 }
 
 impl<V, A: Allocator> Node<V, A> {
-    // A node with this behind one bit and that behind the other.
+    // A node with `old` under the bit `side`, and `other` under the other bit.
     fn above(
         at: Prefix,
         value: Option<V>,
@@ -110,7 +113,7 @@ pub(crate) fn leads<V, A: Allocator>(link: &Option<Link<V, A>>, key: &Prefix) ->
     }
 }
 
-/// As `leads`, and a step where there is a node.
+/// As `leads`. It counts a step where there is a node.
 pub(crate) fn visit<V, A: Allocator, L: Ledger>(
     link: &Option<Link<V, A>>,
     key: &Prefix,
@@ -125,7 +128,7 @@ pub(crate) fn visit<V, A: Allocator, L: Ledger>(
     leads(link, key)
 }
 
-// Where the ways to the link's node and to the key part, and the bit that goes on to the node.
+// Where the ways to the link's node and to the key part, and the bit with which the way to the node goes on.
 fn parting<V, A: Allocator>(link: &Option<Link<V, A>>, key: &Prefix) -> Option<(Prefix, bool)>
     requires under { IsUnder [] link.now }
     requires beside { leads_to link.now key.now ≡ false }
@@ -138,12 +141,12 @@ fn parting<V, A: Allocator>(link: &Option<Link<V, A>>, key: &Prefix) -> Option<(
     Some((at, path::side(&at, &node.at)))
 }
 
-// A node with nothing, in a box of its own.
+// A node without a value and without sides, in a box of its own.
 fn place<V: Drop, A: Allocator + Clone>(alloc: &A, at: Prefix) -> Result<Link<V, A>, AllocError> {
     Ok(Box::new(alloc.clone()?, Node::leaf(at, None))?)
 }
 
-// A node with nothing but this value, in a box of its own.
+// A node with this value and without sides, in a box of its own.
 fn sprout<V: Drop, A: Allocator + Clone>(alloc: &A, at: Prefix, value: V) -> Result<Link<V, A>, V>
     ensures at { IfOk result (λ node. node.value.at ≡ at) }
     ensures table { IfOk result (λ node. node.value.table ≡ map.insert map.empty at value) }
@@ -158,8 +161,8 @@ fn sprout<V: Drop, A: Allocator + Clone>(alloc: &A, at: Prefix, value: V) -> Res
     Ok(node)
 }
 
-// A new node for the key where the link's node, if it has one, does not begin it; and one more above both, where
-// neither begins the other.
+// Makes a node for the key, where the link's node, if there is one, does not begin it. Where the key does not begin
+// that node either, a second new node goes above both.
 fn grow<V: Drop, A: Allocator + Clone>(
     link: &mut Option<Link<V, A>>,
     alloc: &A,
@@ -202,8 +205,8 @@ fn grow<V: Drop, A: Allocator + Clone>(
 }
 
 impl<V: Drop, A: Allocator> Node<V, A> {
-    /// What the closure answers of the value that is there, which it changes or lets go. What is below and is left
-    /// without a value and with one side is joined.
+    /// What the closure answers of the value at this very prefix, which it changes or drops. A node below this one that
+    /// is left without a value and with one side at most is removed.
     #[cycle(change)]
     pub(crate) fn change<R, F: FnOnce(V) -> (R, Option<V>), L: Ledger>(
         &mut self,
@@ -216,7 +219,7 @@ impl<V: Drop, A: Allocator> Node<V, A> {
         requires callable { F.IsAlwaysCallable change }
         ensures at { self.new.at ≡ self.old.at }
         ensures sound { IsTrue self.new.sound }
-        ensures changed { (left : Option V) × (self.new.table ≡ with_value self.old.table key.now left) × Makes (F.post change) (map.get self.old.table key.now) result left }
+        ensures changed { IsChanged (F.post change) self.old.table key.now self.new.table result }
         ensures cost { steps.new ≡ steps.old + visits_beyond self.old.table self.old.at key.now }
     {
         if self.at.len() == key.len() {
@@ -229,7 +232,7 @@ impl<V: Drop, A: Allocator> Node<V, A> {
         }
     }
 
-    // As `change`, of what a link leads to.
+    // As `change`, at or below the node that a link leads to.
     #[cycle(change)]
     fn change_below<R, F: FnOnce(V) -> (R, Option<V>), L: Ledger>(
         link: &mut Option<Link<V, A>>,
@@ -239,7 +242,7 @@ impl<V: Drop, A: Allocator> Node<V, A> {
     ) -> Option<R>
         requires under { IsUnder [] link.old }
         requires callable { F.IsAlwaysCallable change }
-        ensures changed { (left : Option V) × (table_of link.new ≡ with_value (table_of link.old) key.now left) × Makes (F.post change) (map.get (table_of link.old) key.now) result left }
+        ensures changed { IsChanged (F.post change) (table_of link.old) key.now (table_of link.new) result }
         ensures under { (p : _) → IsUnder p link.old → IsUnder p link.new }
         ensures cost { steps.new ≡ steps.old + link_visits link.old key.now }
     {
@@ -253,7 +256,7 @@ impl<V: Drop, A: Allocator> Node<V, A> {
     }
 }
 
-// What the closure answers of the value, if there is one, and leaves of it.
+// What the closure answers of the value, if there is one. `value` becomes what it leaves.
 fn apply<V: Drop, R, F: FnOnce(V) -> (R, Option<V>)>(value: &mut Option<V>, change: F) -> Option<R>
     requires { F.IsAlwaysCallable change }
     ensures { Makes (F.post change) value.old result value.new }
@@ -264,7 +267,7 @@ fn apply<V: Drop, R, F: FnOnce(V) -> (R, Option<V>)>(value: &mut Option<V>, chan
     Some(answer)
 }
 
-// A node without a value and with one side at most gives its place to that side.
+// Replaces a node without a value and with one side at most by that side.
 fn join<V: Drop, A: Allocator>(link: &mut Option<Link<V, A>>)
     requires { IsLooseUnder [] link.old }
     ensures table { table_of link.new ≡ table_of link.old }
@@ -286,7 +289,7 @@ fn is_lone<V, A: Allocator>(link: &Option<Link<V, A>>) -> bool
     }
 }
 
-// The one side of a node without a value, taken out of it.
+// Takes the one side out of a node without a value.
 fn only_side<V, A: Allocator>(link: &mut Option<Link<V, A>>) -> Option<Link<V, A>>
     requires loose { IsLooseUnder [] link.old }
     requires lone { IsTrue (is_lone link.old) }
@@ -308,7 +311,7 @@ impl<V, A: Allocator> Node<V, A> {
         self.value.is_some() || self.zero.is_some() && self.one.is_some()
     }
 
-    // The one side of a node without a value.
+    // Takes the one side out, where there is no value.
     fn take_side(&mut self) -> Option<Link<V, A>>
         requires sound { IsTrue self.old.sound }
         requires lone { is_place self.old.table self.old.at ≡ false }

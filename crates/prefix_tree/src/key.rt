@@ -7,12 +7,12 @@ ghost use Rattle.std.proofs.lemmas.Cmp.{eq_by_cmp_equiv};
 ghost use Rattle.identity.specs.Path.{path_cmp};
 ghost use Rattle.identity.specs.Inside.PathLaws.{paths_total};
 
-use crate::list::order;
+use crate::path::prefix_order;
 use identity::Prefix;
 use std::cmp::Ordering;
 use std::marker::Model;
 
-/// A prefix, in the order of its bits, before all that it begins.
+/// A prefix as a key of an ordered map: a prefix before its extensions, and else by the first bit that differs.
 #[derive(Clone, Copy)]
 pub(crate) struct Key {
     prefix: Prefix,
@@ -44,7 +44,7 @@ impl PartialEq for Key {
     ghost laws = { partial_equiv_from_equiv (eq_by_cmp_equiv paths_total) };
 
     fn eq(&self, other: &Self) -> bool {
-        order(&self.prefix, &other.prefix).is_eq()
+        prefix_order(&self.prefix, &other.prefix).is_eq()
     }
 }
 
@@ -72,6 +72,6 @@ impl Ord for Key {
     ghost matches_eq = { λ x y. refl };
 
     fn cmp(&self, other: &Self) -> Ordering {
-        order(&self.prefix, &other.prefix)
+        prefix_order(&self.prefix, &other.prefix)
     }
 }

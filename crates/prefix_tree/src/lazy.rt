@@ -3,7 +3,7 @@
 ghost use Rattle.std.specs.Prelude.{◌≡◌, Option, IfOk, IsOk, IsSome, OnErr, OnOk};
 ghost use Rattle.std.specs.FinMap as map;
 ghost use Rattle.std.specs.Option.{option_copied};
-ghost use Rattle.prefix_tree.specs.Change.{with_value, Makes};
+ghost use Rattle.prefix_tree.specs.Change.{IsChanged};
 
 use crate::TryCopy;
 use crate::ordered::OrderedMap;
@@ -11,8 +11,8 @@ use identity::Prefix;
 use std::alloc::{AllocError, Allocator};
 use std::marker::Model;
 
-/// A finite map from prefixes, kept as an ordered map that is made for the first value and goes with the last. So an
-/// empty one needs no allocator, and several of them can stand under one that is kept beside them.
+/// A finite map from prefixes, kept as an ordered map that is made for the first value and freed with the last. So an
+/// empty one needs no allocator, and several of them can share an allocator that is kept beside them.
 #[derive(Drop)]
 pub struct LazyMap<V, A: Allocator> {
     ordered: Option<OrderedMap<V, A>>,
@@ -64,7 +64,8 @@ impl<V, A: Allocator> LazyMap<V, A> {
     }
 
     /// What the closure answers of the value at a prefix, if there is one. The value becomes what the closure leaves
-    /// of it; where that is nothing, it goes. It takes no memory, and goes down once where the value stays.
+    /// of it; where that is nothing, the value is removed. It takes no memory. It searches the map once where the value
+    /// stays.
     pub fn change<R, F: FnOnce(V) -> (R, Option<V>)>(
         &mut self,
         prefix: &Prefix,
@@ -73,7 +74,7 @@ impl<V, A: Allocator> LazyMap<V, A> {
     where
         V: Drop,
         requires { F.IsAlwaysCallable change }
-        ensures { (left : Option V) × (self.new ≡ with_value self.old prefix.now left) × Makes (F.post change) (map.get self.old prefix.now) result left }
+        ensures { IsChanged (F.post change) self.old prefix.now self.new result }
     {
         let Some(map) = &mut self.ordered else {
             return None;
@@ -83,8 +84,8 @@ impl<V, A: Allocator> LazyMap<V, A> {
         answer
     }
 
-    /// Sets the value at a prefix, and answers the one before. It takes memory only where there was none; for want
-    /// of it nothing is changed.
+    /// Sets the value at a prefix, and answers the one before. It takes memory only where there was none. When memory
+    /// runs out, nothing is changed.
     pub fn insert(&mut self, alloc: &A, prefix: Prefix, value: V) -> Result<Option<V>, AllocError>
     where
         V: Drop,
@@ -103,7 +104,7 @@ impl<V, A: Allocator> LazyMap<V, A> {
         Ok(before)
     }
 
-    // An empty map lets its memory go.
+    // Frees an ordered map that is empty.
     fn shrink(&mut self)
     where
         V: Drop,

@@ -1,4 +1,4 @@
-//! The entry after a key, without memory.
+//! The entry after a key, found without taking memory.
 
 ghost use Rattle.std.specs.Prelude.{◌≡◌, ◌+◌, ◌*◌, ◌≤◌, ◌++◌, ◌∷◌, Some, None, [], IsTrue, IfNone, true, false, length};
 ghost use Rattle.std.specs.FinMap as map;
@@ -49,7 +49,7 @@ impl<V, A: Allocator> Node<V, A> {
         }
     }
 
-    /// The first entry below the node after a key that the node begins.
+    /// The first entry below the node that comes after a key. The node begins the key.
     #[cycle(past)]
     pub(crate) fn past<L: Ledger>(&self, key: &Prefix, steps: &mut Steps<L>) -> Option<(Prefix, &V)>
         requires within { IsTrue (begins self.now.at key.now) }

@@ -17,8 +17,8 @@ use std::sync::ledger::Ledger;
 /// A node in a box of its own.
 pub(crate) type Link<V, A> = Box<Node<V, A>, A>;
 
-/// A place where prefixes part, or where one ends: its whole prefix, what goes on with each bit, and its value. What a
-/// walk reads of a node that it goes past lies together at its front.
+/// A place where prefixes part, or where one ends: its whole prefix, the links to what goes on with each bit, and its
+/// value. The fields that a walk reads of every node come first, so that they are together in memory.
 #[derive(Drop)]
 pub(crate) struct Node<V, A: Allocator> {
     pub(crate) at: Prefix,
@@ -28,9 +28,9 @@ pub(crate) struct Node<V, A: Allocator> {
 }
 
 impl<V, A: Allocator> Model for Node<V, A> {
-    ghost use Rattle.prefix_tree.specs.Inside.Around.{NodeSeen, coded_node, node_view};
+    ghost use Rattle.prefix_tree.specs.Inside.Around.{NodeModel, coded_node, node_view};
 
-    ghost Value = { NodeSeen V };
+    ghost Value = { NodeModel V };
 
     ghost coded = { coded_node V.code };
 
@@ -44,7 +44,7 @@ impl<V, A: Allocator> Model for Node<V, A> {
 }
 
 impl<V, A: Allocator> Node<V, A> {
-    /// A node with nothing but its value, if it has one.
+    /// A node with this value, if there is one, and without sides.
     pub(crate) fn leaf(at: Prefix, value: Option<V>) -> Self
         ensures at { result.at ≡ at }
         ensures table { (v : V) → value ≡ Some v → result.table ≡ map.insert map.empty at v }
@@ -60,7 +60,7 @@ impl<V, A: Allocator> Node<V, A> {
         }
     }
 
-    /// What goes on with this bit.
+    /// The link to what goes on with this bit.
     pub(crate) fn below(&self, one: bool) -> &Option<Link<V, A>>
         requires { IsTrue self.now.sound }
         ensures under { IsUnder (self.now.at ++ one ∷ []) result.now }
@@ -151,7 +151,7 @@ impl<V, A: Allocator> Node<V, A> {
         1 + Node::nodes_below(&self.zero) + Node::nodes_below(&self.one)
     }
 
-    // As `nodes`, of what a link leads to.
+    // As `nodes`, of the node that a link leads to.
     #[cycle(nodes)]
     fn nodes_below(link: &Option<Link<V, A>>) -> usize
         requires { IsUnder [] link.now }

@@ -3,7 +3,7 @@
 ghost use Rattle.std.specs.Prelude.{◌≡◌, true, false, None, Option, IfOk, IsOk, IsSome, OnErr, OnOk};
 ghost use Rattle.std.specs.FinMap as map;
 ghost use Rattle.std.specs.Option.{option_copied};
-ghost use Rattle.prefix_tree.specs.Change.{with_value, Makes};
+ghost use Rattle.prefix_tree.specs.Change.{IsChanged};
 
 use crate::TryCopy;
 use crate::key::Key;
@@ -12,7 +12,7 @@ use std::alloc::{AllocError, Allocator};
 use std::collections::BTreeMap;
 use std::marker::Model;
 
-// A value; none only while it is changed.
+// A value. It is absent only while it is changed.
 #[derive(Drop)]
 struct Held<V> {
     value: Option<V>,
@@ -31,8 +31,8 @@ impl<V: TryCopy + Drop> Clone for Held<V> {
     }
 }
 
-/// A finite map from prefixes, of which only whole keys are asked for: many of them share a node, and so lie together
-/// in memory, where in a `PrefixTree` each level is another load.
+/// A finite map from prefixes, for callers that ask for whole keys only. Many keys share a node, and so are together in
+/// memory; in a `PrefixTree` each level is another load.
 #[derive(Drop)]
 pub(crate) struct OrderedMap<V, A: Allocator> {
     by_prefix: BTreeMap<Key, Held<V>, A>,
@@ -89,7 +89,8 @@ impl<V, A: Allocator> OrderedMap<V, A> {
     }
 
     /// What the closure answers of the value at a prefix, if there is one. The value becomes what the closure leaves
-    /// of it; where that is nothing, it goes. It takes no memory, and goes down once where the value stays.
+    /// of it; where that is nothing, the value is removed. It takes no memory. It searches the map once where the value
+    /// stays.
     pub(crate) fn change<R, F: FnOnce(V) -> (R, Option<V>)>(
         &mut self,
         prefix: &Prefix,
@@ -98,7 +99,7 @@ impl<V, A: Allocator> OrderedMap<V, A> {
     where
         V: Drop,
         requires { F.IsAlwaysCallable change }
-        ensures { (left : Option V) × (self.new ≡ with_value self.old prefix.now left) × Makes (F.post change) (map.get self.old prefix.now) result left }
+        ensures { IsChanged (F.post change) self.old prefix.now self.new result }
     {
         let key = Key::new(prefix);
         let held = self.by_prefix.get_mut(&key)?;
@@ -110,7 +111,7 @@ impl<V, A: Allocator> OrderedMap<V, A> {
         Some(answer)
     }
 
-    // A key under which nothing is held goes.
+    // Removes the key where no value stays under it.
     fn sweep(&mut self, key: &Key, stays: bool)
     where
         V: Drop,
@@ -122,8 +123,8 @@ impl<V, A: Allocator> OrderedMap<V, A> {
         }
     }
 
-    /// Sets the value at a prefix, and answers the one before. It takes memory only where there was none; for want
-    /// of it nothing is changed.
+    /// Sets the value at a prefix, and answers the one before. It takes memory only where there was none. When memory
+    /// runs out, nothing is changed.
     pub(crate) fn insert(&mut self, prefix: Prefix, value: V) -> Result<Option<V>, AllocError>
     where
         V: Drop,

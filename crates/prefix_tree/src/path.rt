@@ -1,10 +1,19 @@
-//! Prefixes beside one another.
+//! Two prefixes compared.
 
 ghost use Rattle.std.specs.Prelude.{◌≡◌, ◌<◌, ◌≤◌, ◌++◌, ◌∷◌, [], length, IsTrue};
-ghost use Rattle.identity.specs.Path.{begins};
+ghost use Rattle.identity.specs.Path.{begins, path_cmp};
 ghost use Rattle.prefix_tree.specs.Inside.Paths.{common};
 
 use identity::Prefix;
+use std::cmp::Ordering;
+
+/// The order in which a map has its prefixes: a prefix before its extensions, and else by the first bit that differs.
+pub fn prefix_order(left: &Prefix, right: &Prefix) -> Ordering
+    ensures { result ≡ path_cmp left.now right.now }
+{
+    let by_bits = left.bits().cmp(&right.bits());
+    by_bits.then(left.len().cmp(&right.len()))
+}
 
 /// Whether the first prefix begins the second.
 pub(crate) fn begins(short: &Prefix, long: &Prefix) -> bool

@@ -1,4 +1,4 @@
-//! Counting the steps of a call, for proofs alone.
+//! A count of the steps of a call, for proofs alone.
 
 ghost use Rattle.std.specs.Prelude.{◌≡◌, ◌+◌, ◌<◌};
 

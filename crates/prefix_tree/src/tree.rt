@@ -7,8 +7,8 @@ ghost use Rattle.std.specs.FinMap as map;
 ghost use Rattle.identity.specs.Path.{id_path};
 ghost use Rattle.prefix_tree.specs.Table.{longest};
 ghost use Rattle.prefix_tree.specs.Walk.{seen};
-ghost use Rattle.prefix_tree.specs.Change.{with_value, Makes};
-ghost use Rattle.prefix_tree.specs.Lending.{LendsEntry};
+ghost use Rattle.prefix_tree.specs.Change.{IsChanged};
+ghost use Rattle.prefix_tree.specs.Borrowing.{BorrowsEntry};
 ghost use Rattle.prefix_tree.specs.Next.{next_entry};
 ghost use Rattle.prefix_tree.specs.Visits.{nodes_on_way};
 
@@ -22,8 +22,8 @@ use std::sync::ledger::{Blank, Ledger};
 
 /// A finite map from prefixes, kept as a tree with a node only where prefixes part or one ends.
 ///
-/// The root is held in place, and each other node in a box under the map's allocator; each of these has a
-/// value, or nodes on both sides.
+/// The root is a field of the map. Each other node is in a box under the map's allocator, and has a value, or nodes
+/// on both sides.
 #[derive(Drop)]
 pub struct PrefixTree<V, A: Allocator> {
     alloc: A,
@@ -130,7 +130,7 @@ impl<V, A: Allocator> PrefixTree<V, A> {
     /// The value at this very prefix, for writing. It takes no memory; each node that is visited is
     /// a step, 49 at most.
     pub fn get_mut<L: Ledger>(&mut self, prefix: &Prefix, steps: &mut Steps<L>) -> Option<&mut V>
-        ensures* writes_back { sem 𝓛 (LendsEntry V.row A.row A.Allocator self.entry prefix.now result) }
+        ensures* writes_back { sem 𝓛 (BorrowsEntry V.row A.row A.Allocator self.entry prefix.now result) }
         ensures value { option_copied_mut result ≡ map.get self.old prefix.now }
         ensures cost { steps.new ≤ steps.old + 49 }
         ensures visits { steps.new ≡ steps.old + nodes_on_way self.old prefix.now }
@@ -139,8 +139,8 @@ impl<V, A: Allocator> PrefixTree<V, A> {
         self.root.get_mut(prefix, steps)
     }
 
-    /// Sets the value at a prefix, and answers the one before. For want of memory the pair comes
-    /// back, and nothing is changed.
+    /// Sets the value at a prefix, and answers the one before. When memory runs out, the pair is returned,
+    /// and nothing is changed.
     pub fn insert(&mut self, prefix: Prefix, value: V) -> Result<Option<V>, (Prefix, V)>
     where
         V: Drop,
@@ -167,8 +167,8 @@ impl<V, A: Allocator> PrefixTree<V, A> {
         replace_from::<V, A, Brand>(self, prefix, value, Blank::new(1))
     }
 
-    /// Takes the value at a prefix out, and with it each node that is left without a value and with one side
-    /// at most. It takes no memory; each node that is visited is a step, 49 at most.
+    /// Takes the value at a prefix out, and removes each node that is left without a value and with one side at
+    /// most. It takes no memory; each node that is visited is a step, 49 at most.
     pub fn remove<L: Ledger>(&mut self, prefix: &Prefix, steps: &mut Steps<L>) -> Option<V>
     where
         V: Drop,
@@ -193,7 +193,7 @@ impl<V, A: Allocator> PrefixTree<V, A> {
     }
 
     /// What the closure answers of the value at a prefix, if there is one. The value becomes what the closure leaves
-    /// of it; where that is nothing, it goes as `remove` takes it out. It takes no memory, and goes down the tree
+    /// of it; where that is nothing, the value is removed as by `remove`. It takes no memory, and goes down the tree
     /// once.
     pub fn change<R, F: FnOnce(V) -> (R, Option<V>)>(
         &mut self,
@@ -203,7 +203,7 @@ impl<V, A: Allocator> PrefixTree<V, A> {
     where
         V: Drop,
         requires { F.IsAlwaysCallable change }
-        ensures { (left : Option V) × (self.new ≡ with_value self.old prefix.now left) × Makes (F.post change) (map.get self.old prefix.now) result left }
+        ensures { IsChanged (F.post change) self.old prefix.now self.new result }
     {
         change_from::<V, A, R, F, Brand>(self, prefix, change, Blank::new(1))
     }
@@ -301,7 +301,7 @@ fn change_from<V: Drop, A: Allocator, R, F: FnOnce(V) -> (R, Option<V>), L: Ledg
     requires parts { blank.parts ≡ L.parts }
     requires some { 0 < blank.parts }
     requires callable { F.IsAlwaysCallable change }
-    ensures { (left : Option V) × (tree.new ≡ with_value tree.old prefix.now left) × Makes (F.post change) (map.get tree.old prefix.now) result left }
+    ensures { IsChanged (F.post change) tree.old prefix.now tree.new result }
 {
     let mut steps = Steps::<L>::new(blank);
     tree.root.change(prefix, change, &mut steps)

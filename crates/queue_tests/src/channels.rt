@@ -11,7 +11,7 @@ use std::thread::Threads;
 // How many answers go through each channel.
 const ANSWERS: u32 = 1_000;
 
-// A message that brings what its sender knows of it.
+// A message with a ghost field for what its sender proved of it.
 #[derive(Drop)]
 struct Doubled {
     number: u32,
@@ -19,7 +19,7 @@ struct Doubled {
     ghost is_double: { twice ≡ 2 * number },
 }
 
-// What the sender knew has reached the receiver.
+// The receiver has what the sender proved.
 fn received<R: Wait>(rt: &R, receiver: &mut AnswerReceiver<Doubled>) -> Option<(u32, u64)>
     ensures { IfSome result (λ r. r.1 ≡ 2 * r.0) }
 {
@@ -39,7 +39,7 @@ fn answer_all<R: Wait>(rt: &R, sender: &mut AnswerSender<Doubled>) {
     }
 }
 
-// Whether the answers came in order and whole.
+// Whether all answers came, in order.
 fn is_answered<R: Wait>(rt: &R, receiver: &mut AnswerReceiver<Doubled>) -> bool {
     for number in 0..ANSWERS {
         let Some((found, twice)) = received(rt, receiver) else {
@@ -69,7 +69,7 @@ fn answers_come_in_order(rt: HostRuntime) {
     assert_eq!(rt; is_relayed(&rt, rt.alloc()), Some(true));
 }
 
-// Whether an answer to a session that is gone is dropped, also the second one, and no send waits.
+// Whether both answers to a session that is gone are dropped, and no send waits.
 fn is_dropped<R: Wait>(rt: &R, alloc: Global) -> Option<bool> {
     let (mut sender, receiver) = open_channel::<u32>(alloc).ok()?;
     sender.send(rt, 1);
@@ -86,7 +86,7 @@ fn an_answer_to_a_session_that_is_gone_is_dropped(rt: HostRuntime) {
     assert_eq!(rt; is_dropped(&rt, rt.alloc()), Some(true));
 }
 
-// Whether what was sent before the sender went is still received, and then nothing.
+// Whether what was sent before the sender was dropped is still received, and nothing after it.
 fn is_ended<R: Wait>(rt: &R, alloc: Global) -> Option<bool> {
     let (mut sender, mut receiver) = open_channel::<u32>(alloc).ok()?;
     sender.send(rt, 7);
@@ -96,11 +96,11 @@ fn is_ended<R: Wait>(rt: &R, alloc: Global) -> Option<bool> {
 }
 
 #[test]
-fn a_session_whose_flusher_is_gone_is_told(rt: HostRuntime) {
+fn a_session_whose_flusher_is_gone_is_answered(rt: HostRuntime) {
     assert_eq!(rt; is_ended(&rt, rt.alloc()), Some(true));
 }
 
-// A receiver that waits in another thread while the sender goes.
+// A receiver waits in another thread while the sender is dropped.
 fn is_woken<R: Threads + Wait + Sync>(rt: &R, alloc: Global) -> Option<bool> {
     let (sender, mut receiver) = open_channel::<u32>(alloc).ok()?;
     let (_, woken) = thread::join(rt, move || drop(sender), || receiver.receive(rt).is_none());
@@ -108,7 +108,7 @@ fn is_woken<R: Threads + Wait + Sync>(rt: &R, alloc: Global) -> Option<bool> {
 }
 
 #[test]
-fn a_session_that_waits_is_told(rt: HostRuntime) {
+fn a_session_that_waits_is_answered(rt: HostRuntime) {
     assert_eq!(rt; is_woken(&rt, rt.alloc()), Some(true));
 }
 

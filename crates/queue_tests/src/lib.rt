@@ -1,4 +1,4 @@
-//! Tests of the public calls of `station_queue` and `answers`, with real threads and in one.
+//! Tests of the public calls of `station_queue` and `answers`, in several threads and in one.
 #![tactic(auto)]
 
 #[cfg(test)]

@@ -12,14 +12,14 @@ use std::test::*;
 use std::thread;
 use std::thread::Threads;
 
-// How many turns the taker waits for an entry at most.
+// The most turns that the taker waits for an entry.
 const TURNS: u32 = 1_000_000;
 
 const SENDERS: u16 = 64;
 // How many commands each sends, before its end.
 const ENTRIES: u32 = 1_000;
 
-// A command of the station that says nothing but its place.
+// A command of the station. Its sequence is its number among the station's commands.
 fn request(alloc: Global, station: Station, number: u32) -> Option<Request>
     ensures { IfSome result (λ r. (arc_value r.command).station ≡ station) }
 {
@@ -40,7 +40,7 @@ fn submit<R: Wait>(rt: &R, alloc: Global, sender: &mut Sender, number: u32) -> b
     true
 }
 
-// Sends the commands 1 to so many, and then its end.
+// Sends the commands 1 to `ENTRIES`, and then the end.
 fn send_all<R: Wait>(rt: &R, alloc: Global, sender: Sender) {
     let mut sender = sender;
     for number in 1..ENTRIES + 1 {
@@ -60,7 +60,7 @@ struct Taken {
 }
 
 impl Taken {
-    // Whether the entry is the one that has to come next of its station.
+    // Whether the entry is the one that must come next from its station. It is counted then.
     fn takes(&mut self, entry: &Entry) -> bool {
         match entry {
             Entry::Submitted(request) => {
@@ -92,7 +92,7 @@ impl Taken {
     }
 }
 
-// Takes until every sender has ended: whether each sender's entries came in order and whole.
+// Takes until every sender has ended; whether each sender's entries came in order, and all of them.
 fn take_all<R: Wait>(rt: &R, taker: &mut Taker) -> bool {
     let mut taken = Taken {
         counts: [0; 64],
@@ -120,7 +120,7 @@ fn take_all<R: Wait>(rt: &R, taker: &mut Taker) -> bool {
     left == 0
 }
 
-// The senders, each in a thread, beside the taker: whether all came.
+// Runs the senders, each in a thread, beside the taker; whether all entries came.
 fn relayed<R: Threads + Wait + Sync>(
     rt: &R,
     alloc: Global,
@@ -137,7 +137,7 @@ fn relayed<R: Threads + Wait + Sync>(
     })
 }
 
-// Whether all came, and nothing is left.
+// Whether all entries came, and none is left.
 fn is_relayed<R: Threads + Wait + Sync>(rt: &R, alloc: Global) -> Option<bool> {
     let (mut taker, senders) = open_queue(alloc, SENDERS).ok()?;
     let came = relayed(rt, alloc, &mut taker, senders);

@@ -1,7 +1,9 @@
-//! Tells what a loader makes of the sectors of images, case by case, for `tests/image_rows.py`. A case on standard input is a
-//! line of limits (rules, radios, items, stations), a line for each sector, its bytes in hexadecimal digits without the zeros
-//! at its end, and an empty line. It is answered by `bad N`, where sector N is the first that is not taken or is missing, or by
-//! `image EPOCH COUNT` and the rows of the register, each as such a line; then comes an empty line.
+//! Prints what a loader makes of the sectors of images, case by case, for `tests/disks/image_rows.py`. It reads standard
+//! input and writes standard output, and knows nothing of disks.
+//!
+//! A case is a line of limits (rules, radios, items, stations), a line for each sector, and an empty line. A sector's line has
+//! its bytes in hexadecimal digits, without the zeros at its end. The answer is `bad N` if sector N is the first that is not
+//! taken or is missing. Else it is `image EPOCH COUNT` and the rows of the register as such lines. An empty line follows.
 #![tactic(auto)]
 
 use centre_core::Register;
@@ -15,7 +17,7 @@ fn number<'a>(words: &mut std::str::Split<'a, char>) -> Option<u32> {
     words.next()?.parse().ok()
 }
 
-/// The limits that a line tells.
+/// The limits on a line.
 fn limits(line: &str) -> Option<Limits> {
     let mut words = line.split(' ');
     let rules = number(&mut words)?;
@@ -40,7 +42,7 @@ fn trimmed(sector: &[u8; 512]) -> &[u8] {
     &sector[..end.map_or(0, |last| last + 1)]
 }
 
-/// Offers sectors to a loader until it refuses one. How many it took.
+/// Offers sectors to a loader until it refuses one, and returns how many it took.
 fn offer<A: Allocator + Clone>(
     loader: &mut Loader<A>,
     sectors: &[[u8; 512]],
@@ -54,7 +56,7 @@ fn offer<A: Allocator + Clone>(
 }
 
 /// Writes the rows of a register.
-fn tell_rows<W: Write>(
+fn print_rows<W: Write>(
     alloc: Global,
     out: &mut W,
     epoch: u64,
@@ -67,8 +69,8 @@ fn tell_rows<W: Write>(
     Ok(())
 }
 
-/// Writes what a loader made of sectors: whether it says that it is whole, and the image, or how many sectors it took.
-fn tell<W: Write>(
+/// Writes what a loader made of the sectors: the word, and then the image or how many sectors it took.
+fn print<W: Write>(
     alloc: Global,
     out: &mut W,
     word: &str,
@@ -78,7 +80,7 @@ fn tell<W: Write>(
     match image {
         Some((epoch, register)) => {
             writeln!(out, "{word} {epoch} {}", register.count())?;
-            tell_rows(alloc, out, *epoch, register)
+            print_rows(alloc, out, *epoch, register)
         }
         None => writeln!(out, "{word} {taken}"),
     }
@@ -95,15 +97,15 @@ fn answer<W: Write>(
     let taken = offer(&mut loader, sectors);
     let word = if loader.is_whole() { "image" } else { "bad" };
     let image = loader.finish();
-    let told = match taken {
-        Ok(taken) => tell(alloc, out, word, taken, &image),
+    let printed = match taken {
+        Ok(taken) => print(alloc, out, word, taken, &image),
         Err(e) => Err(e.into()),
     };
     drop(image);
-    told
+    printed
 }
 
-/// The case whose lines come.
+/// The case that is being read.
 #[derive(Drop)]
 struct Case {
     limits: Option<Limits>,
@@ -111,9 +113,9 @@ struct Case {
 }
 
 impl Case {
-    /// Takes a line in, and answers the case where it ends there.
+    /// Takes a line, and answers the case if the line ends it.
     fn take_line<W: Write>(&mut self, alloc: Global, out: &mut W, line: &str) -> io::Result<()> {
-        let Some(told) = self.limits else {
+        let Some(case_limits) = self.limits else {
             self.limits = limits(line);
             return self
                 .limits
@@ -121,7 +123,7 @@ impl Case {
                 .ok_or(io::ErrorKind::InvalidData.into());
         };
         if line.is_empty() {
-            answer(alloc, out, told, &self.sectors)?;
+            answer(alloc, out, case_limits, &self.sectors)?;
             self.limits = None;
             self.sectors.clear();
             return writeln!(out);

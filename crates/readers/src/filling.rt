@@ -5,10 +5,10 @@ use snapshots::Centre;
 use std::alloc::Global;
 use std::sync::{Arc, Wait};
 
-/// How many radios a register has room for.
+/// How many radios each register has room for.
 pub const RADIOS: u32 = 1_000;
 
-/// An empty register with room for them.
+/// An empty register with room for that many.
 pub fn empty(alloc: Global) -> Option<Register<Global>> {
     Register::new(alloc, limits(RADIOS)?).ok()
 }

@@ -1,5 +1,7 @@
+//! A program for tests and benchmarks of `snapshots`. It opens no file: it prints counts and times.
+//!
 //! Without an argument it makes publications, whose allocations `tests/run publications` refuses. With an argument, for
-//! `bench/readers`, it times viewers that read beside a publisher, and publications. It also times the same work on a plain
+//! `bench/readers`, it times publications, and viewers that read beside a publisher. It also times the same work on a plain
 //! register.
 #![tactic(auto)]
 
@@ -18,7 +20,7 @@ use std::thread::Threads;
 fn main(rt: HostRuntime) -> ExitCode {
     match env::args(&rt) {
         Ok(words) => match words.count() {
-            0 | 1 => ExitCode::from(publications::tell(&rt, rt.alloc())),
+            0 | 1 => ExitCode::from(publications::report(&rt, rt.alloc())),
             _ => ExitCode::from(timed(&rt, rt.alloc())),
         },
         Err(_) => ExitCode::from(5),
@@ -27,7 +29,7 @@ fn main(rt: HostRuntime) -> ExitCode {
 
 // Times the viewers and the publications; the exit status.
 fn timed<R: Threads + Wait + Clock + Print + Sync>(rt: &R, alloc: Global) -> u8 {
-    if reading::tell(rt, alloc) && publishing::tell(rt, alloc) {
+    if reading::report(rt, alloc) && publishing::report(rt, alloc) {
         0
     } else {
         5

@@ -3,7 +3,7 @@
 ghost use Rattle.std.specs.Prelude.{◌≡◌, ◌<◌, ◌≤◌};
 
 use crate::filling::{attach, empty};
-use centre_core::{Query, Register, Told};
+use centre_core::{Query, QueryAnswer, Register};
 use live_register::{LiveRegister, make_live};
 use snapshots::{Centre, NewLog, Viewer};
 use std::alloc::Global;
@@ -16,7 +16,7 @@ const PENDING: u32 = 3;
 // How many publications there are.
 const PUBLICATIONS: u32 = 4;
 
-// How many calls were refused, and how many of these left something that they should not.
+// How many calls were refused, and how many of these left something changed.
 #[derive(Clone, Copy, Drop)]
 struct Seen {
     appends: u32,
@@ -24,10 +24,10 @@ struct Seen {
     wrong: u32,
 }
 
-// Reads once: the length of the list, if the register has accepted that many commands.
+// Reads once: the length of the list, if the register has accepted exactly that many commands.
 fn read<J: Centre>(viewer: &mut Viewer<J>, alloc: Global) -> Option<u64> {
     match viewer.read(alloc, &Query::Total) {
-        Ok((Told::Total(total), count)) if total == count => Some(count),
+        Ok((QueryAnswer::Total(total), count)) if total == count => Some(count),
         _ => None,
     }
 }
@@ -40,8 +40,7 @@ fn is_applied<J: Centre>(alloc: Global, live: &mut LiveRegister<J>, number: u32)
     }
 }
 
-// Appends the next `PENDING` commands, and tries again where there is no memory to make or to apply one; whether all were
-// appended.
+// Appends the next `PENDING` commands, and tries again where memory runs out; whether all were appended.
 fn is_appended<J: Centre>(
     alloc: Global,
     live: &mut LiveRegister<J>,
@@ -77,7 +76,7 @@ fn publish<J: Centre, R: Wait>(
             return true;
         }
         seen.publications = seen.publications.saturating_add(1);
-        if read(viewer, alloc) != before || live.publisher().is_level() {
+        if read(viewer, alloc) != before || live.publisher().is_caught_up() {
             seen.wrong = seen.wrong.saturating_add(1);
         }
     }
@@ -131,8 +130,8 @@ fn done_once<R: Wait>(rt: &R, alloc: Global, seen: &mut Seen) -> Option<()> {
     done::<Brand, R>(rt, alloc, NewLog::new(), register, seen)
 }
 
-/// Writes how many calls were refused, how many were wrong, and whether all was published in the end; the exit status.
-pub fn tell<R: Wait + Print>(rt: &R, alloc: Global) -> u8 {
+/// Prints how many calls were refused, how many were wrong, and whether all was published in the end; the exit status.
+pub fn report<R: Wait + Print>(rt: &R, alloc: Global) -> u8 {
     let mut seen = Seen {
         appends: 0,
         publications: 0,

@@ -63,7 +63,7 @@ fn published<J: Centre, R: Wait + Clock>(
     start.elapsed(rt).ok()
 }
 
-// Applies and publishes batch after batch, and writes both times of each.
+// Applies and publishes batch after batch, and prints both times of each.
 fn is_timed<J: Centre, R: Wait + Clock + Print>(
     rt: &R,
     alloc: Global,
@@ -115,7 +115,7 @@ fn timed_once<R: Wait + Clock + Print>(rt: &R, alloc: Global) -> Option<()> {
     timed::<Brand, R>(rt, alloc, NewLog::new(), register)
 }
 
-/// Writes a line for each publication; whether all were measured.
-pub fn tell<R: Wait + Clock + Print>(rt: &R, alloc: Global) -> bool {
+/// Prints a line for each publication; whether all were measured.
+pub fn report<R: Wait + Clock + Print>(rt: &R, alloc: Global) -> bool {
     timed_once(rt, alloc).is_some()
 }

@@ -1,4 +1,4 @@
-//! Times viewers that read beside a publisher that publishes all the time, and a loop of queries of a plain register.
+//! Times viewers that read while a publisher publishes all the time, and a loop of queries of a plain register.
 ghost use Rattle.std.specs.Prelude.{◌≡◌};
 
 use crate::filling::{RADIOS, attach, empty, is_filled};
@@ -17,7 +17,7 @@ use std::time::{Duration, Instant};
 // How often each viewer reads.
 const READS: u32 = 1_000_000;
 
-// More than there are viewers.
+// What a failed read adds: more than there are viewers.
 const FAILED: u64 = 1_000;
 
 // How often all is measured.
@@ -152,7 +152,7 @@ fn queried<R: Clock>(rt: &R, alloc: Global, register: &Register<Global>) -> Opti
     start.elapsed(rt).ok()
 }
 
-// Sets the rule and attaches all radios but one; whether all was done.
+// Sets the rule and attaches all radios but one; whether both were done.
 fn is_attached(alloc: Global, register: &mut Register<Global>) -> bool {
     for number in 1..=RADIOS {
         let Some(command) = attach(alloc, number) else {
@@ -177,8 +177,8 @@ fn queried_after<R: Clock>(
     queried(rt, alloc, register)
 }
 
-// Writes a line: what was timed, how many reads, how many nanoseconds, and how many commands were published meanwhile.
-fn is_told<R: Print>(rt: &R, what: &str, reads: u64, took: Duration, published: u32) -> bool {
+// Prints a line: what was timed, how many reads, how many nanoseconds, and how many commands were published meanwhile.
+fn is_reported<R: Print>(rt: &R, what: &str, reads: u64, took: Duration, published: u32) -> bool {
     let nanoseconds = took.as_nanos();
     println!(rt; "{what} {reads} {nanoseconds} {published}").is_ok()
 }
@@ -193,7 +193,7 @@ fn is_timed<R: Threads + Wait + Clock + Print + Sync>(
         return false;
     };
     let reads = timed.viewers.saturating_mul(u64::from(READS));
-    is_told(rt, what, reads, timed.took, timed.published)
+    is_reported(rt, what, reads, timed.took, timed.published)
 }
 
 fn is_queried<R: Clock + Print>(rt: &R, alloc: Global) -> bool {
@@ -203,18 +203,18 @@ fn is_queried<R: Clock + Print>(rt: &R, alloc: Global) -> bool {
     let took = queried_after(rt, alloc, &mut register);
     drop(register);
     match took {
-        Some(took) => is_told(rt, "plain", u64::from(READS), took, 0),
+        Some(took) => is_reported(rt, "plain", u64::from(READS), took, 0),
         None => false,
     }
 }
 
-/// In each round it writes a line for one viewer, for three, and for the plain register; whether all were measured.
-pub fn tell<R: Threads + Wait + Clock + Print + Sync>(rt: &R, alloc: Global) -> bool {
+/// In each round it prints a line for one viewer, for three, and for the plain register; whether all were measured.
+pub fn report<R: Threads + Wait + Clock + Print + Sync>(rt: &R, alloc: Global) -> bool {
     for _ in 0..ROUNDS {
-        let told = is_timed(rt, alloc, "one", 1)
+        let reported = is_timed(rt, alloc, "one", 1)
             && is_timed(rt, alloc, "three", 3)
             && is_queried(rt, alloc);
-        if !told {
+        if !reported {
             return false;
         }
     }

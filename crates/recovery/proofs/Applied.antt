@@ -9,7 +9,7 @@ use Rattle.centre_core.specs.Step.{step}
 use Rattle.recovery.specs.Opens.{run}
 
 module _ {A : Type 0} where
-  -- the command at hand, and those behind it
+  -- the current command, and those after it
   command_on : (cs : List (Asked A)) (i : ℕ) (c : Asked A) (s : State) → i < length cs → c ≡ get_or cs i c → run s (drop i cs) ≡ run s (c ∷ drop (i + 1) cs)
   command_on cs i c s lt is = ap (run s) (drop_more cs i c lt ∙ ap (λ (d : Asked A). d ∷ drop (i + 1) cs) (sym is))
 

@@ -33,7 +33,7 @@ use Rattle.gated_journal.specs.Record.{given}
 use Rattle.recovery.specs.Outcomes.{AreApplied, AreRecorded, IsAnswered, IsEnd, asked}
 use Rattle.recovery.proofs.Limited.{step_limits}
 
--- one more of the same behind a list
+-- one more of the same after a list
 pub filled_one : {X : Type 0} (old now new : List X) (n k : ℕ) (x : X) → now ≡ old ++ replicate n x → new ≡ now ++ x ∷ [] → n + 1 ≡ k → new ≡ old ++ replicate k x
 filled_one old now new n k x so_far more next =
     let one : new ≡ (old ++ replicate n x) ++ x ∷ [] = more ∙ ap (λ l. l ++ x ∷ []) so_far in
@@ -87,8 +87,8 @@ module _ {B : Type 0} where
       let rest = taken (next s c) cs in
       omega (arith, size_by c rest (accepts s c), accepted_size (next s c) cs, ap length (flat_map-cons command_text c cs), length-append (command_text c) (flat_map command_text cs))
 
-  front_size : (cs : List (Asked B)) (n : ℕ) → length (flat_map command_text (take n cs)) ≤ length (flat_map command_text cs)
-  front_size cs n =
+  prefix_size : (cs : List (Asked B)) (n : ℕ) → length (flat_map command_text (take n cs)) ≤ length (flat_map command_text cs)
+  prefix_size cs n =
       let parts : length (flat_map command_text cs) ≡ length (flat_map command_text (take n cs)) + length (flat_map command_text (drop n cs)) =
       ap (λ (l : List (Asked B)). length (flat_map command_text l)) (sym (take-append-drop n cs)) ∙ ap length (flat_map-append command_text (take n cs) (drop n cs)) ∙ length-append (flat_map command_text (take n cs)) (flat_map command_text (drop n cs)) in
       omega (arith, parts)
@@ -106,13 +106,13 @@ module _ {B : Type 0} where
   length-replies C s (x ∷ xs) = ap suc (length-replies C (next s x) xs)
 
   -- none of all is accepted: nor of the first ones
-  no_front : (xs ys : List (Asked B)) → xs ++ ys ≡ [] → xs ≡ []
-  no_front [] ys e = refl
-  no_front (x ∷ xs) ys e = absurd cc
+  no_prefix : (xs ys : List (Asked B)) → xs ++ ys ≡ [] → xs ≡ []
+  no_prefix [] ys e = refl
+  no_prefix (x ∷ xs) ys e = absurd cc
 
   pub none_accepted : (s : State) (cs : List (Asked B)) (n : ℕ) → taken s cs ≡ [] → taken s (take n cs) ≡ []
   none_accepted s cs n none =
-      no_front (taken s (take n cs)) (taken (after s (take n cs)) (drop n cs)) (sym (accepted_more s (take n cs) (drop n cs)) ∙ ap (taken s) (take-append-drop n cs) ∙ none)
+      no_prefix (taken s (take n cs)) (taken (after s (take n cs)) (drop n cs)) (sym (accepted_more s (take n cs) (drop n cs)) ∙ ap (taken s) (take-append-drop n cs) ∙ none)
 
   -- ---- the limits stay
 
@@ -153,16 +153,16 @@ module _ {B : Type 0} where
       → AreApplied s (asked cs) i t outcomes accepted → u ≡ next t c.now → more ≡ outcomes ++ map Replied (replies C t (c.now ∷ [])) → others ≡ accepted ++ taken t (c.now ∷ [])
       → AreApplied s (asked cs) (i + 1) u more others
   applied_one {C} s t u cs i c outcomes more accepted others lt is so_far u_is more_is others_is =
-      let front = take i (asked cs) in
-      let one : take (i + 1) (asked cs) ≡ front ++ c.now ∷ [] = take_one cs i c lt is in
+      let prefix = take i (asked cs) in
+      let one : take (i + 1) (asked cs) ≡ prefix ++ c.now ∷ [] = take_one cs i c lt is in
       record {
-        state = u_is ∙ ap (λ x. next x c.now) so_far.state ∙ sym (after-append s front (c.now ∷ [])) ∙ ap (after s) (sym one);
+        state = u_is ∙ ap (λ x. next x c.now) so_far.state ∙ sym (after-append s prefix (c.now ∷ [])) ∙ ap (after s) (sym one);
         replied =
-            more_is ∙ ap (λ l. l ++ map Replied (replies C t (c.now ∷ []))) so_far.replied ∙ ap (λ x. map Replied (replies C s front) ++ map Replied (replies C x (c.now ∷ []))) so_far.state
-            ∙ sym (map-append Replied (replies C s front) (replies C (after s front) (c.now ∷ []))) ∙ ap (map Replied) (sym (replies_more C s front (c.now ∷ []))) ∙ ap (λ l. map Replied (replies C s l)) (sym one);
+            more_is ∙ ap (λ l. l ++ map Replied (replies C t (c.now ∷ []))) so_far.replied ∙ ap (λ x. map Replied (replies C s prefix) ++ map Replied (replies C x (c.now ∷ []))) so_far.state
+            ∙ sym (map-append Replied (replies C s prefix) (replies C (after s prefix) (c.now ∷ []))) ∙ ap (map Replied) (sym (replies_more C s prefix (c.now ∷ []))) ∙ ap (λ l. map Replied (replies C s l)) (sym one);
         taken =
-            others_is ∙ ap (λ l. l ++ taken t (c.now ∷ [])) so_far.taken ∙ ap (λ x. taken s front ++ taken x (c.now ∷ [])) so_far.state
-            ∙ sym (accepted_more s front (c.now ∷ [])) ∙ ap (taken s) (sym one);
+            others_is ∙ ap (λ l. l ++ taken t (c.now ∷ [])) so_far.taken ∙ ap (λ x. taken s prefix ++ taken x (c.now ∷ [])) so_far.state
+            ∙ sym (accepted_more s prefix (c.now ∷ [])) ∙ ap (taken s) (sym one);
       }
 
   -- none was applied, and no more are
@@ -255,7 +255,7 @@ module _ {B : Type 0} where
           text_asked cs,
           ap (λ (l : List (Asked B)). length (flat_map command_text l)) e.are.taken,
           accepted_size s applied,
-          front_size (asked cs) e.applied,
+          prefix_size (asked cs) e.applied,
         )
 
 -- nothing is recorded, where nothing was applied
@@ -263,8 +263,8 @@ pub none_recorded : {B : Type 0} (A : Type 0) (s t : State) (cs : List (Asked B)
 none_recorded A s t cs same = record { applied = 0; state = same; these = refl }
 
 -- a batch applied after a checkpoint, which left the state as it was
-pub recorded_behind : {B : Type 0} (A : Type 0) (s m t u : State) (cs : List (Asked B)) (given_are items : List (Bor (Asked B))) → m ≡ s → given_are ≡ items → u ≡ t → AreRecorded A m cs t (given A items) → AreRecorded A s cs u (given A given_are)
-recorded_behind A s m t u cs given_are items same are last recorded = record {
+pub recorded_after : {B : Type 0} (A : Type 0) (s m t u : State) (cs : List (Asked B)) (given_are items : List (Bor (Asked B))) → m ≡ s → given_are ≡ items → u ≡ t → AreRecorded A m cs t (given A items) → AreRecorded A s cs u (given A given_are)
+recorded_after A s m t u cs given_are items same are last recorded = record {
   applied = recorded.applied;
   state = last ∙ recorded.state ∙ ap (λ x. after x (take recorded.applied cs)) same;
   these = ap (given A) are ∙ recorded.these ∙ ap (λ x. map (under A) (taken x (take recorded.applied cs))) same;

@@ -15,7 +15,7 @@ use Rattle.gated_journal.specs.declared.place.Place.{Place}
 use Rattle.checkpoint.specs.declared.layout.Layout.{Layout}
 use Rattle.checkpoint.specs.declared.side.Side.TheVariants as side
 use Rattle.checkpoint.specs.Layout.{half_at, label_at, root_at, slot_at}
-use Rattle.recovery.specs.declared.beside.Beside.{Beside}
+use Rattle.recovery.specs.declared.ongoing.Ongoing.{Ongoing}
 use Rattle.recovery.specs.Calls.{first_header, format_calls, record_calls, label_sector, side_calls}
 
 -- ---- the sides
@@ -72,7 +72,7 @@ module _ (layout : Layout) (old : View) where
             calls_at_sync new (Ok u) called = all_made old.calls five.calls new.calls (header ∷ root ∷ other ∷ gate ∷ other_gate ∷ []) Sync five_made called.made
             calls_at_sync new (Err e) called = tt
 
-  -- ---- the label behind them
+  -- ---- the label after them
 
   abbrev label : Call
   label = Write label_at (label_sector layout)
@@ -88,7 +88,7 @@ module _ (layout : Layout) (old : View) where
       pub calls_in_last : (new : View) (result : Result Unit DiskError) → IsCalled labelled new Sync result → HasMade old new (format_calls layout)
       calls_in_last new result called = made_on old labelled new (side_calls layout ++ label ∷ []) [] Sync result all_but_one called
 
--- ---- two runs, the second behind the first
+-- ---- two runs, the second after the first
 
 module _ (old mid new : View) (first second : List Call) (were : mid.calls ≡ old.calls ++ first) where
   pub made_both : new.calls ≡ mid.calls ++ second → new.calls ≡ old.calls ++ (first ++ second)
@@ -98,7 +98,7 @@ module _ (old mid new : View) (first second : List Call) (were : mid.calls ≡ o
   made_in_second has = record {
     made = first ++ has.made;
     left = has.left;
-    front = ap (λ (some : List Call). first ++ some) has.front ∙ sym (append_assoc first has.made has.left);
+    prefix = ap (λ (some : List Call). first ++ some) has.prefix ∙ sym (append_assoc first has.made has.left);
     now = has.now ∙ ap (λ (some : List Call). some ++ has.made) were ∙ append_assoc old.calls first has.made;
   }
 
@@ -108,7 +108,7 @@ recorded_by_append A place [] some = absurd (omega (arith, some))
 recorded_by_append A place (x ∷ xs) some = refl
 
 -- and by one to both halves, where a checkpoint is under way
-pub recorded_by_both : {B : Type 0} (A : Type 0) (place : Place) (it : Beside A) (items : List (Bor (Asked B))) → 1 ≤ length items
+pub recorded_by_both : {B : Type 0} (A : Type 0) (place : Place) (it : Ongoing A) (items : List (Bor (Asked B))) → 1 ≤ length items
     → record_calls place (Some it) (given A items) ≡ append_both_calls place.next (text_at A place items) it.journal.next (text_at A it.journal items)
 recorded_by_both A place it [] some = absurd (omega (arith, some))
 recorded_by_both A place it (x ∷ xs) some = refl

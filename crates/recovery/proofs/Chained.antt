@@ -6,7 +6,7 @@ use Rattle.checkpoint.specs.declared.layout.Layout.{Layout}
 use Rattle.checkpoint.specs.declared.side.Side.{Side}
 use Rattle.checkpoint.specs.declared.side.Side.TheVariants as side
 use Rattle.checkpoint.specs.Layout.{half_at, half_end}
-use Rattle.checkpoint.specs.Standing.{Base, Held, slot_form}
+use Rattle.checkpoint.specs.OnSide.{Base, Held, slot_form}
 use Rattle.recovery.specs.declared.fault.StoreFault.{StoreFault}
 use Rattle.recovery.specs.declared.fault.StoreFault.TheVariants.{BadGeometry, Broken, Damaged, DiskFault, EpochsUsedUp, NoMemory, Unformatted, Unready}
 use Rattle.recovery.specs.Label.{layout_in}
@@ -39,7 +39,7 @@ pub if_ok_then : {X E P : Type 0} (Q : X → Type 0) (r : Result X E) → (P →
 if_ok_then Q (Ok x) is = is
 if_ok_then Q (Err e) is = tt
 
--- what is answered is what stands there
+-- what is answered is what is there
 pub gives_same : {X : Type 0} (r q : Result X StoreFault) → r ≡ q → Gives (λ x. x) r q
 gives_same (Ok x) q is = sym is
 gives_same (Err e) q is = fails_is e q (sym is)

@@ -13,19 +13,19 @@ use Rattle.sector_disk.specs.Run.{HasMade, LeavesOnly}
 use Rattle.image_rows.specs.Numbers.{Epoch}
 use Rattle.gated_journal.specs.declared.place.Place.{Place}
 use Rattle.gated_journal.specs.Record.{data_size}
-use Rattle.gated_journal.specs.Settled.{room_of, text_at}
+use Rattle.gated_journal.specs.Settled.{following, room_of, text_at}
 use Rattle.checkpoint.specs.declared.layout.Layout.{Layout}
 use Rattle.checkpoint.specs.declared.side.Side.{Side}
 use Rattle.checkpoint.specs.Layout.{other_of}
-use Rattle.recovery.specs.declared.beside.Beside.{Beside}
+use Rattle.recovery.specs.declared.ongoing.Ongoing.{Ongoing}
 use Rattle.recovery.specs.Calls.{commit_calls_by, fits_in}
-use Rattle.recovery.specs.GoneOn.{GoesBy, GoesOn, HasBegun, HasEnded, HasGone, HasKept, HasRoom, Stays, behind, behind_also, with_record, with_room}
+use Rattle.recovery.specs.AfterCommit.{GoesBy, GoesOn, HasBegun, HasEnded, HasWrittenRows, HasKept, HasRoom, Stays, ongoing_after, with_record, with_room}
 use Rattle.recovery.specs.Lives.{StoreView}
 use Rattle.recovery.specs.Serving.{MayBeginBy}
 use Rattle.recovery.specs.Stored.{fresh_place}
 use Rattle.recovery.specs.UnderWay.{BelongsTo, IsKept, MayBegin, ends_with}
-use Rattle.recovery.specs.Outcomes.{StandsForEither, asked}
-use Rattle.recovery.specs.Standing.{StandsFor}
+use Rattle.recovery.specs.Outcomes.{OpensToEither, asked}
+use Rattle.recovery.specs.OpensTo.{OpensTo}
 use Rattle.recovery.proofs.Called.{made_both, made_in_second}
 use Rattle.recovery.proofs.Stored.{then_either}
 use Rattle.sector_disk.specs.declared.record.Call.{Call}
@@ -36,11 +36,11 @@ if_some : {T : Type 0} {P Q : T → Type 0} (o : Option T) → ((t : T) → P t 
 if_some None so is = tt
 if_some (Some t) so is = so t is
 
-module _ {A : Type 0} (layout : Layout) (side : Side) (epoch : Epoch) (current : Place) (count now : ℕ) (beside : Option (Beside A)) (belongs : IfSome beside (λ it. BelongsTo layout side epoch current count it)) where
+module _ {A : Type 0} (layout : Layout) (side : Side) (epoch : Epoch) (current : Place) (count now : ℕ) (ongoing : Option (Ongoing A)) (belongs : IfSome ongoing (λ it. BelongsTo layout side epoch current count it)) where
   -- a checkpoint under way belongs to a register that has accepted more
-  pub belongs_later : count ≤ now → IfSome beside (λ it. BelongsTo layout side epoch current now it)
+  pub belongs_later : count ≤ now → IfSome ongoing (λ it. BelongsTo layout side epoch current now it)
   belongs_later more =
-      if_some beside (λ it is. record {
+      if_some ongoing (λ it is. record {
         first = is.first;
         end = is.end;
         up = is.up;
@@ -54,8 +54,8 @@ module _ {A : Type 0} (layout : Layout) (side : Side) (epoch : Epoch) (current :
       }) belongs
 
   -- its journal has room in what is counted
-  pub counts_beside : (some : ℕ) → count + some ≤ now → IfSome beside (λ it. it.journal.count + some ≤ now)
-  counts_beside some all = if_some beside (λ it is. let few = is.counts in omega (arith, few, all)) belongs
+  pub counts_ongoing : (some : ℕ) → count + some ≤ now → IfSome ongoing (λ it. it.journal.count + some ≤ now)
+  counts_ongoing some all = if_some ongoing (λ it is. let few = is.counts in omega (arith, few, all)) belongs
 
 -- ---- a store that differs in its register alone
 
@@ -63,7 +63,7 @@ module _ {A D : Type 0} (was old new : StoreView A D) (layout : was.layout ≡ o
   stays_from : Stays was new → Stays old new
   stays_from stays = record { side = stays.side ∙ side; epoch = stays.epoch ∙ epoch; journal = stays.journal ∙ journal }
 
-  begun_from : (it : Beside A) → HasBegun was new it → HasBegun old new it
+  begun_from : (it : Ongoing A) → HasBegun was new it → HasBegun old new it
   begun_from it begun = record {
     register = begun.register;
     written = begun.written;
@@ -71,7 +71,7 @@ module _ {A D : Type 0} (was old new : StoreView A D) (layout : was.layout ≡ o
     may = rw (layout, epoch, journal) at begun.may;
   }
 
-  ended_from : (it : Beside A) → HasEnded was new it → HasEnded old new it
+  ended_from : (it : Ongoing A) → HasEnded was new it → HasEnded old new it
   ended_from it ended = record {
     side = ended.side ∙ ap other_of side;
     epoch = ended.epoch ∙ ap (λ (e : Epoch). e + 1) epoch;
@@ -79,26 +79,26 @@ module _ {A D : Type 0} (was old new : StoreView A D) (layout : was.layout ≡ o
     none = ended.none;
   }
 
-  goes_by : (it : Beside A) (ends : Bool) → GoesBy was new it ends → GoesBy old new it ends
-  goes_by it false goes = (stays_from goes.0, (goes.1.0, goes.1.1, subst (λ (e : Epoch). HasGone e it goes.1.0) epoch goes.1.2))
+  goes_by : (it : Ongoing A) (ends : Bool) → GoesBy was new it ends → GoesBy old new it ends
+  goes_by it false goes = (stays_from goes.0, (goes.1.0, goes.1.1, subst (λ (e : Epoch). HasWrittenRows e it goes.1.0) epoch goes.1.2))
   goes_by it true goes = ended_from it goes
 
-  pub goes_from : (beside : Option (Beside A)) → GoesOn was new beside → GoesOn old new beside
-  goes_from None goes = (stays_from goes.0, if_some new.beside begun_from goes.1)
+  pub goes_from : (ongoing : Option (Ongoing A)) → GoesOn was new ongoing → GoesOn old new ongoing
+  goes_from None goes = (stays_from goes.0, if_some new.ongoing begun_from goes.1)
   goes_from (Some it) goes = subst (λ (e : Epoch). GoesBy old new it (ends_with (e + 1) it.register it.progress.written)) epoch (goes_by it (ends_with (was.epoch + 1) it.register it.progress.written) goes)
 
 -- what is kept then is kept before: the register, the disk and whether it is broken count for nothing
-pub kept_from : {A D : Type 0} (was old new : StoreView A D) (cs : List (Asked A)) → HasKept was new cs → was.layout ≡ old.layout → was.side ≡ old.side → was.epoch ≡ old.epoch → was.journal ≡ old.journal → was.beside ≡ old.beside → HasKept old new cs
-kept_from was old new [] kept layout side epoch journal beside = (stays_from was old new layout side epoch journal kept.0, kept.1 ∙ beside)
-kept_from {A} was old new (c ∷ cs) kept layout side epoch journal beside =
-    subst (λ (it : Option (Beside A)). GoesOn (with_record old (c ∷ cs)) new (behind_also it (c ∷ cs))) beside
-    (goes_from (with_record was (c ∷ cs)) (with_record old (c ∷ cs)) new layout side epoch (ap (λ (place : Place). behind place (c ∷ cs)) journal) (behind_also was.beside (c ∷ cs)) kept)
+pub kept_from : {A D : Type 0} (was old new : StoreView A D) (cs : List (Asked A)) → HasKept was new cs → was.layout ≡ old.layout → was.side ≡ old.side → was.epoch ≡ old.epoch → was.journal ≡ old.journal → was.ongoing ≡ old.ongoing → HasKept old new cs
+kept_from was old new [] kept layout side epoch journal ongoing = (stays_from was old new layout side epoch journal kept.0, kept.1 ∙ ongoing)
+kept_from {A} was old new (c ∷ cs) kept layout side epoch journal ongoing =
+    subst (λ (it : Option (Ongoing A)). GoesOn (with_record old (c ∷ cs)) new (ongoing_after it (c ∷ cs))) ongoing
+    (goes_from (with_record was (c ∷ cs)) (with_record old (c ∷ cs)) new layout side epoch (ap (λ (place : Place). following place (c ∷ cs)) journal) (ongoing_after was.ongoing (c ∷ cs)) kept)
 
 -- of no commands nothing is kept
 pub none_kept : {A D : Type 0} (store : StoreView A D) → HasKept store store []
 none_kept store = (record { side = refl; epoch = refl; journal = refl }, refl)
 
--- ---- a batch: s before it, t behind it, and u what the register has in the end
+-- ---- a batch: s before it, t after it, and u what the register has in the end
 
 module _ {B : Type 0} (s t : State) (given_are items : List (Bor (Asked B))) (are : given_are ≡ items) where
   pub batch_history : IsHistory s (asked items) → IsHistory s (asked given_are)
@@ -107,13 +107,13 @@ module _ {B : Type 0} (s t : State) (given_are items : List (Bor (Asked B))) (ar
   pub batch_made : t ≡ after s (asked items) → t ≡ after s (asked given_are)
   batch_made is = is ∙ ap (λ (l : List (Bor (Asked B))). after s (asked l)) (sym are)
 
-pub batch_leaves : (A : Type 0) (s t u : State) → u ≡ t → (old new : View) → LeavesOnly old new (StandsForEither A s t) → LeavesOnly old new (StandsForEither A s u)
-batch_leaves A s t u same old new leaves = subst (λ (x : State). LeavesOnly old new (StandsForEither A s x)) (sym same) leaves
+pub batch_leaves : (A : Type 0) (s t u : State) → u ≡ t → (old new : View) → LeavesOnly old new (OpensToEither A s t) → LeavesOnly old new (OpensToEither A s u)
+batch_leaves A s t u same old new leaves = subst (λ (x : State). LeavesOnly old new (OpensToEither A s x)) (sym same) leaves
 
-pub batch_kept : (A : Type 0) (layout : Layout) (side : Side) (epoch : Epoch) (journal : Place) (beside : Option (Beside A)) (t u : State) (disk : View) → u ≡ t → IsKept A layout side epoch journal beside t disk → IsKept A layout side epoch journal beside u disk
-batch_kept A layout side epoch journal beside t u disk same kept = subst (λ (x : State). IsKept A layout side epoch journal beside x disk) (sym same) kept
+pub batch_kept : (A : Type 0) (layout : Layout) (side : Side) (epoch : Epoch) (journal : Place) (ongoing : Option (Ongoing A)) (t u : State) (disk : View) → u ≡ t → IsKept A layout side epoch journal ongoing t disk → IsKept A layout side epoch journal ongoing u disk
+batch_kept A layout side epoch journal ongoing t u disk same kept = subst (λ (x : State). IsKept A layout side epoch journal ongoing x disk) (sym same) kept
 
--- ---- behind a checkpoint that made room
+-- ---- after a checkpoint that made room
 
 pub layout_then : {A D : Type 0} (fits : Bool) (store : StoreView A D) → (with_room fits store).layout ≡ store.layout
 layout_then true store = refl
@@ -129,12 +129,12 @@ it_fits A place cs is = grind (arith, nat_tests)
 pub no_room : {B : Type 0} (A : Type 0) (place : Place) (cs : List (Bor (Asked B))) → fits_in A place cs ≡ false → room_of place < data_size (text_at A place cs)
 no_room A place cs is = grind (arith, nat_tests)
 
-pub room_made : {T E A D : Type 0} (result : Result T E) (old new : StoreView A D) → OnOk result ((new.side ≡ other_of old.side) × (new.epoch ≡ old.epoch + 1) × (new.beside ≡ None))
+pub room_made : {T E A D : Type 0} (result : Result T E) (old new : StoreView A D) → OnOk result ((new.side ≡ other_of old.side) × (new.epoch ≡ old.epoch + 1) × (new.ongoing ≡ None))
     → OnOk result (new.journal ≡ fresh_place old.layout (other_of old.side) old.register.count) → OnOk result (HasRoom old new false)
 room_made (Ok t) old new sides place = (record { side = sides.0; epoch = sides.1; journal = place }, sides.2)
 room_made (Err e) old new sides place = tt
 
--- what a commit does behind the room, by what the desk was before
+-- what a commit does after the room, by what the desk was before
 module _ {A D : Type 0} (was old : StoreView A D) (fits : Bool) (layout : was.layout ≡ old.layout) (room : HasRoom old was fits) (cs : List (Asked A)) where
   abbrev now : StoreView A D
   now = with_room fits old
@@ -145,23 +145,23 @@ module _ {A D : Type 0} (was old : StoreView A D) (fits : Bool) (layout : was.la
   pub room_kept : (new : StoreView A D) → HasKept was new cs → HasKept now new cs
   room_kept new kept = kept_from was now new cs kept layout_is (room.0.side) (room.0.epoch) (room.0.journal) room.1
 
-  pub room_may : (begins : Bool) → (begins ≡ true → MayBegin was.layout was.epoch (behind was.journal cs)) → begins ≡ true → MayBegin now.layout now.epoch (behind now.journal cs)
+  pub room_may : (begins : Bool) → (begins ≡ true → MayBegin was.layout was.epoch (following was.journal cs)) → begins ≡ true → MayBegin now.layout now.epoch (following now.journal cs)
   room_may begins may is =
-      let at_layout : MayBegin now.layout was.epoch (behind was.journal cs) = subst (λ (l : Layout). MayBegin l was.epoch (behind was.journal cs)) layout_is (may is) in
-      let at_epoch : MayBegin now.layout now.epoch (behind was.journal cs) = subst (λ (e : Epoch). MayBegin now.layout e (behind was.journal cs)) (room.0.epoch) at_layout in
-      subst (λ (place : Place). MayBegin now.layout now.epoch (behind place cs)) (room.0.journal) at_epoch
+      let at_layout : MayBegin now.layout was.epoch (following was.journal cs) = subst (λ (l : Layout). MayBegin l was.epoch (following was.journal cs)) layout_is (may is) in
+      let at_epoch : MayBegin now.layout now.epoch (following was.journal cs) = subst (λ (e : Epoch). MayBegin now.layout e (following was.journal cs)) (room.0.epoch) at_layout in
+      subst (λ (place : Place). MayBegin now.layout now.epoch (following place cs)) (room.0.journal) at_epoch
 
-  pub room_calls_are : (begins also : Bool) → commit_calls_by was.layout was.side was.epoch was.journal was.beside cs begins also ≡ commit_calls_by now.layout now.side now.epoch now.journal now.beside cs begins also
+  pub room_calls_are : (begins also : Bool) → commit_calls_by was.layout was.side was.epoch was.journal was.ongoing cs begins also ≡ commit_calls_by now.layout now.side now.epoch now.journal now.ongoing cs begins also
   room_calls_are begins also =
-      ap (λ (l : Layout). commit_calls_by l was.side was.epoch was.journal was.beside cs begins also) layout_is
-      ∙ ap (λ (s : Side). commit_calls_by now.layout s was.epoch was.journal was.beside cs begins also) (room.0.side)
-      ∙ ap (λ (e : Epoch). commit_calls_by now.layout now.side e was.journal was.beside cs begins also) (room.0.epoch)
-      ∙ ap (λ (place : Place). commit_calls_by now.layout now.side now.epoch place was.beside cs begins also) (room.0.journal)
-      ∙ ap (λ (it : Option (Beside A)). commit_calls_by now.layout now.side now.epoch now.journal it cs begins also) room.1
+      ap (λ (l : Layout). commit_calls_by l was.side was.epoch was.journal was.ongoing cs begins also) layout_is
+      ∙ ap (λ (s : Side). commit_calls_by now.layout s was.epoch was.journal was.ongoing cs begins also) (room.0.side)
+      ∙ ap (λ (e : Epoch). commit_calls_by now.layout now.side e was.journal was.ongoing cs begins also) (room.0.epoch)
+      ∙ ap (λ (place : Place). commit_calls_by now.layout now.side now.epoch place was.ongoing cs begins also) (room.0.journal)
+      ∙ ap (λ (it : Option (Ongoing A)). commit_calls_by now.layout now.side now.epoch now.journal it cs begins also) room.1
 
   -- on an honest disk: where the record fits, the root reads as before
-  pub room_calls_read : (begins was_open also : Bool) → (fits ≡ true → also ≡ was_open) → commit_calls_by was.layout was.side was.epoch was.journal was.beside cs begins also ≡ commit_calls_by now.layout now.side now.epoch now.journal now.beside cs begins (if fits then was_open else also)
-  room_calls_read begins was_open also same = room_calls_are begins also ∙ ap (commit_calls_by now.layout now.side now.epoch now.journal now.beside cs begins) (sym (by_fits fits was_open also same))
+  pub room_calls_read : (begins was_open also : Bool) → (fits ≡ true → also ≡ was_open) → commit_calls_by was.layout was.side was.epoch was.journal was.ongoing cs begins also ≡ commit_calls_by now.layout now.side now.epoch now.journal now.ongoing cs begins (if fits then was_open else also)
+  room_calls_read begins was_open also same = room_calls_are begins also ∙ ap (commit_calls_by now.layout now.side now.epoch now.journal now.ongoing cs begins) (sym (by_fits fits was_open also same))
 
 -- where nothing is kept none begins
 pub begins_none : {A D : Type 0} (old : StoreView A D) (fits : Bool) (cs : List (Asked A)) → MayBeginBy old fits cs false
@@ -174,6 +174,6 @@ pub some_then : (old mid new : View) (first second third : List Call) → mid.ca
 some_then old mid new first second third were same some = made_in_second old mid new first third were (subst (HasMade mid new) same some)
 
 -- m is the state s as the checkpoint left it
-pub desk_leaves : (A : Type 0) (s m t u : State) → m ≡ s → u ≡ t → (old mid new : View) → LeavesOnly old mid (StandsFor A s) → LeavesOnly mid new (StandsForEither A m t) → LeavesOnly old new (StandsForEither A s u)
+pub desk_leaves : (A : Type 0) (s m t u : State) → m ≡ s → u ≡ t → (old mid new : View) → LeavesOnly old mid (OpensTo A s) → LeavesOnly mid new (OpensToEither A m t) → LeavesOnly old new (OpensToEither A s u)
 desk_leaves A s m t u same last old mid new first second =
-    then_either A s u old mid new first (subst (λ (x : State). LeavesOnly mid new (StandsForEither A x u)) same (batch_leaves A m t u last mid new second))
+    then_either A s u old mid new first (subst (λ (x : State). LeavesOnly mid new (OpensToEither A x u)) same (batch_leaves A m t u last mid new second))

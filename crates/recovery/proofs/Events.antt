@@ -16,9 +16,9 @@ use Rattle.centre_core.proofs.SameLaws.{after_is_same, histories_are_same}
 use Rattle.centre_core.proofs.StateLaws.{step_is_next}
 use Rattle.recovery.specs.declared.outcome.Outcome.{Outcome}
 use Rattle.recovery.specs.declared.outcome.Outcome.TheVariants as outcome
-use Rattle.recovery.specs.Outcomes.{AreRecorded, IsAnswered, IsEnd, StandsForEither}
+use Rattle.recovery.specs.Outcomes.{AreRecorded, IsAnswered, IsEnd, OpensToEither}
 use Rattle.recovery.specs.Serving.{IsAfterOne}
-use Rattle.recovery.specs.Standing.{StandsFor}
+use Rattle.recovery.specs.OpensTo.{OpensTo}
 use Rattle.recovery.specs.Lives.{HasAccepted, IsAnsweredCall, IsCall, IsStoredIn, IsUnansweredCall, Open, StoreView, Unanswered, acknowledged_of, answers, fails}
 use Rattle.recovery.proofs.Batches.{first_or, none_recorded, same_verdict}
 use Rattle.recovery.proofs.Stored.{nothing_done, only_before}
@@ -78,8 +78,8 @@ module _ (A : Type 0) {D : Type 0} (view : D → View) where
     broken = λ is. refl;
   }
 
-  -- the register stays, and so does what the disk stands for
-  pub none_accepted : (old new : StoreView A D) → (view new.disk).honest → new.register ≡ old.register → (IsStoredIn A view old → LeavesOnly (view old.disk) (view new.disk) (StandsFor A old.register))
+  -- the register stays, and so does what the disk opens to
+  pub none_accepted : (old new : StoreView A D) → (view new.disk).honest → new.register ≡ old.register → (IsStoredIn A view old → LeavesOnly (view old.disk) (view new.disk) (OpensTo A old.register))
       → (new.broken ≡ false → IsStoredIn A view old → IsStoredIn A view new) → old.broken ≡ false → HasAccepted A view old new []
   none_accepted old new honest same leaves kept whole = record {
     honest = honest;
@@ -98,7 +98,7 @@ module _ (A : Type 0) {D : Type 0} (view : D → View) where
     pub unanswered_idle : HasAccepted A view old new [] → IsUnansweredCall A view old commands new
     unanswered_idle done = ([], none_recorded A old.register new.register commands done.made, fails old new [] done)
 
-    module _ (honest : (view new.disk).honest) (leaves : IsStoredIn A view old → LeavesOnly (view old.disk) (view new.disk) (StandsForEither A old.register new.register))
+    module _ (honest : (view new.disk).honest) (leaves : IsStoredIn A view old → LeavesOnly (view old.disk) (view new.disk) (OpensToEither A old.register new.register))
         (kept : new.broken ≡ false → IsStoredIn A view old → IsStoredIn A view new) (whole : old.broken ≡ false) where
       accepted : (cs : List (Asked A)) → IsHistory old.register cs × (new.register ≡ after old.register cs) → HasAccepted A view old new cs
       accepted cs is = record { honest = honest; history = is.0; made = is.1; any_moment = leaves; kept = kept; broken = λ is. absurd (false≢true (sym whole ∙ is)) }
@@ -113,7 +113,7 @@ module _ (A : Type 0) {D : Type 0} (view : D → View) where
 
   -- ---- one command
 
-  module _ {B : Type 0} (old new : StoreView A D) (c : Asked B) (honest : (view new.disk).honest) (leaves : IsStoredIn A view old → LeavesOnly (view old.disk) (view new.disk) (StandsForEither A old.register new.register))
+  module _ {B : Type 0} (old new : StoreView A D) (c : Asked B) (honest : (view new.disk).honest) (leaves : IsStoredIn A view old → LeavesOnly (view old.disk) (view new.disk) (OpensToEither A old.register new.register))
       (kept : new.broken ≡ false → IsStoredIn A view old → IsStoredIn A view new) (broken : old.broken ≡ true → new ≡ old) where
     one_accepted : (cs : List (Asked A)) → IsHistory old.register cs × (new.register ≡ after old.register cs) → HasAccepted A view old new cs
     one_accepted cs is = record { honest = honest; history = is.0; made = is.1; any_moment = leaves; kept = kept; broken = broken }

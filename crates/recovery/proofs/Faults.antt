@@ -1,4 +1,4 @@
--- What the label and the roots of a disk tell where they are at fault.
+-- What the label and the roots of a disk state where they are at fault.
 use Rattle.std.proofs.Common.{◌≡◌, ◌≢◌, ◌⊎◌, inl, inr, ℕ, ◌<◌, ◌≤◌, Bool, true, false, eqb, leb, List, ◌++◌, length, take, drop, slice_index, Option, Some, None, Result, Ok, Err, refl, sym, subst, ap, ◌∙◌, if◌then◌else◌}
 use Rattle.std.proofs.Math.Seq.{take-append_seam}
 use Rattle.std.proofs.lemmas.Bool.{leb-true, lt-leb}
@@ -19,42 +19,42 @@ use Rattle.checkpoint.specs.declared.side.Side.{Side}
 use Rattle.checkpoint.specs.declared.side.Side.TheVariants as side
 use Rattle.checkpoint.specs.Label.{IsLabel, label_size, label_text, name}
 use Rattle.checkpoint.specs.Layout.{disk_size, label_at, root_at, slot_at}
-use Rattle.checkpoint.specs.Standing.{slot_epoch}
+use Rattle.checkpoint.specs.OnSide.{slot_epoch}
 use Rattle.recovery.specs.declared.fault.StoreFault.{StoreFault}
 use Rattle.recovery.specs.declared.fault.StoreFault.TheVariants.{BadGeometry, Damaged, Unformatted}
 use Rattle.recovery.specs.Ranges.{are_limits, half_size_passes, is_half_size, layout_by, layout_of, limits_by, limits_of, limits_pass}
-use Rattle.recovery.specs.declared.label.Told.{Told}
-use Rattle.recovery.specs.Label.{fitting, is_named, layout_in, layout_told, told_at}
+use Rattle.recovery.specs.declared.label.LabelNumbers.{LabelNumbers}
+use Rattle.recovery.specs.Label.{fitting, is_named, layout_in, layout_of_numbers, numbers_at}
 use Rattle.recovery.specs.Opens.{side_at, side_in}
-use Rattle.recovery.proofs.Labelled.{behind_name, label_length, label_parts, told_of}
+use Rattle.recovery.proofs.Labelled.{after_name, label_length, label_parts, label_numbers}
 use Rattle.recovery.proofs.Sided.{open_side, shut_side}
 
--- ---- the numbers that are read stand there
+-- ---- the numbers that are read are there
 
-journal_step : ℕ → ℕ → ℕ → ℕ → ℕ → ℕ × List ℕ → Option Told
+journal_step : ℕ → ℕ → ℕ → ℕ → ℕ → ℕ × List ℕ → Option LabelNumbers
 journal_step n r d m s journal = Some (record { number = n; rules = r; radios = d; mail = m; stations = s; journal = journal.0 })
 
-stations_step : ℕ → ℕ → ℕ → ℕ → ℕ × List ℕ → Option Told
+stations_step : ℕ → ℕ → ℕ → ℕ → ℕ × List ℕ → Option LabelNumbers
 stations_step n r d m stations = number_at 4 stations.1 >>= journal_step n r d m stations.0
 
-mail_step : ℕ → ℕ → ℕ → ℕ × List ℕ → Option Told
+mail_step : ℕ → ℕ → ℕ → ℕ × List ℕ → Option LabelNumbers
 mail_step n r d mail = number_at 4 mail.1 >>= stations_step n r d mail.0
 
-radios_step : ℕ → ℕ → ℕ × List ℕ → Option Told
+radios_step : ℕ → ℕ → ℕ × List ℕ → Option LabelNumbers
 radios_step n r radios = number_at 4 radios.1 >>= mail_step n r radios.0
 
-rules_step : ℕ → ℕ × List ℕ → Option Told
+rules_step : ℕ → ℕ × List ℕ → Option LabelNumbers
 rules_step n rules = number_at 4 rules.1 >>= radios_step n rules.0
 
-number_step : ℕ × List ℕ → Option Told
+number_step : ℕ × List ℕ → Option LabelNumbers
 number_step number = number_at 4 number.1 >>= rules_step number.0
 
-abbrev told_text : Told → List ℕ → List ℕ
-told_text t rest = big 2 t.number ++ (big 4 t.rules ++ (big 4 t.radios ++ (big 4 t.mail ++ (big 4 t.stations ++ (big 4 t.journal ++ rest)))))
+abbrev stated_text : LabelNumbers → List ℕ → List ℕ
+stated_text t rest = big 2 t.number ++ (big 4 t.rules ++ (big 4 t.radios ++ (big 4 t.mail ++ (big 4 t.stations ++ (big 4 t.journal ++ rest)))))
 
-told_takes : (bytes : List ℕ) (t : Told) → AreBytes bytes → told_at bytes ≡ Some t → (rest : List ℕ) × (bytes ≡ told_text t rest)
-unfolding told_at number_step rules_step radios_step mail_step stations_step journal_step
-told_takes bytes t are e =
+stated_takes : (bytes : List ℕ) (t : LabelNumbers) → AreBytes bytes → numbers_at bytes ≡ Some t → (rest : List ℕ) × (bytes ≡ stated_text t rest)
+unfolding numbers_at number_step rules_step radios_step mail_step stations_step journal_step
+stated_takes bytes t are e =
     let a = bind_some (number_at 2 bytes) number_step t e in
     let number : ℕ × List ℕ = a.0 in
     let first = number_takes 2 bytes number are a.1 in
@@ -73,11 +73,11 @@ told_takes bytes t are e =
     let g = bind_some (number_at 4 stations.1) (journal_step number.0 rules.0 radios.0 mail.0 stations.0) t f.2 in
     let journal : ℕ × List ℕ = g.0 in
     let sixth = number_takes 4 stations.1 journal fifth.1 g.1 in
-    let made : Told = record { number = number.0; rules = rules.0; radios = radios.0; mail = mail.0; stations = stations.0; journal = journal.0 } in
-    let whole : bytes ≡ told_text made journal.1 =
+    let made : LabelNumbers = record { number = number.0; rules = rules.0; radios = radios.0; mail = mail.0; stations = stations.0; journal = journal.0 } in
+    let whole : bytes ≡ stated_text made journal.1 =
     first.0 ∙ ap (λ (l : List ℕ). big 2 number.0 ++ l) (second.0 ∙ ap (λ (l : List ℕ). big 4 rules.0 ++ l) (third.0 ∙ ap (λ (l : List ℕ). big 4 radios.0 ++ l) (fourth.0
     ∙ ap (λ (l : List ℕ). big 4 mail.0 ++ l) (fifth.0 ∙ ap (λ (l : List ℕ). big 4 stations.0 ++ l) sixth.0)))) in
-    (journal.1, whole ∙ ap (λ (u : Told). told_text u journal.1) (some_is made t g.2))
+    (journal.1, whole ∙ ap (λ (u : LabelNumbers). stated_text u journal.1) (some_is made t g.2))
 
 -- ---- the layout of these numbers
 
@@ -104,8 +104,8 @@ layout_from limits journal false is layout e = absurd cc
 one_number : (n : ℕ) → eqb n 1 ≡ true → n ≡ 1
 one_number n is = elim (eqb_tells n 1) [ inl same ↦ same.1 | inr other ↦ absurd cc ]
 
-told_only : (t : Told) (layout : Layout) → layout_told t ≡ Some layout → t ≡ told_of layout
-told_only t layout e =
+stated_only : (t : LabelNumbers) (layout : Layout) → layout_of_numbers t ≡ Some layout → t ≡ label_numbers layout
+stated_only t layout e =
     let numbered = some_where (eqb t.number 1) (limits_of t.rules t.radios t.mail t.stations >>= λ limits. layout_of limits t.journal) layout e in
     let b = bind_some (limits_of t.rules t.radios t.mail t.stations) (λ limits. layout_of limits t.journal) layout numbered.1 in
     let limits : Limits = b.0 in
@@ -125,25 +125,25 @@ module _ (image : List (List ℕ)) where
   first = sector image label_at
 
   abbrev read : Option Layout
-  read = told_at (drop 8 first) >>= layout_told
+  read = numbers_at (drop 8 first) >>= layout_of_numbers
 
   named : is_named first ≡ true → take 8 first ≡ name
   named is = (bytes_eq-Decides (take 8 first) name).0 is
 
   read_label : AreBytes first → take 8 first ≡ name → (layout : Layout) → read ≡ Some layout → IsLabel layout first
   read_label are begins layout e =
-      let b = bind_some (told_at (drop 8 first)) layout_told layout e in
-      let t : Told = b.0 in
-      let stands = told_takes (drop 8 first) t (bytes-drop 8 first are) b.1 in
-      let behind : drop 8 first ≡ behind_name layout stands.0 = stands.1 ∙ ap (λ (u : Told). told_text u stands.0) (told_only t layout b.2) in
-      let whole : first ≡ label_text layout ++ stands.0 = sym (take-append-drop 8 first) ∙ ap (λ (l : List ℕ). l ++ drop 8 first) begins ∙ ap (λ (l : List ℕ). name ++ l) behind ∙ sym (label_parts layout stands.0) in
-      ap (take label_size) whole ∙ ap (λ (n : ℕ). take n (label_text layout ++ stands.0)) (sym (label_length layout)) ∙ take-append_seam (label_text layout) stands.0
+      let b = bind_some (numbers_at (drop 8 first)) layout_of_numbers layout e in
+      let t : LabelNumbers = b.0 in
+      let holds = stated_takes (drop 8 first) t (bytes-drop 8 first are) b.1 in
+      let following : drop 8 first ≡ after_name layout holds.0 = holds.1 ∙ ap (λ (u : LabelNumbers). stated_text u holds.0) (stated_only t layout b.2) in
+      let whole : first ≡ label_text layout ++ holds.0 = sym (take-append-drop 8 first) ∙ ap (λ (l : List ℕ). l ++ drop 8 first) begins ∙ ap (λ (l : List ℕ). name ++ l) following ∙ sym (label_parts layout holds.0) in
+      ap (take label_size) whole ∙ ap (λ (n : ℕ). take n (label_text layout ++ holds.0)) (sym (label_length layout)) ∙ take-append_seam (label_text layout) holds.0
 
   -- what the two tests make of the label
   abbrev judged : Bool → Option Layout → Result Layout StoreFault
-  judged is told = if is then fitting (length image) told else Err Unformatted
+  judged is label = if is then fitting (length image) label else Err Unformatted
 
-  pub fit_only : (told : Option Layout) (layout : Layout) → fitting (length image) told ≡ Ok layout → (told ≡ Some layout) × (disk_size layout ≤ length image)
+  pub fit_only : (label : Option Layout) (layout : Layout) → fitting (length image) label ≡ Ok layout → (label ≡ Some layout) × (disk_size layout ≤ length image)
   fit_only None layout e = absurd cc
   fit_only (Some l) layout e = fit_by (leb (disk_size l) (length image)) refl e
     where
@@ -159,7 +159,7 @@ module _ (image : List (List ℕ)) where
         | false ↦ λ is ok. absurd cc
       ] refl e
 
-  never_unformatted : (told : Option Layout) → fitting (length image) told ≡ Err Unformatted → ⊥
+  never_unformatted : (label : Option Layout) → fitting (length image) label ≡ Err Unformatted → ⊥
   never_unformatted None e = cc
   never_unformatted (Some l) e = by (leb (disk_size l) (length image)) e
     where
@@ -178,7 +178,7 @@ module _ (image : List (List ℕ)) where
   unfolding layout_in
   bad_geometry are begins none = rw ((bytes_eq-Decides (take 8 first) name).1 begins) (too_small read (λ layout e. none layout (read_label are begins layout e)))
     where
-      too_small : (told : Option Layout) → ((layout : Layout) → told ≡ Some layout → length image < disk_size layout) → fitting (length image) told ≡ Err BadGeometry
+      too_small : (label : Option Layout) → ((layout : Layout) → label ≡ Some layout → length image < disk_size layout) → fitting (length image) label ≡ Err BadGeometry
       too_small None small = refl
       too_small (Some l) small = rw (lt-leb (disk_size l) (length image) (small l refl)) refl
 
@@ -206,8 +206,8 @@ module _ (layout : Layout) (image : List (List ℕ)) where
 
   whole_read : (s : Side) → IsWhole s → (epoch : Option ℕ) × (side_at layout s image ≡ Ok epoch)
   whole_read s (inl shut) = (None, shut_side layout s image shut)
-  whole_read s (inr (epoch, tells)) = elim (eqb_tells (slice_index (root s) 0) 1) [
-    | inl same ↦ (Some epoch, open_side layout s image epoch same.1 tells)
+  whole_read s (inr (epoch, states)) = elim (eqb_tells (slice_index (root s) 0) 1) [
+    | inl same ↦ (Some epoch, open_side layout s image epoch same.1 states)
     | inr other ↦ (None, shut_side layout s image other.1)
   ]
 
@@ -220,4 +220,4 @@ module _ (layout : Layout) (image : List (List ℕ)) where
 
   pub equal_epochs : (epoch : ℕ) → IsOpen (root side.A) → IsOpen (root side.B) → slot_epoch layout side.A image ≡ Some epoch → slot_epoch layout side.B image ≡ Some epoch → side_in layout image ≡ Err (Damaged (root_at side.B))
   unfolding side_in
-  equal_epochs epoch a b told_a told_b = rw (open_side layout side.A image epoch a told_a) (rw (open_side layout side.B image epoch b told_b) (rw (same_number epoch) refl))
+  equal_epochs epoch a b stated_a stated_b = rw (open_side layout side.A image epoch a stated_a) (rw (open_side layout side.B image epoch b stated_b) (rw (same_number epoch) refl))

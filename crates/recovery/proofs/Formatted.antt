@@ -1,4 +1,4 @@
--- A disk that is made ready stands for an empty register.
+-- A disk that is made ready opens to an empty register.
 use Rattle.std.proofs.Common.{◌≡◌, ◌≢◌, inl, ℕ, suc, ◌+◌, ◌-◌, ◌<◌, ◌≤◌, List, ◌∷◌, ◌++◌, length, map, take, replicate, slice_index, Result, Ok, Err, OnOk, refl, sym, ap, ◌∙◌, arith}
 use Rattle.std.proofs.Math.Seq.{take-append_seam}
 use Rattle.sector_disk.specs.Disk.{IsSound, HasSynced, HasWritten, View, sector}
@@ -22,13 +22,13 @@ use Rattle.checkpoint.specs.declared.layout.Layout.{Layout}
 use Rattle.checkpoint.specs.declared.side.Side.TheVariants as side
 use Rattle.checkpoint.specs.Label.{IsLabel, label_size, label_text}
 use Rattle.checkpoint.specs.Layout.{disk_size, half_at, half_end, label_at, root_at, slot_at, slot_size}
-use Rattle.checkpoint.specs.Standing.{InEach, IsInSlot, Stands, form_told, fresh, sectors_from}
+use Rattle.checkpoint.specs.OnSide.{InEach, IsInSlot, IsOnSide, stated_form, fresh, sectors_from}
 use Rattle.recovery.specs.Calls.{first_header, label_sector}
 use Rattle.recovery.specs.Opens.{opening, opens}
 use Rattle.recovery.specs.Inside.Sides.{AreReady}
-use Rattle.recovery.specs.Standing.{first_base}
+use Rattle.recovery.specs.OpensTo.{first_base}
 use Rattle.recovery.proofs.Labelled.{label_length}
-use Rattle.recovery.proofs.Opened.{standing_opens}
+use Rattle.recovery.proofs.Opened.{side_opens}
 
 -- ---- the sides
 
@@ -79,15 +79,15 @@ module _ (layout : Layout) (old one two three four five : View) where
 
 -- ---- the label
 
-label_front : (layout : Layout) → IsLabel layout (label_sector layout)
-label_front layout = ap (λ (n : ℕ). take n (label_sector layout)) (sym (label_length layout)) ∙ take-append_seam (label_text layout) (replicate (512 - length (label_text layout)) 0)
+pub label_prefix : (layout : Layout) → IsLabel layout (label_sector layout)
+label_prefix layout = ap (λ (n : ℕ). take n (label_sector layout)) (sym (label_length layout)) ∙ take-append_seam (label_text layout) (replicate (512 - length (label_text layout)) 0)
 
 -- ---- the slot
 
-header_read : (layout : Layout) (behind : List (List ℕ)) → slot_of layout.limits (first_header ∷ behind) ≡ Ok (first_base layout)
-header_read layout behind =
-    ap (λ (rows : List Row). slot_of layout.limits (map sector_of rows ++ behind)) (sym (empty_image 1 layout.limits))
-    ∙ written_is_image 1 (empty layout.limits) behind (omega arith) (omega arith) (empty_is_state layout.limits) (empty_is_in_range layout.limits)
+header_read : (layout : Layout) (following : List (List ℕ)) → slot_of layout.limits (first_header ∷ following) ≡ Ok (first_base layout)
+header_read layout following =
+    ap (λ (rows : List Row). slot_of layout.limits (map sector_of rows ++ following)) (sym (empty_image 1 layout.limits))
+    ∙ written_is_image 1 (empty layout.limits) following (omega arith) (omega arith) (empty_is_state layout.limits) (empty_is_in_range layout.limits)
 
 in_slot : (layout : Layout) (image : List (List ℕ)) → sector image (slot_at layout side.A) ≡ first_header → IsInSlot layout side.A (first_base layout) image
 unfolding sectors_from
@@ -97,33 +97,33 @@ in_slot layout image is =
     ∙ ap (λ (bytes : List ℕ). slot_of layout.limits (bytes ∷ sectors_from image (slot_at layout side.A + 1) (slot_size layout - 1))) is
     ∙ header_read layout (sectors_from image (slot_at layout side.A + 1) (slot_size layout - 1))
 
--- it tells numbered records
-header_form : form_told first_header ≡ Numbered
+-- it states numbered records
+header_form : stated_form first_header ≡ Numbered
 header_form = rw (header_is_tagged (bare 1)) refl
 
 -- ---- the whole
 
-closed_is : (bytes : List ℕ) → bytes ≡ closed_gate → IsClosed bytes
+pub closed_is : (bytes : List ℕ) → bytes ≡ closed_gate → IsClosed bytes
 closed_is bytes is opened = let one : slice_index closed_gate 0 ≡ 1 = ap (λ (b : List ℕ). slice_index b 0) (sym is) ∙ opened in absurd (omega (arith, one))
 
 module _ {A : Type 0} (layout : Layout) (sides labelled last : View) where
-  pub stands_so : AreReady layout sides → HasWritten sides labelled label_at (label_sector layout) (Ok tt) → HasSynced labelled last (Ok tt) → IsSound last → disk_size layout ≤ last.sectors
-      → InEach last (Stands {A = A} layout side.A Numbered (first_base layout) (fresh layout side.A))
-  stands_so ready wrote syncs sound room image is =
+  pub image_opens : AreReady layout sides → HasWritten sides labelled label_at (label_sector layout) (Ok tt) → HasSynced labelled last (Ok tt) → IsSound last → disk_size layout ≤ last.sectors
+      → InEach last (IsOnSide {A = A} layout side.A Numbered (first_base layout) (fresh layout side.A))
+  image_opens ready wrote syncs sound room image is =
       let some = layout.in_range.fewest in
       let now : (k : ℕ) → sector image k ≡ sector labelled.reads k = λ k. durable_image last syncs.durable image is k ∙ ap (λ (l : List (List ℕ)). sector l k) syncs.reads in
       let as_before : (k : ℕ) → k ≢ label_at → sector image k ≡ sector sides.reads k = λ k apart. now k ∙ wrote.others k apart in
       record {
         room = omega (arith, room, sound.count, is.count);
-        label = ap (λ (bytes : List ℕ). take label_size bytes) (now label_at ∙ wrote.written.0) ∙ label_front layout;
+        label = ap (λ (bytes : List ℕ). take label_size bytes) (now label_at ∙ wrote.written.0) ∙ label_prefix layout;
         root = ap (λ (bytes : List ℕ). slice_index bytes 0) (as_before (root_at side.A) (omega arith) ∙ ready.root);
         below = inl (closed_is (sector image (root_at side.B)) (as_before (root_at side.B) (omega arith) ∙ ready.other));
         slot = in_slot layout image (as_before (slot_at layout side.A) (omega arith) ∙ ready.header);
-        form_is = ap form_told (as_before (slot_at layout side.A) (omega arith) ∙ ready.header) ∙ header_form;
+        form_is = ap stated_form (as_before (slot_at layout side.A) (omega arith) ∙ ready.header) ∙ header_form;
         half = last_gate Numbered (half_end layout side.A - half_at layout side.A) (first_base layout).1.count image (half_at layout side.A) (half_end layout side.A) (closed_is (sector image (half_at layout side.A)) (as_before (half_at layout side.A) (omega arith) ∙ ready.gate));
         gate = omega (arith, some);
       }
 
 pub opens_so : (A : Type 0) (layout : Layout) (sides labelled last : View) → AreReady layout sides → HasWritten sides labelled label_at (label_sector layout) (Ok tt) → HasSynced labelled last (Ok tt) → IsSound last → disk_size layout ≤ last.sectors
     → InEach last (λ image. opens A image ≡ Ok (opening layout side.A 1 (half_at layout side.A) (empty layout.limits)))
-opens_so A layout sides labelled last ready wrote syncs sound room image is = standing_opens {A = A} layout side.A Numbered (first_base layout) (fresh layout side.A) image (stands_so layout sides labelled last ready wrote syncs sound room image is) tt
+opens_so A layout sides labelled last ready wrote syncs sound room image is = side_opens {A = A} layout side.A Numbered (first_base layout) (fresh layout side.A) image (image_opens layout sides labelled last ready wrote syncs sound room image is) tt

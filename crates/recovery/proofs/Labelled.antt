@@ -14,8 +14,8 @@ use Rattle.checkpoint.specs.declared.layout.Layout.{Layout}
 use Rattle.checkpoint.specs.Label.{IsLabel, label_size, label_text, layout_number, name}
 use Rattle.checkpoint.specs.Layout.{disk_size, label_at}
 use Rattle.recovery.specs.Ranges.{are_limits, half_size_passes, is_half_size, is_within, layout_by, layout_of, limits_by, limits_of, limits_pass}
-use Rattle.recovery.specs.declared.label.Told.{Told}
-use Rattle.recovery.specs.Label.{layout_at, layout_in, layout_told, told_at}
+use Rattle.recovery.specs.declared.label.LabelNumbers.{LabelNumbers}
+use Rattle.recovery.specs.Label.{layout_at, layout_in, layout_of_numbers, numbers_at}
 
 -- ---- ranges
 
@@ -66,8 +66,8 @@ layout_again layout = layout_made layout (is_half_size layout.journal) (half_siz
 
 -- ---- the numbers of a layout
 
-abbrev pub told_of : Layout → Told
-told_of layout = record {
+abbrev pub label_numbers : Layout → LabelNumbers
+label_numbers layout = record {
   number = layout_number;
   rules = layout.limits.rules;
   radios = layout.limits.radios;
@@ -76,10 +76,10 @@ told_of layout = record {
   journal = layout.journal;
 }
 
-told_again : (n rules radios mail stations journal : ℕ) (rest : List ℕ) → n < 256 ^ 2 → rules < 256 ^ 4 → radios < 256 ^ 4 → mail < 256 ^ 4 → stations < 256 ^ 4 → journal < 256 ^ 4
-    → told_at (big 2 n ++ (big 4 rules ++ (big 4 radios ++ (big 4 mail ++ (big 4 stations ++ (big 4 journal ++ rest)))))) ≡ Some (record { number = n; rules = rules; radios = radios; mail = mail; stations = stations; journal = journal })
-unfolding told_at
-told_again n rules radios mail stations journal rest nl rl dl ml sl jl =
+stated_again : (n rules radios mail stations journal : ℕ) (rest : List ℕ) → n < 256 ^ 2 → rules < 256 ^ 4 → radios < 256 ^ 4 → mail < 256 ^ 4 → stations < 256 ^ 4 → journal < 256 ^ 4
+    → numbers_at (big 2 n ++ (big 4 rules ++ (big 4 radios ++ (big 4 mail ++ (big 4 stations ++ (big 4 journal ++ rest)))))) ≡ Some (record { number = n; rules = rules; radios = radios; mail = mail; stations = stations; journal = journal })
+unfolding numbers_at
+stated_again n rules radios mail stations journal rest nl rl dl ml sl jl =
     rw (number_again 2 n (big 4 rules ++ (big 4 radios ++ (big 4 mail ++ (big 4 stations ++ (big 4 journal ++ rest))))) nl)
     (rw (number_again 4 rules (big 4 radios ++ (big 4 mail ++ (big 4 stations ++ (big 4 journal ++ rest)))) rl)
     (rw (number_again 4 radios (big 4 mail ++ (big 4 stations ++ (big 4 journal ++ rest))) dl)
@@ -87,30 +87,30 @@ told_again n rules radios mail stations journal rest nl rl dl ml sl jl =
     (rw (number_again 4 stations (big 4 journal ++ rest) sl)
     (rw (number_again 4 journal rest jl) refl)))))
 
-abbrev pub behind_name : Layout → List ℕ → List ℕ
-behind_name layout rest = big 2 layout_number ++ (big 4 layout.limits.rules ++ (big 4 layout.limits.radios ++ (big 4 layout.limits.mail ++ (big 4 layout.limits.stations ++ (big 4 layout.journal ++ rest)))))
+abbrev pub after_name : Layout → List ℕ → List ℕ
+after_name layout rest = big 2 layout_number ++ (big 4 layout.limits.rules ++ (big 4 layout.limits.radios ++ (big 4 layout.limits.mail ++ (big 4 layout.limits.stations ++ (big 4 layout.journal ++ rest)))))
 
-pub label_parts : (layout : Layout) (rest : List ℕ) → label_text layout ++ rest ≡ name ++ behind_name layout rest
+pub label_parts : (layout : Layout) (rest : List ℕ) → label_text layout ++ rest ≡ name ++ after_name layout rest
 unfolding label_text
 label_parts layout rest = simp append_assoc refl
 
-label_told : (layout : Layout) (rest : List ℕ) → told_at (behind_name layout rest) ≡ Some (told_of layout)
-label_told layout rest =
+label_numbers_read : (layout : Layout) (rest : List ℕ) → numbers_at (after_name layout rest) ≡ Some (label_numbers layout)
+label_numbers_read layout rest =
     let limits = layout.limits.in_range in
     let size = layout.in_range in
-    told_again layout_number layout.limits.rules layout.limits.radios layout.limits.mail layout.limits.stations layout.journal rest
+    stated_again layout_number layout.limits.rules layout.limits.radios layout.limits.mail layout.limits.stations layout.journal rest
     (omega arith) (omega (arith, limits.most_rules)) (omega (arith, limits.most_radios)) (omega (arith, limits.most_mail)) (omega (arith, limits.most_stations)) (omega (arith, size.most))
 
-layout_of_told : (layout : Layout) → layout_told (told_of layout) ≡ Some layout
-layout_of_told layout = rw (limits_again layout.limits) (layout_again layout)
+layout_of_label : (layout : Layout) → layout_of_numbers (label_numbers layout) ≡ Some layout
+layout_of_label layout = rw (limits_again layout.limits) (layout_again layout)
 
 -- ---- a label is read
 
-label_is : (layout : Layout) (bytes : List ℕ) → IsLabel layout bytes → bytes ≡ name ++ behind_name layout (drop label_size bytes)
-label_is layout bytes is = sym (take-append-drop label_size bytes) ∙ ap (λ (front : List ℕ). front ++ drop label_size bytes) is ∙ label_parts layout (drop label_size bytes)
+label_is : (layout : Layout) (bytes : List ℕ) → IsLabel layout bytes → bytes ≡ name ++ after_name layout (drop label_size bytes)
+label_is layout bytes is = sym (take-append-drop label_size bytes) ∙ ap (λ (prefix : List ℕ). prefix ++ drop label_size bytes) is ∙ label_parts layout (drop label_size bytes)
 
-named_read : (layout : Layout) (sectors : ℕ) (rest : List ℕ) → disk_size layout ≤ sectors → layout_at sectors (name ++ behind_name layout rest) ≡ Ok layout
-named_read layout sectors rest room = rw (label_told layout rest) (rw (layout_of_told layout) (rw (le-leb (disk_size layout) sectors room) refl))
+named_read : (layout : Layout) (sectors : ℕ) (rest : List ℕ) → disk_size layout ≤ sectors → layout_at sectors (name ++ after_name layout rest) ≡ Ok layout
+named_read layout sectors rest room = rw (label_numbers_read layout rest) (rw (layout_of_label layout) (rw (le-leb (disk_size layout) sectors room) refl))
 
 pub label_read : (layout : Layout) (image : List (List ℕ)) → IsLabel layout (sector image label_at) → disk_size layout ≤ length image → layout_in image ≡ Ok layout
 unfolding layout_in
@@ -144,8 +144,8 @@ pub layout_made_of : (limits : Limits) (journal : ℕ) (o : Option Layout) → (
 layout_made_of limits journal None fits value = no_layout limits journal (is_half_size journal) (half_size_passes journal) (λ are. false≢true (fits are))
 layout_made_of limits journal (Some l) fits value = (λ i. layout_of (sym value.0 i) (sym value.1 i)) ∙ layout_again l
 
-pub told_made : (t : Told) (o : Option Limits) (limits : Limits) (made : Option Layout) → t.number ≡ 1 → limits_of t.rules t.radios t.mail t.stations ≡ o → o ≡ Some limits → layout_of limits t.journal ≡ made → made ≡ layout_told t
-told_made t o limits made number first is second =
+pub stated_made : (t : LabelNumbers) (o : Option Limits) (limits : Limits) (made : Option Layout) → t.number ≡ 1 → limits_of t.rules t.radios t.mail t.stations ≡ o → o ≡ Some limits → layout_of limits t.journal ≡ made → made ≡ layout_of_numbers t
+stated_made t o limits made number first is second =
     let go = λ (l : Limits). layout_of l t.journal in
-    let one : layout_told t ≡ (limits_of t.rules t.radios t.mail t.stations >>= go) = rw number refl in
+    let one : layout_of_numbers t ≡ (limits_of t.rules t.radios t.mail t.stations >>= go) = rw number refl in
     sym (one ∙ ap (λ (l : Option Limits). l >>= go) (first ∙ is) ∙ second)

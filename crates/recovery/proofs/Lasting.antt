@@ -6,14 +6,14 @@ use Rattle.centre_core.proofs.MailLaws.{none_lost, none_lost_made}
 use Rattle.std.specs.List.{Contains}
 use Rattle.recovery.specs.Lasting.{Lacks, NoneLostMadeOnDisk, NoneLostOnDisk}
 use Rattle.recovery.specs.Opens.{opens}
-use Rattle.recovery.specs.Standing.{StandsFor}
+use Rattle.recovery.specs.OpensTo.{OpensTo}
 
--- what is so of the state that an image stands for is so of what it opens to
-in_image : {A : Type 0} (s : State) (image : List (List ℕ)) (m : Item) (P : Type 0) → StandsFor A s image → ((¬ Contains s.mail.items m) ↔ P) → IfOk (opens A image) (λ opening. Lacks opening m ↔ P)
-in_image s image m P stands is = rw stands.opens (rw stands.same is)
+-- what is so of the state that an image opens to is so of what it opens to
+in_image : {A : Type 0} (s : State) (image : List (List ℕ)) (m : Item) (P : Type 0) → OpensTo A s image → ((¬ Contains s.mail.items m) ↔ P) → IfOk (opens A image) (λ opening. Lacks opening m ↔ P)
+in_image s image m P holds is = rw holds.opens (rw holds.same is)
 
 pub none_lost_on_disk : {A : Type 0} → NoneLostOnDisk A
-none_lost_on_disk {A} s state cs m image is here stands = in_image (_) image m (_) stands (none_lost {A = A} s state cs m is here)
+none_lost_on_disk {A} s state cs m image is here holds = in_image (_) image m (_) holds (none_lost {A = A} s state cs m is here)
 
 pub none_lost_made_on_disk : {A : Type 0} → NoneLostMadeOnDisk A
-none_lost_made_on_disk {A} s state bs c cs m image ok e stands = in_image (_) image m (_) stands (none_lost_made {A = A} s state bs c cs m ok e)
+none_lost_made_on_disk {A} s state bs c cs m image ok e holds = in_image (_) image m (_) holds (none_lost_made {A = A} s state bs c cs m ok e)

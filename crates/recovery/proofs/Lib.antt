@@ -6,6 +6,7 @@ mod Lasting
 mod OneCommand
 mod Called
 mod Formatted
+mod FormattedWith
 mod Faults
 mod Batches
 pub mod Stored
@@ -17,7 +18,7 @@ mod Chained
 mod Limited
 mod Applied
 mod Replayed
-mod Stood
+mod FromOpening
 mod Synced
 mod Ranged
 mod Lived

@@ -16,14 +16,14 @@ use Rattle.centre_core.specs.History.{after}
 use Rattle.centre_core.specs.Histories.{IsHistory}
 use Rattle.centre_core.proofs.InTurnLaws.{after-append, history-append, history-rest}
 use Rattle.centre_core.proofs.StateLaws.{empty_is_state}
-use Rattle.checkpoint.specs.Standing.{InEach}
+use Rattle.checkpoint.specs.OnSide.{InEach}
 use Rattle.recovery.specs.Opens.{Opening, opening}
-use Rattle.recovery.specs.Standing.{StandsFor}
-use Rattle.recovery.specs.Outcomes.{StandsForEither}
+use Rattle.recovery.specs.OpensTo.{OpensTo}
+use Rattle.recovery.specs.Outcomes.{OpensToEither}
 use Rattle.recovery.proofs.Lasting.{none_lost_made_on_disk}
-use Rattle.recovery.proofs.Stored.{stored_stands}
+use Rattle.recovery.proofs.Stored.{stored_opens}
 use Rattle.recovery.specs.declared.fault.StoreFault.{StoreFault}
-use Rattle.recovery.specs.Lives.{Closed, Answered, Event, IsCall, HasAccepted, HasOpened, Holds, ComesBack, IsStoredIn, StoreView, Lasts, LosesNoMessage, IsLife, Open, Phase, Unanswered, answers, begins, stopped, disk_of, fails, closes, goes_on, opens_not, opens_to, stops, nothing}
+use Rattle.recovery.specs.Lives.{Closed, Answered, Event, IsCall, HasAccepted, HasOpened, LastsInStore, ComesBack, IsStoredIn, StoreView, Lasts, LosesNoMessage, IsLife, Open, Phase, Unanswered, answers, begins, stopped, disk_of, fails, closes, goes_on, opens_not, opens_to, stops, nothing}
 
 either : (b : Bool) → (b ≡ true) ⊎ (b ≡ false)
 either true = inl refl
@@ -36,27 +36,27 @@ module _ {A : Type 0} (limits : Limits) (events : List (Event A)) where
   -- ---- what is kept of one event more
 
   with_nothing : (image : List (List ℕ)) → Lasts A limits events image → Lasts A limits (Answered [] ∷ events) image
-  with_nothing image is = record { kept = is.kept; are = (is.kept, is.are, sym (append-nil is.kept)); history = is.history; stands = is.stands }
+  with_nothing image is = record { kept = is.kept; are = (is.kept, is.are, sym (append-nil is.kept)); history = is.history; reopens = is.reopens }
 
   without : (cs : List (Asked A)) (image : List (List ℕ)) → Lasts A limits events image → Lasts A limits (Unanswered cs ∷ events) image
-  without cs image is = record { kept = is.kept; are = inl is.are; history = is.history; stands = is.stands }
+  without cs image is = record { kept = is.kept; are = inl is.are; history = is.history; reopens = is.reopens }
 
-  module _ {D : Type 0} (old new : StoreView A D) (cs : List (Asked A)) (holds : Holds A limits events old) (history : IsHistory old.register cs) (made : new.register ≡ after old.register cs) where
+  module _ {D : Type 0} (old new : StoreView A D) (cs : List (Asked A)) (holds : LastsInStore A limits events old) (history : IsHistory old.register cs) (made : new.register ≡ after old.register cs) where
     more_history : IsHistory (empty limits) (holds.kept ++ cs)
     more_history = history-append (empty limits) holds.kept cs holds.history (subst (λ (s : State). IsHistory s cs) holds.made history)
 
     more_made : new.register ≡ after (empty limits) (holds.kept ++ cs)
     more_made = made ∙ ap (λ (s : State). after s cs) holds.made ∙ sym (after-append (empty limits) holds.kept cs)
 
-    answered : Holds A limits (Answered cs ∷ events) new
+    answered : LastsInStore A limits (Answered cs ∷ events) new
     answered = record { kept = holds.kept ++ cs; are = (holds.kept, holds.are, refl); history = more_history; made = more_made }
 
-    unanswered : Holds A limits (Unanswered cs ∷ events) new
+    unanswered : LastsInStore A limits (Unanswered cs ∷ events) new
     unanswered = record { kept = holds.kept ++ cs; are = inr (holds.kept, holds.are, refl); history = more_history; made = more_made }
 
--- an image that stands for the store's register
-stands_so : {A D : Type 0} (limits : Limits) (events : List (Event A)) (store : StoreView A D) (image : List (List ℕ)) → Holds A limits events store → StandsFor A store.register image → Lasts A limits events image
-stands_so {A} limits events store image holds stands = record { kept = holds.kept; are = holds.are; history = holds.history; stands = subst (λ (s : State). StandsFor A s image) holds.made stands }
+-- an image that opens to the store's register
+image_opens : {A D : Type 0} (limits : Limits) (events : List (Event A)) (store : StoreView A D) (image : List (List ℕ)) → LastsInStore A limits events store → OpensTo A store.register image → Lasts A limits events image
+image_opens {A} limits events store image lasts opens = record { kept = lasts.kept; are = lasts.are; history = lasts.history; reopens = subst (λ (s : State). OpensTo A s image) lasts.made opens }
 
 ok_is : (x y : Opening) → ◌≡◌ {A = Result Opening StoreFault} (Ok x) (Ok y) → x ≡ y
 ok_is x y e = cc
@@ -79,7 +79,7 @@ module _ {A D : Type 0} (view : D → View) (sound : (disk : D) → (view disk).
   -- and of a store
   abbrev Sound : List (Event A) → Phase A D → Type 0
   Sound events (Closed disk) = Unit {0}
-  Sound events (Open store) = store.broken ≡ false → IsStoredIn A view store × Holds A limits events store
+  Sound events (Open store) = store.broken ≡ false → IsStoredIn A view store × LastsInStore A limits events store
 
   record Invariant (events : List (Event A)) (phase : Phase A D) : Type 0 where
     here : Here events phase
@@ -103,15 +103,15 @@ module _ {A D : Type 0} (view : D → View) (sound : (disk : D) → (view disk).
       stored : IsStoredIn A view old
       stored = (is.store whole).0
 
-      holds : Holds A limits events old
+      holds : LastsInStore A limits events old
       holds = (is.store whole).1
 
-      leaves : LeavesOnly (view old.disk) (view new.disk) (StandsForEither A old.register new.register)
+      leaves : LeavesOnly (view old.disk) (view new.disk) (OpensToEither A old.register new.register)
       leaves = done.any_moment stored
 
-      one_of : (image : List (List ℕ)) → StandsForEither A old.register new.register image → Lasts A limits (Unanswered cs ∷ events) image
-      one_of image (inl before) = without limits events cs image (stands_so limits events old image holds before)
-      one_of image (inr later) = stands_so limits (Unanswered cs ∷ events) new image (unanswered limits events old new cs holds done.history done.made) later
+      one_of : (image : List (List ℕ)) → OpensToEither A old.register new.register image → Lasts A limits (Unanswered cs ∷ events) image
+      one_of image (inl before) = without limits events cs image (image_opens limits events old image holds before)
+      one_of image (inr later) = image_opens limits (Unanswered cs ∷ events) new image (unanswered limits events old new cs holds done.history done.made) later
 
       done_within : Within (Unanswered cs ∷ events) old.disk new.disk
       done_within image left = one_of image (leaves.each image left)
@@ -119,7 +119,7 @@ module _ {A D : Type 0} (view : D → View) (sound : (disk : D) → (view disk).
       done_after : InEach (view new.disk) (Lasts A limits (Unanswered cs ∷ events))
       done_after = since_now view sound old.disk new.disk (Lasts A limits (Unanswered cs ∷ events)) done.honest (record { later = leaves.later; each = done_within; before = λ t image le left. before_by image (leaves.before t image le left) })
         where
-          before_by : {P : Type 0} (image : List (List ℕ)) → P ⊎ StandsForEither A old.register new.register image → P ⊎ Lasts A limits (Unanswered cs ∷ events) image
+          before_by : {P : Type 0} (image : List (List ℕ)) → P ⊎ OpensToEither A old.register new.register image → P ⊎ Lasts A limits (Unanswered cs ∷ events) image
           before_by image (inl was) = inl was
           before_by image (inr now) = inr (one_of image now)
 
@@ -147,7 +147,7 @@ module _ {A D : Type 0} (view : D → View) (sound : (disk : D) → (view disk).
         record {
           here = record {
             honest = done.honest;
-            each = λ image here. stands_so limits (Answered cs ∷ events) new image held (stored_stands A new.layout new.side new.epoch new.journal new.register (view new.disk) kept.stored image here);
+            each = λ image here. image_opens limits (Answered cs ∷ events) new image held (stored_opens A new.layout new.side new.epoch new.journal new.register (view new.disk) kept.stored image here);
           };
           store = λ _. (kept, held);
         }
@@ -161,15 +161,15 @@ module _ {A D : Type 0} (view : D → View) (sound : (disk : D) → (view disk).
     left_after : (new : D) → (view new).honest → LeavesOnly (view old) (view new) (IsImageOf (view old)) → InEach (view new) (Lasts A limits (Answered [] ∷ events))
     left_after new honest leaves image here = with_nothing limits events image (is.here.each image (since_now view sound old new (IsImageOf (view old)) honest leaves image here))
 
-    opened_holds : (new : StoreView A D) → HasOpened A view old new → Holds A limits (Answered [] ∷ events) new
+    opened_holds : (new : StoreView A D) → HasOpened A view old new → LastsInStore A limits (Answered [] ∷ events) new
     opened_holds new has =
         let lasts = is.here.each (view old).reads (sound old is.here.honest).reads_left in
-        let same = ok_is (lasts.stands.opening) (opening new.layout new.side new.epoch new.journal.next new.register) (sym lasts.stands.opens ∙ has.opened) in
+        let same = ok_is (lasts.reopens.opening) (opening new.layout new.side new.epoch new.journal.next new.register) (sym lasts.reopens.opens ∙ has.opened) in
         record {
           kept = lasts.kept;
           are = (lasts.kept, lasts.are, sym (append-nil lasts.kept));
           history = lasts.history;
-          made = sym (ap (λ (o : Opening). o.state) same) ∙ lasts.stands.same;
+          made = sym (ap (λ (o : Opening). o.state) same) ∙ lasts.reopens.same;
         }
 
   -- ---- any call
@@ -213,14 +213,14 @@ module _ {A D : Type 0} (view : D → View) (sound : (disk : D) → (view disk).
   }
 
   lived : (events : List (Event A)) (phase : Phase A D) → IsLife A view limits events phase → Invariant events phase
-  lived events phase (begins disk honest each) = record { here = record { honest = honest; each = λ image here. record { kept = []; are = refl; history = tt; stands = each image here } }; store = tt }
+  lived events phase (begins disk honest each) = record { here = record { honest = honest; each = λ image here. record { kept = []; are = refl; history = tt; reopens = each image here } }; store = tt }
   lived events phase (goes_on before old new event life goes) = after_call before old new event (lived before old life) goes
   lived events phase (stops before old new event image disk life goes left is) = back (stopped event ∷ before) image disk is (within_call before old new event (lived before old life) goes image left)
 
   pub life_lasts : (events : List (Event A)) (phase : Phase A D) → IsLife A view limits events phase → InEach (view (disk_of phase)) (Lasts A limits events)
   life_lasts events phase life = (lived events phase life).here.each
 
-  pub life_holds : (events : List (Event A)) (store : StoreView A D) → IsLife A view limits events (Open store) → store.broken ≡ false → Holds A limits events store
+  pub life_holds : (events : List (Event A)) (store : StoreView A D) → IsLife A view limits events (Open store) → store.broken ≡ false → LastsInStore A limits events store
   life_holds events store life whole = ((lived events (Open store) life).store whole).1
 
 -- ---- the last place is honest
@@ -244,7 +244,7 @@ pub none_lost : {A : Type 0} (limits : Limits) (events : List (Event A)) (image 
 none_lost {A} limits events image is bs c cs m same makes =
     let history : IsHistory (empty limits) (bs ++ c ∷ cs) = subst (λ (l : List (Asked A)). IsHistory (empty limits) l) same is.history in
     none_lost_made_on_disk (empty limits) (empty_is_state limits) bs c cs m image (history-rest (empty limits) bs (c ∷ cs) history).0 makes
-    (subst (λ (l : List (Asked A)). StandsFor A (after (empty limits) l) image) same is.stands)
+    (subst (λ (l : List (Asked A)). OpensTo A (after (empty limits) l) image) same is.reopens)
 
 -- ---- a disk in memory that stops
 

@@ -13,7 +13,7 @@ use Rattle.centre_core.proofs.HistoryLaws.{counted_next}
 use Rattle.centre_core.proofs.StateLaws.{step_is_next}
 use Rattle.image_rows.specs.Rows.{last_epoch}
 use Rattle.gated_journal.specs.Record.{most_commands}
-use Rattle.desk.specs.declared.service.Service.{Service}
+use Rattle.desk.specs.declared.outage.Outage.{Outage}
 use Rattle.desk.specs.OfStore.{Refuses, StoreApplies, Stored}
 use Rattle.recovery.specs.declared.outcome.Outcome.TheVariants.{Replied}
 use Rattle.recovery.specs.declared.fault.StoreFault.{StoreFault}
@@ -89,30 +89,30 @@ module _ (failures later epoch now : ℕ) (was is : Bool) (before later_before s
   pub by_reply : {A B : Type 0} (c : Asked A) (reply : Reply B) → was ≡ false → is ≡ false → (t, reply) ≡ step s c → StoreApplies old c (Ok reply) new
   by_reply c reply sound still done = (sound, still, rw (sound, still) done)
 
-  abbrev pub Says : {A : Type 0} → Asked A → Service → Type 0
+  abbrev pub Says : {A : Type 0} → Asked A → Outage → Type 0
   Says c word = Refuses old c word new
 
-  -- a fault is told by its word
-  pub by_fault : {A : Type 0} (c : Asked A) (e : StoreFault) (word : Service) → IsOfDesk e → IsWordFor e word
+  -- a fault is stated by its word
+  pub by_fault : {A : Type 0} (c : Asked A) (e : StoreFault) (word : Outage) → IsOfDesk e → IsWordFor e word
       → (e ≡ fault.Broken → (was ≡ true) × (new ≡ old))
       → (e ≡ fault.NoMemory → (was ≡ false) × (is ≡ false) × (t ≡ s) × IsTrue (needs_memory s c))
       → (e ≡ fault.EpochsUsedUp → (was ≡ false) × (is ≡ false) × (last_epoch ≤ epoch) × (now ≡ epoch) × (later ≡ failures) × (t ≡ s))
       → (e ≡ fault.DiskFault → (was ≡ false) × (is ≡ true) × (later_before ≡ s) × ((failures < later) ⊎ (later ≡ 2 ^ 64 - 1)))
       → Says c word
-  by_fault c fault.Unformatted word of told broken memory epochs device = absurd of
-  by_fault c fault.BadGeometry word of told broken memory epochs device = absurd of
-  by_fault c (fault.Damaged at) word of told broken memory epochs device = absurd of
-  by_fault c fault.Unready word of told broken memory epochs device = absurd of
-  by_fault c fault.Broken word of told broken memory epochs device = subst (Says c) (sym told) (broken refl)
-  by_fault c fault.NoMemory word of told broken memory epochs device =
+  by_fault c fault.Unformatted word of reported broken memory epochs device = absurd of
+  by_fault c fault.BadGeometry word of reported broken memory epochs device = absurd of
+  by_fault c (fault.Damaged at) word of reported broken memory epochs device = absurd of
+  by_fault c fault.Unready word of reported broken memory epochs device = absurd of
+  by_fault c fault.Broken word of reported broken memory epochs device = subst (Says c) (sym reported) (broken refl)
+  by_fault c fault.NoMemory word of reported broken memory epochs device =
       let m = memory refl in
-      subst (Says c) (sym told) (m.0, m.1, rw (m.0, m.1) m.2, rw m.0 m.3)
-  by_fault c fault.EpochsUsedUp word of told broken memory epochs device =
+      subst (Says c) (sym reported) (m.0, m.1, rw (m.0, m.1) m.2, rw m.0 m.3)
+  by_fault c fault.EpochsUsedUp word of reported broken memory epochs device =
       let e = epochs refl in
-      subst (Says c) (sym told) (e.0, last_is epoch e.2, rw (e.0, e.1, e.3, e.4, e.5) refl)
-  by_fault c fault.DiskFault word of told broken memory epochs device =
+      subst (Says c) (sym reported) (e.0, last_is epoch e.2, rw (e.0, e.1, e.3, e.4, e.5) refl)
+  by_fault c fault.DiskFault word of reported broken memory epochs device =
       let d = device refl in
-      subst (Says c) (sym told) (d.0, d.1, rw (d.0, d.1) d.2, d.3)
+      subst (Says c) (sym reported) (d.0, d.1, rw (d.0, d.1) d.2, d.3)
 
 -- ---- after a checkpoint that was to make room
 

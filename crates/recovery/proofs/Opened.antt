@@ -1,4 +1,4 @@
--- What an image that stands opens to.
+-- What an image on a side opens to.
 use Rattle.std.proofs.Common.{◌≡◌, ◌⊎◌, inl, inr, ℕ, List, ◌++◌, length, Result, Ok, Err, refl, ap, ◌∙◌}
 use Rattle.sector_disk.specs.declared.record.Call.{Call}
 use Rattle.image_rows.specs.Rows.{rows_of}
@@ -9,13 +9,13 @@ use Rattle.centre_core.specs.Histories.{IsHistory}
 use Rattle.checkpoint.specs.declared.layout.Layout.{Layout}
 use Rattle.checkpoint.specs.declared.side.Side.{Side}
 use Rattle.checkpoint.specs.Layout.{half_at, half_end, slot_at}
-use Rattle.checkpoint.specs.Reading.{image_looks}
-use Rattle.checkpoint.specs.Standing.{Base, Held, IsInSlot, Stands, slot_form, slot_in}
+use Rattle.checkpoint.specs.Reading.{image_reads}
+use Rattle.checkpoint.specs.OnSide.{Base, Held, IsInSlot, IsOnSide, slot_form, slot_in}
 use Rattle.checkpoint.proofs.Apart.{lies}
-use Rattle.checkpoint.proofs.Epochs.{slot_tells}
+use Rattle.checkpoint.proofs.Epochs.{slot_has_epoch}
 use Rattle.recovery.specs.Opens.{base_in, opening, opens, opens_by, placed, played_by}
 use Rattle.recovery.specs.Opening.{AreGoodSoFar}
-use Rattle.recovery.specs.Standing.{commands_of}
+use Rattle.recovery.specs.OpensTo.{commands_of}
 use Rattle.recovery.proofs.Labelled.{label_read}
 use Rattle.recovery.proofs.Sided.{side_found}
 use Rattle.recovery.proofs.Played.{history_played}
@@ -24,8 +24,8 @@ base_found : (layout : Layout) (s : Side) (base : Base) (image : List (List ℕ)
 unfolding base_in
 base_found layout s base image is = ap (placed (slot_at layout s)) is
 
--- where memory was wanted behind the rows: the calls are those that read them, or the records are good too
-pub so_far : (A : Type 0) (layout : Layout) (s : Side) (base : Base) (image : List (List ℕ)) (old mid new : List Call) → base_in layout s image ≡ Ok base → mid ≡ old ++ image_looks (slot_at layout s) base
+-- where memory ran out after the rows: the calls are those that read them, or the records are good too
+pub so_far : (A : Type 0) (layout : Layout) (s : Side) (base : Base) (image : List (List ℕ)) (old mid new : List Call) → base_in layout s image ≡ Ok base → mid ≡ old ++ image_reads (slot_at layout s) base
     → (new ≡ mid) ⊎ HasRecords A (slot_form layout s image) base.1.count image (half_at layout s) (half_end layout s) → AreGoodSoFar A layout s image new
 unfolding base_in
 so_far A layout s base image old mid new rows calls (inr records) = inr (record { base = base; rows = rows; records = records })
@@ -41,13 +41,13 @@ so_far A layout s base image old mid new rows calls (inl none) = inl (record {
     no_bad (Err p) base place good bad = absurd cc
 
 module _ {A : Type 0} (layout : Layout) (s : Side) (form : Form) (base : Base) (held : Held A) (image : List (List ℕ)) where
-  by_side : Stands layout s form base held image → IsHistory base.1 (commands_of held.0) → opens_by A layout s image ≡ Ok (opening layout s base.0 held.1 (after base.1 (commands_of held.0)))
+  by_side : IsOnSide layout s form base held image → IsHistory base.1 (commands_of held.0) → opens_by A layout s image ≡ Ok (opening layout s base.0 held.1 (after base.1 (commands_of held.0)))
   unfolding opens_by played_by
-  by_side stands history = rw (base_found layout s base image stands.slot) (rw (stands.form_is, stands.half) (rw (history_played base.1 held.0 history) refl))
+  by_side holds history = rw (base_found layout s base image holds.slot) (rw (holds.form_is, holds.half) (rw (history_played base.1 held.0 history) refl))
 
-  pub standing_opens : Stands layout s form base held image → IsHistory base.1 (commands_of held.0) → opens A image ≡ Ok (opening layout s base.0 held.1 (after base.1 (commands_of held.0)))
+  pub side_opens : IsOnSide layout s form base held image → IsHistory base.1 (commands_of held.0) → opens A image ≡ Ok (opening layout s base.0 held.1 (after base.1 (commands_of held.0)))
   unfolding opens
-  standing_opens stands history =
+  side_opens holds history =
       let places = lies layout s in
-      rw (label_read layout image stands.label stands.room)
-      (rw (side_found layout s base.0 image stands.root (slot_tells layout s base image places.some stands.slot) stands.below) (by_side stands history))
+      rw (label_read layout image holds.label holds.room)
+      (rw (side_found layout s base.0 image holds.root (slot_has_epoch layout s base image places.some holds.slot) holds.below) (by_side holds history))

@@ -7,7 +7,7 @@ use Rattle.centre_core.specs.Histories.{IsHistory}
 use Rattle.centre_core.proofs.InTurnLaws.{after-append}
 use Rattle.gated_journal.specs.Half.{Entry}
 use Rattle.recovery.specs.Opens.{played, run}
-use Rattle.recovery.specs.Standing.{commands_of}
+use Rattle.recovery.specs.OpensTo.{commands_of}
 
 module _ {A : Type 0} where
   -- of two histories, one after the other

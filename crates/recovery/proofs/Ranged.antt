@@ -18,15 +18,15 @@ use Rattle.centre_core.proofs.StateLaws.{next_is_state}
 use Rattle.registration.specs.declared.limits.Limits.{Limits}
 use Rattle.image_rows.proofs.Images.{image_is_spelt}
 use Rattle.gated_journal.specs.declared.form.Form.{Form}
-use Rattle.gated_journal.specs.Half.{Entry, Half, data_from, half_from, half_on, record_at, told_size, with_front}
+use Rattle.gated_journal.specs.Half.{Entry, Half, data_from, half_from, half_on, record_at, stated_size, with_prefix}
 use Rattle.gated_journal.proofs.Halves.{opened}
 use Rattle.gated_journal.proofs.Listed.{record_taken}
 use Rattle.checkpoint.specs.Layout.{half_at, half_end, slot_at, slot_size}
-use Rattle.checkpoint.specs.Standing.{sectors_from, slot_form}
+use Rattle.checkpoint.specs.OnSide.{sectors_from, slot_form}
 use Rattle.recovery.specs.Opens.{Opening, opens}
-use Rattle.recovery.specs.Standing.{IsRanged, commands_of}
+use Rattle.recovery.specs.OpensTo.{IsRanged, commands_of}
 use Rattle.recovery.proofs.Limited.{step_limits}
-use Rattle.recovery.proofs.Stood.{behind}
+use Rattle.recovery.proofs.FromOpening.{following}
 
 -- ---- bytes
 
@@ -34,9 +34,9 @@ no_bytes : AreBytes []
 no_bytes i = omega arith
 
 more_bytes : (xs ys : List ℕ) → AreBytes xs → AreBytes ys → AreBytes (xs ++ ys)
-more_bytes xs ys front back = λ i.
+more_bytes xs ys prefix back = λ i.
     elim (cases_lt i (length xs)) [
-      | inl lt ↦ rw (get_or-append xs ys 0 i lt) (front i)
+      | inl lt ↦ rw (get_or-append xs ys 0 i lt) (prefix i)
       | inr le ↦ rw (get_or-append_right xs ys i 0 le) (back (i - length xs))
     ]
 
@@ -64,7 +64,7 @@ module _ (image : List (List ℕ)) (are : AreSectors image) where
     abbrev Mine : Entry A → Type 0
     Mine entry = All IsCommand entry.1
 
-    entries_is : (entry : Entry A) (half : Half A) (entries : List (Entry A)) (gate : ℕ) → with_front (entry ∷ []) half ≡ Ok (entries, gate) → (rest : List (Entry A)) × (half ≡ Ok (rest, gate)) × (entries ≡ entry ∷ rest)
+    entries_is : (entry : Entry A) (half : Half A) (entries : List (Entry A)) (gate : ℕ) → with_prefix (entry ∷ []) half ≡ Ok (entries, gate) → (rest : List (Entry A)) × (half ≡ Ok (rest, gate)) × (entries ≡ entry ∷ rest)
     entries_is entry (Ok half) entries gate e =
         let pair : ◌≡◌ {A = List (Entry A) × ℕ} (entry ∷ half.0, half.1) (entries, gate) = cc in
         (half.0, ap (λ (x : List (Entry A) × ℕ). Ok (half.0, x.1)) pair, sym (ap (λ (x : List (Entry A) × ℕ). x.0) pair))
@@ -91,7 +91,7 @@ module _ (image : List (List ℕ)) (are : AreSectors image) where
         on go (Some x) is f =
             let rest = entries_is (at + 1, x.0) (half_from fuel form (before + length x.0) image x.1 end) entries gate f in
             let there = opened form before image at end x is in
-            let fit = (record_taken form before (data_from image (at + 1) (told_size form (sector image (at + 1)))) x.0 (data_bytes (told_size form (sector image (at + 1))) (at + 1)) there.read).fit in
+            let fit = (record_taken form before (data_from image (at + 1) (stated_size form (sector image (at + 1)))) x.0 (data_bytes (stated_size form (sector image (at + 1))) (at + 1)) there.read).fit in
             subst (All Mine) (sym rest.2) (All-cons Mine (at + 1, x.0) rest.0 fit.each (go x rest.0 rest.1))
 
 -- ---- the state after them
@@ -115,7 +115,7 @@ module _ {A : Type 0} where
 
 pub opens_ranged : (A : Type 0) (o : Opening) (image : List (List ℕ)) → AreSectors image → opens A image ≡ Ok o → IsRanged o.layout.limits o.state
 opens_ranged A o image are e =
-    let is = behind A o image e in
+    let is = following A o image e in
     let first = half_at o.layout o.side in
     let end = half_end o.layout o.side in
     let base = image_is_spelt o.layout.limits (sectors_from image (slot_at o.layout o.side) (slot_size o.layout)) o.epoch is.base (slot_bytes image are (slot_size o.layout) (slot_at o.layout o.side)) is.slot in

@@ -30,55 +30,55 @@ use Rattle.gated_journal.proofs.Chain.{half_below}
 use Rattle.checkpoint.specs.declared.layout.Layout.{Layout}
 use Rattle.checkpoint.specs.declared.side.Side.{Side}
 use Rattle.checkpoint.specs.Layout.{half_at, half_end, other_of}
-use Rattle.checkpoint.specs.Standing.{Base, Held, InEach, IsEither, Stands, fresh}
-use Rattle.checkpoint.proofs.Added.{stands_with}
+use Rattle.checkpoint.specs.OnSide.{Base, Held, InEach, IsEither, IsOnSide, fresh}
+use Rattle.checkpoint.proofs.Added.{on_side_with}
 use Rattle.checkpoint.proofs.Spared.{left_each}
 use Rattle.recovery.specs.Stored.{IsStored, fresh_place}
 use Rattle.recovery.specs.Opens.{opening}
 use Rattle.recovery.specs.declared.outcome.Outcome.{Outcome}
-use Rattle.recovery.specs.Outcomes.{IsAfterBatch, IsAnswered, IsEnd, StandsForEither, asked}
-use Rattle.recovery.specs.Standing.{StandsFor, commands_of}
-use Rattle.recovery.proofs.Opened.{standing_opens}
+use Rattle.recovery.specs.Outcomes.{IsAfterBatch, IsAnswered, IsEnd, OpensToEither, asked}
+use Rattle.recovery.specs.OpensTo.{OpensTo, commands_of}
+use Rattle.recovery.proofs.Opened.{side_opens}
 
--- ---- what stands is stood for
+-- ---- what is is opened to
 
-pub stands_for : (A : Type 0) (layout : Layout) (side : Side) (form : Form) (base : Base) (held : Held A) (s : State) (image : List (List ℕ)) → Stands layout side form base held image → IsHistory base.1 (commands_of held.0) → s ≡ after base.1 (commands_of held.0) → StandsFor A s image
-stands_for A layout side form base held s image stands history made = record {
+pub state_opens : (A : Type 0) (layout : Layout) (side : Side) (form : Form) (base : Base) (held : Held A) (s : State) (image : List (List ℕ)) → IsOnSide layout side form base held image → IsHistory base.1 (commands_of held.0) → s ≡ after base.1 (commands_of held.0) → OpensTo A s image
+state_opens A layout side form base held s image holds history made = record {
   opening = opening layout side base.0 held.1 (after base.1 (commands_of held.0));
-  opens = standing_opens layout side form base held image stands history;
+  opens = side_opens layout side form base held image holds history;
   same = sym made;
 }
 
 module _ (A : Type 0) (layout : Layout) (side : Side) (epoch : ℕ) (journal : Place) (s : State) (disk : View) (stored : IsStored A layout side epoch journal s disk) where
-  pub stored_stands : InEach disk (StandsFor A s)
-  stored_stands image is = stands_for A layout side journal.form (epoch, stored.base) (stored.entries, journal.next) s image (stored.each image is) stored.accepted stored.made
+  pub stored_opens : InEach disk (OpensTo A s)
+  stored_opens image is = state_opens A layout side journal.form (epoch, stored.base) (stored.entries, journal.next) s image (stored.each image is) stored.accepted stored.made
 
-  pub nothing_done : IsSound disk → LeavesOnly disk disk (StandsFor A s)
-  nothing_done sound = started disk (StandsFor A s) sound stored_stands
+  pub nothing_done : IsSound disk → LeavesOnly disk disk (OpensTo A s)
+  nothing_done sound = started disk (OpensTo A s) sound stored_opens
 
   -- ---- a checkpoint
 
-  -- the image stands by the old side, or by the other one with no record
+  -- the image is on the old side, or by the other one with no record
   abbrev Either : List (List ℕ) → Type 0
   Either = IsEither layout side journal.form Numbered (epoch, stored.base) (epoch + 1, s) (stored.entries, journal.next) (fresh layout (other_of side))
 
-  either_stands : (image : List (List ℕ)) → Either image → StandsFor A s image
-  either_stands image (inl old) = stands_for A layout side journal.form (epoch, stored.base) (stored.entries, journal.next) s image old stored.accepted stored.made
-  either_stands image (inr new) = stands_for A layout (other_of side) Numbered (epoch + 1, s) (fresh layout (other_of side)) s image new tt refl
+  either_opens : (image : List (List ℕ)) → Either image → OpensTo A s image
+  either_opens image (inl old) = state_opens A layout side journal.form (epoch, stored.base) (stored.entries, journal.next) s image old stored.accepted stored.made
+  either_opens image (inr new) = state_opens A layout (other_of side) Numbered (epoch + 1, s) (fresh layout (other_of side)) s image new tt refl
 
-  pub in_checkpoint : (new : View) → LeavesOnly disk new Either → LeavesOnly disk new (StandsFor A s)
-  in_checkpoint new leaves = weaker disk new Either (StandsFor A s) leaves either_stands
+  pub in_checkpoint : (new : View) → LeavesOnly disk new Either → LeavesOnly disk new (OpensTo A s)
+  in_checkpoint new leaves = weaker disk new Either (OpensTo A s) leaves either_opens
 
 -- the image is written, and then the side switched to
-module _ {A : Type 0} (layout : Layout) (current : Side) (form also : Form) (base next : Base) (held more : Held A) (old mid : View) (written : LeavesOnly old mid (Stands layout current form base held)) where
+module _ {A : Type 0} (layout : Layout) (current : Side) (form also : Form) (base next : Base) (held more : Held A) (old mid : View) (written : LeavesOnly old mid (IsOnSide layout current form base held)) where
   pub not_switched : LeavesOnly old mid (IsEither layout current form also base next held more)
-  not_switched = weaker old mid (Stands layout current form base held) (IsEither layout current form also base next held more) written (λ image is. inl is)
+  not_switched = weaker old mid (IsOnSide layout current form base held) (IsEither layout current form also base next held more) written (λ image is. inl is)
 
   pub then_switched : (new : View) → LeavesOnly mid new (IsEither layout current form also base next held more) → LeavesOnly old new (IsEither layout current form also base next held more)
   then_switched new switched = run_on old mid new (IsEither layout current form also base next held more) (IsEither layout current form also base next held more) not_switched switched (λ image is. is)
 
--- where all images stand by a side with no record, the register is stored there
-pub stored_fresh : (A : Type 0) (layout : Layout) (side : Side) (epoch : ℕ) (s : State) (disk : View) → InEach disk (Stands {A = A} layout side Numbered (epoch, s) (fresh layout side)) → IsStored A layout side epoch (fresh_place layout side s.count) s disk
+-- where all images are on a side with no record, the register is stored there
+pub stored_fresh : (A : Type 0) (layout : Layout) (side : Side) (epoch : ℕ) (s : State) (disk : View) → InEach disk (IsOnSide {A = A} layout side Numbered (epoch, s) (fresh layout side)) → IsStored A layout side epoch (fresh_place layout side s.count) s disk
 stored_fresh A layout side epoch s disk each = record { base = s; entries = []; each = each; accepted = tt; made = refl; counts = refl }
 
 -- ---- commands that are given
@@ -135,31 +135,31 @@ module _ (A : Type 0) (layout : Layout) (side : Side) (epoch : ℕ) (place : Pla
     all_made = ap (λ (t : State). after t more) stored.made ∙ sym (after-append stored.base (commands_of stored.entries) more) ∙ ap (after stored.base) (sym all)
 
     -- an image in which nothing but the half has changed
-    stands_so : (entries : List (Entry A)) (gate : ℕ) (image : List (List ℕ)) → Leaves disk place stored.base.count stored.entries last image → half_of place.form stored.base.count image place.first place.end ≡ Ok (entries, gate) → Stands layout side place.form (epoch, stored.base) (entries, gate) image
-    stands_so entries gate image leaves half =
+    image_opens : (entries : List (Entry A)) (gate : ℕ) (image : List (List ℕ)) → Leaves disk place stored.base.count stored.entries last image → half_of place.form stored.base.count image place.first place.end ≡ Ok (entries, gate) → IsOnSide layout side place.form (epoch, stored.base) (entries, gate) image
+    image_opens entries gate image leaves half =
         let was = leaves.elsewhere.0 in
         let torn : IsTorn (half_at layout side) layout.journal was image = record {
           count = leaves.elsewhere.2.count;
           others = λ k out. leaves.elsewhere.2.others k (elim out [ inl low ↦ inl (omega (arith, first_is, low)) | inr high ↦ inr (omega (arith, first_is, end_is, high)) ]);
         } in
         let there : half_of place.form stored.base.count image (half_at layout side) (half_end layout side) ≡ Ok (entries, gate) = rw (first_is, end_is) at half in
-        stands_with layout side place.form (epoch, stored.base) (stored.entries, place.next) (entries, gate) was image (stored.each was leaves.elsewhere.1) torn there (half_below place.form stored.base.count image (half_at layout side) (half_end layout side) entries gate some there)
+        on_side_with layout side place.form (epoch, stored.base) (stored.entries, place.next) (entries, gate) was image (stored.each was leaves.elsewhere.1) torn there (half_below place.form stored.base.count image (half_at layout side) (half_end layout side) entries gate some there)
 
-    left_either : (image : List (List ℕ)) → Leaves disk place stored.base.count stored.entries last image → StandsForEither A s (after s more) image
+    left_either : (image : List (List ℕ)) → Leaves disk place stored.base.count stored.entries last image → OpensToEither A s (after s more) image
     left_either image leaves = elim (leaves.half) [
-      | inl without ↦ inl (stands_for A layout side place.form (epoch, stored.base) (stored.entries, without.0) s image (stands_so stored.entries without.0 image leaves without.1) stored.accepted stored.made)
-      | inr with ↦ inr (stands_for A layout side place.form (epoch, stored.base) (longer, with.0) (after s more) image (stands_so longer with.0 image leaves with.1) all_accepted all_made)
+      | inl without ↦ inl (state_opens A layout side place.form (epoch, stored.base) (stored.entries, without.0) s image (image_opens stored.entries without.0 image leaves without.1) stored.accepted stored.made)
+      | inr with ↦ inr (state_opens A layout side place.form (epoch, stored.base) (longer, with.0) (after s more) image (image_opens longer with.0 image leaves with.1) all_accepted all_made)
     ]
 
-    pub in_append : (new : View) → LeavesOnly disk new (Leaves disk place stored.base.count stored.entries last) → LeavesOnly disk new (StandsForEither A s (after s more))
-    in_append new leaves = weaker disk new (Leaves disk place stored.base.count stored.entries last) (StandsForEither A s (after s more)) leaves left_either
+    pub in_append : (new : View) → LeavesOnly disk new (Leaves disk place stored.base.count stored.entries last) → LeavesOnly disk new (OpensToEither A s (after s more))
+    in_append new leaves = weaker disk new (Leaves disk place stored.base.count stored.entries last) (OpensToEither A s (after s more)) leaves left_either
 
     pub stored_more : (new : View) (now : Place) → now.first ≡ place.first → now.end ≡ place.end → now.form ≡ place.form → now.count ≡ place.count + length more
         → LeavesOnly disk new (Leaves disk place stored.base.count stored.entries last) → IsSound new → IsSettled new now stored.base.count longer → IsStored A layout side epoch now (after s more) new
     stored_more new now first end form count leaves sound is = record {
       base = stored.base;
       entries = longer;
-      each = λ image left. rw form (stands_so longer now.next image (left_each disk new (Leaves disk place stored.base.count stored.entries last) leaves sound image left) (rw (first, end, form) at (is.half image left)));
+      each = λ image left. rw form (image_opens longer now.next image (left_each disk new (Leaves disk place stored.base.count stored.entries last) leaves sound image left) (rw (first, end, form) at (is.half image left)));
       accepted = all_accepted;
       made = all_made;
       counts = omega (arith, count, stored.counts, numbers.counted s more history);
@@ -170,8 +170,8 @@ module _ (A : Type 0) (layout : Layout) (side : Side) (epoch : ℕ) (place : Pla
     abbrev Left : List (List ℕ) → Type 0
     Left = Leaves disk place stored.base.count stored.entries (place.next + 1, given A cs)
 
-    pub append_leaves : (new : View) → LeavesOnly disk new Left → LeavesOnly disk new (StandsForEither A s (after s (asked cs)))
-    append_leaves new leaves = subst (λ (t : State). LeavesOnly disk new (StandsForEither A s t)) (given_after A s cs) (in_append (given A cs) (given_history A s cs history) new leaves)
+    pub append_leaves : (new : View) → LeavesOnly disk new Left → LeavesOnly disk new (OpensToEither A s (after s (asked cs)))
+    append_leaves new leaves = subst (λ (t : State). LeavesOnly disk new (OpensToEither A s t)) (given_after A s cs) (in_append (given A cs) (given_history A s cs history) new leaves)
 
     pub stored_append : (new : View) (now : Place) → now.first ≡ place.first → now.end ≡ place.end → now.form ≡ place.form → now.count ≡ place.count + length cs
         → LeavesOnly disk new Left → IsSound new → IsSettled new now stored.base.count (stored.entries ++ (place.next + 1, given A cs) ∷ []) → IsStored A layout side epoch now (after s (asked cs)) new
@@ -181,11 +181,11 @@ module _ (A : Type 0) (layout : Layout) (side : Side) (epoch : ℕ) (place : Pla
 
 -- ---- one part of a commit after another
 
-pub only_before : (A : Type 0) (s t : State) (old new : View) → LeavesOnly old new (StandsFor A s) → LeavesOnly old new (StandsForEither A s t)
-only_before A s t old new leaves = weaker old new (StandsFor A s) (StandsForEither A s t) leaves (λ image is. inl is)
+pub only_before : (A : Type 0) (s t : State) (old new : View) → LeavesOnly old new (OpensTo A s) → LeavesOnly old new (OpensToEither A s t)
+only_before A s t old new leaves = weaker old new (OpensTo A s) (OpensToEither A s t) leaves (λ image is. inl is)
 
-pub then_either : (A : Type 0) (s t : State) (old mid new : View) → LeavesOnly old mid (StandsFor A s) → LeavesOnly mid new (StandsForEither A s t) → LeavesOnly old new (StandsForEither A s t)
-then_either A s t old mid new first second = run_on old mid new (StandsForEither A s t) (StandsForEither A s t) (only_before A s t old mid first) second (λ image is. is)
+pub then_either : (A : Type 0) (s t : State) (old mid new : View) → LeavesOnly old mid (OpensTo A s) → LeavesOnly mid new (OpensToEither A s t) → LeavesOnly old new (OpensToEither A s t)
+then_either A s t old mid new first second = run_on old mid new (OpensToEither A s t) (OpensToEither A s t) (only_before A s t old mid first) second (λ image is. is)
 
 -- a record takes one data sector at least
 head_some : (form : Form) → 1 ≤ head_len form
@@ -195,7 +195,7 @@ head_some Numbered = omega arith
 pub some_sectors : {B : Type 0} (A : Type 0) (place : Place) (cs : List (Bor (Asked B))) → 1 ≤ data_size (text_at A place cs)
 some_sectors A place cs = omega (arith, given_size A place.form place.count cs, head_some place.form)
 
--- the greatest one fits behind a new image
+-- the greatest one fits after a new image
 pub fits_fresh : {T E B : Type 0} (A : Type 0) (r : Result T E) (layout : Layout) (side : Side) (count : ℕ) (now : Place) (cs : List (Bor (Asked B))) → ((form : Form) (before : ℕ) → data_size (record_text form before (given A cs)) ≤ most_sectors)
     → OnOk r (now ≡ fresh_place layout side count) → OnOk r (data_size (text_at A now cs) ≤ room_of now)
 fits_fresh A (Ok t) layout side count now cs most is =

@@ -1,5 +1,5 @@
 -- The calls of the disk that a format, a checkpoint and a commit make.
-use Rattle.std.specs.Prelude.{◌+◌, Bool, true, false, List, [], ◌∷◌, ◌++◌, Option, None, Some, nat_le}
+use Rattle.std.specs.Prelude.{◌+◌, ◌<◌, Bool, true, false, List, [], ◌∷◌, ◌++◌, Option, None, Some, nat_le}
 use Rattle.std.specs.Borrow.{Bor}
 use Rattle.identity.specs.Numbers.{Byte}
 use Rattle.sector_disk.specs.declared.record.Call.{Call}
@@ -21,7 +21,7 @@ use Rattle.checkpoint.specs.declared.side.Side.{Side}
 use Rattle.checkpoint.specs.declared.side.Side.TheVariants as side
 use Rattle.checkpoint.specs.Label.{label_text}
 use Rattle.checkpoint.specs.Layout.{half_at, label_at, other_of, root_at, slot_at}
-use Rattle.recovery.specs.declared.beside.Beside.{Beside}
+use Rattle.recovery.specs.declared.ongoing.Ongoing.{Ongoing}
 use Rattle.recovery.specs.UnderWay.{ends_with}
 
 -- the sector of the one row that an empty register has, of epoch 1
@@ -53,38 +53,49 @@ format_calls layout = side_calls layout ++ Write label_at (label_sector layout) 
 abbrev pub fits_in : {B : Type 0} (A : Type 0) → Place → List (Bor (Asked B)) → Bool
 fits_in A place commands = nat_le (data_size (text_at A place commands)) (room_of place)
 
--- these commands as one record at the next gate, and, where a checkpoint is under way, at that of the other half too; of none nothing
-abbrev pub record_calls : {A : Type 0} → Place → Option (Beside A) → List (Asked A) → List Call
-record_calls place beside [] = []
+-- a record of all these commands does not fit
+abbrev pub LacksRoom : {B : Type 0} (A : Type 0) → Place → List (Bor (Asked B)) → Type 0
+LacksRoom A place commands = room_of place < data_size (text_at A place commands)
+
+-- These commands as one record at the next gate, and at that of the other half too if a checkpoint is under way. Without
+-- commands there is no record.
+abbrev pub record_calls : {A : Type 0} → Place → Option (Ongoing A) → List (Asked A) → List Call
+record_calls place ongoing [] = []
 record_calls place None (c ∷ cs) = append_calls place.next (record_text place.form place.count (c ∷ cs))
-record_calls place (Some it) (c ∷ cs) = append_both_calls place.next (record_text place.form place.count (c ∷ cs)) it.journal.next (record_text it.journal.form it.journal.count (c ∷ cs))
+record_calls place (Some it) (c ∷ cs) =
+    append_both_calls place.next (record_text place.form place.count (c ∷ cs))
+    it.journal.next (record_text it.journal.form it.journal.count (c ∷ cs))
+
+-- these commands as one record at the next gate of each of two places
+abbrev pub both_calls : {B : Type 0} (A : Type 0) → Place → Place → List (Bor (Asked B)) → List Call
+both_calls A x y commands = append_both_calls x.next (text_at A x commands) y.next (text_at A y commands)
 
 module _ (layout : Layout) (side : Side) where
   module _ (epoch : Epoch) where
-    -- the side of the image whose last row is written is made to count
+    -- after the last row of the image its side is made to count
     abbrev pub end_calls : Bool → List Call
     end_calls true = Sync ∷ switch_calls (other_of side)
     end_calls false = []
 
-    -- of a checkpoint under way the next rows are written
-    abbrev pub rows_calls : {A : Type 0} → Beside A → List Call
+    -- the next rows of a checkpoint that is under way are written
+    abbrev pub rows_calls : {A : Type 0} → Ongoing A → List Call
     rows_calls it = next_calls layout (other_of side) (epoch + 1, it.register) it.progress.written
 
-    -- behind a record: of a checkpoint under way the next rows, and where they end the image, the switch; else, where one
-    -- begins, the other side is closed, whose root was read as open or closed
-    abbrev pub beside_calls : {A : Type 0} → Option (Beside A) → Bool → Bool → List Call
-    beside_calls (Some it) begins was_open = rows_calls it ++ end_calls (ends_with (epoch + 1) it.register it.progress.written)
-    beside_calls None true was_open = close_calls_by layout (other_of side) was_open
-    beside_calls None false was_open = []
+    -- After a record: the next rows of a checkpoint that is under way, and the switch if they end the image. If one begins, the
+    -- other side is closed, whose root was read as open or closed.
+    abbrev pub ongoing_calls : {A : Type 0} → Option (Ongoing A) → Bool → Bool → List Call
+    ongoing_calls (Some it) begins was_open = rows_calls it ++ end_calls (ends_with (epoch + 1) it.register it.progress.written)
+    ongoing_calls None true was_open = close_calls_by layout (other_of side) was_open
+    ongoing_calls None false was_open = []
 
-    -- those of a commit that keeps these commands, where a record of them fits; of none nothing
-    abbrev pub commit_calls_by : {A : Type 0} → Place → Option (Beside A) → List (Asked A) → Bool → Bool → List Call
-    commit_calls_by place beside [] begins was_open = []
-    commit_calls_by place beside (c ∷ cs) begins was_open = record_calls place beside (c ∷ cs) ++ beside_calls beside begins was_open
+    -- those of a commit that keeps these commands, if a record of them fits; without commands there are none
+    abbrev pub commit_calls_by : {A : Type 0} → Place → Option (Ongoing A) → List (Asked A) → Bool → Bool → List Call
+    commit_calls_by place ongoing [] begins was_open = []
+    commit_calls_by place ongoing (c ∷ cs) begins was_open = record_calls place ongoing (c ∷ cs) ++ ongoing_calls ongoing begins was_open
 
     -- the same, by what the other side's root reads as
-    abbrev pub commit_calls : {A : Type 0} → Place → Option (Beside A) → List (Asked A) → Bool → List (List Byte) → List Call
-    commit_calls place beside accepted begins reads = commit_calls_by place beside accepted begins (is_root_open (other_of side) reads)
+    abbrev pub commit_calls : {A : Type 0} → Place → Option (Ongoing A) → List (Asked A) → Bool → List (List Byte) → List Call
+    commit_calls place ongoing accepted begins reads = commit_calls_by place ongoing accepted begins (is_root_open (other_of side) reads)
 
   module _ (epoch : Epoch) (state : State) where
     -- the register's image is written to the other side, whose root was read as open or closed, with the next epoch, and
@@ -96,7 +107,7 @@ module _ (layout : Layout) (side : Side) where
     abbrev pub checkpoint_calls : List (List Byte) → List Call
     checkpoint_calls reads = checkpoint_calls_by (is_root_open (other_of side) reads)
 
-    -- where the record fits none, else those of a checkpoint
+    -- none if the record fits, else those of a checkpoint
     abbrev pub room_calls_by : Bool → Bool → List Call
     room_calls_by was_open true = []
     room_calls_by was_open false = checkpoint_calls_by was_open

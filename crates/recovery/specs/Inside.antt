@@ -1,2 +1,4 @@
+pub mod BothHalves
 pub mod Opened
 pub mod Sides
+pub mod Filled

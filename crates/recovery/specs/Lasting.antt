@@ -8,25 +8,27 @@ use Rattle.centre_core.specs.Asked.{Asked}
 use Rattle.centre_core.specs.State.{IsState, State}
 use Rattle.centre_core.specs.History.{accepts, after, ended, made, next}
 use Rattle.recovery.specs.Opens.{Opening, opens}
-use Rattle.recovery.specs.Standing.{StandsFor}
+use Rattle.recovery.specs.OpensTo.{OpensTo}
 
 -- the register of the opening lacks the message
 abbrev pub Lacks : Opening → Item → Type 0
 Lacks opening m = ¬ Contains opening.state.mail.items m
 
 module _ (A : Type 0) where
-  -- the image is opened, and the message is lacking exactly where one of these commands, from this state on, is accepted and ends it
+  -- if the image opens, the message is missing exactly if one of these commands, from this state on, is accepted and ends it
   abbrev pub LacksWhereEnded : List (List Byte) → Item → State → List (Asked A) → Type 0
   LacksWhereEnded image m s cs = IfOk (opens A image) (λ opening. Lacks opening m ↔ IsTrue (ended s cs m))
 
-  -- A message waits in a state, and an image stands for what commands made of that state: opened, it lacks the message exactly
-  -- where one of the commands is accepted and ends it.
+  -- A message waits in a state, and an image opens to the state after some commands. Then the message is missing in it exactly if
+  -- one of the commands is accepted and ends it.
   abbrev pub NoneLostOnDisk : Type 0
   NoneLostOnDisk =
-      (s : State) → IsState s → (cs : List (Asked A)) (m : Item) (image : List (List Byte)) → IsTrue (is_message m) → Contains s.mail.items m → StandsFor A (after s cs) image → LacksWhereEnded image m s cs
+      (s : State) → IsState s → (cs : List (Asked A)) (m : Item) (image : List (List Byte)) → IsTrue (is_message m)
+      → Contains s.mail.items m → OpensTo A (after s cs) image → LacksWhereEnded image m s cs
 
-  -- So too of a message that an accepted command makes: exactly where a later command is accepted and ends it.
+  -- The same of a message that an accepted command makes: it is missing exactly if a later command is accepted and ends it.
   abbrev pub NoneLostMadeOnDisk : Type 0
   NoneLostMadeOnDisk =
-      (s : State) → IsState s → (bs : List (Asked A)) (c : Asked A) (cs : List (Asked A)) (m : Item) (image : List (List Byte)) → IsTrue (accepts (after s bs) c) → Contains (made (after s bs) c) m
-      → StandsFor A (after s (bs ++ c ∷ cs)) image → LacksWhereEnded image m (next (after s bs) c) cs
+      (s : State) → IsState s → (bs : List (Asked A)) (c : Asked A) (cs : List (Asked A)) (m : Item) (image : List (List Byte))
+      → IsTrue (accepts (after s bs) c) → Contains (made (after s bs) c) m
+      → OpensTo A (after s (bs ++ c ∷ cs)) image → LacksWhereEnded image m (next (after s bs) c) cs

@@ -2,8 +2,9 @@ pub mod Ranges
 pub mod Label
 pub mod Opens
 pub mod Opening
-pub mod Standing
+pub mod OpensTo
 pub mod Calls
+pub mod FormatWith
 pub mod Stored
 pub mod Outcomes
 pub mod Refusals
@@ -11,5 +12,6 @@ pub mod Serving
 pub mod Lasting
 pub mod Lives
 pub mod Inside
-pub mod GoneOn
+pub mod AfterCommit
+pub mod Commits
 pub mod UnderWay

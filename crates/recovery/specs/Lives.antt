@@ -18,26 +18,26 @@ use Rattle.image_rows.specs.Numbers.{Epoch}
 use Rattle.gated_journal.specs.declared.place.Place.{Place}
 use Rattle.checkpoint.specs.declared.layout.Layout.{Layout}
 use Rattle.checkpoint.specs.declared.side.Side.{Side}
-use Rattle.checkpoint.specs.Standing.{InEach}
+use Rattle.checkpoint.specs.OnSide.{InEach}
 use Rattle.recovery.specs.Opens.{opening, opens}
-use Rattle.recovery.specs.Standing.{StandsFor}
+use Rattle.recovery.specs.OpensTo.{OpensTo}
 use Rattle.recovery.specs.UnderWay.{IsKept}
 use Rattle.recovery.specs.Lasting.{LacksWhereEnded}
-use Rattle.recovery.specs.Outcomes.{AreRecorded, StandsForEither}
-use Rattle.recovery.specs.declared.beside.Beside.{Beside}
+use Rattle.recovery.specs.Outcomes.{AreRecorded, OpensToEither}
+use Rattle.recovery.specs.declared.ongoing.Ongoing.{Ongoing}
 use Rattle.recovery.specs.declared.store.Store.{Store}
 use Rattle.recovery.specs.declared.outcome.Outcome.{Outcome}
 use Rattle.recovery.specs.declared.outcome.Outcome.TheVariants.{NoMemory, Replied}
 
 -- ---- where the disk is
 
--- a store as contracts see it, with its disk; under the allocator A its journals take their memory
+-- the model of a store with its disk; its journals take their memory under the allocator A
 pub record StoreView (A D : Type 0) : Type 0 where
   pub layout : Layout
   pub side : Side
   pub epoch : Epoch
   pub journal : Place
-  pub beside : Option (Beside A)
+  pub ongoing : Option (Ongoing A)
   pub register : State
   pub broken : Bool
   pub disk : D
@@ -52,13 +52,34 @@ abbrev pub disk_of : {A D : Type 0} → Phase A D → D
 disk_of (Closed disk) = disk
 disk_of (Open store) = store.disk
 
--- a store, as contracts see it
+-- the model of a store
 abbrev pub view_of : {A D : Type 0} {g : Ghosts D} → Store A D g → StoreView A D
-view_of store = record { layout = store.layout; side = store.side; epoch = store.epoch; journal = store.journal; beside = store.beside; register = store.register; broken = store.broken; disk = store.disk }
+view_of store = record {
+  layout = store.layout;
+  side = store.side;
+  epoch = store.epoch;
+  journal = store.journal;
+  ongoing = store.ongoing;
+  register = store.register;
+  broken = store.broken;
+  disk = store.disk;
+}
+
+-- what is the same before and after a call
+module _ {A D : Type 0} {g : Ghosts D} (old new : Store A D g) where
+  -- the register, and the one from before the call
+  abbrev pub HasSameRegister : Type 0
+  HasSameRegister = (new.layout ≡ old.layout) × (new.register ≡ old.register) × (new.before ≡ old.before)
+
+  -- all but the journals, the disk, and whether it is broken
+  abbrev pub HasSameButJournals : Type 0
+  HasSameButJournals =
+      (new.layout ≡ old.layout) × (new.side ≡ old.side) × (new.epoch ≡ old.epoch)
+      × (new.register ≡ old.register) × (new.before ≡ old.before)
 
 -- ---- calls
 
--- a call of the program, with the commands that it accepted: it was answered, or it failed or a stop came first
+-- a call, with the commands that it accepted: it was answered, or it was not, since it failed or a stop came first
 pub data Event (A : Type 0) : Type 0 where
   Answered : List (Asked A) → Event A
   Unanswered : List (Asked A) → Event A
@@ -88,9 +109,29 @@ module _ {A : Type 0} where
   AreKept (Unanswered cs ∷ events) kept = AreKept events kept ⊎ ((before : List (Asked A)) × AreKept events before × (kept ≡ before ++ cs))
 
 module _ {D : Type 0} (A : Type 0) (view : D → View) where
+  -- a register in this state is on the store's disk
+  abbrev pub IsKeptAs : State → StoreView A D → Type 0
+  IsKeptAs state store = IsKept A store.layout store.side store.epoch store.journal store.ongoing state (view store.disk)
+
   -- the store's register is on its disk
   abbrev pub IsStoredIn : StoreView A D → Type 0
-  IsStoredIn store = IsKept A store.layout store.side store.epoch store.journal store.beside store.register (view store.disk)
+  IsStoredIn store = IsKeptAs store.register store
+
+  -- this holds if the disk is honest and a register in this state is on it
+  abbrev pub WhereKeptAs : State → StoreView A D → Type 0 → Type 0
+  WhereKeptAs state store P = (view store.disk).honest → IsKeptAs state store → P
+
+  -- this holds if the disk is honest and the store's register is on it
+  abbrev pub WhereKept : StoreView A D → Type 0 → Type 0
+  WhereKept store P = WhereKeptAs store.register store P
+
+  -- a stop at any moment from the one store to the other leaves an image with P, if the register was on the disk
+  abbrev pub StopsLeave : StoreView A D → StoreView A D → (List (List Byte) → Type 0) → Type 0
+  StopsLeave old new P = WhereKept old (LeavesOnly (view old.disk) (view new.disk) P)
+
+  -- the new store's register is on its disk, if the old one's was
+  abbrev pub StaysKept : StoreView A D → StoreView A D → Type 0
+  StaysKept old new = WhereKept old (IsStoredIn new)
 
   -- a store is opened on the disk
   pub record HasOpened (old : D) (new : StoreView A D) : Type 0 where
@@ -99,7 +140,7 @@ module _ {D : Type 0} (A : Type 0) (view : D → View) where
     pub kept : IsStoredIn new
     pub left : LeavesOnly (view old) (view new.disk) (IsImageOf (view old))
 
-  -- an opening fails, and gives the disk back
+  -- an opening fails, and returns the disk
   pub record HasNotOpened (old new : D) : Type 0 where
     pub honest : (view new).honest
     pub left : LeavesOnly (view old) (view new) (IsImageOf (view old))
@@ -109,7 +150,7 @@ module _ {D : Type 0} (A : Type 0) (view : D → View) where
     pub honest : (view new.disk).honest
     pub history : IsHistory old.register accepted
     pub made : new.register ≡ after old.register accepted
-    pub any_moment : IsStoredIn old → LeavesOnly (view old.disk) (view new.disk) (StandsForEither A old.register new.register)
+    pub any_moment : IsStoredIn old → LeavesOnly (view old.disk) (view new.disk) (OpensToEither A old.register new.register)
     pub kept : new.broken ≡ false → IsStoredIn old → IsStoredIn new
     pub broken : old.broken ≡ true → new ≡ old
 
@@ -119,16 +160,27 @@ module _ {D : Type 0} (A : Type 0) (view : D → View) where
     opens_to : (old : D) (new : StoreView A D) → HasOpened old new → IsCall (Closed old) (Answered []) (Open new)
     opens_not : (old new : D) → HasNotOpened old new → IsCall (Closed old) (Answered []) (Closed new)
     closes : (store : StoreView A D) → IsCall (Open store) (Answered []) (Closed store.disk)
-    answers : (old new : StoreView A D) (accepted : List (Asked A)) → HasAccepted old new accepted → new.broken ≡ false → IsCall (Open old) (Answered accepted) (Open new)
+    answers : (old new : StoreView A D) (accepted : List (Asked A)) → HasAccepted old new accepted → new.broken ≡ false
+        → IsCall (Open old) (Answered accepted) (Open new)
     fails : (old new : StoreView A D) (accepted : List (Asked A)) → HasAccepted old new accepted → IsCall (Open old) (Unanswered accepted) (Open new)
 
   -- a call for these commands is answered, with these outcomes
   abbrev pub IsAnsweredCall : {B C : Type 0} → StoreView A D → List (Asked B) → List (Outcome C) → StoreView A D → Type 0
   IsAnsweredCall old commands outcomes new = IsCall (Open old) (answered A commands outcomes) (Open new)
 
-  -- it is not: of those that were accepted all or none are kept
+  -- it is not answered: all or none of the accepted ones are kept
   abbrev pub IsUnansweredCall : {B : Type 0} → StoreView A D → List (Asked B) → StoreView A D → Type 0
-  IsUnansweredCall old commands new = (recorded : List (Asked A)) × AreRecorded A old.register commands new.register recorded × IsCall (Open old) (Unanswered recorded) (Open new)
+  IsUnansweredCall old commands new =
+      (recorded : List (Asked A)) × AreRecorded A old.register commands new.register recorded
+      × IsCall (Open old) (Unanswered recorded) (Open new)
+
+  -- if the disk is honest, the call is answered with these outcomes
+  abbrev pub IsAnsweredOnHonest : {B C : Type 0} → StoreView A D → List (Asked B) → List (Outcome C) → StoreView A D → Type 0
+  IsAnsweredOnHonest old commands outcomes new = (view old.disk).honest → IsAnsweredCall old commands outcomes new
+
+  -- if the disk is honest, it is not answered
+  abbrev pub IsUnansweredOnHonest : {B : Type 0} → StoreView A D → List (Asked B) → StoreView A D → Type 0
+  IsUnansweredOnHonest old commands new = (view old.disk).honest → IsUnansweredCall old commands new
 
   -- ---- the life
 
@@ -141,28 +193,31 @@ module _ {D : Type 0} (A : Type 0) (view : D → View) where
   -- The events of a life so far, the last one first, and where the disk is. It begins with a disk made ready for an empty
   -- register. Then each event is a call, or a call in which a stop comes: it leaves an image of some moment of the call.
   pub data IsLife (limits : Limits) : List (Event A) → Phase A D → Type 0 where
-    begins : (disk : D) → (view disk).honest → InEach (view disk) (StandsFor A (empty limits)) → IsLife limits [] (Closed disk)
-    goes_on : (events : List (Event A)) (old new : Phase A D) (event : Event A) → IsLife limits events old → IsCall old event new → IsLife limits (event ∷ events) new
-    stops : (events : List (Event A)) (old new : Phase A D) (event : Event A) (image : List (List Byte)) (disk : D) → IsLife limits events old → IsCall old event new
+    begins : (disk : D) → (view disk).honest → InEach (view disk) (OpensTo A (empty limits)) → IsLife limits [] (Closed disk)
+    goes_on : (events : List (Event A)) (old new : Phase A D) (event : Event A)
+        → IsLife limits events old → IsCall old event new → IsLife limits (event ∷ events) new
+    stops : (events : List (Event A)) (old new : Phase A D) (event : Event A) (image : List (List Byte)) (disk : D)
+        → IsLife limits events old → IsCall old event new
         → (view (disk_of new)).since (view (disk_of old)).moment image → ComesBack image disk → IsLife limits (stopped event ∷ events) (Closed disk)
 
 -- ---- what lasts
 
 module _ (A : Type 0) (limits : Limits) where
-  -- each message that one of these commands makes is missing in the image exactly where a later one of them ends it
+  -- each message that one of these commands makes is missing in the image exactly if a later one of them ends it
   abbrev pub LosesNoMessage : List (Asked A) → List (List Byte) → Type 0
   LosesNoMessage kept image =
-      (bs : List (Asked A)) (c : Asked A) (cs : List (Asked A)) (m : Item) → kept ≡ bs ++ c ∷ cs → Contains (made (after (empty limits) bs) c) m → LacksWhereEnded A image m (next (after (empty limits) bs) c) cs
+      (bs : List (Asked A)) (c : Asked A) (cs : List (Asked A)) (m : Item) → kept ≡ bs ++ c ∷ cs
+      → Contains (made (after (empty limits) bs) c) m → LacksWhereEnded A image m (next (after (empty limits) bs) c) cs
 
-  -- The image opens to what the kept commands of these events made of an empty register, each accepted in its turn.
+  -- The image opens to the register after the kept commands of these events, each accepted in its turn.
   pub record Lasts (events : List (Event A)) (image : List (List Byte)) : Type 0 where
     pub kept : List (Asked A)
     pub are : AreKept events kept
     pub history : IsHistory (empty limits) kept
-    pub stands : StandsFor A (after (empty limits) kept) image
+    pub reopens : OpensTo A (after (empty limits) kept) image
 
-  -- so does the register of a store
-  pub record Holds {D : Type 0} (events : List (Event A)) (store : StoreView A D) : Type 0 where
+  -- the register of a store is so too
+  pub record LastsInStore {D : Type 0} (events : List (Event A)) (store : StoreView A D) : Type 0 where
     pub kept : List (Asked A)
     pub are : AreKept events kept
     pub history : IsHistory (empty limits) kept

@@ -2,23 +2,25 @@
 use Rattle.std.specs.Prelude.{◌≡◌, ◌⊎◌, ◌≤◌, ℕ, Bool, true, false, List, ◌++◌, Result, Ok, Err}
 use Rattle.identity.specs.Numbers.{Byte}
 use Rattle.sector_disk.specs.Numbers.{Sector, Sectors}
+use Rattle.sector_disk.specs.Disk.{View}
 use Rattle.sector_disk.specs.declared.record.Call.{Call}
 use Rattle.centre_core.specs.State.{State}
+use Rattle.gated_journal.specs.declared.place.Place.{Place}
 use Rattle.gated_journal.specs.declared.fault.JournalError.{JournalError}
 use Rattle.gated_journal.specs.declared.fault.JournalError.TheVariants as journal
-use Rattle.gated_journal.specs.Half.{Entry, Half, with_front}
+use Rattle.gated_journal.specs.Half.{Entry, Half, half_of, with_prefix}
 use Rattle.gated_journal.specs.Reading.{HasRecords}
 use Rattle.checkpoint.specs.declared.layout.Layout.{Layout}
 use Rattle.checkpoint.specs.declared.side.Side.{Side}
 use Rattle.checkpoint.specs.Layout.{half_at, half_end, slot_at}
-use Rattle.checkpoint.specs.Reading.{looks}
-use Rattle.checkpoint.specs.Standing.{Base, Held, slot_form, slot_in}
+use Rattle.checkpoint.specs.Reading.{read_calls}
+use Rattle.checkpoint.specs.OnSide.{Base, Held, slot_form, slot_in}
 use Rattle.recovery.specs.declared.fault.StoreFault.{StoreFault}
 use Rattle.recovery.specs.declared.fault.StoreFault.TheVariants.{BadGeometry, Broken, Damaged, DiskFault, EpochsUsedUp, NoMemory, Unformatted, Unready}
 use Rattle.recovery.specs.Label.{layout_in}
 use Rattle.recovery.specs.Opens.{Reached, base_in, held_by, played_from, side_in}
 
--- a fault of a disk that is read without memory
+-- a fault of reading a disk without memory
 abbrev pub IsOfDisk : StoreFault → Type 0
 IsOfDisk Unformatted = Unit {0}
 IsOfDisk BadGeometry = Unit {0}
@@ -29,7 +31,7 @@ IsOfDisk NoMemory = ⊥
 IsOfDisk EpochsUsedUp = ⊥
 IsOfDisk Unready = ⊥
 
--- a fault of opening: no store was there before it
+-- a fault of an opening, before which there is no store
 abbrev pub IsOfOpening : StoreFault → Type 0
 IsOfOpening Unformatted = Unit {0}
 IsOfOpening BadGeometry = Unit {0}
@@ -40,7 +42,7 @@ IsOfOpening NoMemory = Unit {0}
 IsOfOpening EpochsUsedUp = ⊥
 IsOfOpening Unready = ⊥
 
--- A fault that is told is the one that stands there; a failing device and want of memory say nothing of it.
+-- A fault that is reported is the one that is there. A failing device and out of memory say nothing of what is there.
 abbrev pub Fails : {Y : Type 0} → StoreFault → Result Y StoreFault → Type 0
 Fails Unformatted is = is ≡ Err Unformatted
 Fails BadGeometry is = is ≡ Err BadGeometry
@@ -51,7 +53,7 @@ Fails NoMemory is = Unit {0}
 Fails EpochsUsedUp is = is ≡ Err EpochsUsedUp
 Fails Unready is = is ≡ Err Unready
 
--- What was read, seen by view, is what stands there, if the device and the memory allow.
+-- What was read, as view models it, is what is there, unless the device fails or memory runs out.
 abbrev pub Gives : {X Y : Type 0} → (X → Y) → Result X StoreFault → Result Y StoreFault → Type 0
 Gives view (Ok x) is = is ≡ Ok (view x)
 Gives view (Err fault) is = Fails fault is
@@ -66,7 +68,7 @@ abbrev pub EndsAt : {X : Type 0} → (X → Sector) → Result X StoreFault → 
 EndsAt gate (Ok x) t is = is ≡ Ok (t, gate x)
 EndsAt gate (Err fault) t is = Fails fault is
 
--- A fault of reading a journal as one of the store; no journal is full where it is only read.
+-- A fault of reading a journal as a fault of the store. A journal that is only read is never full.
 abbrev pub fault_of : JournalError → StoreFault
 fault_of (journal.Damaged at) = Damaged at
 fault_of journal.DiskFault = DiskFault
@@ -75,12 +77,16 @@ fault_of journal.JournalFull = DiskFault
 
 -- ---- records that are played as they are read
 
-module _ {A : Type 0} where
-  -- half begins with some records, and goes on as rest
-  abbrev pub BeginsWith : Half A → Half A → Type 0
-  BeginsWith half rest = (front : List (Entry A)) × (half ≡ with_front front rest)
+-- what the disk reads as from the next gate of a place on, up to this end
+abbrev pub rest_in : (A : Type 0) → Place → Sector → View → Half A
+rest_in A place end disk = half_of {A = A} place.form place.count disk.reads place.next end
 
-  -- A fault is met before these records: theirs stands before it.
+module _ {A : Type 0} where
+  -- half is some records and then rest
+  abbrev pub BeginsWith : Half A → Half A → Type 0
+  BeginsWith half rest = (prefix : List (Entry A)) × (half ≡ with_prefix prefix rest)
+
+  -- A fault is met. A fault in these records comes before it.
   abbrev pub Stops : StoreFault → Result (Held A) StoreFault → Result Reached StoreFault → Type 0
   Stops fault (Ok held) is = Fails fault is
   Stops fault (Err first) is = is ≡ Err first
@@ -96,16 +102,17 @@ module _ {A : Type 0} where
   StopsAt (Ok u) t gate rest is = is ≡ Ok (t, gate)
   StopsAt (Err fault) t gate rest is = Stops fault (held_by rest) is
 
--- ---- want of memory
+-- ---- out of memory
 
 -- So many sectors of the side's slot were read last, from the first on, and none of them is a bad one.
 pub record AreGoodRows (layout : Layout) (side : Side) (image : List (List Byte)) (calls : List Call) : Type 0 where
   pub before : List Call
   pub read : Sectors
-  pub last : calls ≡ before ++ looks (slot_at layout side) read
+  pub last : calls ≡ before ++ read_calls (slot_at layout side) read
   pub good : (place : ℕ) → slot_in layout side image ≡ Err place → read ≤ place
 
--- All rows of the side's image are good, and there are good records up to a closed gate. (Whether their commands are accepted is told by playing them alone.)
+-- All rows of the side's image are good, and there are good records up to a closed gate. (Only playing them shows whether their
+-- commands are accepted.)
 pub record AreAllGood (A : Type 0) (layout : Layout) (side : Side) (image : List (List Byte)) : Type 0 where
   pub base : Base
   pub rows : base_in layout side image ≡ Ok base

@@ -12,7 +12,7 @@ use Rattle.checkpoint.specs.declared.layout.Layout.{Layout}
 use Rattle.checkpoint.specs.declared.side.Side.{Side}
 use Rattle.checkpoint.specs.declared.side.Side.TheVariants as side
 use Rattle.checkpoint.specs.Layout.{half_at, half_end, root_at, slot_at}
-use Rattle.checkpoint.specs.Standing.{Base, Held, slot_epoch, slot_form, slot_in}
+use Rattle.checkpoint.specs.OnSide.{Base, Held, slot_epoch, slot_form, slot_in}
 use Rattle.recovery.specs.declared.fault.StoreFault.{StoreFault}
 use Rattle.recovery.specs.declared.fault.StoreFault.TheVariants.{Damaged}
 use Rattle.recovery.specs.Label.{layout_in}
@@ -50,7 +50,7 @@ side_in layout image = do
 
 -- ---- the image in a side's slot
 
--- what a slot's rows make; the first bad one is at fault
+-- the register that a slot's rows make; the first bad row is at fault
 abbrev pub placed : Sector → Result Base ℕ → Result Base StoreFault
 placed at (Ok base) = Ok base
 placed at (Err place) = Err (Damaged (at + place))
@@ -61,13 +61,13 @@ base_in layout side image = placed (slot_at layout side) (slot_in layout side im
 
 -- ---- the records in a side's half
 
--- a record of which a command is not accepted is at fault
+-- a record with a command that is not accepted is at fault
 abbrev pub taken : Sector → Option State → Result State StoreFault
 taken at None = Err (Damaged at)
 taken at (Some s) = Ok s
 
 module _ {A : Type 0} where
-  -- the state after commands, where each is accepted in its turn
+  -- the state after commands, if each is accepted in its turn
   unfoldable pub run : State → List (Asked A) → Option State
   run s [] = Some s
   run s (c ∷ cs) = if accepts s c then run (next s c) cs else None
@@ -86,7 +86,8 @@ module _ {A : Type 0} where
 
 -- ---- the whole
 
--- what an image opens to: the layout, the side that counts, the epoch of its image, the first closed gate of its half, and the state
+-- What an image opens to: the layout, the side that counts, the epoch of its image, the first closed gate of its half, and the
+-- state.
 pub record Opening : Type 0 where
   pub layout : Layout
   pub side : Side
@@ -102,7 +103,8 @@ opening layout side epoch gate state = record { layout = layout; side = side; ep
 abbrev pub Reached : Type 0
 Reached = State × ℕ
 
--- the state after the commands of the records of a half, or of a part of one, and the first closed gate: all records are judged before one is played
+-- The state after the commands of the records of a half, or of a part of one, and the first closed gate. All records are judged
+-- before one is played.
 abbrev pub played_from : {A : Type 0} → State → Half A → Result Reached StoreFault
 played_from s half = do
   held ← held_by half
@@ -110,11 +112,11 @@ played_from s half = do
   Ok (t, held.1)
 
 module _ (A : Type 0) where
-  -- the same of a side's half, read in the form that its slot tells and behind the state's commands
+  -- the same of a side's half, read in the form that its slot states and numbered from the state's count on
   unfoldable pub played_by : Layout → Side → State → List (List Byte) → Result Reached StoreFault
   played_by layout side s image = played_from s (half_of {A = A} (slot_form layout side image) s.count image (half_at layout side) (half_end layout side))
 
-  -- by this side: its image, then its records
+  -- what it opens to from this side: its image, then its records
   unfoldable pub opens_by : Layout → Side → List (List Byte) → Result Opening StoreFault
   opens_by layout side image = do
     base ← base_in layout side image

@@ -10,25 +10,26 @@ use Rattle.centre_core.specs.History.{after}
 use Rattle.centre_core.specs.Batches.{replies, taken}
 use Rattle.recovery.specs.declared.outcome.Outcome.{Outcome}
 use Rattle.recovery.specs.declared.outcome.Outcome.TheVariants.{NoMemory, Replied}
-use Rattle.recovery.specs.Standing.{StandsFor}
+use Rattle.recovery.specs.OpensTo.{OpensTo}
 
 -- commands that were given by reference
 abbrev pub asked : {B : Type 0} → List (Bor (Asked B)) → List (Asked B)
 asked commands = map (λ command. command.now) commands
 
 module _ {B : Type 0} where
-  -- the first commands were applied, so many of them: the state then, the outcomes, and the commands that were accepted
-  pub record AreApplied {C : Type 0} (s : State) (commands : List (Asked B)) (applied : ℕ) (t : State) (outcomes : List (Outcome C)) (accepted : List (Asked B)) : Type 0 where
+  -- so many of the commands, from the first on, were applied: the state then, the outcomes, and the accepted commands
+  pub record AreApplied {C : Type 0} (s : State) (commands : List (Asked B)) (applied : ℕ) (t : State) (outcomes : List (Outcome C))
+      (accepted : List (Asked B)) : Type 0 where
     pub state : t ≡ after s (take applied commands)
     pub replied : outcomes ≡ map Replied (replies C s (take applied commands))
     pub taken : accepted ≡ taken s (take applied commands)
 
-  -- no more are applied: there are no more, or the next one needs memory
+  -- no more are applied: there are none left, or the next one needs memory
   pub record IsEnd (commands : List (Asked B)) (applied : ℕ) (t : State) : Type 0 where
     pub most : applied ≤ length commands
     pub wants : (c : Asked B) → slice_get commands applied ≡ Some c → IsTrue (needs_memory t c)
 
-  -- the state after the first commands, applied in turn as far as there was memory
+  -- the state after commands that were applied in turn until memory ran out
   abbrev pub IsAfterBatch : State → List (Asked B) → State → Type 0
   IsAfterBatch s commands t = (applied : ℕ) × (t ≡ after s (take applied commands)) × IsEnd commands applied t
 
@@ -38,13 +39,14 @@ module _ {B : Type 0} where
     pub state : t ≡ after s (take applied commands)
     pub these : recorded ≡ map (under A) (taken s (take applied commands))
 
-  -- so the batch is answered: the first commands by their replies, and from the first one that found no memory on each by want of memory
+  -- The answer to a batch: the reply to each command that was applied, and `NoMemory` for each one from the first that ran out of
+  -- memory on.
   pub record IsAnswered {C : Type 0} (s : State) (commands : List (Asked B)) (t : State) (outcomes : List (Outcome C)) : Type 0 where
     pub applied : ℕ
     pub end : IsEnd commands applied t
     pub state : t ≡ after s (take applied commands)
     pub outcomes_are : outcomes ≡ map Replied (replies C s (take applied commands)) ++ replicate (length commands - applied) NoMemory
 
--- the image stands for one of two states
-abbrev pub StandsForEither : (A : Type 0) → State → State → List (List Byte) → Type 0
-StandsForEither A s t image = StandsFor A s image ⊎ StandsFor A t image
+-- the image opens to one of two states
+abbrev pub OpensToEither : (A : Type 0) → State → State → List (List Byte) → Type 0
+OpensToEither A s t image = OpensTo A s image ⊎ OpensTo A t image

@@ -1,4 +1,4 @@
--- Limits and layouts by their numbers, where these are in their ranges.
+-- Limits and layouts from numbers that are in their ranges.
 use Rattle.std.specs.Prelude.{◌≡◌, ℕ, Bool, true, false, ◌&&◌, Option, Some, None, nat_le}
 use Rattle.std.proofs.Common.{refl}
 use Rattle.std.proofs.lemmas.Bool.{leb-true}
@@ -14,9 +14,11 @@ is_within low high n = nat_le low n && nat_le n high
 
 -- the ranges of `AreLimits`, as a test
 abbrev pub are_limits : ℕ → ℕ → ℕ → ℕ → Bool
-are_limits rules radios mail stations = (is_within 1 rule_capacity rules && is_within 1 radio_capacity radios) && (is_within 1 mail_capacity mail && is_within 1 station_capacity stations)
+are_limits rules radios mail stations =
+    (is_within 1 rule_capacity rules && is_within 1 radio_capacity radios)
+    && (is_within 1 mail_capacity mail && is_within 1 station_capacity stations)
 
--- that of `IsHalfSize`
+-- the range of `IsHalfSize`, as a test
 abbrev pub is_half_size : Sectors → Bool
 is_half_size journal = is_within fewest_sectors most_sectors journal
 
@@ -28,7 +30,9 @@ both false b e = absurd cc
 
 pub limits_pass : (rules radios mail stations : ℕ) → are_limits rules radios mail stations ≡ true → AreLimits rules radios mail stations
 limits_pass rules radios mail stations e =
-    let halves = both (is_within 1 rule_capacity rules && is_within 1 radio_capacity radios) (is_within 1 mail_capacity mail && is_within 1 station_capacity stations) e in
+    let halves =
+    both (is_within 1 rule_capacity rules && is_within 1 radio_capacity radios)
+    (is_within 1 mail_capacity mail && is_within 1 station_capacity stations) e in
     let first = both (is_within 1 rule_capacity rules) (is_within 1 radio_capacity radios) halves.0 in
     let second = both (is_within 1 mail_capacity mail) (is_within 1 station_capacity stations) halves.1 in
     let r = both (nat_le 1 rules) (nat_le rules rule_capacity) first.0 in
@@ -53,20 +57,20 @@ half_size_passes journal e =
 
 -- ---- the values
 
--- the limits of these numbers, where they have passed a test of their ranges
+-- the limits of these numbers, if they have passed a test of their ranges
 abbrev pub limits_by : (rules radios mail stations : ℕ) (may : Bool) → (may ≡ true → AreLimits rules radios mail stations) → Option Limits
 limits_by rules radios mail stations true is = Some (record { rules = rules; radios = radios; mail = mail; stations = stations; in_range = is refl })
 limits_by rules radios mail stations false is = None
 
--- the limits of these numbers, where each is in its range
+-- the limits of these numbers, if each is in its range
 abbrev pub limits_of : ℕ → ℕ → ℕ → ℕ → Option Limits
 limits_of rules radios mail stations = limits_by rules radios mail stations (are_limits rules radios mail stations) (limits_pass rules radios mail stations)
 
--- the layout with these limits and halves of this size, where the size has passed a test of its range
+-- the layout with these limits and halves of this size, if the size has passed a test of its range
 abbrev pub layout_by : (limits : Limits) (journal : Sectors) (may : Bool) → (may ≡ true → IsHalfSize journal) → Option Layout
 layout_by limits journal true is = Some (record { limits = limits; journal = journal; in_range = is refl })
 layout_by limits journal false is = None
 
--- the layout with these limits and halves of this size, where the size is in its range
+-- the layout with these limits and halves of this size, if the size is in its range
 abbrev pub layout_of : Limits → Sectors → Option Layout
 layout_of limits journal = layout_by limits journal (is_half_size journal) (half_size_passes journal)

@@ -1,8 +1,13 @@
--- Why a call on a store may be refused.
+-- Why a call of a store may be refused.
+use Rattle.std.specs.Prelude.{◌≡◌, ◌⊎◌, Result, Err}
 use Rattle.recovery.specs.declared.fault.StoreFault.{StoreFault}
 use Rattle.recovery.specs.declared.fault.StoreFault.TheVariants.{BadGeometry, Broken, Damaged, DiskFault, EpochsUsedUp, NoMemory, Unformatted, Unready}
 
--- what a commit may be refused for; the other faults are told by an opening alone
+-- the result is one of two faults
+abbrev pub IsErrEither : {T E : Type 0} → Result T E → E → E → Type 0
+IsErrEither result e f = (result ≡ Err e) ⊎ (result ≡ Err f)
+
+-- what a commit may be refused for; only an opening reports the other faults
 abbrev pub IsOfCommit : StoreFault → Type 0
 IsOfCommit Unformatted = ⊥
 IsOfCommit BadGeometry = ⊥
@@ -13,7 +18,7 @@ IsOfCommit NoMemory = Unit {0}
 IsOfCommit EpochsUsedUp = ⊥
 IsOfCommit Unready = Unit {0}
 
--- and a desk's commit, which makes a checkpoint where a record would not fit
+-- and a desk's commit, which makes a checkpoint if a record would not fit
 abbrev pub IsOfDesk : StoreFault → Type 0
 IsOfDesk Unformatted = ⊥
 IsOfDesk BadGeometry = ⊥

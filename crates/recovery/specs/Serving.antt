@@ -1,59 +1,100 @@
 -- What a store is as a desk.
-use Rattle.std.specs.Prelude.{◌≡◌, ◌⊎◌, ℕ, Bool, true, false, IsTrue, List, ◌++◌, if◌then◌else◌, nat_le}
+use Rattle.std.specs.Prelude.{◌≡◌, ◌⊎◌, ℕ, Bool, true, false, IsTrue, List, ◌++◌, if◌then◌else◌, is_some, nat_le}
 use Rattle.identity.specs.Numbers.{Byte}
+use Rattle.sector_disk.specs.Disk.{View}
+use Rattle.sector_disk.specs.Run.{HasCalled, HasMade}
 use Rattle.sector_disk.specs.declared.record.Call.{Call}
 use Rattle.centre_core.specs.Asked.{Asked}
 use Rattle.centre_core.specs.State.{State}
 use Rattle.centre_core.specs.History.{accepts, next}
 use Rattle.image_rows.specs.Numbers.{Epoch}
 use Rattle.image_rows.specs.Rows.{last_epoch}
+use Rattle.gated_journal.specs.Settled.{following}
 use Rattle.checkpoint.specs.Calls.{is_root_open}
 use Rattle.checkpoint.specs.Layout.{other_of}
 use Rattle.desk.specs.OfStore.{Stored}
-use Rattle.desk.specs.declared.service.Service.{Service}
-use Rattle.desk.specs.declared.service.Service.TheVariants as service
+use Rattle.desk.specs.declared.outage.Outage.{Outage}
+use Rattle.desk.specs.declared.outage.Outage.TheVariants as outage
 use Rattle.recovery.specs.Calls.{commit_calls_by, room_calls_by}
-use Rattle.recovery.specs.GoneOn.{behind, with_room}
+use Rattle.recovery.specs.AfterCommit.{HasKept, with_room}
 use Rattle.recovery.specs.Lives.{StoreView}
+use Rattle.recovery.specs.Outcomes.{AreRecorded}
 use Rattle.recovery.specs.UnderWay.{MayBegin}
 use Rattle.recovery.specs.declared.fault.StoreFault.{StoreFault}
 use Rattle.recovery.specs.declared.fault.StoreFault.TheVariants.{BadGeometry, Broken, Damaged, DiskFault, EpochsUsedUp, NoMemory, Unformatted, Unready}
 
--- The word for a fault of a desk's commit; the other faults have none: they are told by an opening or by a commit alone.
-abbrev pub IsWordFor : StoreFault → Service → Type 0
-IsWordFor DiskFault word = word ≡ service.Device
-IsWordFor Broken word = word ≡ service.Broken
-IsWordFor NoMemory word = word ≡ service.Memory
-IsWordFor EpochsUsedUp word = word ≡ service.Epochs
+-- The outage word for a fault of a desk's commit. The other faults have none: only an opening or a commit reports them.
+abbrev pub IsWordFor : StoreFault → Outage → Type 0
+IsWordFor DiskFault word = word ≡ outage.Device
+IsWordFor Broken word = word ≡ outage.Broken
+IsWordFor NoMemory word = word ≡ outage.Memory
+IsWordFor EpochsUsedUp word = word ≡ outage.Epochs
 IsWordFor Unformatted word = ⊥
 IsWordFor BadGeometry word = ⊥
 IsWordFor (Damaged at) word = ⊥
 IsWordFor Unready word = ⊥
 
--- the register that a store shows: its own, and once it is broken the one from before the call that broke it
+-- the register that a store shows: its own, or, once it is broken, the one from before the call that broke it
 abbrev pub shown : Bool → State → State → State
 shown true before register = before
 shown false before register = register
 
--- what a store stands for, by the failures of its disk, its epoch, whether it is broken, its register before the call at hand, and its register
+-- The model of a store: by the failures of its disk, its epoch, whether it is broken, its register before the current call, and
+-- its register.
 abbrev pub stored_of : ℕ → Epoch → Bool → State → State → Stored
-stored_of failures epoch broken before register = record { register = shown broken before register; broken = broken; failures = failures; last = nat_le last_epoch epoch }
+stored_of failures epoch broken before register = record {
+  register = shown broken before register;
+  broken = broken;
+  failures = failures;
+  last = nat_le last_epoch epoch;
+}
 
 -- nothing was done, or the command was accepted
 abbrev pub IsAfterOne : {B : Type 0} → State → Asked B → State → Type 0
 IsAfterOne s c t = (t ≡ s) ⊎ (IsTrue (accepts s c) × (t ≡ next s c))
 
 module _ {A D : Type 0} (old : StoreView A D) (fits : Bool) (kept : List (Asked A)) (begins : Bool) where
-  -- where a checkpoint begins behind the record, it may
+  -- a checkpoint that begins after the record may begin
   abbrev pub MayBeginBy : Type 0
-  MayBeginBy = let now = with_room fits old in begins ≡ true → MayBegin now.layout now.epoch (behind now.journal kept)
+  MayBeginBy = let now = with_room fits old in begins ≡ true → MayBegin now.layout now.epoch (following now.journal kept)
 
-  -- The calls of the disk that a desk makes for a command: of a checkpoint where a record of it would not fit, and then of a
-  -- commit that keeps it. The other side's root was read as open or closed, by each of the two.
+  -- The calls of the disk that a desk makes for a command: those of a checkpoint if a record of it would not fit, and then those
+  -- of a commit that keeps it. Each of the two reads the other side's root as open or closed.
   abbrev pub desk_calls_by : Bool → Bool → List Call
   desk_calls_by was_open also_open =
-      let now = with_room fits old in room_calls_by old.layout old.side old.epoch old.register was_open fits ++ commit_calls_by now.layout now.side now.epoch now.journal now.beside kept begins also_open
+      let now = with_room fits old in
+      room_calls_by old.layout old.side old.epoch old.register was_open fits
+      ++ commit_calls_by now.layout now.side now.epoch now.journal now.ongoing kept begins also_open
 
   -- the same, by what that root reads as before the call
   abbrev pub desk_calls : List (List Byte) → Bool → List Call
   desk_calls reads also_open = desk_calls_by (is_root_open (other_of old.side) reads) (if fits then is_root_open (other_of old.side) reads else also_open)
+
+module _ {D : Type 0} (A : Type 0) (view : D → View) (old new : StoreView A D) (fits : Bool) {B : Type 0} (commands : List (Asked B)) where
+  -- the calls of a desk that keeps the accepted ones of these commands, on an honest disk
+  abbrev pub DeskCalls : Type 0
+  DeskCalls =
+      (view old.disk).honest → (recorded : List (Asked A)) × (also_open : Bool)
+      × AreRecorded A old.register commands new.register recorded × HasKept (with_room fits old) new recorded
+      × HasCalled (view old.disk) (view new.disk) (desk_calls old fits recorded (is_some new.ongoing) (view old.disk).reads also_open)
+
+  -- those on any disk, with the writes of the other side's root or without them
+  abbrev pub DeskCallsOnAnyDisk : Type 0
+  DeskCallsOnAnyDisk =
+      (recorded : List (Asked A)) × (was_open : Bool) × (also_open : Bool)
+      × AreRecorded A old.register commands new.register recorded × HasKept (with_room fits old) new recorded
+      × HasCalled (view old.disk) (view new.disk) (desk_calls_by old fits recorded (is_some new.ongoing) was_open also_open)
+
+  -- a prefix of them: a call that fails is the last
+  abbrev pub SomeDeskCalls : Type 0
+  SomeDeskCalls =
+      (view old.disk).honest → (recorded : List (Asked A)) × (begins : Bool) × (also_open : Bool)
+      × AreRecorded A old.register commands new.register recorded × MayBeginBy old fits recorded begins
+      × HasMade (view old.disk) (view new.disk) (desk_calls old fits recorded begins (view old.disk).reads also_open)
+
+  -- a prefix of the calls on any disk
+  abbrev pub SomeDeskCallsOnAnyDisk : Type 0
+  SomeDeskCallsOnAnyDisk =
+      (recorded : List (Asked A)) × (begins : Bool) × (was_open : Bool) × (also_open : Bool)
+      × AreRecorded A old.register commands new.register recorded × MayBeginBy old fits recorded begins
+      × HasMade (view old.disk) (view new.disk) (desk_calls_by old fits recorded begins was_open also_open)

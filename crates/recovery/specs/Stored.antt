@@ -1,4 +1,4 @@
--- A register that is kept on a disk: what stands there in each image that a stop may leave.
+-- A register that is kept on a disk: what is there in each image that a stop may leave.
 use Rattle.std.specs.Prelude.{◌≡◌, ℕ, List}
 use Rattle.sector_disk.specs.Disk.{View}
 use Rattle.centre_core.specs.State.{State}
@@ -11,20 +11,20 @@ use Rattle.gated_journal.specs.Half.{Entry}
 use Rattle.checkpoint.specs.declared.layout.Layout.{Layout}
 use Rattle.checkpoint.specs.declared.side.Side.{Side}
 use Rattle.checkpoint.specs.Layout.{half_at, half_end}
-use Rattle.checkpoint.specs.Standing.{InEach, Stands}
-use Rattle.recovery.specs.Standing.{commands_of}
+use Rattle.checkpoint.specs.OnSide.{InEach, IsOnSide}
+use Rattle.recovery.specs.OpensTo.{commands_of}
 
--- the place of the next record in a side's half behind a new image: at its first gate, numbered, behind so many accepted commands
+-- the place of the next record in a side's half after a new image: at its first gate, numbered, after so many accepted commands
 abbrev pub fresh_place : Layout → Side → ℕ → Place
 fresh_place layout side count = record { first = half_at layout side; end = half_end layout side; next = half_at layout side; form = Numbered; count = count }
 
--- In each image that a stop may leave, this side has the image of a register, of this epoch, and behind it the same
+-- In each image that a stop may leave, this side has the image of a register, of this epoch, and after it the same
 -- records, of the journal's form and up to its next gate; their commands were accepted one after the other, and the
 -- register's state is what they made of that image. The journal counts the commands that the register counts.
 pub record IsStored (A : Type 0) (layout : Layout) (side : Side) (epoch : Epoch) (journal : Place) (state : State) (disk : View) : Type 0 where
   pub base : State
   pub entries : List (Entry A)
-  pub each : InEach disk (Stands layout side journal.form (epoch, base) (entries, journal.next))
+  pub each : InEach disk (IsOnSide layout side journal.form (epoch, base) (entries, journal.next))
   pub accepted : IsHistory base (commands_of entries)
   pub made : state ≡ after base (commands_of entries)
   pub counts : journal.count ≡ state.count

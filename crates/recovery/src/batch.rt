@@ -1,4 +1,4 @@
-// A batch of commands applied to a register.
+// Applying a batch of commands to a register.
 ghost use Rattle.std.specs.Prelude.{◌≡◌, ◌≤◌, ◌<◌, ◌+◌, ◌-◌, ◌++◌, ◌∷◌, ℕ, [], IsTrue, OnErr, OnOk, length, map, replicate, vec_capacity, vec_len};
 ghost use Rattle.std.specs.List.{flat_map};
 ghost use Rattle.centre_core.specs.Batches.{replies, taken};
@@ -14,8 +14,8 @@ use crate::Outcome;
 use centre_core::{Command, Register};
 use std::alloc::{AllocError, Allocator};
 
-// Applies a command, and adds its reply to the outcomes and, where it is accepted, the command to the accepted ones.
-// Both lists have room. For want of memory nothing is changed.
+// Applies a command and adds its reply to the outcomes. If the command is accepted, it is added to the accepted ones.
+// Both lists have room. Out of memory, nothing is changed.
 fn apply_one<'a, A: Allocator + Clone, B: Allocator, C: Allocator + Copy>(
     register: &mut Register<A>,
     alloc: C,
@@ -43,7 +43,7 @@ fn apply_one<'a, A: Allocator + Clone, B: Allocator, C: Allocator + Copy>(
     Ok(())
 }
 
-// Applies commands in turn, up to the first that finds no memory. Both lists are empty, with room for all.
+// Applies commands in turn, up to the first one that runs out of memory. Both lists are empty, with room for all.
 fn apply_in_turn<'a, A: Allocator + Clone, B: Allocator, C: Allocator + Copy>(
     register: &mut Register<A>,
     alloc: C,
@@ -56,7 +56,9 @@ fn apply_in_turn<'a, A: Allocator + Clone, B: Allocator, C: Allocator + Copy>(
     requires room { length commands.now ≤ vec_capacity outcomes.old }
     requires also { length commands.now ≤ vec_capacity accepted.old }
     ensures all { OnOk result (AreApplied register.old (asked commands.now) (length commands.now) register.new outcomes.new.items (asked accepted.new.items)) }
-    ensures some { OnErr result ((applied : ℕ) × AreApplied register.old (asked commands.now) applied register.new outcomes.new.items (asked accepted.new.items) × IsEnd (asked commands.now) applied register.new) }
+    ensures some { OnErr result ((applied : ℕ)
+        × AreApplied register.old (asked commands.now) applied register.new outcomes.new.items (asked accepted.new.items)
+        × IsEnd (asked commands.now) applied register.new) }
     ensures capacity { vec_capacity outcomes.old ≤ vec_capacity outcomes.new }
 {
     for command in commands {
@@ -65,7 +67,7 @@ fn apply_in_turn<'a, A: Allocator + Clone, B: Allocator, C: Allocator + Copy>(
     Ok(())
 }
 
-// Adds want of memory until there are so many outcomes, for which there is room.
+// Adds outcomes `NoMemory` until there are so many. The list has room for them.
 fn fill_up<C: Allocator>(outcomes: &mut Vec<Outcome<C>, C>, count: usize)
     requires some { vec_len outcomes.old ≤ count }
     requires room { count ≤ vec_capacity outcomes.old }
@@ -76,8 +78,8 @@ fn fill_up<C: Allocator>(outcomes: &mut Vec<Outcome<C>, C>, count: usize)
     }
 }
 
-/// Applies commands in turn, from the first that finds no memory on none of them; gives each its outcome, and collects
-/// those that are accepted. Both lists are empty, with room for all.
+/// Applies commands in turn, up to the first one that runs out of memory. Gives each command its outcome, and collects
+/// the accepted ones. Both lists are empty, with room for all.
 pub(crate) fn apply_all<'a, A: Allocator + Clone, B: Allocator, C: Allocator + Copy>(
     register: &mut Register<A>,
     alloc: C,
@@ -95,7 +97,8 @@ pub(crate) fn apply_all<'a, A: Allocator + Clone, B: Allocator, C: Allocator + C
     ensures limits { register.new.registered.limits ≡ register.old.registered.limits }
     ensures count { length accepted.new.items ≤ length commands.now }
     ensures counted { register.new.count ≡ register.old.count + length accepted.new.items }
-    ensures size { length (flat_map (λ command. command_text command.now) accepted.new.items) ≤ length (flat_map (λ command. command_text command.now) commands.now) }
+    ensures size { length (flat_map (λ command. command_text command.now) accepted.new.items)
+        ≤ length (flat_map (λ command. command_text command.now) commands.now) }
     ensures none { taken register.old (asked commands.now) ≡ [] → accepted.new.items ≡ [] }
     ensures recorded { AreRecorded A register.old (asked commands.now) register.new (given A accepted.new.items) }
 {

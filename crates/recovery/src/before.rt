@@ -1,4 +1,4 @@
-// A value as it was, which only clauses read.
+// A value as it was earlier. Only clauses read it.
 ghost use Rattle.std.specs.Prelude.{◌≡◌};
 ghost use Rattle.std.specs.Borrow.{ftrue};
 

@@ -1,20 +1,20 @@
 //! A checkpoint of a register that is kept on a disk.
 
-ghost use Rattle.std.specs.Prelude.{◌≡◌, ◌+◌, ◌<◌, ◌≤◌, ◌++◌, Bool, [], Err, IfErr, IsErrOf, None, OnErr, OnOk, true, false};
+ghost use Rattle.std.specs.Prelude.{◌≡◌, ◌+◌, ◌≤◌, [], Err, IfErr, IsErrOf, None, OnErr, OnOk, true, false};
 ghost use Rattle.sector_disk.specs.Disk.{HasFailed};
-ghost use Rattle.sector_disk.specs.Run.{HasMade, LeavesOnly};
+ghost use Rattle.sector_disk.specs.Run.{LeavesOnly};
 ghost use Rattle.image_rows.specs.Rows.{last_epoch};
 ghost use Rattle.checkpoint.specs.declared.fault.CheckpointError.TheVariants as checkpoint;
-ghost use Rattle.checkpoint.specs.Layout.{disk_size, half_at, half_end, other_of};
-ghost use Rattle.checkpoint.specs.Standing.{Base, Held, InEach, IsEither, Stands, fresh};
+ghost use Rattle.checkpoint.specs.Layout.{disk_size, other_of};
+ghost use Rattle.checkpoint.specs.OnSide.{Base, Held, InEach, IsEither, IsOnSide, fresh};
 ghost use Rattle.recovery.specs.declared.fault.StoreFault.TheVariants.{Broken, DiskFault, EpochsUsedUp};
-ghost use Rattle.recovery.specs.Calls.{checkpoint_calls, checkpoint_calls_by};
+ghost use Rattle.recovery.specs.Commits.{CheckpointCalls, CheckpointCallsOnAnyDisk, SomeCheckpointCalls, SomeCheckpointCallsOnAnyDisk};
 ghost use Rattle.gated_journal.specs.declared.form.Form.{Form};
 ghost use Rattle.gated_journal.specs.declared.form.Form.TheVariants.{Numbered};
 ghost use Rattle.recovery.specs.Stored.{fresh_place};
 ghost use Rattle.recovery.specs.Refusals.{IsOfCheckpoint};
-ghost use Rattle.recovery.specs.Standing.{StandsFor};
-ghost use Rattle.recovery.specs.Lives.{IsCall, IsStoredIn, Open, Unanswered, view_of};
+ghost use Rattle.recovery.specs.OpensTo.{OpensTo};
+ghost use Rattle.recovery.specs.Lives.{IsCall, Open, StaysKept, StopsLeave, Unanswered, WhereKept, view_of};
 
 use crate::before::Before;
 use crate::{Store, StoreFault};
@@ -24,7 +24,7 @@ use gated_journal::Form;
 use sector_disk::Disk;
 use std::alloc::Allocator;
 
-// Writes the register's image to the other side of the disk, and makes that the current one.
+// Writes the register's image to the other side of the disk, and switches to that side.
 fn write_side<A: Allocator + Clone, D: Disk>(
     disk: &mut D,
     layout: &Layout,
@@ -34,14 +34,16 @@ fn write_side<A: Allocator + Clone, D: Disk>(
 ) -> Result<(), CheckpointError>
     requires room { disk_size layout.now ≤ (D.view disk.old).sectors }
     requires limits { register.now.registered.limits ≡ layout.now.limits }
-    ensures any_moment { (form : Form) (base : Base) (held : Held A) → base.0 ≡ epoch → (D.view disk.old).honest → InEach (D.view disk.old) (Stands layout.now current form base held)
-        → LeavesOnly (D.view disk.old) (D.view disk.new) (IsEither layout.now current form Numbered base (epoch + 1, register.now) held (fresh layout.now (other_of current))) }
-    ensures switched { OnOk result ((form : Form) (base : Base) (held : Held A) → base.0 ≡ epoch → (D.view disk.old).honest → InEach (D.view disk.old) (Stands layout.now current form base held)
-        → InEach (D.view disk.new) (Stands {A = A} layout.now (other_of current) Numbered (epoch + 1, register.now) (fresh layout.now (other_of current)))) }
-    ensures calls { OnOk result ((D.view disk.old).honest → (D.view disk.new).calls ≡ (D.view disk.old).calls ++ checkpoint_calls layout.now current epoch register.now (D.view disk.old).reads) }
-    ensures some_calls { (D.view disk.old).honest → HasMade (D.view disk.old) (D.view disk.new) (checkpoint_calls layout.now current epoch register.now (D.view disk.old).reads) }
-    ensures calls_on_any_disk { OnOk result ((was_open : Bool) × ((D.view disk.new).calls ≡ (D.view disk.old).calls ++ checkpoint_calls_by layout.now current epoch register.now was_open)) }
-    ensures some_calls_on_any_disk { (was_open : Bool) × HasMade (D.view disk.old) (D.view disk.new) (checkpoint_calls_by layout.now current epoch register.now was_open) }
+    ensures any_moment { (form : Form) (base : Base) (held : Held A) → base.0 ≡ epoch → (D.view disk.old).honest
+        → InEach (D.view disk.old) (IsOnSide layout.now current form base held) → LeavesOnly (D.view disk.old) (D.view disk.new)
+        (IsEither layout.now current form Numbered base (epoch + 1, register.now) held (fresh layout.now (other_of current))) }
+    ensures switched { OnOk result ((form : Form) (base : Base) (held : Held A) → base.0 ≡ epoch → (D.view disk.old).honest
+        → InEach (D.view disk.old) (IsOnSide layout.now current form base held) → InEach (D.view disk.new)
+        (IsOnSide {A = A} layout.now (other_of current) Numbered (epoch + 1, register.now) (fresh layout.now (other_of current)))) }
+    ensures calls { OnOk result (CheckpointCalls layout.now current epoch register.now (D.view disk.old) (D.view disk.new)) }
+    ensures some_calls { SomeCheckpointCalls layout.now current epoch register.now (D.view disk.old) (D.view disk.new) }
+    ensures calls_on_any_disk { OnOk result (CheckpointCallsOnAnyDisk layout.now current epoch register.now (D.view disk.old) (D.view disk.new)) }
+    ensures some_calls_on_any_disk { SomeCheckpointCallsOnAnyDisk layout.now current epoch register.now (D.view disk.old) (D.view disk.new) }
     ensures fault { IsErrOf result checkpoint.DiskFault → HasFailed (D.view disk.old) (D.view disk.new) }
     ensures epochs { IsErrOf result checkpoint.EpochsUsedUp → (last_epoch ≤ epoch) × (disk.new ≡ disk.old) }
     ensures used_up { last_epoch ≤ epoch → result ≡ Err checkpoint.EpochsUsedUp }
@@ -54,40 +56,44 @@ fn write_side<A: Allocator + Clone, D: Disk>(
 }
 
 impl<A: Allocator + Clone, D: Disk> Store<A, D> {
-    /// Makes a checkpoint: writes the register's image to the other side of the disk, which then counts, with the next
-    /// epoch and no record behind it. One that is under way is given up. Takes no memory.
+    /// Makes a checkpoint: writes the register's image to the other side of the disk, with the next epoch. That side then
+    /// counts, and has no record. A checkpoint that is under way is abandoned. Takes no memory.
     ///
-    /// `Broken` comes where the device has failed in an earlier call, `EpochsUsedUp` where the register's image has the
-    /// last epoch, 2 to the 62nd; nothing is then changed. After `DiskFault` the disk is to be opened again.
+    /// `Broken`: the device has failed in an earlier call. `EpochsUsedUp`: the register's image has the last epoch, 2 to the
+    /// 62nd. After these nothing is changed. After `DiskFault` the disk must be opened again.
     pub fn checkpoint(&mut self) -> Result<(), StoreFault>
-        // A stop at any moment of the call, also of one that fails, leaves the disk standing for the register.
-        ensures any_moment { (D.view self.old.disk).honest → IsStoredIn A D.view (view_of self.old)
-            → LeavesOnly (D.view self.old.disk) (D.view self.new.disk) (StandsFor A self.old.register) }
+        // A stop at any moment of the call, also of one that fails, leaves a disk that opens to the register.
+        ensures any_moment { StopsLeave A D.view (view_of self.old) (view_of self.new) (OpensTo A self.old.register) }
 
-        // At `Ok` each stop leaves it standing by the other side, with the next epoch and no record; records will be numbered.
-        ensures moved { OnOk result ((D.view self.old.disk).honest → IsStoredIn A D.view (view_of self.old)
-            → InEach (D.view self.new.disk) (Stands {A = A} self.old.layout (other_of self.old.side) Numbered (self.old.epoch + 1, self.old.register) (fresh self.old.layout (other_of self.old.side)))) }
-        ensures kept { OnOk result ((D.view self.old.disk).honest → IsStoredIn A D.view (view_of self.old)
-            → IsStoredIn A D.view (view_of self.new)) }
-        ensures sides { OnOk result ((self.new.side ≡ other_of self.old.side) × (self.new.epoch ≡ self.old.epoch + 1) × (self.new.beside ≡ None)) }
+        // At `Ok` each stop leaves it on the other side, with the next epoch and no record. Later records will be numbered.
+        ensures moved { OnOk result (WhereKept A D.view (view_of self.old) (InEach (D.view self.new.disk)
+            (IsOnSide {A = A} self.old.layout (other_of self.old.side) Numbered (self.old.epoch + 1, self.old.register)
+            (fresh self.old.layout (other_of self.old.side))))) }
+        ensures kept { OnOk result (StaysKept A D.view (view_of self.old) (view_of self.new)) }
+        ensures sides { OnOk result ((self.new.side ≡ other_of self.old.side) × (self.new.epoch ≡ self.old.epoch + 1) × (self.new.ongoing ≡ None)) }
         ensures no_record { OnOk result (self.new.journal ≡ fresh_place self.old.layout (other_of self.old.side) self.old.register.count) }
         ensures same { (self.new.layout ≡ self.old.layout) × (self.new.register ≡ self.old.register) }
         ensures unmoved { OnErr result ((self.new.side ≡ self.old.side) × (self.new.epoch ≡ self.old.epoch) × (self.new.journal ≡ self.old.journal)) }
 
-        // The other side's root is read, and written only where it reads open; its first gate is closed; then each row is
-        // written once, and the root opened. A call that fails is the last.
-        ensures calls { OnOk result ((D.view self.old.disk).honest → (D.view self.new.disk).calls ≡ (D.view self.old.disk).calls ++ checkpoint_calls self.old.layout self.old.side self.old.epoch self.old.register (D.view self.old.disk).reads) }
-        ensures some_calls { (D.view self.old.disk).honest → HasMade (D.view self.old.disk) (D.view self.new.disk) (checkpoint_calls self.old.layout self.old.side self.old.epoch self.old.register (D.view self.old.disk).reads) }
+        // The other side's root is read, and closed if it reads as open. Its first gate is closed. Then each row is written
+        // once, and the root is opened. A call that fails is the last.
+        ensures calls { OnOk result (CheckpointCalls self.old.layout self.old.side self.old.epoch self.old.register
+            (D.view self.old.disk) (D.view self.new.disk)) }
+        ensures some_calls { SomeCheckpointCalls self.old.layout self.old.side self.old.epoch self.old.register
+            (D.view self.old.disk) (D.view self.new.disk) }
 
         // So too on a disk that is not honest, with the root's write or without it.
-        ensures calls_on_any_disk { OnOk result ((was_open : Bool) × ((D.view self.new.disk).calls ≡ (D.view self.old.disk).calls ++ checkpoint_calls_by self.old.layout self.old.side self.old.epoch self.old.register was_open)) }
-        ensures some_calls_on_any_disk { (was_open : Bool) × HasMade (D.view self.old.disk) (D.view self.new.disk) (checkpoint_calls_by self.old.layout self.old.side self.old.epoch self.old.register was_open) }
+        ensures calls_on_any_disk { OnOk result (CheckpointCallsOnAnyDisk self.old.layout self.old.side self.old.epoch self.old.register
+            (D.view self.old.disk) (D.view self.new.disk)) }
+        ensures some_calls_on_any_disk { SomeCheckpointCallsOnAnyDisk self.old.layout self.old.side self.old.epoch self.old.register
+            (D.view self.old.disk) (D.view self.new.disk) }
 
-        // It does not give up by itself.
+        // It fails only for these reasons.
         ensures broken { self.old.broken ≡ true → result ≡ Err Broken }
         ensures only_broken { IsErrOf result Broken → (self.old.broken ≡ true) × (self.new ≡ self.old) }
         ensures used_up { self.old.broken ≡ false → last_epoch ≤ self.old.epoch → result ≡ Err EpochsUsedUp }
-        ensures epochs { IsErrOf result EpochsUsedUp → (last_epoch ≤ self.old.epoch) × (self.new.disk ≡ self.old.disk) × (self.new.broken ≡ false) × (self.new.beside ≡ self.old.beside) }
+        ensures epochs { IsErrOf result EpochsUsedUp → (last_epoch ≤ self.old.epoch) × (self.new.disk ≡ self.old.disk)
+            × (self.new.broken ≡ false) × (self.new.ongoing ≡ self.old.ongoing) }
         ensures fault { IsErrOf result DiskFault → HasFailed (D.view self.old.disk) (D.view self.new.disk) × (self.new.broken ≡ true) }
         ensures shown { IsErrOf result DiskFault → self.new.before.value ≡ self.old.register }
         ensures kinds { IfErr result IsOfCheckpoint }
@@ -95,14 +101,14 @@ impl<A: Allocator + Clone, D: Disk> Store<A, D> {
         ensures later { (D.view self.old.disk).failures ≤ (D.view self.new.disk).failures }
         ensures honest { (D.view self.old.disk).honest → (D.view self.new.disk).honest }
 
-        // In the life of the disk it is a call that accepts nothing.
+        // In the life of the disk this is a call that accepts nothing.
         ensures call { (D.view self.old.disk).honest → IsCall A D.view (Open (view_of self.old)) (Unanswered []) (Open (view_of self.new)) }
     {
         if self.broken {
             return Err(StoreFault::Broken);
         }
         self.before = Before::of(&self.register);
-        self.beside = None;
+        self.ongoing = None;
         let (side, epoch) = (self.side, self.epoch);
         match write_side(&mut self.disk, &self.layout, side, epoch, &self.register) {
             Ok(()) => {

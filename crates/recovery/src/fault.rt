@@ -14,25 +14,25 @@ pub enum StoreFault {
     /// The disk has no label.
     #[error("the disk is unformatted")]
     Unformatted,
-    /// The label tells of another layout or of limits out of range, or the disk has too few sectors.
+    /// The label states another layout or limits out of range, or the disk has too few sectors.
     #[error("the disk has a bad geometry")]
     BadGeometry,
-    /// The sector of this number is not what has to stand there.
+    /// The sector of this number is damaged.
     #[error("sector {0} is damaged")]
     Damaged(u64),
     /// The device failed.
     #[error("the disk has failed")]
     DiskFault,
-    /// The device failed in an earlier call: the disk is to be opened again.
+    /// The device failed in an earlier call: the disk must be opened again.
     #[error("the disk has failed before")]
     Broken,
-    /// There was no memory.
+    /// Out of memory.
     #[error("there is no memory")]
     NoMemory,
     /// The register's image has the last epoch.
     #[error("the epochs are used up")]
     EpochsUsedUp,
-    /// A record of all the commands would not fit the journal: a checkpoint is to be made first.
+    /// A record of all commands would not fit the journal: a checkpoint must be made first.
     #[error("the journal has no room: a checkpoint is to be made")]
     Unready,
 }
@@ -54,10 +54,10 @@ impl From<AllocError> for StoreFault {
 }
 
 impl From<JournalError> for StoreFault {
-    ghost from_gives = { λ told e. e ≡ fault_of told };
+    ghost from_gives = { λ error e. e ≡ fault_of error };
 
-    fn from(told: JournalError) -> Self {
-        match told {
+    fn from(error: JournalError) -> Self {
+        match error {
             JournalError::Damaged(at) => StoreFault::Damaged(at),
             JournalError::NoMemory => StoreFault::NoMemory,
             JournalError::DiskFault | JournalError::JournalFull => StoreFault::DiskFault,

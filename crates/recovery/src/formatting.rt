@@ -1,18 +1,18 @@
-//! A disk made ready for an empty register.
-ghost use Rattle.std.specs.Prelude.{◌≡◌, ◌≤◌, ◌<◌, ◌++◌, [], Err, IfErr, IsErrOf, List, Ok, OnOk};
+//! Formatting a disk for an empty register.
+ghost use Rattle.std.specs.Prelude.{◌≡◌, ◌≤◌, ◌<◌, [], Err, IfErr, IsErrOf, List, Ok, OnOk};
 ghost use Rattle.sector_disk.specs.Disk.{HasCause, HasFailed};
-ghost use Rattle.sector_disk.specs.Run.{HasMade};
+ghost use Rattle.sector_disk.specs.Run.{HasCalled, HasMade};
 ghost use Rattle.sector_disk.specs.declared.disk.DiskError.TheVariants.{OutOfRange};
 ghost use Rattle.centre_core.specs.State.{empty};
 ghost use Rattle.gated_journal.specs.declared.form.Form.TheVariants.{Numbered};
 ghost use Rattle.checkpoint.specs.declared.side.Side.TheVariants.{A};
 ghost use Rattle.checkpoint.specs.Layout.{disk_size, half_at};
-ghost use Rattle.checkpoint.specs.Standing.{InEach, Stands, fresh};
+ghost use Rattle.checkpoint.specs.OnSide.{EachIsOnSide, InEach, fresh};
 ghost use Rattle.recovery.specs.declared.fault.StoreFault.TheVariants.{BadGeometry, DiskFault};
 ghost use Rattle.recovery.specs.Calls.{first_header, format_calls, label_sector, side_calls};
 ghost use Rattle.recovery.specs.Opens.{opening, opens};
 ghost use Rattle.recovery.specs.Inside.Sides.{AreReady};
-ghost use Rattle.recovery.specs.Standing.{first_base};
+ghost use Rattle.recovery.specs.OpensTo.{first_base};
 ghost use Rattle.recovery.specs.Lives.{Closed, IsLife};
 
 use crate::StoreFault;
@@ -43,7 +43,7 @@ fn first_header() -> [u8; 512]
 
 // The sector of a label.
 #[tactic(auto, unfolding(checkpoint::specs::Label::label_text), using(std::proofs::Common::append_assoc))]
-fn label_sector(layout: &Layout) -> [u8; 512]
+pub(crate) fn label_sector(layout: &Layout) -> [u8; 512]
     ensures { result ≡ label_sector layout.now }
 {
     let limits = layout.limits();
@@ -58,11 +58,11 @@ fn label_sector(layout: &Layout) -> [u8; 512]
     text.finish()
 }
 
-// Writes all but the label, and makes it last.
-fn write_sides<D: Disk>(disk: &mut D, layout: &Layout) -> Result<(), DiskError>
+// Writes and syncs all but the label.
+pub(crate) fn write_sides<D: Disk>(disk: &mut D, layout: &Layout) -> Result<(), DiskError>
     requires room { disk_size layout.now ≤ (D.view disk.old).sectors }
     ensures ready { OnOk result ((D.view disk.old).honest → AreReady layout.now (D.view disk.new)) }
-    ensures calls { OnOk result ((D.view disk.new).calls ≡ (D.view disk.old).calls ++ side_calls layout.now) }
+    ensures calls { OnOk result (HasCalled (D.view disk.old) (D.view disk.new) (side_calls layout.now)) }
     ensures some_calls { HasMade (D.view disk.old) (D.view disk.new) (side_calls layout.now) }
     ensures cause { HasCause (D.view disk.old) (D.view disk.new) result }
     ensures in_range { IsErrOf result OutOfRange → ⊥ }
@@ -78,23 +78,26 @@ fn write_sides<D: Disk>(disk: &mut D, layout: &Layout) -> Result<(), DiskError>
     disk.sync()
 }
 
-/// Makes a disk ready for an empty register, of epoch 1 on side A. Takes no memory.
+/// Formats a disk for an empty register, with epoch 1 on side A. Takes no memory.
 ///
-/// `BadGeometry` comes where the disk has fewer sectors than the layout; nothing is then written. After a `DiskFault`
-/// nothing is said of what the disk holds.
+/// `BadGeometry`: the disk has fewer sectors than the layout needs, and nothing is written. After a `DiskFault` the disk
+/// may hold anything.
 pub fn format<A: Allocator, D: Disk>(disk: &mut D, layout: &Layout) -> Result<(), StoreFault>
-    // At `Ok` each stop leaves the disk standing by side A for the empty register, with no record.
-    ensures stands { OnOk result ((D.view disk.old).honest → InEach (D.view disk.new) (Stands {A = A} layout.now Side.A Numbered (first_base layout.now) (fresh layout.now Side.A))) }
-    ensures opens { OnOk result ((D.view disk.old).honest → InEach (D.view disk.new) (λ image. opens A image ≡ Ok (opening layout.now Side.A 1 (half_at layout.now Side.A) (empty layout.now.limits)))) }
+    // At `Ok` each stop leaves a disk on side A that opens to the empty register, without a record.
+    ensures on_side { OnOk result ((D.view disk.old).honest
+        → EachIsOnSide {A = A} (D.view disk.new) layout.now Side.A Numbered (first_base layout.now) (fresh layout.now Side.A)) }
+    ensures opens { OnOk result ((D.view disk.old).honest → InEach (D.view disk.new) (λ image.
+        opens A image ≡ Ok (opening layout.now Side.A 1 (half_at layout.now Side.A) (empty layout.now.limits)))) }
 
-    // The sides are written and synced, then the label; each sector is written once, and nothing is read. A call that
+    // The sides are written and synced, then the label. Each sector is written once, and nothing is read. A call that
     // fails is the last.
-    ensures calls { OnOk result ((D.view disk.new).calls ≡ (D.view disk.old).calls ++ format_calls layout.now) }
+    ensures calls { OnOk result (HasCalled (D.view disk.old) (D.view disk.new) (format_calls layout.now)) }
     ensures some_calls { disk_size layout.now ≤ (D.view disk.old).sectors → HasMade (D.view disk.old) (D.view disk.new) (format_calls layout.now) }
 
-    // It does not give up by itself.
+    // It fails only for these reasons.
     ensures geometry { (D.view disk.old).sectors < disk_size layout.now → (result ≡ Err BadGeometry) × (disk.new ≡ disk.old) }
-    ensures fault { disk_size layout.now ≤ (D.view disk.old).sectors → IfErr result (λ fault. (fault ≡ DiskFault) × HasFailed (D.view disk.old) (D.view disk.new)) }
+    ensures fault { disk_size layout.now ≤ (D.view disk.old).sectors
+        → IfErr result (λ fault. (fault ≡ DiskFault) × HasFailed (D.view disk.old) (D.view disk.new)) }
     ensures sectors { (D.view disk.new).sectors ≡ (D.view disk.old).sectors }
     ensures later { (D.view disk.old).failures ≤ (D.view disk.new).failures }
     ensures honest { (D.view disk.old).honest → (D.view disk.new).honest }

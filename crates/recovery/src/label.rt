@@ -1,11 +1,11 @@
-// The label of a disk, read.
+// Reading the label of a disk.
 ghost use Rattle.std.specs.Prelude.{◌≡◌, ◌⊎◌, ◌≤◌, ℕ, IfErr, IfOk, IsErrOf, length};
 ghost use Rattle.sector_disk.specs.Disk.{HasFailed};
 ghost use Rattle.sector_disk.specs.Reading.{before_reads};
-ghost use Rattle.sector_disk.specs.Run.{HasLooked};
+ghost use Rattle.sector_disk.specs.Run.{HasOnlyRead};
 ghost use Rattle.checkpoint.specs.Layout.{disk_size};
 ghost use Rattle.recovery.specs.declared.fault.StoreFault.TheVariants.{BadGeometry, Damaged, DiskFault, Unformatted};
-ghost use Rattle.recovery.specs.Label.{fitting, layout_at, layout_behind, layout_in, layout_told, told_at};
+ghost use Rattle.recovery.specs.Label.{fitting, layout_at, layout_after, layout_in, layout_of_numbers, numbers_at};
 ghost use Rattle.recovery.specs.Opening.{Gives, IsOfDisk};
 
 use crate::StoreFault;
@@ -15,12 +15,12 @@ use command_bytes::number;
 use registration::Limits;
 use sector_disk::Disk;
 
-/// The letters with which a label begins.
+/// The letters that a label begins with.
 const NAME: [u8; 8] = *b"TETRALOC";
 
-/// The numbers of a label: that of its layout, the four limits, and how many sectors a half has.
+/// The numbers of a label: the layout's number, the four limits, and how many sectors a half has.
 #[derive(Clone, Copy, Debug, Drop)]
-pub(crate) struct Told {
+pub(crate) struct LabelNumbers {
     number: u64,
     rules: u32,
     radios: u32,
@@ -29,10 +29,10 @@ pub(crate) struct Told {
     journal: u32,
 }
 
-// The numbers behind the name.
-#[tactic(auto, unfolding(crate::specs::Label::told_at))]
-fn numbers(bytes: &[u8]) -> Option<Told>
-    ensures { result ≡ told_at bytes.now }
+// The numbers after the name.
+#[tactic(auto, unfolding(crate::specs::Label::numbers_at))]
+fn numbers(bytes: &[u8]) -> Option<LabelNumbers>
+    ensures { result ≡ numbers_at bytes.now }
 {
     let (layout, rest) = number(bytes, 2)?;
     let (rules, rest) = number(rest, 4)?;
@@ -40,7 +40,7 @@ fn numbers(bytes: &[u8]) -> Option<Told>
     let (mail, rest) = number(rest, 4)?;
     let (stations, rest) = number(rest, 4)?;
     let (journal, _) = number(rest, 4)?;
-    Some(Told {
+    Some(LabelNumbers {
         number: layout,
         rules: rules as u32,
         radios: radios as u32,
@@ -50,25 +50,25 @@ fn numbers(bytes: &[u8]) -> Option<Told>
     })
 }
 
-// The layout of these numbers, where they are in their ranges.
-fn layout_told(told: &Told) -> Option<Layout>
-    ensures { result ≡ layout_told told.now }
+// The layout of these numbers, if each is in its range.
+fn layout_of_numbers(label: &LabelNumbers) -> Option<Layout>
+    ensures { result ≡ layout_of_numbers label.now }
 {
-    if told.number != LAYOUT {
+    if label.number != LAYOUT {
         return None;
     }
-    let limits = Limits::new(told.rules, told.radios, told.mail, told.stations)?;
-    Layout::new(limits, told.journal)
+    let limits = Limits::new(label.rules, label.radios, label.mail, label.stations)?;
+    Layout::new(limits, label.journal)
 }
 
-// The layout that the bytes behind the name tell.
-fn layout_behind(bytes: &[u8]) -> Option<Layout>
-    ensures { result ≡ layout_behind bytes.now }
+// The layout that the bytes after the name state.
+fn layout_after(bytes: &[u8]) -> Option<Layout>
+    ensures { result ≡ layout_after bytes.now }
 {
-    layout_told(&numbers(bytes)?)
+    layout_of_numbers(&numbers(bytes)?)
 }
 
-// The layout, where there are the sectors for it.
+// The layout, if the disk has enough sectors for it.
 fn fitting(sectors: u64, layout: Option<Layout>) -> Result<Layout, StoreFault>
     ensures value { result ≡ fitting sectors layout }
     ensures room { IfOk result (λ layout. disk_size layout ≤ sectors) }
@@ -83,7 +83,7 @@ fn fitting(sectors: u64, layout: Option<Layout>) -> Result<Layout, StoreFault>
     Ok(layout)
 }
 
-// The layout that the first one of so many sectors tells.
+// The layout that the label states, on a disk of so many sectors.
 fn layout_at(sectors: u64, bytes: &[u8]) -> Result<Layout, StoreFault>
     requires { 8 ≤ length bytes.now }
     ensures value { result ≡ layout_at sectors bytes.now }
@@ -93,17 +93,17 @@ fn layout_at(sectors: u64, bytes: &[u8]) -> Result<Layout, StoreFault>
     if bytes[..8] != NAME[..] {
         return Err(StoreFault::Unformatted);
     }
-    fitting(sectors, layout_behind(&bytes[8..]))
+    fitting(sectors, layout_after(&bytes[8..]))
 }
 
-// The layout that the disk tells.
+// The layout that the disk states.
 #[tactic(auto, unfolding(crate::specs::Label::layout_in), using(sector_disk::proofs::Reading::one_read))]
 pub(crate) fn read_layout<D: Disk>(disk: &mut D) -> Result<Layout, StoreFault>
     ensures exact { (D.view disk.old).honest → Gives (λ layout. layout) result (layout_in (D.view disk.old).reads) }
     ensures room { IfOk result (λ layout. disk_size layout ≤ (D.view disk.old).sectors) }
     ensures kinds { IfErr result IsOfDisk }
     ensures on_disk { (at : ℕ) → IsErrOf result (Damaged at) → ⊥ }
-    ensures looked { (D.view disk.old).honest → HasLooked (D.view disk.old) (D.view disk.new) }
+    ensures only_read { (D.view disk.old).honest → HasOnlyRead (D.view disk.old) (D.view disk.new) }
     ensures only_reads { before_reads (D.view disk.new).calls ≡ before_reads (D.view disk.old).calls }
     ensures fault { IsErrOf result DiskFault → HasFailed (D.view disk.old) (D.view disk.new) }
     ensures sectors { (D.view disk.new).sectors ≡ (D.view disk.old).sectors }

@@ -1,18 +1,19 @@
-//! A register that is kept on a disk: what a disk opens to, a disk made ready for an empty register, and one opened, kept
-//! through commits and checkpoints.
+//! A register that is kept on a disk: the disk is formatted and opened, and commits and checkpoints write to it. The
+//! crate touches only the disk and the allocators that it is given, and knows nothing of files, threads and text lines.
 #![tactic(auto)]
 
 mod batch;
 mod before;
-mod beside;
 mod checkpointing;
 mod commit;
 mod fault;
 mod formatting;
+mod formatting_with;
 mod keeping;
 mod label;
 pub mod laws;
 pub mod lives;
+mod ongoing;
 mod opening;
 mod outcome;
 mod records;
@@ -23,5 +24,6 @@ mod store;
 
 pub use fault::StoreFault;
 pub use formatting::format;
+pub use formatting_with::format_with;
 pub use outcome::Outcome;
 pub use store::Store;

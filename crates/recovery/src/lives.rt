@@ -3,8 +3,8 @@
 ghost use Rattle.std.specs.Prelude.{◌≡◌, ◌∷◌, ℕ, [], List, false};
 ghost use Rattle.registration.specs.declared.limits.Limits.{Limits};
 ghost use Rattle.sector_disk.specs.Memory.{memory_view};
-ghost use Rattle.checkpoint.specs.Standing.{InEach};
-ghost use Rattle.recovery.specs.Lives.{Closed, Event, Holds, IsLife, Lasts, LosesNoMessage, Open, Phase, StoreView, Unanswered, disk_of};
+ghost use Rattle.checkpoint.specs.OnSide.{InEach};
+ghost use Rattle.recovery.specs.Lives.{Closed, Event, LastsInStore, IsLife, Lasts, LosesNoMessage, Open, Phase, StoreView, Unanswered, disk_of};
 
 use sector_disk::{Disk, MemoryDisk};
 use std::alloc::Allocator;
@@ -16,9 +16,12 @@ use std::alloc::Allocator;
 ///
 /// This function does nothing: calling it gives its clauses.
 pub fn lasts<A: Allocator, D: Disk>()
-    ensures on_disk { (limits : Limits) (events : List (Event A)) (now : Phase A D) → IsLife A D.view limits events now → InEach (D.view (disk_of now)) (Lasts A limits events) }
-    ensures in_store { (limits : Limits) (events : List (Event A)) (store : StoreView A D) → IsLife A D.view limits events (Open store) → store.broken ≡ false → Holds A limits events store }
-    ensures messages { (limits : Limits) (events : List (Event A)) (image : List (List ℕ)) (lasts : Lasts A limits events image) → LosesNoMessage A limits lasts.kept image }
+    ensures on_disk { (limits : Limits) (events : List (Event A)) (now : Phase A D) → IsLife A D.view limits events now
+        → InEach (D.view (disk_of now)) (Lasts A limits events) }
+    ensures in_store { (limits : Limits) (events : List (Event A)) (store : StoreView A D) → IsLife A D.view limits events (Open store)
+        → store.broken ≡ false → LastsInStore A limits events store }
+    ensures messages { (limits : Limits) (events : List (Event A)) (image : List (List ℕ)) (lasts : Lasts A limits events image)
+        → LosesNoMessage A limits lasts.kept image }
 {}
 
 /// `MemoryDisk::crash` is such a stop.
@@ -26,7 +29,8 @@ pub fn crash<A: Allocator, M: Allocator>(
     disk: MemoryDisk<M>,
     fill: &[(u64, [u8; 512])],
 ) -> MemoryDisk<M>
-    ensures { (limits : Limits) (events : List (Event A)) → IsLife A memory_view limits events (Closed disk) → IsLife A memory_view limits (Unanswered [] ∷ events) (Closed result) }
+    ensures { (limits : Limits) (events : List (Event A)) → IsLife A memory_view limits events (Closed disk)
+        → IsLife A memory_view limits (Unanswered [] ∷ events) (Closed result) }
 {
     disk.crash(fill)
 }

@@ -1,11 +1,11 @@
-// A disk, read from its label to its last record.
+// Reading a disk from its label to its last record.
 ghost use Rattle.std.specs.Prelude.{◌≡◌, ◌⊎◌, ◌<◌, ◌≤◌, ℕ, IfErr, IfOk, IsErrOf, OnOk};
 ghost use Rattle.sector_disk.specs.Disk.{HasFailed};
 ghost use Rattle.sector_disk.specs.Reading.{before_reads};
-ghost use Rattle.sector_disk.specs.Run.{HasLooked};
+ghost use Rattle.sector_disk.specs.Run.{HasOnlyRead};
 ghost use Rattle.gated_journal.specs.Reading.{HasRecords};
 ghost use Rattle.checkpoint.specs.Layout.{disk_size, half_at, half_end};
-ghost use Rattle.checkpoint.specs.Standing.{slot_form};
+ghost use Rattle.checkpoint.specs.OnSide.{ReadsForm};
 ghost use Rattle.recovery.specs.declared.fault.StoreFault.TheVariants.{Damaged, DiskFault, NoMemory};
 ghost use Rattle.recovery.specs.Opens.{opens, opens_by, played_by};
 ghost use Rattle.recovery.specs.Opening.{AreGoodSoFar, EndsAt, Gives, HasNoFaultYet, IsOfOpening};
@@ -32,8 +32,8 @@ pub(crate) struct Opened<A: Allocator> {
     pub(crate) register: Register<A>,
 }
 
-// Reads the records of a side's half, in their form and behind the commands that the register counts, and gives their
-// commands to it.
+// Reads the records of a side's half, in their form, and applies their commands to the register. They are numbered from
+// the register's count on.
 #[tactic(auto, unfolding(crate::specs::Opens::played_by))]
 fn read_half<A: Allocator + Copy, D: Disk>(
     alloc: A,
@@ -43,8 +43,10 @@ fn read_half<A: Allocator + Copy, D: Disk>(
     register: &mut Register<A>,
 ) -> Result<Journal<A>, StoreFault>
     requires room { disk_size layout.now ≤ (D.view disk.old).sectors }
-    ensures exact { (D.view disk.old).honest → current.form ≡ slot_form layout.now current.side (D.view disk.old).reads → EndsAt (λ journal. journal.next) result register.new (played_by A layout.now current.side register.old (D.view disk.old).reads) }
-    ensures memory { IsErrOf result NoMemory → (D.view disk.old).honest → ((D.view disk.new).calls ≡ (D.view disk.old).calls) ⊎ HasRecords A current.form register.old.count (D.view disk.old).reads (half_at layout.now current.side) (half_end layout.now current.side) }
+    ensures exact { (D.view disk.old).honest → ReadsForm layout.now current.side current.form (D.view disk.old)
+        → EndsAt (λ journal. journal.next) result register.new (played_by A layout.now current.side register.old (D.view disk.old).reads) }
+    ensures memory { IsErrOf result NoMemory → (D.view disk.old).honest → ((D.view disk.new).calls ≡ (D.view disk.old).calls)
+        ⊎ HasRecords A current.form register.old.count (D.view disk.old).reads (half_at layout.now current.side) (half_end layout.now current.side) }
     ensures limits { register.new.registered.limits ≡ register.old.registered.limits }
     ensures first { IfOk result (λ journal. journal.first ≡ half_at layout.now current.side) }
     ensures end { IfOk result (λ journal. journal.end ≡ half_end layout.now current.side) }
@@ -53,7 +55,7 @@ fn read_half<A: Allocator + Copy, D: Disk>(
     ensures counts { IfOk result (λ journal. journal.count ≡ register.new.count) }
     ensures kinds { IfErr result IsOfOpening }
     ensures on_disk { (at : ℕ) → IsErrOf result (Damaged at) → at < (D.view disk.old).sectors }
-    ensures looked { (D.view disk.old).honest → HasLooked (D.view disk.old) (D.view disk.new) }
+    ensures only_read { (D.view disk.old).honest → HasOnlyRead (D.view disk.old) (D.view disk.new) }
     ensures only_reads { before_reads (D.view disk.new).calls ≡ before_reads (D.view disk.old).calls }
     ensures fault { IsErrOf result DiskFault → HasFailed (D.view disk.old) (D.view disk.new) }
     ensures sectors { (D.view disk.new).sectors ≡ (D.view disk.old).sectors }
@@ -71,24 +73,26 @@ fn read_half<A: Allocator + Copy, D: Disk>(
     Ok(journal)
 }
 
-// What the disk opens to by this side.
+// What the disk opens to, read from this side.
 #[tactic(auto, unfolding(crate::specs::Opens::opens_by))]
-fn read_by<A: Allocator + Copy, D: Disk>(
+fn read_current<A: Allocator + Copy, D: Disk>(
     alloc: A,
     disk: &mut D,
     layout: Layout,
     current: Current,
 ) -> Result<Opened<A>, StoreFault>
     requires room { disk_size layout ≤ (D.view disk.old).sectors }
-    ensures exact { (D.view disk.old).honest → current.form ≡ slot_form layout current.side (D.view disk.old).reads → Gives opened_view result (opens_by A layout current.side (D.view disk.old).reads) }
-    ensures memory { IsErrOf result NoMemory → (D.view disk.old).honest → current.form ≡ slot_form layout current.side (D.view disk.old).reads → AreGoodSoFar A layout current.side (D.view disk.old).reads (D.view disk.new).calls }
+    ensures exact { (D.view disk.old).honest → ReadsForm layout current.side current.form (D.view disk.old)
+        → Gives opened_view result (opens_by A layout current.side (D.view disk.old).reads) }
+    ensures memory { IsErrOf result NoMemory → (D.view disk.old).honest → ReadsForm layout current.side current.form (D.view disk.old)
+        → AreGoodSoFar A layout current.side (D.view disk.old).reads (D.view disk.new).calls }
     ensures whole { IfOk result IsWhole }
     ensures layout { IfOk result (λ opened. opened.layout ≡ layout) }
     ensures side { IfOk result (λ opened. opened.side ≡ current.side) }
     ensures form { IfOk result (λ opened. opened.journal.form ≡ current.form) }
     ensures kinds { IfErr result IsOfOpening }
     ensures on_disk { (at : ℕ) → IsErrOf result (Damaged at) → at < (D.view disk.old).sectors }
-    ensures looked { (D.view disk.old).honest → HasLooked (D.view disk.old) (D.view disk.new) }
+    ensures only_read { (D.view disk.old).honest → HasOnlyRead (D.view disk.old) (D.view disk.new) }
     ensures only_reads { before_reads (D.view disk.new).calls ≡ before_reads (D.view disk.old).calls }
     ensures fault { IsErrOf result DiskFault → HasFailed (D.view disk.old) (D.view disk.new) }
     ensures sectors { (D.view disk.new).sectors ≡ (D.view disk.old).sectors }
@@ -119,11 +123,11 @@ pub(crate) fn read_all<A: Allocator + Copy, D: Disk>(
     ensures exact { (D.view disk.old).honest → Gives opened_view result (opens A (D.view disk.old).reads) }
     ensures memory { IsErrOf result NoMemory → (D.view disk.old).honest → HasNoFaultYet A (D.view disk.old).reads (D.view disk.new).calls }
     ensures whole { IfOk result IsWhole }
-    ensures form { IfOk result (λ opened. (D.view disk.old).honest → opened.journal.form ≡ slot_form opened.layout opened.side (D.view disk.old).reads) }
+    ensures form { IfOk result (λ opened. (D.view disk.old).honest → ReadsForm opened.layout opened.side opened.journal.form (D.view disk.old)) }
     ensures room { IfOk result (λ opened. disk_size opened.layout ≤ (D.view disk.old).sectors) }
     ensures kinds { IfErr result IsOfOpening }
     ensures on_disk { (at : ℕ) → IsErrOf result (Damaged at) → at < (D.view disk.old).sectors }
-    ensures looked { (D.view disk.old).honest → HasLooked (D.view disk.old) (D.view disk.new) }
+    ensures only_read { (D.view disk.old).honest → HasOnlyRead (D.view disk.old) (D.view disk.new) }
     ensures only_reads { before_reads (D.view disk.new).calls ≡ before_reads (D.view disk.old).calls }
     ensures fault { IsErrOf result DiskFault → HasFailed (D.view disk.old) (D.view disk.new) }
     ensures sectors { (D.view disk.new).sectors ≡ (D.view disk.old).sectors }
@@ -131,5 +135,5 @@ pub(crate) fn read_all<A: Allocator + Copy, D: Disk>(
 {
     let layout = read_layout(disk)?;
     let current = read_side(disk, &layout)?;
-    read_by(alloc, disk, layout, current)
+    read_current(alloc, disk, layout, current)
 }

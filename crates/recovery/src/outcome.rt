@@ -8,6 +8,6 @@ use std::alloc::Allocator;
 pub enum Outcome<C: Allocator> {
     /// The register's reply. What it accepts is on the disk.
     Replied(Reply<C>),
-    /// There was no memory for this command, or for one before it: it was not applied.
+    /// This command, or one before it, ran out of memory: it was not applied.
     NoMemory,
 }

@@ -1,17 +1,16 @@
 // The image in a side's slot, and the commands in its half.
-ghost use Rattle.std.specs.Prelude.{◌≡◌, ◌⊎◌, ◌<◌, ◌≤◌, ◌+◌, ◌++◌, ℕ, IfErr, IfOk, IsErrOf, OnOk, Result, length, true};
+ghost use Rattle.std.specs.Prelude.{◌≡◌, ◌⊎◌, ◌<◌, ◌≤◌, ◌+◌, ℕ, IfErr, IfOk, IsErrOf, OnOk, Result, length, true};
 ghost use Rattle.sector_disk.specs.Disk.{HasFailed};
 ghost use Rattle.sector_disk.specs.Reading.{before_reads};
-ghost use Rattle.sector_disk.specs.Run.{HasLooked};
-ghost use Rattle.gated_journal.specs.Half.{half_of};
-ghost use Rattle.gated_journal.specs.Reading.{HasRecords};
-ghost use Rattle.gated_journal.specs.Settled.{IsCounted};
+ghost use Rattle.sector_disk.specs.Run.{HasCalled, HasOnlyRead};
+ghost use Rattle.gated_journal.specs.Reading.{HasRecordsIn};
+ghost use Rattle.gated_journal.specs.Settled.{IsCounted, half_in};
 ghost use Rattle.centre_core.specs.State.{State};
 ghost use Rattle.checkpoint.specs.Layout.{disk_size, slot_at};
-ghost use Rattle.checkpoint.specs.Reading.{IsGoodSoFar, image_looks};
+ghost use Rattle.checkpoint.specs.Reading.{IsGoodSoFar, image_reads};
 ghost use Rattle.recovery.specs.declared.fault.StoreFault.TheVariants.{Damaged, DiskFault, NoMemory};
 ghost use Rattle.recovery.specs.Opens.{base_in, held_by, played_from, run, taken};
-ghost use Rattle.recovery.specs.Opening.{BeginsWith, EndsAt, Fails, Gives, IsOfOpening, PlaysOn, PlaysTo, Stops, StopsAt};
+ghost use Rattle.recovery.specs.Opening.{BeginsWith, EndsAt, Fails, Gives, IsOfOpening, PlaysOn, PlaysTo, Stops, StopsAt, rest_in};
 
 use crate::StoreFault;
 use centre_core::{Command, Register};
@@ -32,10 +31,11 @@ pub(crate) fn read_base<A: Allocator + Copy, D: Disk>(
     ensures exact { (D.view disk.old).honest → Gives (λ base. base) result (base_in layout.now side (D.view disk.old).reads) }
     ensures limits { IfOk result (λ base. base.1.registered.limits ≡ layout.now.limits) }
     ensures memory { IsErrOf result NoMemory → (D.view disk.old).honest → IsGoodSoFar layout.now side (D.view disk.old) (D.view disk.new) }
-    ensures calls { IfOk result (λ base. (D.view disk.old).honest → (D.view disk.new).calls ≡ (D.view disk.old).calls ++ image_looks (slot_at layout.now side) base) }
+    ensures calls { IfOk result (λ base. (D.view disk.old).honest
+        → HasCalled (D.view disk.old) (D.view disk.new) (image_reads (slot_at layout.now side) base)) }
     ensures kinds { IfErr result IsOfOpening }
     ensures on_disk { (at : ℕ) → IsErrOf result (Damaged at) → at < (D.view disk.old).sectors }
-    ensures looked { (D.view disk.old).honest → HasLooked (D.view disk.old) (D.view disk.new) }
+    ensures only_read { (D.view disk.old).honest → HasOnlyRead (D.view disk.old) (D.view disk.new) }
     ensures only_reads { before_reads (D.view disk.new).calls ≡ before_reads (D.view disk.old).calls }
     ensures fault { IsErrOf result DiskFault → HasFailed (D.view disk.old) (D.view disk.new) }
     ensures sectors { (D.view disk.new).sectors ≡ (D.view disk.old).sectors }
@@ -49,7 +49,7 @@ pub(crate) fn read_base<A: Allocator + Copy, D: Disk>(
     }
 }
 
-// The commands of a record, each of which has to be accepted.
+// Applies the commands of a record. Each of them must be accepted.
 fn play_record<A: Allocator + Copy>(
     alloc: A,
     register: &mut Register<A>,
@@ -72,7 +72,7 @@ fn play_record<A: Allocator + Copy>(
     Ok(())
 }
 
-// Reads the record at the next gate, and gives its commands to the register; whether one stood there.
+// Reads the record at the next gate and applies its commands to the register. Returns whether a record was there.
 fn play_next<A: Allocator + Copy, D: Disk>(
     alloc: A,
     disk: &mut D,
@@ -82,9 +82,9 @@ fn play_next<A: Allocator + Copy, D: Disk>(
     requires before { journal.old.next < journal.old.end }
     requires within { journal.old.end ≤ (D.view disk.old).sectors }
     requires room { IsCounted journal.old }
-    ensures exact { (D.view disk.old).honest → PlaysOn result register.new journal.new.next (half_of {A = A} journal.new.form journal.new.count (D.view disk.old).reads journal.new.next journal.old.end)
-        (played_from register.old (half_of {A = A} journal.old.form journal.old.count (D.view disk.old).reads journal.old.next journal.old.end)) }
-    ensures begins { (D.view disk.old).honest → BeginsWith (half_of {A = A} journal.old.form journal.old.count (D.view disk.old).reads journal.old.next journal.old.end) (half_of {A = A} journal.new.form journal.new.count (D.view disk.old).reads journal.new.next journal.old.end) }
+    ensures exact { (D.view disk.old).honest → PlaysOn result register.new journal.new.next (rest_in A journal.new journal.old.end (D.view disk.old))
+        (played_from register.old (half_in A journal.old (D.view disk.old))) }
+    ensures begins { (D.view disk.old).honest → BeginsWith (half_in A journal.old (D.view disk.old)) (rest_in A journal.new journal.old.end (D.view disk.old)) }
     ensures limits { register.new.registered.limits ≡ register.old.registered.limits }
     ensures first { journal.new.first ≡ journal.old.first }
     ensures end { journal.new.end ≡ journal.old.end }
@@ -95,7 +95,7 @@ fn play_next<A: Allocator + Copy, D: Disk>(
     ensures on { IfOk result (λ more. more ≡ true → journal.old.next < journal.new.next) }
     ensures kinds { IfErr result IsOfOpening }
     ensures damaged { (at : ℕ) → IsErrOf result (Damaged at) → at < journal.old.end }
-    ensures looked { (D.view disk.old).honest → HasLooked (D.view disk.old) (D.view disk.new) }
+    ensures only_read { (D.view disk.old).honest → HasOnlyRead (D.view disk.old) (D.view disk.new) }
     ensures only_reads { before_reads (D.view disk.new).calls ≡ before_reads (D.view disk.old).calls }
     ensures fault { IsErrOf result DiskFault → HasFailed (D.view disk.old) (D.view disk.new) }
     ensures sectors { (D.view disk.new).sectors ≡ (D.view disk.old).sectors }
@@ -108,7 +108,7 @@ fn play_next<A: Allocator + Copy, D: Disk>(
     Ok(true)
 }
 
-// Reads the records from the next gate on, and gives the commands of each to the register as it is read, up to a fault.
+// Reads the records from the next gate on, up to a fault, and applies the commands of each as it is read.
 fn play_on<A: Allocator + Copy, D: Disk>(
     alloc: A,
     disk: &mut D,
@@ -118,9 +118,9 @@ fn play_on<A: Allocator + Copy, D: Disk>(
     requires before { journal.old.next < journal.old.end }
     requires within { journal.old.end ≤ (D.view disk.old).sectors }
     requires room { IsCounted journal.old }
-    ensures exact { (D.view disk.old).honest → StopsAt result register.new journal.new.next (half_of {A = A} journal.new.form journal.new.count (D.view disk.old).reads journal.new.next journal.old.end)
-        (played_from register.old (half_of {A = A} journal.old.form journal.old.count (D.view disk.old).reads journal.old.next journal.old.end)) }
-    ensures begins { (D.view disk.old).honest → BeginsWith (half_of {A = A} journal.old.form journal.old.count (D.view disk.old).reads journal.old.next journal.old.end) (half_of {A = A} journal.new.form journal.new.count (D.view disk.old).reads journal.new.next journal.old.end) }
+    ensures exact { (D.view disk.old).honest → StopsAt result register.new journal.new.next (rest_in A journal.new journal.old.end (D.view disk.old))
+        (played_from register.old (half_in A journal.old (D.view disk.old))) }
+    ensures begins { (D.view disk.old).honest → BeginsWith (half_in A journal.old (D.view disk.old)) (rest_in A journal.new journal.old.end (D.view disk.old)) }
     ensures limits { register.new.registered.limits ≡ register.old.registered.limits }
     ensures first { journal.new.first ≡ journal.old.first }
     ensures end { journal.new.end ≡ journal.old.end }
@@ -130,7 +130,7 @@ fn play_on<A: Allocator + Copy, D: Disk>(
     ensures room { IsCounted journal.new }
     ensures kinds { IfErr result IsOfOpening }
     ensures damaged { (at : ℕ) → IsErrOf result (Damaged at) → at < journal.old.end }
-    ensures looked { (D.view disk.old).honest → HasLooked (D.view disk.old) (D.view disk.new) }
+    ensures only_read { (D.view disk.old).honest → HasOnlyRead (D.view disk.old) (D.view disk.new) }
     ensures only_reads { before_reads (D.view disk.new).calls ≡ before_reads (D.view disk.old).calls }
     ensures fault { IsErrOf result DiskFault → HasFailed (D.view disk.old) (D.view disk.new) }
     ensures sectors { (D.view disk.new).sectors ≡ (D.view disk.old).sectors }
@@ -140,7 +140,7 @@ fn play_on<A: Allocator + Copy, D: Disk>(
     Ok(())
 }
 
-// The fault of the records from the next gate on, or else this one.
+// The first fault in the records from the next gate on, or else this one.
 fn first_fault<A: Allocator, D: Disk>(
     disk: &mut D,
     journal: &mut Journal<A>,
@@ -149,12 +149,13 @@ fn first_fault<A: Allocator, D: Disk>(
     requires before { journal.old.next < journal.old.end }
     requires within { journal.old.end ≤ (D.view disk.old).sectors }
     requires room { IsCounted journal.old }
-    ensures exact { (D.view disk.old).honest → (is : Result (State × ℕ) StoreFault) → Stops fault (held_by (half_of {A = A} journal.old.form journal.old.count (D.view disk.old).reads journal.old.next journal.old.end)) is → Fails result is }
-    ensures memory { result ≡ NoMemory → (D.view disk.old).honest → HasRecords A journal.old.form journal.old.count (D.view disk.old).reads journal.old.next journal.old.end }
+    ensures exact { (D.view disk.old).honest → (is : Result (State × ℕ) StoreFault)
+        → Stops fault (held_by (half_in A journal.old (D.view disk.old))) is → Fails result is }
+    ensures memory { result ≡ NoMemory → (D.view disk.old).honest → HasRecordsIn A journal.old (D.view disk.old) }
     ensures same { journal.new ≡ journal.old }
     ensures kinds { IsOfOpening fault → IsOfOpening result }
     ensures damaged { (at : ℕ) → result ≡ Damaged at → (fault ≡ Damaged at) ⊎ (at < journal.old.end) }
-    ensures looked { (D.view disk.old).honest → HasLooked (D.view disk.old) (D.view disk.new) }
+    ensures only_read { (D.view disk.old).honest → HasOnlyRead (D.view disk.old) (D.view disk.new) }
     ensures only_reads { before_reads (D.view disk.new).calls ≡ before_reads (D.view disk.old).calls }
     ensures device { result ≡ DiskFault → (fault ≡ DiskFault) ⊎ HasFailed (D.view disk.old) (D.view disk.new) }
     ensures sectors { (D.view disk.new).sectors ≡ (D.view disk.old).sectors }
@@ -164,13 +165,13 @@ fn first_fault<A: Allocator, D: Disk>(
         StoreFault::DiskFault => StoreFault::DiskFault,
         _ => match journal.judge_rest(disk) {
             Ok(()) => fault,
-            Err(told) => StoreFault::from(told),
+            Err(error) => StoreFault::from(error),
         },
     }
 }
 
-// Reads the records from the next gate on, and gives the commands of each to the register. Where one is not accepted, or
-// memory is wanted, the records behind it are judged first.
+// Reads the records from the next gate on, and applies the commands of each to the register. If one is not accepted, or
+// memory runs out, the records after it are judged before that is reported.
 pub(crate) fn play<A: Allocator + Copy, D: Disk>(
     alloc: A,
     disk: &mut D,
@@ -180,8 +181,9 @@ pub(crate) fn play<A: Allocator + Copy, D: Disk>(
     requires before { journal.old.next < journal.old.end }
     requires within { journal.old.end ≤ (D.view disk.old).sectors }
     requires room { IsCounted journal.old }
-    ensures exact { (D.view disk.old).honest → EndsAt (λ done. journal.new.next) result register.new (played_from register.old (half_of {A = A} journal.old.form journal.old.count (D.view disk.old).reads journal.old.next journal.old.end)) }
-    ensures memory { IsErrOf result NoMemory → (D.view disk.old).honest → HasRecords A journal.old.form journal.old.count (D.view disk.old).reads journal.old.next journal.old.end }
+    ensures exact { (D.view disk.old).honest
+        → EndsAt (λ done. journal.new.next) result register.new (played_from register.old (half_in A journal.old (D.view disk.old))) }
+    ensures memory { IsErrOf result NoMemory → (D.view disk.old).honest → HasRecordsIn A journal.old (D.view disk.old) }
     ensures limits { register.new.registered.limits ≡ register.old.registered.limits }
     ensures first { journal.new.first ≡ journal.old.first }
     ensures end { journal.new.end ≡ journal.old.end }
@@ -191,7 +193,7 @@ pub(crate) fn play<A: Allocator + Copy, D: Disk>(
     ensures room { IsCounted journal.new }
     ensures kinds { IfErr result IsOfOpening }
     ensures damaged { (at : ℕ) → IsErrOf result (Damaged at) → at < journal.old.end }
-    ensures looked { (D.view disk.old).honest → HasLooked (D.view disk.old) (D.view disk.new) }
+    ensures only_read { (D.view disk.old).honest → HasOnlyRead (D.view disk.old) (D.view disk.new) }
     ensures only_reads { before_reads (D.view disk.new).calls ≡ before_reads (D.view disk.old).calls }
     ensures fault { IsErrOf result DiskFault → HasFailed (D.view disk.old) (D.view disk.new) }
     ensures sectors { (D.view disk.new).sectors ≡ (D.view disk.old).sectors }

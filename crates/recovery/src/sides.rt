@@ -2,23 +2,23 @@
 ghost use Rattle.std.specs.Prelude.{◌≡◌, ◌⊎◌, ◌<◌, ◌≤◌, ℕ, IfErr, IfOk, IfSome, IsErrOf, option_map};
 ghost use Rattle.sector_disk.specs.Disk.{HasFailed};
 ghost use Rattle.sector_disk.specs.Reading.{before_reads};
-ghost use Rattle.sector_disk.specs.Run.{HasLooked};
+ghost use Rattle.sector_disk.specs.Run.{HasOnlyRead};
 ghost use Rattle.image_rows.specs.RowReading.{row_in};
 ghost use Rattle.checkpoint.specs.Layout.{disk_size};
 ghost use Rattle.gated_journal.specs.declared.form.Form.{Form};
 ghost use Rattle.checkpoint.specs.declared.side.Side.{Side};
-ghost use Rattle.checkpoint.specs.Standing.{epoch_of, slot_form};
+ghost use Rattle.checkpoint.specs.OnSide.{epoch_of, slot_form};
 ghost use Rattle.recovery.specs.declared.fault.StoreFault.TheVariants.{Damaged, DiskFault};
 ghost use Rattle.recovery.specs.Opens.{chosen, side_at, side_in};
 ghost use Rattle.recovery.specs.Opening.{Gives, IsOfDisk};
 
 use crate::StoreFault;
-use checkpoint::{Layout, Side, form_told};
+use checkpoint::{Layout, Side, stated_form};
 use gated_journal::Form;
 use image_rows::{ReadRow, read_row};
 use sector_disk::Disk;
 
-// What the first sector of a slot tells: the epoch of the image there, and the form of the records behind it.
+// What the header in a slot states: the epoch of the image, and the form of the records after it.
 #[derive(Clone, Copy, Drop)]
 struct Head {
     epoch: u64,
@@ -32,7 +32,7 @@ pub(crate) struct Current {
     pub(crate) form: Form,
 }
 
-// The epoch that a row tells, where it is a header.
+// The epoch of a row that is a header.
 fn epoch_of(bytes: &[u8]) -> Option<u64>
     ensures { result ≡ epoch_of (row_in bytes.now) }
 {
@@ -42,7 +42,7 @@ fn epoch_of(bytes: &[u8]) -> Option<u64>
     }
 }
 
-// What the slot of a side tells whose root is open.
+// The header of a side whose root is open.
 #[tactic(auto, unfolding(crate::specs::Opens::side_at), using(sector_disk::proofs::Reading::one_read))]
 fn read_head<D: Disk>(disk: &mut D, layout: &Layout, side: Side) -> Result<Option<Head>, StoreFault>
     requires room { disk_size layout.now ≤ (D.view disk.old).sectors }
@@ -50,7 +50,7 @@ fn read_head<D: Disk>(disk: &mut D, layout: &Layout, side: Side) -> Result<Optio
     ensures form { IfOk result (λ found. (D.view disk.old).honest → IfSome found (λ head. head.form ≡ slot_form layout.now side (D.view disk.old).reads)) }
     ensures kinds { IfErr result IsOfDisk }
     ensures on_disk { (at : ℕ) → IsErrOf result (Damaged at) → at < (D.view disk.old).sectors }
-    ensures looked { (D.view disk.old).honest → HasLooked (D.view disk.old) (D.view disk.new) }
+    ensures only_read { (D.view disk.old).honest → HasOnlyRead (D.view disk.old) (D.view disk.new) }
     ensures only_reads { before_reads (D.view disk.new).calls ≡ before_reads (D.view disk.old).calls }
     ensures fault { IsErrOf result DiskFault → HasFailed (D.view disk.old) (D.view disk.new) }
     ensures sectors { (D.view disk.new).sectors ≡ (D.view disk.old).sectors }
@@ -66,13 +66,13 @@ fn read_head<D: Disk>(disk: &mut D, layout: &Layout, side: Side) -> Result<Optio
     match epoch_of(&bytes) {
         Some(epoch) => Ok(Some(Head {
             epoch,
-            form: form_told(&bytes),
+            form: stated_form(&bytes),
         })),
         None => Err(StoreFault::Damaged(slot)),
     }
 }
 
-// A side that counts by what its slot tells.
+// This side, with the form that its header states.
 fn by(side: Side, head: Head) -> Current
     ensures { result ≡ record { side = side; form = head.form } }
 {
@@ -85,7 +85,8 @@ fn by(side: Side, head: Head) -> Current
 // The side of the greater epoch.
 fn chosen(a: Option<Head>, b: Option<Head>) -> Result<Current, StoreFault>
     ensures value { Gives (λ current. current.side) result (chosen (option_map (λ head. head.epoch) a) (option_map (λ head. head.epoch) b)) }
-    ensures form { (told : Side → Form) → IfSome a (λ head. head.form ≡ told Side.A) → IfSome b (λ head. head.form ≡ told Side.B) → IfOk result (λ current. current.form ≡ told current.side) }
+    ensures form { (form : Side → Form) → IfSome a (λ head. head.form ≡ form Side.A) → IfSome b (λ head. head.form ≡ form Side.B)
+        → IfOk result (λ current. current.form ≡ form current.side) }
     ensures kinds { IfErr result IsOfDisk }
     ensures roots { (at : ℕ) → IsErrOf result (Damaged at) → at < 3 }
     ensures fault { IsErrOf result DiskFault → ⊥ }
@@ -113,7 +114,7 @@ pub(crate) fn read_side<D: Disk>(disk: &mut D, layout: &Layout) -> Result<Curren
     ensures form { IfOk result (λ current. (D.view disk.old).honest → current.form ≡ slot_form layout.now current.side (D.view disk.old).reads) }
     ensures kinds { IfErr result IsOfDisk }
     ensures on_disk { (at : ℕ) → IsErrOf result (Damaged at) → at < (D.view disk.old).sectors }
-    ensures looked { (D.view disk.old).honest → HasLooked (D.view disk.old) (D.view disk.new) }
+    ensures only_read { (D.view disk.old).honest → HasOnlyRead (D.view disk.old) (D.view disk.new) }
     ensures only_reads { before_reads (D.view disk.new).calls ≡ before_reads (D.view disk.old).calls }
     ensures fault { IsErrOf result DiskFault → HasFailed (D.view disk.old) (D.view disk.new) }
     ensures sectors { (D.view disk.new).sectors ≡ (D.view disk.old).sectors }

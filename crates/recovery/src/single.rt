@@ -1,8 +1,6 @@
 // One command kept on a disk.
-ghost use Rattle.std.specs.Prelude.{◌≡◌, ◌≤◌, ◌<◌, ◌++◌, ◌∷◌, Bool, [], Err, IfErr, IfOk, IsErrOf, IsTrue, List, Ok, OnErr, OnOk, is_some, length, true, false, if◌then◌else◌};
+ghost use Rattle.std.specs.Prelude.{◌≡◌, ◌≤◌, ◌∷◌, [], Err, IfErr, IfOk, IsErrOf, IsTrue, Ok, OnErr, OnOk, length, true, false, if◌then◌else◌};
 ghost use Rattle.sector_disk.specs.Disk.{HasFailed};
-ghost use Rattle.sector_disk.specs.Run.{HasMade, LeavesOnly};
-ghost use Rattle.centre_core.specs.Asked.{Asked};
 ghost use Rattle.centre_core.specs.History.{is_acceptance};
 ghost use Rattle.centre_core.specs.Memory.{needs_memory};
 ghost use Rattle.centre_core.specs.Step.{step};
@@ -10,13 +8,14 @@ ghost use Rattle.image_rows.specs.Rows.{last_epoch};
 ghost use Rattle.gated_journal.specs.Record.{data_size, most_commands};
 ghost use Rattle.gated_journal.specs.Settled.{room_of, text_at};
 ghost use Rattle.recovery.specs.declared.fault.StoreFault.TheVariants.{Broken, DiskFault, EpochsUsedUp, NoMemory};
-ghost use Rattle.recovery.specs.Calls.{fits_in, room_calls, room_calls_by};
-ghost use Rattle.recovery.specs.GoneOn.{HasKept, HasRoom, with_room};
-ghost use Rattle.recovery.specs.Lives.{IsCall, IsStoredIn, Open, Unanswered, view_of};
-ghost use Rattle.recovery.specs.Outcomes.{AreRecorded, StandsForEither};
+ghost use Rattle.recovery.specs.Calls.{LacksRoom, fits_in};
+ghost use Rattle.recovery.specs.Commits.{RoomCalls, RoomCallsOnAnyDisk, SomeRoomCalls, SomeRoomCallsOnAnyDisk};
+ghost use Rattle.recovery.specs.AfterCommit.{HasRoom};
+ghost use Rattle.recovery.specs.Lives.{IsCall, Open, StaysKept, StopsLeave, Unanswered, view_of};
+ghost use Rattle.recovery.specs.Outcomes.{OpensToEither};
 ghost use Rattle.recovery.specs.Refusals.{IsOfCheckpoint, IsOfDesk};
-ghost use Rattle.recovery.specs.Serving.{IsAfterOne, MayBeginBy, desk_calls, desk_calls_by};
-ghost use Rattle.recovery.specs.Standing.{StandsFor};
+ghost use Rattle.recovery.specs.Serving.{DeskCalls, DeskCallsOnAnyDisk, IsAfterOne, SomeDeskCalls, SomeDeskCallsOnAnyDisk};
+ghost use Rattle.recovery.specs.OpensTo.{OpensTo};
 
 use crate::before::Before;
 use crate::{Store, StoreFault};
@@ -24,7 +23,7 @@ use centre_core::{Command, Reply};
 use sector_disk::Disk;
 use std::alloc::Allocator;
 
-// The commands where this reply accepts them, else none.
+// The commands if this reply accepts them, else none.
 fn if_accepted<'a, B: Allocator, C: Allocator>(
     reply: &Reply<C>,
     commands: &'a [&'a Command<B>],
@@ -38,28 +37,27 @@ fn if_accepted<'a, B: Allocator, C: Allocator>(
 }
 
 impl<A: Allocator + Copy, D: Disk> Store<A, D> {
-    // A checkpoint where a record of these commands would not fit.
+    // Makes a checkpoint if a record of these commands would not fit.
     pub(crate) fn make_room<B: Allocator>(
         &mut self,
         commands: &[&Command<B>],
     ) -> Result<(), StoreFault>
         requires { length commands.now ≤ most_commands }
-        ensures any_moment { (D.view self.old.disk).honest → IsStoredIn A D.view (view_of self.old)
-            → LeavesOnly (D.view self.old.disk) (D.view self.new.disk) (StandsFor A self.old.register) }
-        ensures kept { OnOk result ((D.view self.old.disk).honest → IsStoredIn A D.view (view_of self.old)
-            → IsStoredIn A D.view (view_of self.new)) }
+        ensures any_moment { StopsLeave A D.view (view_of self.old) (view_of self.new) (OpensTo A self.old.register) }
+        ensures kept { OnOk result (StaysKept A D.view (view_of self.old) (view_of self.new)) }
         ensures fits { OnOk result (data_size (text_at A self.new.journal commands.now) ≤ room_of self.new.journal) }
         ensures stays { data_size (text_at A self.old.journal commands.now) ≤ room_of self.old.journal → (result ≡ Ok tt) × (self.new ≡ self.old) }
-        ensures calls { OnOk result ((D.view self.old.disk).honest → (D.view self.new.disk).calls ≡ (D.view self.old.disk).calls ++ room_calls self.old.layout self.old.side self.old.epoch self.old.register (D.view self.old.disk).reads (fits_in A self.old.journal commands.now)) }
-        ensures some_calls { (D.view self.old.disk).honest → HasMade (D.view self.old.disk) (D.view self.new.disk) (room_calls self.old.layout self.old.side self.old.epoch self.old.register (D.view self.old.disk).reads (fits_in A self.old.journal commands.now)) }
-        ensures calls_on_any_disk { OnOk result ((was_open : Bool) × ((D.view self.new.disk).calls ≡ (D.view self.old.disk).calls ++ room_calls_by self.old.layout self.old.side self.old.epoch self.old.register was_open (fits_in A self.old.journal commands.now))) }
-        ensures some_calls_on_any_disk { (was_open : Bool) × HasMade (D.view self.old.disk) (D.view self.new.disk) (room_calls_by self.old.layout self.old.side self.old.epoch self.old.register was_open (fits_in A self.old.journal commands.now)) }
+        ensures calls { OnOk result (RoomCalls A D.view (view_of self.old) (view_of self.new) (fits_in A self.old.journal commands.now)) }
+        ensures some_calls { SomeRoomCalls A D.view (view_of self.old) (view_of self.new) (fits_in A self.old.journal commands.now) }
+        ensures calls_on_any_disk { OnOk result (RoomCallsOnAnyDisk A D.view (view_of self.old) (view_of self.new) (fits_in A self.old.journal commands.now)) }
+        ensures some_calls_on_any_disk { SomeRoomCallsOnAnyDisk A D.view (view_of self.old) (view_of self.new) (fits_in A self.old.journal commands.now) }
         ensures place { OnOk result (HasRoom (view_of self.old) (view_of self.new) (fits_in A self.old.journal commands.now)) }
         ensures same { (self.new.layout ≡ self.old.layout) × (self.new.register ≡ self.old.register) }
         ensures unmoved { OnErr result ((self.new.side ≡ self.old.side) × (self.new.epoch ≡ self.old.epoch) × (self.new.journal ≡ self.old.journal)) }
         ensures only_broken { IsErrOf result Broken → (self.old.broken ≡ true) × (self.new ≡ self.old) }
         ensures memory { IsErrOf result NoMemory → ⊥ }
-        ensures epochs { IsErrOf result EpochsUsedUp → (last_epoch ≤ self.old.epoch) × (room_of self.old.journal < data_size (text_at A self.old.journal commands.now)) × (self.new.disk ≡ self.old.disk) × (self.new.broken ≡ false) × (self.new.beside ≡ self.old.beside) }
+        ensures epochs { IsErrOf result EpochsUsedUp → (last_epoch ≤ self.old.epoch) × LacksRoom A self.old.journal commands.now
+            × (self.new.disk ≡ self.old.disk) × (self.new.broken ≡ false) × (self.new.ongoing ≡ self.old.ongoing) }
         ensures fault { IsErrOf result DiskFault → HasFailed (D.view self.old.disk) (D.view self.new.disk) × (self.new.broken ≡ true) }
         ensures shown { IsErrOf result DiskFault → self.new.before.value ≡ self.old.register }
         ensures kinds { IfErr result IsOfCheckpoint }
@@ -74,7 +72,7 @@ impl<A: Allocator + Copy, D: Disk> Store<A, D> {
         self.checkpoint()
     }
 
-    // A commit of one command, without a list: only a command that needs memory is refused for it.
+    // A commit of one command. It takes no list, so it runs out of memory only if the command needs memory.
     pub(crate) fn commit_one<B: Allocator, C: Allocator + Copy>(
         &mut self,
         alloc: C,
@@ -82,31 +80,28 @@ impl<A: Allocator + Copy, D: Disk> Store<A, D> {
     ) -> Result<Reply<C>, StoreFault>
         ensures replied { IfOk result (λ reply. (self.new.register, reply) ≡ step self.old.register command.now) }
         ensures register { IsAfterOne self.old.register command.now self.new.register }
-        ensures any_moment { (D.view self.old.disk).honest → IsStoredIn A D.view (view_of self.old)
-            → LeavesOnly (D.view self.old.disk) (D.view self.new.disk) (StandsForEither A self.old.register self.new.register) }
-        ensures kept { self.new.broken ≡ false → (D.view self.old.disk).honest → IsStoredIn A D.view (view_of self.old)
-            → IsStoredIn A D.view (view_of self.new) }
+        ensures any_moment { StopsLeave A D.view (view_of self.old) (view_of self.new) (OpensToEither A self.old.register self.new.register) }
+        ensures kept { self.new.broken ≡ false → StaysKept A D.view (view_of self.old) (view_of self.new) }
         ensures layout { self.new.layout ≡ self.old.layout }
-        ensures calls { OnOk result ((D.view self.old.disk).honest → (recorded : List (Asked A)) × (also_open : Bool) × AreRecorded A self.old.register (command.now ∷ []) self.new.register recorded
-            × HasKept (with_room (fits_in A self.old.journal (command.entry ∷ [])) (view_of self.old)) (view_of self.new) recorded
-            × ((D.view self.new.disk).calls ≡ (D.view self.old.disk).calls ++ desk_calls (view_of self.old) (fits_in A self.old.journal (command.entry ∷ [])) recorded (is_some self.new.beside) (D.view self.old.disk).reads also_open)) }
-        ensures some_calls { (D.view self.old.disk).honest → (recorded : List (Asked A)) × (begins : Bool) × (also_open : Bool) × AreRecorded A self.old.register (command.now ∷ []) self.new.register recorded
-            × MayBeginBy (view_of self.old) (fits_in A self.old.journal (command.entry ∷ [])) recorded begins
-            × HasMade (D.view self.old.disk) (D.view self.new.disk) (desk_calls (view_of self.old) (fits_in A self.old.journal (command.entry ∷ [])) recorded begins (D.view self.old.disk).reads also_open) }
-        ensures calls_on_any_disk { OnOk result ((recorded : List (Asked A)) × (was_open : Bool) × (also_open : Bool) × AreRecorded A self.old.register (command.now ∷ []) self.new.register recorded
-            × HasKept (with_room (fits_in A self.old.journal (command.entry ∷ [])) (view_of self.old)) (view_of self.new) recorded
-            × ((D.view self.new.disk).calls ≡ (D.view self.old.disk).calls ++ desk_calls_by (view_of self.old) (fits_in A self.old.journal (command.entry ∷ [])) recorded (is_some self.new.beside) was_open also_open)) }
-        ensures some_calls_on_any_disk { (recorded : List (Asked A)) × (begins : Bool) × (was_open : Bool) × (also_open : Bool) × AreRecorded A self.old.register (command.now ∷ []) self.new.register recorded
-            × MayBeginBy (view_of self.old) (fits_in A self.old.journal (command.entry ∷ [])) recorded begins
-            × HasMade (D.view self.old.disk) (D.view self.new.disk) (desk_calls_by (view_of self.old) (fits_in A self.old.journal (command.entry ∷ [])) recorded begins was_open also_open) }
+        ensures calls { OnOk result (DeskCalls A D.view (view_of self.old) (view_of self.new)
+            (fits_in A self.old.journal (command.entry ∷ [])) (command.now ∷ [])) }
+        ensures some_calls { SomeDeskCalls A D.view (view_of self.old) (view_of self.new)
+            (fits_in A self.old.journal (command.entry ∷ [])) (command.now ∷ []) }
+        ensures calls_on_any_disk { OnOk result (DeskCallsOnAnyDisk A D.view (view_of self.old) (view_of self.new)
+            (fits_in A self.old.journal (command.entry ∷ [])) (command.now ∷ [])) }
+        ensures some_calls_on_any_disk { SomeDeskCallsOnAnyDisk A D.view (view_of self.old) (view_of self.new)
+            (fits_in A self.old.journal (command.entry ∷ [])) (command.now ∷ []) }
 
-        // It does not give up by itself, and a fault of the disk shows the register before the call.
+        // It fails only for these reasons. After a fault of the disk the store shows the register before the call.
         ensures broken { self.old.broken ≡ true → (result ≡ Err Broken) × (self.new ≡ self.old) }
         ensures only_broken { IsErrOf result Broken → (self.old.broken ≡ true) × (self.new ≡ self.old) }
         ensures sound { OnOk result ((self.old.broken ≡ false) × (self.new.broken ≡ false)) }
-        ensures memory { IsErrOf result NoMemory → (self.old.broken ≡ false) × (self.new.broken ≡ false) × (self.new.register ≡ self.old.register) × IsTrue (needs_memory self.old.register command.now) }
-        ensures epochs { IsErrOf result EpochsUsedUp → (self.old.broken ≡ false) × (self.new.broken ≡ false) × (last_epoch ≤ self.old.epoch) × (self.new.epoch ≡ self.old.epoch) × (self.new.disk ≡ self.old.disk) × (self.new.register ≡ self.old.register) }
-        ensures fault { IsErrOf result DiskFault → (self.old.broken ≡ false) × (self.new.broken ≡ true) × (self.new.before.value ≡ self.old.register) × HasFailed (D.view self.old.disk) (D.view self.new.disk) }
+        ensures memory { IsErrOf result NoMemory → (self.old.broken ≡ false) × (self.new.broken ≡ false)
+            × (self.new.register ≡ self.old.register) × IsTrue (needs_memory self.old.register command.now) }
+        ensures epochs { IsErrOf result EpochsUsedUp → (self.old.broken ≡ false) × (self.new.broken ≡ false) × (last_epoch ≤ self.old.epoch)
+            × (self.new.epoch ≡ self.old.epoch) × (self.new.disk ≡ self.old.disk) × (self.new.register ≡ self.old.register) }
+        ensures fault { IsErrOf result DiskFault → (self.old.broken ≡ false) × (self.new.broken ≡ true)
+            × (self.new.before.value ≡ self.old.register) × HasFailed (D.view self.old.disk) (D.view self.new.disk) }
         ensures kinds { IfErr result IsOfDesk }
         ensures honest { (D.view self.old.disk).honest → (D.view self.new.disk).honest }
     {

@@ -5,7 +5,7 @@ ghost use Rattle.sector_disk.specs.Reading.{before_reads};
 ghost use Rattle.sector_disk.specs.Run.{LeavesOnly};
 ghost use Rattle.sector_disk.specs.declared.record.Call.TheVariants.{Sync};
 ghost use Rattle.checkpoint.specs.Layout.{disk_size, half_at, half_end};
-ghost use Rattle.checkpoint.specs.Standing.{InEach};
+ghost use Rattle.checkpoint.specs.OnSide.{InEach};
 ghost use Rattle.recovery.specs.declared.fault.StoreFault.TheVariants.{Damaged, DiskFault, NoMemory};
 ghost use Rattle.recovery.specs.UnderWay.{BelongsTo};
 ghost use Rattle.std.proofs.Props.{props};
@@ -14,7 +14,7 @@ ghost use Rattle.recovery.specs.Opening.{Fails, HasNoFaultYet, IsOfOpening};
 
 use crate::StoreFault;
 use crate::before::Before;
-use crate::beside::Beside;
+use crate::ongoing::Ongoing;
 use crate::opening::{Opened, read_all};
 use centre_core::Register;
 use checkpoint::{Layout, Side};
@@ -31,9 +31,9 @@ pub struct Store<A: Allocator, D: Disk> {
     pub(crate) side: Side,
     pub(crate) epoch: u64,
     pub(crate) journal: Journal<A>,
-    pub(crate) beside: Option<Beside<A>>,
+    pub(crate) ongoing: Option<Ongoing<A>>,
     pub(crate) register: Register<A>,
-    // The register as it was when the call at hand began: what a store shows that this call has broken.
+    // The register as it was when the current call began. A store that this call breaks shows it.
     pub(crate) before: Before<Register<A>>,
     pub(crate) broken: bool,
     ghost room: { disk_size layout ≤ (D.view disk).sectors },
@@ -42,46 +42,48 @@ pub struct Store<A: Allocator, D: Disk> {
     ghost end: { journal.end ≡ half_end layout side },
     ghost next: { journal.next < half_end layout side },
     ghost counts: { journal.count ≤ register.count },
-    ghost other: { IfSome beside (λ it. BelongsTo layout side epoch journal register.count it) } by { Prim.hlevel props },
+    ghost other: { IfSome ongoing (λ it. BelongsTo layout side epoch journal register.count it) } by { Prim.hlevel props },
 }
 
 impl<A: Allocator + Copy, D: Disk> Store<A, D> {
     ghost use Rattle.recovery.specs.Lives.{Answered, Closed, IsCall, IsStoredIn, Open, view_of};
 
-    /// Opens the register that is kept on a disk, under `alloc`; a fault gives the disk back. The disk is synced first,
-    /// and then only read.
+    /// Opens the register that is kept on a disk, under `alloc`. A fault returns the disk. The disk is synced first, and
+    /// then only read.
     ///
-    /// `Unformatted`, `BadGeometry` and `Damaged` tell what stands on the disk; `Damaged` names the sector at fault.
+    /// `Unformatted`, `BadGeometry` and `Damaged` report what is on the disk. `Damaged` names the sector at fault.
     pub fn open(alloc: A, disk: D) -> Result<Store<A, D>, (StoreFault, D)>
-        // What is answered is what the disk opens to as it reads.
-        ensures opened { IfOk result (λ store. (D.view disk).honest → opens A (D.view disk).reads ≡ Ok (opening store.layout store.side store.epoch store.journal.next store.register)) }
+        // The result is what the disk opens to as it reads.
+        ensures opened { IfOk result (λ store. (D.view disk).honest
+            → opens A (D.view disk).reads ≡ Ok (opening store.layout store.side store.epoch store.journal.next store.register)) }
         ensures refused { IfErr result (λ e. (D.view disk).honest → Fails e.0 (opens A (D.view disk).reads)) }
 
-        // The store is kept: each stop leaves what was read, and no stop in the call leaves anything else than one before it.
+        // The store's register is on the disk. A stop leaves what was read; during the call, what one before it may leave.
         ensures kept { IfOk result (λ store. (D.view disk).honest → IsStoredIn A D.view (view_of store)) }
         ensures sound { IfOk result (λ store. store.broken ≡ false) }
-        ensures idle { IfOk result (λ store. store.beside ≡ None) }
+        ensures idle { IfOk result (λ store. store.ongoing ≡ None) }
         ensures only { IfOk result (λ store. (D.view disk).honest → InEach (D.view store.disk) (λ image. image ≡ (D.view disk).reads)) }
         ensures left { IfOk result (λ store. (D.view disk).honest → LeavesOnly (D.view disk) (D.view store.disk) (IsImageOf (D.view disk))) }
         ensures left_by { IfErr result (λ e. (D.view disk).honest → LeavesOnly (D.view disk) (D.view e.1) (IsImageOf (D.view disk))) }
 
-        // Its calls of the disk are one sync, and behind it only reads. With a `DiskFault` there may be none.
+        // It calls one sync and then only reads. With a `DiskFault` there may be no call.
         ensures calls { IfOk result (λ store. before_reads (D.view store.disk).calls ≡ (D.view disk).calls ++ Sync ∷ []) }
-        ensures some_calls { IfErr result (λ e. (before_reads (D.view e.1).calls ≡ (D.view disk).calls ++ Sync ∷ []) ⊎ ((e.0 ≡ DiskFault) × ((D.view e.1).calls ≡ (D.view disk).calls))) }
+        ensures some_calls { IfErr result (λ e. (before_reads (D.view e.1).calls ≡ (D.view disk).calls ++ Sync ∷ [])
+            ⊎ ((e.0 ≡ DiskFault) × ((D.view e.1).calls ≡ (D.view disk).calls))) }
 
-        // The sector that it names is one of the disk, also of a disk that is not honest.
+        // `Damaged` names a sector of the disk, even if the disk is not honest.
         ensures on_disk { IfErr result (λ e. (at : ℕ) → e.0 ≡ Damaged at → at < (D.view disk).sectors) }
 
-        // Want of memory hides no fault of what was read: behind the rows, all records are judged before it is told.
+        // Out of memory never masks damage that was read: after the rows, all records are judged before it is reported.
         ensures memory { IfErr result (λ e. e.0 ≡ NoMemory → (D.view disk).honest → HasNoFaultYet A (D.view disk).reads (D.view e.1).calls) }
 
-        // It does not give up by itself.
+        // It fails only for these reasons.
         ensures fault { IfErr result (λ e. e.0 ≡ DiskFault → HasFailed (D.view disk) (D.view e.1)) }
         ensures kinds { IfErr result (λ e. IsOfOpening e.0) }
         ensures honest { IfOk result (λ store. (D.view disk).honest → (D.view store.disk).honest) }
         ensures honest_by { IfErr result (λ e. (D.view disk).honest → (D.view e.1).honest) }
 
-        // In the life of the disk it is a call that accepts nothing: a store is opened, or the disk is given back.
+        // In the life of the disk this is a call that accepts nothing: a store is opened, or the disk is returned.
         ensures call { IfOk result (λ store. (D.view disk).honest → IsCall A D.view (Closed disk) (Answered []) (Open (view_of store))) }
         ensures call_by { IfErr result (λ e. (D.view disk).honest → IsCall A D.view (Closed disk) (Answered []) (Closed e.1)) }
     {
@@ -106,7 +108,7 @@ impl<A: Allocator + Copy, D: Disk> Store<A, D> {
                     side,
                     epoch,
                     journal,
-                    beside: None,
+                    ongoing: None,
                     register,
                     before,
                     broken: false,
@@ -120,7 +122,7 @@ impl<A: Allocator + Copy, D: Disk> Store<A, D> {
 impl<A: Allocator, D: Disk> Store<A, D> {
     ghost use Rattle.recovery.specs.Lives.{Answered, Closed, IsCall, Open, view_of};
 
-    /// The register; `None` once the device has failed in a call.
+    /// The register, or `None` once the device has failed in a call.
     pub fn register(&self) -> Option<&Register<A>>
         ensures broken { self.now.broken ≡ true → result ≡ None }
         ensures sound { self.now.broken ≡ false → option_map (λ register. register.now) result ≡ Some self.now.register }
@@ -131,7 +133,7 @@ impl<A: Allocator, D: Disk> Store<A, D> {
         Some(&self.register)
     }
 
-    /// Gives the disk back.
+    /// Returns the disk.
     pub fn into_disk(self) -> D
         ensures disk { result ≡ self.disk }
         ensures call { IsCall A D.view (Open (view_of self)) (Answered []) (Closed result) }

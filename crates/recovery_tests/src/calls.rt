@@ -153,7 +153,7 @@ fn an_opening_syncs_first_and_then_reads(rt: HostRuntime) -> Result<(), Fail> {
     Ok(())
 }
 
-/// The record behind the rule's and the next gate, closed; and, once they are safe, the record's gate.
+/// The record after the rule's and the next gate, closed; and, once they are safe, the record's gate.
 const COMMIT: [Call; 5] = [
     Call::Write(592),
     Call::Write(593),
@@ -162,7 +162,7 @@ const COMMIT: [Call; 5] = [
     Call::Sync,
 ];
 
-/// The calls behind those of the opening, once a command is answered.
+/// The calls after those of the opening, once a command is answered.
 fn committed(alloc: Global, disk: NotingDisk, command: &Command<Global>) -> bool {
     match Store::open(alloc, disk) {
         Ok(mut store) => {

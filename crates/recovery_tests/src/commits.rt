@@ -2,9 +2,9 @@
 
 use crate::made;
 use crate::opens::{OPEN, SET_RULE, disk, put_expiries};
-use crate::runs::{begin, commit, commit_each, count, run, run_as_one, serve, stands_for, stop};
+use crate::runs::{begin, commit, commit_each, count, opens_to, run, run_as_one, serve, stop};
 use centre_core::{Command, Refusal, Reply};
-use desk::{Desk, Service};
+use desk::{Desk, Outage};
 use recovery::{Outcome, Store, StoreFault};
 use sector_disk::{Disk, Failing, FailingDisk, MemoryDisk};
 use std::alloc::Global;
@@ -25,7 +25,7 @@ fn are_recorded(alloc: Global) -> Result<bool, Fail> {
     let rule = made::rule().ok_or("a rule")?;
     let attach = made::attach(alloc).ok_or("an attach")?;
     let (answered, disk) = run(alloc, made::formatted(alloc)?, &[&rule, &attach]);
-    let (count, mut disk) = stands_for(alloc, disk);
+    let (count, mut disk) = opens_to(alloc, disk);
     let written = [
         (589, [1].as_slice()),
         (590, RULE_ALONE.as_slice()),
@@ -43,8 +43,8 @@ fn commands_are_recorded_one_after_the_other(rt: HostRuntime) -> Result<(), Fail
 }
 
 /// After the rule an attach is committed while this call of the disk fails; then a stop leaves this byte in each pending
-/// sector. Tells how often the commit was answered, whether it was its gate that was pending, and for how many commands
-/// the disk stands then.
+/// sector. Returns how often the commit was answered, whether its gate was pending, and how many commands the disk then
+/// opens to.
 fn stopped(alloc: Global, call: u64, byte: u8) -> Result<(u64, bool, Option<u64>), Fail> {
     let rule = made::rule().ok_or("a rule")?;
     let attach = made::attach(alloc).ok_or("an attach")?;
@@ -56,7 +56,7 @@ fn stopped(alloc: Global, call: u64, byte: u8) -> Result<(u64, bool, Option<u64>
     );
     let disk = disk.into_inner();
     let gate = disk.pending(alloc)?.as_slice() == [591].as_slice();
-    let (count, _) = stands_for(alloc, stop(alloc, disk, [byte; 512])?);
+    let (count, _) = opens_to(alloc, stop(alloc, disk, [byte; 512])?);
     Ok((answered, gate, count))
 }
 
@@ -90,7 +90,7 @@ fn a_command_counts_once_its_gate_is_open(rt: HostRuntime) -> Result<(), Fail> {
 /// The head of a record of 27, 23 and 11 bytes, from number 1 on.
 const THREE: [u8; 14] = [0, 3, 0, 0, 0, 0, 0, 0, 0, 1, 0, 0, 0, 0x3d];
 
-/// Three commands are committed at once while this call of the disk fails. Tells as `stopped` does.
+/// Three commands are committed at once while this call of the disk fails. Returns as `stopped` does.
 fn three_stopped(alloc: Global, call: u64, byte: u8) -> Result<(bool, bool, Option<u64>), Fail> {
     let rule = made::rule().ok_or("a rule")?;
     let attach = made::attach(alloc).ok_or("an attach")?;
@@ -99,7 +99,7 @@ fn three_stopped(alloc: Global, call: u64, byte: u8) -> Result<(bool, bool, Opti
     let (answered, disk) = run_as_one(alloc, disk, &[&rule, &attach, &expiry]);
     let disk = disk.into_inner();
     let gate = disk.pending(alloc)?.as_slice() == [589].as_slice();
-    let (count, mut disk) = stands_for(alloc, stop(alloc, disk, [byte; 512])?);
+    let (count, mut disk) = opens_to(alloc, stop(alloc, disk, [byte; 512])?);
     let written = !answered || begin(&mut disk, &[(589, &[1]), (590, &THREE), (591, &[0])]);
     Ok((answered, gate, if written { count } else { None }))
 }
@@ -180,7 +180,7 @@ pub fn is_checkpointed(alloc: Global, disk: MemoryDisk<Global>) -> Result<bool, 
     let mut disk = disk;
     let full = begin(&mut disk, &[(2, &[0]), (625, &[1]), (627, &[0])]);
     let (unready, disk) = made_ready(alloc, disk, &next);
-    let (count, mut disk) = stands_for(alloc, disk);
+    let (count, mut disk) = opens_to(alloc, disk);
     let written = [
         (2, [1].as_slice()),
         (296, SECOND.as_slice()),
@@ -197,21 +197,21 @@ fn a_full_half_waits_for_a_checkpoint(rt: HostRuntime) -> Result<(), Fail> {
     Ok(())
 }
 
-/// A desk makes that checkpoint: the same while this call of the disk fails, and a stop behind it. Tells whether it was answered, and whether the disk
-/// stands for 20 commands where it was, or where its gate is open, and else for 19.
+/// A desk makes that checkpoint: the same while this call of the disk fails, and a stop after it. Returns whether it was answered, and whether the disk
+/// opens to 20 commands if it was or if its gate is open, and else to 19.
 fn is_checkpoint_stopped(alloc: Global, call: u64, byte: u8) -> Result<(bool, bool), Fail> {
     let next = made::own_expiry(20).ok_or("an expiry")?;
     let disk = FailingDisk::new(filled(alloc)?, call, Failing::Always);
     let (answered, disk) = serve(alloc, disk, &next, 20);
     let disk = disk.into_inner();
     let gate = disk.pending(alloc)?.as_slice() == [628].as_slice();
-    let (count, mut disk) = stands_for(alloc, stop(alloc, disk, [byte; 512])?);
+    let (count, mut disk) = opens_to(alloc, stop(alloc, disk, [byte; 512])?);
     let last = gate && begin(&mut disk, &[(629, &EXPIRY_ALONE)]) && byte == 1;
     let whole = answered || last;
     Ok((answered, count == Some(if whole { 20 } else { 19 })))
 }
 
-/// How many calls failed, the first one first, until the command was answered; nothing where a stop left something else.
+/// How many calls failed, from the first one on, until the command was answered; `None` if a stop left something else.
 fn checkpoint_stops(alloc: Global, byte: u8) -> Result<Option<u64>, Fail> {
     for call in 1..200 {
         let (answered, well) = is_checkpoint_stopped(alloc, call, byte)?;
@@ -235,8 +235,8 @@ fn a_stop_in_a_checkpoint_leaves_19_commands_or_20(rt: HostRuntime) -> Result<()
 
 // ---- a failing disk
 
-/// A rule, an attach and an expiry one by one, a checkpoint, and then two expiries at once. Tells how many commands were
-/// acknowledged, up to the first fault; nothing where a call after a fault answers something else than `Broken`.
+/// A rule, an attach and an expiry one by one, a checkpoint, and then two expiries at once. Returns how many commands were
+/// acknowledged, up to the first fault; `None` if a call after a fault answers something else than `Broken`.
 fn script<D: Disk>(alloc: Global, store: &mut Store<Global, D>) -> Option<u64> {
     let (rule, attach) = (made::rule()?, made::attach(alloc)?);
     let (first, second, third) = (made::expiry(1)?, made::expiry(2)?, made::expiry(3)?);
@@ -264,7 +264,7 @@ fn is_broken<D: Disk>(
         )
 }
 
-/// Runs the script on a disk. Tells as it does; none was acknowledged where the disk does not open.
+/// Runs the script on a disk. Returns as it does; none was acknowledged where the disk does not open.
 fn run_script<D: Disk>(alloc: Global, disk: D) -> (Option<u64>, D) {
     match Store::open(alloc, disk) {
         Ok(mut store) => {
@@ -290,12 +290,12 @@ fn is_script_stored(
 ) -> Result<(bool, bool), Fail> {
     let disk = FailingDisk::new(made::formatted(alloc)?, call, failing);
     let (acknowledged, disk) = run_script(alloc, disk);
-    let (count, _) = stands_for(alloc, stop(alloc, disk.into_inner(), bytes)?);
+    let (count, _) = opens_to(alloc, stop(alloc, disk.into_inner(), bytes)?);
     let stored = acknowledged.is_some_and(|commands| is_prefix(count, commands));
     Ok((stored, acknowledged == Some(5)))
 }
 
-/// How many calls failed, the first one first, until none did; nothing where something was lost.
+/// How many calls failed, from the first one on, until none did; `None` if something was lost.
 fn script_stops(alloc: Global, failing: Failing, bytes: [u8; 512]) -> Result<Option<u64>, Fail> {
     for call in 1..100 {
         let (stored, whole) = is_script_stored(alloc, call, failing, bytes)?;
@@ -321,9 +321,9 @@ fn what_was_acknowledged_is_there_after_a_stop(rt: HostRuntime) -> Result<(), Fa
     Ok(())
 }
 
-// ---- the same with 60 commits behind it
+// ---- the same with 60 commits after it
 
-/// Two checkpoints begin and end beside the commits of the expiries with these sequences; 5 commands are kept before.
+/// Two checkpoints begin and end between the commits of the expiries with these sequences; 5 commands are kept before.
 fn long_script<D: Disk>(alloc: Global, store: &mut Store<Global, D>) -> Option<u64> {
     let short = script(alloc, store)?;
     if short < 5 {
@@ -357,12 +357,12 @@ fn is_long_script_stored(
 ) -> Result<(bool, bool), Fail> {
     let disk = FailingDisk::new(made::formatted(alloc)?, call, failing);
     let (acknowledged, disk) = run_long_script(alloc, disk);
-    let (count, _) = stands_for(alloc, stop(alloc, disk.into_inner(), bytes)?);
+    let (count, _) = opens_to(alloc, stop(alloc, disk.into_inner(), bytes)?);
     let stored = acknowledged.is_some_and(|commands| is_prefix(count, commands));
     Ok((stored, acknowledged == Some(65)))
 }
 
-/// How many calls failed, from this one on, until none did; nothing where something was lost.
+/// How many calls failed, from this one on, until none did; `None` if something was lost.
 fn long_script_stops(
     alloc: Global,
     failing: Failing,
@@ -467,12 +467,8 @@ fn numbers_are_used_up(rt: HostRuntime) -> Result<(), Fail> {
     Ok(())
 }
 
-/// What a desk says in the place of a reply.
-fn word<T: Desk<Global>>(
-    alloc: Global,
-    desk: &mut T,
-    command: &Command<Global>,
-) -> Option<Service> {
+/// The outage word that a desk answers in place of a reply.
+fn word<T: Desk<Global>>(alloc: Global, desk: &mut T, command: &Command<Global>) -> Option<Outage> {
     match desk.apply(alloc, command) {
         Ok(_) => None,
         Err(word) => Some(word),
@@ -497,7 +493,7 @@ fn commit_expiries<D: Disk>(
     true
 }
 
-/// Fills the half; then there is no checkpoint any more, neither beside nor at once, and nothing is changed.
+/// Fills the half. Then no checkpoint can be made any more, neither between commits nor at once, and nothing is changed.
 fn are_epochs_used_up<D: Disk>(alloc: Global, store: &mut Store<Global, D>) -> bool {
     let Some(next) = made::expiry(20) else {
         return false;
@@ -506,7 +502,7 @@ fn are_epochs_used_up<D: Disk>(alloc: Global, store: &mut Store<Global, D>) -> b
     filled
         && commit(alloc, store, &[&next]) == Err(StoreFault::Unready)
         && store.checkpoint() == Err(StoreFault::EpochsUsedUp)
-        && word(alloc, store, &next) == Some(Service::Epochs)
+        && word(alloc, store, &next) == Some(Outage::Epochs)
         && count(store) == Some(19)
 }
 

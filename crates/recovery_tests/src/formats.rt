@@ -1,4 +1,4 @@
-//! Disks that are made ready for an empty register.
+//! Formatting disks.
 
 use checkpoint::Layout;
 use recovery::{StoreFault, format};
@@ -27,7 +27,7 @@ const WRITTEN: [(u64, &[u8]); 6] = [
     (628, &[0]),
 ];
 
-/// What stands on a disk before.
+/// What is on a disk before.
 const NINES: [u8; 512] = [9; 512];
 
 /// Sectors that a format leaves.
@@ -44,21 +44,21 @@ fn the_disk_has_667_sectors(rt: HostRuntime) -> Result<(), Fail> {
     Ok(())
 }
 
-/// Whether the sector begins so, and has zeros behind.
-fn is(sector: &[u8; 512], front: &[u8]) -> bool {
-    sector.starts_with(front) && sector.iter().skip(front.len()).all(|byte| *byte == 0)
+/// Whether the sector begins so, and has zeros after.
+fn is(sector: &[u8; 512], prefix: &[u8]) -> bool {
+    sector.starts_with(prefix) && sector.iter().skip(prefix.len()).all(|byte| *byte == 0)
 }
 
-fn holds<D: Disk>(disk: &mut D, at: u64, front: &[u8]) -> Result<bool, DiskError> {
+fn holds<D: Disk>(disk: &mut D, at: u64, prefix: &[u8]) -> Result<bool, DiskError> {
     let mut sector = [7; 512];
     disk.read(at, &mut sector)?;
-    Ok(is(&sector, front))
+    Ok(is(&sector, prefix))
 }
 
 /// The first sector of these that does not begin so, or could not be read.
 fn first_wrong<D: Disk>(disk: &mut D, written: &[(u64, &[u8])]) -> Option<u64> {
-    for (at, front) in written {
-        if holds(disk, *at, front) != Ok(true) {
+    for (at, prefix) in written {
+        if holds(disk, *at, prefix) != Ok(true) {
             return Some(*at);
         }
     }
@@ -100,7 +100,7 @@ fn a_format_writes_six_sectors(rt: HostRuntime) -> Result<(), Fail> {
     Ok(())
 }
 
-/// The disk is not asked for anything: it would fail.
+/// No call of the disk is made: it would fail.
 fn is_too_small(alloc: Global, layout: &Layout) -> Result<bool, AllocError> {
     let mut disk = FailingDisk::new(used(alloc, 666)?, 0, Failing::Always);
     let refused = made_ready(&mut disk, layout) == Err(StoreFault::BadGeometry);

@@ -2,7 +2,7 @@
 ghost use Rattle.std.specs.Prelude.{◌≤◌, length};
 
 use crate::made;
-use crate::runs::{begin, commit, serve, stands_for};
+use crate::runs::{begin, commit, opens_to, serve};
 use centre_core::Command;
 use recovery::{Store, StoreFault};
 use sector_disk::{Disk, MemoryDisk};
@@ -23,7 +23,7 @@ const HEAD: [u8; 44] = [
 ];
 
 /// Its 36th data sector: of the 14 bytes of its head and of the 64 times 281 ones 78 are left, all of the last
-/// message's user data, behind whose last bit a 0 fills.
+/// message's user data, after whose last bit a 0 fills.
 fn last_sector() -> [u8; 512] {
     let mut bytes = [0; 512];
     for byte in bytes.iter_mut().take(77) {
@@ -58,7 +58,7 @@ fn messages(alloc: Global) -> Result<Vec<Command<Global>>, Fail> {
     Ok(messages)
 }
 
-/// Commits commands at once; tells whether all of them were accepted.
+/// Commits commands at once; returns whether all of them were accepted.
 fn commit_all<D: Disk>(
     alloc: Global,
     store: &mut Store<Global, D>,
@@ -68,11 +68,11 @@ fn commit_all<D: Disk>(
     for command in commands {
         batch.push(command)?;
     }
-    Ok(batch.len() == 64 && is_kept_behind_a_checkpoint(alloc, store, &batch))
+    Ok(batch.len() == 64 && is_kept_after_a_checkpoint(alloc, store, &batch))
 }
 
 /// A record that does not fit waits for a checkpoint.
-fn is_kept_behind_a_checkpoint<D: Disk>(
+fn is_kept_after_a_checkpoint<D: Disk>(
     alloc: Global,
     store: &mut Store<Global, D>,
     commands: &[&Command<Global>],
@@ -91,7 +91,7 @@ fn commit_greatest<D: Disk>(alloc: Global, store: &mut Store<Global, D>) -> Resu
     Ok(three && commit_all(alloc, store, &messages)?)
 }
 
-/// The disk behind these commits.
+/// The disk after these commits.
 fn greatest(alloc: Global) -> Result<MemoryDisk<Global>, Fail> {
     let Ok(mut store) = Store::open(alloc, made::formatted(alloc)?) else {
         return Err("a disk".into());
@@ -126,12 +126,12 @@ fn the_greatest_record_fills_a_half(rt: HostRuntime) -> Result<(), Fail> {
     Ok(())
 }
 
-/// No room is left behind it: a desk makes a checkpoint for the next command, and its record is the first one of half A.
+/// No room is left after it: a desk makes a checkpoint for the next command, and its record is the first one of half A.
 fn is_followed(alloc: Global) -> Result<bool, Fail> {
     let next = made::expiry(1).ok_or("an expiry")?;
-    let (before, disk) = stands_for(alloc, greatest(alloc)?);
+    let (before, disk) = opens_to(alloc, greatest(alloc)?);
     let (answered, disk) = serve(alloc, disk, &next, 68);
-    let (after, mut disk) = stands_for(alloc, disk);
+    let (after, mut disk) = opens_to(alloc, disk);
     let written = [
         (3, THIRD.as_slice()),
         (589, [1].as_slice()),
@@ -142,7 +142,7 @@ fn is_followed(alloc: Global) -> Result<bool, Fail> {
 }
 
 #[test]
-fn a_checkpoint_comes_behind_the_greatest_record(rt: HostRuntime) -> Result<(), Fail> {
+fn a_checkpoint_comes_after_the_greatest_record(rt: HostRuntime) -> Result<(), Fail> {
     assert!(rt; is_followed(rt.alloc())?);
     Ok(())
 }

@@ -1,8 +1,8 @@
-//! A message to a group that a stop comes to while its gate is opened, with a checkpoint behind it.
+//! A message to a group that a stop comes to while its gate is opened, with a checkpoint after it.
 
 use crate::made;
 use crate::runs::{run, stop};
-use centre_core::{Command, Query, Register, Told};
+use centre_core::{Command, Query, QueryAnswer, Register};
 use identity::Itsi;
 use mailbox::{Item, Kind};
 use recovery::Store;
@@ -69,9 +69,9 @@ fn is_copy(item: &Item<Global>, itsi: Itsi) -> bool {
         && item.pdu().as_bytes() == TEXT.as_slice()
 }
 
-/// How many copies wait for a radio, none or one; nothing where something else waits.
+/// How many copies wait for a radio, none or one; `None` if something else waits.
 fn copies(alloc: Global, register: &Register<Global>, itsi: Itsi) -> Option<usize> {
-    let Ok(Told::Waiting { items, .. }) = register.query(alloc, &Query::Waiting(itsi)) else {
+    let Ok(QueryAnswer::Waiting { items, .. }) = register.query(alloc, &Query::Waiting(itsi)) else {
         return None;
     };
     match items.as_slice() {

@@ -1,10 +1,10 @@
-//! Disks of both layouts: one of layout 1 goes on in its form until its first checkpoint, and no record passes for one of the
-//! other form, or for one of another number.
+//! Disks of both layouts. A disk of layout 1 keeps its form until its first checkpoint. No record passes for one of the other
+//! form, or for one of another number.
 
 use crate::commits::is_checkpointed;
 use crate::made;
 use crate::opens::{OPEN, PLAIN_FIRST, SET_RULE, disk, expiry, opened, put, put_expiries, with};
-use crate::runs::{begin, commit_each, run, stands_for, stop};
+use crate::runs::{begin, commit_each, opens_to, run, stop};
 use recovery::{Store, StoreFault};
 use sector_disk::{Disk, Failing, FailingDisk, MemoryDisk};
 use std::alloc::Global;
@@ -34,7 +34,7 @@ fn plain_expiry(sequence: u8) -> [u8; 17] {
     [0, 1, 0, 0, 0, 0x0b, 0, 1, 0, 0, 0, sequence, 0, 0, 0, 0, 6]
 }
 
-/// Puts 18 expiries behind the rule, and opens their gates.
+/// Puts 18 expiries after the rule, and opens their gates.
 fn put_plain_expiries<D: Disk>(disk: &mut D) -> bool {
     for k in 0..18u8 {
         let gate = 591 + 2 * u64::from(k);
@@ -46,7 +46,7 @@ fn put_plain_expiries<D: Disk>(disk: &mut D) -> bool {
     disk.sync().is_ok()
 }
 
-/// The same with 18 expiries behind the rule, which fill its half.
+/// The same with 18 expiries after the rule, which fill its half.
 fn old_filled(alloc: Global) -> Result<MemoryDisk<Global>, Fail> {
     let mut disk = old(alloc)?;
     if put_plain_expiries(&mut disk) {
@@ -56,7 +56,7 @@ fn old_filled(alloc: Global) -> Result<MemoryDisk<Global>, Fail> {
     }
 }
 
-/// Commits those expiries, each on the disk opened anew, so that no checkpoint ends beside them.
+/// Commits those expiries, each on the disk opened anew, so that no checkpoint ends between them.
 fn run_expiries(alloc: Global) -> Result<MemoryDisk<Global>, Fail> {
     let mut disk = old(alloc)?;
     for sequence in 2..=19 {
@@ -73,7 +73,7 @@ fn run_expiries(alloc: Global) -> Result<MemoryDisk<Global>, Fail> {
 /// Its records stay plain, and so does its header.
 fn goes_on(alloc: Global) -> Result<bool, Fail> {
     let (first, _) = opened(alloc, old(alloc)?);
-    let (count, mut disk) = stands_for(alloc, run_expiries(alloc)?);
+    let (count, mut disk) = opens_to(alloc, run_expiries(alloc)?);
     let written = [
         (2, [0].as_slice()),
         (3, PLAIN_FIRST.as_slice()),
@@ -109,7 +109,7 @@ fn moves_beside(alloc: Global) -> Result<bool, Fail> {
         let expiry = made::own_expiry(sequence).ok_or("an expiry")?;
         answered = commit_each(alloc, &mut store, &[&expiry]).saturating_add(answered);
     }
-    let (count, mut disk) = stands_for(alloc, store.into_disk());
+    let (count, mut disk) = opens_to(alloc, store.into_disk());
     let written = [
         (2, [1].as_slice()),
         (3, PLAIN_FIRST.as_slice()),
@@ -138,16 +138,16 @@ fn checkpoint<D: Disk>(alloc: Global, disk: D) -> (bool, D) {
     }
 }
 
-/// The first checkpoint of such a disk while this call fails, and a stop behind it: whether it was answered, and whether
-/// the disk stands for 19 commands.
+/// The first checkpoint of such a disk while this call fails, and a stop after it: whether it was answered, and whether
+/// the disk opens to 19 commands.
 fn is_move_stopped(alloc: Global, call: u64, byte: u8) -> Result<(bool, bool), Fail> {
     let disk = FailingDisk::new(old_filled(alloc)?, call, Failing::Always);
     let (made, disk) = checkpoint(alloc, disk);
-    let (count, _) = stands_for(alloc, stop(alloc, disk.into_inner(), [byte; 512])?);
+    let (count, _) = opens_to(alloc, stop(alloc, disk.into_inner(), [byte; 512])?);
     Ok((made, count == Some(19)))
 }
 
-/// How many calls failed, the first one first, until the checkpoint was made; nothing where a stop left something else.
+/// How many calls failed, from the first one on, until the checkpoint was made; `None` if a stop left something else.
 fn move_stops(alloc: Global, byte: u8) -> Result<Option<u64>, Fail> {
     for call in 1..200 {
         let (made, well) = is_move_stopped(alloc, call, byte)?;
@@ -172,7 +172,7 @@ fn a_stop_in_it_leaves_19_commands(rt: HostRuntime) -> Result<(), Fail> {
 // ---- forms and numbers
 
 #[test]
-fn a_record_is_of_the_form_that_the_slot_tells(rt: HostRuntime) -> Result<(), Fail> {
+fn a_record_is_of_the_form_that_the_slot_states(rt: HostRuntime) -> Result<(), Fail> {
     let alloc = rt.alloc();
     assert_eq!(rt;
         with(alloc, &[(589, &OPEN), (590, &PLAIN_RULE)])?,
@@ -186,7 +186,7 @@ fn a_record_is_of_the_form_that_the_slot_tells(rt: HostRuntime) -> Result<(), Fa
 }
 
 /// What a half opens to that has a rule, nine expiries and then this record.
-fn behind_ten(alloc: Global, record: &[u8]) -> Result<Result<u64, StoreFault>, Fail> {
+fn after_ten(alloc: Global, record: &[u8]) -> Result<Result<u64, StoreFault>, Fail> {
     let mut disk = disk(alloc, &[(589, &OPEN), (590, &SET_RULE)])?;
     if !put_expiries(&mut disk, 9) || !put(&mut disk, &[(609, &OPEN), (610, record)]) {
         return Err("a disk of 4,000 calls".into());
@@ -196,15 +196,15 @@ fn behind_ten(alloc: Global, record: &[u8]) -> Result<Result<u64, StoreFault>, F
 }
 
 #[test]
-fn a_record_tells_the_next_number(rt: HostRuntime) -> Result<(), Fail> {
+fn a_record_states_the_next_number(rt: HostRuntime) -> Result<(), Fail> {
     let alloc = rt.alloc();
-    assert_eq!(rt; behind_ten(alloc, &expiry(11))?, Ok(11));
+    assert_eq!(rt; after_ten(alloc, &expiry(11))?, Ok(11));
     assert_eq!(rt;
-        behind_ten(alloc, &expiry(12))?,
+        after_ten(alloc, &expiry(12))?,
         Err(StoreFault::Damaged(610))
     );
     assert_eq!(rt;
-        behind_ten(alloc, &expiry(10))?,
+        after_ten(alloc, &expiry(10))?,
         Err(StoreFault::Damaged(610))
     );
     Ok(())

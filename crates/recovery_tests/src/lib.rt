@@ -2,13 +2,13 @@
 #![tactic(auto)]
 
 #[cfg(test)]
-mod beside;
-#[cfg(test)]
 mod calls;
 #[cfg(test)]
 mod commits;
 #[cfg(test)]
 mod formats;
+#[cfg(test)]
+mod formats_with;
 #[cfg(test)]
 mod greatest;
 #[cfg(test)]
@@ -17,6 +17,8 @@ mod group_message;
 mod layouts;
 #[cfg(test)]
 mod made;
+#[cfg(test)]
+mod ongoing;
 #[cfg(test)]
 mod opens;
 #[cfg(test)]

@@ -159,10 +159,10 @@ pub fn rule_for(sequence: u32) -> Option<Command<Global>> {
     made(1, sequence, Moment::new(0), Body::RuleSet { prefix, rule })
 }
 
-/// A sector that begins with these bytes, with zeros behind them.
-pub fn sector(front: &[u8]) -> [u8; 512] {
+/// A sector that begins with these bytes, with zeros after them.
+pub fn sector(prefix: &[u8]) -> [u8; 512] {
     let mut bytes = [0; 512];
-    for (byte, given) in bytes.iter_mut().zip(front) {
+    for (byte, given) in bytes.iter_mut().zip(prefix) {
         *byte = *given;
     }
     bytes

@@ -1,4 +1,4 @@
-//! Disks that are opened: what stands on them is put there by hand.
+//! Disks that are opened: what is on them is put there by hand.
 
 use checkpoint::Layout;
 use linked_list_allocator::LocalHeap;
@@ -52,10 +52,10 @@ const FROM_STATION_5: [u8; 25] = [
 /// A gate that is open.
 pub const OPEN: [u8; 1] = [1];
 
-/// A sector that begins with these bytes, with zeros behind them.
-fn sector(front: &[u8]) -> [u8; 512] {
+/// A sector that begins with these bytes, with zeros after them.
+fn sector(prefix: &[u8]) -> [u8; 512] {
     let mut bytes = [0; 512];
-    for (byte, given) in bytes.iter_mut().zip(front) {
+    for (byte, given) in bytes.iter_mut().zip(prefix) {
         *byte = *given;
     }
     bytes
@@ -63,8 +63,8 @@ fn sector(front: &[u8]) -> [u8; 512] {
 
 /// Puts these bytes and zeros into these sectors.
 pub fn put<D: Disk>(disk: &mut D, sectors: &[(u64, &[u8])]) -> bool {
-    for (at, front) in sectors {
-        if disk.write(*at, &sector(front)).is_err() {
+    for (at, prefix) in sectors {
+        if disk.write(*at, &sector(prefix)).is_err() {
             return false;
         }
     }
@@ -75,7 +75,7 @@ fn layout() -> Option<Layout> {
     Layout::new(Limits::new(16, 16, 256, 4)?, 39)
 }
 
-/// The worked disk made ready, and then these sectors written.
+/// The worked disk, formatted, with these sectors written to it.
 pub fn disk(alloc: Global, sectors: &[(u64, &[u8])]) -> Result<MemoryDisk<Global>, Fail> {
     let layout = layout().ok_or("a layout")?;
     let mut disk = MemoryDisk::new(alloc, 667, 4_000)?;
@@ -205,7 +205,7 @@ fn the_side_of_the_greater_epoch_counts(rt: HostRuntime) -> Result<(), Fail> {
 }
 
 #[test]
-fn the_first_bad_row_is_told(rt: HostRuntime) -> Result<(), Fail> {
+fn the_first_bad_row_is_stated(rt: HostRuntime) -> Result<(), Fail> {
     let alloc = rt.alloc();
     assert_eq!(rt;
         with(alloc, &[(3, &WITH_RULE)])?,
@@ -219,7 +219,7 @@ fn the_first_bad_row_is_told(rt: HostRuntime) -> Result<(), Fail> {
 }
 
 #[test]
-fn records_are_read_behind_open_gates(rt: HostRuntime) -> Result<(), Fail> {
+fn records_are_read_after_open_gates(rt: HostRuntime) -> Result<(), Fail> {
     let alloc = rt.alloc();
     assert_eq!(rt; with(alloc, &[(589, &OPEN), (590, &SET_RULE)])?, Ok(1));
     assert_eq!(rt; with(alloc, &[(589, &[77]), (590, &SET_RULE)])?, Ok(0));
@@ -291,7 +291,7 @@ fn no_record_begins_in_the_last_sector(rt: HostRuntime) -> Result<(), Fail> {
 }
 
 /// A rule in the journal of a disk whose call of this number fails: what it opens to, how often it failed, and what the
-/// disk that was given back opens to.
+/// disk that was returned opens to.
 fn failing(alloc: Global, call: u64) -> Result<(Result<u64, StoreFault>, u64, bool), Fail> {
     let disk = disk(alloc, &[(589, &OPEN), (590, &SET_RULE)])?;
     let (answer, disk) = opened(alloc, FailingDisk::new(disk, call, Failing::Once));
@@ -318,7 +318,7 @@ fn in_heap<'a, D: Disk>(heap: &'a LocalHeap, disk: D) -> (Result<u64, StoreFault
     opened(heap, disk)
 }
 
-/// How many heaps were too small before the disk opened; nothing where one didn't get all of its memory back.
+/// How many heaps were too small before the disk opened; `None` if one didn't get all of its memory back.
 fn refused(alloc: Global) -> Result<Option<usize>, Fail> {
     let mut disk = disk(alloc, &[(589, &OPEN), (590, &SET_RULE)])?;
     for k in 0..800 {

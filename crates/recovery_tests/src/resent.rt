@@ -10,7 +10,7 @@ use sector_disk::{Failing, FailingDisk, MemoryDisk};
 use std::alloc::{Allocator, Global};
 use std::test::Fail;
 
-/// What a desk says to the second command: `ok 2 8:56`, `kept 2 8:56`, or something else.
+/// What a desk answers to the second command: `ok 2 8:56`, `kept 2 8:56`, or something else.
 #[derive(Clone, Copy, Debug, PartialEq, Eq)]
 enum Word {
     Ok,
@@ -61,7 +61,7 @@ fn stopped(alloc: Global, byte: u8) -> Result<MemoryDisk<Global>, Fail> {
     }
 }
 
-/// How many commands the register of a disk has accepted, and what it says to the attach.
+/// How many commands the register of a disk has accepted, and what it answers to the attach.
 fn again(alloc: Global, disk: MemoryDisk<Global>) -> (Option<u64>, Word) {
     let Some(attach) = made::attach(alloc) else {
         return (None, Word::Other);

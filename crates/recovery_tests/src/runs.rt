@@ -8,7 +8,7 @@ use sector_disk::{Disk, MemoryDisk};
 use std::alloc::{Allocator, Global};
 use std::test::Fail;
 
-/// How many commands the register has accepted; nothing where the store is broken.
+/// How many commands the register has accepted; `None` if the store is broken.
 pub fn count<A: Allocator + Copy, D: Disk>(store: &Store<A, D>) -> Option<u64> {
     match store.register() {
         Some(register) => Some(register.count()),
@@ -34,7 +34,7 @@ pub fn are_accepted<C: Allocator>(outcomes: &[Outcome<C>], first: u64) -> bool {
     true
 }
 
-/// How many commands were accepted, with numbers from 1 on, where all behind them found no memory; nothing of other outcomes.
+/// How many commands were accepted, with numbers from 1 on, where all after them ran out of memory; `None` for other outcomes.
 pub fn accepted<C: Allocator>(outcomes: &[Outcome<C>]) -> Option<u64> {
     let mut accepted: u64 = 0;
     let mut wants = false;
@@ -50,7 +50,7 @@ pub fn accepted<C: Allocator>(outcomes: &[Outcome<C>]) -> Option<u64> {
     Some(accepted)
 }
 
-/// Commits one batch; tells whether all of it was accepted, with the next numbers.
+/// Commits one batch; returns whether all of it was accepted, with the next numbers.
 pub fn commit<D: Disk>(
     alloc: Global,
     store: &mut Store<Global, D>,
@@ -63,7 +63,7 @@ pub fn commit<D: Disk>(
     Ok(outcomes.len() == commands.len() && are_accepted(&outcomes, before.saturating_add(1)))
 }
 
-/// Commits commands one by one; tells how many commits were answered, up to the first fault.
+/// Commits commands one by one; returns how many commits were answered, up to the first fault.
 pub fn commit_each<D: Disk>(
     alloc: Global,
     store: &mut Store<Global, D>,
@@ -79,7 +79,7 @@ pub fn commit_each<D: Disk>(
     answered
 }
 
-/// Opens a disk, and commits commands one by one; tells how many commits were answered, and gives the disk.
+/// Opens a disk, and commits commands one by one; returns how many commits were answered, and the disk.
 pub fn run<D: Disk>(alloc: Global, disk: D, commands: &[&Command<Global>]) -> (u64, D) {
     match Store::open(alloc, disk) {
         Ok(mut store) => {
@@ -90,7 +90,7 @@ pub fn run<D: Disk>(alloc: Global, disk: D, commands: &[&Command<Global>]) -> (u
     }
 }
 
-/// Opens a disk, and has a desk answer a command; tells whether it was accepted with this number, and gives the disk.
+/// Opens a disk, and has a desk answer a command; returns whether it was accepted with this number, and the disk.
 pub fn serve<D: Disk>(alloc: Global, disk: D, command: &Command<Global>, want: u64) -> (bool, D) {
     match Store::open(alloc, disk) {
         Ok(mut store) => {
@@ -114,7 +114,7 @@ pub fn is_served<T: Desk<Global>>(
     }
 }
 
-/// Opens a disk, and commits commands at once; tells whether it was answered.
+/// Opens a disk, and commits commands at once; returns whether it was answered.
 pub fn run_as_one<D: Disk>(alloc: Global, disk: D, commands: &[&Command<Global>]) -> (bool, D)
     requires { length commands.now ≤ 64 }
 {
@@ -127,8 +127,8 @@ pub fn run_as_one<D: Disk>(alloc: Global, disk: D, commands: &[&Command<Global>]
     }
 }
 
-/// How many commands the register of a disk has accepted; nothing where it does not open.
-pub fn stands_for<D: Disk>(alloc: Global, disk: D) -> (Option<u64>, D) {
+/// How many commands the register of a disk has accepted; `None` if it does not open.
+pub fn opens_to<D: Disk>(alloc: Global, disk: D) -> (Option<u64>, D) {
     match Store::open(alloc, disk) {
         Ok(store) => (count(&store), store.into_disk()),
         Err((_, disk)) => (None, disk),
@@ -137,9 +137,9 @@ pub fn stands_for<D: Disk>(alloc: Global, disk: D) -> (Option<u64>, D) {
 
 /// Whether sectors begin with these bytes.
 pub fn begin<D: Disk>(disk: &mut D, sectors: &[(u64, &[u8])]) -> bool {
-    for (at, front) in sectors {
+    for (at, prefix) in sectors {
         let mut bytes = [7; 512];
-        if disk.read(*at, &mut bytes).is_err() || !bytes.starts_with(front) {
+        if disk.read(*at, &mut bytes).is_err() || !bytes.starts_with(prefix) {
             return false;
         }
     }

@@ -2,8 +2,8 @@
 ghost use Rattle.std.specs.Prelude.{◌≤◌, length};
 
 use crate::made;
-use crate::runs::{accepted, count, stands_for};
-use centre_core::{Command, Query, Register, Told};
+use crate::runs::{accepted, count, opens_to};
+use centre_core::{Command, Query, QueryAnswer, Register};
 use identity::Itsi;
 use linked_list_allocator::LocalHeap;
 use recovery::{Store, StoreFault};
@@ -11,8 +11,8 @@ use sector_disk::{Disk, MemoryDisk};
 use std::alloc::{Allocator, Global};
 use std::test::Fail;
 
-/// How many of the commands were accepted, with the outcomes under this allocator; nothing where the register does not
-/// stand after just these.
+/// How many of the commands were accepted, with the outcomes under this allocator; `None` if the register
+/// is not the one after just these.
 fn accepted_in<A: Allocator + Copy, C: Allocator + Copy, D: Disk>(
     alloc: C,
     store: &mut Store<A, D>,
@@ -28,8 +28,8 @@ fn accepted_in<A: Allocator + Copy, C: Allocator + Copy, D: Disk>(
     (count(store) == Some(accepted)).then_some(accepted)
 }
 
-/// Commits a rule and an attach at once with outcomes in a heap of this size; tells as `accepted_in` does, and nothing
-/// where the disk stands for other commands, or not all memory comes back.
+/// Commits a rule and an attach at once with outcomes in a heap of this size; returns as `accepted_in` does, and nothing
+/// where the disk opens to other commands, or not all memory comes back.
 fn in_heap(alloc: Global, size: usize) -> Result<Option<u64>, Fail> {
     let rule = made::rule().ok_or("a rule")?;
     let attach = made::attach(alloc).ok_or("an attach")?;
@@ -38,7 +38,7 @@ fn in_heap(alloc: Global, size: usize) -> Result<Option<u64>, Fail> {
         return Ok(None);
     };
     let accepted = accepted_in(&heap, &mut store, &[&rule, &attach]);
-    let (count, _) = stands_for(alloc, store.into_disk());
+    let (count, _) = opens_to(alloc, store.into_disk());
     Ok(if heap.used() == 0 && count == accepted {
         accepted
     } else {
@@ -72,7 +72,7 @@ fn each_growth_for_outcomes_is_refused_in_turn(rt: HostRuntime) -> Result<(), Fa
 /// How many things wait for a radio.
 fn waiting<A: Allocator + Clone>(alloc: Global, register: &Register<A>, itsi: Itsi) -> usize {
     match register.query(alloc, &Query::Waiting(itsi)) {
-        Ok(Told::Waiting { items, .. }) => items.as_slice().len(),
+        Ok(QueryAnswer::Waiting { items, .. }) => items.as_slice().len(),
         _ => 99,
     }
 }
@@ -80,20 +80,20 @@ fn waiting<A: Allocator + Clone>(alloc: Global, register: &Register<A>, itsi: It
 fn is_there<A: Allocator + Clone>(alloc: Global, register: &Register<A>, itsi: Itsi) -> bool {
     matches!(
         register.query(alloc, &Query::Whereabouts(itsi)),
-        Ok(Told::Whereabouts { radio: Some(_), .. })
+        Ok(QueryAnswer::Whereabouts { radio: Some(_), .. })
     )
 }
 
 fn is_ruled<A: Allocator + Clone>(alloc: Global, register: &Register<A>, itsi: Itsi) -> bool {
     matches!(
         register.query(alloc, &Query::Look(itsi)),
-        Ok(Told::Look { rule: Some(_), .. })
+        Ok(QueryAnswer::Look { rule: Some(_), .. })
     )
 }
 
 /// Whether queries answer as after so many of the commands: a rule, the attaches of two radios, and a message to the
 /// second.
-fn tells<A: Allocator + Clone>(alloc: Global, register: &Register<A>, commands: u64) -> bool {
+fn is_after<A: Allocator + Clone>(alloc: Global, register: &Register<A>, commands: u64) -> bool {
     let (Some(sender), Some(receiver)) = (made::sender(), made::receiver()) else {
         return false;
     };
@@ -104,8 +104,8 @@ fn tells<A: Allocator + Clone>(alloc: Global, register: &Register<A>, commands: 
         && waiting(alloc, register, receiver) == usize::from(commands >= 4)
 }
 
-/// Commits the four commands at once. Tells how many were accepted; nothing where the others are not answered by want
-/// of memory, or queries answer as after other commands.
+/// Commits the four commands at once. Returns how many were accepted; `None` if the others did not run out of
+/// memory, or queries answer as after other commands.
 fn committed<A: Allocator + Copy, D: Disk>(
     alloc: Global,
     store: &mut Store<A, D>,
@@ -113,11 +113,11 @@ fn committed<A: Allocator + Copy, D: Disk>(
 ) -> Option<u64> {
     let accepted = accepted_in(alloc, store, commands)?;
     let register = store.register()?;
-    tells(alloc, register, accepted).then_some(accepted)
+    is_after(alloc, register, accepted).then_some(accepted)
 }
 
-/// The same on a disk that is opened with its register in this heap; nothing too where the disk stands for other commands
-/// afterwards. Where there is no memory to open it none were accepted.
+/// The same on a disk that is opened with its register in this heap; `None` too if the disk opens to other commands
+/// afterwards. Without memory to open it, none were accepted.
 fn committed_in<'a>(
     alloc: Global,
     heap: &'a LocalHeap,
@@ -127,7 +127,7 @@ fn committed_in<'a>(
     match Store::open(heap, disk) {
         Ok(mut store) => {
             let accepted = committed(alloc, &mut store, commands);
-            let (count, _) = stands_for(alloc, store.into_disk());
+            let (count, _) = opens_to(alloc, store.into_disk());
             if count == accepted { accepted } else { None }
         }
         Err((StoreFault::NoMemory, _)) => Some(0),
@@ -135,7 +135,7 @@ fn committed_in<'a>(
     }
 }
 
-/// The same with a heap of this size; nothing too where not all of its memory comes back.
+/// The same with a heap of this size; `None` too if not all of its memory comes back.
 fn register_in(alloc: Global, size: usize) -> Result<Option<u64>, Fail> {
     let rule = made::rule().ok_or("a rule")?;
     let first = made::attach(alloc).ok_or("an attach")?;

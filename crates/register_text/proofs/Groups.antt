@@ -5,8 +5,8 @@ use Rattle.std.specs.List.{flat_map}
 use Rattle.std.proofs.lemmas.List.{append-nil, take-append-drop}
 use Rattle.std.proofs.lemmas.List.Concat.{flat_map-append}
 use Rattle.std.proofs.Math.Seq.{take-append_seam}
-use Rattle.identity.specs.NumberText.{IsFrontOf}
-use Rattle.console.proofs.Listed.{front_with_more}
+use Rattle.identity.specs.NumberText.{IsPrefixOf}
+use Rattle.console.proofs.Listed.{prefix_with_more}
 use Rattle.image_rows.specs.Rows.{Group}
 use Rattle.register_text.specs.Lines.{group_words, spaced}
 
@@ -39,14 +39,14 @@ pub all_printed : (old out : List ℕ) (gs hs : List Group) → out ++ groups_te
 all_printed old out gs hs so_far none = sym (append-nil out) ∙ ap (λ (l : List Group). out ++ groups_text l) (sym (no_group hs none)) ∙ so_far
 
 -- what was there first is there still
-pub front_kept : (old now new : List ℕ) → IsFrontOf old now → IsFrontOf now new → IsFrontOf old new
-front_kept old now new before front = front_with_more old (drop (length old) now) now new (sym (take-append-drop (length old) now) ∙ ap (λ (l : List ℕ). l ++ drop (length old) now) before) front
+pub prefix_kept : (old now new : List ℕ) → IsPrefixOf old now → IsPrefixOf now new → IsPrefixOf old new
+prefix_kept old now new before prefix = prefix_with_more old (drop (length old) now) now new (sym (take-append-drop (length old) now) ∙ ap (λ (l : List ℕ). l ++ drop (length old) now) before) prefix
 
-pub front_more : (now more new : List ℕ) → new ≡ now ++ more → IsFrontOf now new
-front_more now more new put = ap (λ (l : List ℕ). take (length now) l) put ∙ take-append_seam now more
+pub prefix_more : (now more new : List ℕ) → new ≡ now ++ more → IsPrefixOf now new
+prefix_more now more new put = ap (λ (l : List ℕ). take (length now) l) put ∙ take-append_seam now more
 
-pub front_itself : (now : List ℕ) → IsFrontOf now now
-front_itself now = front_more now [] now (sym (append-nil now))
+pub prefix_itself : (now : List ℕ) → IsPrefixOf now now
+prefix_itself now = prefix_more now [] now (sym (append-nil now))
 
 -- a text and then more was put
 pub put_both : {T E : Type 0} (r : Result T E) (old mid new a b : List ℕ) → mid ≡ old ++ a → OnOk r (new ≡ mid ++ b) → OnOk r (new ≡ old ++ (a ++ b))

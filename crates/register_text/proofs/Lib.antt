@@ -6,4 +6,9 @@ mod Groups
 mod Texts
 mod Walks
 mod Taking
+mod Widths
+mod Parts
+mod Cuts
+mod Written
+mod Bytes
 mod WordGroups

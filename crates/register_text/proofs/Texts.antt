@@ -14,21 +14,21 @@ use Rattle.group_attach.specs.Attached.{of_radio}
 use Rattle.centre_core.specs.State.{State, LastAccepted, IsState}
 use Rattle.centre_core.specs.StateRanges.{StateInRange}
 use Rattle.command_bytes.proofs.Steps.{some_is}
-use Rattle.console.specs.Reading.{words}
+use Rattle.console.specs.Reading.{Lacks, words}
 use Rattle.image_rows.specs.Rows.{Row, HeaderRow, RuleRow, RadioRow, MailRow, ServedRow, RowInRange, header_of, rule_row, radio_row, group_of, served_rows, rows_of}
 use Rattle.image_rows.specs.RowReading.{IsRow}
 use Rattle.image_rows.specs.RowSizes.{HasFewGroups}
-use Rattle.image_rows.specs.Loading.{◌>>=◌, Loading, all_taken, begun, finished, row_taken, stood_for}
-use Rattle.image_rows.proofs.Exactly.{stood_only}
+use Rattle.image_rows.specs.Loading.{◌>>=◌, Loading, all_taken, begun, finished, row_taken, state_of_rows}
+use Rattle.image_rows.proofs.Exactly.{only_these_rows}
 use Rattle.image_rows.proofs.Groups.{length_each}
 use Rattle.image_rows.proofs.Images.{are_rows}
-use Rattle.image_rows.proofs.Standing.{rows_stand}
+use Rattle.image_rows.proofs.RowsOfState.{rows_make_state}
 use Rattle.register_text.specs.Lines.{row_line, HasFirstEpoch, IsLineRow}
 use Rattle.register_text.specs.Reading.{line_row}
 use Rattle.register_text.specs.Text.{head_text, head_line, head_of, head_in, is_same, is_head, register_lines, TextLoading, head_taken, or_place, or_spelling, line_taken, then_lines, lines_taken, state_of, whole, state_in, IsUnder, AreLinesOf}
 use Rattle.register_text.specs.declared.cause.Cause.{Cause}
 use Rattle.register_text.specs.declared.cause.Cause.TheVariants as cause
-use Rattle.register_text.proofs.Spaces.{AllLack, decimal_lacks, letters, words_back}
+use Rattle.register_text.proofs.Spaces.{AllPlain, decimal_plain, letters, no_feeds, words_back}
 use Rattle.register_text.proofs.Again.{line_again, number_again}
 use Rattle.register_text.proofs.Only.{line_only}
 
@@ -40,12 +40,15 @@ head_same r p m s r' p' m' s' er ep em es = rw (er, ep, em, es) refl
 same_itself : (line : List ℕ) (text : Option (List ℕ)) → text ≡ Some line → is_same line text ≡ true
 same_itself line text e = ap (is_same line) e ∙ (bytes_eq-Decides line line).1 refl
 
-pub head_again : (l : Limits) → AreLimits l.rules l.radios l.mail l.stations → is_head (head_line l) ≡ true
-unfolding is_head
-head_again l fit =
-    let r = fit.most_rules in let p = fit.most_radios in let m = fit.most_mail in let s = fit.most_stations in
-    let ws : List (List ℕ) = codes "register" ∷ codes "1" ∷ codes "rules" ∷ decimal l.rules ∷ codes "radios" ∷ decimal l.radios ∷ codes "items" ∷ decimal l.mail ∷ codes "stations" ∷ decimal l.stations ∷ [] in
-    let lack : AllLack (codes "tetra-switch" ∷ ws) = (
+-- the words of the first line
+head_words : Limits → List (List ℕ)
+head_words l =
+    codes "register" ∷ codes "1" ∷ codes "rules" ∷ decimal l.rules ∷ codes "radios" ∷ decimal l.radios ∷ codes "items" ∷ decimal l.mail ∷ codes "stations" ∷ decimal l.stations ∷ []
+
+head_plain : (l : Limits) → AreLimits l.rules l.radios l.mail l.stations → AllPlain (codes "tetra-switch" ∷ head_words l)
+unfolding head_words
+head_plain l fit =
+    let r = fit.most_rules in let p = fit.most_radios in let m = fit.most_mail in let s = fit.most_stations in (
       letters (codes "tetra-switch") refl,
       (
         letters (codes "register") refl,
@@ -54,16 +57,16 @@ head_again l fit =
           (
             letters (codes "rules") refl,
             (
-              decimal_lacks l.rules (omega (arith, r)),
+              decimal_plain l.rules (omega (arith, r)),
               (
                 letters (codes "radios") refl,
                 (
-                  decimal_lacks l.radios (omega (arith, p)),
+                  decimal_plain l.radios (omega (arith, p)),
                   (
                     letters (codes "items") refl,
                     (
-                      decimal_lacks l.mail (omega (arith, m)),
-                      (letters (codes "stations") refl, (decimal_lacks l.stations (omega (arith, s)), tt)),
+                      decimal_plain l.mail (omega (arith, m)),
+                      (letters (codes "stations") refl, (decimal_plain l.stations (omega (arith, s)), tt)),
                     ),
                   ),
                 ),
@@ -72,8 +75,17 @@ head_again l fit =
           ),
         ),
       ),
-    ) in
-    let split : words (head_line l) ≡ codes "tetra-switch" ∷ ws = words_back (codes "tetra-switch") ws lack in
+    )
+
+pub head_has_no_feed : (l : Limits) → AreLimits l.rules l.radios l.mail l.stations → Lacks 10 (head_line l)
+unfolding head_words
+head_has_no_feed l fit = no_feeds (codes "tetra-switch") (head_words l) (head_plain l fit)
+
+pub head_again : (l : Limits) → AreLimits l.rules l.radios l.mail l.stations → is_head (head_line l) ≡ true
+unfolding is_head head_words
+head_again l fit =
+    let r = fit.most_rules in let p = fit.most_radios in let m = fit.most_mail in let s = fit.most_stations in
+    let split : words (head_line l) ≡ codes "tetra-switch" ∷ head_words l = words_back (codes "tetra-switch") (head_words l) (head_plain l fit) in
     same_itself (head_line l) (head_in (words (head_line l))) (
     ap head_in split
     ∙ head_same l.rules l.radios l.mail l.stations _ _ _ _ (number_again _ l.rules (omega (arith, r)) (omega arith)) (number_again _ l.radios (omega (arith, p)) (omega arith))
@@ -147,16 +159,16 @@ whole_place None = refl
 whole_place (Some l) = refl
 
 -- the lines of a register stand for what its rows stand for
-pub lines_stand : (limits : Limits) (s : State) → IsState s → StateInRange s → state_in limits (register_lines s) ≡ state_of (stood_for limits (rows_of 1 s))
+pub lines_made : (limits : Limits) (s : State) → IsState s → StateInRange s → state_in limits (register_lines s) ≡ state_of (state_of_rows limits (rows_of 1 s))
 unfolding headed line_taken
-lines_stand limits s state ranges =
+lines_made limits s state ranges =
     ap (λ b. whole (then_lines (head_taken (begun limits) b) (λ u. lines_taken u (each row_line (rows_of 1 s))))) (head_again s.registered.limits ranges.limits)
     ∙ ap whole (rows_taken (rows_of 1 s) (begun limits) (are_lines s state ranges))
     ∙ whole_place (all_taken (begun limits) (rows_of 1 s))
 
 -- they stand for the register itself under its own limits
 pub lines_again : (s : State) → IsState s → StateInRange s → state_in s.registered.limits (register_lines s) ≡ Some s
-lines_again s state ranges = lines_stand s.registered.limits s state ranges ∙ ap state_of (rows_stand 1 s state ranges)
+lines_again s state ranges = lines_made s.registered.limits s state ranges ∙ ap state_of (rows_make_state 1 s state ranges)
 
 -- ---- no other lines
 
@@ -189,17 +201,17 @@ in_range : (rows : List Row) → All IsLineRow rows → All RowInRange rows
 in_range [] are = All-nil RowInRange
 in_range (row ∷ rows) are = All-cons RowInRange row rows (All-head IsLineRow row rows are).is_row.range (in_range rows (All-tail IsLineRow row rows are))
 
-read_as : (limits : Limits) (rows : List Row) (t : State) → All IsLineRow rows → state_of (stood_for limits rows) ≡ Some t → IsUnder limits rows t
+read_as : (limits : Limits) (rows : List Row) (t : State) → All IsLineRow rows → state_of (state_of_rows limits rows) ≡ Some t → IsUnder limits rows t
 unfolding first_epoch
 read_as limits rows t are is =
-    let a = stood_as (stood_for limits rows) t is in
-    let only = stood_only limits rows a.0 t (in_range rows are) a.1 in
+    let a = stood_as (state_of_rows limits rows) t is in
+    let only = only_these_rows limits rows a.0 t (in_range rows are) a.1 in
     let one : a.0 ≡ 1 = sym (ap first_epoch only.0) ∙ first_is rows are in
     record { are = only.0 ∙ ap (λ (e : ℕ). rows_of e t) one; state = only.1; ranges = only.2; under = only.3 }
 
 -- under other limits a register's lines stand for a register with the same rows, or for none
 pub lines_under : (limits : Limits) (s t : State) → IsState s → StateInRange s → state_in limits (register_lines s) ≡ Some t → IsUnder limits (rows_of 1 s) t
-lines_under limits s t state ranges e = read_as limits (rows_of 1 s) t (are_lines s state ranges) (sym (lines_stand limits s state ranges) ∙ e)
+lines_under limits s t state ranges e = read_as limits (rows_of 1 s) t (are_lines s state ranges) (sym (lines_made limits s state ranges) ∙ e)
 
 -- lines that were taken are those of rows
 record AreTaken (l : Loading) (lines : List (List ℕ)) (r : TextLoading) : Type 0 where
@@ -237,21 +249,28 @@ unfolding headed line_taken
 taken_only [] l r e = record { rows = []; are = refl; fit = All-nil IsLineRow; taken = ap (λ (t : TextLoading). Some t.rows) (ok_same _ r e) }
 taken_only (line ∷ lines) l r e = line_then line lines l r (λ n. taken_only lines n r) (line_row line) refl e
 
-rows_then : (limits : Limits) (first : List ℕ) (lines : List (List ℕ)) (t : State) → is_head first ≡ true → (o : Result TextLoading Cause) → lines_taken (headed (begun limits)) lines ≡ o → whole o ≡ Some t → AreLinesOf (first ∷ lines) t
+-- lines of a register with these limits
+abbrev pub AreLinesUnder : Limits → List (List ℕ) → State → Type 0
+AreLinesUnder limits lines t = AreLinesOf lines t × (t.registered.limits ≡ limits)
+
+rows_then : (limits : Limits) (first : List ℕ) (lines : List (List ℕ)) (t : State) → is_head first ≡ true → (o : Result TextLoading Cause) → lines_taken (headed (begun limits)) lines ≡ o → whole o ≡ Some t → AreLinesUnder limits (first ∷ lines) t
 unfolding headed
 rows_then limits first lines t head (Err c) made e = none_some t e
 rows_then limits first lines t head (Ok r) made e =
     let rows = taken_only lines (begun limits) r made in
-    let stood : state_of (stood_for limits rows.rows) ≡ Some t = ap (λ (o : Option Loading). state_of (o >>= finished)) rows.taken ∙ e in
+    let stood : state_of (state_of_rows limits rows.rows) ≡ Some t = ap (λ (o : Option Loading). state_of (o >>= finished)) rows.taken ∙ e in
     let read = read_as limits rows.rows t rows.fit stood in
-    record { first = first; head = head; are = ap (λ (xs : List (List ℕ)). first ∷ xs) (rows.are ∙ ap (each row_line) read.are) }
+    (record { first = first; head = head; are = ap (λ (xs : List (List ℕ)). first ∷ xs) (rows.are ∙ ap (each row_line) read.are) }, read.under)
 
-head_then : (limits : Limits) (first : List ℕ) (lines : List (List ℕ)) (t : State) (b : Bool) → is_head first ≡ b → whole (then_lines (head_taken (begun limits) b) (λ u. lines_taken u lines)) ≡ Some t → AreLinesOf (first ∷ lines) t
+head_then : (limits : Limits) (first : List ℕ) (lines : List (List ℕ)) (t : State) (b : Bool) → is_head first ≡ b → whole (then_lines (head_taken (begun limits) b) (λ u. lines_taken u lines)) ≡ Some t → AreLinesUnder limits (first ∷ lines) t
 unfolding headed
 head_then limits first lines t false is e = none_some t e
 head_then limits first lines t true is e = rows_then limits first lines t is (lines_taken (headed (begun limits)) lines) refl e
 
-pub lines_only : (limits : Limits) (lines : List (List ℕ)) (t : State) → state_in limits lines ≡ Some t → AreLinesOf lines t
+pub lines_both : (limits : Limits) (lines : List (List ℕ)) (t : State) → state_in limits lines ≡ Some t → AreLinesUnder limits lines t
 unfolding line_taken finished
-lines_only limits [] t e = none_some t e
-lines_only limits (first ∷ lines) t e = head_then limits first lines t (is_head first) refl e
+lines_both limits [] t e = none_some t e
+lines_both limits (first ∷ lines) t e = head_then limits first lines t (is_head first) refl e
+
+pub lines_only : (limits : Limits) (lines : List (List ℕ)) (t : State) → state_in limits lines ≡ Some t → AreLinesOf lines t
+lines_only limits lines t e = (lines_both limits lines t e).0

@@ -8,12 +8,12 @@ use Rattle.image_rows.specs.RowText.{padded}
 use Rattle.register_text.specs.Reading.{groups_in, one_group_in, radio_in, with_groups}
 
 -- a group and the others
-one_first : {X : Type 0} (v : X → List ℕ) (rest front back : List X) → 3 ≤ length rest → front ≡ take 3 rest → back ≡ drop 3 rest
-    → groups_in (each v rest) ≡ (one_group_in (each v front) >>= λ g. groups_in (each v back) >>= λ gs. Some (g ++ gs))
-one_first v [] front back long f b = absurd (omega (arith, long))
-one_first v (x ∷ []) front back long f b = absurd (omega (arith, long))
-one_first v (x ∷ y ∷ []) front back long f b = absurd (omega (arith, long))
-one_first v (x ∷ y ∷ z ∷ more) front back long f b = rw (f, b) refl
+one_first : {X : Type 0} (v : X → List ℕ) (rest prefix back : List X) → 3 ≤ length rest → prefix ≡ take 3 rest → back ≡ drop 3 rest
+    → groups_in (each v rest) ≡ (one_group_in (each v prefix) >>= λ g. groups_in (each v back) >>= λ gs. Some (g ++ gs))
+one_first v [] prefix back long f b = absurd (omega (arith, long))
+one_first v (x ∷ []) prefix back long f b = absurd (omega (arith, long))
+one_first v (x ∷ y ∷ []) prefix back long f b = absurd (omega (arith, long))
+one_first v (x ∷ y ∷ z ∷ more) prefix back long f b = rw (f, b) refl
 
 kept_by : (out new : List ℕ) (g m : Option (List ℕ)) → Some new ≡ option_map (λ x. out ++ x) g → option_map (λ x. new ++ x) m ≡ option_map (λ x. out ++ x) (g >>= λ x. m >>= λ y. Some (x ++ y))
 kept_by out new None m e = absurd cc
@@ -25,16 +25,16 @@ stopped_by out None m e = refl
 stopped_by out (Some x) m e = absurd cc
 
 -- a group was put
-pub kept : {X : Type 0} (v : X → List ℕ) (rest front back : List X) (out new : List ℕ) → 3 ≤ length rest → front ≡ take 3 rest → back ≡ drop 3 rest → Some new ≡ option_map (λ x. out ++ x) (one_group_in (each v front))
+pub kept : {X : Type 0} (v : X → List ℕ) (rest prefix back : List X) (out new : List ℕ) → 3 ≤ length rest → prefix ≡ take 3 rest → back ≡ drop 3 rest → Some new ≡ option_map (λ x. out ++ x) (one_group_in (each v prefix))
     → option_map (λ x. new ++ x) (groups_in (each v back)) ≡ option_map (λ x. out ++ x) (groups_in (each v rest))
-kept v rest front back out new long f b put =
-    kept_by out new (one_group_in (each v front)) (groups_in (each v back)) put ∙ ap (option_map (λ x. out ++ x)) (sym (one_first v rest front back long f b))
+kept v rest prefix back out new long f b put =
+    kept_by out new (one_group_in (each v prefix)) (groups_in (each v back)) put ∙ ap (option_map (λ x. out ++ x)) (sym (one_first v rest prefix back long f b))
 
 -- three words are no group
-pub stopped : {X : Type 0} (v : X → List ℕ) (rest front back : List X) (out : List ℕ) → 3 ≤ length rest → front ≡ take 3 rest → back ≡ drop 3 rest → None ≡ option_map (λ x. out ++ x) (one_group_in (each v front))
+pub stopped : {X : Type 0} (v : X → List ℕ) (rest prefix back : List X) (out : List ℕ) → 3 ≤ length rest → prefix ≡ take 3 rest → back ≡ drop 3 rest → None ≡ option_map (λ x. out ++ x) (one_group_in (each v prefix))
     → None ≡ option_map (λ x. out ++ x) (groups_in (each v rest))
-stopped v rest front back out long f b none =
-    stopped_by out (one_group_in (each v front)) (groups_in (each v back)) none ∙ ap (option_map (λ x. out ++ x)) (sym (one_first v rest front back long f b))
+stopped v rest prefix back out long f b none =
+    stopped_by out (one_group_in (each v prefix)) (groups_in (each v back)) none ∙ ap (option_map (λ x. out ++ x)) (sym (one_first v rest prefix back long f b))
 
 -- no three words are left
 pub all_put : {X : Type 0} (v : X → List ℕ) (rest : List X) (out : List ℕ) → length rest < 3 → Some out ≡ option_map (λ x. out ++ x) (groups_in (each v rest))
@@ -51,14 +51,14 @@ module _ {X : Type 0} (v : X → List ℕ) (words : List X) (at : ℕ) where
   after_three = let e : 3 * at + 3 ≡ 3 * (at + 1) = omega arith in ap (λ (n : ℕ). drop n words) (sym e) ∙ sym (drop-drop 3 (3 * at) words)
 
   -- the group at a place was put
-  pub kept_at : (front : List X) (out new : List ℕ) → Some new ≡ option_map (λ x. out ++ x) (one_group_in (each v front)) → front ≡ take 3 (drop (3 * at) words) → at < length words / 3
+  pub kept_at : (prefix : List X) (out new : List ℕ) → Some new ≡ option_map (λ x. out ++ x) (one_group_in (each v prefix)) → prefix ≡ take 3 (drop (3 * at) words) → at < length words / 3
       → option_map (λ x. new ++ x) (groups_in (each v (drop (3 * (at + 1)) words))) ≡ option_map (λ x. out ++ x) (groups_in (each v (drop (3 * at) words)))
-  kept_at front out new put is more = kept v (drop (3 * at) words) front (drop (3 * (at + 1)) words) out new (three_left more) is after_three put
+  kept_at prefix out new put is more = kept v (drop (3 * at) words) prefix (drop (3 * (at + 1)) words) out new (three_left more) is after_three put
 
   -- the words at a place are no group
-  pub stopped_at : (front : List X) (out : List ℕ) → None ≡ option_map (λ x. out ++ x) (one_group_in (each v front)) → front ≡ take 3 (drop (3 * at) words) → at < length words / 3
+  pub stopped_at : (prefix : List X) (out : List ℕ) → None ≡ option_map (λ x. out ++ x) (one_group_in (each v prefix)) → prefix ≡ take 3 (drop (3 * at) words) → at < length words / 3
       → None ≡ option_map (λ x. out ++ x) (groups_in (each v (drop (3 * at) words)))
-  stopped_at front out none is more = stopped v (drop (3 * at) words) front (drop (3 * (at + 1)) words) out (three_left more) is after_three none
+  stopped_at prefix out none is more = stopped v (drop (3 * at) words) prefix (drop (3 * (at + 1)) words) out (three_left more) is after_three none
 
   pub all_at : (out : List ℕ) → length words / 3 ≤ at → Some out ≡ option_map (λ x. out ++ x) (groups_in (each v (drop (3 * at) words)))
   all_at out done = all_put v (drop (3 * at) words) out (let n = length-drop (3 * at) words in omega (arith, done, n))

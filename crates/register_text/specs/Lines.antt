@@ -1,4 +1,4 @@
--- The line of a row: a keyword, and each further word after one space. The line feed at its end is no part of it.
+-- The line of a row: a keyword, then each further word after one space. The line feed at its end is no part of it.
 use Rattle.std.specs.Prelude.{◌≡◌, Bool, true, false, List, [], ◌∷◌, ◌++◌, Option, Some, None, codes, decimal}
 use Rattle.std.specs.List.{flat_map}
 use Rattle.identity.specs.Numbers.{Gtsi, Byte}
@@ -11,7 +11,7 @@ use Rattle.image_rows.specs.Rows.{Row, HeaderRow, RuleRow, RadioRow, MailRow, Se
 use Rattle.image_rows.specs.RowReading.{IsRow}
 use Rattle.image_rows.specs.RowSizes.{HasFewGroups}
 
--- the word by which a line is known
+-- the first word of a row's line
 abbrev pub keyword : Row → List Byte
 keyword (HeaderRow h) = codes "count"
 keyword (RuleRow prefix rule) = codes "rule"
@@ -28,7 +28,7 @@ presence_word false = codes "absent"
 abbrev pub group_words : Group → List (List Byte)
 group_words g = identity_text g.0 ∷ decimal g.1.0 ∷ decimal (lifetime_number g.1.1) ∷ []
 
--- the group of a copy; no word of an item that is none
+-- the group of a copy; no word for an item that is no copy
 abbrev pub copied_words : Option Gtsi → List (List Byte)
 copied_words None = []
 copied_words (Some gtsi) = identity_text gtsi ∷ []
@@ -46,7 +46,7 @@ fields (MailRow w) =
     ∷ decimal w.deadline ∷ bits_text w.pdu ∷ copied_words w.group
 fields (ServedRow station last) = decimal station ∷ decimal last.sequence ∷ decimal last.number ∷ pdu_text last.pdu ∷ []
 
--- words, each after a space
+-- these words, each after a space
 abbrev pub spaced : List (List Byte) → List Byte
 spaced words = flat_map (λ w. 32 ∷ w) words
 
@@ -54,7 +54,7 @@ spaced words = flat_map (λ w. 32 ∷ w) words
 abbrev pub row_line : Row → List Byte
 row_line row = keyword row ++ spaced (fields row)
 
--- a header has epoch 1
+-- if the row is a header, its epoch is 1
 abbrev pub HasFirstEpoch : Row → Type 0
 HasFirstEpoch (HeaderRow h) = h.epoch ≡ 1
 HasFirstEpoch (RuleRow prefix rule) = Unit {0}

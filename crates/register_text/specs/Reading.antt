@@ -1,4 +1,4 @@
--- What a line says: its words are read into the bytes of a row, and these are judged as a disk's are. The line is the row's if it is its one spelling.
+-- How a line is read: its words give the bytes of a row, which are read as a disk's are. The line must be that row's one spelling.
 use Rattle.std.specs.Prelude.{ℕ, ◌+◌, ◌*◌, ◌/◌, Bool, List, [], ◌∷◌, ◌++◌, length, Option, Some, None, option_map, nat_le, if◌then◌else◌, codes}
 use Rattle.std.specs.Result.{result_ok}
 use Rattle.std.specs.Str.{bytes_eq}
@@ -15,29 +15,29 @@ use Rattle.image_rows.specs.RowText.{copied_text, mail_tag, padded, sector_of}
 use Rattle.image_rows.specs.RowReading.{row_in}
 use Rattle.register_text.specs.Lines.{row_line}
 
--- a number of at most so much
+-- the number that a word spells, if it is at most `most`
 abbrev pub number_in : ℕ → List Byte → Option ℕ
 number_in most word = result_ok (reading_number most word)
 
--- the greatest numbers of 1, 2, 4 and 8 bytes
+-- the greatest number of 1 byte
 abbrev pub most_1 : ℕ
 most_1 = 255
 
--- of 2 bytes
+-- the greatest number of 2 bytes
 abbrev pub most_2 : ℕ
 most_2 = 65535
 
--- of 4 bytes
+-- the greatest number of 4 bytes
 abbrev pub most_4 : ℕ
 most_4 = 4294967295
 
--- of 8 bytes
+-- the greatest number of 8 bytes
 abbrev pub most_8 : ℕ
 most_8 = 18446744073709551615
 
 -- ---- each kind of row
 
--- a header of epoch 1
+-- the bytes of a header of epoch 1
 abbrev pub header_of : Option ℕ → Option ℕ → Option ℕ → Option ℕ → Option ℕ → Option (List Byte)
 header_of (Some count) (Some rules) (Some radios) (Some mail) (Some served) =
     Some (sector_of (HeaderRow (record { epoch = 1; count = count; rules = rules; radios = radios; mail = mail; served = served })))
@@ -49,7 +49,7 @@ header_in (count ∷ a ∷ rules ∷ b ∷ radios ∷ c ∷ mail ∷ d ∷ serve
     header_of (number_in most_8 count) (number_in most_4 rules) (number_in most_4 radios) (number_in most_4 mail) (number_in most_4 served)
 header_in words = None
 
--- a rule under its prefix
+-- the bytes of a rule under its prefix
 abbrev pub rule_of : Option Path → Option ℕ → Option ℕ → Option ℕ → Option ℕ → Option (List Byte)
 rule_of (Some prefix) (Some low) (Some high) (Some lifetime) (Some keep) =
     Some (padded (big 1 17 ++ (prefix_text prefix ++ (big 2 low ++ big 2 high ++ big 1 lifetime ++ big 4 keep))))
@@ -57,14 +57,15 @@ rule_of prefix low high lifetime keep = None
 
 -- PREFIX LOW HIGH LIFE KEEP
 abbrev pub rule_in : List (List Byte) → Option (List Byte)
-rule_in (prefix ∷ low ∷ high ∷ lifetime ∷ keep ∷ []) = rule_of (prefix_in prefix) (number_in most_2 low) (number_in most_2 high) (number_in most_1 lifetime) (number_in most_4 keep)
+rule_in (prefix ∷ low ∷ high ∷ lifetime ∷ keep ∷ []) =
+    rule_of (prefix_in prefix) (number_in most_2 low) (number_in most_2 high) (number_in most_1 lifetime) (number_in most_4 keep)
 rule_in words = None
 
--- a radio that is not absent is present
+-- 0 for a radio that is absent, else 1
 abbrev pub presence_in : List Byte → ℕ
 presence_in word = if bytes_eq word (codes "absent") then 0 else 1
 
--- a group of a radio
+-- the bytes of a group of a radio
 abbrev pub group_of : Option Gtsi → Option ℕ → Option ℕ → Option (List Byte)
 group_of (Some gtsi) (Some class) (Some lifetime) = Some (big 6 gtsi ++ big 1 (4 * class + lifetime))
 group_of gtsi class lifetime = None
@@ -78,52 +79,56 @@ abbrev pub one_group_in : List (List Byte) → Option (List Byte)
 one_group_in (gtsi ∷ class ∷ lifetime ∷ []) = group_in gtsi class lifetime
 one_group_in words = None
 
--- three words of each group
+-- the groups, each of three words
 abbrev pub groups_in : List (List Byte) → Option (List Byte)
 groups_in (gtsi ∷ class ∷ lifetime ∷ words) = group_in gtsi class lifetime >>= λ group. groups_in words >>= λ groups. Some (group ++ groups)
 groups_in words = Some []
 
--- where a radio is, before the number of its groups
+-- the bytes of where a radio is, up to the number of its groups
 abbrev pub place_of : Option Itsi → Option ℕ → Option ℕ → ℕ → Option (List Byte)
 place_of (Some itsi) (Some station) (Some area) present = Some (big 6 itsi ++ big 2 station ++ big 2 area ++ big 1 present)
 place_of itsi station area present = None
 
--- the whole row of a radio
+-- the words of where a radio is
+abbrev pub place_in : List Byte → List Byte → List Byte → List Byte → Option (List Byte)
+place_in itsi station area present = place_of (identity_in itsi) (number_in most_2 station) (number_in most_2 area) (presence_in present)
+
+-- the bytes of a radio's row: where it is, the number of its groups, and the groups
 abbrev pub with_groups : Option (List Byte) → List (List Byte) → Option (List Byte)
 with_groups place words = place >>= λ place. groups_in words >>= λ groups. Some (padded (big 1 18 ++ (place ++ big 1 (length words / 3) ++ groups)))
 
--- it has no more groups than it may
+-- the bytes of a radio's row, if it has no more groups than it may have
 abbrev pub radio_of : Option (List Byte) → List (List Byte) → Option (List Byte)
 radio_of place words = if nat_le (length words) (3 * most_of_radio) then with_groups place words else None
 
--- ITSI station N la N present, and the groups
+-- ITSI station N la N present, then the groups
 abbrev pub radio_in : List (List Byte) → Option (List Byte)
-radio_in (itsi ∷ a ∷ station ∷ b ∷ area ∷ present ∷ words) = radio_of (place_of (identity_in itsi) (number_in most_2 station) (number_in most_2 area) (presence_in present)) words
+radio_in (itsi ∷ a ∷ station ∷ b ∷ area ∷ present ∷ words) = radio_of (place_in itsi station area present) words
 radio_in words = None
 
--- the group of a copy: at most one word
+-- the group of a copy: one word, or none for an item that is no copy
 abbrev pub copied_in : List (List Byte) → Option (Option Gtsi)
 copied_in [] = Some None
 copied_in (gtsi ∷ []) = option_map Some (identity_in gtsi)
 copied_in words = None
 
--- an item, or a copy of a message to a group
+-- the bytes of an item, or of a copy of a message to a group
 abbrev pub item_of : Option ℕ → Option Key → Option ℕ → Option (Option Gtsi) → Option (List Bool) → Option (List Byte)
 item_of (Some number) (Some key) (Some deadline) (Some group) (Some pdu) =
     Some (padded (big 1 (mail_tag group) ++ (big 8 number ++ big 8 deadline ++ key_text key ++ copied_text group ++ bits_text pdu)))
 item_of number key deadline group pdu = None
 
--- NUMBER DEST KIND SOURCE REF DEADLINE PDU, and the group of a copy
+-- NUMBER DEST KIND SOURCE REF DEADLINE PDU, then the group of a copy
 abbrev pub item_in : List (List Byte) → Option (List Byte)
 item_in (number ∷ destination ∷ kind ∷ source ∷ reference ∷ deadline ∷ pdu ∷ group) =
     item_of (number_in most_8 number) (key_in destination source reference kind) (number_in most_8 deadline) (copied_in group) (pdu_in pdu)
 item_in words = None
 
--- the bits of a reply: - is none
+-- the bits of a reply: none for -
 abbrev pub reply_in : List Byte → Option (List Bool)
 reply_in word = if bytes_eq word (codes "-") then Some [] else pdu_in word
 
--- what is kept of a station
+-- the bytes of a station's last accepted command
 abbrev pub last_of : Option ℕ → Option ℕ → Option ℕ → Option (List Bool) → Option (List Byte)
 last_of (Some station) (Some sequence) (Some number) (Some pdu) = Some (padded (big 1 20 ++ (big 2 station ++ big 4 sequence ++ big 8 number ++ bits_text pdu)))
 last_of station sequence number pdu = None
@@ -145,17 +150,17 @@ fields_in name words =
     else if bytes_eq name (codes "last") then last_in words
     else None
 
--- the bytes of a row that words say
+-- the bytes of the row that the words give
 abbrev pub sector_in : List (List Byte) → Option (List Byte)
 sector_in [] = None
 sector_in (name ∷ words) = fields_in name words
 
--- the row of bytes, if there are any
+-- the row that these bytes are read as
 abbrev pub found_row : Option (List Byte) → Option Row
 found_row None = None
 found_row (Some sector) = row_in sector
 
--- a row, where the line is its line
+-- the row, if the line is its line
 abbrev pub if_spelt : List Byte → Row → Option Row
 if_spelt line row = if bytes_eq (row_line row) line then Some row else None
 

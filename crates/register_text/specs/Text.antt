@@ -1,4 +1,4 @@
--- The text of a register: a line of its form, version and limits, and then a line of each row. A line feed ends each line.
+-- The text of a register: a line with its form, version and limits, and then a line for each row. A line feed ends each line.
 use Rattle.std.specs.Prelude.{◌≡◌, ℕ, Bool, true, false, List, [], ◌∷◌, ◌++◌, map as each, Option, Some, None, Result, Ok, Err, codes, decimal}
 use Rattle.std.specs.Str.{bytes_eq}
 use Rattle.identity.specs.Numbers.{Byte}
@@ -18,33 +18,35 @@ use Rattle.register_text.specs.declared.cause.Cause.TheVariants as cause
 -- the form, its version, and the limits of a register: rules, radios, items and stations
 abbrev pub head_text : ℕ → ℕ → ℕ → ℕ → List Byte
 head_text rules radios mail stations =
-    codes "tetra-switch register 1" ++ spaced (codes "rules" ∷ decimal rules ∷ codes "radios" ∷ decimal radios ∷ codes "items" ∷ decimal mail ∷ codes "stations" ∷ decimal stations ∷ [])
+    codes "tetra-switch register 1"
+    ++ spaced (codes "rules" ∷ decimal rules ∷ codes "radios" ∷ decimal radios ∷ codes "items" ∷ decimal mail ∷ codes "stations" ∷ decimal stations ∷ [])
 
 -- the first line of a register's text
 abbrev pub head_line : Limits → List Byte
 head_line l = head_text l.rules l.radios l.mail l.stations
 
--- such a line, where its four numbers have 4 bytes
+-- the first line with these numbers, if each has 4 bytes
 abbrev pub head_of : Option ℕ → Option ℕ → Option ℕ → Option ℕ → Option (List Byte)
 head_of (Some rules) (Some radios) (Some mail) (Some stations) = Some (head_text rules radios mail stations)
 head_of rules radios mail stations = None
 
 -- rules N radios N items N stations N
 abbrev pub limits_in : List (List Byte) → Option (List Byte)
-limits_in (a ∷ rules ∷ b ∷ radios ∷ c ∷ mail ∷ d ∷ stations ∷ []) = head_of (number_in most_4 rules) (number_in most_4 radios) (number_in most_4 mail) (number_in most_4 stations)
+limits_in (a ∷ rules ∷ b ∷ radios ∷ c ∷ mail ∷ d ∷ stations ∷ []) =
+    head_of (number_in most_4 rules) (number_in most_4 radios) (number_in most_4 mail) (number_in most_4 stations)
 limits_in words = None
 
--- the first line with the numbers after three words
+-- the first line with the numbers that follow its first three words
 abbrev pub head_in : List (List Byte) → Option (List Byte)
 head_in (a ∷ b ∷ c ∷ words) = limits_in words
 head_in words = None
 
--- a line is the first line with its own numbers
+-- whether the line is this text
 abbrev pub is_same : List Byte → Option (List Byte) → Bool
 is_same line None = false
 is_same line (Some text) = bytes_eq text line
 
--- a line may come first
+-- whether a line may come first: it is the first line with its own numbers
 unfoldable pub is_head : List Byte → Bool
 is_head line = is_same line (head_in (words line))
 
@@ -54,7 +56,7 @@ is_head line = is_same line (head_in (words line))
 abbrev pub register_lines : State → List (List Byte)
 register_lines s = head_line s.registered.limits ∷ each row_line (rows_of 1 s)
 
--- a row's line with its end; nothing of none
+-- a row's line with its line feed; nothing for no row
 abbrev pub row_ended : Option Row → List Byte
 row_ended None = []
 row_ended (Some row) = row_line row ++ codes "\n"
@@ -66,7 +68,7 @@ pub record TextLoading : Type 0 where
   pub headed : Bool
   pub rows : Loading
 
--- nothing taken yet
+-- no line is taken yet
 abbrev pub text_begun : Limits → TextLoading
 text_begun limits = record { headed = false; rows = begun limits }
 
@@ -74,36 +76,36 @@ text_begun limits = record { headed = false; rows = begun limits }
 abbrev pub with_rows : Loading → Result TextLoading Cause
 with_rows l = Ok (record { headed = true; rows = l })
 
--- a first line
+-- the outcome of the first line
 abbrev pub head_taken : Loading → Bool → Result TextLoading Cause
 head_taken l true = with_rows l
 head_taken l false = Err cause.Head
 
--- a row that can come next, or can't
+-- the outcome of a row, by whether it may come next
 abbrev pub or_place : Option Loading → Result TextLoading Cause
 or_place None = Err cause.Place
 or_place (Some l) = with_rows l
 
--- the row of a line, where it is one
+-- the outcome of a row's line, if it is one
 abbrev pub or_spelling : Loading → Option Row → Result TextLoading Cause
 or_spelling l None = Err cause.Spelling
 or_spelling l (Some row) = or_place (row_taken l row)
 
--- the next line, by whether the first one was taken
+-- the outcome of the next line, by whether the first one was taken
 abbrev pub line_taken_by : Bool → Loading → List Byte → Result TextLoading Cause
 line_taken_by false l line = head_taken l (is_head line)
 line_taken_by true l line = or_spelling l (line_row line)
 
--- what one more line makes, or why it can't be taken
+-- what is loaded with one more line, or why it can't be taken
 unfoldable pub line_taken : TextLoading → List Byte → Result TextLoading Cause
 line_taken t line = line_taken_by t.headed t.rows line
 
--- what comes after a line that was taken
+-- goes on after a line that was taken
 abbrev pub then_lines : Result TextLoading Cause → (TextLoading → Result TextLoading Cause) → Result TextLoading Cause
 then_lines (Err cause) more = Err cause
 then_lines (Ok t) more = more t
 
--- what these lines make, taken one after another
+-- what is loaded with these lines, taken one after another
 abbrev pub lines_taken : TextLoading → List (List Byte) → Result TextLoading Cause
 lines_taken t [] = Ok t
 lines_taken t (line ∷ lines) = then_lines (line_taken t line) (λ u. lines_taken u lines)
@@ -113,7 +115,7 @@ abbrev pub state_of : Option (ℕ × State) → Option State
 state_of None = None
 state_of (Some x) = Some x.1
 
--- the state of the lines so far, if they are all
+-- the state, if the lines so far are all
 abbrev pub text_finished : TextLoading → Option State
 text_finished t = state_of (finished t.rows)
 
@@ -122,20 +124,20 @@ abbrev pub whole : Result TextLoading Cause → Option State
 whole (Err cause) = None
 whole (Ok t) = text_finished t
 
--- the state that the lines of a text stand for under these limits
+-- the state that the lines of a text make under these limits
 abbrev pub state_in : Limits → List (List Byte) → Option State
 state_in limits lines = whole (lines_taken (text_begun limits) lines)
 
--- ---- what a text stands for
+-- ---- what a text makes
 
--- rows of a text are those of the register that it stands for, which has these limits
+-- these rows are those of a register with these limits
 pub record IsUnder (limits : Limits) (rows : List Row) (t : State) : Type 0 where
   pub are : rows ≡ rows_of 1 t
   pub state : IsState t
   pub ranges : StateInRange t
   pub under : t.registered.limits ≡ limits
 
--- lines are those of a register, but for the numbers of the first one
+-- these lines are those of the register, but for the numbers of the first one
 pub record AreLinesOf (lines : List (List Byte)) (t : State) : Type 0 where
   pub first : List Byte
   pub head : is_head first ≡ true

@@ -3,10 +3,10 @@
 /// Why a line can't be taken as the next of a register's text.
 #[derive(Clone, Copy, Debug, PartialEq, Eq)]
 pub enum Cause {
-    /// It is not the first line of a register's text, of version 1.
+    /// It is not the first line of a register's text of version 1.
     Head,
-    /// It is no row's line: a row has one spelling.
+    /// It is not the line of a row. Each row has one spelling.
     Spelling,
-    /// Its row can't come there: it is out of order, comes twice, is above a limit or comes after the last one.
+    /// Its row can't come there: it is out of order, comes twice, is above a limit, or comes after the last row.
     Place,
 }

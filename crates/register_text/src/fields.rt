@@ -1,13 +1,14 @@
-//! The words of a line, read into the bytes of a row. Values are judged by what reads these bytes.
+//! The words of a line, read into the bytes of a row. Whoever reads these bytes checks the values.
 ghost use Rattle.std.specs.Prelude.{◌≡◌, ◌≤◌, ◌+◌, ◌*◌, ◌/◌, ◌++◌, IfOk, IfSome, length, map, option_map};
 ghost use Rattle.identity.specs.BitsText.{most_bits};
 ghost use Rattle.centre_core.specs.Ranges.{IsShort};
 ghost use Rattle.group_attach.specs.Applied.{most_of_radio};
 ghost use Rattle.command_bytes.specs.Fields.{big};
 ghost use Rattle.command_bytes.specs.Text.{bits_text, key_text, prefix_text};
-ghost use Rattle.console.specs.Reading.{identity_in, key_in, kind_in, pdu_in};
+ghost use Rattle.console.specs.Reading.{key_in, kind_in, pdu_in};
 ghost use Rattle.image_rows.specs.RowText.{copied_text, mail_tag, padded};
-ghost use Rattle.register_text.specs.Reading.{copied_in, fields_in, group_in, groups_in, header_in, item_in, last_in, most_2, number_in, one_group_in, place_of, presence_in, radio_in, reply_in, rule_in, sector_in, with_groups};
+ghost use Rattle.register_text.specs.Reading.{copied_in, fields_in, header_in, item_in, last_in, number_in, reply_in, rule_in, sector_in};
+ghost use Rattle.register_text.specs.Reading.{group_in, groups_in, one_group_in, place_in, presence_in, radio_in, with_groups};
 
 use command_bytes::Room;
 use command_bytes::put::{put_bits, put_key, put_number, put_prefix};
@@ -21,7 +22,7 @@ use mailbox::{Key, Kind};
 use sds_tl::MessageReference;
 use std::alloc::{AllocError, Allocator};
 
-/// The number that a word says, at most `most`.
+/// The number that a word spells, if it is at most `most`.
 #[tactic(auto, using(crate::proofs::Short::number_most))]
 pub(crate) fn number_in(word: &[u8], most: u64) -> Option<u64>
     ensures value { result ≡ number_in most word.now }
@@ -33,7 +34,7 @@ pub(crate) fn number_in(word: &[u8], most: u64) -> Option<u64>
     }
 }
 
-/// `N rules N radios N items N stations N`
+/// The words `N rules N radios N items N stations N` as a header's row.
 fn header_in(words: &[&[u8]]) -> Option<[u8; 512]>
     ensures { result ≡ header_in (map (λ w. w.now) words.now) }
 {
@@ -74,7 +75,7 @@ fn rule_sector(prefix: &Prefix, low: u64, high: u64, lifetime: u64, keep: u64) -
     text.finish()
 }
 
-/// `PREFIX LOW HIGH LIFE KEEP`
+/// The words `PREFIX LOW HIGH LIFE KEEP` as a rule's row.
 fn rule_in(words: &[&[u8]]) -> Option<[u8; 512]>
     ensures { result ≡ rule_in (map (λ w. w.now) words.now) }
 {
@@ -93,14 +94,14 @@ fn rule_in(words: &[&[u8]]) -> Option<[u8; 512]>
     Some(rule_sector(&prefix, low, high, lifetime, keep))
 }
 
-/// 0 for a radio that is absent.
+/// 0 for a radio that is absent, else 1.
 fn presence_in(word: &[u8]) -> u64
     ensures { result ≡ presence_in word.now }
 {
     if word == b"absent".as_slice() { 0 } else { 1 }
 }
 
-/// Puts where a radio is: `ITSI station N la N present`.
+/// Appends where a radio is, from the words of `ITSI station N la N present`.
 #[tactic(auto, using(std::proofs::Common::append_assoc))]
 fn put_place<R: Room>(
     out: &mut R,
@@ -110,7 +111,8 @@ fn put_place<R: Room>(
     present: &[u8],
 ) -> Option<()>
     requires room { 11 ≤ R.room out.old }
-    ensures held { option_map (λ _. R.held out.new) result ≡ option_map (λ place. R.held out.old ++ place) (place_of (identity_in itsi.now) (number_in most_2 station.now) (number_in most_2 area.now) (presence_in present.now)) }
+    ensures held { option_map (λ _. R.held out.new) result
+        ≡ option_map (λ place. R.held out.old ++ place) (place_in itsi.now station.now area.now present.now) }
     ensures room { R.room out.old ≤ R.room out.new + 11 }
 {
     let (Ok(itsi), Some(station), Some(area)) = (
@@ -127,7 +129,7 @@ fn put_place<R: Room>(
     Some(())
 }
 
-/// Puts a group of a radio: `GTSI CLASS LIFE`.
+/// Appends a group of a radio, from the words `GTSI CLASS LIFE`.
 #[tactic(auto, using(std::proofs::Common::append_assoc))]
 fn put_named_group<R: Room>(out: &mut R, gtsi: &[u8], class: &[u8], lifetime: &[u8]) -> Option<()>
     requires room { 7 ≤ R.room out.old }
@@ -146,7 +148,7 @@ fn put_named_group<R: Room>(out: &mut R, gtsi: &[u8], class: &[u8], lifetime: &[
     Some(())
 }
 
-// Puts the group of three words.
+// Appends the group that three words name.
 fn put_group<R: Room>(out: &mut R, words: &[&[u8]]) -> Option<()>
     requires room { 7 ≤ R.room out.old }
     ensures held { option_map (λ _. R.held out.new) result ≡ option_map (λ group. R.held out.old ++ group) (one_group_in (map (λ w. w.now) words.now)) }
@@ -178,7 +180,7 @@ fn radio_sector(
     groups: &[&[u8]],
 ) -> Option<[u8; 512]>
     requires { length groups.now ≤ 3 * most_of_radio }
-    ensures { result ≡ with_groups (place_of (identity_in itsi.now) (number_in most_2 station.now) (number_in most_2 area.now) (presence_in present.now)) (map (λ w. w.now) groups.now) }
+    ensures { result ≡ with_groups (place_in itsi.now station.now area.now present.now) (map (λ w. w.now) groups.now) }
 {
     let mut text = SectorText::new();
     put_number(&mut text, 1, 18);
@@ -188,7 +190,7 @@ fn radio_sector(
     Some(text.finish())
 }
 
-/// `ITSI station N la N present`, and the groups
+/// The words `ITSI station N la N present`, then those of the groups, as a radio's row.
 fn radio_in(words: &[&[u8]]) -> Option<[u8; 512]>
     ensures { result ≡ radio_in (map (λ w. w.now) words.now) }
 {
@@ -213,7 +215,7 @@ fn kind_in(word: &[u8]) -> Option<Kind>
     }
 }
 
-/// The key of `DEST KIND SOURCE REF`.
+/// The key that the words `DEST KIND SOURCE REF` name.
 fn key_in(destination: &[u8], kind: &[u8], source: &[u8], reference: &[u8]) -> Option<Key>
     ensures { result ≡ key_in destination.now source.now reference.now kind.now }
 {
@@ -233,7 +235,7 @@ fn key_in(destination: &[u8], kind: &[u8], source: &[u8], reference: &[u8]) -> O
     })
 }
 
-/// The group of a copy: at most one word.
+/// The group of a copy: one word, or none for an item that is no copy.
 fn copied_in(words: &[&[u8]]) -> Option<Option<Gtsi>>
     ensures { result ≡ copied_in (map (λ w. w.now) words.now) }
 {
@@ -279,9 +281,9 @@ fn put_copied<R: Room>(out: &mut R, group: Option<Gtsi>)
     }
 }
 
-/// An item, but for its PDU.
+/// An item without its PDU.
 #[derive(Clone, Copy)]
-struct Named {
+struct ItemFields {
     number: u64,
     key: Key,
     deadline: u64,
@@ -289,21 +291,22 @@ struct Named {
 }
 
 #[tactic(auto, using(std::proofs::Common::append_assoc))]
-fn item_sector<A: Allocator>(named: &Named, pdu: &Bits<A>) -> [u8; 512]
+fn item_sector<A: Allocator>(fields: &ItemFields, pdu: &Bits<A>) -> [u8; 512]
     requires { length pdu.now ≤ most_bits }
-    ensures { result ≡ padded (big 1 (mail_tag named.now.group) ++ (big 8 named.now.number ++ big 8 named.now.deadline ++ key_text named.now.key ++ copied_text named.now.group ++ bits_text pdu.now)) }
+    ensures { result ≡ padded (big 1 (mail_tag fields.now.group)
+        ++ (big 8 fields.now.number ++ big 8 fields.now.deadline ++ key_text fields.now.key ++ copied_text fields.now.group ++ bits_text pdu.now)) }
 {
     let mut text = SectorText::new();
-    put_number(&mut text, 1, tag_of(named.group));
-    put_number(&mut text, 8, named.number);
-    put_number(&mut text, 8, named.deadline);
-    put_key(&mut text, &named.key);
-    put_copied(&mut text, named.group);
+    put_number(&mut text, 1, tag_of(fields.group));
+    put_number(&mut text, 8, fields.number);
+    put_number(&mut text, 8, fields.deadline);
+    put_key(&mut text, &fields.key);
+    put_copied(&mut text, fields.group);
     put_bits(&mut text, pdu);
     text.finish()
 }
 
-/// `NUMBER DEST KIND SOURCE REF DEADLINE PDU`, and the group of a copy
+/// The words `NUMBER DEST KIND SOURCE REF DEADLINE PDU`, then the group of a copy, as an item's row.
 fn item_in<A: Allocator>(alloc: A, words: &[&[u8]]) -> Result<Option<[u8; 512]>, AllocError>
     ensures { IfOk result (λ sector. sector ≡ item_in (map (λ w. w.now) words.now)) }
 {
@@ -331,16 +334,16 @@ fn item_in<A: Allocator>(alloc: A, words: &[&[u8]]) -> Result<Option<[u8; 512]>,
     let Some(pdu) = bits_in(alloc, pdu)? else {
         return Ok(None);
     };
-    let named = Named {
+    let fields = ItemFields {
         number,
         key,
         deadline,
         group,
     };
-    Ok(Some(item_sector(&named, &pdu)))
+    Ok(Some(item_sector(&fields, &pdu)))
 }
 
-/// The bits of a reply: `-` is none.
+/// The bits of a reply: none for `-`.
 fn reply_in<A: Allocator>(alloc: A, word: &[u8]) -> Result<Option<Bits<A>>, AllocError>
     ensures ok { IfOk result (λ bits. bits ≡ reply_in word.now) }
     ensures short { IfOk result (λ bits. IsShort bits) }
@@ -365,7 +368,7 @@ fn last_sector<A: Allocator>(station: u64, sequence: u64, number: u64, pdu: &Bit
     text.finish()
 }
 
-/// `STATION SEQ NUMBER PDU`
+/// The words `STATION SEQ NUMBER PDU` as a station's row.
 fn last_in<A: Allocator>(alloc: A, words: &[&[u8]]) -> Result<Option<[u8; 512]>, AllocError>
     ensures { IfOk result (λ sector. sector ≡ last_in (map (λ w. w.now) words.now)) }
 {
@@ -385,7 +388,7 @@ fn last_in<A: Allocator>(alloc: A, words: &[&[u8]]) -> Result<Option<[u8; 512]>,
     Ok(Some(last_sector(station, sequence, number, &pdu)))
 }
 
-/// The words after a keyword.
+/// The row of a keyword and the words after it.
 fn fields_in<A: Allocator>(
     alloc: A,
     name: &[u8],
@@ -408,7 +411,7 @@ fn fields_in<A: Allocator>(
     }
 }
 
-/// The bytes of the row that words say, not yet judged. It takes memory for a PDU alone.
+/// The bytes of the row that the words give, not yet checked. Only a PDU needs memory.
 pub(crate) fn sector_in<A: Allocator>(
     alloc: A,
     words: &[&[u8]],

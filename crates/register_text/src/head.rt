@@ -1,6 +1,6 @@
 //! The first line of a register's text.
 ghost use Rattle.std.specs.Prelude.{◌≡◌, ◌++◌, IfOk, OnOk, OnErr, map, option_map};
-ghost use Rattle.identity.specs.NumberText.{IsFrontOf};
+ghost use Rattle.identity.specs.NumberText.{IsPrefixOf};
 ghost use Rattle.console.specs.Reading.{words};
 ghost use Rattle.register_text.specs.Reading.{most_4, number_in};
 ghost use Rattle.register_text.specs.Text.{head_in, head_line, head_of, head_text, is_head, limits_in};
@@ -12,7 +12,7 @@ use identity::put_whole;
 use registration::Limits;
 use std::alloc::{AllocError, Allocator};
 
-/// The numbers of a first line: the limits of the register that was printed.
+/// The numbers of a first line: the limits of the register whose text it is.
 #[derive(Clone, Copy)]
 struct Numbers {
     rules: u64,
@@ -24,7 +24,7 @@ struct Numbers {
 #[tactic(auto, using(std::proofs::Common::append_assoc))]
 fn put_head<A: Allocator>(out: &mut Vec<u8, A>, numbers: &Numbers) -> Result<(), AllocError>
     ensures ok { OnOk result (out.new.items ≡ out.old.items ++ head_text numbers.now.rules numbers.now.radios numbers.now.mail numbers.now.stations) }
-    ensures err { OnErr result (IsFrontOf out.old.items out.new.items) }
+    ensures err { OnErr result (IsPrefixOf out.old.items out.new.items) }
 {
     out.extend_from_slice(b"tetra-switch register 1")?;
     let words: [Word; 8] = [
@@ -40,8 +40,8 @@ fn put_head<A: Allocator>(out: &mut Vec<u8, A>, numbers: &Numbers) -> Result<(),
     put_words(out, &words)
 }
 
-/// Appends the first line of the text of a register with these limits, without its line feed. If it is out of memory, `out`
-/// is as before.
+/// Appends the first line of the text of a register with these limits, without its line feed. If it is out of memory,
+/// `out` is as before.
 pub fn print_head<A: Allocator>(out: &mut Vec<u8, A>, limits: &Limits) -> Result<(), AllocError>
     ensures ok { OnOk result (out.new.items ≡ out.old.items ++ head_line limits.now) }
     ensures err { OnErr result (out.new.items ≡ out.old.items) }
@@ -58,7 +58,8 @@ pub fn print_head<A: Allocator>(out: &mut Vec<u8, A>, limits: &Limits) -> Result
 }
 
 fn numbers_from(rules: &[u8], radios: &[u8], mail: &[u8], stations: &[u8]) -> Option<Numbers>
-    ensures { option_map (λ n. head_text n.rules n.radios n.mail n.stations) result ≡ head_of (number_in most_4 rules.now) (number_in most_4 radios.now) (number_in most_4 mail.now) (number_in most_4 stations.now) }
+    ensures { option_map (λ n. head_text n.rules n.radios n.mail n.stations) result
+        ≡ head_of (number_in most_4 rules.now) (number_in most_4 radios.now) (number_in most_4 mail.now) (number_in most_4 stations.now) }
 {
     let most = u64::from(u32::MAX);
     let (Some(rules), Some(radios), Some(mail), Some(stations)) = (
@@ -77,7 +78,7 @@ fn numbers_from(rules: &[u8], radios: &[u8], mail: &[u8], stations: &[u8]) -> Op
     })
 }
 
-// `rules N radios N items N stations N`
+// The numbers of the words `rules N radios N items N stations N`.
 fn limits_in(words: &[&[u8]]) -> Option<Numbers>
     ensures { option_map (λ n. head_text n.rules n.radios n.mail n.stations) result ≡ limits_in (map (λ w. w.now) words.now) }
 {
@@ -87,7 +88,7 @@ fn limits_in(words: &[&[u8]]) -> Option<Numbers>
     }
 }
 
-// The numbers of a first line's words.
+// The numbers of all words of a first line.
 fn numbers_in(words: &[&[u8]]) -> Option<Numbers>
     ensures { option_map (λ n. head_text n.rules n.radios n.mail n.stations) result ≡ head_in (map (λ w. w.now) words.now) }
 {
@@ -104,7 +105,7 @@ fn numbers_of<A: Allocator>(alloc: A, line: &[u8]) -> Result<Option<Numbers>, Al
     Ok(numbers_in(&words))
 }
 
-/// Whether a line may be the first: it is the first line of some register's text, byte by byte.
+/// Whether a line may be the first: it is byte by byte the first line of some register's text.
 #[tactic(auto, unfolding(crate::specs::Text::is_head))]
 pub(crate) fn is_head<A: Allocator + Clone>(alloc: &A, line: &[u8]) -> Result<bool, AllocError>
     ensures { IfOk result (λ is. is ≡ is_head line.now) }

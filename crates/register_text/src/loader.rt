@@ -1,4 +1,4 @@
-//! The register that the lines of a text stand for, made of them as they come one after another.
+//! Makes a register of the lines of its text, taken one after another.
 ghost use Rattle.std.specs.Prelude.{◌≡◌, IfErr, IfOk, Ok, OnErr, OnOk};
 ghost use Rattle.register_text.specs.Faults.{IsFault};
 ghost use Rattle.register_text.specs.Reading.{line_row};
@@ -68,7 +68,7 @@ fn take_row<A: Allocator + Clone>(
 }
 
 impl<A: Allocator + Clone> TextLoader<A> {
-    /// Nothing taken yet, of a register that is to have these limits.
+    /// A loader that has taken no line yet, for a register with these limits.
     pub fn new(alloc: A, limits: Limits) -> Result<Self, AllocError>
         ensures { IfOk result (λ loader. loader ≡ text_begun limits) }
     {
@@ -79,7 +79,7 @@ impl<A: Allocator + Clone> TextLoader<A> {
         })
     }
 
-    /// Takes the next line. After a fault the loader is as before, so that a line that found no memory may come again.
+    /// Takes the next line. A fault leaves the loader unchanged. So after `Memory` the same line may be tried again.
     #[tactic(auto, unfolding(crate::specs::Text::line_taken))]
     pub fn take(&mut self, line: &[u8]) -> Result<(), TakeFault>
         ensures ok { OnOk result (line_taken self.old line.now ≡ Ok self.new) }
@@ -99,7 +99,14 @@ impl<A: Allocator + Clone> TextLoader<A> {
         Ok(())
     }
 
-    /// The register, if all its lines were taken; its epoch is 1.
+    /// Whether the first line was taken.
+    pub(crate) fn is_headed(&self) -> bool
+        ensures { result ≡ self.now.headed }
+    {
+        self.is_headed
+    }
+
+    /// The register, if all its lines were taken.
     pub fn finish(self) -> Option<Register<A>>
         ensures { result ≡ text_finished self }
     {

@@ -1,4 +1,4 @@
-//! Lines as rows.
+//! Rows, parsed from lines.
 ghost use Rattle.std.specs.Prelude.{◌≡◌, IfOk, map};
 ghost use Rattle.std.specs.Option.{is_some};
 ghost use Rattle.console.specs.Reading.{words};
@@ -18,15 +18,18 @@ pub(crate) fn words<A: Allocator>(alloc: A, line: &[u8]) -> Result<Vec<&[u8], A>
     line.split(|byte| *byte == b' ').collect(alloc)
 }
 
-// The bytes of the row that a line says, not yet judged.
-fn said<A: Allocator + Clone>(alloc: &A, line: &[u8]) -> Result<Option<[u8; 512]>, AllocError>
+// The bytes of the row that a line gives, not yet checked.
+fn line_sector<A: Allocator + Clone>(
+    alloc: &A,
+    line: &[u8],
+) -> Result<Option<[u8; 512]>, AllocError>
     ensures { IfOk result (λ sector. sector ≡ sector_in (words line.now)) }
 {
     let words = words(alloc.clone()?, line)?;
     sector_in(alloc.clone()?, &words)
 }
 
-// Whether the line is that of the row.
+// Whether the line is the row's line.
 fn is_line_of<A: Allocator + Clone>(
     alloc: &A,
     line: &[u8],
@@ -39,8 +42,8 @@ fn is_line_of<A: Allocator + Clone>(
     Ok(text.as_slice() == line)
 }
 
-/// The sector of the row that a line spells, without the line feed; `None` if it spells none. A line spells the row whose
-/// line it is, byte by byte.
+/// The sector of the row that a line spells, or `None` if it spells none. The line is without its line feed, and equals
+/// the row's line byte by byte.
 #[tactic(auto, unfolding(crate::specs::Reading::line_row))]
 pub fn parse_row<A: Allocator + Clone>(
     alloc: &A,
@@ -49,7 +52,7 @@ pub fn parse_row<A: Allocator + Clone>(
     ensures row { IfOk result (λ sector. found_row sector ≡ line_row line.now) }
     ensures none { IfOk result (λ sector. is_some sector ≡ is_some (line_row line.now)) }
 {
-    let Some(sector) = said(alloc, line)? else {
+    let Some(sector) = line_sector(alloc, line)? else {
         return Ok(None);
     };
     let Some(row) = read_row(&sector) else {

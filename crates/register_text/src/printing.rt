@@ -1,7 +1,7 @@
-//! Rows as lines.
+//! Rows, printed as lines.
 ghost use Rattle.std.specs.Prelude.{◌≡◌, ◌++◌, [], IfOk, None, OnOk, OnErr};
 ghost use Rattle.std.specs.List.{flat_map};
-ghost use Rattle.identity.specs.NumberText.{IsFrontOf};
+ghost use Rattle.identity.specs.NumberText.{IsPrefixOf};
 ghost use Rattle.image_rows.specs.Rows.{HeaderRow, RuleRow, RadioRow, MailRow, ServedRow};
 ghost use Rattle.image_rows.specs.RowText.{group_in};
 ghost use Rattle.image_rows.specs.RowViews.{row_view};
@@ -23,7 +23,7 @@ use std::alloc::{AllocError, Allocator};
 #[tactic(auto, using(std::proofs::Common::append_assoc))]
 fn put_header<A: Allocator>(out: &mut Vec<u8, A>, header: &Header) -> Result<(), AllocError>
     ensures ok { OnOk result (out.new.items ≡ out.old.items ++ row_line (HeaderRow header.now)) }
-    ensures err { OnErr result (IsFrontOf out.old.items out.new.items) }
+    ensures err { OnErr result (IsPrefixOf out.old.items out.new.items) }
 {
     out.extend_from_slice(b"count")?;
     let words: [Word; 9] = [
@@ -47,7 +47,7 @@ fn put_rule<A: Allocator>(
     rule: &Rule,
 ) -> Result<(), AllocError>
     ensures ok { OnOk result (out.new.items ≡ out.old.items ++ row_line (RuleRow prefix rule.now)) }
-    ensures err { OnErr result (IsFrontOf out.old.items out.new.items) }
+    ensures err { OnErr result (IsPrefixOf out.old.items out.new.items) }
 {
     out.extend_from_slice(b"rule")?;
     let words: [Word; 5] = [
@@ -69,7 +69,7 @@ fn presence_word(present: bool) -> &'static str
 #[tactic(auto, using(std::proofs::Common::append_assoc))]
 fn put_group<A: Allocator>(out: &mut Vec<u8, A>, group: &Attachment) -> Result<(), AllocError>
     ensures ok { OnOk result (out.new.items ≡ out.old.items ++ spaced (group_words (group_in group.now))) }
-    ensures err { OnErr result (IsFrontOf out.old.items out.new.items) }
+    ensures err { OnErr result (IsPrefixOf out.old.items out.new.items) }
 {
     let words: [Word; 3] = [
         Word::Group(group.gtsi),
@@ -85,7 +85,7 @@ fn put_groups<A: Allocator>(
     groups: PackedGroups<'_>,
 ) -> Result<(), AllocError>
     ensures ok { OnOk result (out.new.items ≡ out.old.items ++ spaced (flat_map group_words groups.entry)) }
-    ensures err { OnErr result (IsFrontOf out.old.items out.new.items) }
+    ensures err { OnErr result (IsPrefixOf out.old.items out.new.items) }
 {
     let mut left = groups;
     while let Some(group) = left.next(itsi) {
@@ -101,7 +101,7 @@ fn put_place<A: Allocator>(
     radio: &Radio,
 ) -> Result<(), AllocError>
     ensures ok { OnOk result (out.new.items ≡ out.old.items ++ row_line (RadioRow itsi radio.now [])) }
-    ensures err { OnErr result (IsFrontOf out.old.items out.new.items) }
+    ensures err { OnErr result (IsPrefixOf out.old.items out.new.items) }
 {
     out.extend_from_slice(b"radio")?;
     let words: [Word; 6] = [
@@ -123,7 +123,7 @@ fn put_radio<A: Allocator>(
     groups: PackedGroups<'_>,
 ) -> Result<(), AllocError>
     ensures ok { OnOk result (out.new.items ≡ out.old.items ++ row_line (RadioRow itsi radio.now groups.entry)) }
-    ensures err { OnErr result (IsFrontOf out.old.items out.new.items) }
+    ensures err { OnErr result (IsPrefixOf out.old.items out.new.items) }
 {
     put_place(out, itsi, radio)?;
     put_groups(out, itsi, groups)
@@ -140,7 +140,7 @@ fn kind_word(kind: Kind) -> &'static str
 
 fn put_copied<A: Allocator>(out: &mut Vec<u8, A>, group: Option<Gtsi>) -> Result<(), AllocError>
     ensures ok { OnOk result (out.new.items ≡ out.old.items ++ spaced (copied_words group)) }
-    ensures err { OnErr result (IsFrontOf out.old.items out.new.items) }
+    ensures err { OnErr result (IsPrefixOf out.old.items out.new.items) }
 {
     match group {
         None => Ok(()),
@@ -151,14 +151,14 @@ fn put_copied<A: Allocator>(out: &mut Vec<u8, A>, group: Option<Gtsi>) -> Result
     }
 }
 
-// All of an item but the group of a copy.
+// Appends the line of an item without the group of a copy.
 #[tactic(auto, using(std::proofs::Common::append_assoc))]
-fn put_named<A: Allocator, B: Allocator>(
+fn put_item_fields<A: Allocator, B: Allocator>(
     out: &mut Vec<u8, A>,
     item: &Item<B>,
 ) -> Result<(), AllocError>
     ensures ok { OnOk result (out.new.items ≡ out.old.items ++ row_line (MailRow (record item.now { group = None }))) }
-    ensures err { OnErr result (IsFrontOf out.old.items out.new.items) }
+    ensures err { OnErr result (IsPrefixOf out.old.items out.new.items) }
 {
     out.extend_from_slice(b"item")?;
     let key = item.key();
@@ -180,9 +180,9 @@ fn put_item<A: Allocator, B: Allocator>(
     item: &Item<B>,
 ) -> Result<(), AllocError>
     ensures ok { OnOk result (out.new.items ≡ out.old.items ++ row_line (MailRow item.now)) }
-    ensures err { OnErr result (IsFrontOf out.old.items out.new.items) }
+    ensures err { OnErr result (IsPrefixOf out.old.items out.new.items) }
 {
-    put_named(out, item)?;
+    put_item_fields(out, item)?;
     put_copied(out, item.group())
 }
 
@@ -192,7 +192,7 @@ fn put_mail<A: Allocator, B: Allocator + Clone>(
     item: &ReadItem<'_>,
 ) -> Result<(), AllocError>
     ensures ok { OnOk result (out.new.items ≡ out.old.items ++ row_line (MailRow item.now)) }
-    ensures err { OnErr result (IsFrontOf out.old.items out.new.items) }
+    ensures err { OnErr result (IsPrefixOf out.old.items out.new.items) }
 {
     let Ok(item) = item.copy(alloc) else {
         return Err(AllocError);
@@ -221,7 +221,7 @@ fn copied<B: Allocator + Clone>(
     }
 }
 
-/// What is kept of a station, but for the PDU of its reply.
+/// A station's last accepted command, without the PDU of its reply.
 #[derive(Clone, Copy)]
 struct Last {
     station: Station,
@@ -235,8 +235,9 @@ fn put_last<A: Allocator, B: Allocator>(
     last: &Last,
     pdu: &Option<Bits<B>>,
 ) -> Result<(), AllocError>
-    ensures ok { OnOk result (out.new.items ≡ out.old.items ++ row_line (ServedRow last.now.station (record { sequence = last.now.sequence; number = last.now.number; pdu = pdu.now }))) }
-    ensures err { OnErr result (IsFrontOf out.old.items out.new.items) }
+    ensures ok { OnOk result (out.new.items ≡ out.old.items
+        ++ row_line (ServedRow last.now.station (record { sequence = last.now.sequence; number = last.now.number; pdu = pdu.now }))) }
+    ensures err { OnErr result (IsPrefixOf out.old.items out.new.items) }
 {
     out.extend_from_slice(b"last")?;
     let words: [Word<B>; 4] = [
@@ -254,8 +255,9 @@ fn put_served<A: Allocator, B: Allocator + Clone>(
     last: &Last,
     pdu: &Option<PackedBits<'_>>,
 ) -> Result<(), AllocError>
-    ensures ok { OnOk result (out.new.items ≡ out.old.items ++ row_line (ServedRow last.now.station (record { sequence = last.now.sequence; number = last.now.number; pdu = pdu.now }))) }
-    ensures err { OnErr result (IsFrontOf out.old.items out.new.items) }
+    ensures ok { OnOk result (out.new.items ≡ out.old.items
+        ++ row_line (ServedRow last.now.station (record { sequence = last.now.sequence; number = last.now.number; pdu = pdu.now }))) }
+    ensures err { OnErr result (IsPrefixOf out.old.items out.new.items) }
 {
     let Ok(pdu) = copied(alloc, pdu) else {
         return Err(AllocError);
@@ -270,7 +272,7 @@ fn put_row<A: Allocator, B: Allocator + Clone>(
     row: ReadRow<'_>,
 ) -> Result<(), AllocError>
     ensures ok { OnOk result (out.new.items ≡ out.old.items ++ row_line (row_view row.entry)) }
-    ensures err { OnErr result (IsFrontOf out.old.items out.new.items) }
+    ensures err { OnErr result (IsPrefixOf out.old.items out.new.items) }
 {
     match row {
         ReadRow::Header(header) => put_header(out, &header),
@@ -297,8 +299,8 @@ fn put_row<A: Allocator, B: Allocator + Clone>(
     }
 }
 
-/// Appends the line of a row, without its line feed. `alloc` is for a copy of a PDU. If it is out of memory, `out` is as
-/// before.
+/// Appends the line of a row, without its line feed. A copy of a PDU is made in `alloc`. If it is out of memory, `out` is
+/// as before.
 pub fn print_row<A: Allocator, B: Allocator + Clone>(
     out: &mut Vec<u8, A>,
     alloc: &B,

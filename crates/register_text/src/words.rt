@@ -1,7 +1,7 @@
-//! The words of a line, as they are printed.
+//! The words of a line, printed.
 ghost use Rattle.std.specs.Prelude.{◌≡◌, ◌++◌, ◌∷◌, OnOk, OnErr};
 ghost use Rattle.std.specs.List.{flat_map};
-ghost use Rattle.identity.specs.NumberText.{IsFrontOf};
+ghost use Rattle.identity.specs.NumberText.{IsPrefixOf};
 ghost use Rattle.register_text.specs.Inside.Words.{word_text, after_space};
 
 use identity::{
@@ -43,19 +43,19 @@ fn put_word<A: Allocator, B: Allocator>(
     word: &Word<'_, B>,
 ) -> Result<(), AllocError>
     ensures ok { OnOk result (out.new.items ≡ out.old.items ++ after_space word.now) }
-    ensures err { OnErr result (IsFrontOf out.old.items out.new.items) }
+    ensures err { OnErr result (IsPrefixOf out.old.items out.new.items) }
 {
     out.push(b' ')?;
     put_text(out, word)
 }
 
-/// Appends words, each after a space, or some of them.
+/// Appends words, each after a space. Out of memory it may have appended some of them.
 pub(crate) fn put_words<A: Allocator, B: Allocator>(
     out: &mut Vec<u8, A>,
     words: &[Word<'_, B>],
 ) -> Result<(), AllocError>
     ensures ok { OnOk result (out.new.items ≡ out.old.items ++ flat_map after_space words.now) }
-    ensures err { OnErr result (IsFrontOf out.old.items out.new.items) }
+    ensures err { OnErr result (IsPrefixOf out.old.items out.new.items) }
 {
     for word in words {
         put_word(out, word)?;

@@ -1,4 +1,4 @@
-//! The lines of a register one after another. Beside the text, only a copy of a PDU takes memory.
+//! The lines of a register one after another. Beside the text, only a copy of a PDU needs memory.
 ghost use Rattle.std.specs.Prelude.{◌≡◌, ◌++◌, IfOk, OnErr, OnOk, option_map};
 ghost use Rattle.image_rows.specs.RowReading.{row_in};
 ghost use Rattle.image_rows.specs.Walking.{place_of, row_after};
@@ -11,7 +11,7 @@ use identity::put_whole;
 use image_rows::{RowPlace, read_row, row_after};
 use std::alloc::{AllocError, Allocator};
 
-// Appends the line of the row that a sector is, with its line feed; nothing of a sector that is none.
+// Appends the line of a sector's row, with its line feed; nothing for a sector that is no row.
 fn put_line<A: Allocator, B: Allocator + Clone>(
     out: &mut Vec<u8, A>,
     alloc: &B,
@@ -29,8 +29,8 @@ fn put_line<A: Allocator, B: Allocator + Clone>(
     put_whole(out, before, put)
 }
 
-/// Appends the line of the register's first row after a place, or of the first of all, with its line feed; the row's place.
-/// After the last row nothing is appended, and there is no place. If it is out of memory, `out` is as before.
+/// Appends the line of the register's first row after a place, or of the first of all, with its line feed. It returns that
+/// row's place. After the last row it appends nothing and returns `None`. If it is out of memory, `out` is as before.
 pub fn line_after<A: Allocator, B: Allocator + Clone, C: Allocator + Clone>(
     out: &mut Vec<u8, A>,
     alloc: &B,

@@ -1,5 +1,7 @@
-//! Tests of the lines of `register_text`: worked lines both ways, and texts that are no line.
+//! Tests of `register_text`: worked lines and texts both ways, and lines and texts that are none.
 #![tactic(auto)]
 
 #[cfg(test)]
 mod lines;
+#[cfg(test)]
+mod whole;

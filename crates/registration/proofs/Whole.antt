@@ -1,4 +1,4 @@
--- Radios stand under whole identities.
+-- Radios are under whole identities.
 use Rattle.std.proofs.Common.{◌≡◌, ℕ, Bool, true, false, cond, length, Option, Some, None, refl, sym, ap, subst, ◌∙◌}
 use mathlib.Core.Bool.{false≢true}
 use Rattle.std.specs.Prelude.{IsSome, OnSome, IfNone}

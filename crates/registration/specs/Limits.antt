@@ -1,7 +1,7 @@
 -- How much a register may hold.
 use Rattle.std.specs.Prelude.{ℕ, ◌≤◌}
 
--- how many rules, radios, waiting messages and stations a register may be given room for
+-- how many rules a register may be given room for
 abbrev pub rule_capacity : ℕ
 rule_capacity = 4096
 

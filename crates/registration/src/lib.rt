@@ -1,5 +1,8 @@
 //! The location register of a TETRA switch: which rule serves an identity, and where each radio is
 //! (ETSI EN 300 392-2, clause 16, the network's side of location updating and detach).
+//!
+//! It changes its own tables alone, in memory of the allocator that it is given. It keeps neither groups nor messages,
+//! only the rules for them, and knows nothing of lines and disks.
 #![tactic(auto)]
 
 mod area;

@@ -15,7 +15,7 @@ pub const MAIL_CAPACITY: u32 = 65_536;
 /// The most stations.
 pub const STATION_CAPACITY: u32 = 64;
 
-/// How much a register holds at most. Limits are made in their ranges or not at all.
+/// How much a register holds at most. Each limit of a value is in its range.
 #[derive(Clone, Copy, Debug, PartialEq, Eq)]
 pub struct Limits {
     /// Rules, 1 to [`RULE_CAPACITY`].

@@ -18,7 +18,7 @@ pub struct Radio {
 }
 
 impl Radio {
-    // Present there.
+    // A radio that is present at this station and location area.
     pub(crate) fn at(station: Station, area: LocationArea) -> Radio
         ensures { result ≡ record { station = station; area = area; present = true } }
     {

@@ -16,8 +16,8 @@ use std::collections::BTreeMap;
 use std::marker::Model;
 use std::mem;
 
-/// Each known radio under its identity's number, in order. (A radio is asked for by its whole identity alone, so
-/// that a map with many keys in a node, which lie together in memory, is quicker than a tree of prefixes.)
+/// The known radios, in the order of their identities' numbers. A radio is asked for only by its whole identity. So a
+/// map with many keys in a node, which are together in memory, is faster than a tree of prefixes.
 #[derive(Drop)]
 pub(crate) struct Radios<A: Allocator> {
     by_number: BTreeMap<u64, Radio, A>,
@@ -55,8 +55,8 @@ impl<A: Allocator + Clone> Radios<A> {
         self.by_number.get(&itsi.number()).copied()
     }
 
-    /// Sets the radio of an identity, and answers the one before. For want of memory, which comes for a new one
-    /// alone, nothing is changed.
+    /// Sets the radio of an identity, and answers the one before. It takes memory only where there was none. When memory
+    /// runs out, nothing is changed.
     pub(crate) fn insert(&mut self, itsi: Itsi, radio: Radio) -> Result<Option<Radio>, AllocError>
         ensures before { IfOk result (λ before. before ≡ map.get self.old (id_path itsi)) }
         ensures ok { OnOk result (self.new ≡ map.insert self.old (id_path itsi) radio) }

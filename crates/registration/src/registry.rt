@@ -6,7 +6,9 @@ ghost use Rattle.std.specs.FinMap as map;
 ghost use Rattle.identity.specs.Path.{id_path};
 ghost use Rattle.prefix_tree.specs.Next.{next_entry};
 ghost use Rattle.registration.specs.Listed.{under_bits, under_its_bits};
-ghost use Rattle.registration.specs.Registered.{has_rule, longest_rule, rule_of, radio_of, type_refusal, area_refusal, service_refusal, room_refusal, locate_refusal, located, with_radio, detach_refusal, detached, is_present, has_radio, without_radio, set_refusal, with_rule, without_rule, empty_registered};
+ghost use Rattle.registration.specs.Registered.{empty_registered, set_refusal, has_rule, longest_rule, rule_of, with_rule, without_rule};
+ghost use Rattle.registration.specs.Registered.{type_refusal, area_refusal, service_refusal, room_refusal, locate_refusal, detach_refusal};
+ghost use Rattle.registration.specs.Registered.{has_radio, radio_of, is_present, located, detached, with_radio, without_radio};
 ghost use Rattle.registration.specs.declared.fault.RegFault.TheVariants.{NoMemory};
 
 use crate::radios::Radios;
@@ -71,7 +73,7 @@ impl<A: Allocator + Clone> Registry<A> {
         self.rule_count
     }
 
-    /// How many radios it knows, be these present or not.
+    /// How many radios it knows, present or not.
     pub fn radio_count(&self) -> u32
         ensures { result ≡ map.len self.now.radios }
     {
@@ -87,7 +89,7 @@ impl<A: Allocator + Clone> Registry<A> {
         Some(rule)
     }
 
-    /// The rule that serves an identity, and the prefix that it stands under.
+    /// The rule that serves an identity, and the prefix that it is under.
     pub fn longest_rule(&self, identity: u64) -> Option<(Prefix, Rule)>
         ensures { result ≡ longest_rule self.now identity }
     {
@@ -126,7 +128,7 @@ impl<A: Allocator + Clone> Registry<A> {
         self.radios.entries(alloc)
     }
 
-    /// The first rule after this prefix in the order of `rules`, also where no rule stands under it, or the first of
+    /// The first rule after this prefix in the order of `rules`, also where no rule is under it, or the first of
     /// all. It takes no memory.
     pub fn next_rule(&self, after: Option<Prefix>) -> Option<(Prefix, Rule)>
         ensures { result ≡ next_entry self.now.rules after }
@@ -180,7 +182,7 @@ impl<A: Allocator + Clone> Registry<A> {
         }
     }
 
-    /// Takes the rule under exactly this prefix away; whether there was one. It takes no memory.
+    /// Removes the rule under exactly this prefix, and returns whether there was one. It takes no memory.
     pub fn clear_rule(&mut self, prefix: &Prefix) -> bool
         ensures there { result ≡ has_rule self.old prefix.now }
         ensures gone { self.new ≡ without_rule self.old prefix.now }
@@ -210,7 +212,8 @@ impl<A: Allocator + Clone> Registry<A> {
         self.room_refusal(itsi)
     }
 
-    /// Why no radio may be located so, be it known or new: the refusals of `locate_refusal` before `Congestion`.
+    /// Why this location update would be refused for any radio, known or new: the refusals of `locate_refusal` before
+    /// `Congestion`.
     pub fn service_refusal(
         &self,
         itsi: Itsi,
@@ -245,8 +248,8 @@ impl<A: Allocator + Clone> Registry<A> {
         self.restore(itsi, Radio::at(station, area))
     }
 
-    /// As `locate`, where `service_refusal` has told nothing: no rule is asked. It tells whether the radio was known
-    /// before. `Congestion` where it is new and there are `limits.radios` radios, `NoMemory` where it is new; a
+    /// As `locate`, after `service_refusal` has answered `None`: it reads no rule. It returns whether the radio was known
+    /// before. `Congestion` where it is new and there are `limits.radios` radios, `NoMemory` only where it is new; a
     /// refusal changes nothing.
     pub fn place(
         &mut self,
@@ -259,7 +262,7 @@ impl<A: Allocator + Clone> Registry<A> {
         ensures err { IfErr result (λ e. (e ≡ unwrap_or (room_refusal self.old itsi) NoMemory) × (self.new ≡ self.old)) }
         ensures moves { IsSome (radio_of self.old itsi) → IsOk result }
     {
-        // Most radios have come before, and to change one in its place is cheaper than to put one.
+        // Most radios are known already, and changing one in its place is cheaper than an insert.
         if self.renew(itsi, Radio::at(station, area)).is_some() {
             return Ok(true);
         }
@@ -272,8 +275,8 @@ impl<A: Allocator + Clone> Registry<A> {
         }
     }
 
-    /// The radio is where it was when this was kept, present or not; no rule is asked. `Congestion` where
-    /// it is new and there are `limits.radios` radios, `NoMemory` where it is new; a refusal changes nothing.
+    /// Sets where the radio is, or was when it left, as it was stored; it reads no rule. `Congestion` where it is new and
+    /// there are `limits.radios` radios, `NoMemory` only where it is new; a refusal changes nothing.
     pub fn restore(&mut self, itsi: Itsi, radio: Radio) -> Result<(), RegFault>
         ensures ok { OnOk result ((room_refusal self.old itsi ≡ None) × (self.new ≡ with_radio self.old itsi radio)) }
         ensures err { IfErr result (λ e. (e ≡ unwrap_or (room_refusal self.old itsi) NoMemory) × (self.new ≡ self.old)) }
@@ -285,7 +288,7 @@ impl<A: Allocator + Clone> Registry<A> {
         self.put(itsi, radio).map_err(|_| RegFault::NoMemory)
     }
 
-    /// The radio is as if it had never come; whether it had. It takes no memory.
+    /// Forgets the radio, as if it had never come, and returns whether it was known. It takes no memory.
     pub fn forget(&mut self, itsi: Itsi) -> bool
         ensures there { result ≡ has_radio self.old itsi }
         ensures gone { self.new ≡ without_radio self.old itsi }
@@ -299,7 +302,7 @@ impl<A: Allocator + Clone> Registry<A> {
         }
     }
 
-    // There is room for it.
+    // Sets a radio for which there is room.
     fn put(&mut self, itsi: Itsi, radio: Radio) -> Result<(), AllocError>
         requires room { room_refusal self.old itsi ≡ None }
         ensures ok { OnOk result (self.new ≡ with_radio self.old itsi radio) }
@@ -316,7 +319,7 @@ impl<A: Allocator + Clone> Registry<A> {
         }
     }
 
-    // A radio that came before is as this one; `None` where it never came. It takes no memory.
+    // Replaces a radio that is known by this one; `None` where it is not known. It takes no memory.
     fn renew(&mut self, itsi: Itsi, radio: Radio) -> Option<()>
         ensures known { IsSome result ↔ IsSome (radio_of self.old itsi) }
         ensures there { OnSome result (self.new ≡ with_radio self.old itsi radio) }

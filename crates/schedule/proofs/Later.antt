@@ -12,7 +12,7 @@ use Rattle.schedule.specs.World.{World, Entry}
 use Rattle.schedule.specs.Next.{all_of, records_of, first_of, answered, effect, Next, Run}
 use Rattle.schedule.specs.Clauses.{IsBeginning, IsShortenedByCrashAlone, is_crash}
 use Rattle.schedule.proofs.Lists.{opposed}
-use Rattle.schedule.proofs.Soundness.{Sound, next_is_sound, crash_front}
+use Rattle.schedule.proofs.Soundness.{Sound, next_is_sound, crash_prefix}
 
 module _ {A : Type 0} where
   begins_self : (xs : List (Command A)) → IsBeginning xs xs
@@ -50,39 +50,39 @@ module _ {A : Type 0} where
   stays : (w : World A) → (more : List (Entry A)) × (w.answers ≡ w.answers ++ more)
   stays w = ([], sym (append-nil w.answers))
 
-  grows : (base : State) (w : World A) (e : Event A) → Sound base w → Grows w (effect base w e)
-  grows base w (Submit s c) h = record { published = omega arith; safe = begins_self (take w.durable w.accepted); answers = stays w }
-  grows base w (Seal s) h = record { published = omega arith; safe = begins_self (take w.durable w.accepted); answers = stays w }
-  grows base w CommitBegin h =
+  takes_memory : (base : State) (w : World A) (e : Event A) → Sound base w → Grows w (effect base w e)
+  takes_memory base w (Submit s c) h = record { published = omega arith; safe = begins_self (take w.durable w.accepted); answers = stays w }
+  takes_memory base w (Seal s) h = record { published = omega arith; safe = begins_self (take w.durable w.accepted); answers = stays w }
+  takes_memory base w CommitBegin h =
       let new = taken (after base w.accepted) w.batch in
       record {
         published = omega arith;
         safe = subst (λ t. IsBeginning (take w.durable w.accepted) t) (sym (take-append-le w.durable w.accepted new h.stored)) (begins_self (take w.durable w.accepted));
         answers = stays w;
       }
-  grows base w CommitEnd h = record { published = omega arith; safe = take_begins w.durable (length w.accepted) w.accepted h.stored; answers = stays w }
-  grows base w Publish h = record { published = h.shown; safe = begins_self (take w.durable w.accepted); answers = stays w }
-  grows base w (Answer s) h = record {
+  takes_memory base w CommitEnd h = record { published = omega arith; safe = take_begins w.durable (length w.accepted) w.accepted h.stored; answers = stays w }
+  takes_memory base w Publish h = record { published = h.shown; safe = begins_self (take w.durable w.accepted); answers = stays w }
+  takes_memory base w (Answer s) h = record {
     published = omega arith;
     safe = begins_self (take w.durable w.accepted);
     answers = (answered (w.published == w.durable) (first_of s w.owed), refl);
   }
-  grows base w (Read s) h = record { published = omega arith; safe = begins_self (take w.durable w.accepted); answers = stays w }
-  grows base w CheckpointBegin h = record { published = omega arith; safe = begins_self (take w.durable w.accepted); answers = stays w }
-  grows base w CheckpointEnd h = record { published = omega arith; safe = begins_self (take w.durable w.accepted); answers = stays w }
-  grows base w (Crash k) h =
+  takes_memory base w (Read s) h = record { published = omega arith; safe = begins_self (take w.durable w.accepted); answers = stays w }
+  takes_memory base w CheckpointBegin h = record { published = omega arith; safe = begins_self (take w.durable w.accepted); answers = stays w }
+  takes_memory base w CheckpointEnd h = record { published = omega arith; safe = begins_self (take w.durable w.accepted); answers = stays w }
+  takes_memory base w (Crash k) h =
       let safe = take w.durable w.accepted in
-      let more = all_of (take k (records_of w.flying)) in
+      let more = all_of (take k (records_of w.in_flight)) in
       let same : take w.durable (safe ++ more) ≡ safe = take_at safe more w.durable (length-take-le w.durable w.accepted h.stored) in
       record { published = omega arith; safe = subst (λ t. IsBeginning safe t) (sym same) (begins_self safe); answers = stays w }
-  grows base w Reopen h = record {
+  takes_memory base w Reopen h = record {
     published = let a = h.shown in let b = h.stored in omega arith;
     safe = take_begins w.durable (length w.accepted) w.accepted h.stored;
     answers = stays w;
   }
 
   pub next_grows : (base : State) (w m : World A) (e : Event A) → Sound base w → Next base w e m → Grows w m
-  next_grows base w m e h n = subst (λ (x : World A). Grows w x) (sym n.1) (grows base w e h)
+  next_grows base w m e h n = subst (λ (x : World A). Grows w x) (sym n.1) (takes_memory base w e h)
 
   pub run_grows : (base : State) (es : List (Event A)) (w w' : World A) → Sound base w → Run base w es w' → Grows w w'
   run_grows base [] w w' h r = subst (λ (x : World A). Grows w x) (sym r) (grows_same w)
@@ -104,8 +104,8 @@ module _ {A : Type 0} where
   shortens base w CheckpointEnd h = no_crash w (effect base w CheckpointEnd) CheckpointEnd refl (begins_self w.accepted)
   shortens base w (Crash k) h = record {
     else_stays = λ a. absurd (true≢false a);
-    to_a_beginning = λ a. crash_front base w.down w.durable w.accepted w.flying k h.aloft;
-    with_durable = λ a. (all_of (take k (records_of w.flying)), refl);
+    to_a_beginning = λ a. crash_prefix base w.down w.durable w.accepted w.in_flight k h.aloft;
+    with_durable = λ a. (all_of (take k (records_of w.in_flight)), refl);
   }
   shortens base w Reopen h = no_crash w (effect base w Reopen) Reopen refl (begins_self w.accepted)
 

@@ -1,4 +1,4 @@
--- Where the first entry of a station stands.
+-- Where the first entry of a station is.
 use Rattle.std.specs.Prelude.{cond, position, get_or, slice_index_or, MatchOption, Option, Some, None, ◌==◌}
 use Rattle.std.specs.List.{position_from}
 use Rattle.std.proofs.lemmas.Iterator.Adapters.{position_from-zero}

@@ -11,9 +11,9 @@ use Rattle.centre_core.specs.Batches.{with_replies, taken}
 use Rattle.schedule.specs.declared.event.Event.{Event}
 use Rattle.schedule.specs.declared.event.Event.TheVariants.{Seal, CommitBegin, CommitEnd, Answer, CheckpointBegin, Crash}
 use Rattle.schedule.specs.World.{World, Line, line, line_of, with_line, Entry}
-use Rattle.schedule.specs.Next.{is_still, is_empty, front, first_of, without_first, answered, seen_after, cut, emptied, Next, Run}
+use Rattle.schedule.specs.Next.{is_still, is_empty, first_one, first_of, without_first, answered, seen_after, cut, emptied, Next, Run}
 use Rattle.schedule.specs.Rounds.{Round, at, fed, queues, AreOf, Goes, GoesDown, IsIdle, seals, answers_to, room_if, move_if, give_up, under_way, left_under_way, publish_if, events_of, accepted_after, after_commit, after_round, after_idle_round, records_after, after_stop, stopped_commit, stopped_checkpoint, RoundsRun, IdleRoundsRun, CrashedRoundsRun, CrashedCheckpointsRun}
-use Rattle.schedule.specs.RoundParts.{batched, owing, answering, tellings, AreEntriesOf, SealsRun, AnswersRun}
+use Rattle.schedule.specs.RoundParts.{batched, owing, answering, answer_events, AreEntriesOf, SealsRun, AnswersRun}
 use Rattle.schedule.proofs.Lists.{and_both, line_same}
 
 less_test : (a b : ℕ) → a < b → nat_lt a b ≡ true
@@ -56,7 +56,7 @@ module _ {A : Type 0} where
   length-fed [] xs = refl
   length-fed (c ∷ cs) xs = length-with (fed cs xs) c.station (line (c ∷ (line_of (fed cs xs) c.station).queue) (line_of (fed cs xs) c.station).seen) ∙ length-fed cs xs
 
-  seal_one : (base : State) (f : World A) (c : Command A) (ys : List (Line A)) → (nat_lt 0 c.station && nat_le c.station (length ys)) ≡ true → f.down ≡ false → f.flying ≡ None → f.owed ≡ [] → length f.batch < 64
+  seal_one : (base : State) (f : World A) (c : Command A) (ys : List (Line A)) → (nat_lt 0 c.station && nat_le c.station (length ys)) ≡ true → f.down ≡ false → f.in_flight ≡ None → f.owed ≡ [] → length f.batch < 64
       → Next base (at f (with_line ys c.station (line (c ∷ (line_of ys c.station).queue) (line_of ys c.station).seen))) (Seal c.station) (at (batched f (c ∷ [])) ys)
   seal_one base f c ys here up none paid room =
       let s = c.station in
@@ -65,13 +65,13 @@ module _ {A : Type 0} where
       let zs = with_line ys s full in
       let is : line_of zs s ≡ full = line_same ys s full here in
       let inside : (nat_lt 0 s && nat_le s (length zs)) ≡ true = ap (λ n. nat_lt 0 s && nat_le s n) (length-with ys s full) ∙ here in
-      let calm : (not f.down && is_none f.flying) ≡ true = ap (λ b. not b && is_none f.flying) up ∙ ap (λ o. is_none o) none in
+      let calm : (not f.down && is_none f.in_flight) ≡ true = ap (λ b. not b && is_none f.in_flight) up ∙ ap (λ o. is_none o) none in
       let free : is_empty f.owed ≡ true = ap (λ (o : List (Entry A)). is_empty o) paid in
       let some : not (is_empty (line_of zs s).queue) ≡ true = ap (λ (x : Line A). not (is_empty x.queue)) is in
       let less = less_test (length f.batch) 64 room in (
         and_both _ _ inside (and_both _ _ calm (and_both _ _ free (and_both _ _ less some))),
         sym (
-            ap (λ (x : Line A). let r : World A = record f { lines = with_line zs s (line (drop 1 x.queue) x.seen); batch = f.batch ++ front x.queue } in r) is
+            ap (λ (x : Line A). let r : World A = record f { lines = with_line zs s (line (drop 1 x.queue) x.seen); batch = f.batch ++ first_one x.queue } in r) is
             ∙ ap (λ (l : List (Line A)). let r : World A = record f { lines = l; batch = f.batch ++ c ∷ [] } in r) (with_with ys s full old ∙ with_same ys s)
             ),
       )
@@ -86,9 +86,9 @@ module _ {A : Type 0} where
       let end : at (batched g cs) xs ≡ at (batched f (c ∷ cs)) xs = ap (λ b. let r : World A = record f { lines = xs; batch = b } in r) (append_assoc f.batch (c ∷ []) cs) in
       (at g (fed cs xs), seal_one base f c (fed cs xs) here up none paid (omega arith), subst (λ (x : World A). Run base (at g (fed cs xs)) (seals cs) x) end rest)
 
-  same_tellings : (t : State) (ps : List (Command A)) → tellings (with_replies A t ps) ≡ answers_to ps
-  same_tellings t [] = refl
-  same_tellings t (c ∷ cs) = ap (λ es. Answer c.station ∷ es) (same_tellings (next t c) cs)
+  same_answer_events : (t : State) (ps : List (Command A)) → answer_events (with_replies A t ps) ≡ answers_to ps
+  same_answer_events t [] = refl
+  same_answer_events t (c ∷ cs) = ap (λ es. Answer c.station ∷ es) (same_answer_events (next t c) cs)
 
   pub answers_run : AnswersRun A
   answers_run base [] f xs up h = (xs, refl, ap (λ a. let r : World A = record f { lines = xs; owed = []; answers = a } in r) (append-nil f.answers))
@@ -115,7 +115,7 @@ module _ {A : Type 0} where
               answers = f.answers ++ answered all (cond b (v ∷ []) (first_of s vs));
             } in r) same),
           ),
-          subst (λ (x : World A). Run base (at (owing g vs) ys) (tellings vs) x) end rest.2,
+          subst (λ (x : World A). Run base (at (owing g vs) ys) (answer_events vs) x) end rest.2,
         ),
       )
 
@@ -145,7 +145,7 @@ module _ {A : Type 0} where
   publish_run base false w still = refl
 
   abbrev resting : World A → World A
-  resting f = record f { down = false; flying = None; batch = []; owed = [] }
+  resting f = record f { down = false; in_flight = None; batch = []; owed = [] }
 
   -- from the begin of its commit to the end, with what was popped in the batch
   commit_run : (base : State) (f : World A) (how : Round) (c : Command A) (cs : List (Command A)) (xs : List (Line A)) → AreOf xs (c ∷ cs) → let r : World A = record (resting f) { published = f.durable } in (later : List (Line A)) × (queues later ≡ queues xs)
@@ -156,13 +156,13 @@ module _ {A : Type 0} where
       let r : World A = record (resting f) { published = f.durable } in
       let vs = with_replies A s ps in
       let log = f.accepted ++ taken s ps in
-      let begun : World A = record r { batch = ps; accepted = log; flying = Some vs } in
+      let begun : World A = record r { batch = ps; accepted = log; in_flight = Some vs } in
       let ended : World A = record r { accepted = log; durable = length log; owed = vs } in
       let went : World A = record ended { checking = under_way f.checking how.moved } in
       let open' : World A = record r { accepted = log; durable = length log; published = cond how.shown (length log) f.durable; checking = under_way f.checking how.moved } in
       let last = answers_run base vs open' xs refl (of_replies xs ps s h) in
-      let told : Run base (at (owing open' vs) xs) (answers_to ps) (at (after_commit base r ps how) last.0) = subst (λ es. Run base (at (owing open' vs) xs) es (at (after_commit base r ps how) last.0)) (same_tellings s ps) last.2 in
-      let shown = run-append base (publish_if how.shown) (answers_to ps) (at went xs) (at (owing open' vs) xs) _ (publish_run base how.shown (at went xs) refl) told in
+      let answer_from : Run base (at (owing open' vs) xs) (answers_to ps) (at (after_commit base r ps how) last.0) = subst (λ es. Run base (at (owing open' vs) xs) es (at (after_commit base r ps how) last.0)) (same_answer_events s ps) last.2 in
+      let shown = run-append base (publish_if how.shown) (answers_to ps) (at went xs) (at (owing open' vs) xs) _ (publish_run base how.shown (at went xs) refl) answer_from in
       let moved = run-append base (move_if f.checking how.moved) (publish_if how.shown ++ answers_to ps) (at ended xs) (at went xs) _ (move_run base f.checking how.moved (at ended xs) refl refl) shown in
       (last.0, last.1, (at begun xs, (same_test f.durable f.durable refl, refl), (at ended xs, (refl, refl), moved)))
 
@@ -178,7 +178,7 @@ module _ {A : Type 0} where
       (commit.0, commit.1, (at r (fed ps xs), (refl, refl), sealed))
 
   is_resting : (f : World A) → IsIdle f → resting f ≡ f
-  is_resting f h = λ i. record f { down = sym h.up i; flying = sym h.none_flying i; batch = sym h.none_sealed i; owed = sym h.none_owed i }
+  is_resting f h = λ i. record f { down = sym h.up i; in_flight = sym h.none_in_flight i; batch = sym h.none_sealed i; owed = sym h.none_owed i }
 
   pub rounds_run : RoundsRun A
   rounds_run base f how c cs h small =
@@ -198,7 +198,7 @@ module _ {A : Type 0} where
       let ps = c ∷ cs in
       let s = after base f.accepted in
       let r : World A = record (resting f) { published = f.durable } in
-      let begun : World A = record r { batch = ps; accepted = f.accepted ++ taken s ps; flying = Some (with_replies A s ps) } in
+      let begun : World A = record r { batch = ps; accepted = f.accepted ++ taken s ps; in_flight = Some (with_replies A s ps) } in
       let stopped = after_stop r (accepted_after base f ps) (take count (records_after base f ps)) in
       (at begun xs, (same_test f.durable f.durable refl, refl), (at stopped (emptied xs), (le_test count (length (cut (taken s ps))) few, refl), refl))
 
@@ -222,10 +222,10 @@ module _ {A : Type 0} where
 
   -- a checkpoint that is under way is given up, and another one stops
   abbrev stopped : World A → World A
-  stopped w = record w { lines = emptied w.lines; batch = []; accepted = take w.durable w.accepted ++ []; flying = None; owed = []; checking = false; down = true }
+  stopped w = record w { lines = emptied w.lines; batch = []; accepted = take w.durable w.accepted ++ []; in_flight = None; owed = []; checking = false; down = true }
 
   abbrev calm : World A → Bool → World A
-  calm w checking = record w { down = false; flying = None; checking = checking }
+  calm w checking = record w { down = false; in_flight = None; checking = checking }
 
   new_stop_run : (base : State) (w : World A) → Run base (calm w false) (CheckpointBegin ∷ Crash 0 ∷ []) (stopped w)
   new_stop_run base w = (calm w true, (refl, refl), (stopped w, (refl, refl), refl))

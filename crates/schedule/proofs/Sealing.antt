@@ -1,4 +1,4 @@
--- What was sealed is a beginning of what was submitted; what is read grows.
+-- What was sealed is a beginning of what was submitted; what is read takes_memory.
 use Rattle.std.specs.Prelude.{not, nat_lt, ◌==◌}
 use Rattle.std.specs.List.{AllByRecursion, All}
 use Rattle.std.proofs.lemmas.Bool.Decides.{nat_tests}
@@ -10,8 +10,8 @@ use Rattle.centre_core.specs.State.{State}
 use Rattle.schedule.specs.declared.event.Event.{Event}
 use Rattle.schedule.specs.declared.event.Event.TheVariants.{Submit, Seal, CommitBegin, CommitEnd, Publish, Answer, Read, CheckpointBegin, CheckpointEnd, Crash, Reopen}
 use Rattle.schedule.specs.World.{World, Line, line, line_of, with_line, queue_of, seen_of, opening}
-use Rattle.schedule.specs.Next.{is_place, is_empty, front, first_of, answered, seen_after, is_station, is_still, may, effect, Next, Run}
-use Rattle.schedule.specs.Clauses.{IsBeginning, IsBorneOut, IsWithin, read_by, is_reopen, submitted_by, submitted, sealed_by, sealed, IsOneLife, IsFresh}
+use Rattle.schedule.specs.Next.{is_place, is_empty, first_one, first_of, answered, seen_after, is_station, is_still, may, effect, Next, Run}
+use Rattle.schedule.specs.Clauses.{IsBeginning, IsBorneOut, IsWithin, seen_by, is_reopen, submitted_by, submitted, sealed_by, sealed, IsOneLife, IsFresh}
 use Rattle.schedule.specs.Laws.{ReadsGrow, ReadsHoldAnswers}
 use Rattle.schedule.proofs.Lists.{both, not_true, opposed, line_put, line_same, line_other, unread_line}
 use Rattle.schedule.proofs.Soundness.{reached, run_is_sound, next_is_sound, opening_line, all_whole, all_within}
@@ -24,9 +24,9 @@ other_station : (s t : ℕ) → (s == t) ≡ false → s ≡ t → ⊥
 other_station s t e f = grind (arith, nat_tests)
 
 module _ {A : Type 0} where
-  front_rest : (q : List (Command A)) → front q ++ drop 1 q ≡ q
-  front_rest [] = refl
-  front_rest (c ∷ cs) = refl
+  first_one_rest : (q : List (Command A)) → first_one q ++ drop 1 q ≡ q
+  first_one_rest [] = refl
+  first_one_rest (c ∷ cs) = refl
 
   submit_by : (xs : List (Line A)) (s t : ℕ) (c : Command A) (v : ℕ) (b : Bool) → (s == t) ≡ b → is_place xs s ≡ true
       → (line_of xs t).queue ++ cond b (c ∷ []) [] ≡ (line_of (with_line xs s (line ((line_of xs s).queue ++ c ∷ []) v)) t).queue
@@ -39,11 +39,11 @@ module _ {A : Type 0} where
       append-nil (line_of xs t).queue ∙ sym (ap (λ (x : Line A). x.queue) (line_other xs s t new (other_station s t e)))
 
   seal_by : (xs : List (Line A)) (s t : ℕ) (v : ℕ) (b : Bool) → (s == t) ≡ b → is_place xs s ≡ true
-      → (line_of xs t).queue ≡ cond b (front (line_of xs s).queue) [] ++ (line_of (with_line xs s (line (drop 1 (line_of xs s).queue) v)) t).queue
+      → (line_of xs t).queue ≡ cond b (first_one (line_of xs s).queue) [] ++ (line_of (with_line xs s (line (drop 1 (line_of xs s).queue) v)) t).queue
   seal_by xs s t v true e h =
       let new = line (drop 1 (line_of xs s).queue) v in
       let same = same_station s t e in
-      subst (λ u. (line_of xs u).queue ≡ front (line_of xs s).queue ++ (line_of (with_line xs s new) u).queue) same (sym (ap (λ (x : Line A). front (line_of xs s).queue ++ x.queue) (line_same xs s new h) ∙ front_rest (line_of xs s).queue))
+      subst (λ u. (line_of xs u).queue ≡ first_one (line_of xs s).queue ++ (line_of (with_line xs s new) u).queue) same (sym (ap (λ (x : Line A). first_one (line_of xs s).queue ++ x.queue) (line_same xs s new h) ∙ first_one_rest (line_of xs s).queue))
   seal_by xs s t v false e h =
       let new = line (drop 1 (line_of xs s).queue) v in sym (ap (λ (x : Line A). x.queue) (line_other xs s t new (other_station s t e)))
 
@@ -164,10 +164,10 @@ module _ {A : Type 0} where
       let small' : w'.published ≤ w'.durable = there.shown in
       let fits : r.published ≤ length (take r.durable r.accepted) = let st = here.stored in omega (arith, length-take-le r.durable r.accepted st) in
       let h = shorter (take r.durable r.accepted) (take w'.durable w'.accepted) r.published w'.published grown.safe grown.published fits in
-      let left : take r.published (take r.durable r.accepted) ≡ read_by r s = take-take r.published r.durable r.accepted small ∙ ap (λ v. take v r.accepted) (sym seen) in
-      let right : take w'.published (take w'.durable w'.accepted) ≡ read_by r' t =
+      let left : take r.published (take r.durable r.accepted) ≡ seen_by r s = take-take r.published r.durable r.accepted small ∙ ap (λ v. take v r.accepted) (sym seen) in
+      let right : take w'.published (take w'.durable w'.accepted) ≡ seen_by r' t =
       take-take w'.published w'.durable w'.accepted small' ∙ (ap (λ v. take v w'.accepted) (sym b.0) ∙ ap (λ l. take (seen_of r' t) l) (sym b.3)) in
-      subst (λ x. IsBeginning x (read_by r' t)) left (subst (λ x. IsBeginning (take r.published (take r.durable r.accepted)) x) right h)
+      subst (λ x. IsBeginning x (seen_by r' t)) left (subst (λ x. IsBeginning (take r.published (take r.durable r.accepted)) x) right h)
 
   pub answers_read : ReadsHoldAnswers A
   answers_read base n es w run fs w' more t r one =

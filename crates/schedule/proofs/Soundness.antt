@@ -10,18 +10,18 @@ use Rattle.centre_core.specs.State.{State}
 use Rattle.centre_core.specs.History.{is_acceptance, after}
 use Rattle.centre_core.specs.Histories.{IsHistory}
 use Rattle.centre_core.specs.Batches.{taken, accepted_of}
-use Rattle.centre_core.proofs.InTurnLaws.{history-front, get_within}
+use Rattle.centre_core.proofs.InTurnLaws.{history-prefix, get_within}
 use Rattle.schedule.specs.declared.event.Event.{Event}
 use Rattle.schedule.specs.declared.event.Event.TheVariants.{Submit, Seal, CommitBegin, CommitEnd, Publish, Answer, Read, CheckpointBegin, CheckpointEnd, Crash, Reopen}
 use Rattle.schedule.specs.World.{World, Line, line, line_of, with_line, queue_of, seen_of, Entry, opening}
-use Rattle.schedule.specs.Next.{all_of, cut, records_of, replies_of, is_empty, first_of, without_first, told, answered, seen_after, is_station, is_still, may, effect, Next, Run}
+use Rattle.schedule.specs.Next.{all_of, cut, records_of, replies_of, is_empty, first_of, without_first, answer_from, answered, seen_after, is_station, is_still, may, effect, Next, Run}
 use Rattle.schedule.specs.Clauses.{IsBeginning, IsBorneOut, IsWithin}
-use Rattle.schedule.specs.RoundParts.{ToldAreBorneOut, AnsweredAreBorneOut}
+use Rattle.schedule.specs.RoundParts.{OneIsBorneOut, AnsweredAreBorneOut}
 use Rattle.schedule.proofs.Stepping.{borne_more, batch_well}
 use Rattle.schedule.proofs.Lists.{both, not_true, opposed, line_put, emptied_queue, emptied_seen, unread_line, all_of-cut, all_of-append, all-append, all_by}
 
 module _ {A : Type 0} where
-  -- with nothing flying all that is accepted is durable; else the rest is what flies
+  -- with nothing in_flight all that is accepted is durable; else the rest is what flies
   abbrev pub Aloft : State → Bool → ℕ → List (Command A) → Option (List (Entry A)) → Type 0
   Aloft base down durable acc None = down ≡ false → durable ≡ length acc
   Aloft base down durable acc (Some f) = (acc ≡ take durable acc ++ accepted_of f) × AllByRecursion (IsBorneOut base acc) f × (down ≡ false)
@@ -30,15 +30,15 @@ module _ {A : Type 0} where
     pub stepped : IsHistory base w.accepted
     pub shown : w.published ≤ w.durable
     pub stored : w.durable ≤ length w.accepted
-    pub aloft : Aloft base w.down w.durable w.accepted w.flying
+    pub aloft : Aloft base w.down w.durable w.accepted w.in_flight
     pub owing : AllByRecursion (IsBorneOut base (take w.durable w.accepted)) w.owed
     pub borne : AllByRecursion (IsBorneOut base (take w.durable w.accepted)) w.answers
     pub within : AllByRecursion (IsWithin base w.published) w.answers
     pub quiet : w.down ≡ true → (t : ℕ) → queue_of w t ≡ []
     pub sight : (t : ℕ) → seen_of w t ≤ w.published
 
-  still : (w : World A) → is_still w ≡ true → (w.down ≡ false) × (is_none w.flying ≡ true)
-  still w h = let p = both (not w.down) (is_none w.flying) h in (not_true w.down p.0, p.1)
+  still : (w : World A) → is_still w ≡ true → (w.down ≡ false) × (is_none w.in_flight ≡ true)
+  still w h = let p = both (not w.down) (is_none w.in_flight) h in (not_true w.down p.0, p.1)
 
   grounded : (base : State) (down : Bool) (d : ℕ) (acc : List (Command A)) (f : Option (List (Entry A))) → is_none f ≡ true → down ≡ false → Aloft base down d acc f → d ≡ length acc
   grounded base down d acc None e up h = h up
@@ -107,7 +107,7 @@ module _ {A : Type 0} where
       let s = after base w.accepted in
       let new = taken s w.batch in
       let up = still w (both (is_still w) (not (is_empty w.batch) && (w.published == w.durable)) ok).0 in
-      let all : w.durable ≡ length w.accepted = grounded base w.down w.durable w.accepted w.flying up.1 up.0 h.aloft in
+      let all : w.durable ≡ length w.accepted = grounded base w.down w.durable w.accepted w.in_flight up.1 up.0 h.aloft in
       let same : take w.durable (w.accepted ++ new) ≡ take w.durable w.accepted = take-append-le w.durable w.accepted new h.stored in
       let whole : take w.durable (w.accepted ++ new) ≡ w.accepted = take_at w.accepted new w.durable (sym all) in
       let well = batch_well w.batch base s w.accepted (w.accepted ++ new) h.stepped refl refl in
@@ -131,7 +131,7 @@ module _ {A : Type 0} where
         shown = let a = h.shown in let b = h.stored in omega arith;
         stored = omega arith;
         aloft = λ up. refl;
-        owing = subst (λ t. AllByRecursion (IsBorneOut base t) (replies_of w.flying)) (sym whole) (landed base w.down w.durable w.accepted w.flying h.aloft);
+        owing = subst (λ t. AllByRecursion (IsBorneOut base t) (replies_of w.in_flight)) (sym whole) (landed base w.down w.durable w.accepted w.in_flight h.aloft);
         borne = subst (λ t. AllByRecursion (IsBorneOut base t) w.answers) (sym whole) (all_whole base w.durable w.accepted w.answers h.borne);
         within = h.within;
         quiet = h.quiet;
@@ -152,28 +152,28 @@ module _ {A : Type 0} where
   }
 
   -- an answer says no more than its entry
-  pub told_borne : ToldAreBorneOut A
-  told_borne base l true (c, Accepted n p) h = h
-  told_borne base l false (c, Accepted n p) h = inl (record { first = c; of_station = refl; of_sequence = refl; lands = h })
-  told_borne base l all (c, Kept n p) h = h
-  told_borne base l all (c, Refused r) h = h
+  pub one_borne : OneIsBorneOut A
+  one_borne base l true (c, Accepted n p) h = h
+  one_borne base l false (c, Accepted n p) h = inl (record { first = c; of_station = refl; of_sequence = refl; lands = h })
+  one_borne base l all (c, Kept n p) h = h
+  one_borne base l all (c, Refused r) h = h
 
-  pub all_told : AnsweredAreBorneOut A
-  all_told base l all [] h = tt
-  all_told base l all (x ∷ xs) h = (told_borne base l all x h.0, all_told base l all xs h.1)
+  pub all_answered : AnsweredAreBorneOut A
+  all_answered base l all [] h = tt
+  all_answered base l all (x ∷ xs) h = (one_borne base l all x h.0, all_answered base l all xs h.1)
 
-  told_within : (base : State) (l : List (Command A)) (p : ℕ) (all : Bool) → (all ≡ true → length l ≤ p) → (x : Entry A) → IsBorneOut base l x → IsWithin base p (x.0, told all x.1)
-  told_within base l p true le (c, Accepted n v) h =
-      let in_l : h.place < length l = get_within l h.place c h.stands in
+  answer_within : (base : State) (l : List (Command A)) (p : ℕ) (all : Bool) → (all ≡ true → length l ≤ p) → (x : Entry A) → IsBorneOut base l x → IsWithin base p (x.0, answer_from all x.1)
+  answer_within base l p true le (c, Accepted n v) h =
+      let in_l : h.place < length l = get_within l h.place c h.is_there in
       let m = h.numbered in
       let fits = le refl in omega arith
-  told_within base l p false le (c, Accepted n v) h = tt
-  told_within base l p all le (c, Kept n v) h = tt
-  told_within base l p all le (c, Refused r) h = tt
+  answer_within base l p false le (c, Accepted n v) h = tt
+  answer_within base l p all le (c, Kept n v) h = tt
+  answer_within base l p all le (c, Refused r) h = tt
 
-  all_told_within : (base : State) (l : List (Command A)) (p : ℕ) (all : Bool) → (all ≡ true → length l ≤ p) → (xs : List (Entry A)) → AllByRecursion (IsBorneOut base l) xs → AllByRecursion (IsWithin base p) (answered all xs)
-  all_told_within base l p all le [] h = tt
-  all_told_within base l p all le (x ∷ xs) h = (told_within base l p all le x h.0, all_told_within base l p all le xs h.1)
+  all_answered_within : (base : State) (l : List (Command A)) (p : ℕ) (all : Bool) → (all ≡ true → length l ≤ p) → (xs : List (Entry A)) → AllByRecursion (IsBorneOut base l) xs → AllByRecursion (IsWithin base p) (answered all xs)
+  all_answered_within base l p all le [] h = tt
+  all_answered_within base l p all le (x ∷ xs) h = (answer_within base l p all le x h.0, all_answered_within base l p all le xs h.1)
 
   all_first : (P : Entry A → Type 0) → (s : ℕ) (xs : List (Entry A)) → AllByRecursion P xs → AllByRecursion P (first_of s xs)
   all_first P s [] h = tt
@@ -202,8 +202,8 @@ module _ {A : Type 0} where
         stored = h.stored;
         aloft = h.aloft;
         owing = all_without (IsBorneOut base l) s w.owed h.owing;
-        borne = all-append (IsBorneOut base l) w.answers (answered all one) h.borne (all_told base l all one here);
-        within = all-append (IsWithin base w.published) w.answers (answered all one) h.within (all_told_within base l w.published all fits one here);
+        borne = all-append (IsBorneOut base l) w.answers (answered all one) h.borne (all_answered base l all one here);
+        within = all-append (IsWithin base w.published) w.answers (answered all one) h.within (all_answered_within base l w.published all fits one here);
         quiet = λ down t. absurd (opposed w.down up down);
         sight = sight_put w s (queue_of w s) (seen_after (seen_of w s) w.published (answered all one)) (seen_after_le (seen_of w s) w.published (answered all one) (h.sight s)) h.sight;
       }
@@ -225,10 +225,10 @@ module _ {A : Type 0} where
   }
 
   -- what a crash leaves is a beginning
-  pub crash_front : (base : State) (down : Bool) (d : ℕ) (acc : List (Command A)) (f : Option (List (Entry A))) (k : ℕ) → Aloft base down d acc f → IsBeginning (take d acc ++ all_of (take k (records_of f))) acc
-  crash_front base down d acc None zero h = (drop d acc, sym (take-append-drop d acc) ∙ ap (λ t. t ++ drop d acc) (sym (append-nil (take d acc))))
-  crash_front base down d acc None (suc k) h = (drop d acc, sym (take-append-drop d acc) ∙ ap (λ t. t ++ drop d acc) (sym (append-nil (take d acc))))
-  crash_front base down d acc (Some f) k h =
+  pub crash_prefix : (base : State) (down : Bool) (d : ℕ) (acc : List (Command A)) (f : Option (List (Entry A))) (k : ℕ) → Aloft base down d acc f → IsBeginning (take d acc ++ all_of (take k (records_of f))) acc
+  crash_prefix base down d acc None zero h = (drop d acc, sym (take-append-drop d acc) ∙ ap (λ t. t ++ drop d acc) (sym (append-nil (take d acc))))
+  crash_prefix base down d acc None (suc k) h = (drop d acc, sym (take-append-drop d acc) ∙ ap (λ t. t ++ drop d acc) (sym (append-nil (take d acc))))
+  crash_prefix base down d acc (Some f) k h =
       let rs = cut (accepted_of f) in
       let parts : accepted_of f ≡ all_of (take k rs) ++ all_of (drop k rs) = sym (all_of-cut (accepted_of f)) ∙ (ap all_of (sym (take-append-drop k rs)) ∙ all_of-append (take k rs) (drop k rs)) in
       (all_of (drop k rs), h.0 ∙ (ap (λ t. take d acc ++ t) parts ∙ sym (append_assoc (take d acc) (all_of (take k rs)) (all_of (drop k rs)))))
@@ -236,12 +236,12 @@ module _ {A : Type 0} where
   crashes : (base : State) (w : World A) (k : ℕ) → Sound base w → Sound base (effect base w (Crash k))
   crashes base w k h =
       let safe = take w.durable w.accepted in
-      let more = all_of (take k (records_of w.flying)) in
-      let front = crash_front base w.down w.durable w.accepted w.flying k h.aloft in
+      let more = all_of (take k (records_of w.in_flight)) in
+      let prefix = crash_prefix base w.down w.durable w.accepted w.in_flight k h.aloft in
       let long : length safe ≡ w.durable = length-take-le w.durable w.accepted h.stored in
       let same : take w.durable (safe ++ more) ≡ safe = take_at safe more w.durable long in
       record {
-        stepped = history-front base (safe ++ more) front.0 (subst (λ t. IsHistory base t) front.1 h.stepped);
+        stepped = history-prefix base (safe ++ more) prefix.0 (subst (λ t. IsHistory base t) prefix.1 h.stepped);
         shown = h.shown;
         stored = omega (arith, length-append safe more);
         aloft = λ up. absurd (true≢false up);
@@ -260,7 +260,7 @@ module _ {A : Type 0} where
         stepped = h.stepped;
         shown = omega arith;
         stored = omega arith;
-        aloft = elim (w.flying) as (λ f. Aloft base w.down w.durable w.accepted f → Aloft base false (length w.accepted) w.accepted f) [
+        aloft = elim (w.in_flight) as (λ f. Aloft base w.down w.durable w.accepted f → Aloft base false (length w.accepted) w.accepted f) [
           | None ↦ λ a. λ up. refl
           | Some f ↦ λ a. absurd (opposed w.down a.2 fell)
         ] h.aloft;

@@ -14,7 +14,7 @@ use Rattle.centre_core.specs.InTurn.{reply_to, last_of, Replied}
 use Rattle.centre_core.specs.Batches.{with_replies, taken}
 use Rattle.centre_core.proofs.RepliesSay.{replies_say}
 use Rattle.centre_core.proofs.HistoryLaws.{counted}
-use Rattle.centre_core.proofs.InTurnLaws.{after-append, history-append, kept_stands, lands_more, left_more}
+use Rattle.centre_core.proofs.InTurnLaws.{after-append, history-append, kept_is_there, lands_more, left_more}
 use Rattle.schedule.specs.World.{Entry}
 use Rattle.schedule.specs.Clauses.{IsBorneOut}
 use Rattle.schedule.specs.RoundParts.{BorneOutByLonger, BatchesAreBorneOut}
@@ -38,12 +38,12 @@ module _ {A : Type 0} where
       record {
         place = length l;
         numbered = let m = says.1 in omega arith;
-        stands = get_last l c;
+        is_there = get_last l c;
         replied = subst (λ t. reply_to (after base t) c ≡ Accepted n p) (sym (take_at l (c ∷ []) (length l) refl)) (subst (λ t. reply_to t c ≡ Accepted n p) at is);
       }
   reply_borne base s l c a at (Kept n p) is says =
       let kept : last_at (after base l) c.station ≡ Some (last_of c n p) = subst (λ t. last_at t c.station ≡ Some (last_of c n p)) at says.2 in
-      elim (kept_stands base l a c.station (last_of c n p) says.1 kept) [ inl q ↦ inl (left_more base l (c ∷ []) c.station (last_of c n p) q) | inr q ↦ inr q ]
+      elim (kept_is_there base l a c.station (last_of c n p) says.1 kept) [ inl q ↦ inl (left_more base l (c ∷ []) c.station (last_of c n p) q) | inr q ↦ inr q ]
   reply_borne base s l c a at (Refused r) is says = (
     length l,
     omega (arith, length-append l (c ∷ [])),
@@ -54,7 +54,7 @@ module _ {A : Type 0} where
   reply_alone : (base s : State) (l : List (Command A)) (c : Command A) → IsHistory base l → s ≡ after base l → (r : Reply A) → reply_to s c ≡ r → Replied s c (next s c) r → is_acceptance r ≡ false → IsBorneOut base l (c, r)
   reply_alone base s l c a at (Accepted n p) is says not_it = absurd (true≢false not_it)
   reply_alone base s l c a at (Kept n p) is says not_it =
-      let kept : last_at (after base l) c.station ≡ Some (last_of c n p) = subst (λ t. last_at t c.station ≡ Some (last_of c n p)) at says.2 in kept_stands base l a c.station (last_of c n p) says.1 kept
+      let kept : last_at (after base l) c.station ≡ Some (last_of c n p) = subst (λ t. last_at t c.station ≡ Some (last_of c n p)) at says.2 in kept_is_there base l a c.station (last_of c n p) says.1 kept
   reply_alone base s l c a at (Refused r) is says not_it = (
     length l,
     omega arith,

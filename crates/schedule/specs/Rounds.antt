@@ -1,4 +1,4 @@
--- A round of the flusher, over the record of the world: whatever waits after what it popped.
+-- A round of the flusher: which events it is, and the world after it. It holds for all queues after the popped commands.
 use Rattle.std.specs.Prelude.{◌≡◌, ◌==◌, ◌≤◌, ℕ, Bool, true, false, not, cond, List, [], ◌∷◌, ◌++◌, length, take, map, None}
 use Rattle.std.specs.List.{AllByRecursion}
 use Rattle.centre_core.specs.declared.command.Command.{Command}
@@ -10,17 +10,18 @@ use Rattle.schedule.specs.declared.event.Event.TheVariants.{Seal, CommitBegin, C
 use Rattle.schedule.specs.World.{World, Line, line, line_of, with_line}
 use Rattle.schedule.specs.Next.{Run, is_place, all_of, cut, emptied, answered}
 
--- how a round went: whether a checkpoint was made before its commit, whether one began in the commit or ended there, and whether what it committed was published
+-- how a round went: whether a checkpoint was made before its commit, whether one began or ended with the commit, and whether
+-- what it committed was published
 pub record Round : Type 0 where
   pub made_room : Bool
   pub moved : Bool
   pub shown : Bool
 
--- whether a checkpoint is under way after one began or ended, or neither
+-- whether a checkpoint is under way after one began or ended (moved), or neither
 abbrev pub under_way : Bool → Bool → Bool
 under_way checking moved = cond moved (not checking) checking
 
--- whether one is under way when the commit of a round begins
+-- whether a checkpoint is under way when the commit of a round begins
 abbrev pub left_under_way : Bool → Round → Bool
 left_under_way checking how = cond how.made_room false checking
 
@@ -29,45 +30,49 @@ module _ {A : Type 0} where
   abbrev pub at : World A → List (Line A) → World A
   at f xs = record f { lines = xs }
 
-  -- a line with a command before what waits in it
+  -- a line with this command before its queue
   abbrev pub with_first : Command A → Line A → Line A
   with_first c old = line (c ∷ old.queue) old.seen
 
-  -- the lines with these commands before what waits
+  -- the lines with these commands before their queues
   abbrev pub fed : List (Command A) → List (Line A) → List (Line A)
   fed [] xs = xs
   fed (c ∷ cs) xs = with_line (fed cs xs) c.station (with_first c (line_of (fed cs xs) c.station))
 
-  -- each is of one of these stations
+  -- each command is of one of these stations
   abbrev pub AreOf : List (Line A) → List (Command A) → Type 0
   AreOf xs ps = AllByRecursion (λ (c : Command A). is_place xs c.station ≡ true) ps
 
-  -- what waits in each queue
+  -- the queues of the lines
   abbrev pub queues : List (Line A) → List (List (Command A))
   queues xs = map (λ x. x.queue) xs
 
-  -- whatever waits after these commands, the events pop them and go from f to g, and what waits stays
+  -- with any queues after these commands: the events pop these and lead from f to g, and the queues stay
   abbrev pub Goes : State → List (Command A) → List (Event A) → World A → World A → Type 0
-  Goes base popped es f g = (xs : List (Line A)) → AreOf xs popped → (later : List (Line A)) × (queues later ≡ queues xs) × Run base (at f (fed popped xs)) es (at g later)
+  Goes base popped es f g =
+      (xs : List (Line A)) → AreOf xs popped
+      → (later : List (Line A)) × (queues later ≡ queues xs) × Run base (at f (fed popped xs)) es (at g later)
 
-  -- the same to a world that is down: nothing waits any more
+  -- the same for a world g that is down: its queues are empty
   abbrev pub GoesDown : State → List (Command A) → List (Event A) → World A → World A → Type 0
   GoesDown base popped es f g =
-      (xs : List (Line A)) → AreOf xs popped → (later : List (Line A)) × (queues later ≡ queues (emptied xs)) × Run base (at f (fed popped xs)) es (at g later)
+      (xs : List (Line A)) → AreOf xs popped
+      → (later : List (Line A)) × (queues later ≡ queues (emptied xs)) × Run base (at f (fed popped xs)) es (at g later)
 
-  -- the flusher is between two rounds: nothing is down, flying, sealed or owed; a checkpoint may be under way, and what is published may be less than what is durable
+  -- the flusher is between two rounds: not down, and nothing in flight, sealed or owed. A checkpoint may be under way, and less
+  -- may be published than is durable
   pub record IsIdle (f : World A) : Type 0 where
     pub up : f.down ≡ false
-    pub none_flying : f.flying ≡ None
+    pub none_in_flight : f.in_flight ≡ None
     pub none_sealed : f.batch ≡ []
     pub none_owed : f.owed ≡ []
 
-  -- each command is sealed
+  -- the events that seal each command
   abbrev pub seals : List (Command A) → List (Event A)
   seals [] = []
   seals (c ∷ cs) = Seal c.station ∷ seals cs
 
-  -- each command is answered
+  -- the events that answer each command
   abbrev pub answers_to : List (Command A) → List (Event A)
   answers_to [] = []
   answers_to (c ∷ cs) = Answer c.station ∷ answers_to cs
@@ -82,7 +87,7 @@ module _ {A : Type 0} where
   room_if checking false = []
   room_if checking true = give_up checking ++ (CheckpointBegin ∷ CheckpointEnd ∷ [])
 
-  -- one begins, or the one under way ends; or neither
+  -- a checkpoint begins, or the one under way ends; or neither
   abbrev pub move_if : Bool → Bool → List (Event A)
   move_if checking false = []
   move_if false true = CheckpointBegin ∷ []
@@ -103,13 +108,14 @@ module _ {A : Type 0} where
 
   -- the events of a round that popped these commands: what was durable before is published first
   abbrev pub events_of : Bool → Round → List (Command A) → List (Event A)
-  events_of checking how popped = Publish ∷ seals popped ++ (room_if checking how.made_room ++ (commit_of (left_under_way checking how) how ++ shown_of how popped))
+  events_of checking how popped =
+      Publish ∷ seals popped ++ (room_if checking how.made_room ++ (commit_of (left_under_way checking how) how ++ shown_of how popped))
 
-  -- what is accepted after a round that popped these commands
+  -- the accepted commands after a round that popped these
   abbrev pub accepted_after : State → World A → List (Command A) → List (Command A)
   accepted_after base f popped = f.accepted ++ taken (after base f.accepted) popped
 
-  -- after the commit of a round that popped these commands: all is published, or else what was durable before
+  -- the world after the commit of a round that popped these commands: all is published, or else what was durable before
   abbrev pub after_commit : State → World A → List (Command A) → Round → World A
   after_commit base f popped how =
       let all = length (accepted_after base f popped) in
@@ -122,15 +128,15 @@ module _ {A : Type 0} where
         checking = under_way f.checking how.moved;
       }
 
-  -- after the whole round
+  -- the world after the whole round
   abbrev pub after_round : State → World A → List (Command A) → Round → World A
   after_round base f popped how = after_commit base (record f { checking = left_under_way f.checking how }) popped how
 
-  -- after a round that popped nothing
+  -- the world after a round that popped nothing
   abbrev pub after_idle_round : World A → Bool → World A
   after_idle_round f shown = record f { published = cond shown f.durable f.published }
 
-  -- the events of a round whose commit stops; so many of its records come through
+  -- the events of a round whose commit stops; so many of its records reach the disk
   abbrev pub stopped_commit : Bool → Bool → List (Command A) → ℕ → List (Event A)
   stopped_commit checking made_room popped count = Publish ∷ seals popped ++ (room_if checking made_room ++ (CommitBegin ∷ Crash count ∷ []))
 
@@ -142,12 +148,12 @@ module _ {A : Type 0} where
   abbrev pub records_after : State → World A → List (Command A) → List (List (Command A))
   records_after base f popped = cut (taken (after base f.accepted) popped)
 
-  -- after a stop: down; accepted are what was durable of these commands and what came through; what was durable is published
+  -- the world after a stop: down; accepted are the durable ones of these commands and what reached the disk; the durable are published
   abbrev pub after_stop : World A → List (Command A) → List (List (Command A)) → World A
   after_stop f accepted through = record f { accepted = take f.durable accepted ++ all_of through; published = f.durable; checking = false; down = true }
 
 module _ (A : Type 0) where
-  -- from whatever is idle, a round of 1 to 64 commands goes by a run
+  -- from an idle world, a round of 1 to 64 commands is a run
   abbrev pub RoundsRun : Type 0
   RoundsRun = (base : State) (f : World A) (how : Round) (c : Command A) (cs : List (Command A)) → IsIdle f → length (c ∷ cs) ≤ 64
       → Goes base (c ∷ cs) (events_of f.checking how (c ∷ cs)) f (after_round base f (c ∷ cs) how)
@@ -156,24 +162,25 @@ module _ (A : Type 0) where
   abbrev pub IdleRoundsRun : Type 0
   IdleRoundsRun = (base : State) (f : World A) (shown : Bool) → IsIdle f → Goes base [] (publish_if shown) f (after_idle_round f shown)
 
-  -- a round whose commit stops goes by a run to a world that is down: what was durable is accepted there, and so many of the commit's records
+  -- a round whose commit stops is a run to a world that is down: accepted there are what was durable, and so many of the
+  -- commit's records
   abbrev pub CrashedRoundsRun : Type 0
   CrashedRoundsRun = (base : State) (f : World A) (made_room : Bool) (c : Command A) (cs : List (Command A)) (count : ℕ)
       → IsIdle f → length (c ∷ cs) ≤ 64 → count ≤ length (records_after base f (c ∷ cs))
       → GoesDown base (c ∷ cs) (stopped_commit f.checking made_room (c ∷ cs) count) f
       (after_stop f (accepted_after base f (c ∷ cs)) (take count (records_after base f (c ∷ cs))))
 
-  -- so does one that stops in the checkpoint before its commit: what was durable is accepted there
+  -- so is a round that stops in the checkpoint before its commit: accepted there is what was durable
   abbrev pub CrashedCheckpointsRun : Type 0
   CrashedCheckpointsRun = (base : State) (f : World A) (popped : List (Command A)) → IsIdle f → length popped ≤ 64
       → GoesDown base popped (stopped_checkpoint f.checking popped) f (after_stop f f.accepted [])
 
-  -- two rounds, one after the other, go by one run that pops the commands of both
+  -- two rounds, one after the other, are one run that pops the commands of both
   abbrev pub RoundsFollow : Type 0
   RoundsFollow = (base : State) (ps qs : List (Command A)) (es fs : List (Event A)) (f g h : World A)
       → Goes base ps es f g → Goes base qs fs g h → Goes base (ps ++ qs) (es ++ fs) f h
 
-  -- so too where the second one stops
+  -- so are two rounds whose second one stops
   abbrev pub StopsFollow : Type 0
   StopsFollow = (base : State) (ps qs : List (Command A)) (es fs : List (Event A)) (f g h : World A)
       → Goes base ps es f g → GoesDown base qs fs g h → GoesDown base (ps ++ qs) (es ++ fs) f h

@@ -1,4 +1,4 @@
--- The centre as a machine over events: its world.
+-- The world of the centre as a machine over events.
 use Rattle.std.specs.Prelude.{ℕ, zero, suc, Bool, false, List, [], replicate, slice_index_or, slice_set, Option, None}
 use Rattle.std.proofs.Common.{arith}
 use Rattle.registration.specs.Numbers.{Station}
@@ -36,26 +36,28 @@ ground = empty greatest
 abbrev pub Entry : Type 0 → Type 0
 Entry A = Command A × Reply A
 
--- a station's part: what it submitted that is not sealed, oldest first, and how many accepted commands it has seen
+-- a station: the commands that it submitted and that are not sealed, oldest first, and how many accepted commands it has seen
 pub record Line (A : Type 0) : Type 0 where
   pub queue : List (Command A)
   pub seen : Count
 
--- the lines of the stations from 1 on, the batch that is sealed, and the commands accepted since the base; how many of these are durable and how many are published; the batch of a commit at work with its replies, if one is; what is to be answered, and all that was answered; whether a checkpoint is under way, and whether the centre is down
+-- the lines of the stations from 1 on; the sealed batch; the commands accepted since the base, how many of them are durable,
+-- and how many published; the batch of the commit in flight with its replies, if there is one; the entries that are owed, and
+-- those that were answered; whether a checkpoint is under way, and whether the centre is down
 pub record World (A : Type 0) : Type 0 where
   pub lines : List (Line A)
   pub batch : List (Command A)
   pub accepted : List (Command A)
   pub durable : Count
   pub published : Count
-  pub flying : Option (List (Entry A))
+  pub in_flight : Option (List (Entry A))
   pub owed : List (Entry A)
   pub answers : List (Entry A)
   pub checking : Bool
   pub down : Bool
 
 module _ {A : Type 0} where
-  -- a station's line: what is queued, and how many accepted commands it has seen
+  -- a station's line: its queue, and how many accepted commands it has seen
   abbrev pub line : List (Command A) → Station → Line A
   line q s = record { queue = q; seen = s }
 
@@ -67,14 +69,14 @@ module _ {A : Type 0} where
     accepted = [];
     durable = 0;
     published = 0;
-    flying = None;
+    in_flight = None;
     owed = [];
     answers = [];
     checking = false;
     down = false;
   }
 
-  -- the line of a station, counted from 1; an empty one where there is no such station
+  -- the line of a station, counted from 1; an empty line where there is no such station
   abbrev pub line_of : List (Line A) → Station → Line A
   line_of lines zero = line [] 0
   line_of lines (suc k) = slice_index_or lines k (line [] 0)
@@ -84,7 +86,7 @@ module _ {A : Type 0} where
   with_line lines zero x = lines
   with_line lines (suc k) x = slice_set lines k x
 
-  -- what a station submitted that is not sealed
+  -- the commands that a station submitted and that are not sealed
   abbrev pub queue_of : World A → Station → List (Command A)
   queue_of w s = (line_of w.lines s).queue
 

@@ -1,4 +1,4 @@
-//! A batch and the register.
+//! What a batch does to the register.
 
 ghost use Rattle.std.specs.Prelude.{◌≡◌, ◌==◌, ◌++◌, ◌∷◌, [], IfOk, OnOk, find, reverse};
 ghost use Rattle.std.specs.Option.{option_copied};
@@ -6,7 +6,7 @@ ghost use Rattle.centre_core.specs.History.{next, after};
 ghost use Rattle.centre_core.specs.InTurn.{reply_to};
 ghost use Rattle.centre_core.specs.Batches.{with_replies, accepted_of, taken};
 ghost use Rattle.schedule.specs.World.{Entry, ground};
-ghost use Rattle.schedule.specs.Next.{told, last_answer};
+ghost use Rattle.schedule.specs.Next.{answer_from, last_answer};
 
 use centre_core::{Command, Register, Reply};
 use prefix_tree::TryCopy;
@@ -23,7 +23,7 @@ const GREATEST: Limits = Limits {
     stations: STATION_CAPACITY,
 };
 
-/// The same command in memory of its own.
+/// A copy of the command, allocated in `alloc`.
 #[tactic(auto, using(centre_core::proofs::SameLaws::under_own))]
 pub(crate) fn copy_of<A: Allocator + Copy>(
     alloc: A,
@@ -34,7 +34,7 @@ pub(crate) fn copy_of<A: Allocator + Copy>(
     command.try_copy(alloc)
 }
 
-// The reply to a command goes to the replies, and the command to the news where it is accepted.
+// Applies a command. Its reply is added to the replies, and the command to the news if it is accepted.
 fn judge_one<A: Allocator + Copy>(
     register: &mut Register<A>,
     command: &Command<A>,
@@ -54,13 +54,16 @@ fn judge_one<A: Allocator + Copy>(
     Ok(())
 }
 
-// The replies to a batch in turn, and its commands that are accepted.
+// The replies to a batch in turn, and its accepted commands.
 fn judge<A: Allocator + Copy>(
     alloc: A,
     register: &mut Register<A>,
     batch: &[Command<A>],
 ) -> Result<(Vec<(Command<A>, Reply<A>), A>, Vec<Command<A>, A>), AllocError>
-    ensures { IfOk result (λ r. (r.0.items ≡ with_replies A register.old batch.now) × (r.1.items ≡ taken register.old batch.now) × (register.new ≡ after register.old batch.now)) }
+    ensures { IfOk result (λ r.
+        (r.0.items ≡ with_replies A register.old batch.now)
+        × (r.1.items ≡ taken register.old batch.now)
+        × (register.new ≡ after register.old batch.now)) }
 {
     let mut replies = Vec::new(alloc);
     let mut news = Vec::new(alloc);
@@ -70,7 +73,7 @@ fn judge<A: Allocator + Copy>(
     Ok((replies, news))
 }
 
-/// The register after a batch, the replies to it in turn, and its commands that are accepted.
+/// The register after a batch, the replies in turn, and the accepted commands of the batch.
 pub(crate) fn judged<A: Allocator + Copy>(
     alloc: A,
     register: &Register<A>,
@@ -83,7 +86,10 @@ pub(crate) fn judged<A: Allocator + Copy>(
     ),
     AllocError,
 >
-    ensures { IfOk result (λ r. (r.0 ≡ after register.now batch.now) × (r.1.items ≡ with_replies A register.now batch.now) × (r.2.items ≡ taken register.now batch.now)) }
+    ensures { IfOk result (λ r.
+        (r.0 ≡ after register.now batch.now)
+        × (r.1.items ≡ with_replies A register.now batch.now)
+        × (r.2.items ≡ taken register.now batch.now)) }
 {
     let mut next = register.try_copy()?;
     match judge(alloc, &mut next, batch) {
@@ -116,9 +122,9 @@ pub(crate) fn replay<A: Allocator + Copy>(
     Ok(register)
 }
 
-/// The answer that a reply becomes: an acceptance is told as one only where all is published.
-pub(crate) fn tell<A: Allocator>(all: bool, reply: Reply<A>) -> Reply<A>
-    ensures { result ≡ told all reply }
+/// The answer that is given for a reply. An acceptance is answered as one only if all that is durable is published.
+pub(crate) fn answer_from<A: Allocator>(all: bool, reply: Reply<A>) -> Reply<A>
+    ensures { result ≡ answer_from all reply }
 {
     match reply {
         Reply::Accepted { number, pdu } => {

@@ -42,10 +42,14 @@ fn place_of<A: Allocator>(entries: &[(Command<A>, Reply<A>)], station: Station) 
     entries.iter().position(|entry| entry.0.station == station)
 }
 
-// Where the first entry of the station stands.
+// The place of the first entry of the station.
 #[tactic(auto, using(crate::proofs::Placing::placed))]
 fn first_place<A: Allocator>(entries: &[(Command<A>, Reply<A>)], station: Station) -> Option<usize>
-    ensures { MatchOption result (first_of station entries.now ≡ []) (λ i. (i < length entries.now) × (without_first station entries.now ≡ take i entries.now ++ drop (i + 1) entries.now) × ((d : Entry A) → first_of station entries.now ≡ slice_index_or entries.now i d ∷ []) × (is_empty (first_of station entries.now) ≡ false)) }
+    ensures { MatchOption result (first_of station entries.now ≡ []) (λ i.
+        (i < length entries.now)
+        × (without_first station entries.now ≡ take i entries.now ++ drop (i + 1) entries.now)
+        × ((d : Entry A) → first_of station entries.now ≡ slice_index_or entries.now i d ∷ [])
+        × (is_empty (first_of station entries.now) ≡ false)) }
 {
     place_of(entries, station)
 }
@@ -57,11 +61,11 @@ impl<A: Allocator> Entries<A> {
         Entries { items }
     }
 
-    /// Those of a commit at work, or none.
-    pub(crate) fn of(alloc: A, flying: Option<Self>) -> Self
-        ensures { result ≡ replies_of flying }
+    /// The entries of the commit in flight; none where there is no such commit.
+    pub(crate) fn of(alloc: A, in_flight: Option<Self>) -> Self
+        ensures { result ≡ replies_of in_flight }
     {
-        match flying {
+        match in_flight {
             Some(entries) => entries,
             None => Entries::new(Vec::new(alloc)),
         }
@@ -73,21 +77,21 @@ impl<A: Allocator> Entries<A> {
         self.items.is_empty()
     }
 
-    /// How many records they are as a commit: one of all that is accepted, or none where nothing is.
+    /// The number of records of their commit: one with all accepted commands, or none if nothing is accepted.
     pub(crate) fn records(&self) -> usize
         ensures { result ≡ length (cut (accepted_of self.now)) }
     {
         if any_accepted(&self.items) { 1 } else { 0 }
     }
 
-    /// Whether one of them is of the station.
+    /// Whether the station has an entry.
     pub(crate) fn has(&self, station: Station) -> bool
         ensures { result ≡ not (is_empty (first_of station self.now)) }
     {
         first_place(&self.items, station).is_some()
     }
 
-    /// Takes out the first one of the station.
+    /// Removes the first entry of the station, and returns it.
     pub(crate) fn take_first(&mut self, station: Station) -> (Command<A>, Reply<A>)
         requires { not (is_empty (first_of station self.old)) ≡ true }
         ensures first { first_of station self.old ≡ result ∷ [] }

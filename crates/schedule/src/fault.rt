@@ -1,8 +1,8 @@
-/// Why an event did not come. Nothing is changed then.
+/// Why an event was refused. Nothing is changed then.
 #[derive(Drop, Clone, Copy, Debug, PartialEq)]
 pub enum StepFault {
     /// Its condition does not hold, or the world has no such station.
     NotNow,
-    /// There was no memory for it.
+    /// It ran out of memory.
     NoMemory,
 }

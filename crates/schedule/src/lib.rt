@@ -1,9 +1,9 @@
-//! The centre as a machine over lists of events.
+//! The centre as a machine over lists of events. It touches only memory: it has no disk and starts no thread, and serves
+//! as the model of a centre that has both.
 //!
-//! [`World`] is the register with its queues, batches, commits, publications, answers, reads, crashes and
-//! reopenings, one [`Event`] at a time. What may happen next and what it does are `may` and `effect` of
-//! `specs/Next.antt`; what holds of every list of events stands in [`laws`]. The machine keeps no disk and
-//! starts no thread: it is the words in which a centre that does both is spoken of.
+//! [`World`] is the register with its queues, batches, commits, publications, answers, reads, crashes and reopenings. It
+//! takes one [`Event`] at a time. `may` and `effect` of `specs/Next.antt` define which events may come next, and what they
+//! do. [`laws`] has what holds over every list of events.
 #![tactic(auto)]
 
 mod batch;

@@ -2,7 +2,7 @@
 
 ghost use Rattle.std.specs.Prelude.{◌≡◌, ◌++◌, ◌∷◌, [], IfOk, OnOk, OnErr, true, not, cond, drop, replicate};
 ghost use Rattle.schedule.specs.World.{line, line_of, with_line};
-ghost use Rattle.schedule.specs.Next.{is_empty, is_place, front, emptied, unread};
+ghost use Rattle.schedule.specs.Next.{is_empty, is_place, first_one, emptied, unread};
 
 use crate::station::Station;
 use centre_core::Command;
@@ -54,7 +54,7 @@ fn forget_all<A: Allocator>(stations: &mut Vec<Station<A>, A>)
 }
 
 impl<A: Allocator + Copy> Seats<A> {
-    /// So many stations with nothing queued and nothing seen.
+    /// So many stations, with nothing queued and nothing seen.
     pub(crate) fn new(alloc: A, sessions: u16) -> Result<Self, AllocError>
         ensures { IfOk result (λ seats. seats ≡ replicate sessions (line [] 0)) }
     {
@@ -72,7 +72,7 @@ impl<A: Allocator> Seats<A> {
         station > 0 && station as usize <= self.stations.len()
     }
 
-    /// Whether the station waits for something to be sealed.
+    /// Whether the station has a command in its queue.
     pub(crate) fn waits(&self, station: u16) -> bool
         requires { is_place self.now station ≡ true }
         ensures { result ≡ not (is_empty (line_of self.now station).queue) }
@@ -80,21 +80,22 @@ impl<A: Allocator> Seats<A> {
         !self.stations[station as usize - 1].is_idle()
     }
 
-    /// Queues a command of the station.
+    /// Adds a command to the station's queue.
     pub(crate) fn submit(&mut self, station: u16, command: Command<A>) -> Result<(), AllocError>
         requires { is_place self.old station ≡ true }
-        ensures ok { OnOk result (self.new ≡ with_line self.old station (line ((line_of self.old station).queue ++ command ∷ []) (line_of self.old station).seen)) }
+        ensures ok { OnOk result (self.new ≡ with_line self.old station
+            (line ((line_of self.old station).queue ++ command ∷ []) (line_of self.old station).seen)) }
         ensures err { OnErr result (self.new ≡ self.old) }
     {
         self.stations[station as usize - 1].submit(command)?;
         Ok(())
     }
 
-    /// Takes the first command of the station's queue.
+    /// Removes the first command of the station's queue, and returns it.
     pub(crate) fn seal(&mut self, station: u16) -> Command<A>
         requires place { is_place self.old station ≡ true }
         requires waits { not (is_empty (line_of self.old station).queue) ≡ true }
-        ensures first { front (line_of self.old station).queue ≡ result ∷ [] }
+        ensures first { first_one (line_of self.old station).queue ≡ result ∷ [] }
         ensures rest { self.new ≡ with_line self.old station (line (drop 1 (line_of self.old station).queue) (line_of self.old station).seen) }
     {
         self.stations[station as usize - 1].seal()
@@ -108,22 +109,22 @@ impl<A: Allocator> Seats<A> {
         self.stations[station as usize - 1].see(count);
     }
 
-    /// The station is answered: by an acceptance it has seen all that is published.
-    pub(crate) fn hear(&mut self, station: u16, accepted: bool, published: usize)
+    /// The station gets an answer. After an acceptance it has seen all that is published.
+    pub(crate) fn take_answer(&mut self, station: u16, accepted: bool, published: usize)
         requires { is_place self.old station ≡ true }
         ensures { self.new ≡ with_line self.old station (line (line_of self.old station).queue (cond accepted published (line_of self.old station).seen)) }
     {
-        self.stations[station as usize - 1].hear(accepted, published);
+        self.stations[station as usize - 1].take_answer(accepted, published);
     }
 
-    /// Nothing is queued any more.
+    /// Empties the queues.
     pub(crate) fn fall(&mut self)
         ensures { self.new ≡ emptied self.old }
     {
         fall_all(&mut self.stations);
     }
 
-    /// Nothing is seen any more.
+    /// No station has seen anything.
     pub(crate) fn forget(&mut self)
         ensures { self.new ≡ unread self.old }
     {

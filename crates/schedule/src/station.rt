@@ -6,8 +6,8 @@ use centre_core::Command;
 use std::alloc::{AllocError, Allocator};
 use std::marker::Model;
 
-/// A station's part: what it submitted that is not sealed, oldest first, and how many accepted commands
-/// it has seen.
+/// A station: the commands that it submitted and that are not sealed, oldest first, and how many accepted
+/// commands it has seen.
 #[derive(Drop)]
 pub(crate) struct Station<A: Allocator> {
     queue: Vec<Command<A>, A>,
@@ -60,7 +60,7 @@ impl<A: Allocator> Station<A> {
         self.seen = count;
     }
 
-    pub(crate) fn hear(&mut self, accepted: bool, published: usize)
+    pub(crate) fn take_answer(&mut self, accepted: bool, published: usize)
         ensures { self.new ≡ line self.old.queue (cond accepted published self.old.seen) }
     {
         if accepted {

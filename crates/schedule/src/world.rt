@@ -3,7 +3,7 @@
 ghost use Rattle.std.specs.Prelude.{◌≡◌, ◌<◌, ◌≤◌, ◌++◌, true, IfOk, OnOk, IfErr, OnErr, length, take};
 ghost use Rattle.std.specs.Option.{option_copied};
 ghost use Rattle.schedule.specs.World.{ground, opening};
-ghost use Rattle.schedule.specs.Next.{is_station, is_still, may, effect, all_of, grows, Next, IsRefused, records_of, last_answer};
+ghost use Rattle.schedule.specs.Next.{is_station, is_still, may, effect, all_of, takes_memory, Next, IsRefused, records_of, last_answer};
 
 use crate::batch;
 use crate::entries::Entries;
@@ -19,8 +19,8 @@ use std::mem;
 /// The most commands of a batch.
 const MOST_SEALED: usize = 64;
 
-/// The centre as a machine over events, from a register in which nothing was accepted. It keeps everything
-/// under its own allocator.
+/// The centre as a machine over events. It starts from a register with no accepted command, and keeps everything in
+/// its own allocator.
 #[derive(Drop)]
 pub struct World<A: Allocator> {
     alloc: A,
@@ -29,31 +29,43 @@ pub struct World<A: Allocator> {
     accepted: Vec<Command<A>, A>,
     durable: usize,
     published: usize,
-    flying: Option<Entries<A>>,
+    in_flight: Option<Entries<A>>,
     owed: Entries<A>,
     answers: Vec<(Command<A>, Reply<A>), A>,
     checking: bool,
     down: bool,
-    // After all that is accepted.
+    // The register after all that is accepted.
     register: Register<A>,
 }
 
 impl<A: Allocator> Model for World<A> {
     ghost use Rattle.std.specs.Prelude.{◌≡◌, ◌≤◌, length};
     ghost use Rattle.centre_core.specs.History.{after};
-    ghost use Rattle.schedule.specs.Next.{IsFlown};
+    ghost use Rattle.schedule.specs.Next.{IsInFlight};
     ghost use Rattle.schedule.specs.World.{World as Machine, ground};
 
     ghost Value = { Machine A };
 
-    ghost view = { λ w. record { lines = w.seats; batch = w.batch.items; accepted = w.accepted.items; durable = w.durable; published = w.published; flying = w.flying; owed = w.owed; answers = w.answers.items; checking = w.checking; down = w.down } };
+    ghost view = { λ w. record {
+      lines = w.seats;
+      batch = w.batch.items;
+      accepted = w.accepted.items;
+      durable = w.durable;
+      published = w.published;
+      in_flight = w.in_flight;
+      owed = w.owed;
+      answers = w.answers.items;
+      checking = w.checking;
+      down = w.down;
+    } };
 
-    ghost invariant = { λ w. (w.register ≡ after ground w.accepted.items) × (w.durable ≤ length w.accepted.items) × IsFlown w.down w.durable w.accepted.items w.flying };
+    ghost invariant = { λ w. (w.register ≡ after ground w.accepted.items) × (w.durable ≤ length w.accepted.items)
+        × IsInFlight w.down w.durable w.accepted.items w.in_flight };
 }
 
 impl<A: Allocator + Copy> World<A> {
-    /// A world of so many sessions, 1 to 64, their stations counted from 1: nothing was submitted, accepted
-    /// or answered.
+    /// A world of so many sessions, 1 to 64, whose stations are counted from 1. Nothing was submitted, accepted or
+    /// answered.
     pub fn new(alloc: A, sessions: u16) -> Result<Self, AllocError>
         requires above { 0 < sessions }
         requires below { sessions ≤ 64 }
@@ -66,7 +78,7 @@ impl<A: Allocator + Copy> World<A> {
             accepted: Vec::new(alloc),
             durable: 0,
             published: 0,
-            flying: None,
+            in_flight: None,
             owed: Entries::new(Vec::new(alloc)),
             answers: Vec::new(alloc),
             checking: false,
@@ -84,7 +96,7 @@ impl<A: Allocator + Copy> World<A> {
     fn is_still(&self) -> bool
         ensures { result ≡ is_still self.now }
     {
-        !self.down && self.flying.is_none()
+        !self.down && self.in_flight.is_none()
     }
 
     fn may_seal(&self, station: Station) -> bool
@@ -112,7 +124,7 @@ impl<A: Allocator + Copy> World<A> {
     fn may_crash(&self, count: usize) -> bool
         ensures { result ≡ may self.now (Event.Crash count) }
     {
-        let records = match &self.flying {
+        let records = match &self.in_flight {
             None => 0,
             Some(flight) => flight.records(),
         };
@@ -128,7 +140,7 @@ impl<A: Allocator + Copy> World<A> {
             }
             Event::Seal(station) => self.may_seal(*station),
             Event::CommitBegin => self.may_commit(),
-            Event::CommitEnd => self.flying.is_some(),
+            Event::CommitEnd => self.in_flight.is_some(),
             Event::Publish => self.is_still(),
             Event::Answer(station) => self.may_answer(*station),
             Event::Read(station) => self.is_station(*station),
@@ -171,7 +183,7 @@ impl<A: Allocator + Copy> World<A> {
             return Err(error);
         }
         drop(mem::replace(&mut self.register, register));
-        self.flying = Some(Entries::new(replies));
+        self.in_flight = Some(Entries::new(replies));
         Ok(())
     }
 
@@ -179,7 +191,7 @@ impl<A: Allocator + Copy> World<A> {
         requires { may self.old Event.CommitEnd ≡ true }
         ensures { self.new ≡ effect ground self.old Event.CommitEnd }
     {
-        self.owed = Entries::of(self.alloc, self.flying.take());
+        self.owed = Entries::of(self.alloc, self.in_flight.take());
         self.durable = self.accepted.len();
         self.batch.clear(); // each is answered once
     }
@@ -215,10 +227,11 @@ impl<A: Allocator + Copy> World<A> {
     {
         self.answers.reserve(1)?;
         let (command, reply) = self.owed.take_first(station);
-        let told = batch::tell(self.published == self.durable, reply);
-        let accepted = told.is_acceptance();
-        self.seats.hear(station.number(), accepted, self.published);
-        self.answers.push_reserved((command, told));
+        let answer = batch::answer_from(self.published == self.durable, reply);
+        let accepted = answer.is_acceptance();
+        self.seats
+            .take_answer(station.number(), accepted, self.published);
+        self.answers.push_reserved((command, answer));
         Ok(())
     }
 
@@ -228,10 +241,11 @@ impl<A: Allocator + Copy> World<A> {
         self.checking = checking;
     }
 
-    // How many commands a crash leaves, where so many records came through.
+    // The number of commands after a crash, where so many records reached the disk.
     fn left_length(&self, count: usize) -> usize
         requires { may self.now (Event.Crash count) ≡ true }
-        ensures front { take result self.now.accepted ≡ take self.now.durable self.now.accepted ++ all_of (take count (records_of self.now.flying)) }
+        ensures prefix { take result self.now.accepted
+            ≡ take self.now.durable self.now.accepted ++ all_of (take count (records_of self.now.in_flight)) }
         ensures durable { self.now.durable ≤ result }
         ensures within { result ≤ length self.now.accepted }
     {
@@ -252,7 +266,7 @@ impl<A: Allocator + Copy> World<A> {
         self.seats.fall();
         self.batch.clear();
         self.accepted.truncate(length);
-        self.flying = None;
+        self.in_flight = None;
         self.owed.clear();
         self.checking = false;
         self.down = true;
@@ -264,7 +278,7 @@ impl<A: Allocator + Copy> World<A> {
         requires { may self.old event.now ≡ true }
         ensures ok { OnOk result (self.new ≡ effect ground self.old event.now) }
         ensures err { OnErr result (self.new ≡ self.old) }
-        ensures memory { OnErr result (grows event.now ≡ true) }
+        ensures memory { OnErr result (takes_memory event.now ≡ true) }
     {
         match event {
             Event::Submit(station, command) => self.submit(*station, command)?,
@@ -282,9 +296,9 @@ impl<A: Allocator + Copy> World<A> {
         Ok(())
     }
 
-    /// One event: `NotNow` exactly where it may not come, `NoMemory` where it may and there is no memory
-    /// for it. Either changes nothing. `CommitEnd`, `Publish`, `Read`, `Reopen` and the two events of a
-    /// checkpoint take no memory.
+    /// Takes one event. `NotNow`: the event may not come. `NoMemory`: it may, but memory ran out. Either fault
+    /// changes nothing. `CommitEnd`, `Publish`, `Read`, `Reopen` and the two events of a checkpoint take no
+    /// memory.
     pub fn step(&mut self, event: &Event<A>) -> Result<(), StepFault>
         ensures ok { OnOk result (Next ground self.old event.now self.new) }
         ensures refused { IfErr result (λ fault. IsRefused self.old event.now fault × (self.new ≡ self.old)) }
@@ -305,14 +319,14 @@ impl<A: Allocator + Copy> World<A> {
         self.accepted.len() as u64
     }
 
-    /// How many of these are durable.
+    /// How many of the accepted commands are durable.
     pub fn durable(&self) -> u64
         ensures { result ≡ self.now.durable }
     {
         self.durable as u64
     }
 
-    /// How many of these are published.
+    /// How many of the accepted commands are published.
     pub fn published(&self) -> u64
         ensures { result ≡ self.now.published }
     {

@@ -21,7 +21,7 @@ const UNDER_WAY: [Step; 11] = [
     (Made::CheckpointEnd, true, (1, 1, 1)),
 ];
 
-/// One begins after a commit's end, and ends after the end of the next commit.
+/// A checkpoint begins after a commit's end, and ends after the end of the next commit.
 const WITH_COMMITS: [Step; 17] = [
     (Made::Submit(1, 1), true, (0, 0, 0)),
     (Made::Submit(1, 2), true, (0, 0, 0)),
@@ -42,7 +42,7 @@ const WITH_COMMITS: [Step; 17] = [
     (Made::Answer(1), true, (2, 2, 2)),
 ];
 
-/// One is given up and another one made before a commit, with what it commits in the batch.
+/// Before a commit, with its commands in the batch, a checkpoint is given up and another one made.
 const BEFORE_A_COMMIT: [Step; 10] = [
     (Made::CheckpointBegin, true, (0, 0, 0)),
     (Made::Submit(1, 1), true, (0, 0, 0)),
@@ -56,7 +56,7 @@ const BEFORE_A_COMMIT: [Step; 10] = [
     (Made::Answer(1), true, (1, 1, 1)),
 ];
 
-/// A crash meets a commit beside a checkpoint, and another one a checkpoint: nothing is under way after them.
+/// A crash stops a commit beside a checkpoint, and another crash a checkpoint. No checkpoint is under way after them.
 const STOPPED: [Step; 16] = [
     (Made::Submit(1, 1), true, (0, 0, 0)),
     (Made::CheckpointBegin, true, (0, 0, 0)),
@@ -76,7 +76,7 @@ const STOPPED: [Step; 16] = [
     (Made::CheckpointEnd, false, (0, 0, 0)),
 ];
 
-/// Whether the row goes so from the start, with one session.
+/// Whether the row goes as stated from the start, with one session.
 fn goes_alone(alloc: Global, row: &[Step]) -> Result<bool, Fail> {
     let mut world = World::new(alloc, 1)?;
     let went = goes(&mut world, row);

@@ -9,7 +9,7 @@ use schedule::Event;
 use std::alloc::Allocator;
 use std::test::Fail;
 
-/// An event, its commands by station and sequence.
+/// An event; its commands are named by station and sequence.
 #[derive(Clone, Copy)]
 pub enum Made {
     /// An `expire` at moment 0.

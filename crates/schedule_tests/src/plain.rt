@@ -1,4 +1,4 @@
-//! The same centre as plain lists of stations and sequences.
+//! The centre once more, as plain lists of stations and sequences.
 
 ghost use Rattle.std.specs.Prelude.{◌<◌, IfSome, length};
 
@@ -8,7 +8,7 @@ use std::alloc::{AllocError, Global};
 /// A command by its station and sequence.
 pub type Sent = (u16, u32);
 
-/// What a world of four stations keeps, as numbers and plain lists.
+/// A world of four stations, as numbers and plain lists.
 #[derive(Drop)]
 pub struct Plain {
     queued: Vec<Sent>,
@@ -35,7 +35,7 @@ fn first_of(list: &[Sent], station: u16) -> Option<usize>
     list.iter().position(|sent| sent.0 == station)
 }
 
-/// The sequence of the station's last one, or 0.
+/// The sequence of the station's last command, or 0.
 fn last_of(list: &[Sent], station: u16) -> u32 {
     let mut last = 0;
     for sent in list {
@@ -61,17 +61,17 @@ impl Plain {
         }
     }
 
-    /// What is accepted, durable and published.
+    /// The numbers of accepted, durable and published commands.
     pub fn numbers(&self) -> (usize, usize, usize) {
         (self.accepted.len(), self.durable, self.published)
     }
 
-    /// Whether all is in order: published, durable, accepted.
+    /// Whether no more is published than durable, and no more durable than accepted.
     pub fn is_in_order(&self) -> bool {
         self.published <= self.durable && self.durable <= self.accepted.len()
     }
 
-    /// The next sequence of a station that was not submitted yet, as far as these lists know.
+    /// The next sequence of a station that was not submitted yet, by these lists.
     pub fn next(&self, station: u16) -> u32 {
         let queued = last_of(&self.queued, station);
         let sealed = last_of(&self.batch, station);
@@ -79,7 +79,7 @@ impl Plain {
         queued.max(sealed).max(accepted).saturating_add(1)
     }
 
-    /// The most records that a crash may let through.
+    /// The most records that can reach the disk at a crash.
     pub fn records(&self) -> usize {
         usize::from(self.at_work && self.durable < self.accepted.len())
     }
@@ -88,7 +88,7 @@ impl Plain {
         !self.down && !self.at_work
     }
 
-    /// The event; whether it came.
+    /// Takes the event, and returns whether it came.
     pub fn step(&mut self, made: Made) -> Result<bool, AllocError> {
         match made {
             Made::Submit(station, sequence) | Made::SubmitRule(station, sequence) => {

@@ -42,7 +42,7 @@ fn same(world: &World<Global>, plain: &Plain) -> bool {
         && world.published() == published as u64
 }
 
-/// Whether so many events go alike in both; how many of them came.
+/// How many of so many random events came; an error if the world and the plain lists differ.
 fn alike(world: &mut World<Global>, plain: &mut Plain, events: u32) -> Result<u32, Fail> {
     let (mut number, mut came) = (1u64, 0u32);
     for _ in 0..events {

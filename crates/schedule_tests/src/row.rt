@@ -1,4 +1,4 @@
-//! The worked row: a rule and an `expire` of two stations, a commit that a crash meets, and a resend after it.
+//! The worked row: a rule and an `expire` of two stations, a commit that a crash stops, and a resend after it.
 
 use crate::commands::Made;
 use crate::steps::{Step, goes};

@@ -1,4 +1,4 @@
-//! Refused growths change nothing.
+//! Refused allocations change nothing.
 
 use crate::commands::{Made, event};
 use linked_list_allocator::LocalHeap;
@@ -7,7 +7,7 @@ use schedule::{StepFault, World};
 use std::alloc::Global;
 use std::test::Fail;
 
-/// The events of a round, sequences counted from the round's first; its crash comes in the last round alone.
+/// The events of a round, with sequences counted from the round's first. The crash comes only in the last round.
 const ROUND: [Made; 15] = [
     Made::Submit(1, 1),
     Made::Submit(1, 2),
@@ -28,7 +28,7 @@ const ROUND: [Made; 15] = [
 
 const LAST_ROUND: u32 = 19;
 
-/// What the event is in that round.
+/// The event as it is in that round.
 fn made_in(round: u32, made: Made) -> Made {
     match made {
         Made::Submit(station, sequence) => Made::Submit(
@@ -49,8 +49,8 @@ fn numbers(world: &World<&LocalHeap>) -> (u64, u64, u64, bool) {
     )
 }
 
-/// A round in this world: the place of the first event for which there is no memory, if there is one, and
-/// whether that event changed nothing.
+/// A round in this world: the place of the first event that runs out of memory, if there is one, and whether
+/// that event changed nothing.
 fn refused_in(
     heap: &LocalHeap,
     world: &mut World<&LocalHeap>,
@@ -81,7 +81,7 @@ fn refused_first(
     Ok(None)
 }
 
-/// All rounds in a heap of this size, as above; nothing is refused where there is no room for a world.
+/// All rounds in a heap of this size, as above. Nothing is refused if there is no room for a world.
 fn refused(alloc: Global, size: usize) -> Result<Option<(usize, bool)>, Fail> {
     let heap = LocalHeap::new(alloc, size)?;
     let Ok(mut world) = World::new(&heap, 1) else {
@@ -92,7 +92,7 @@ fn refused(alloc: Global, size: usize) -> Result<Option<(usize, bool)>, Fail> {
     stop
 }
 
-/// How many places of a round had no memory in some heap; an error where that changed something.
+/// How many events of a round ran out of memory in some heap; an error if one of them changed something.
 fn places_refused(alloc: Global) -> Result<usize, Fail> {
     let mut places = [false; 15];
     for pieces in 0..512usize {

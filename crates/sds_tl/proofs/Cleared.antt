@@ -18,18 +18,18 @@ use Rattle.sds_tl.proofs.Written.{canon_room, canon_spells}
 use Rattle.sds_tl.proofs.Heads.{heads_agree}
 
 -- a part in the middle makes way for another
-changed : (front part behind bits other : List Bool) (at w : ℕ) → length front ≡ at → length part ≡ w → bits ≡ front ++ (part ++ behind) → take at bits ++ other ++ drop (at + w) bits ≡ front ++ (other ++ behind)
-changed front part behind bits other at w len width is =
-    let before : take at bits ≡ front = ap (take at) is ∙ take_at front (part ++ behind) at len in
-    let after : drop (at + w) bits ≡ behind = skipped at w part bits behind width (ap (drop at) is ∙ drop_at front (part ++ behind) at len) in
-    rw (before, after) (append_assoc front other behind)
+changed : (prefix part following bits other : List Bool) (at w : ℕ) → length prefix ≡ at → length part ≡ w → bits ≡ prefix ++ (part ++ following) → take at bits ++ other ++ drop (at + w) bits ≡ prefix ++ (other ++ following)
+changed prefix part following bits other at w len width is =
+    let before : take at bits ≡ prefix = ap (take at) is ∙ take_at prefix (part ++ following) at len in
+    let after : drop (at + w) bits ≡ following = skipped at w part bits following width (ap (drop at) is ∙ drop_at prefix (part ++ following) at len) in
+    rw (before, after) (append_assoc prefix other following)
 
-report_front : (i t reserved s r user_data : List Bool) (acknowledge control : Bool)
+report_prefix : (i t reserved s r user_data : List Bool) (acknowledge control : Bool)
     → i ++ t ++ acknowledge ∷ reserved ++ control ∷ s ++ r ++ user_data ≡ (i ++ (t ++ (acknowledge ∷ []))) ++ (reserved ++ (control ∷ (s ++ (r ++ user_data))))
-report_front i t reserved s r user_data acknowledge control = simp append_assoc
+report_prefix i t reserved s r user_data acknowledge control = simp append_assoc
 
-ack_front : (i t reserved s r : List Bool) → i ++ t ++ reserved ++ s ++ r ≡ (i ++ t) ++ (reserved ++ (s ++ r))
-ack_front i t reserved s r = simp append_assoc
+ack_prefix : (i t reserved s r : List Bool) → i ++ t ++ reserved ++ s ++ r ≡ (i ++ t) ++ (reserved ++ (s ++ r))
+ack_prefix i t reserved s r = simp append_assoc
 
 module _ (A : Type 0) where
   pub cleared_is_canon : (sds : Sds A) (bits : List Bool) → Spells sds bits → cleared bits ≡ canon sds
@@ -37,12 +37,12 @@ module _ (A : Type 0) where
   cleared_is_canon (Transfer i q s r d) bits spells = rw (type_is A (Transfer i q s r d) bits spells) spells.is
   cleared_is_canon (Report i a s r d) bits spells =
       rw (type_is A (Report i a s r d) bits spells)
-      (changed (num 8 i ++ (num 4 1 ++ (a ∷ []))) spells.reserved (false ∷ (num 8 s ++ (num 8 r ++ d))) bits (false ∷ false ∷ []) 13 2 (simp (length-append, length-num) refl) spells.width (spells.is ∙ report_front (num 8 i) (num 4 1) spells.reserved (num 8 s) (num 8 r) d a false)
-      ∙ sym (report_front (num 8 i) (num 4 1) (false ∷ false ∷ []) (num 8 s) (num 8 r) d a false))
+      (changed (num 8 i ++ (num 4 1 ++ (a ∷ []))) spells.reserved (false ∷ (num 8 s ++ (num 8 r ++ d))) bits (false ∷ false ∷ []) 13 2 (simp (length-append, length-num) refl) spells.width (spells.is ∙ report_prefix (num 8 i) (num 4 1) spells.reserved (num 8 s) (num 8 r) d a false)
+      ∙ sym (report_prefix (num 8 i) (num 4 1) (false ∷ false ∷ []) (num 8 s) (num 8 r) d a false))
   cleared_is_canon (Ack i s r) bits spells =
       rw (type_is A (Ack i s r) bits spells)
-      (changed (num 8 i ++ num 4 2) spells.reserved (num 8 s ++ num 8 r) bits (replicate 4 false) 12 4 (simp (length-append, length-num) refl) spells.width (spells.is ∙ ack_front (num 8 i) (num 4 2) spells.reserved (num 8 s) (num 8 r))
-      ∙ sym (ack_front (num 8 i) (num 4 2) (replicate 4 false) (num 8 s) (num 8 r)))
+      (changed (num 8 i ++ num 4 2) spells.reserved (num 8 s ++ num 8 r) bits (replicate 4 false) 12 4 (simp (length-append, length-num) refl) spells.width (spells.is ∙ ack_prefix (num 8 i) (num 4 2) spells.reserved (num 8 s) (num 8 r))
+      ∙ sym (ack_prefix (num 8 i) (num 4 2) (replicate 4 false) (num 8 s) (num 8 r)))
 
   pub cleared_spells : (sds : Sds A) (bits : List Bool) → Spells sds bits → Spells sds (cleared bits)
   cleared_spells sds bits spells = subst (λ (t : List Bool). Spells sds t) (sym (cleared_is_canon sds bits spells)) (canon_spells A sds spells.range (canon_room A sds bits spells))

@@ -1,4 +1,4 @@
--- No fault of bits, and none of a PDU that is written, is want of memory.
+-- No fault of bits, and none of a PDU that is written, is out of memory.
 use Rattle.std.proofs.Common.{ℕ, Bool, true, false, cond, List, Option, Some, None, Ok, Err}
 use Rattle.std.specs.Prelude.{◌≢◌, ◌==◌, nat_lt, length}
 use Rattle.sds_tl.specs.declared.fault.SdsFault.{SdsFault}

@@ -91,3 +91,7 @@ data_passes begin bits control room = rw (control, le-ltb (length bits) begin ro
 pub ack_passes : (bits : List Bool) → length bits ≡ 32 → ack_fault bits ≡ None
 unfolding ack_fault
 ack_passes bits len = rw len refl
+
+pub ruleset head_fits = (header_of, transfer_room, report_room, ack_room)
+
+pub ruleset fields_fit = (layer_of, header_of, transfer_room, report_room, ack_room)

@@ -12,12 +12,12 @@ unfolding num
 one_bit true = refl
 one_bit false = refl
 
--- w bits, written as the number that they are, and those behind them
+-- w bits, written as the number that they are, and those after them
 pub piece_back : (w : ℕ) (bits : List Bool) → w ≤ length bits → num w (number (take w bits)) ++ drop w bits ≡ bits
 piece_back w bits le =
     let len : length (take w bits) ≡ w = length-take-le w bits le in
-    let front : num w (number (take w bits)) ≡ take w bits = ap (λ (n : ℕ). num n (number (take w bits))) (sym len) ∙ num-number (take w bits) in
-    ap (λ (t : List Bool). t ++ drop w bits) front ∙ take-append-drop w bits
+    let prefix : num w (number (take w bits)) ≡ take w bits = ap (λ (n : ℕ). num n (number (take w bits))) (sym len) ∙ num-number (take w bits) in
+    ap (λ (t : List Bool). t ++ drop w bits) prefix ∙ take-append-drop w bits
 
 -- what a piece that is read and put on leaves
 pub copied : (writer reader writer' reader' : List Bool) (w piece : ℕ) → w ≤ length reader → piece ≡ number (take w reader) → writer' ≡ writer ++ num w piece → reader' ≡ drop w reader
@@ -31,7 +31,7 @@ field_small at w bits le =
     let h = number-lt (take w (drop at bits)) in
     rw (length-take-le w (drop at bits) room) at h
 
--- the field at a place, and the bits behind it
+-- the field at a place, and the bits after it
 pub split : (at w : ℕ) (bits : List Bool) → at + w ≤ length bits → drop at bits ≡ num w (field at w bits) ++ drop (at + w) bits
 split at w bits le =
     let room : w ≤ length (drop at bits) = omega (arith, length-drop at bits) in
@@ -43,15 +43,15 @@ bit_of zero lt = refl
 bit_of (suc zero) lt = refl
 bit_of (suc (suc n)) lt = absurd (omega arith)
 
--- the bit at a place, and the bits behind it
+-- the bit at a place, and the bits after it
 pub split_bit : (at : ℕ) (bits : List Bool) → at + 1 ≤ length bits → drop at bits ≡ flag at bits ∷ drop (at + 1) bits
 split_bit at bits le = split at 1 bits le ∙ ap (λ (t : List Bool). t ++ drop (at + 1) bits) (bit_of (field at 1 bits) (field_small at 1 bits le))
 
--- What stands at a place is found there, and so are the bits behind it.
-pub found : (at w v : ℕ) (bits behind : List Bool) → v < 2 ^ w → drop at bits ≡ num w v ++ behind → (field at w bits ≡ v) × (drop (at + w) bits ≡ behind)
-found at w v bits behind lt is = (
-  ap (λ (t : List Bool). number (take w t)) is ∙ ap number (take_at (num w v) behind w (length-num w v)) ∙ number-num w v lt,
-  sym (drop-drop w at bits) ∙ ap (drop w) is ∙ drop_at (num w v) behind w (length-num w v),
+-- What is at a place is found there, and so are the bits after it.
+pub found : (at w v : ℕ) (bits following : List Bool) → v < 2 ^ w → drop at bits ≡ num w v ++ following → (field at w bits ≡ v) × (drop (at + w) bits ≡ following)
+found at w v bits following lt is = (
+  ap (λ (t : List Bool). number (take w t)) is ∙ ap number (take_at (num w v) following w (length-num w v)) ∙ number-num w v lt,
+  sym (drop-drop w at bits) ∙ ap (drop w) is ∙ drop_at (num w v) following w (length-num w v),
 )
 
 bit_back : (b : Bool) → (number (b ∷ []) == 1) ≡ b
@@ -59,9 +59,9 @@ unfolding number
 bit_back true = refl
 bit_back false = refl
 
-pub found_bit : (at : ℕ) (b : Bool) (bits behind : List Bool) → drop at bits ≡ b ∷ behind → (flag at bits ≡ b) × (drop (at + 1) bits ≡ behind)
-found_bit at b bits behind is = (ap (λ (t : List Bool). number (take 1 t) == 1) is ∙ bit_back b, sym (drop-drop 1 at bits) ∙ ap (drop 1) is)
+pub found_bit : (at : ℕ) (b : Bool) (bits following : List Bool) → drop at bits ≡ b ∷ following → (flag at bits ≡ b) × (drop (at + 1) bits ≡ following)
+found_bit at b bits following is = (ap (λ (t : List Bool). number (take 1 t) == 1) is ∙ bit_back b, sym (drop-drop 1 at bits) ∙ ap (drop 1) is)
 
--- the bits behind a part of this width
-pub skipped : (at w : ℕ) (part bits behind : List Bool) → length part ≡ w → drop at bits ≡ part ++ behind → drop (at + w) bits ≡ behind
-skipped at w part bits behind len is = sym (drop-drop w at bits) ∙ ap (drop w) is ∙ drop_at part behind w len
+-- the bits after a part of this width
+pub skipped : (at w : ℕ) (part bits following : List Bool) → length part ≡ w → drop at bits ≡ part ++ following → drop (at + w) bits ≡ following
+skipped at w part bits following len is = sym (drop-drop w at bits) ∙ ap (drop w) is ∙ drop_at part following w len

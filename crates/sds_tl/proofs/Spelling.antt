@@ -44,8 +44,8 @@ nested_ack i t reserved s r = simp (append_assoc, append-nil)
 
 -- ---- what is read is spelt so
 
-put_behind : (front : List Bool) {a b : List Bool} → a ≡ b → front ++ a ≡ front ++ b
-put_behind front e = ap (λ (t : List Bool). front ++ t) e
+put_after : (prefix : List Bool) {a b : List Bool} → a ≡ b → prefix ++ a ≡ prefix ++ b
+put_after prefix e = ap (λ (t : List Bool). prefix ++ t) e
 
 module _ (A : Type 0) where
   ok_is : {x y : Sds A} → ◌≡◌ {A = Result (Sds A) SdsFault} (Ok x) (Ok y) → x ≡ y
@@ -64,11 +64,11 @@ module _ (A : Type 0) where
       let f15 = split_bit 15 bits (omega arith) in
       let f16 = split 16 8 bits (omega arith) in
       let request = request_of (flag 12 bits) (flag 13 bits) in
-      let asked : drop 12 bits ≡ num 2 (code_of request) ++ drop 14 bits = f12 ∙ put_behind (flag 12 bits ∷ []) f13 ∙ ap (λ (t : List Bool). t ++ drop 14 bits) (sym (request_text (flag 12 bits) (flag 13 bits))) in
+      let asked : drop 12 bits ≡ num 2 (code_of request) ++ drop 14 bits = f12 ∙ put_after (flag 12 bits ∷ []) f13 ∙ ap (λ (t : List Bool). t ++ drop 14 bits) (sym (request_text (flag 12 bits) (flag 13 bits))) in
       f0
-      ∙ put_behind (num 8 (field 0 8 bits)) (f8 ∙ ap (λ (n : ℕ). num 4 n ++ drop 12 bits) kind)
-      ∙ put_behind (num 8 (field 0 8 bits)) (put_behind (num 4 0) asked)
-      ∙ put_behind (num 8 (field 0 8 bits)) (put_behind (num 4 0) (put_behind (num 2 (code_of request)) (f14 ∙ put_behind (flag 14 bits ∷ []) (f15 ∙ ap (λ (b : Bool). b ∷ drop 16 bits) control ∙ put_behind (false ∷ []) f16))))
+      ∙ put_after (num 8 (field 0 8 bits)) (f8 ∙ ap (λ (n : ℕ). num 4 n ++ drop 12 bits) kind)
+      ∙ put_after (num 8 (field 0 8 bits)) (put_after (num 4 0) asked)
+      ∙ put_after (num 8 (field 0 8 bits)) (put_after (num 4 0) (put_after (num 2 (code_of request)) (f14 ∙ put_after (flag 14 bits ∷ []) (f15 ∙ ap (λ (b : Bool). b ∷ drop 16 bits) control ∙ put_after (false ∷ []) f16))))
       ∙ sym (nested_transfer (num 8 (field 0 8 bits)) (num 4 0) (num 2 (code_of request)) (num 8 (field 16 8 bits)) (drop 24 bits) (flag 14 bits) false)
 
   report_text : (bits : List Bool) → type_of bits ≡ 1 → flag 15 bits ≡ false → 32 ≤ length bits → bits ≡ text {A = A} (report bits) (num 2 (field 13 2 bits))
@@ -81,8 +81,8 @@ module _ (A : Type 0) where
       let f16 = split 16 8 bits (omega arith) in
       let f24 = split 24 8 bits (omega arith) in
       f0
-      ∙ put_behind (num 8 (field 0 8 bits)) (f8 ∙ ap (λ (n : ℕ). num 4 n ++ drop 12 bits) kind)
-      ∙ put_behind (num 8 (field 0 8 bits)) (put_behind (num 4 1) (f12 ∙ put_behind (flag 12 bits ∷ []) (f13 ∙ put_behind (num 2 (field 13 2 bits)) (f15 ∙ ap (λ (b : Bool). b ∷ drop 16 bits) control ∙ put_behind (false ∷ []) (f16 ∙ put_behind (num 8 (field 16 8 bits)) f24)))))
+      ∙ put_after (num 8 (field 0 8 bits)) (f8 ∙ ap (λ (n : ℕ). num 4 n ++ drop 12 bits) kind)
+      ∙ put_after (num 8 (field 0 8 bits)) (put_after (num 4 1) (f12 ∙ put_after (flag 12 bits ∷ []) (f13 ∙ put_after (num 2 (field 13 2 bits)) (f15 ∙ ap (λ (b : Bool). b ∷ drop 16 bits) control ∙ put_after (false ∷ []) (f16 ∙ put_after (num 8 (field 16 8 bits)) f24)))))
       ∙ sym (nested_report (num 8 (field 0 8 bits)) (num 4 1) (num 2 (field 13 2 bits)) (num 8 (field 16 8 bits)) (num 8 (field 24 8 bits)) (drop 32 bits) (flag 12 bits) false)
 
   ack_text : (bits : List Bool) → type_of bits ≡ 2 → length bits ≡ 32 → bits ≡ text {A = A} (ack bits) (num 4 (field 12 4 bits))
@@ -94,8 +94,8 @@ module _ (A : Type 0) where
       let f24 = split 24 8 bits (omega arith) in
       let nothing : drop 32 bits ≡ [] = drop_all 32 bits (omega arith) in
       f0
-      ∙ put_behind (num 8 (field 0 8 bits)) (f8 ∙ ap (λ (n : ℕ). num 4 n ++ drop 12 bits) kind)
-      ∙ put_behind (num 8 (field 0 8 bits)) (put_behind (num 4 2) (f12 ∙ put_behind (num 4 (field 12 4 bits)) (f16 ∙ put_behind (num 8 (field 16 8 bits)) (f24 ∙ put_behind (num 8 (field 24 8 bits)) nothing))))
+      ∙ put_after (num 8 (field 0 8 bits)) (f8 ∙ ap (λ (n : ℕ). num 4 n ++ drop 12 bits) kind)
+      ∙ put_after (num 8 (field 0 8 bits)) (put_after (num 4 2) (f12 ∙ put_after (num 4 (field 12 4 bits)) (f16 ∙ put_after (num 8 (field 16 8 bits)) (f24 ∙ put_after (num 8 (field 24 8 bits)) nothing))))
       ∙ sym (nested_ack (num 8 (field 0 8 bits)) (num 4 2) (num 4 (field 12 4 bits)) (num 8 (field 16 8 bits)) (num 8 (field 24 8 bits)))
 
   transfer_takes : (bits : List Bool) → fault bits ≡ None → type_of bits ≡ 0 → Spells {A = A} (transfer bits) bits

@@ -1,4 +1,4 @@
--- Of what is read, whether it is a message is told by its head.
+-- Of what is read, whether it is a message is reported by its head.
 use Rattle.std.proofs.Common.{◌≡◌, ℕ, List, Bool, Result, Ok, Err, refl, sym, ap, ◌∙◌}
 use Rattle.std.specs.Prelude.{IfOk, IsTrue}
 use Rattle.std.specs.Result.{result_map_both}
@@ -26,7 +26,7 @@ module _ (A : Type 0) where
   fault_back (Ok sds) fault e = cc
   fault_back (Err f) fault e = cc
 
-  -- where its head tells of a fault
+  -- where its head reports a fault
   pub refused_alike : (bits : List Bool) (fault : SdsFault) → transfer_reference (heading bits) ≡ Err fault → reading_transfer {A = A} bits ≡ Err fault
   refused_alike bits fault e = fault_back (reading_transfer bits) fault (sym (references_agree bits) ∙ e)
 
@@ -36,7 +36,7 @@ module _ (A : Type 0) where
   no_fault (Ok (Ack identifier status reference)) n fault e = cc
   no_fault (Err f) n fault e = cc
 
-  -- where it tells of a message
+  -- where it reports a message
   pub taken_alike : (bits : List Bool) (reference : ℕ) → transfer_reference (heading bits) ≡ Ok reference → reading_transfer {A = A} bits ≡ reading bits
   taken_alike bits reference e = no_fault (reading bits) reference NotATransfer (sym (references_agree bits) ∙ e)
 

@@ -12,8 +12,8 @@ use Rattle.sds_tl.specs.declared.pdu.Sds.TheVariants.{Transfer, Report, Ack}
 use Rattle.sds_tl.specs.Syntax.{most_bits, text, canon, reserved_width, IsInRange, Spells}
 use Rattle.sds_tl.specs.Reading.{writing, Gives}
 
-pub above_behind : (k m n : ℕ) → ltb m n ≡ ltb (k + m) (k + n)
-above_behind k m n = by (ltb m n) refl
+pub above_after : (k m n : ℕ) → ltb m n ≡ ltb (k + m) (k + n)
+above_after k m n = by (ltb m n) refl
   where
     by : (b : Bool) → ltb m n ≡ b → ltb m n ≡ ltb (k + m) (k + n)
     by true e = e ∙ sym (lt-ltb (k + m) (k + n) (omega (arith, ltb-true m n e)))

@@ -1,6 +1,6 @@
--- Which protocol identifiers there are.
+-- The protocol identifiers of this layer.
 use Rattle.std.specs.Prelude.{ℕ}
 
--- From this one on PDUs have the transport layer SDS-TL (clause 29.4.3.9).
+-- The first one: PDUs with it or a greater one have the transport layer SDS-TL (clause 29.4.3.9).
 abbrev pub first_identifier : ℕ
 first_identifier = 128

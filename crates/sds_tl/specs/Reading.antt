@@ -1,4 +1,4 @@
--- What bits are read as, field by field at its place, and the first fault from the left.
+-- Reading bits: each field at its place, and the first fault from the left.
 use Rattle.std.specs.Prelude.{◌≡◌, ℕ, Bool, false, List, ◌++◌, replicate, length, take, drop, nat_lt, ◌==◌, if◌then◌else◌, Option, Some, None, Result, Ok, Err}
 use Rattle.identity.specs.Number.{number}
 use Rattle.sds_tl.specs.declared.fault.SdsFault.{SdsFault}
@@ -11,7 +11,7 @@ use Rattle.sds_tl.specs.Identifier.{first_identifier}
 use Rattle.sds_tl.specs.Values.{request_of}
 use Rattle.sds_tl.specs.Syntax.{most_bits, canon}
 
--- the number that the w bits from place at on are
+-- the w bits from place `at` on, as a number
 abbrev pub field : ℕ → ℕ → List Bool → ℕ
 field at w bits = number (take w (drop at bits))
 
@@ -23,7 +23,7 @@ flag at bits = field at 1 bits == 1
 abbrev pub type_of : List Bool → ℕ
 type_of bits = field 8 4 bits
 
--- The first fault of a message or a report, from its storage control on. Its user data begin here.
+-- The first fault of a message or a report, from its storage control on. Its user data begin at `begin`.
 unfoldable pub data_fault : ℕ → List Bool → Option SdsFault
 data_fault begin bits = if flag 15 bits then Some StorageControl else if nat_lt (length bits) begin then Some Short else None
 
@@ -56,7 +56,7 @@ report bits = Report (field 0 8 bits) (flag 12 bits) (field 16 8 bits) (field 24
 abbrev pub ack : {A : Type 0} → List Bool → Sds A
 ack bits = Ack (field 0 8 bits) (field 16 8 bits) (field 24 8 bits)
 
--- What bits without a fault stand for.
+-- The PDU of bits without a fault.
 unfoldable pub value : {A : Type 0} → List Bool → Sds A
 value bits = if type_of bits == 0 then transfer bits else if type_of bits == 1 then report bits else ack bits
 
@@ -65,24 +65,24 @@ abbrev pub unless : {A : Type 0} → Option SdsFault → A → Result A SdsFault
 unless None x = Ok x
 unless (Some f) x = Err f
 
--- the PDU that the bits are, or their first fault
+-- the PDU that the bits spell, or their first fault
 abbrev pub reading : {A : Type 0} → List Bool → Result (Sds A) SdsFault
 reading bits = unless (fault bits) (value bits)
 
--- What the switch judges of a PDU.
+-- The head of a PDU.
 abbrev pub head_of : {A : Type 0} → Sds A → Head
 head_of (Transfer identifier request selection reference user_data) = heads.Transfer request reference
 head_of (Report identifier acknowledge status reference user_data) = heads.Report acknowledge status reference
 head_of (Ack identifier status reference) = heads.Ack status reference
 
--- The head of what bits without a fault stand for.
+-- The head of the PDU of bits without a fault.
 unfoldable pub head_value : List Bool → Head
 head_value bits =
     if type_of bits == 0 then heads.Transfer (request_of (flag 12 bits) (flag 13 bits)) (field 16 8 bits)
     else if type_of bits == 1 then heads.Report (flag 12 bits) (field 16 8 bits) (field 24 8 bits)
     else heads.Ack (field 16 8 bits) (field 24 8 bits)
 
--- the head of that PDU, or the first fault
+-- the head of the PDU that the bits spell, or their first fault
 abbrev pub heading : List Bool → Result Head SdsFault
 heading bits = unless (fault bits) (head_value bits)
 
@@ -93,15 +93,15 @@ cleared bits =
     else if type_of bits == 1 then take 13 bits ++ replicate 2 false ++ drop 15 bits
     else take 12 bits ++ replicate 4 false ++ drop 16 bits
 
--- a PDU's bits with the reserved ones 0, or the first fault
+-- the bits with the reserved ones 0, or their first fault
 abbrev pub clearing : List Bool → Result (List Bool) SdsFault
 clearing bits = unless (fault bits) (cleared bits)
 
--- the written form of a value, unless it has more bits than a PDU may
+-- the canonical text of a PDU, unless it has more bits than a PDU may have
 abbrev pub writing : {A : Type 0} → Sds A → Result (List Bool) SdsFault
 writing sds = if nat_lt most_bits (length (canon sds)) then Err TooLong else Ok (canon sds)
 
--- What is answered is this; where it is a value, want of memory may stand in its place, and never where it is a fault.
+-- The result is `known`. Out of memory may replace a value, but never a fault.
 abbrev pub Gives : {A : Type 0} → Result A SdsFault → Result A SdsFault → Type 0
 Gives (Ok x) known = known ≡ Ok x
 Gives (Err f) (Ok y) = f ≡ NoMemory

@@ -1,4 +1,4 @@
--- What is read where only a message will do: a report and an acknowledgement are refused, after every other fault.
+-- Reading where only a message is accepted: a report and an acknowledgement are refused, after every other fault.
 use Rattle.std.specs.Prelude.{Bool, true, false, List, Result, Ok, Err}
 use Rattle.sds_tl.specs.Numbers.{Reference}
 use Rattle.sds_tl.specs.declared.fault.SdsFault.{SdsFault}
@@ -9,14 +9,14 @@ use Rattle.sds_tl.specs.declared.pdu.Head.{Head}
 use Rattle.sds_tl.specs.declared.pdu.Head.TheVariants as heads
 use Rattle.sds_tl.specs.Reading.{reading}
 
--- a PDU where it is a message
+-- a PDU, if it is a message
 abbrev pub only_transfer : {A : Type 0} → Result (Sds A) SdsFault → Result (Sds A) SdsFault
 only_transfer (Ok (Transfer identifier request selection reference user_data)) = Ok (Transfer identifier request selection reference user_data)
 only_transfer (Ok (Report identifier acknowledge status reference user_data)) = Err NotATransfer
 only_transfer (Ok (Ack identifier status reference)) = Err NotATransfer
 only_transfer (Err fault) = Err fault
 
--- the message that the bits are, or why they are none
+-- the message that the bits spell, or their fault
 abbrev pub reading_transfer : {A : Type 0} → List Bool → Result (Sds A) SdsFault
 reading_transfer bits = only_transfer (reading bits)
 
@@ -32,7 +32,7 @@ reference_of (Transfer identifier request selection reference user_data) = refer
 reference_of (Report identifier acknowledge status reference user_data) = reference
 reference_of (Ack identifier status reference) = reference
 
--- the message reference of a head that is a message's
+-- the message reference of a head, if it is a message's
 abbrev pub transfer_reference : Result Head SdsFault → Result Reference SdsFault
 transfer_reference (Ok (heads.Transfer request reference)) = Ok reference
 transfer_reference (Ok (heads.Report acknowledge status reference)) = Err NotATransfer

@@ -1,9 +1,9 @@
--- The numbers that stand for values.
+-- The numbers of values.
 use Rattle.std.specs.Prelude.{ℕ, Bool, true, false}
 use Rattle.sds_tl.specs.declared.pdu.DeliveryReportRequest.{DeliveryReportRequest}
 use Rattle.sds_tl.specs.declared.pdu.DeliveryReportRequest.TheVariants as requests
 
--- the number of a request, as its two bits give it
+-- the number of a request, in two bits
 abbrev pub code_of : DeliveryReportRequest → ℕ
 code_of requests.None = 0
 code_of requests.Received = 1

@@ -1,4 +1,4 @@
-//! What holds of the spelling alone, of all bits and all PDUs.
+//! Laws of the definitions alone, for all bits and all PDUs.
 
 ghost use Rattle.std.specs.Prelude.{◌≡◌, ◌≢◌, ℕ, Bool, List, None, Some, Ok, Err};
 ghost use Rattle.std.specs.Result.{result_map_both};
@@ -17,40 +17,41 @@ pub fn one_value<A: Allocator>()
     ensures { (p q : Sds A) (bits : List Bool) → Spells p bits → Spells q bits → p ≡ q }
 {}
 
-/// Bits spell a PDU exactly where they have no fault.
+/// Bits spell a PDU exactly if they have no fault.
 pub fn spelt_without_fault<A: Allocator>()
     ensures spelt { (bits : List Bool) → fault bits ≡ None → Spells {A = A} (value bits) bits }
     ensures no_fault { (sds : Sds A) (bits : List Bool) → Spells sds bits → fault bits ≡ None }
 {}
 
-/// What is written spells its PDU, and is read back.
+/// A PDU that is written is spelt by its bits, and is read back.
 pub fn read_back<A: Allocator>()
     ensures spelt { (sds : Sds A) (bits : List Bool) → IsInRange sds → writing sds ≡ Ok bits → Spells sds bits }
     ensures read { (sds : Sds A) (bits : List Bool) → IsInRange sds → writing sds ≡ Ok bits → reading bits ≡ Ok sds }
 {}
 
-/// What bits spell can be written.
+/// A PDU that bits spell can be written.
 pub fn written_again<A: Allocator>()
     ensures { (sds : Sds A) (bits : List Bool) → Spells sds bits → writing sds ≡ Ok (canon sds) }
 {}
 
-/// With the reserved bits 0, bits are the written form of the PDU that they spell. They spell it still, and have
-/// its head; and those of a message are as they were.
+/// With the reserved bits 0, bits are the canonical text of the PDU that they spell. They still spell it, and have
+/// the same head. The bits of a message do not change.
 pub fn cleared_again<A: Allocator>()
     ensures canonical { (sds : Sds A) (bits : List Bool) → Spells sds bits → cleared bits ≡ canon sds }
     ensures spelt { (sds : Sds A) (bits : List Bool) → Spells sds bits → Spells sds (cleared bits) }
     ensures headed { (bits : List Bool) → fault bits ≡ None → heading (cleared bits) ≡ heading bits }
-    ensures message { (bits : List Bool) (request : DeliveryReportRequest) (reference : ℕ) → heading bits ≡ Ok (Transfer request reference) → cleared bits ≡ bits }
+    ensures message { (bits : List Bool) (request : DeliveryReportRequest) (reference : ℕ) → heading bits ≡ Ok (Transfer request reference)
+        → cleared bits ≡ bits }
 {}
 
-/// The head that is read of bits is that of the PDU that is read, and so is the fault; the same where
-/// only a message will do.
+/// The head that is read from bits is that of the PDU that is read, and the fault is the same. So too where only a
+/// message is accepted.
 pub fn heads_agree<A: Allocator>()
     ensures transfers { (bits : List Bool) → transfer_reference (heading bits) ≡ result_map_both reference_of (λ fault. fault) (reading_transfer {A = A} bits) }
     ensures heads { (bits : List Bool) → heading bits ≡ result_map_both head_of (λ fault. fault) (reading {A = A} bits) }
 {}
 
-/// Want of memory is no fault of bits, nor why a PDU can't be written.
+/// `NoMemory` is no fault of bits, and no fault of a PDU.
 pub fn faults_of_bits<A: Allocator>()
     ensures fault { (bits : List Bool) → fault bits ≢ Some NoMemory }
     ensures read { (bits : List Bool) → reading {A = A} bits ≢ Err NoMemory }

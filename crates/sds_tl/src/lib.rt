@@ -1,4 +1,5 @@
 //! The PDUs of the short data transport layer (ETSI EN 300 392-2, clause 29), as bits.
+//! It takes memory only from the allocator that it is given, and knows nothing of mailboxes, of commands and of who sends a PDU.
 #![tactic(auto)]
 
 mod fault;

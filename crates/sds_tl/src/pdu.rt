@@ -10,7 +10,7 @@ use std::marker::Model;
 /// The first protocol identifier of a PDU with the transport layer SDS-TL (clause 29.4.3.9).
 pub const FIRST_IDENTIFIER: u8 = 128;
 
-/// Which application a PDU is for: a number from [`FIRST_IDENTIFIER`] to 255. 130 is text messaging.
+/// The application that a PDU is for: a number from [`FIRST_IDENTIFIER`] to 255. 130 is text messaging.
 #[derive(Clone, Copy, Debug, PartialEq, Eq)]
 pub struct ProtocolIdentifier {
     number: u8,
@@ -49,20 +49,20 @@ impl ProtocolIdentifier {
     }
 }
 
-/// Of which events the sender of a message wants to be told.
+/// The events of which the sender of a message wants a report.
 #[derive(Clone, Copy, Debug, PartialEq, Eq, Drop)]
 pub enum DeliveryReportRequest {
-    /// Of none.
+    /// None.
     None,
-    /// That the message was received.
+    /// The message was received.
     Received,
-    /// That the message was consumed.
+    /// The message was consumed.
     Consumed,
-    /// Of both.
+    /// Both.
     Both,
 }
 
-/// What became of a message: a number of 8 bits, of which this switch judges two.
+/// What became of a message: a number of 8 bits. This switch knows two of them.
 #[derive(Clone, Copy, Debug, PartialEq, Eq)]
 pub struct DeliveryStatus {
     code: u8,
@@ -113,25 +113,25 @@ impl DeliveryStatus {
 /// The most bits that a PDU has.
 pub const MOST_BITS: usize = 2047;
 
-/// A PDU of the short data transport layer. With more user data than `MOST_BITS` leave room for it can't be written.
+/// A PDU of the short data transport layer. It can't be written if its user data make it longer than [`MOST_BITS`].
 #[derive(Drop)]
 pub enum Sds<A: Allocator> {
     /// A message (SDS-TRANSFER).
     Transfer {
-        /// Which application it is for.
+        /// The application that it is for.
         identifier: ProtocolIdentifier,
         /// Which delivery reports its sender asks for.
         request: DeliveryReportRequest,
-        /// Service selection or short form report, as it is sent.
+        /// The bit for service selection or short form report.
         selection: bool,
-        /// By what reports name the message.
+        /// The reference by which reports name the message.
         reference: MessageReference,
-        /// The message itself: any bits, into which the switch does not look.
+        /// The message itself: any bits, which the switch does not read.
         user_data: Bits<A>,
     },
     /// What became of a message (SDS-REPORT).
     Report {
-        /// Which application it is for.
+        /// The application that it is for.
         identifier: ProtocolIdentifier,
         /// Whether an acknowledgement is required.
         acknowledge: bool,
@@ -139,22 +139,22 @@ pub enum Sds<A: Allocator> {
         status: DeliveryStatus,
         /// The reference of the message.
         reference: MessageReference,
-        /// Any bits, into which the switch does not look.
+        /// Any bits, which the switch does not read.
         user_data: Bits<A>,
     },
-    /// That a report came (SDS-ACK).
+    /// The acknowledgement of a report (SDS-ACK).
     Ack {
-        /// Which application it is for.
+        /// The application that it is for.
         identifier: ProtocolIdentifier,
-        /// What the report said.
+        /// The status of the report.
         status: DeliveryStatus,
         /// The reference of the message.
         reference: MessageReference,
     },
 }
 
-/// What the switch judges of a PDU: all but its user data, its protocol identifier and the service selection.
-/// Each field means what it means in `Sds`.
+/// The fields of a PDU by which the switch decides: all but its user data, protocol identifier and service selection.
+/// Each field has the meaning that it has in [`Sds`].
 #[derive(Clone, Copy, Debug, PartialEq, Eq, Drop)]
 pub enum Head {
     /// A message.
@@ -168,7 +168,7 @@ pub enum Head {
         status: DeliveryStatus,
         reference: MessageReference,
     },
-    /// That a report came.
+    /// The acknowledgement of a report.
     Ack {
         status: DeliveryStatus,
         reference: MessageReference,
@@ -176,7 +176,7 @@ pub enum Head {
 }
 
 impl<A: Allocator> Sds<A> {
-    /// What the switch judges of it.
+    /// Its head.
     pub fn head(&self) -> Head
         ensures { result ≡ head_of self.now }
     {

@@ -1,4 +1,4 @@
-//! Bits that are copied piece by piece.
+//! Writing fields, and copying bits piece by piece.
 
 ghost use Rattle.std.specs.Prelude.{◌≡◌, ◌<◌, ◌≤◌, ◌^◌, ◌++◌, false, length, replicate, drop, OnOk, IfOk, IfErr};
 ghost use Rattle.identity.specs.Number.{num};
@@ -8,7 +8,7 @@ use crate::SdsFault;
 use identity::{BitReader, BitWriter, Bits};
 use std::alloc::Allocator;
 
-/// Puts `value` at the end, the greatest of its `width` bits first.
+/// Appends the `width` bits of `value`, the greatest first.
 pub fn put<A: Allocator>(writer: &mut BitWriter<A>, value: u64, width: u32) -> Result<(), SdsFault>
     requires width { width ≤ 48 }
     requires fits { value < 2 ^ width }
@@ -18,7 +18,7 @@ pub fn put<A: Allocator>(writer: &mut BitWriter<A>, value: u64, width: u32) -> R
     writer.put(value, width).or(Err(SdsFault::NoMemory))
 }
 
-/// Puts reserved bits, all 0.
+/// Appends reserved bits, all 0.
 pub fn put_reserved<A: Allocator>(writer: &mut BitWriter<A>, width: u32) -> Result<(), SdsFault>
     requires { width ≤ 48 }
     ensures ok { OnOk result (writer.new ≡ writer.old ++ replicate width false) }
@@ -27,7 +27,7 @@ pub fn put_reserved<A: Allocator>(writer: &mut BitWriter<A>, width: u32) -> Resu
     put(writer, 0, width)
 }
 
-/// Puts all that is left to the reader at the end.
+/// Appends all bits that the reader has left.
 pub fn put_left<A: Allocator>(
     writer: &mut BitWriter<A>,
     reader: &mut BitReader<'_>,
@@ -43,7 +43,7 @@ pub fn put_left<A: Allocator>(
     Ok(())
 }
 
-/// The bits from place `from` on.
+/// A copy of the bits from place `from` on.
 pub fn rest<A: Allocator, B: Allocator>(
     alloc: A,
     bits: &Bits<B>,

@@ -16,7 +16,7 @@ use crate::{
 use identity::{BitReader, Bits};
 use std::alloc::Allocator;
 
-/// The number that the `width` bits from place `at` on are.
+/// The `width` bits from place `at` on as a number.
 pub fn field<A: Allocator>(bits: &Bits<A>, at: usize, width: u32) -> u64
     requires width { width ≤ 48 }
     requires room { at + width ≤ length bits.now }
@@ -181,8 +181,8 @@ fn ack<A: Allocator, B: Allocator>(bits: &Bits<B>) -> Sds<A>
     }
 }
 
-/// What bits without a fault stand for.
-#[tactic(auto, unfolding(crate::specs::Reading::value), using(crate::proofs::Fitting::layer_of, crate::proofs::Fitting::header_of, crate::proofs::Fitting::transfer_room, crate::proofs::Fitting::report_room, crate::proofs::Fitting::ack_room))]
+/// The PDU of bits without a fault.
+#[tactic(auto, unfolding(crate::specs::Reading::value), using(crate::proofs::Fitting::fields_fit))]
 fn value<A: Allocator, B: Allocator>(alloc: A, bits: &Bits<B>) -> Result<Sds<A>, SdsFault>
     requires { fault bits.now ≡ None }
     ensures ok { IfOk result (λ sds. sds ≡ value bits.now) }
@@ -195,8 +195,8 @@ fn value<A: Allocator, B: Allocator>(alloc: A, bits: &Bits<B>) -> Result<Sds<A>,
     }
 }
 
-/// The head of what bits without a fault stand for.
-#[tactic(auto, unfolding(crate::specs::Reading::head_value), using(crate::proofs::Fitting::header_of, crate::proofs::Fitting::transfer_room, crate::proofs::Fitting::report_room, crate::proofs::Fitting::ack_room))]
+/// The head of the PDU of bits without a fault.
+#[tactic(auto, unfolding(crate::specs::Reading::head_value), using(crate::proofs::Fitting::head_fits))]
 fn head_value<A: Allocator>(bits: &Bits<A>) -> Head
     requires { fault bits.now ≡ None }
     ensures { result ≡ head_value bits.now }
@@ -227,13 +227,13 @@ fn whole<A: Allocator, B: Allocator>(alloc: A, bits: &Bits<B>) -> Result<Sds<A>,
     }
 }
 
-/// The PDU that the bits spell, all of the bits; else the first fault from the left.
+/// The PDU that all of the bits spell; else the first fault from the left.
 pub fn read<A: Allocator, B: Allocator>(alloc: A, bits: &Bits<B>) -> Result<Sds<A>, SdsFault>
-    // What is read is spelt so.
+    // If a PDU is read, the bits spell it.
     ensures found { IfOk result (λ sds. Spells sds bits.now) }
-    // What is spelt so is read, unless memory runs out.
+    // If the bits spell a PDU, it is read, unless memory runs out.
     ensures only { (sds : Sds A) → Spells sds bits.now → Gives result (Ok sds) }
-    // Which fault it is.
+    // Else the result is the first fault.
     ensures exact { Gives result (reading bits.now) }
 {
     whole(alloc, bits)

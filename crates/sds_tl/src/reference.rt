@@ -1,10 +1,10 @@
-//! By what reports name messages.
+//! Message references.
 
 ghost use Rattle.std.specs.Prelude.{◌≡◌, ◌<◌, ◌^◌};
 
 use std::marker::Model;
 
-/// The number by which reports name a message, 0 to 255: its message reference (clause 29.4.3.7).
+/// The number by which reports name a message, 0 to 255 (clause 29.4.3.7).
 #[derive(Clone, Copy, Debug, PartialEq, Eq)]
 pub struct MessageReference {
     number: u8,

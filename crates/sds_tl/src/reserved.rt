@@ -1,4 +1,4 @@
-//! Bits with the reserved ones 0.
+//! Sets the reserved bits of a PDU to 0.
 
 ghost use Rattle.std.specs.Prelude.{◌≡◌, ◌<◌, ◌≤◌, ◌++◌, ◌+◌, false, length, replicate, take, drop, IfOk, IfErr, None};
 ghost use Rattle.sds_tl.specs.declared.fault.SdsFault.TheVariants.{NoMemory};
@@ -45,7 +45,8 @@ fn cleared<A: Allocator, B: Allocator>(alloc: A, bits: &Bits<B>) -> Result<Bits<
     }
 }
 
-/// The bits as the PDU that they spell is written, the reserved ones 0; else the first fault from the left.
+/// The canonical text of the PDU that the bits spell: the bits with the reserved ones 0. Else the first fault from the
+/// left.
 pub fn canonical<A: Allocator, B: Allocator>(alloc: A, bits: &Bits<B>) -> Result<Bits<A>, SdsFault>
     ensures { Gives result (clearing bits.now) }
 {

@@ -1,4 +1,4 @@
-//! Reading where only a message will do.
+//! Reading where only a message is accepted.
 
 ghost use Rattle.std.specs.Prelude.{◌≡◌, List, Bool, IsTrue, Ok, IfOk};
 ghost use Rattle.sds_tl.specs.declared.pdu.Sds.{Sds};
@@ -10,8 +10,8 @@ use crate::{Head, MessageReference, Sds, SdsFault, head, read};
 use identity::Bits;
 use std::alloc::Allocator;
 
-/// The message reference of the message that the bits spell; else their first fault, and behind all
-/// others `NotATransfer` for a report and an acknowledgement. Takes no memory.
+/// The reference of the message that the bits spell; else their first fault. `NotATransfer`, after every other fault,
+/// for a report and an acknowledgement. Takes no memory.
 pub fn transfer_reference<A: Allocator>(bits: &Bits<A>) -> Result<MessageReference, SdsFault>
     ensures { result ≡ transfer_reference (heading bits.now) }
 {
@@ -22,17 +22,19 @@ pub fn transfer_reference<A: Allocator>(bits: &Bits<A>) -> Result<MessageReferen
     }
 }
 
-/// The message that the bits spell, all of the bits; else their first fault, and behind all others
-/// `NotATransfer` for a report and an acknowledgement. Only a message takes memory.
+/// The message that all of the bits spell; else their first fault. `NotATransfer`, after every other fault, for a report
+/// and an acknowledgement. Only a message takes memory.
+///
+/// An application's desk reads messages by this call; the switch itself does not need it.
 pub fn read_transfer<A: Allocator, B: Allocator>(
     alloc: A,
     bits: &Bits<B>,
 ) -> Result<Sds<A>, SdsFault>
-    // What is read is spelt so, and a message.
+    // If a PDU is read, the bits spell it, and it is a message.
     ensures found { IfOk result (λ sds. Spells sds bits.now × IsTrue (is_transfer sds)) }
-    // Of what is spelt so, a message is read, unless memory runs out.
+    // If the bits spell a message, it is read, unless memory runs out.
     ensures only { (sds : Sds A) → Spells sds bits.now → Gives result (only_transfer (Ok sds)) }
-    // Which fault it is, with memory and without.
+    // Else the result is the first fault, with memory and without.
     ensures exact { Gives result (reading_transfer bits.now) }
 {
     match transfer_reference(bits) {

@@ -40,7 +40,7 @@ fn code(request: DeliveryReportRequest) -> u64
     }
 }
 
-/// Puts the protocol identifier and the message type.
+/// Appends the protocol identifier and the message type.
 #[tactic(auto, using(std::proofs::Common::append_assoc))]
 fn put_start<A: Allocator>(
     writer: &mut BitWriter<A>,
@@ -57,7 +57,7 @@ fn put_start<A: Allocator>(
     put(writer, kind, 4)
 }
 
-/// Puts what became of the message of this reference.
+/// Appends a message's status and its reference.
 #[tactic(auto, using(std::proofs::Common::append_assoc))]
 fn put_outcome<A: Allocator>(
     writer: &mut BitWriter<A>,
@@ -73,7 +73,7 @@ fn put_outcome<A: Allocator>(
     put_octet(writer, reference.number())
 }
 
-/// Puts the whole PDU.
+/// Appends the whole PDU.
 #[tactic(auto, using(std::proofs::Common::append_assoc))]
 fn put_sds<A: Allocator, B: Allocator>(
     writer: &mut BitWriter<A>,
@@ -146,10 +146,10 @@ fn written<A: Allocator, B: Allocator>(alloc: A, sds: &Sds<B>) -> Result<Bits<A>
     Ok(writer.finish())
 }
 
-/// The written form of the PDU; `SdsFault::TooLong` where it has more than 2,047 bits.
+/// The canonical text of the PDU; `SdsFault::TooLong` where it has more than 2,047 bits.
 pub fn write<A: Allocator, B: Allocator>(alloc: A, sds: &Sds<B>) -> Result<Bits<A>, SdsFault>
     ensures exact { Gives result (writing sds.now) }
-    // What is written spells the PDU, so `read` gives it back.
+    // The bits spell the PDU, so `read` reads it back.
     ensures spelt { IfOk result (λ bits. Spells sds.now bits) }
 {
     written(alloc, sds)

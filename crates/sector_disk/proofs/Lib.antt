@@ -1,6 +1,6 @@
 mod Calls
 pub mod Filled
-pub mod Looked
+pub mod OnlyRead
 pub mod Made
 pub mod Moments
 mod Order

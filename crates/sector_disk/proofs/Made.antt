@@ -10,14 +10,14 @@ use Rattle.sector_disk.specs.declared.record.Call.TheVariants.{Write}
 
 -- before the first of them
 pub made_none : (disk : View) (calls : List Call) → HasMade disk disk calls
-made_none disk calls = record { made = []; left = calls; front = refl; now = sym (append-nil disk.calls) }
+made_none disk calls = record { made = []; left = calls; prefix = refl; now = sym (append-nil disk.calls) }
 
 -- more calls were to come
 pub made_of_more : (old new : View) (calls more : List Call) → HasMade old new calls → HasMade old new (calls ++ more)
 made_of_more old new calls more has = record {
   made = has.made;
   left = has.left ++ more;
-  front = ap (λ (some : List Call). some ++ more) has.front ∙ append_assoc has.made has.left more;
+  prefix = ap (λ (some : List Call). some ++ more) has.prefix ∙ append_assoc has.made has.left more;
   now = has.now;
 }
 
@@ -26,15 +26,15 @@ pub made_on : (old mid new : View) (before after : List Call) (call : Call) (res
 made_on old mid new before after call (Ok u) were called = record {
   made = before ++ call ∷ [];
   left = after;
-  front = sym (append_assoc before (call ∷ []) after);
+  prefix = sym (append_assoc before (call ∷ []) after);
   now = called.made ∙ ap (λ (some : List Call). some ++ call ∷ []) were ∙ append_assoc old.calls before (call ∷ []);
 }
 made_on old mid new before after call (Err e) were called = elim called.tried [
-  | inl none ↦ record { made = before; left = call ∷ after; front = refl; now = none ∙ were }
+  | inl none ↦ record { made = before; left = call ∷ after; prefix = refl; now = none ∙ were }
   | inr one ↦ record {
     made = before ++ call ∷ [];
     left = after;
-    front = sym (append_assoc before (call ∷ []) after);
+    prefix = sym (append_assoc before (call ∷ []) after);
     now = one ∙ ap (λ (some : List Call). some ++ call ∷ []) were ∙ append_assoc old.calls before (call ∷ []);
   }
 ]
@@ -58,18 +58,18 @@ pub one_made : (old mid new : List Call) (at k : ℕ) (bytes : ℕ → List ℕ)
 one_made old mid new at k bytes one is were called = all_made old mid new (writes at k bytes) (Write (at + k) one) were called ∙ ap (λ (some : List Call). old ++ some) (one_write_more at k bytes one is)
 
 -- the first k of n
-pub record IsFront (at k n : ℕ) (bytes : ℕ → List ℕ) : Type 0 where
+pub record IsPrefix (at k n : ℕ) (bytes : ℕ → List ℕ) : Type 0 where
   pub left : List Call
-  pub front : writes at n bytes ≡ writes at k bytes ++ left
+  pub prefix : writes at n bytes ≡ writes at k bytes ++ left
 
-pub front_of : (at k n : ℕ) (bytes : ℕ → List ℕ) → k ≤ n → IsFront at k n bytes
+pub prefix_of : (at k n : ℕ) (bytes : ℕ → List ℕ) → k ≤ n → IsPrefix at k n bytes
 unfolding writes
-front_of at k zero bytes le = let none : k ≡ zero = omega (arith, le) in rw none (record { left = []; front = refl })
-front_of at k (suc n) bytes le = elim (cases_lt n k) [
-  | inl last ↦ let all : k ≡ suc n = omega (arith, le, last) in rw all (record { left = []; front = sym (append-nil (writes at (suc n) bytes)) })
-  | inr before ↦ let part : IsFront at k n bytes = front_of at k n bytes before in record {
+prefix_of at k zero bytes le = let none : k ≡ zero = omega (arith, le) in rw none (record { left = []; prefix = refl })
+prefix_of at k (suc n) bytes le = elim (cases_lt n k) [
+  | inl last ↦ let all : k ≡ suc n = omega (arith, le, last) in rw all (record { left = []; prefix = sym (append-nil (writes at (suc n) bytes)) })
+  | inr before ↦ let part : IsPrefix at k n bytes = prefix_of at k n bytes before in record {
     left = part.left ++ Write (at + n) (bytes n) ∷ [];
-    front = ap (λ (some : List Call). some ++ Write (at + n) (bytes n) ∷ []) part.front ∙ append_assoc (writes at k bytes) part.left (Write (at + n) (bytes n) ∷ []);
+    prefix = ap (λ (some : List Call). some ++ Write (at + n) (bytes n) ∷ []) part.prefix ∙ append_assoc (writes at k bytes) part.left (Write (at + n) (bytes n) ∷ []);
   }
 ]
 
@@ -77,6 +77,6 @@ front_of at k (suc n) bytes le = elim (cases_lt n k) [
 pub write_made : (old mid new : View) (at k n : ℕ) (bytes : ℕ → List ℕ) (one : List ℕ) (result : Result Unit DiskError) → k < n → one ≡ bytes k → mid.calls ≡ old.calls ++ writes at k bytes
     → IsCalled mid new (Write (at + k) one) result → HasMade old new (writes at n bytes)
 write_made old mid new at k n bytes one result lt is were called =
-    let rest : IsFront at (k + 1) n bytes = front_of at (k + 1) n bytes (omega (arith, lt)) in
-    let all : writes at n bytes ≡ writes at k bytes ++ Write (at + k) one ∷ rest.left = rest.front ∙ ap (λ (some : List Call). some ++ rest.left) (sym (one_write_more at k bytes one is)) ∙ append_assoc (writes at k bytes) (Write (at + k) one ∷ []) rest.left in
+    let rest : IsPrefix at (k + 1) n bytes = prefix_of at (k + 1) n bytes (omega (arith, lt)) in
+    let all : writes at n bytes ≡ writes at k bytes ++ Write (at + k) one ∷ rest.left = rest.prefix ∙ ap (λ (some : List Call). some ++ rest.left) (sym (one_write_more at k bytes one is)) ∙ append_assoc (writes at k bytes) (Write (at + k) one ∷ []) rest.left in
     rw all (made_on old mid new (writes at k bytes) rest.left (Write (at + k) one) result were called)

@@ -1,4 +1,4 @@
--- Calls behind others.
+-- Calls after others.
 use Rattle.std.proofs.Common.{◌≡◌, ℕ, List, [], ◌∷◌, ◌++◌, refl, ap, ◌∙◌}
 use Rattle.sector_disk.specs.Reading.{before_reads, unless_last_read}
 use Rattle.sector_disk.specs.declared.record.Call.{Call}

@@ -1,4 +1,4 @@
--- What a stop leaves where the bytes of pending sectors are named.
+-- What a stop leaves, where a caller names the bytes of pending sectors.
 use Rattle.std.specs.Prelude.{◌≡◌, ◌<◌, Bool, true, false, List, [], ◌∷◌, length, slice_index_or, ◌==◌, if◌then◌else◌}
 use Rattle.sector_disk.specs.Numbers.{Byte, Sector}
 use Rattle.sector_disk.specs.Disk.{sector}
@@ -12,7 +12,7 @@ abbrev pub named : List (Sector × List Byte) → Sector → List Byte → List 
 named [] k bytes = bytes
 named ((at, given) ∷ fill) k bytes = named fill k (if at == k then given else bytes)
 
--- a pending sector that is named holds the bytes named last for it, and each other what a read gave
+-- A pending sector that is named holds the bytes named last for it. Each other sector holds what a read gave.
 pub record IsFilled (reads : List (List Byte)) (pending : Sector → Bool) (fill : List (Sector × List Byte)) (image : List (List Byte)) : Type 0 where
   pub count : length image ≡ length reads
   pub chosen : (k : Sector) → k < length reads → pending k ≡ true → sector image k ≡ named fill k (sector reads k)

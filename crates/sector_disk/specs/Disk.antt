@@ -1,5 +1,6 @@
 -- What a disk of sectors is: what reading gives, what a stop may leave, and how each call changes both.
-use Rattle.std.specs.Prelude.{◌≡◌, ◌≢◌, ◌⊎◌, ℕ, ◌<◌, ◌≤◌, ◌+◌, ◌^◌, ◌-◌, min, Bool, true, false, List, [], ◌∷◌, ◌++◌, length, slice_index, slice_index_or, Result, IsErrOf, OnOk, OnErr}
+use Rattle.std.specs.Prelude.{◌≡◌, ◌≢◌, ◌⊎◌, ℕ, ◌<◌, ◌≤◌, ◌+◌, ◌^◌, ◌-◌, min, Bool, true, false, List, [], ◌∷◌, ◌++◌, length, slice_index, slice_index_or}
+use Rattle.std.specs.Prelude.{Result, IsErrOf, OnOk, OnErr}
 use Rattle.sector_disk.specs.Numbers.{Byte, Sector, Sectors, Tick}
 use Rattle.sector_disk.specs.declared.disk.DiskError.{DiskError}
 use Rattle.sector_disk.specs.declared.disk.DiskError.TheVariants.{DiskFault}
@@ -18,26 +19,26 @@ pub record IsSector (numbers : List Byte) : Type 0 where
 pub record AreSectors (sectors : List (List Byte)) : Type 0 where
   pub each : (k : Sector) → k < length sectors → IsSector (sector sectors k)
 
--- What contracts see of a disk.
+-- What a disk is modelled as.
 pub record View : Type 1 where
   -- how many sectors it has
   pub sectors : Sectors
-  -- the sectors that reading gives
+  -- the sectors as a read gives them
   pub reads : List (List Byte)
   -- the sectors in which a stop may leave any bytes
   pub pending : Sector → Bool
-  -- the clock: a number that does not fall
+  -- the clock: a number that never falls
   pub moment : Tick
-  -- the images of all moments from that one to now, those within a call too
+  -- the images that a stop may leave at any moment from that one to now, also within a call
   pub since : Tick → List (List Byte) → Type 0
-  -- the calls `read`, `write` and `sync` that it has had, the last one last
+  -- the calls `read`, `write` and `sync` that it has had, in order
   pub calls : List Call
   -- how often the device has failed
   pub failures : ℕ
-  -- the device keeps what is said of the rest
+  -- the device does what is stated of the rest: each clause on the rest has this premise
   pub honest : Type 0
 
--- what a stop may leave: any 512 bytes in each pending sector, and the others as they read
+-- what a stop may leave: any 512 bytes in each pending sector, and the others as a read gives them
 pub record IsImage (reads : List (List Byte)) (pending : Sector → Bool) (image : List (List Byte)) : Type 0 where
   pub count : length image ≡ length reads
   pub whole : (k : Sector) → k < length image → IsSector (sector image k)
@@ -50,7 +51,7 @@ IsImageOf disk image = IsImage disk.reads disk.pending image
 -- What holds of an honest disk at each moment.
 pub record IsSound (disk : View) : Type 0 where
   pub count : length disk.reads ≡ disk.sectors
-  -- what reading gives is one of the images
+  -- what a read gives is one of the images
   pub reads_left : IsImageOf disk disk.reads
   -- the images of now are among those since any moment
   pub counts_now : (t : Tick) (image : List (List Byte)) → t ≤ disk.moment → IsImageOf disk image → disk.since t image
@@ -59,13 +60,13 @@ pub record IsSound (disk : View) : Type 0 where
   -- since an earlier moment there are no fewer
   pub earlier : (s t : Tick) (image : List (List Byte)) → s ≤ t → disk.since t image → disk.since s image
 
--- Time goes on: since t there are the images that there were, and no others but those of now.
+-- Time passes. The images since t are those that there were, and those of now.
 pub record Elapses (old new : View) : Type 0 where
   pub later : old.moment ≤ new.moment
   pub each_stays : (t : Tick) (image : List (List Byte)) → t ≤ old.moment → old.since t image → new.since t image
   pub nothing_else : (t : Tick) (image : List (List Byte)) → t ≤ old.moment → new.since t image → old.since t image ⊎ IsImageOf new image
 
--- Reading gives the sector, and changes no image.
+-- A read gives the sector, and changes no image.
 pub record HasRead (old new : View) (at : Sector) (bytes : List Byte) (result : Result Unit DiskError) : Type 0 where
   pub honest : new.honest
   pub time : Elapses old new
@@ -73,7 +74,7 @@ pub record HasRead (old new : View) (at : Sector) (bytes : List Byte) (result : 
   pub pending : new.pending ≡ old.pending
   pub given : OnOk result (bytes ≡ sector old.reads at)
 
--- A write makes its sector pending, and leaves the others. If it fails, what the sector reads as is not said.
+-- A write makes its sector pending, and leaves the others as they were. If it fails, the sector may read as anything.
 pub record HasWritten (old new : View) (at : Sector) (bytes : List Byte) (result : Result Unit DiskError) : Type 0 where
   pub honest : new.honest
   pub time : Elapses old new
@@ -83,7 +84,7 @@ pub record HasWritten (old new : View) (at : Sector) (bytes : List Byte) (result
   pub still_pending : old.pending at ≡ true → new.pending at ≡ true
   pub written : OnOk result ((sector new.reads at ≡ bytes) × (new.pending at ≡ true))
 
--- A sync that succeeds leaves nothing pending, and one that fails clears nothing.
+-- After a sync that succeeds nothing is pending. After one that fails the same sectors are.
 pub record HasSynced (old new : View) (result : Result Unit DiskError) : Type 0 where
   pub honest : new.honest
   pub time : Elapses old new
@@ -91,7 +92,7 @@ pub record HasSynced (old new : View) (result : Result Unit DiskError) : Type 0 
   pub pending : OnErr result (new.pending ≡ old.pending)
   pub durable : OnOk result ((k : Sector) → new.pending k ≡ false)
 
--- A call that answers `Ok` is one call of the disk, with these numbers and bytes, and one that fails is one or none.
+-- A call that answers `Ok` adds this one call to the list. One that fails adds it, or nothing.
 pub record IsCalled (old new : View) (call : Call) (result : Result Unit DiskError) : Type 0 where
   pub made : OnOk result (new.calls ≡ old.calls ++ call ∷ [])
   pub tried : OnErr result ((new.calls ≡ old.calls) ⊎ (new.calls ≡ old.calls ++ call ∷ []))
@@ -100,11 +101,11 @@ pub record IsCalled (old new : View) (call : Call) (result : Result Unit DiskErr
 abbrev pub one_failure_more : ℕ → ℕ
 one_failure_more failures = min (failures + 1) (2 ^ 64 - 1)
 
--- the device has failed in between, or has failed as often as can be counted
+-- the device has failed between old and new, or as often as can be counted
 abbrev pub HasFailed : View → View → Type 0
 HasFailed old new = (old.failures < new.failures) ⊎ (new.failures ≡ 2 ^ 64 - 1)
 
--- `DiskFault` is told only where the device has failed, which is counted up to a bound.
+-- `DiskFault` comes only where the device has failed. Failures are counted up to a bound.
 pub record HasCause {T : Type 0} (old new : View) (result : Result T DiskError) : Type 0 where
   pub sectors : new.sectors ≡ old.sectors
   pub later : old.failures ≤ new.failures

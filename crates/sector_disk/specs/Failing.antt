@@ -11,7 +11,7 @@ use Rattle.sector_disk.specs.declared.failing.FailingDisk.{FailingDisk}
 abbrev pub disk_within : {D : Type 0} → FailingDisk D → D
 disk_within disk = disk.inner
 
--- the disk within, which has also failed this often
+-- the disk within, with the calls that were made to fail counted as failures too
 abbrev pub failing_view : {D : Type 0} → (D → View) → FailingDisk D → View
 failing_view view disk = record (view disk.inner) { failures = min ((view disk.inner).failures + disk.failed) (2 ^ 64 - 1) }
 
@@ -24,7 +24,7 @@ is_due Always call number = nat_le call number
 abbrev pub fails_next : {D : Type 0} → FailingDisk D → Bool
 fails_next disk = is_due disk.failing disk.call (disk.made + 1)
 
--- A call is counted. One that is to fail does, and the disk within does not see it; each other is a call of the disk within.
+-- A call is counted. One that is to fail does so, and does not reach the disk within. Each other is a call of the disk within.
 pub record HasCounted {D : Type 0} (view : D → View) (old new : FailingDisk D) (result : Result Unit DiskError) : Type 0 where
   pub made : new.made ≡ min (old.made + 1) (2 ^ 64 - 1)
   pub call : new.call ≡ old.call
@@ -36,6 +36,6 @@ pub record HasCounted {D : Type 0} (view : D → View) (old new : FailingDisk D)
 abbrev pub failing_disk : {D : Type 0} → D → ℕ → Failing → FailingDisk D
 failing_disk inner call failing = record { inner = inner; call = call; failing = failing; made = 0; failed = 0 }
 
--- it is sound as the disk within is
+-- it is sound where the disk within is
 pub failing_sound : {D : Type 0} (view : D → View) (disk : FailingDisk D) → IsSound (view disk.inner) → IsSound (failing_view view disk)
 failing_sound view disk is = record { count = is.count; reads_left = is.reads_left; counts_now = is.counts_now; only_now = is.only_now; earlier = is.earlier }

@@ -1,11 +1,11 @@
--- What a run of writes leaves.
+-- What a stop leaves of a run of writes.
 use Rattle.std.specs.Prelude.{◌≡◌, ◌⊎◌, ℕ, ◌<◌, ◌≤◌, ◌+◌, List, length, OnOk, Result}
 use Rattle.sector_disk.specs.Numbers.{Byte, Sector, Sectors}
 use Rattle.sector_disk.specs.Disk.{View, IsImageOf, sector}
 use Rattle.sector_disk.specs.Run.{LeavesOnly, IsTornImage}
 use Rattle.sector_disk.specs.declared.disk.DiskError.{DiskError}
 
--- A run of writes: n sectors from at on, the k-th of them with these bytes. Up to its end any bytes may stand in them.
+-- A run of writes: n sectors from at on, the k-th with the bytes of k. Until the run ends, these sectors may hold anything.
 pub record HasFilled (old new : View) (at : Sector) (n : Sectors) (bytes : ℕ → List Byte) (result : Result Unit DiskError) : Type 0 where
   pub honest : new.honest
   pub crash : LeavesOnly old new (IsTornImage old at n)

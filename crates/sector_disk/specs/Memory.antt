@@ -1,5 +1,6 @@
--- What a disk in memory is: the sectors that it began with, after each of its calls.
-use Rattle.std.specs.Prelude.{◌≡◌, ℕ, ◌<◌, ◌≤◌, ◌+◌, ◌-◌, Bool, true, false, List, [], ◌∷◌, length, map, replicate, set, take, nat_lt, if◌then◌else◌, Result, Ok, Err}
+-- What a disk in memory holds: what its calls made of the sectors that it began with.
+use Rattle.std.specs.Prelude.{◌≡◌, ℕ, ◌<◌, ◌≤◌, ◌+◌, ◌-◌, Bool, true, false, List, [], ◌∷◌, length, map, replicate, set, take, nat_lt, if◌then◌else◌, Result}
+use Rattle.std.specs.Prelude.{Ok, Err}
 use Rattle.sector_disk.specs.Numbers.{Byte, Sector, Sectors, Tick}
 use Rattle.sector_disk.specs.Disk.{IsImage, IsSector, View, one_failure_more, sector}
 use Rattle.sector_disk.specs.Crash.{is_pending}
@@ -9,7 +10,7 @@ use Rattle.sector_disk.specs.declared.record.Call.{Call}
 use Rattle.sector_disk.specs.declared.record.Call.TheVariants.{Read, Write, Sync}
 use Rattle.sector_disk.specs.declared.memory.MemoryDisk.{MemoryDisk}
 
--- what stands in it: the sectors, and for each whether it is pending
+-- its sectors, and for each whether it is pending
 pub record Contents : Type 0 where
   pub reads : List (List Byte)
   pub pending : List Bool
@@ -20,7 +21,7 @@ called (Read at) was = was
 called (Write at bytes) was = record { reads = set was.reads at bytes; pending = set was.pending at true }
 called Sync was = record { reads = was.reads; pending = map (λ mark. false) was.pending }
 
--- after some calls, the first of them first
+-- after these calls, in order
 abbrev pub after_calls : List Call → Contents → Contents
 after_calls [] was = was
 after_calls (call ∷ calls) was = after_calls calls (called call was)
@@ -33,17 +34,17 @@ IsLeftOf now image = IsImage now.reads (is_pending now.pending) image
 abbrev pub left_since : Contents → List Call → Tick → List (List Byte) → Type 0
 left_since was calls t image = (k : Tick) × (t ≤ k) × (k ≤ length calls) × IsLeftOf (after_calls (take k calls) was) image
 
--- what it began with: its sectors, and nothing pending
+-- what it began with: some sectors, and nothing pending
 abbrev pub began : {A : Type 0} → MemoryDisk A → Contents
 began disk = record { reads = disk.base.items; pending = map (λ bytes. false) disk.base.items }
 
--- what stands in it is what its calls made of what it began with
+-- what it holds is what its calls made of what it began with
 pub record IsReplayed {A : Type 0} (disk : MemoryDisk A) : Type 0 where
   pub reads : disk.sectors.items ≡ (after_calls disk.record.calls.items (began disk)).reads
   pub pending : disk.pending.items ≡ (after_calls disk.record.calls.items (began disk)).pending
   pub bytes : (k : Sector) → k < length disk.sectors.items → IsSector (sector disk.sectors.items k)
 
--- what contracts see of a disk in memory: its clock counts the calls in its record
+-- what a disk in memory is modelled as: its clock counts the calls in its record
 abbrev pub memory_view : {A : Type 0} → MemoryDisk A → View
 memory_view disk = record {
   sectors = length disk.sectors.items;
@@ -60,7 +61,7 @@ memory_view disk = record {
 abbrev pub room_left : {A : Type 0} → MemoryDisk A → ℕ
 room_left disk = disk.record.room - length disk.record.calls.items
 
--- A call succeeds as long as the record has room, and then fills it by one; else it is counted as a failure, and nowhere else. The room stays.
+-- A call succeeds while the record has room, and takes one place of it. Otherwise it is only counted as a failure. The room stays the same.
 pub record HasRecorded {A : Type 0} (old new : MemoryDisk A) (result : Result Unit DiskError) : Type 0 where
   pub answer : result ≡ (if nat_lt 0 (room_left old) then Ok tt else Err DiskFault)
   pub moment : (memory_view new).moment ≡ (if nat_lt 0 (room_left old) then (memory_view old).moment + 1 else (memory_view old).moment)
@@ -68,7 +69,7 @@ pub record HasRecorded {A : Type 0} (old new : MemoryDisk A) (result : Result Un
   pub room : new.record.room ≡ old.record.room
   pub left : room_left new ≡ room_left old - 1
 
--- a new disk: zeros, nothing pending, no call recorded, room for just so many
+-- a new disk: zeros, nothing pending, no call recorded, and room for exactly so many
 pub record IsBlank {A : Type 0} (disk : MemoryDisk A) (sectors : Sectors) (calls : ℕ) : Type 0 where
   pub honest : (memory_view disk).honest
   pub reads : disk.sectors.items ≡ replicate sectors (replicate 512 0)

@@ -19,9 +19,9 @@ pub enum DiskError {
 
 /// Sectors of 512 bytes, numbered from 0. No call takes memory.
 ///
-/// What is said of an honest disk holds under the premise that the device keeps it, which each call passes on.
+/// What clauses state of an honest disk has a premise: that the device does so. Each call passes that premise on.
 pub trait Disk {
-    /// What contracts see of it.
+    /// What it is modelled as.
     ghost view: { Self → View };
 
     /// How many sectors it has.
@@ -42,7 +42,7 @@ pub trait Disk {
 
     /// Writes one sector. Until the next sync that succeeds, a stop may leave any bytes in it.
     ///
-    /// After a `DiskFault` it may read as anything.
+    /// After a `DiskFault` the sector may read as anything.
     fn write(&mut self, at: u64, bytes: &[u8; 512]) -> Result<(), DiskError>
         ensures effect { at < (view self.old).sectors → (view self.old).honest
             → HasWritten (view self.old) (view self.new) at bytes.now result }
@@ -52,9 +52,9 @@ pub trait Disk {
             → (result ≡ Err OutOfRange) × (self.new ≡ self.old) }
         ensures in_range { IsErrOf result OutOfRange → (view self.old).sectors ≤ at };
 
-    /// Makes what was written last. Once it has answered `Ok`, a stop leaves what reading gives.
+    /// Makes what was written durable. Once it has answered `Ok`, a stop leaves what a read gives.
     ///
-    /// After a `DiskFault` nothing is safer than before.
+    /// After a `DiskFault` each sector that was pending still is.
     fn sync(&mut self) -> Result<(), DiskError>
         ensures effect { (view self.old).honest → HasSynced (view self.old) (view self.new) result }
         ensures cause { HasCause (view self.old) (view self.new) result }

@@ -6,7 +6,7 @@ ghost use Rattle.sector_disk.specs.Run.{LeavesOnly};
 
 use crate::{Disk, DiskError};
 
-/// Writes the first two sectors, and only once no stop can take these back the third.
+/// Writes the first two sectors, and the third only once no stop can undo these two.
 pub fn write_in_order<D: Disk>(
     disk: &mut D,
     first: &[u8; 512],
@@ -15,7 +15,7 @@ pub fn write_in_order<D: Disk>(
 ) -> Result<(), DiskError>
     requires { 3 ≤ (D.view disk.old).sectors }
 
-    // A stop at any moment that leaves the third sector touched leaves the first two as written.
+    // Where a stop leaves the third sector changed, it leaves the first two as written.
     ensures any_moment { (D.view disk.old).honest
         → LeavesOnly (D.view disk.old) (D.view disk.new) (IsInOrder (D.view disk.old) first.now second.now) }
 

@@ -1,4 +1,4 @@
-// A disk that fails a call.
+// A disk that fails some of its calls.
 ghost use Rattle.std.specs.Prelude.{◌≡◌, ◌<◌, ◌≤◌, ◌+◌, ◌-◌, ◌^◌, true, false, min, Err, IsErrOf, Ok};
 ghost use Rattle.sector_disk.specs.Disk.{HasCause, IsCalled, HasRead, HasSynced, HasWritten};
 ghost use Rattle.sector_disk.specs.declared.record.Call.TheVariants.{Read, Sync, Write};
@@ -15,9 +15,9 @@ pub enum Failing {
     Always,
 }
 
-/// A disk whose calls `read`, `write` and `sync` are counted, and fail from or at a given one.
+/// A disk that counts its calls `read`, `write` and `sync`. It fails a given one, or all from there on.
 ///
-/// A call that fails passes nothing on to the disk within. A call out of range is not counted.
+/// A call that fails does not reach the disk within. A call out of range is not counted.
 #[derive(Debug, Drop)]
 pub struct FailingDisk<D> {
     inner: D,
@@ -30,7 +30,7 @@ pub struct FailingDisk<D> {
 impl<D: Disk> FailingDisk<D> {
     ghost use Rattle.sector_disk.specs.Failing.{disk_within, failing_disk, fails_next};
 
-    /// Fails the call of that number, counted from 1: with 0, `Once` fails none and `Always` fails all.
+    /// Fails the call of that number, counted from 1. With 0, `Once` fails none and `Always` fails all.
     pub fn new(inner: D, call: u64, failing: Failing) -> Self
         ensures { result ≡ failing_disk inner call failing }
     {
@@ -66,7 +66,7 @@ impl<D: Disk> FailingDisk<D> {
         }
     }
 
-    // Counts a call, and tells whether it fails.
+    // Counts a call, and returns whether it fails.
     fn count(&mut self) -> Result<(), DiskError>
         ensures made { self.new.made ≡ min (self.old.made + 1) (2 ^ 64 - 1) }
         ensures inner { self.new.inner ≡ self.old.inner }

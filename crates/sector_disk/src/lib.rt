@@ -1,4 +1,5 @@
-//! A disk of sectors of 512 bytes, and what a stop may leave of it.
+//! A disk of sectors of 512 bytes, and what a stop may leave of it. It calls no operating system, and knows nothing of what the
+//! sectors hold.
 #![tactic(auto)]
 
 mod disk;

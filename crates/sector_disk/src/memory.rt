@@ -10,7 +10,7 @@ use crate::record::{Call, Record};
 use crate::{Disk, DiskError};
 use std::alloc::{AllocError, Allocator};
 
-/// A disk in memory that is honest, and whose pending sectors a caller can see and choose at a stop.
+/// An honest disk in memory. A caller can see its pending sectors, and choose what a stop leaves in them.
 ///
 /// It keeps a record of its calls `read`, `write` and `sync`. Once the record is full, each such call in range is a `DiskFault`.
 #[derive(Drop)]
@@ -60,7 +60,7 @@ impl<A: Allocator> MemoryDisk<A> {
         Ok(all)
     }
 
-    /// What a stop leaves that puts these bytes into those of the named sectors that are pending. All others are as a read gave.
+    /// The disk that a stop leaves: each pending sector that is named holds these bytes. All others hold what a read gave.
     ///
     /// A sector that is named twice holds the bytes named last. Takes no memory. The record is empty, and has all its room.
     pub fn crash(self, fill: &[(u64, [u8; 512])]) -> MemoryDisk<A>
@@ -97,7 +97,7 @@ fn zeros<A: Allocator>(alloc: A, count: usize) -> Result<Vec<[u8; 512], A>, Allo
     Ok(all)
 }
 
-// Puts bytes into the sectors named that are pending, the last named last.
+// Puts bytes into the pending ones of the named sectors. Of bytes for one sector the last ones stay.
 fn fill_pending(sectors: &mut [[u8; 512]], pending: &[bool], fill: &[(u64, [u8; 512])])
     requires { length pending.now ≡ length sectors.old }
     ensures filled { IsFilled sectors.old (is_pending pending.now) fill.now sectors.new }

@@ -14,7 +14,7 @@ pub(crate) enum Call {
     Sync,
 }
 
-// The calls that were answered, in order, and how many were refused for want of room.
+// The calls that were answered, in order, and how many were refused because there was no room.
 #[derive(Drop)]
 pub(crate) struct Record<A: Allocator> {
     calls: Vec<Call, A>,
@@ -41,7 +41,8 @@ impl<A: Allocator> Record<A> {
         ensures answer { result ≡ (if nat_lt (vec_len self.old.calls) self.old.room then Ok tt else Err DiskFault) }
         ensures noted { OnOk result (self.new.calls.items ≡ self.old.calls.items ++ call ∷ []) }
         ensures refused { OnErr result (self.new.calls ≡ self.old.calls) }
-        ensures failures { self.new.failures ≡ (if nat_lt (vec_len self.old.calls) self.old.room then self.old.failures else one_failure_more self.old.failures) }
+        ensures failures { self.new.failures
+            ≡ (if nat_lt (vec_len self.old.calls) self.old.room then self.old.failures else one_failure_more self.old.failures) }
         ensures failed { OnErr result ((self.old.failures < self.new.failures) ⊎ (self.new.failures ≡ 2 ^ 64 - 1)) }
         ensures later { self.old.failures ≤ self.new.failures }
         ensures room { self.new.room ≡ self.old.room }

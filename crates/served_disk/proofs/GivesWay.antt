@@ -1,12 +1,12 @@
--- Want of memory told in the place of a list.
+-- Out of memory reported in the place of a list.
 use Rattle.std.proofs.Common.{◌≡◌, ℕ, ◌+◌, ◌≤◌, ◌<◌, ◌∙◌, ap, arith, Result, Ok, Err, OnOk, OnErr, is_ok, [], ◌++◌, true, false, Bool, List, refl, sym, subst, inl, inr}
 use Rattle.std.proofs.lemmas.Bool.{true≢false}
 use mathlib.Core.Bool.{false≢true}
 use Rattle.centre_core.specs.State.{State}
 use Rattle.centre_core.specs.declared.query.Query.{Query}
-use Rattle.centre_core.specs.declared.query.Told.{Told}
-use Rattle.centre_core.specs.declared.query.Told.TheVariants as told
-use Rattle.desk.specs.declared.service.Service.TheVariants.{Memory}
+use Rattle.centre_core.specs.declared.query.QueryAnswer.{QueryAnswer}
+use Rattle.centre_core.specs.declared.query.QueryAnswer.TheVariants as answered
+use Rattle.desk.specs.declared.outage.Outage.TheVariants.{Memory}
 use Rattle.desk.specs.OfRegister.{of_register}
 use Rattle.console.specs.declared.line.Line.{Line}
 use Rattle.console.specs.declared.line.Line.TheVariants.{Silent, Bad, Apply, Ask}
@@ -17,37 +17,37 @@ use Rattle.console.specs.Dialogue.{AnswersQuery}
 use Rattle.console.specs.Reading.{reading}
 use Rattle.served_disk.specs.Showing.{IsShown, IsTextOf, ShowsReading}
 
-listed : {B : Type 0} (t : Told B) → (IsOneLine t → ⊥) → is_list t ≡ true
-listed (told.Whereabouts itsi radio) long = absurd (long tt)
-listed (told.Look itsi rule) long = absurd (long tt)
-listed (told.Groups itsi groups) long = refl
-listed (told.Members gtsi members) long = refl
-listed (told.Waiting itsi items) long = refl
-listed (told.Total count) long = absurd (long tt)
+listed : {B : Type 0} (t : QueryAnswer B) → (IsOneLine t → ⊥) → is_list t ≡ true
+listed (answered.Whereabouts itsi radio) long = absurd (long refl)
+listed (answered.Look itsi rule) long = absurd (long refl)
+listed (answered.Groups itsi groups) long = refl
+listed (answered.Members gtsi members) long = refl
+listed (answered.Waiting itsi items) long = refl
+listed (answered.Total count) long = absurd (long refl)
 
 module _ {A : Type 0} where
-  untold : (s : State) (q : Query) (a : Answer A) → (IsLine a → ⊥) → AnswersQuery of_register 1 s q a s → AnswersQuery {A = A} of_register 1 s q (answer.Untold 1 Memory) s
-  untold s q (answer.Told told) long is = (refl, inr (refl, (told, listed told long, is)))
-  untold s q (answer.Untold number word) long is = absurd (long tt)
-  untold s q answer.Quiet long is = absurd is
-  untold s q (answer.Bad number fault) long is = absurd is
-  untold s q (answer.Replied sequence reply) long is = absurd is
-  untold s q (answer.Unreplied sequence word) long is = absurd is
+  query_outage : (s : State) (q : Query) (a : Answer A) → (IsLine a → ⊥) → AnswersQuery of_register 1 s q a s → AnswersQuery {A = A} of_register 1 s q (answer.QueryOutage 1 Memory) s
+  query_outage s q (answer.Queried answered) long is = (refl, inr (refl, (answered, listed answered long, is)))
+  query_outage s q (answer.QueryOutage number word) long is = absurd (long tt)
+  query_outage s q answer.Quiet long is = absurd is
+  query_outage s q (answer.Bad number fault) long is = absurd is
+  query_outage s q (answer.Replied sequence reply) long is = absurd is
+  query_outage s q (answer.CommandOutage sequence word) long is = absurd is
 
   short : (a b : Answer A) → a ≡ b → IsLine b → IsLine a
   short a b same is = subst (λ (c : Answer A). IsLine c) (sym same) is
 
-  gives_way : (s : State) (said : Line A) (a : Answer A) → (IsLine a → ⊥) → ShowsReading s said a → ShowsReading {A = A} s said (answer.Untold 1 Memory)
+  gives_way : (s : State) (said : Line A) (a : Answer A) → (IsLine a → ⊥) → ShowsReading s said a → ShowsReading {A = A} s said (answer.QueryOutage 1 Memory)
   gives_way s Silent a long is = absurd (long (short a _ is tt))
   gives_way s (Bad fault) a long is = absurd (long (short a _ is tt))
   gives_way s (Apply c) a long is = absurd (long (short a _ is tt))
-  gives_way s (Ask q) a long is = untold s q a long is
+  gives_way s (Ask q) a long is = query_outage s q a long is
 
   pub shown : (s : State) (whole out : List ℕ) (troubled : Bool) (a : Answer A) → ShowsReading s (reading 1 whole) a → IsTextOf a out troubled → IsShown A s whole out troubled
-  shown s whole out troubled a is (inl told) = record { given = a; answers = is; written = told.written; trouble = told.trouble }
-  shown s whole out troubled a is (inr told) = record { given = answer.Untold 1 Memory; answers = gives_way s (reading 1 whole) a told.long is; written = told.written; trouble = told.trouble }
+  shown s whole out troubled a is (inl answered) = record { given = a; answers = is; written = answered.written; trouble = answered.trouble }
+  shown s whole out troubled a is (inr answered) = record { given = answer.QueryOutage 1 Memory; answers = gives_way s (reading 1 whole) a answered.long is; written = answered.written; trouble = answered.trouble }
 
--- what was written behind nothing
+-- what was written after nothing
 pub written_first : {X E : Type 0} (r : Result X E) (old new more : List ℕ) → old ≡ [] → is_ok r ≡ true → OnOk r (new ≡ old ++ more) → new ≡ more
 written_first (Ok x) old new more none ok is = is ∙ ap (λ l. l ++ more) none
 written_first (Err e) old new more none ok is = absurd (false≢true ok)

@@ -1,5 +1,5 @@
 mod GivesWay
 mod Lacking
-mod Lent
+mod Borrowed
 mod NotOpened
 mod Stations

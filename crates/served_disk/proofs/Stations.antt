@@ -14,7 +14,7 @@ use Rattle.served_disk.specs.declared.fault.Fault.{Fault}
 use Rattle.served_disk.specs.declared.port_names.PortNames.{PortNames}
 use Rattle.served_disk.specs.Faults.{IsOfRun}
 use Rattle.served_disk.specs.Stations.{HasEnded, HaveEnded, IsFirst, IsWhole, Run, is_troubled, text_from}
-use Rattle.served_disk.specs.Telling.{station_text}
+use Rattle.served_disk.specs.Printing.{station_text}
 
 -- a run whose answers wait in memory
 abbrev Answered : Type 0
@@ -53,14 +53,14 @@ one_more a b c names runs i d e s answers same within is given before more =
 
 module _ {O : Type 0} where
   -- the run with the first fault
-  first_fault : (names : List PortNames) (runs : List (Run O)) (i : ℕ) (name : PortNames) (run : Run O) (end : Result Bool Fault) (told : Fault)
-      → All IsWhole (take i runs) → slice_get names i ≡ Some name → slice_get runs i ≡ Some run → HasEnded name run.1 end → end ≡ Err told
-      → IsFirst names runs told
-  first_fault names runs i name (answers, Ok ran) end told whole named here is failed = absurd (not_both _ _ (sym is ∙ failed))
+  first_fault : (names : List PortNames) (runs : List (Run O)) (i : ℕ) (name : PortNames) (run : Run O) (end : Result Bool Fault) (answered : Fault)
+      → All IsWhole (take i runs) → slice_get names i ≡ Some name → slice_get runs i ≡ Some run → HasEnded name run.1 end → end ≡ Err answered
+      → IsFirst names runs answered
+  first_fault names runs i name (answers, Ok ran) end answered whole named here is failed = absurd (not_both _ _ (sym is ∙ failed))
     where
       not_both : (b : Bool) (f : Fault) → ◌≡◌ {A = Result Bool Fault} (Ok b) (Err f) → ⊥
       not_both b f same = cc
-  first_fault names runs i name (answers, Err fault) end told whole named here (said, is, of) failed =
+  first_fault names runs i name (answers, Err fault) end answered whole named here (said, is, of) failed =
       record {
         place = i;
         name = name;
@@ -77,13 +77,13 @@ module _ {O : Type 0} where
       same_fault f g same = cc
 
   -- where a run has a fault, and none did before
-  pub is_fault : (names : List PortNames) (runs : List (Run O)) (i : ℕ) (d : PortNames) (e : Run O) (end result : Result Bool Fault) (told : Fault)
-      → length names ≡ length runs → i < length runs → All IsWhole (take i runs) → HasEnded (get_or names i d) (get_or runs i e).1 end → end ≡ Err told → result ≡ Err told
+  pub is_fault : (names : List PortNames) (runs : List (Run O)) (i : ℕ) (d : PortNames) (e : Run O) (end result : Result Bool Fault) (answered : Fault)
+      → length names ≡ length runs → i < length runs → All IsWhole (take i runs) → HasEnded (get_or names i d) (get_or runs i e).1 end → end ≡ Err answered → result ≡ Err answered
       → HaveEnded names runs result
-  is_fault names runs i d e end result told same within whole is failed out =
+  is_fault names runs i d e end result answered same within whole is failed out =
       let named = slice_get-get_or names i d (omega (arith, within, same)) in
       let here = slice_get-get_or runs i e within in
-      subst (λ r. HaveEnded names runs r) (sym out) (first_fault names runs i (get_or names i d) (get_or runs i e) end told whole named here is failed)
+      subst (λ r. HaveEnded names runs r) (sym out) (first_fault names runs i (get_or names i d) (get_or runs i e) end answered whole named here is failed)
 
   -- a run without one
   no_fault : (name : PortNames) (run : Run O) (end : Result Bool Fault) (b : Bool) → HasEnded name run.1 end → end ≡ Ok b → IsWhole run × (b ≡ is_troubled run)

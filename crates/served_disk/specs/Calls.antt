@@ -1,4 +1,4 @@
--- The calls that the program makes of the disk in a file.
+-- The calls that the program makes on the disk in a file.
 use Rattle.std.specs.Prelude.{◌≡◌, ◌⊎◌, List, [], ◌∷◌, ◌++◌}
 use Rattle.sector_disk.specs.Reading.{before_reads}
 use Rattle.sector_disk.specs.declared.record.Call.{Call}
@@ -14,14 +14,14 @@ use Rattle.served_disk.specs.declared.fault.Fault.TheVariants.{Device}
 abbrev pub IsOnlyRead : List Call → Type 0
 IsOnlyRead calls = before_reads calls ≡ Sync ∷ []
 
--- the same of a disk that has met a fault; where its sync has failed it may have had no call
+-- the same after a fault; if the sync failed, there may have been no call
 abbrev pub IsReadAtMost : Fault → List Call → Type 0
 IsReadAtMost fault calls = IsOnlyRead calls ⊎ ((fault ≡ Device) × (calls ≡ []))
 
--- the calls that make a disk in a new file: zeros into each sector and a sync, then what makes it ready for an empty register
+-- the calls that make a disk in a new file: zeros into each sector and a sync, then those of `format`
 abbrev pub making_calls : Layout → List Call
 making_calls layout = blank_calls (disk_size layout) ++ format_calls layout
 
--- the first of these calls, and no others
+-- a prefix of these calls
 abbrev pub IsPartlyMade : Layout → List Call → Type 0
 IsPartlyMade layout calls = (left : List Call) × (making_calls layout ≡ calls ++ left)

@@ -1,4 +1,4 @@
--- The lines and the exit statuses of faults, and which fault is told of what the parts answer.
+-- The lines and the exit statuses of faults, and which fault is reported for the fault of a part.
 use Rattle.std.specs.Prelude.{◌≡◌, ℕ, List, ◌++◌, None, Option, Some, codes, decimal}
 use Rattle.std.specs.Borrow.{Bor}
 use Rattle.console.specs.declared.running.RunFault.{RunFault}
@@ -27,7 +27,7 @@ fault_text fault.Epochs = codes "fault: epochs\n"
 fault_text (fault.Twice name) = codes "fault: " ++ name.now ++ codes " is named twice\n"
 fault_text fault.TooMany = codes "fault: more files than stations\n"
 
--- 2 for files that no run may have, 3 for settings, 4 for a file, 5 for what stands on a disk, the device and memory
+-- 2 for files that no run may have, 3 for settings, 4 for a file; 5 for what is on a disk, for the device and for memory
 abbrev pub fault_status : Fault → ℕ
 fault_status fault.Settings = 3
 fault_status (fault.File name) = 4
@@ -40,25 +40,25 @@ fault_status fault.Epochs = 5
 fault_status (fault.Twice name) = 2
 fault_status fault.TooMany = 2
 
--- the fault names a file, this one
+-- the fault names this file
 abbrev pub Names : Fault → List Byte → Type 0
 Names (fault.File name) text = name.now ≡ text
 Names other text = ⊥
 
--- ---- of what the parts answer
+-- ---- the fault that is reported
 
--- of reading a settings text
+-- for a fault of reading a settings text
 abbrev pub of_settings : SettingsFault → Fault
 of_settings settings.BadSettings = fault.Settings
 of_settings settings.NoMemory = fault.Memory
 
--- of a disk in the file of this name
+-- for a fault of a disk in the file of this name
 abbrev pub IsOfFile : FileFault → List Byte → Fault → Type 0
 IsOfFile file.NotOpened name is = Names is name
 IsOfFile file.DiskFault name is = is ≡ fault.Device
 IsOfFile file.NoMemory name is = is ≡ fault.Memory
 
--- of a register on a disk
+-- for a fault of a register on a disk
 abbrev pub of_store : StoreFault → Fault
 of_store store.Unformatted = fault.Unformatted
 of_store store.BadGeometry = fault.BadGeometry
@@ -69,12 +69,12 @@ of_store store.NoMemory = fault.Memory
 of_store store.EpochsUsedUp = fault.Epochs
 of_store store.Unready = fault.Device
 
--- of writing a station's answers: to a file, or into memory, where they find no room
+-- for a fault of writing a station's answers: to a file; or into memory, which then ran out
 abbrev pub IsOfWriting : Option (Bor (List Byte)) → Fault → Type 0
 IsOfWriting (Some name) is = Names is name.now
 IsOfWriting None is = is ≡ fault.Memory
 
--- of the lines of a station whose files are called so
+-- for a fault of the run of a station with these files
 abbrev pub IsOfRun : RunFault → PortNames → Fault → Type 0
 IsOfRun run.Read names is = Names is names.input.now
 IsOfRun run.Write names is = IsOfWriting names.output is

@@ -1,4 +1,4 @@
--- Why the files of the stations of a run are not served.
+-- Why the files of a run's stations are not served.
 use Rattle.std.specs.Prelude.{◌≡◌, ◌⊎◌, ◌-◌, List, None, Some, slice_get}
 use Rattle.std.specs.Borrow.{Bor}
 use Rattle.sector_disk.specs.Numbers.{Byte}
@@ -11,7 +11,7 @@ use Rattle.served_disk.specs.declared.fault.Fault.TheVariants as fault
 abbrev pub IsAt : List (Bor (List Byte)) → Place → Bor (List Byte) → Type 0
 IsAt names place name = slice_get names (place - 1) ≡ Some name
 
--- of their names: the first that was there before; where there is none, memory ran out
+-- of their names: the first that came earlier too; if there is none, memory ran out
 abbrev pub IsOfNames : List (Bor (List Byte)) → Fault → Type 0
 IsOfNames names (fault.Twice name) = (place : Place) × (first_twice (texts names) ≡ Some place) × IsAt names place name
 IsOfNames names fault.Memory = first_twice (texts names) ≡ None

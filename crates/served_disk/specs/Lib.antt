@@ -4,4 +4,4 @@ pub mod Files
 pub mod Making
 pub mod Showing
 pub mod Stations
-pub mod Telling
+pub mod Printing

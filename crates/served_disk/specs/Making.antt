@@ -26,14 +26,14 @@ pub record IsFor (settings : Settings) (layout : Layout) : Type 0 where
 abbrev pub AsksFor : List Byte → Layout → Type 0
 AsksFor text layout = (settings : Settings) × Holds text settings × IsFor settings layout
 
--- why the text asks for no disk: it holds no settings; their numbers are out of range; or there was no memory to read it
+-- why the text asks for no disk: it holds no settings; a number of these is out of range; or memory ran out
 abbrev pub AsksForNone : List Byte → Fault → Type 0
 AsksForNone text fault.Settings = (settings : Settings) → ¬ Holds text settings
 AsksForNone text fault.BadGeometry = (settings : Settings) × Holds text settings × ¬ AreInRange settings
 AsksForNone text fault.Memory = IsUtf8 text × ¬ IsBlank text
 AsksForNone text other = ⊥
 
--- why a disk in a file of this name was not made: the file was not, or the device failed, or there was no memory
+-- why a disk in a file of this name was not made: the file was not made, the device failed, or memory ran out
 abbrev pub IsOfMaking : List Byte → Fault → Type 0
 IsOfMaking name (fault.File text) = text.now ≡ name
 IsOfMaking name fault.Device = Unit {0}

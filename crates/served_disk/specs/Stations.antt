@@ -1,4 +1,4 @@
--- What is printed of the runs of stations, and how they have ended.
+-- What is printed for the runs of stations, and how they have ended.
 use Rattle.std.specs.Prelude.{◌≡◌, ◌+◌, ◌++◌, ◌∷◌, [], ℕ, Bool, true, false, All, List, Option, Some, Ok, Err, Result, Vec, cond, is_ok, slice_get, take}
 use Rattle.std.specs.declared.alloc.Global.{Global}
 use Rattle.std.specs.List.{list_any}
@@ -15,21 +15,21 @@ use Rattle.served_disk.specs.declared.fault.Fault.{Fault}
 use Rattle.served_disk.specs.declared.serving.Served.{Served}
 use Rattle.served_disk.specs.declared.port_names.PortNames.{PortNames}
 use Rattle.served_disk.specs.Faults.{IsOfRun, fault_status}
-use Rattle.served_disk.specs.Telling.{station_text}
+use Rattle.served_disk.specs.Printing.{station_text}
 
 -- what a station's answers were written to, and how its run has ended
 abbrev pub Run : Type 0 → Type 0
 Run O = O × Result Ran RunFault
 
--- stations 1, 2 and so on were served over a store that was opened, each with the lines and to the writer of its port; and it is said
--- whether that broke the store
+-- Stations 1, 2 and so on were served over a store that was opened, each with the lines and to the writer of its port. It is given
+-- whether that broke the store.
 pub record AreServed {D I O : Type 0} (disk : D → View) (J : Type 0) (base : State) (unread : I → Option (List Byte)) (written : O → Option (List Byte))
     (opened : StoreView Global D) (ports : List (Port I O)) (served : Served O) : Type 0 where
   pub store : StoreView Global D
   pub runs : HasServed disk J base unread written opened ports store served.runs.items
   pub broken : served.is_broken ≡ store.broken
 
--- of this station and those after it, each with its name and its answers
+-- the text of this station and those after it: each with the name of its file, and its answers
 abbrev pub text_from : Station → List PortNames → List (Run (Vec Byte Global)) → List Byte
 text_from station [] runs = []
 text_from station (name ∷ names) [] = []
@@ -39,10 +39,10 @@ text_from station (name ∷ names) (run ∷ runs) = (station_text station name.i
 abbrev pub stations_text : List PortNames → List (Run (Vec Byte Global)) → List Byte
 stations_text names runs = text_from 1 names runs
 
--- one run has ended: it says whether an answer reported trouble, or it has this fault
+-- one run has ended: with whether an answer reported trouble, or with this fault
 abbrev pub HasEnded : PortNames → Result Ran RunFault → Result Bool Fault → Type 0
 HasEnded name (Ok ran) end = end ≡ Ok ran.troubled
-HasEnded name (Err fault) end = (told : Fault) × (end ≡ Err told) × IsOfRun fault name told
+HasEnded name (Err fault) end = (reported : Fault) × (end ≡ Err reported) × IsOfRun fault name reported
 
 -- the exit status of stations that have ended so
 abbrev pub end_status : Result Bool Fault → ℕ
@@ -60,7 +60,7 @@ module _ {O : Type 0} where
   IsWhole run = is_ok run.1 ≡ true
 
   -- the fault is that of the first run that has one
-  pub record IsFirst (names : List PortNames) (runs : List (Run O)) (told : Fault) : Type 0 where
+  pub record IsFirst (names : List PortNames) (runs : List (Run O)) (reported : Fault) : Type 0 where
     pub place : ℕ
     pub name : PortNames
     pub run : Run O
@@ -69,13 +69,13 @@ module _ {O : Type 0} where
     pub named : slice_get names place ≡ Some name
     pub here : slice_get runs place ≡ Some run
     pub failed : run.1 ≡ Err fault
-    pub is : IsOfRun fault name told
+    pub is : IsOfRun fault name reported
 
-  -- all runs have ended: with the fault of the first that has one; else each is whole, and it is said whether one is troubled
+  -- all runs have ended: with the fault of the first that has one; else each is whole, and the result is whether one is troubled
   abbrev pub HaveEnded : List PortNames → List (Run O) → Result Bool Fault → Type 0
   HaveEnded names runs (Ok troubled) = All IsWhole runs × (troubled ≡ list_any is_troubled runs)
-  HaveEnded names runs (Err told) = IsFirst names runs told
+  HaveEnded names runs (Err reported) = IsFirst names runs reported
 
-  -- a service over a sound disk has ended: with the exit status of how its runs have ended
+  -- a service over a sound disk has ended, with the exit status for how its runs have ended
   abbrev pub HasServiceEnded : List PortNames → List (Run O) → Result ℕ Fault → Type 0
   HasServiceEnded names runs result = (end : Result Bool Fault) × HaveEnded names runs end × (result ≡ Ok (end_status end))

@@ -5,16 +5,16 @@ use std::thread;
 use std::thread::Parker;
 use std::time::Duration;
 
-/// After so many rounds in a row that took no command, the flusher's thread is about to sleep.
+/// After this many rounds in a row that took no command, the flusher's thread is about to sleep.
 const PATIENCE: u64 = 64;
 
 /// Lets the flusher's thread sleep while no station has anything for it. No wake-up is lost:
 ///
-/// - A command is announced until it is answered, and while one is announced the flusher does not sleep. Whoever announces one
-///   when the flusher is about to sleep rings.
-/// - The end of a session is not answered. If it was put before the flusher was about to sleep, the next round takes it, and
-///   the flusher sleeps in the round after that at the earliest, unless this end was the last. If it was put later, whoever
-///   put it rings: then the flusher's sleep ends, or does not begin.
+/// - A command is announced before it is put into the queue, until it is answered. While one is announced, the flusher does not
+///   sleep. Whoever announces one when the flusher is about to sleep rings.
+/// - The end of a session is not answered. If it was put before the flusher was about to sleep, the next round takes it. The
+///   flusher then sleeps in the round after that at the earliest, unless this end was the last. If it was put later, whoever
+///   put it rings: the flusher's sleep ends, or does not begin.
 #[derive(Drop)]
 pub(crate) struct Doorbell {
     /// How many entries are announced: each is about to be put into the queue, or waits for its answer.
@@ -22,7 +22,7 @@ pub(crate) struct Doorbell {
     /// How many rounds in a row took no command. From `PATIENCE` on the flusher sleeps, or is about to.
     idle: AtomicU64,
     parker: Parker,
-    /// How long a sleep may be. `None`: until it rings.
+    /// How long a sleep may last. `None`: until it rings.
     longest: Option<Duration>,
 }
 
@@ -56,7 +56,7 @@ impl Doorbell {
         self.ring();
     }
 
-    /// In the flusher's thread: a round has taken so many commands. After many that took none it sleeps.
+    /// Called in the flusher's thread: a round has taken this many commands. After many rounds that took none it sleeps.
     pub(crate) fn rest<R: Wait>(&self, rt: &R, taken: usize) {
         if taken > 0 {
             self.idle.store(0, Ordering::SeqCst);
@@ -72,7 +72,7 @@ impl Doorbell {
         self.idle.store(0, Ordering::SeqCst);
     }
 
-    /// Sleeps until it rings, at once if it has rung since the last sleep.
+    /// Sleeps until it rings. If it has rung since the last sleep, it returns at once.
     fn sleep<R: Wait>(&self, rt: &R) {
         match self.longest {
             Some(longest) => self.parker.park_timeout(rt, longest),

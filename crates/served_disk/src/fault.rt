@@ -1,10 +1,10 @@
-//! Why the program does not do what it is asked.
+//! Why the program did not do what it was asked.
 ghost use Rattle.std.specs.Prelude.{◌≡◌, ◌++◌, OnOk, codes, decimal};
 ghost use Rattle.std.specs.Io.KnownBytes.{Appends};
 ghost use Rattle.served_disk.specs.Faults.{IsOfFile, IsOfRun, fault_status, fault_text, of_settings, of_store};
 
 use crate::PortNames;
-use crate::telling::{Part, tell};
+use crate::printing::{LinePart, print};
 use console::RunFault;
 use file_disk::FileFault;
 use recovery::StoreFault;
@@ -12,24 +12,24 @@ use settings::SettingsFault;
 use std::io;
 use std::io::Write;
 
-/// Why the program does not do what it is asked.
+/// Why the program did not do what it was asked.
 #[derive(Clone, Copy, Debug, PartialEq, Eq)]
 pub enum Fault<'a> {
-    /// The settings are not the five numbers, in TOML.
+    /// The settings are not the five numbers in TOML.
     Settings,
     /// The file of this name can't be opened, made, read or written, or another process holds it.
     File(&'a str),
     /// The disk has no label.
     Unformatted,
-    /// The settings, or the disk's label, tell of numbers out of range, or the disk has too few sectors.
+    /// The settings, or the disk's label, state numbers out of range, or the disk has too few sectors.
     BadGeometry,
-    /// The sector of this number is not what has to stand there.
+    /// The sector of this number does not hold what it must.
     Damaged(u64),
     /// The device failed.
     Device,
-    /// There was no memory.
+    /// Memory ran out.
     Memory,
-    /// The register's image has the last epoch.
+    /// The register's image has the last epoch, so no checkpoint can follow.
     Epochs,
     /// The file of this name is named twice for a run.
     Twice(&'a str),
@@ -59,8 +59,8 @@ impl<'a> Fault<'a> {
         }
     }
 
-    /// Why a disk gives no register, or is not made ready for one. `Broken`, `EpochsUsedUp` and `Unready` are told by calls on
-    /// a store alone, and so do not come from there.
+    /// Why a disk gives no register, or is not made ready for one. Opening and formatting never return `Broken`, `EpochsUsedUp` or
+    /// `Unready`: only calls on a store do.
     pub fn of_store(fault: StoreFault) -> Fault<'a>
         ensures { result ≡ of_store fault }
     {
@@ -74,7 +74,8 @@ impl<'a> Fault<'a> {
         }
     }
 
-    /// Why the lines of a station with these files were not all answered. Answers that wait in memory find none.
+    /// Why the lines of a station with these files were not all answered. If the answers wait in memory, a failed write ran out
+    /// of memory.
     pub fn of_run(fault: RunFault, names: &PortNames<'a>) -> Fault<'a>
         ensures { IsOfRun fault names.now result }
     {
@@ -85,8 +86,8 @@ impl<'a> Fault<'a> {
         }
     }
 
-    /// The exit status: 2 for files that no run may have, 3 for settings, 4 for a file, 5 for what stands on a disk, the device
-    /// and memory.
+    /// The exit status: 2 for files that no run may have, 3 for settings, 4 for a file; 5 for what is on a disk, for the device
+    /// and for memory.
     pub fn status(&self) -> u8
         ensures { result ≡ fault_status self.now }
     {
@@ -98,54 +99,54 @@ impl<'a> Fault<'a> {
         }
     }
 
-    /// Writes the line that tells it.
-    pub fn tell<W: Write>(&self, out: &mut W) -> io::Result<()>
+    /// Writes its line.
+    pub fn print<W: Write>(&self, out: &mut W) -> io::Result<()>
         ensures { OnOk result (Appends (W.contents out.old) (W.contents out.new) (fault_text self.now)) }
     {
         match self {
-            Fault::Settings => tell(out, &[Part::Text("fault: settings\n")]),
-            Fault::File(name) => tell_named(out, name),
-            Fault::Unformatted => tell(out, &[Part::Text("fault: unformatted\n")]),
-            Fault::BadGeometry => tell(out, &[Part::Text("fault: bad geometry\n")]),
-            Fault::Damaged(sector) => tell_damaged(out, *sector),
-            Fault::Device => tell(out, &[Part::Text("fault: device\n")]),
-            Fault::Memory => tell(out, &[Part::Text("fault: memory\n")]),
-            Fault::Epochs => tell(out, &[Part::Text("fault: epochs\n")]),
-            Fault::Twice(name) => tell_twice(out, name),
-            Fault::TooMany => tell(out, &[Part::Text("fault: more files than stations\n")]),
+            Fault::Settings => print(out, &[LinePart::Text("fault: settings\n")]),
+            Fault::File(name) => print_named(out, name),
+            Fault::Unformatted => print(out, &[LinePart::Text("fault: unformatted\n")]),
+            Fault::BadGeometry => print(out, &[LinePart::Text("fault: bad geometry\n")]),
+            Fault::Damaged(sector) => print_damaged(out, *sector),
+            Fault::Device => print(out, &[LinePart::Text("fault: device\n")]),
+            Fault::Memory => print(out, &[LinePart::Text("fault: memory\n")]),
+            Fault::Epochs => print(out, &[LinePart::Text("fault: epochs\n")]),
+            Fault::Twice(name) => print_twice(out, name),
+            Fault::TooMany => print(out, &[LinePart::Text("fault: more files than stations\n")]),
         }
     }
 }
 
-fn tell_named<W: Write>(out: &mut W, name: &str) -> io::Result<()>
+fn print_named<W: Write>(out: &mut W, name: &str) -> io::Result<()>
     ensures { OnOk result (Appends (W.contents out.old) (W.contents out.new) (codes "fault: file " ++ name.now ++ codes "\n")) }
 {
     let parts = [
-        Part::Text("fault: file "),
-        Part::Text(name),
-        Part::Text("\n"),
+        LinePart::Text("fault: file "),
+        LinePart::Text(name),
+        LinePart::Text("\n"),
     ];
-    tell(out, &parts)
+    print(out, &parts)
 }
 
-fn tell_twice<W: Write>(out: &mut W, name: &str) -> io::Result<()>
+fn print_twice<W: Write>(out: &mut W, name: &str) -> io::Result<()>
     ensures { OnOk result (Appends (W.contents out.old) (W.contents out.new) (codes "fault: " ++ name.now ++ codes " is named twice\n")) }
 {
     let parts = [
-        Part::Text("fault: "),
-        Part::Text(name),
-        Part::Text(" is named twice\n"),
+        LinePart::Text("fault: "),
+        LinePart::Text(name),
+        LinePart::Text(" is named twice\n"),
     ];
-    tell(out, &parts)
+    print(out, &parts)
 }
 
-fn tell_damaged<W: Write>(out: &mut W, sector: u64) -> io::Result<()>
+fn print_damaged<W: Write>(out: &mut W, sector: u64) -> io::Result<()>
     ensures { OnOk result (Appends (W.contents out.old) (W.contents out.new) (codes "fault: damaged sector " ++ decimal sector ++ codes "\n")) }
 {
     let parts = [
-        Part::Text("fault: damaged sector "),
-        Part::Number(sector),
-        Part::Text("\n"),
+        LinePart::Text("fault: damaged sector "),
+        LinePart::Number(sector),
+        LinePart::Text("\n"),
     ];
-    tell(out, &parts)
+    print(out, &parts)
 }

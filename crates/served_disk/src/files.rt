@@ -18,10 +18,10 @@ use std::rt::Clock;
 /// The port of a station whose lines are in a file, and whose answers wait in memory.
 pub type FilePort<'p, 'r, C> = Port<WatchedReader<'p, 'r, File, C>, Vec<u8>>;
 
-/// Judges the names of the files: each is there once.
+/// Checks that each file is named once.
 ///
 /// # Errors
-/// `Twice` with the first name that was there before; `Memory` only where there is none.
+/// `Twice` with the first name that came earlier too; `Memory` only if there is no such name.
 pub fn check_names<'a>(alloc: Global, names: &[&'a str]) -> Result<(), Fault<'a>>
     ensures distinct { OnOk result (first_twice (texts names.now) ≡ None) }
     ensures refused { IfErr result (IsOfNames names.now) }
@@ -36,7 +36,7 @@ pub fn check_names<'a>(alloc: Global, names: &[&'a str]) -> Result<(), Fault<'a>
     }
 }
 
-/// Judges the number of files: the register has a station for each.
+/// Checks that the register has a station for each file.
 ///
 /// # Errors
 /// `TooMany`, exactly if it has fewer.
@@ -65,7 +65,7 @@ pub fn not_read<'a>(kind: ErrorKind, name: &'a str) -> Fault<'a>
     }
 }
 
-/// What the files of stations 1, 2 and so on are called, whose answers wait in memory.
+/// The names of the files of stations 1, 2 and so on, whose answers wait in memory.
 ///
 /// # Errors
 /// `Memory`.
@@ -85,7 +85,7 @@ pub fn file_names<'a>(alloc: Global, files: &[&'a str]) -> Result<Vec<PortNames<
     Ok(names)
 }
 
-/// Opens the files of stations 1, 2 and so on; their lines count there, and the answers wait in memory.
+/// Opens the files of stations 1, 2 and so on. `progress` counts their lines, and their answers wait in memory.
 ///
 /// # Errors
 /// `File` with the first name whose file can't be opened, and `Memory`.

@@ -1,5 +1,6 @@
 //! What the program does with the disks and files that it is named: it makes a disk for an empty register, serves stations'
-//! lines over the register that is kept on a disk, and answers a query of one.
+//! lines over the register that is kept on a disk, and answers a query of one. It opens files, prints to
+//! writers and to standard error, and knows nothing of the program's words.
 #![tactic(auto)]
 
 mod doorbell;
@@ -9,6 +10,7 @@ mod making;
 mod opening;
 mod pairs;
 mod port_names;
+mod printing;
 mod progress;
 mod refused;
 mod running;
@@ -16,7 +18,6 @@ mod service_watch;
 mod serving;
 mod showing;
 mod showing_disk;
-mod telling;
 mod watched;
 
 pub use fault::Fault;
@@ -27,12 +28,12 @@ pub use pairs::{
     Pair, PairPort, PairReader, PairWriter, inputs_of, name_ended, names_of, pairs_of, ports_of,
 };
 pub use port_names::PortNames;
+pub use printing::{print_formatted, print_station};
 pub use progress::Progress;
 pub use refused::Refused;
 pub use running::serve_stations;
 pub use service_watch::ServiceWatch;
-pub use serving::{Run, Served, TURNS, outcome, service_outcome, tell_stations};
+pub use serving::{Run, Served, TURNS, outcome, print_stations, service_outcome};
 pub use showing::{Shown, show};
 pub use showing_disk::{show_disk, show_on};
-pub use telling::{tell_formatted, tell_station};
 pub use watched::{WatchedDesk, WatchedReader};

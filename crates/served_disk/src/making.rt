@@ -14,7 +14,7 @@ use settings::{Settings, read_settings};
 use std::alloc::Global;
 use std::fs::{File, Files};
 
-/// The layout for these numbers, where each is in its range.
+/// The layout for these numbers, if each is in its range.
 fn layout_for(settings: &Settings) -> Option<Layout>
     ensures fits { IsSome result ↔ AreInRange settings.now }
     ensures value { IfSome result (IsFor settings.now) }
@@ -31,7 +31,7 @@ fn layout_for(settings: &Settings) -> Option<Layout>
 /// The layout of the disk that a settings text asks for.
 ///
 /// # Errors
-/// `Settings` where the text holds no settings, `BadGeometry` where one of its numbers is out of range, and `Memory`.
+/// `Settings` if the text holds no settings, `BadGeometry` if one of its numbers is out of range, and `Memory`.
 pub fn layout_of<'a>(alloc: Global, text: &[u8]) -> Result<Layout, Fault<'a>>
     ensures layout { IfOk result (AsksFor text.now) }
     ensures none { IfErr result (AsksForNone text.now) }
@@ -42,11 +42,11 @@ pub fn layout_of<'a>(alloc: Global, text: &[u8]) -> Result<Layout, Fault<'a>>
     }
 }
 
-/// Makes a disk in a new file of this name, for an empty register. Zeros are written into each sector, and synced; then the
-/// disk is made ready. Nothing is written after the last sync.
+/// Makes a disk in a new file of this name, for an empty register. It writes zeros into each sector and syncs; then it formats the
+/// disk. Nothing is written after the last sync.
 ///
 /// # Errors
-/// `File` where the file can't be made or exists already, `Device` and `Memory`. A file that could not be finished is left.
+/// `File` if the file can't be made or exists already, `Device` and `Memory`. A file that could not be finished is left.
 pub fn format_disk<'a, R: Files<File = File>>(
     rt: &R,
     layout: &Layout,

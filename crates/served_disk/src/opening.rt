@@ -27,10 +27,11 @@ pub(crate) fn adopt_disk<'a, R: Files<File = File>>(
 }
 
 /// Opens the register that is kept on the disk in the file of this name, and keeps that file locked. The disk is synced once,
-/// and then only read; with a fault it is given back.
+/// and then only read. After a fault it is returned.
 ///
 /// # Errors
-/// `File` where the file can't be opened or another process holds it; what stands on the disk; `Device` and `Memory`.
+/// `File` if the file can't be opened or another process holds it; `Unformatted`, `BadGeometry` or `Damaged` for what is on the
+/// disk; `Device` and `Memory`.
 pub fn open_disk<'a, R: Files<File = File>>(
     rt: &R,
     alloc: Global,
@@ -41,7 +42,7 @@ pub fn open_disk<'a, R: Files<File = File>>(
     ensures some_calls { IfErr result (λ e. IfSome e.disk (λ disk. IsReadAtMost e.fault (calls_of disk))) }
     ensures kinds { IfErr result (λ e. IsOfOpening name.now e.fault) }
 
-    // Without a disk it is a fault of a file that was not opened.
+    // If no disk is returned, the fault is of a file that was not opened.
     ensures none { IfErr result (λ e. e.disk ≡ None → IsOfMaking name.now e.fault) }
 {
     let disk = adopt_disk(rt, name)?;

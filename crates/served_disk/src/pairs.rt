@@ -14,7 +14,7 @@ use std::sync::{Mutex, Wait};
 /// The files of a pair, as far as they are open.
 #[derive(Drop)]
 struct OpenFiles {
-    /// Whether opening them was tried.
+    /// Whether `open` was called.
     is_begun: bool,
     /// Whether IN was opened, but OUT could not be.
     lacks_output: bool,
@@ -23,7 +23,7 @@ struct OpenFiles {
 }
 
 impl OpenFiles {
-    /// Opens IN to read, and then OUT to append to; OUT is made if it is missing. With a FIFO each waits for its other end.
+    /// Opens IN to read, and then OUT to append to it. OUT is made if it is missing. Opening a FIFO waits for its other end.
     fn open(&mut self, host: HostRuntime, input: &str, output: &str) {
         self.is_begun = true;
         let Ok(input) = File::open(&host, input) else {
@@ -66,8 +66,8 @@ impl OpenFiles {
     }
 }
 
-/// The files IN and OUT of a station. Its reader opens both before its first line. Only the station's thread uses them until it
-/// has ended, so nobody waits for the lock.
+/// The files IN and OUT of a station. Its reader opens both before its first line. Only the station's thread uses them until that
+/// thread has ended, so nobody waits for the lock.
 #[derive(Drop)]
 pub struct Pair<'a> {
     input: &'a str,
@@ -90,7 +90,7 @@ impl<'a> Pair<'a> {
         }
     }
 
-    /// The names that a fault of the station's run is of. If OUT could not be opened, a fault of reading is one of OUT.
+    /// The files that faults of the station's run name. If OUT could not be opened, a fault of reading names OUT.
     pub fn names<R: Wait>(&self, rt: &R) -> PortNames<'a> {
         let lacks_output = self.files.lock(rt).lacks_output;
         PortNames {
@@ -224,7 +224,7 @@ pub fn ports_of<'p, 'a, R: Wait>(
     Ok(ports)
 }
 
-/// The names that the faults of these stations are of, in order, before any of their files is opened.
+/// The files that faults of these stations name, in order, before any of them is opened.
 ///
 /// # Errors
 /// `Memory`.
@@ -245,7 +245,7 @@ pub fn names_of<'a, R: Wait>(
     Ok(names)
 }
 
-/// The same once the stations have ended.
+/// Writes the same names again, once the stations have ended.
 pub fn name_ended<'a, R: Wait>(rt: &R, names: &mut [PortNames<'a>], pairs: &[Pair<'a>])
     requires { length names.old ≡ length pairs.now }
     ensures { length names.new ≡ length names.old }

@@ -1,10 +1,10 @@
-//! What the files of a station are called.
+//! The names of a station's files.
 
-/// What the files of a station are called, as its faults name them.
+/// The names of a station's files, as its faults have them.
 #[derive(Clone, Copy, Debug)]
 pub struct PortNames<'a> {
-    /// The file that a fault of reading is of.
+    /// The file that a fault of reading names.
     pub input: &'a str,
-    /// The file that a fault of writing is of. `None` if the answers wait in memory.
+    /// The file that a fault of writing names. `None` if the answers wait in memory.
     pub output: Option<&'a str>,
 }

@@ -1,4 +1,4 @@
-//! How far a run has come, reported to whoever watches.
+//! How far a run has come, reported while it goes on.
 
 use crate::doorbell::Doorbell;
 use console::{Ran, RunFault};
@@ -12,20 +12,20 @@ use std::sync::Wait;
 use std::sync::atomic::{AtomicU64, Ordering};
 use std::time::{Duration, Instant};
 
-/// How far a run has come. Once a second it is reported on standard error, over what was reported before, as
+/// How far a run has come. Once a second it is reported on standard error, over the last report, as
 /// `12000 lines, 11998 accepted`: the lines of all stations that were served, and the commands among them that were accepted.
 /// A report that fails changes nothing.
 ///
-/// Within a piece of a reader, of at most 65,536 bytes, only those lines are counted that come to the desk, and the others at
-/// its end. Threads may share it: each counts the lines of its own station.
+/// A reader gives pieces of at most 65,536 bytes. Within a piece, lines count when they come to the desk; the others count at the
+/// piece's end. Threads may share it: each counts the lines of its own station.
 #[derive(Drop)]
 pub struct Progress<'r, R> {
     rt: &'r R,
     /// When the run began. `None` if nobody watches, or there is no clock.
     began: Option<Instant>,
-    /// Whether no flusher makes rounds, so that it is reported where lines are counted.
+    /// Whether no flusher makes rounds. Then it is reported when a line is counted.
     is_alone: bool,
-    /// In which second of the run it was reported last; 0 before the first report.
+    /// The second of the run in which it was last reported; 0 before the first report.
     reported: AtomicU64,
     /// For each station in order, how many of its lines are known to be served.
     lines: Vec<AtomicU64>,
@@ -34,10 +34,10 @@ pub struct Progress<'r, R> {
     doorbell: Doorbell,
 }
 
-/// While figures are reported the flusher sleeps at most so many seconds.
+/// While figures are reported, the flusher sleeps at most this many seconds.
 const BETWEEN_REPORTS: u64 = 1;
 
-/// No line of so many stations is served yet.
+/// A count of 0 lines for each station.
 fn no_lines(alloc: Global, stations: usize) -> Result<Vec<AtomicU64>, AllocError> {
     let mut lines = Vec::with_capacity(alloc, stations)?;
     for _ in 0..stations {
@@ -47,7 +47,7 @@ fn no_lines(alloc: Global, stations: usize) -> Result<Vec<AtomicU64>, AllocError
 }
 
 impl<'r, R: Clock + Eprint> Progress<'r, R> {
-    /// Nothing is served yet. It is never reported if nobody watches or there is no clock.
+    /// Nothing is served yet. It is never reported if it is not watched or there is no clock.
     fn new(rt: &'r R, watched: bool, is_alone: bool, lines: Vec<AtomicU64>) -> Self {
         let began = match Instant::now(rt) {
             Ok(now) if watched => Some(now),
@@ -70,7 +70,7 @@ impl<'r, R: Clock + Eprint> Progress<'r, R> {
         Ok(Progress::new(rt, watched, true, lines))
     }
 
-    /// The progress of so many stations, which a flusher serves. It is reported in the flusher's thread.
+    /// The progress of this many stations, which a flusher serves. It is reported in the flusher's thread.
     pub fn of_many(
         rt: &'r R,
         alloc: Global,
@@ -87,13 +87,13 @@ impl<'r, R: Clock + Eprint> Progress<'r, R> {
         self.lines.get(place)
     }
 
-    /// So many lines of a station are served.
+    /// This many lines of a station are served.
     pub(crate) fn serve(&self, station: Station, lines: u64) {
         if let Some(known) = self.lines_of(station) {
             known.store(lines, Ordering::SeqCst);
         }
         if self.is_alone {
-            self.look();
+            self.report_each_second();
         }
     }
 
@@ -105,7 +105,7 @@ impl<'r, R: Clock + Eprint> Progress<'r, R> {
         self.accepted
             .fetch_add(u64::from(is_accepted), Ordering::SeqCst);
         if self.is_alone {
-            self.look();
+            self.report_each_second();
         }
     }
 
@@ -118,8 +118,8 @@ impl<'r, R: Clock + Eprint> Progress<'r, R> {
         sum
     }
 
-    /// Reports the figures if a second of the run has begun in which they were not reported.
-    fn look(&self) {
+    /// Reports the figures, at most once in each second of the run.
+    fn report_each_second(&self) {
         let Some(began) = self.began else {
             return;
         };
@@ -139,7 +139,7 @@ impl<'r, R: Clock + Eprint> Progress<'r, R> {
         eprint!(self.rt; "\r{lines} lines, {accepted} accepted{end}")
     }
 
-    /// The run of the station at this place, counted from 0, has ended: if it came to the end of its text, all its lines are
+    /// The run of the station at this place, counted from 0, has ended. If it came to the end of its text, all its lines are
     /// served.
     pub fn end(&self, place: usize, ended: &Result<Ran, RunFault>) {
         if let (Ok(ran), Some(known)) = (ended, self.lines.get(place)) {
@@ -147,7 +147,7 @@ impl<'r, R: Clock + Eprint> Progress<'r, R> {
         }
     }
 
-    /// All runs have ended: if something was reported, the last figures are, and their line ends.
+    /// All runs have ended. If there was a report before, it reports the last figures and ends the line.
     pub fn finish(&self) {
         if self.reported.load(Ordering::SeqCst) > 0 {
             let _ = self.report("\n");
@@ -156,9 +156,9 @@ impl<'r, R: Clock + Eprint> Progress<'r, R> {
 }
 
 impl<'r, R: Clock + Eprint + Wait> Gate for Progress<'r, R> {
-    /// A round that has taken nothing leaves the processor to the stations.
+    /// A round that has taken no command leaves the processor to the stations.
     fn before_commit(&self, _round: u64, taken: usize) {
-        self.look();
+        self.report_each_second();
         self.doorbell.rest(self.rt, taken);
     }
 }

@@ -1,4 +1,4 @@
-//! Why a disk in a file is not made, opened or shown.
+//! Why a disk in a file was not made, opened or shown.
 ghost use Rattle.std.specs.Prelude.{◌≡◌, Some, None};
 ghost use Rattle.served_disk.specs.Faults.{IsOfFile, of_store};
 
@@ -6,17 +6,17 @@ use crate::Fault;
 use file_disk::{FileDisk, FileFault, HostFile};
 use recovery::StoreFault;
 
-/// Why the disk in a file is not made, opened or shown, and the disk, where its file was opened.
+/// Why the disk in a file was not made, opened or shown; and the disk, if its file was opened.
 #[derive(Drop)]
 pub struct Refused<'a> {
-    /// Why.
+    /// Why it was refused.
     pub fault: Fault<'a>,
     /// The disk, as the calls left it.
     pub disk: Option<FileDisk<HostFile>>,
 }
 
 impl<'a> Refused<'a> {
-    /// The file of this name is no disk.
+    /// For a file of this name that is no disk.
     pub(crate) fn of_file(fault: FileFault, name: &'a str) -> Refused<'a>
         ensures fault { IsOfFile fault name.now result.fault }
         ensures disk { result.disk ≡ None }
@@ -27,7 +27,7 @@ impl<'a> Refused<'a> {
         }
     }
 
-    /// The disk gives no register, or is not made ready for one.
+    /// For a disk that gives no register, or is not made ready for one.
     pub(crate) fn of_store(fault: StoreFault, disk: FileDisk<HostFile>) -> Refused<'a>
         ensures fault { result.fault ≡ of_store fault }
         ensures disk { result.disk ≡ Some disk }

@@ -15,7 +15,7 @@ use std::io::{Read, Write};
 use std::sync::Wait;
 use std::thread::Threads;
 
-/// Closes the disk of a store; whether it failed.
+/// Closes the disk of a store, and returns whether it failed.
 fn close_disk<D: Disk + Drop>(store: Store<Global, D>) -> bool
     ensures { result ≡ store.broken }
 {
@@ -24,8 +24,8 @@ fn close_disk<D: Disk + Drop>(store: Store<Global, D>) -> bool
     is_broken
 }
 
-/// Answers all lines of stations 1, 2 and so on over the store, each to the writer of its port, or the first of a station's
-/// lines if its run ends early. The disk is closed when all have ended.
+/// Answers the lines of stations 1, 2 and so on over the store, each to the writer of its port. If a station's run ends early,
+/// only a prefix of its lines is answered. The disk is closed when all have ended.
 ///
 /// # Errors
 /// `Memory`, before any line is read.

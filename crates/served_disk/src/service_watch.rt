@@ -1,4 +1,4 @@
-//! What a service shows of its stations.
+//! What a service does as its stations end.
 ghost use Rattle.std.specs.Prelude.{◌≡◌};
 
 use crate::doorbell::Doorbell;
@@ -11,7 +11,8 @@ use std::alloc::Global;
 use std::str;
 use std::sync::Wait;
 
-/// What a service does as its stations end: it closes the files of each, and reports its fault on standard error. Threads may share it.
+/// What a service does as its stations end: it closes the files of each, and reports its fault on standard error. Threads may
+/// share it.
 #[derive(Drop)]
 pub struct ServiceWatch<'r, 'p, 'a, R> {
     rt: &'r R,
@@ -21,16 +22,16 @@ pub struct ServiceWatch<'r, 'p, 'a, R> {
 }
 
 /// Writes the line of a fault to standard error, by one write if it is no longer than 1,024 bytes. `None` if that failed, or if
-/// there is no memory for the line.
+/// memory ran out.
 fn report<R: Eprint>(rt: &R, alloc: Global, fault: &Fault<'_>) -> Option<()> {
     let mut line = Vec::new(alloc);
-    fault.tell(&mut line).ok()?;
+    fault.print(&mut line).ok()?;
     let text = str::from_utf8(&line).ok()?;
     eprint!(rt; "{text}").ok()
 }
 
 impl<'r, 'p, 'a, R: Eprint + Wait> ServiceWatch<'r, 'p, 'a, R> {
-    /// The stations of these pairs, of which none has ended.
+    /// For the stations of these pairs. None has ended yet.
     pub fn new(rt: &'r R, alloc: Global, pairs: &'p [Pair<'a>]) -> Self
         ensures { result.pairs ≡ pairs.entry }
     {
@@ -42,7 +43,7 @@ impl<'r, 'p, 'a, R: Eprint + Wait> ServiceWatch<'r, 'p, 'a, R> {
         }
     }
 
-    /// Where the line of a fault is made.
+    /// Where the memory for the line of a fault comes from.
     pub fn alloc(&self) -> Global {
         self.alloc
     }
@@ -78,7 +79,7 @@ impl<'r, 'p, 'a, R: Eprint + Wait> Watch for ServiceWatch<'r, 'p, 'a, R> {
 
     fn answered(&self, _station: Station, _is_accepted: bool) {}
 
-    /// The station's files are closed, and a fault is reported. A report that fails changes nothing.
+    /// Closes the station's files, and reports a fault. A report that fails changes nothing.
     fn ended(&self, station: Station, ran: &Result<Ran, RunFault>) {
         let Some(pair) = self.pair_of(station) else {
             return;

@@ -1,22 +1,22 @@
-//! What the runs of stations have come to.
+//! How the runs of stations have ended.
 ghost use Rattle.std.specs.Prelude.{◌≡◌, ◌≤◌, Err, MatchBool, OnOk, length};
 ghost use Rattle.std.specs.Io.KnownBytes.{Appends};
 ghost use Rattle.served_disk.specs.declared.fault.Fault.TheVariants.{Device};
 ghost use Rattle.served_disk.specs.Stations.{HasEnded, HasServiceEnded, HaveEnded, end_status, stations_text};
 
-use crate::{Fault, PortNames, tell_station};
+use crate::{Fault, PortNames, print_station};
 use console::{Ran, RunFault};
 use registration::Station;
 use std::io;
 use std::io::Write;
 
-/// The most calls of a reader: a text that has no end by then is refused.
+/// The most calls of a reader. A text that has no end by then is refused.
 pub const TURNS: u32 = u32::MAX;
 
-/// What a station's answers, or a prefix of them, were written to, and how its run has ended.
+/// What a station's answers were written to, and how its run has ended.
 pub type Run<O> = (O, Result<Ran, RunFault>);
 
-/// What the runs of stations have come to.
+/// How the runs of stations have ended.
 #[derive(Drop)]
 pub struct Served<O: Drop> {
     /// The run of each station, in order.
@@ -25,8 +25,8 @@ pub struct Served<O: Drop> {
     pub is_broken: bool,
 }
 
-/// Writes the answers of stations 1, 2 and so on, each after the station and the name of its file.
-pub fn tell_stations<W: Write>(
+/// Writes the answers of stations 1, 2 and so on, each after its number and the name of its file.
+pub fn print_stations<W: Write>(
     out: &mut W,
     names: &[PortNames<'_>],
     runs: &[Run<Vec<u8>>],
@@ -37,7 +37,7 @@ pub fn tell_stations<W: Write>(
 {
     for index in 0..runs.len() {
         let station = Station::new(index as u16 + 1);
-        tell_station(out, station, names[index].input, &runs[index].0)?;
+        print_station(out, station, names[index].input, &runs[index].0)?;
     }
     Ok(())
 }
@@ -52,7 +52,7 @@ fn end_of<'a>(names: &PortNames<'a>, ended: &Result<Ran, RunFault>) -> Result<bo
     }
 }
 
-/// How all runs have ended: the first fault of one, in order; if there is none, whether an answer of one reported trouble.
+/// How all runs have ended: with the first fault, in order of station; else with whether an answer reported trouble.
 fn ended<'a, O>(names: &[PortNames<'a>], runs: &[Run<O>]) -> Result<bool, Fault<'a>>
     requires same { length names.now ≡ length runs.now }
     ensures { HaveEnded names.now runs.now result }
@@ -64,7 +64,7 @@ fn ended<'a, O>(names: &[PortNames<'a>], runs: &[Run<O>]) -> Result<bool, Fault<
     Ok(troubled)
 }
 
-/// How a run of stations is reported, after all answers: a disk that failed; else the first fault of a station; else whether an
+/// How a run of stations has ended: with a disk that failed; else with the first fault, in order of station; else with whether an
 /// answer reported trouble.
 pub fn outcome<'a, O: Drop>(names: &[PortNames<'a>], served: &Served<O>) -> Result<bool, Fault<'a>>
     requires same { length names.now ≡ length served.now.runs.items }
@@ -76,7 +76,7 @@ pub fn outcome<'a, O: Drop>(names: &[PortNames<'a>], served: &Served<O>) -> Resu
     ended(names, &served.runs)
 }
 
-/// The exit status of stations that have ended so: 0, or 1 if an answer reported trouble; else that of the fault.
+/// The exit status of stations that have ended so: that of the fault; else 1 if an answer reported trouble, or 0.
 fn end_status(ended: &Result<bool, Fault<'_>>) -> u8
     ensures { result ≡ end_status ended.now }
 {
@@ -86,8 +86,8 @@ fn end_status(ended: &Result<bool, Fault<'_>>) -> u8
     }
 }
 
-/// How a service ends, whose stations have reported their faults: with a disk that failed, which is to be reported last; else
-/// with the exit status of the first station, in order, that has a fault; else with 1 if an answer reported trouble, or 0.
+/// How a service ends, after its stations have reported their faults: with a disk that failed, which is reported last; else with
+/// the exit status of the first fault, in order of station; else with 1 if an answer reported trouble, or 0.
 pub fn service_outcome<'a, O: Drop>(
     names: &[PortNames<'a>],
     served: &Served<O>,

@@ -1,4 +1,4 @@
-//! A query of a register, answered by itself.
+//! One query of a register, answered without a station.
 ghost use Rattle.std.specs.Prelude.{◌≡◌, ◌≤◌, [], IfOk, vec_capacity};
 ghost use Rattle.desk.specs.OfRegister.{of_register};
 ghost use Rattle.console.specs.Answer.{answer_room};
@@ -7,21 +7,21 @@ ghost use Rattle.console.specs.Reading.{reading};
 ghost use Rattle.served_disk.specs.Showing.{IsShown, IsTextOf, ShowsReading};
 
 use centre_core::{Query, Register};
-use console::{Answer, Line, LineFault, Service, parse_line, print_answer};
+use console::{Answer, Line, LineFault, Outage, parse_line, print_answer};
 use registration::Station;
 use std::alloc::{AllocError, Allocator};
 
-/// What a query has shown.
+/// What is shown for a query.
 #[derive(Drop)]
 pub struct Shown<A: Allocator> {
     /// The text of its answer.
     pub text: Vec<u8, A>,
-    /// Whether it tells of a bad line or of want of memory.
+    /// Whether it reports a bad line or out of memory.
     pub troubled: bool,
 }
 
 /// The answer to a query.
-fn told<A: Allocator + Copy, B: Allocator + Clone>(
+fn answer_query<A: Allocator + Copy, B: Allocator + Clone>(
     alloc: A,
     register: &Register<B>,
     query: &Query,
@@ -29,12 +29,12 @@ fn told<A: Allocator + Copy, B: Allocator + Clone>(
     ensures { AnswersQuery of_register 1 register.now query.now result register.now }
 {
     match register.query(alloc, query) {
-        Ok(told) => Answer::Told(told),
-        Err(_) => Answer::Untold(1, Service::Memory),
+        Ok(answer) => Answer::Queried(answer),
+        Err(_) => Answer::QueryOutage(1, Outage::Memory),
     }
 }
 
-/// The answer to the only line; a command is no query, and so a bad line.
+/// The answer to the only line. A command is no query, and so a bad line.
 fn answer<A: Allocator + Copy, B: Allocator + Clone>(
     alloc: A,
     register: &Register<B>,
@@ -46,7 +46,7 @@ fn answer<A: Allocator + Copy, B: Allocator + Clone>(
     match &said {
         Ok(Line::Silent) => Answer::Quiet,
         Ok(Line::Bad(fault)) => Answer::Bad(1, *fault),
-        Ok(Line::Ask(query)) => told(alloc, register, query),
+        Ok(Line::Ask(query)) => answer_query(alloc, register, query),
         Ok(Line::Apply(_)) | Err(_) => Answer::Bad(1, LineFault::Syntax),
     }
 }
@@ -54,7 +54,8 @@ fn answer<A: Allocator + Copy, B: Allocator + Clone>(
 /// Room for any text but a list's.
 const ROOM: usize = 1024;
 
-/// Makes the text of an answer, and tells whether there is trouble in it: a list for which there is no memory gives way to that.
+/// Makes the text of an answer, and returns whether it reports trouble. If memory runs out for a list, the text reports that
+/// instead.
 fn write_text<A: Allocator, B: Allocator>(text: &mut Vec<u8, A>, answer: &Answer<B>) -> bool
     requires empty { text.old.items ≡ [] }
     requires room { answer_room ≤ vec_capacity text.old }
@@ -63,7 +64,7 @@ fn write_text<A: Allocator, B: Allocator>(text: &mut Vec<u8, A>, answer: &Answer
     if print_answer(text, answer).is_ok() {
         return answer.is_trouble();
     }
-    print_answer(text, &Answer::<B>::Untold(1, Service::Memory)).unwrap();
+    print_answer(text, &Answer::<B>::QueryOutage(1, Outage::Memory)).unwrap();
     true
 }
 

@@ -1,4 +1,4 @@
-//! A query answered out of the register on a disk.
+//! One query of the register on a disk.
 ghost use Rattle.std.specs.Prelude.{◌≡◌, ◌⊎◌, ◌++◌, ◌∷◌, [], IfErr, IfOk, IfSome, None};
 ghost use Rattle.sector_disk.specs.Reading.{before_reads};
 ghost use Rattle.sector_disk.specs.declared.record.Call.TheVariants.{Sync};
@@ -19,11 +19,11 @@ use sector_disk::Disk;
 use std::alloc::{Allocator, Global};
 use std::fs::{File, Files};
 
-/// Answers a line that is to be a query of the register that is kept on a disk, as the only line of a station. The disk is
-/// synced once, and then only read; it is given back, also with a fault.
+/// Answers a query of the register that is kept on a disk, as the only line of a station. The disk is synced once, and then only
+/// read. It is returned, also after a fault.
 ///
 /// # Errors
-/// What stands on the disk, a failing device, and want of memory.
+/// A fault of what is on the disk or of the device, and out of memory.
 pub fn show_on<A: Allocator + Copy + Drop, D: Disk>(
     alloc: A,
     disk: D,
@@ -32,7 +32,8 @@ pub fn show_on<A: Allocator + Copy + Drop, D: Disk>(
     ensures shown { IfOk result (λ r. IsShownBy A (D.view disk).honest (D.view disk).reads line.now r.0.text.items r.0.troubled) }
     ensures refused { IfErr result (λ e. (D.view disk).honest → Fails e.0 (opens A (D.view disk).reads)) }
     ensures calls { IfOk result (λ r. before_reads (D.view r.1).calls ≡ (D.view disk).calls ++ Sync ∷ []) }
-    ensures some_calls { IfErr result (λ e. (before_reads (D.view e.1).calls ≡ (D.view disk).calls ++ Sync ∷ []) ⊎ ((e.0 ≡ DiskFault) × ((D.view e.1).calls ≡ (D.view disk).calls))) }
+    ensures some_calls { IfErr result (λ e. (before_reads (D.view e.1).calls ≡ (D.view disk).calls ++ Sync ∷ [])
+        ⊎ ((e.0 ≡ DiskFault) × ((D.view e.1).calls ≡ (D.view disk).calls))) }
     ensures kinds { IfErr result (λ e. IsOfStoreOpening e.0) }
 {
     let store = Store::open(alloc, disk)?;
@@ -44,11 +45,11 @@ pub fn show_on<A: Allocator + Copy + Drop, D: Disk>(
     }
 }
 
-/// Answers a line that is to be a query of the register on the disk in the file of this name. The disk is synced once, and then
-/// only read; it is given back.
+/// Answers a query of the register on the disk in the file of this name, as the only line of a station. The disk is synced once,
+/// and then only read. It is returned.
 ///
 /// # Errors
-/// As `open_disk`; `Memory` also where there is none for a text of 1,024 bytes.
+/// Those of `open_disk`. `Memory` also comes if there is none for a text of 1,024 bytes.
 pub fn show_disk<'a, R: Files<File = File>>(
     rt: &R,
     alloc: Global,

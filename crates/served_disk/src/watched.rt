@@ -2,8 +2,8 @@
 ghost use Rattle.std.specs.Prelude.{◌≡◌};
 
 use crate::Progress;
-use centre_core::{Command, Query, Reply, Told};
-use console::{Desk, Service};
+use centre_core::{Command, Query, QueryAnswer, Reply};
+use console::{Desk, Outage};
 use registration::Station;
 use std::alloc::Allocator;
 use std::io;
@@ -21,7 +21,7 @@ pub struct WatchedReader<'p, 'r, R, C> {
 }
 
 impl<'p, 'r, R: Read, C: Clock + Eprint> WatchedReader<'p, 'r, R, C> {
-    /// The reader with its bytes, whose lines count there as this station's.
+    /// This reader. `progress` counts its lines as this station's.
     pub fn new(reader: R, station: Station, progress: &'p Progress<'r, C>) -> Self
         ensures { result.reader ≡ reader }
     {
@@ -61,7 +61,7 @@ pub struct WatchedDesk<'p, 'r, D, C> {
 }
 
 impl<'p, 'r, D, C: Clock + Eprint> WatchedDesk<'p, 'r, D, C> {
-    /// The desk as it is, whose answers count there as this station's.
+    /// This desk. `progress` counts its answers as this station's.
     pub fn new(desk: D, station: Station, progress: &'p Progress<'r, C>) -> Self
         ensures { result.desk ≡ desk }
     {
@@ -80,16 +80,16 @@ impl<'p, 'r, A: Allocator, D: Desk<A>, C: Clock + Eprint> Desk<A> for WatchedDes
 
     ghost rules = { D.rules };
 
-    fn apply(&mut self, alloc: A, command: &Command<A>) -> Result<Reply<A>, Service> {
+    fn apply(&mut self, alloc: A, command: &Command<A>) -> Result<Reply<A>, Outage> {
         let replied = self.desk.apply(alloc, command);
-        let accepted = matches!(&replied, Ok(Reply::Accepted { .. }));
+        let accepted = matches!(&replied, Ok(reply) if reply.is_acceptance());
         self.progress.count(self.station, accepted);
         replied
     }
 
-    fn query(&mut self, alloc: A, query: &Query) -> Result<Told<A>, Service> {
-        let told = self.desk.query(alloc, query);
+    fn query(&mut self, alloc: A, query: &Query) -> Result<QueryAnswer<A>, Outage> {
+        let answer = self.desk.query(alloc, query);
         self.progress.count(self.station, false);
-        told
+        answer
     }
 }

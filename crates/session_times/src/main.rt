@@ -1,5 +1,5 @@
 //! With an argument, for `bench/sessions`, it times sessions in threads of their own, and the same commands committed in one
-//! thread.
+//! thread. It opens no file: it prints times.
 #![tactic(auto)]
 
 mod timed;

@@ -22,7 +22,7 @@ use std::time::{Duration, Instant};
 // How often all is measured.
 const ROUNDS: u32 = 5;
 
-// How many commands each of 64 sessions submits, and how many a lone one.
+// How many commands each of 64 sessions submits, and how many a single session.
 const EACH: u32 = 500;
 
 const ALONE: u32 = 5_000;
@@ -42,7 +42,7 @@ struct Load {
     accepted: AtomicU64,
 }
 
-// The attach of the radio of this station.
+// The attach of this station's radio.
 fn update(alloc: Global, station: Station, sequence: u32) -> Option<Command<Global>>
     ensures { IfSome result (λ command. command.station ≡ station) }
 {
@@ -77,7 +77,7 @@ impl<J: Centre> Task<J> for Load {
     }
 }
 
-// A store after the rule of the network.
+// A store in which the rule of the network is set.
 fn ruled(alloc: Global) -> Option<Kept>
     ensures { IfSome result (λ store. store.broken ≡ false) }
 {
@@ -85,7 +85,7 @@ fn ruled(alloc: Global) -> Option<Kept>
     opened(alloc, disk)
 }
 
-// A centre over this store, with so many sessions.
+// A centre over this store, with this many sessions.
 fn centre<J: Centre, R: Wait>(
     rt: &R,
     alloc: Global,
@@ -106,7 +106,7 @@ fn centre<J: Centre, R: Wait>(
     }
 }
 
-// How long it takes so many sessions until all their commands are answered.
+// How long it takes this many sessions until all their commands are answered.
 fn served<J: Centre + Send + Sync, R: Threads + Wait + Clock + Sync>(
     rt: &R,
     log: NewLog,
@@ -131,7 +131,7 @@ fn served<J: Centre + Send + Sync, R: Threads + Wait + Clock + Sync>(
     if done { took } else { None }
 }
 
-// The same with a store of its own, where each command is accepted.
+// The same with a new store. `None` if a command was not accepted.
 fn served_once<R: Threads + Wait + Clock + Sync>(
     rt: &R,
     alloc: Global,
@@ -151,7 +151,7 @@ fn served_once<R: Threads + Wait + Clock + Sync>(
     }
 }
 
-// A batch of so many commands of the first stations, each with this sequence.
+// A batch of `size` commands, one of each of the first stations, each with this sequence.
 fn batch(alloc: Global, size: u16, sequence: u32) -> Option<Vec<Command<Global>>> {
     let mut commands = Vec::with_capacity(alloc, usize::from(size)).ok()?;
     for number in 1..=size {
@@ -163,7 +163,10 @@ fn batch(alloc: Global, size: u16, sequence: u32) -> Option<Vec<Command<Global>>
 }
 
 // References to the commands.
-fn lent<'a>(alloc: Global, commands: &'a [Command<Global>]) -> Option<Vec<&'a Command<Global>>> {
+fn borrowed<'a>(
+    alloc: Global,
+    commands: &'a [Command<Global>],
+) -> Option<Vec<&'a Command<Global>>> {
     let mut list = Vec::with_capacity(alloc, commands.len()).ok()?;
     for command in commands {
         list.push(command).ok()?;
@@ -171,7 +174,7 @@ fn lent<'a>(alloc: Global, commands: &'a [Command<Global>]) -> Option<Vec<&'a Co
     Some(list)
 }
 
-// Commits them, after a checkpoint where there is no room.
+// Commits the commands, after a checkpoint if there is no room for them.
 fn commit(
     alloc: Global,
     store: &mut Kept,
@@ -184,14 +187,14 @@ fn commit(
             store.checkpoint()?;
             store.commit(alloc, commands)
         }
-        told => told,
+        done => done,
     }
 }
 
 // Makes a batch and commits it; whether it was committed.
 fn is_committed(alloc: Global, store: &mut Kept, size: u16, sequence: u32) -> Option<()> {
     let commands = batch(alloc, size, sequence)?;
-    let list = lent(alloc, &commands)?;
+    let list = borrowed(alloc, &commands)?;
     if list.len() > 64 {
         return None;
     }
@@ -199,7 +202,7 @@ fn is_committed(alloc: Global, store: &mut Kept, size: u16, sequence: u32) -> Op
     Some(())
 }
 
-// How long it takes one thread to make and to commit so many batches.
+// How long it takes one thread to make and to commit this many batches.
 fn committed<R: Clock>(
     rt: &R,
     alloc: Global,
@@ -214,7 +217,7 @@ fn committed<R: Clock>(
     start.elapsed(rt).ok()
 }
 
-// Whether the register has accepted so many commands.
+// Whether the register has accepted this many commands.
 fn has_accepted(store: &Kept, count: u64) -> bool {
     match store.register() {
         Some(register) => register.count() == count,
@@ -230,7 +233,7 @@ fn committed_once<R: Clock>(rt: &R, alloc: Global, size: u16, batches: u32) -> O
     if whole { took } else { None }
 }
 
-// Writes a line: what was timed, how many commands, and how many nanoseconds.
+// Prints a line: what was timed, how many commands, and how many nanoseconds.
 fn is_reported<R: Print>(rt: &R, what: &str, commands: u32, took: Option<Duration>) -> bool {
     match took {
         Some(took) => {
@@ -241,7 +244,7 @@ fn is_reported<R: Print>(rt: &R, what: &str, commands: u32, took: Option<Duratio
     }
 }
 
-// Writes a line for 64 sessions, for batches of 64, for a lone session and for single commits; whether all were measured.
+// Prints a line for 64 sessions, for batches of 64, for a single session and for single commits; whether all were measured.
 fn is_measured<R: Threads + Wait + Clock + Print + Sync>(rt: &R, alloc: Global) -> bool {
     is_reported(rt, "sessions", 64 * EACH, served_once(rt, alloc, 64, EACH))
         && is_reported(
@@ -254,7 +257,7 @@ fn is_measured<R: Threads + Wait + Clock + Print + Sync>(rt: &R, alloc: Global) 
         && is_reported(rt, "singly", ALONE, committed_once(rt, alloc, 1, ALONE))
 }
 
-/// Writes these lines in each round; the exit status.
+/// Prints these lines in each round; the exit status.
 pub fn report<R: Threads + Wait + Clock + Print + Sync>(rt: &R, alloc: Global) -> u8 {
     for _ in 0..ROUNDS {
         if !is_measured(rt, alloc) {

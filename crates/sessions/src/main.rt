@@ -1,4 +1,4 @@
-//! One session beside a flusher, whose allocations are refused by `tests/run sessions`.
+//! One session beside a flusher, for `tests/run sessions`, which refuses their allocations. It opens no file: it prints counts.
 #![tactic(auto)]
 
 mod refused;

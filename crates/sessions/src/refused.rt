@@ -2,7 +2,7 @@
 //! round is made between an answer and the next command.
 ghost use Rattle.std.specs.Prelude.{◌≡◌, false, IfErr, IfSome};
 
-use centre_core::{Command, Query, Told};
+use centre_core::{Command, Query, QueryAnswer};
 use flusher::{Answer, Gate, Session, open_centre};
 use identity::Bits;
 use live_centre::{
@@ -34,7 +34,7 @@ type Kept = Store<Global, WatchedDisk>;
 #[derive(Drop)]
 struct Seen {
     alloc: Global,
-    // 1 from the gate of a round that has a command until the next command comes.
+    // 1 from the gate of a round that has a command until the next command is submitted.
     paused: AtomicU64,
     // How many commands were taken.
     taken: AtomicU64,
@@ -42,23 +42,23 @@ struct Seen {
     unopened: AtomicU64,
     // How often memory ran out before a command was sent.
     unsent: AtomicU64,
-    // How often a round answered so, with all earlier commands published,
+    // How often a round answered out of memory, with all earlier commands published before.
     refused: AtomicU64,
-    // with the command before it kept and only now published,
+    // The same, but the command before it was kept, and is only now published.
     caught_up: AtomicU64,
-    // and with that one still not published.
-    behind: AtomicU64,
+    // The same, but the command before it was kept, and is still not published.
+    lagging: AtomicU64,
     // How many commands were kept and not published in their round.
     kept: AtomicU64,
     // How many were accepted or kept.
     done: AtomicU64,
-    // How many answers or reads were not as they have to be.
+    // How many answers or reads were wrong.
     wrong: AtomicU64,
 }
 
-// What a round answered, with its command's sequence where it has to be that.
+// Which answer a command got. An answer with a wrong number or PDU is `Other`.
 #[derive(Clone, Copy, PartialEq, Eq, Drop)]
-enum Said {
+enum AnswerKind {
     Unsent,
     Refused,
     Kept,
@@ -94,12 +94,15 @@ fn command(alloc: Global, station: Station, sequence: u32) -> Option<Command<Glo
     }
 }
 
-fn reply_of<J: Centre>(answer: &Answer<J>, sequence: u32) -> Said {
+fn reply_of<J: Centre>(answer: &Answer<J>, sequence: u32) -> AnswerKind {
     let wanted = u64::from(sequence);
     match answer {
-        Answer::NoMemory => Said::Refused,
+        Answer::NoMemory => AnswerKind::Refused,
         Answer::Kept { number, pdu } => {
-            if_right(*number == wanted && is_right(pdu, sequence), Said::Kept)
+            if_right(
+                *number == wanted && is_right(pdu, sequence),
+                AnswerKind::Kept,
+            )
         }
         Answer::Accepted {
             number,
@@ -107,81 +110,86 @@ fn reply_of<J: Centre>(answer: &Answer<J>, sequence: u32) -> Said {
             published,
         } => if_right(
             *number == wanted && published.count() == wanted && is_right(pdu, sequence),
-            Said::Accepted,
+            AnswerKind::Accepted,
         ),
-        _ => Said::Other,
+        _ => AnswerKind::Other,
     }
 }
 
-// Only the attach is answered by a PDU.
+// Whether the PDU is right: only the attach is answered by one.
 fn is_right(pdu: &Option<Bits<Global>>, sequence: u32) -> bool {
     is_accept(pdu) == (sequence == 2)
 }
 
-fn if_right(is_right: bool, word: Said) -> Said {
-    if is_right { word } else { Said::Other }
+fn if_right(is_right: bool, word: AnswerKind) -> AnswerKind {
+    if is_right { word } else { AnswerKind::Other }
 }
 
 impl Seen {
     // Submits the command; rounds are made again.
-    fn submit<J: Centre, R: Wait>(&self, rt: &R, session: &mut Session<J>, sequence: u32) -> Said {
+    fn submit<J: Centre, R: Wait>(
+        &self,
+        rt: &R,
+        session: &mut Session<J>,
+        sequence: u32,
+    ) -> AnswerKind {
         let Some(command) = command(self.alloc, session.station(), sequence) else {
-            return Said::Unsent;
+            return AnswerKind::Unsent;
         };
         let taken = value(&self.taken);
         self.paused.store(0, Ordering::SeqCst);
-        let said = reply_of(&session.submit(rt, command), sequence);
-        if said == Said::Refused && value(&self.taken) == taken {
-            Said::Unsent
+        let kind = reply_of(&session.submit(rt, command), sequence);
+        if kind == AnswerKind::Refused && value(&self.taken) == taken {
+            AnswerKind::Unsent
         } else {
-            said
+            kind
         }
     }
 
     // How many commands are published, where the radio is known from the second one on.
     fn published<J: Centre>(&self, session: &mut Session<J>) -> Option<u64> {
         let query = Query::Whereabouts(radio(RADIO)?);
-        let told = session.read(self.alloc, &query);
-        match &told {
-            Ok((Told::Whereabouts { itsi: _, radio }, count)) if radio.is_some() == (*count >= 2) =>
-                { Some(*count) }
+        let answer = session.read(self.alloc, &query);
+        match &answer {
+            Ok((QueryAnswer::Whereabouts { itsi: _, radio }, count))
+                if radio.is_some() == (*count >= 2) => { Some(*count) }
             _ => None,
         }
     }
 
     // Counts the answer to a command, by how many commands are published then. `was_kept`: the one before it was kept.
-    fn note(&self, said: Said, sequence: u32, published: Option<u64>, was_kept: bool) {
+    fn note(&self, kind: AnswerKind, sequence: u32, published: Option<u64>, was_kept: bool) {
         let before = u64::from(sequence).saturating_sub(1);
-        match (said, published) {
-            (Said::Unsent, _) => increase(&self.unsent),
-            (Said::Accepted, Some(count)) if count == before + 1 => {}
-            (Said::Kept, Some(count)) if count == before => increase(&self.kept),
-            (Said::Refused, Some(count)) if count == before && was_kept => {
+        match (kind, published) {
+            (AnswerKind::Unsent, _) => increase(&self.unsent),
+            (AnswerKind::Accepted, Some(count)) if count == before + 1 => {}
+            (AnswerKind::Kept, Some(count)) if count == before => increase(&self.kept),
+            (AnswerKind::Refused, Some(count)) if count == before && was_kept => {
                 increase(&self.caught_up);
             }
-            (Said::Refused, Some(count)) if count == before => increase(&self.refused),
-            (Said::Refused, Some(count)) if count.saturating_add(1) == before && was_kept => {
-                increase(&self.behind);
+            (AnswerKind::Refused, Some(count)) if count == before => increase(&self.refused),
+            (AnswerKind::Refused, Some(count)) if count.saturating_add(1) == before && was_kept => {
+                increase(&self.lagging);
             }
             _ => increase(&self.wrong),
         }
     }
 
-    // Submits a command until it is accepted or kept; which of both. Nothing where it was neither.
+    // Submits a command until it is accepted or kept, and returns which. `None` if it was neither.
     fn submit_on<J: Centre, R: Wait>(
         &self,
         rt: &R,
         session: &mut Session<J>,
         sequence: u32,
         was_kept: bool,
-    ) -> Option<Said> {
+    ) -> Option<AnswerKind> {
         for _ in 0..TRIES {
-            let said = self.submit(rt, session, sequence);
+            let kind = self.submit(rt, session, sequence);
             let published = self.published(session);
-            self.note(said, sequence, published, was_kept);
-            if said == Said::Accepted || said == Said::Kept {
+            self.note(kind, sequence, published, was_kept);
+            if kind == AnswerKind::Accepted || kind == AnswerKind::Kept {
                 increase(&self.done);
-                return Some(said);
+                return Some(kind);
             }
         }
         None
@@ -209,7 +217,7 @@ impl<J: Centre> Task<J> for Seen {
         let mut was_kept = false;
         for sequence in 1..=COMMANDS {
             match self.submit_on(rt, session, sequence, was_kept) {
-                Some(said) => was_kept = said == Said::Kept,
+                Some(kind) => was_kept = kind == AnswerKind::Kept,
                 None => break,
             }
         }
@@ -217,8 +225,8 @@ impl<J: Centre> Task<J> for Seen {
     }
 }
 
-// Opens a centre over the store, and serves its session: how many commands the register then has. Without memory for it the
-// store comes back.
+// Opens a centre over the store, serves its session, and returns how many commands the register then has. If memory runs out
+// before the centre is opened, the store comes back.
 fn served<J: Centre + Send + Sync, R: Threads + Wait + Sync>(
     rt: &R,
     log: NewLog,
@@ -259,7 +267,7 @@ fn served_again<R: Threads + Wait + Sync>(rt: &R, seen: &Seen, store: Kept) -> O
     }
 }
 
-// Opens a centre, and once more where memory ran out.
+// Opens a centre, and once more if memory ran out.
 fn served_once<R: Threads + Wait + Sync>(rt: &R, seen: &Seen) -> Option<u64> {
     let store = opened(seen.alloc, worked_disk(seen.alloc, 4, 39, 400)?)?;
     match served::<Brand, R>(rt, NewLog::new(), store, seen) {
@@ -280,14 +288,14 @@ fn nothing_seen(alloc: Global) -> Seen {
         unsent: AtomicU64::new(0),
         refused: AtomicU64::new(0),
         caught_up: AtomicU64::new(0),
-        behind: AtomicU64::new(0),
+        lagging: AtomicU64::new(0),
         kept: AtomicU64::new(0),
         done: AtomicU64::new(0),
         wrong: AtomicU64::new(0),
     }
 }
 
-/// Writes what the session saw, and whether the register has each command once; the exit status.
+/// Prints what the session saw, and whether the register has each command once; the exit status.
 pub fn report<R: Threads + Wait + Print + Sync>(rt: &R, alloc: Global) -> u8 {
     let seen = nothing_seen(alloc);
     let count = served_once(rt, &seen);
@@ -301,14 +309,14 @@ pub fn report<R: Threads + Wait + Print + Sync>(rt: &R, alloc: Global) -> u8 {
         value(&seen.unsent),
         value(&seen.refused),
     );
-    let (caught_up, behind, kept) = (
+    let (caught_up, lagging, kept) = (
         value(&seen.caught_up),
-        value(&seen.behind),
+        value(&seen.lagging),
         value(&seen.kept),
     );
     let (done, wrong) = (value(&seen.done), value(&seen.wrong));
     match println!(rt;
-        "{unopened} unopened, {unsent} unsent, {refused} refused, {caught_up} caught up, {behind} behind, {kept} kept, {done} done, {wrong} wrong, {word}"
+        "{unopened} unopened, {unsent} unsent, {refused} refused, {caught_up} caught up, {lagging} behind, {kept} kept, {done} done, {wrong} wrong, {word}"
     ) {
         Ok(()) => 0,
         Err(_) => 5,

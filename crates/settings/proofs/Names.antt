@@ -1,4 +1,4 @@
--- Names gone through in order: what stands so far, and the first that stood earlier.
+-- Names gone through in order: what is so far, and the first that came earlier.
 use Rattle.std.proofs.Common.{◌≡◌, ◌≢◌, ℕ, ◌+◌, ◌-◌, ◌<◌, ◌≤◌, Bool, true, false, ◌||◌, cond, List, [], ◌∷◌, ◌++◌, length, map, take, drop, get_or, find, Option, Some, None, is_some, option_map, String, string_bytes, true≢false, Result, Ok, Err, IfErr, refl, ap, sym, subst, ◌∙◌, arith}
 use Rattle.std.specs.Borrow.{Bor}
 use Rattle.std.specs.Cmp.Lexicographic.{nat_list_eq_equiv}
@@ -13,27 +13,27 @@ use Rattle.settings.specs.declared.naming.NameFault.{NameFault}
 use Rattle.settings.specs.declared.naming.NameFault.TheVariants.{Twice, NoMemory}
 use Rattle.std.proofs.lemmas.List.FromFn.{length-enumerate_from}
 use Rattle.std.proofs.Math.Seq.{drop-length}
-use Rattle.settings.specs.Naming.{first_twice, is_among, names_of, placed, stood_earlier, texts}
+use Rattle.settings.specs.Naming.{first_twice, is_among, names_of, placed, came_earlier, texts}
 
--- the first place after i whose name stood earlier
+-- the first place after i whose name came earlier
 abbrev pub twice_after : List (List ℕ) → ℕ → Option ℕ
-twice_after names i = option_map (λ p. p.0) (find (stood_earlier names) (enumerate_from (i + 1) (drop i names)))
+twice_after names i = option_map (λ p. p.0) (find (came_earlier names) (enumerate_from (i + 1) (drop i names)))
 
 pub from_the_first : (names : List (List ℕ)) → first_twice names ≡ twice_after names 0
 unfolding first_twice
 from_the_first names = refl
 
 pub to_the_end : (names : List (List ℕ)) → twice_after names (length names) ≡ None
-to_the_end names = ap (λ rest. option_map (λ p. p.0) (find (stood_earlier names) (enumerate_from (length names + 1) rest))) (drop-length names)
+to_the_end names = ap (λ rest. option_map (λ p. p.0) (find (came_earlier names) (enumerate_from (length names + 1) rest))) (drop-length names)
 
 pub twice_step : (names : List (List ℕ)) (i : ℕ) → i < length names
     → twice_after names i ≡ cond (is_among (take i names) (get_or names i [])) (Some (i + 1)) (twice_after names (i + 1))
 twice_step names i within =
     let at : i + 1 - 1 ≡ i = omega arith in
-    ap (λ rest. option_map (λ p. p.0) (find (stood_earlier names) (enumerate_from (i + 1) rest))) (drop_more names i [] within)
+    ap (λ rest. option_map (λ p. p.0) (find (came_earlier names) (enumerate_from (i + 1) rest))) (drop_more names i [] within)
     ∙ by (is_among (take (i + 1 - 1) names) (get_or names i [])) (is_among (take i names) (get_or names i [])) (ap (λ n. is_among (take n names) (get_or names i [])) at)
   where
-    by : (b c : Bool) → b ≡ c → option_map (λ p. p.0) (cond b (Some (i + 1, get_or names i [])) (find (stood_earlier names) (enumerate_from (i + 1 + 1) (drop (i + 1) names)))) ≡ cond c (Some (i + 1)) (twice_after names (i + 1))
+    by : (b c : Bool) → b ≡ c → option_map (λ p. p.0) (cond b (Some (i + 1, get_or names i [])) (find (came_earlier names) (enumerate_from (i + 1 + 1) (drop (i + 1) names)))) ≡ cond c (Some (i + 1)) (twice_after names (i + 1))
     by true true same = refl
     by false false same = refl
     by true false same = absurd (true≢false same)
@@ -65,14 +65,14 @@ one_more names i at name old new within is before end added =
     ∙ ap (λ x. placed (take i names ++ x ∷ [])) is
     ∙ ap placed (sym (take_more names i [] within))
 
--- whether that name stood earlier settles whether its place is the first
-pub judged : (names : List (List ℕ)) (i : ℕ) (name : List ℕ) (places : List (ℕ × List ℕ)) (stood : Bool)
-    → i < length names → name ≡ get_or names i [] → places ≡ placed (take i names) → is_among (names_of places) name ≡ stood
-    → twice_after names i ≡ cond stood (Some (i + 1)) (twice_after names (i + 1))
-judged names i name places stood within is before told =
+-- whether that name came earlier settles whether its place is the first
+pub judged : (names : List (List ℕ)) (i : ℕ) (name : List ℕ) (places : List (ℕ × List ℕ)) (came : Bool)
+    → i < length names → name ≡ get_or names i [] → places ≡ placed (take i names) → is_among (names_of places) name ≡ came
+    → twice_after names i ≡ cond came (Some (i + 1)) (twice_after names (i + 1))
+judged names i name places came within is before reported =
     let so_far : names_of places ≡ take i names = ap names_of before ∙ names_placed 1 (take i names) in
     let same : is_among (take i names) (get_or names i []) ≡ is_among (names_of places) name = (λ j. is_among (sym so_far j) (sym is j)) in
-    twice_step names i within ∙ ap (λ b. cond b (Some (i + 1)) (twice_after names (i + 1))) (same ∙ told)
+    twice_step names i within ∙ ap (λ b. cond b (Some (i + 1)) (twice_after names (i + 1))) (same ∙ reported)
 
 -- an entry of a map as the place that it shows
 abbrev pub as_place : {A : Type 0} → String A × ℕ → ℕ × List ℕ
@@ -109,7 +109,7 @@ pub among_flipped : (names : List (Bor (List ℕ))) (name : List ℕ) → list_a
 among_flipped [] name = refl
 among_flipped (first ∷ rest) name = (λ j. nat_list_eq_equiv.symm first.now name j || among_flipped rest name j)
 
--- what a `?` hands on is the fault that was met
+-- what a `?` passes on is the fault that was met
 pub same_fault : {T E : Type 0} (result : Result T E) (fault : E) (P : E → Type 0) → IsErrAnd result (λ e. e ≡ fault) → P fault → IfErr result P
 same_fault (Ok x) fault P is holds = absurd is
 same_fault (Err e) fault P is holds = subst P (sym is) holds
@@ -125,11 +125,11 @@ found_within test n (first ∷ rest) place is = by (test (n, first)) (found_with
     by true later here = let same : n ≡ place = same_Some _ _ here in (omega (arith, same), omega (arith, same))
     by false later there = let bounds = later there in (omega (arith, bounds.0), omega (arith, bounds.1))
 
--- the first place whose name stood earlier is one of the names'
+-- the first place whose name came earlier is one of the names'
 pub twice_within : (names : List (List ℕ)) (place : ℕ) → first_twice names ≡ Some place → (1 ≤ place) × (place ≤ length names)
 unfolding first_twice
 twice_within names place is =
-    let bounds = found_within (stood_earlier names) 1 names place is in
+    let bounds = found_within (came_earlier names) 1 names place is in
     (bounds.0, omega (arith, bounds.1))
 
 is_place : NameFault → Bool
@@ -140,12 +140,12 @@ place_in : NameFault → ℕ
 place_in (Twice place) = place
 place_in NoMemory = 0
 
--- and so is the place of a fault that is told as the first
-pub told_within : (names : List (Bor (List ℕ))) (fault : NameFault) → (fault ≢ NoMemory → option_map Twice (first_twice (texts names)) ≡ Some fault)
+-- and so is the place of a fault that is reported as the first
+pub reported_within : (names : List (Bor (List ℕ))) (fault : NameFault) → (fault ≢ NoMemory → option_map Twice (first_twice (texts names)) ≡ Some fault)
     → (place : ℕ) → fault ≡ Twice place → (1 ≤ place) × (place ≤ length names)
 unfolding place_in is_place
-told_within names fault told place is =
-    by (first_twice (texts names)) refl (told (λ none. true≢false (ap is_place (sym is ∙ none))) ∙ ap Some is)
+reported_within names fault reported place is =
+    by (first_twice (texts names)) refl (reported (λ none. true≢false (ap is_place (sym is ∙ none))) ∙ ap Some is)
   where
     by : (first : Option ℕ) → first_twice (texts names) ≡ first → option_map Twice first ≡ Some (Twice place) → (1 ≤ place) × (place ≤ length names)
     by None found same = absurd (none-some _ same)

@@ -1,4 +1,4 @@
--- The numbers of names and their texts.
+-- The numbers in names and their places.
 use Rattle.std.specs.Prelude.{ℕ}
 
 -- a byte: 0 to 255

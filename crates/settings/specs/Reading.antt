@@ -1,11 +1,11 @@
--- Which settings a text holds: the numbers that the table of a TOML document has under five keys.
+-- The settings in a text: the numbers under five keys of a TOML document's table.
 use Rattle.std.specs.Prelude.{◌≡◌, ℕ, ℤ, List, Option, None, Some, pos, codes, nat_le, if◌then◌else◌, option_and_then, IsUtf8}
 use Rattle.toml.specs.Data.{Members, get_member, as_integer}
 use Rattle.toml.specs.Parse.{parse_document}
 use Rattle.settings.specs.Numbers.{Byte}
 use Rattle.settings.specs.declared.reading.Settings.{Settings}
 
--- the integer, where it is from 0 to 4,294,967,295
+-- an integer as a number, if it is from 0 to 4,294,967,295
 abbrev pub number_of : ℤ → Option ℕ
 number_of (pos n) = if nat_le n 4294967295 then Some n else None
 number_of _ = None
@@ -14,7 +14,7 @@ number_of _ = None
 abbrev pub integer_at : List Byte → Members → Option ℤ
 integer_at key table = option_and_then as_integer (get_member key table)
 
--- such an integer under a key of the table, where it is in that range
+-- the number under a key of the table, if it is in that range
 abbrev pub number_at : List Byte → Members → Option ℕ
 number_at key table = option_and_then number_of (integer_at key table)
 

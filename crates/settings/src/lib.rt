@@ -1,4 +1,5 @@
-//! What the program is told before it serves: the settings of a disk, and the files of its stations.
+//! What the program needs before it serves: the settings of a disk, and the files of its stations.
+//! It reads texts and names that it is given. It opens no file, and knows nothing of registers and disks.
 #![tactic(auto)]
 
 mod naming;

@@ -1,4 +1,4 @@
-//! The five numbers of a settings file.
+//! Reads the five numbers of a settings file.
 ghost use Rattle.std.specs.Prelude.{◌≡◌, None, Err, IfOk, IfSome, IsUtf8};
 ghost use Rattle.toml.specs.Errors.{IsBlank};
 ghost use Rattle.toml.specs.View.{table_view};
@@ -8,27 +8,27 @@ use std::alloc::Global;
 use thiserror::Error;
 use toml::Table;
 
-/// What a disk is made for: how many of each it holds at most, and how long its journal is. Each is any number from
-/// 0 to 4,294,967,295; whether a disk can be made for them is not judged here.
+/// The limits of a disk, and the size of its journal. Each is any number from 0 to 4,294,967,295. Whether a disk can be
+/// made with them is not judged here.
 #[derive(Clone, Copy, Debug, PartialEq, Eq)]
 pub struct Settings {
-    /// How many rules.
+    /// The most rules.
     pub rules: u32,
-    /// How many radios.
+    /// The most radios.
     pub radios: u32,
-    /// How many waiting messages and reports.
+    /// The most waiting messages and reports.
     pub mail: u32,
-    /// How many stations.
+    /// The most stations.
     pub stations: u32,
-    /// How many sectors each half of the journal has.
+    /// The number of sectors in each half of the journal.
     pub journal: u32,
 }
 
 /// Why a text gives no settings.
 #[derive(Clone, Copy, Debug, PartialEq, Eq, Drop, Error)]
 pub enum SettingsFault {
-    /// The text is no UTF-8 or no TOML, or one of the five keys is missing or has another value than an integer
-    /// from 0 to 4,294,967,295.
+    /// The text is no UTF-8 or no TOML; or one of the five keys is missing, or its value is not an integer from 0 to
+    /// 4,294,967,295.
     #[error("the settings are not five numbers in TOML")]
     BadSettings,
     /// Memory ran out.
@@ -36,12 +36,12 @@ pub enum SettingsFault {
     NoMemory,
 }
 
-/// The settings that a TOML text holds: the keys `rules`, `radios`, `mail`, `stations` and `journal` of its table,
-/// each an integer from 0 to 4,294,967,295. Other keys are ignored.
+/// The settings in a TOML text: the keys `rules`, `radios`, `mail`, `stations` and `journal` of its table, each an
+/// integer from 0 to 4,294,967,295. Other keys are ignored.
 ///
 /// # Errors
-/// `BadSettings` where the text holds no settings. `NoMemory` where there was no memory to read it with, which tells
-/// nothing of its keys; a text that is no UTF-8, or that has only white space and comments, is never answered so.
+/// `BadSettings` where the text has no settings. `NoMemory` where memory ran out before the text was read; then it may
+/// have settings or not. A text that is no UTF-8, or has only white space and comments, never gives `NoMemory`.
 pub fn read_settings(alloc: Global, text: &[u8]) -> Result<Settings, SettingsFault>
     ensures read { IfOk result (Holds text.now) }
     ensures refused { result ≡ Err SettingsFault.BadSettings → (settings : Settings) → ¬ Holds text.now settings }

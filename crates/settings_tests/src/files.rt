@@ -7,10 +7,10 @@ use std::test::Fail;
 
 const THREE: [&str; 3] = ["north.txt", "south.txt", "/var/lib/east west.txt"];
 
-/// Names of one file, and of files that some systems take for one.
+/// Names of the same file, and names that some systems take for the same.
 const ALIKE: [&str; 6] = ["a", "./a", "A", "a ", "", "aa"];
 
-/// Names with the first place whose name stood earlier.
+/// Names, and the first place whose name is at an earlier place too.
 const TWICE: [(&[&str], usize); 5] = [
     (&["a", "b", "a", "b"], 3),
     (&["a", "a"], 2),
@@ -19,10 +19,10 @@ const TWICE: [(&[&str], usize); 5] = [
     (&["", "a", ""], 3),
 ];
 
-/// More names than a small map has room for: each two letters that follow one another here.
+/// Each two neighbours here are a name: these are more names than a small map has room for.
 const LETTERS: &str = "abcdefghijklmnopqrstuvwxyz";
 
-/// Whether these are the names in order with their places, and each name finds its own.
+/// Whether these are the names in order with their places, and each name is found at its own.
 fn are_placed<A: Allocator>(places: &Places<A>, names: &[&str]) -> bool {
     let mut next = 0;
     for (name, place) in places.iter() {
@@ -58,7 +58,7 @@ fn fault_of<A: Allocator + Copy>(alloc: A, names: &[&str]) -> Option<NameFault> 
     name_files(alloc, names).err()
 }
 
-/// The first row that is answered another way.
+/// The first row with another result.
 fn first_wrong(alloc: Global) -> Option<usize> {
     for (names, place) in TWICE {
         if fault_of(alloc, names) != Some(NameFault::Twice(place)) {
@@ -68,22 +68,21 @@ fn first_wrong(alloc: Global) -> Option<usize> {
     None
 }
 
-/// What three names are answered in a heap of this size: whether there was memory for them. An error where the
-/// answer is another, or where memory is not given back.
+/// Whether three names fit a heap of this size. An error where the result is neither, or where memory is not freed.
 fn fits(alloc: Global, size: usize) -> Result<bool, Fail> {
     let heap = LocalHeap::new(alloc, size)?;
     let fault = fault_of(&heap, &THREE);
     if heap.used() != 0 {
-        return Err(Fail::from("memory is not given back"));
+        return Err(Fail::from("memory is not freed"));
     }
     match fault {
         None => Ok(true),
         Some(NameFault::NoMemory) => Ok(false),
-        Some(NameFault::Twice(_)) => Err(Fail::from("a name stands once")),
+        Some(NameFault::Twice(_)) => Err(Fail::from("no name is repeated")),
     }
 }
 
-/// The size of the least heap, in pieces of 16 bytes, that three names fit: they fit every greater one.
+/// The size of the least heap, in pieces of 16 bytes, that three names fit. They must fit every greater one.
 fn least(alloc: Global) -> Result<Option<usize>, Fail> {
     let mut least = None;
     for pieces in 2..128usize {
@@ -97,8 +96,8 @@ fn least(alloc: Global) -> Result<Option<usize>, Fail> {
     Ok(least)
 }
 
-/// Whether a repeated name is told in every heap.
-fn told_without_memory(alloc: Global) -> Result<bool, Fail> {
+/// Whether a repeated name is reported in every heap.
+fn reported_without_memory(alloc: Global) -> Result<bool, Fail> {
     for pieces in 2..64usize {
         let heap = LocalHeap::new(alloc, pieces * 16)?;
         if fault_of(&heap, &["north.txt", "south.txt", "north.txt"]) != Some(NameFault::Twice(3)) {
@@ -130,6 +129,6 @@ fn refused_growths(rt: HostRuntime) -> Result<(), Fail> {
 
 #[test]
 fn named_twice_without_memory(rt: HostRuntime) -> Result<(), Fail> {
-    assert!(rt; told_without_memory(rt.alloc())?);
+    assert!(rt; reported_without_memory(rt.alloc())?);
     Ok(())
 }

@@ -1,4 +1,4 @@
-//! Texts that hold settings, and texts that hold none.
+//! Texts with settings, and texts without.
 
 use settings::{Settings, SettingsFault, read_settings};
 use std::alloc::Global;
@@ -10,7 +10,9 @@ const SAMPLE: [u32; 5] = [16, 16, 256, 4, 39];
 const HELD: [(&str, [u32; 5]); 7] = [
     // examples/settings.toml, and its five lines alone.
     (
-        "# What a disk is made for (docs/formats/disk.md, \"Settings\").\nrules = 16     # rules that the register holds\nradios = 16    # radios\nmail = 256     # waiting messages and reports\nstations = 4   # stations\njournal = 39   # sectors in each half of the journal\n",
+        "# What a disk is made for (docs/formats/disk.md, \"Settings\").\nrules = 16     # rules that the register holds\n\
+         radios = 16    # radios\nmail = 256     # waiting messages and reports\nstations = 4   # stations\n\
+         journal = 39   # sectors in each half of the journal\n",
         SAMPLE,
     ),
     (
@@ -43,7 +45,7 @@ const HELD: [(&str, [u32; 5]); 7] = [
     ),
 ];
 
-/// Texts that hold no settings.
+/// Texts without settings.
 const NOT_HELD: [&str; 22] = [
     // Nothing, or not all keys.
     "",
@@ -94,7 +96,7 @@ fn first_misread(alloc: Global) -> Option<&'static str> {
     None
 }
 
-/// The first text that is read though it holds no settings.
+/// The first text that is read though it has no settings.
 fn first_taken(alloc: Global) -> Option<&'static str> {
     for text in NOT_HELD {
         if read_settings(alloc, text.as_bytes()) != Err(SettingsFault::BadSettings) {
@@ -104,11 +106,11 @@ fn first_taken(alloc: Global) -> Option<&'static str> {
     None
 }
 
-/// Whether the byte FF is refused: alone, and in a comment behind settings.
+/// Whether the byte FF is refused: alone, and in a comment after settings.
 fn refuses_no_text(alloc: Global) -> bool {
-    let behind = b"rules = 16\nradios = 16\nmail = 256\nstations = 4\njournal = 39\n# \xFF\n";
+    let in_comment = b"rules = 16\nradios = 16\nmail = 256\nstations = 4\njournal = 39\n# \xFF\n";
     let alone = read_settings(alloc, b"\xFF");
-    alone == Err(SettingsFault::BadSettings) && read_settings(alloc, behind) == alone
+    alone == Err(SettingsFault::BadSettings) && read_settings(alloc, in_comment) == alone
 }
 
 #[test]

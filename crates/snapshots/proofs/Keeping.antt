@@ -29,18 +29,18 @@ begin_snoc log views w mine others j u e =
     ⊎_elim (λ (x : get_elem? views j ≡ some u). others j u x) (λ (x : w ≡ u). subst (λ (y : View). IsPrefix y.seen log) x mine) (at_snoc views w u j e)
 
 pub begins : (base : State) (book : Book) (x : Snapshot) → IsSnapshot base book x → IsSeenBy base book x (view_of [] ∷ [])
-begins base book x stands = (stands, begin_snoc x.list.log [] (view_of []) (x.list.log, refl) (λ j u e. absurd (some-ne-none u (sym e))))
+begins base book x is_so = (is_so, begin_snoc x.list.log [] (view_of []) (x.list.log, refl) (λ j u e. absurd (some-ne-none u (sym e))))
 
 pub admits : (base : State) (book : Book) → Admits (IsSeenBy base book) (view_of [])
 admits base book x views h = (h.0, begin_snoc x.list.log views (view_of []) (x.list.log, refl) h.1)
 
 -- from x to y, whose list begins with that of x
 pub turns : (base : State) (book : Book) (seat : ℕ) (v : View) (x y : Snapshot) → IsSnapshot base book y → IsPrefix x.list.log y.list.log → TurnsAt (IsSeenBy base book) seat v x y (λ v x y w. Sees base book v y w)
-turns base book seat v x y stands longer views h at =
+turns base book seat v x y is_so longer views h at =
     let w = view_of y.list.log in (
       w,
-      (stands, begin_set y.list.log views seat w (prefix_self y.list.log) (λ j u e. prefix_trans u.seen x.list.log y.list.log (h.1 j u e) longer)),
-      (refl, stands, prefix_trans v.seen x.list.log y.list.log (h.1 seat v at) longer),
+      (is_so, begin_set y.list.log views seat w (prefix_self y.list.log) (λ j u e. prefix_trans u.seen x.list.log y.list.log (h.1 j u e) longer)),
+      (refl, is_so, prefix_trans v.seen x.list.log y.list.log (h.1 seat v at) longer),
     )
 
 pub enters : (base : State) (book : Book) (seat : ℕ) (v : View) → Turns (IsSeenBy base book) seat v (λ x. x) (λ v x y w. Sees base book v y w)

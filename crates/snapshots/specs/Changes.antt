@@ -1,4 +1,4 @@
--- What contracts see of a publisher, and what its pending changes lead to.
+-- What a publisher is modelled as, and what its pending changes lead to.
 use Rattle.std.specs.Prelude.{List}
 use Rattle.std.specs.Arc.{arc_value}
 use Rattle.std.specs.declared.alloc.Global.{Global}

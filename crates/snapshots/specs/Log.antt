@@ -1,4 +1,4 @@
--- The list of accepted commands: the rule of the word that counts them, and what a step on the word says.
+-- The list of accepted commands: the rule of the word that counts them, and what a step on that word shows.
 use Rattle.std.specs.Prelude.{ℕ, ◌≡◌, ◌==◌, true, List, [], ◌∷◌, ◌++◌, length, MatchBool}
 use Rattle.std.proofs.Common.{arith}
 use Rattle.std.specs.declared.alloc.Global.{Global}
@@ -15,7 +15,7 @@ IsCounted cells log = cells ≡ (length log, true) ∷ (0, true) ∷ []
 abbrev pub word_of : Book → Named
 word_of b = record { tracked = true; key = 0; book = b }
 
--- the command was added to all that had been seen; or the list was of another length
+-- the command was added to all that had been seen; or the list had another length
 abbrev pub Extends : Step (Asked Global) → View (Asked Global) ℕ → ℕ → View (Asked Global) ℕ → Type 0
 Extends s v found w = MatchBool (found == s.old) (w.0 ≡ v.0 ++ s.ask ∷ []) (length w.0 ≡ found)
 
@@ -38,10 +38,10 @@ some_limits = record {
   };
 }
 
--- a state and a book: each caller that makes a centre names its own in their place
+-- a placeholder for the base: each caller that makes a centre names its own
 abbrev pub some_base : State
 some_base = empty some_limits
 
--- a book with no names
+-- a placeholder for the book, likewise: it has no names
 abbrev pub some_book : Book
 some_book = record { number = 0; log_name = 0; cells_name = 0 }

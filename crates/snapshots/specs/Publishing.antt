@@ -17,13 +17,13 @@ use Rattle.snapshots.specs.Changes.{after_change}
 abbrev pub after_changes : Snapshot → List Change → State × Seen (Asked Global) ℕ LogRule
 after_changes x changes = fold (after_change (λ (c : Change). c.list)) (x.register, x.list) changes
 
--- after these changes the copy is a snapshot too, of a list that begins with its present one
+-- after these changes the copy is a snapshot too, of a list that begins with its current one
 abbrev pub IsNextSnapshot : State → Book → Snapshot → List Change → Type 0
 IsNextSnapshot base book x changes =
     let s = after_changes x changes in
     (s.0 ≡ after base s.1.log) × IsHistory base s.1.log × (s.1.book ≡ book) × IsPrefix x.list.log s.1.log
 
--- the copy y in place of x has all the changes, and none is left; or it is x, and all are left
+-- the published copy y has all changes of x, and none is left; or it is still x, and all are left
 abbrev pub HasPublished : {T E : Type 0} → Snapshot → List Change → Snapshot → List Change → Result T E → Type 0
 HasPublished x changes y left result =
     MatchResult result (λ _. ((y.register, y.list) ≡ after_changes x changes) × (left ≡ []))

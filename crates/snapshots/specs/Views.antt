@@ -1,4 +1,4 @@
--- The rule of the views, and what a step tells its viewer.
+-- The rule of the views, and what a step shows its viewer.
 use Rattle.std.specs.Prelude.{◌≡◌, ℕ, List}
 use Rattle.std.specs.declared.alloc.Global.{Global}
 use mathlib.Core.Option.{some}
@@ -12,7 +12,7 @@ use Rattle.centre_core.specs.Histories.{IsHistory}
 use Rattle.snapshots.specs.declared.snapshot.Snapshot.{Snapshot}
 use Rattle.snapshots.specs.declared.rule.View.{View}
 
--- what a viewer that has seen this list knows
+-- the view of who has seen this list
 abbrev pub view_of : List (Asked Global) → View
 view_of seen = record { seen = seen }
 

@@ -29,7 +29,7 @@ impl Rule<Command<Global>, u64> for LogRule {
     ghost moves = { λ ask before after answer. Unit {0} };
 }
 
-/// Whoever adds a command keeps nothing beside the list.
+/// Adding a command gives its caller nothing to keep.
 pub struct NoGain;
 
 impl Gain<Command<Global>, u64> for NoGain {
@@ -60,7 +60,7 @@ pub type LogPrefix = Seen<Command<Global>, u64, LogRule>;
 
 pub type LogWord = Word<Command<Global>, u64, LogRule>;
 
-/// Which centre it is: the state that its list begins from, and the book that the list stands in. Each program that
+/// One centre: the state that its list of commands starts from, and the logbook that the list is in. Each program that
 /// makes a centre picks both.
 pub trait Centre {
     ghost use Rattle.logbook.specs.Pages.{Book};
@@ -71,7 +71,7 @@ pub trait Centre {
     ghost book: { Book };
 }
 
-// A caller that makes a centre names it by `Brand`, and says in its proof which base and book are meant.
+// A caller that makes a centre names it by `Brand`, and its proof says which base and book are meant.
 impl Centre for Brand {
     ghost use Rattle.snapshots.specs.Log.{some_base, some_book};
 

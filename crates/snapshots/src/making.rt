@@ -13,7 +13,7 @@ use std::alloc::{AllocError, Global};
 use std::collections::VecDeque;
 use std::sync::Wait;
 
-/// For how many pending commands a publisher has its room from the start.
+/// How many pending commands a publisher has room for from the start.
 pub const PENDING: usize = 64;
 
 /// The most places for viewers.
@@ -93,8 +93,8 @@ fn new_publisher<J: Centre>(
 }
 
 /// A publisher of this register, which it copies once, and a viewer for each of 1 to 64 places. Nothing is appended yet,
-/// and the viewers have seen nothing. Where a viewer can't be made the publisher is ended; nobody reads then, so that
-/// doesn't wait.
+/// and the viewers have seen nothing. If a viewer can't be made, the publisher is ended. That does not wait, since nobody
+/// reads yet.
 ///
 /// `NoPlace` comes for another number of places, and for nothing else.
 pub fn make<J: Centre, R: Wait>(

@@ -6,8 +6,8 @@ ghost use Rattle.centre_core.specs.Histories.{IsHistory};
 use crate::log::{Centre, LogPrefix};
 use std::marker::{Model, PhantomData};
 
-/// A list of commands that was published. Contracts see it as that list. It takes a number's room in memory, and crosses
-/// threads.
+/// A list of commands that was published. Contracts model it as that list; in memory it is only its length. It may be sent
+/// to other threads.
 #[derive(Drop)]
 pub struct Published<J: Centre> {
     pub(crate) count: u64,
@@ -57,7 +57,7 @@ impl<J: Centre> Published<J> {
         self.count <= other.count
     }
 
-    /// The longer of the two, of which the other is a prefix.
+    /// The longer of the two. The other is a prefix of it.
     pub fn longer(&self, other: &Published<J>) -> Published<J>
         ensures one { (result ≡ self.now) ⊎ (result ≡ other.now) }
         ensures this { IsPrefix self.now result }

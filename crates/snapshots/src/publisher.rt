@@ -16,7 +16,7 @@ use std::collections::VecDeque;
 use std::marker::{Model, PhantomData};
 use std::sync::{Arc, Wait};
 
-/// Contracts see the list that is published, and the list of all that was appended. It is not `Drop`: end it by `close`.
+/// Contracts model the list that is published, and the list of all that was appended. It is not `Drop`: end it by `close`.
 pub struct Publisher<J: Centre> {
     pub(crate) writer: SnapshotWriter<J>,
     pub(crate) word: LogWord,
@@ -48,8 +48,8 @@ impl<J: Centre> Model for Publisher<J> {
 }
 
 impl<J: Centre> Publisher<J> {
-    /// Appends a command that is accepted after all that was appended. It comes back where there is no memory for it; the
-    /// first 64 commands that are pending need none.
+    /// Appends a command that is accepted after all that was appended. Out of memory gives the command back. While fewer
+    /// than 64 commands are pending, it needs no memory.
     pub fn append(
         &mut self,
         command: Arc<Command<Global>, Global>,
@@ -89,7 +89,7 @@ impl<J: Centre> Publisher<J> {
     }
 
     /// Whether all that was appended is published.
-    pub fn is_level(&self) -> bool
+    pub fn is_caught_up(&self) -> bool
         ensures { IsTrue result ↔ (self.now.published ≡ self.now.appended) }
     {
         self.writer.published().register.count() - self.base == self.count

@@ -28,7 +28,7 @@ pub fn hand_over<J: Centre>(writer: &mut SnapshotWriter<J>, pending: &mut VecDeq
     true
 }
 
-// Publishes what the writer has, where that is a snapshot too, of a list that begins with the published one.
+// Publishes what the writer has. That must be a snapshot too, of a list that begins with the published one.
 fn publish_writer<J: Centre, R: Wait>(
     rt: &R,
     writer: SnapshotWriter<J>,

@@ -1,4 +1,4 @@
-//! The rule of the views: the published copy is the register after its list, which begins with what each view has seen.
+//! The rule of the views: the published copy is the register after its list. That list begins with what each view has seen.
 use crate::log::Centre;
 use crate::snapshot::{Change, Snapshot};
 use centre_core::Command;

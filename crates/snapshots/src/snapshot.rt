@@ -4,7 +4,7 @@ use left_right::Absorb;
 use std::alloc::{AllocError, Global};
 use std::sync::Arc;
 
-/// A copy of the register, and the list of commands that it was made by.
+/// A copy of the register, and the list of commands that made it.
 #[derive(Drop)]
 pub struct Snapshot {
     pub register: Register<Global>,

@@ -2,14 +2,14 @@
 ghost use Rattle.std.specs.Prelude.{◌≡◌, ◌⊎◌, ◌<◌, MatchBool, length, IfSome, IfOk, IfNone, OnErr, IsErrOf, MatchResult};
 ghost use mathlib.Core.List.{IsPrefix};
 ghost use Rattle.centre_core.specs.History.{after};
-ghost use Rattle.centre_core.specs.Tell.{AsksForList, tell};
+ghost use Rattle.centre_core.specs.Queries.{AsksForList, answer_to};
 ghost use Rattle.snapshots.specs.declared.viewer.ReadFault.TheVariants.{Closed, NoMemory};
 
 use crate::log::Centre;
 use crate::published::Published;
 use crate::rule::SnapshotReader;
 use crate::visit::{Visit, entered};
-use centre_core::{Query, Told};
+use centre_core::{Query, QueryAnswer};
 use core::mem::replace_with;
 use std::alloc::{AllocError, Allocator};
 use std::marker::Model;
@@ -17,13 +17,13 @@ use std::marker::Model;
 /// Why a read has no answer.
 #[derive(Debug, Drop)]
 pub enum ReadFault {
-    /// There is no memory for the answer.
+    /// There was no memory for the answer.
     NoMemory,
     /// The published copy could not be entered.
     Closed,
 }
 
-/// Contracts see the list that it has seen or was told of.
+/// A reader of the published copy. Contracts model it as the list that it has seen or learnt.
 #[derive(Drop)]
 pub struct Viewer<J: Centre> {
     pub(crate) reader: SnapshotReader<J>,
@@ -43,13 +43,13 @@ impl<J: Centre> Model for Viewer<J> {
     ghost invariant = { λ v. v.base ≡ J.base.count };
 }
 
-// What the published copy answers, after how many commands it is, and the viewer outside again.
-fn looked<J: Centre, C: Allocator + Copy>(
+// The answer of the published copy, and how many commands made that copy; and the viewer, which has left the copy.
+fn answered<J: Centre, C: Allocator + Copy>(
     viewer: Viewer<J>,
     asked: (&Query, C),
-) -> (Viewer<J>, Option<(Result<Told<C>, AllocError>, u64)>)
+) -> (Viewer<J>, Option<(Result<QueryAnswer<C>, AllocError>, u64)>)
     ensures later { IsPrefix viewer result.0 }
-    ensures told { IfSome result.1 (λ r. IfOk r.0 (λ told. told ≡ tell (after J.base result.0) asked.entry.0.now)) }
+    ensures answer { IfSome result.1 (λ r. IfOk r.0 (λ answer. answer ≡ answer_to (after J.base result.0) asked.entry.0.now)) }
     ensures count { IfSome result.1 (λ r. r.1 ≡ length result.0) }
     ensures memory { IfSome result.1 (λ r. OnErr r.0 (AsksForList asked.entry.0.now)) }
     ensures closed { IfNone result.1 (result.0 ≡ viewer) }
@@ -57,52 +57,52 @@ fn looked<J: Centre, C: Allocator + Copy>(
     match entered(viewer) {
         Ok(visit) => {
             let (query, alloc) = asked;
-            let told = visit.query(alloc, query);
+            let answer = visit.query(alloc, query);
             let count = visit.count();
-            (visit.leave(), Some((told, count)))
+            (visit.leave(), Some((answer, count)))
         }
         Err(viewer) => (viewer, None),
     }
 }
 
 // The same in place.
-fn look<J: Centre, C: Allocator + Copy>(
+fn answer_in_place<J: Centre, C: Allocator + Copy>(
     viewer: &mut Viewer<J>,
     asked: (&Query, C),
-) -> Option<(Result<Told<C>, AllocError>, u64)>
+) -> Option<(Result<QueryAnswer<C>, AllocError>, u64)>
     ensures later { IsPrefix viewer.old viewer.new }
-    ensures told { IfSome result (λ r. IfOk r.0 (λ told. told ≡ tell (after J.base viewer.new) asked.entry.0.now)) }
+    ensures answer { IfSome result (λ r. IfOk r.0 (λ answer. answer ≡ answer_to (after J.base viewer.new) asked.entry.0.now)) }
     ensures count { IfSome result (λ r. r.1 ≡ length viewer.new) }
     ensures memory { IfSome result (λ r. OnErr r.0 (AsksForList asked.entry.0.now)) }
     ensures closed { IfNone result (viewer.new ≡ viewer.old) }
 {
-    replace_with(viewer, asked, |viewer, asked| looked(viewer, asked))
+    replace_with(viewer, asked, |viewer, asked| answered(viewer, asked))
 }
 
 impl<J: Centre> Viewer<J> {
     /// The answer to a query after a list of commands, kept under `alloc`, with the length of that list. The list begins
-    /// with all that the viewer has seen or was told of. It never waits. `NoMemory` comes only for a list; the viewer may
-    /// then have seen more. After `Closed` nothing has changed.
+    /// with all that the viewer has seen or learnt. It never waits. `NoMemory` comes only where the answer is a list; the
+    /// viewer may then have seen more. After `Closed` nothing has changed.
     pub fn read<C: Allocator + Copy>(
         &mut self,
         alloc: C,
         query: &Query,
-    ) -> Result<(Told<C>, u64), ReadFault>
+    ) -> Result<(QueryAnswer<C>, u64), ReadFault>
         ensures later { IsPrefix self.old self.new }
-        ensures answer { IfOk result (λ r. (r.0 ≡ tell (after J.base self.new) query.now) × (r.1 ≡ length self.new)) }
+        ensures answer { IfOk result (λ r. (r.0 ≡ answer_to (after J.base self.new) query.now) × (r.1 ≡ length self.new)) }
         ensures memory { IsErrOf result NoMemory → AsksForList query.now }
         ensures closed { IsErrOf result Closed → self.new ≡ self.old }
     {
-        let Some((told, count)) = look(self, (query, alloc)) else {
+        let Some((answer, count)) = answer_in_place(self, (query, alloc)) else {
             return Err(ReadFault::Closed);
         };
-        match told {
-            Ok(told) => Ok((told, count)),
+        match answer {
+            Ok(answer) => Ok((answer, count)),
             Err(_) => Err(ReadFault::NoMemory),
         }
     }
 
-    /// Enters the copy that is published now, whose list begins with all that the viewer has seen or was told of. It never
+    /// Enters the copy that is published now, whose list begins with all that the viewer has seen or learnt. It never
     /// waits. If the copy can't be entered, the viewer comes back as it was.
     pub fn enter(self) -> Result<Visit<J>, Viewer<J>>
         ensures { MatchResult result (λ visit. IsPrefix self visit) (λ same. same ≡ self) }
@@ -110,7 +110,7 @@ impl<J: Centre> Viewer<J> {
         entered(self)
     }
 
-    /// How many commands it has seen or was told of.
+    /// How many commands it has seen or learnt.
     pub fn count(&self) -> u64
         ensures { result ≡ length self.now }
     {
@@ -132,7 +132,7 @@ impl<J: Centre> Viewer<J> {
         self.known = list.copy();
     }
 
-    /// It is told of this list: from now on what it reads begins with it. It never waits.
+    /// It learns this list: what it reads from then on begins with it. It never waits.
     pub fn learn(&mut self, list: &Published<J>)
         ensures one { (self.new ≡ self.old) ⊎ (self.new ≡ list.now) }
         ensures seen { IsPrefix self.old self.new }

@@ -2,20 +2,20 @@
 ghost use Rattle.std.specs.Prelude.{◌≡◌, length, IfOk, OnErr, MatchResult};
 ghost use mathlib.Core.List.{IsPrefix};
 ghost use Rattle.centre_core.specs.History.{after};
-ghost use Rattle.centre_core.specs.Tell.{AsksForList, tell};
+ghost use Rattle.centre_core.specs.Queries.{AsksForList, answer_to};
 ghost use Rattle.snapshots.specs.Views.{IsSnapshot};
 
 use crate::log::Centre;
 use crate::published::Published;
 use crate::rule::{Inside, Sees};
 use crate::viewer::Viewer;
-use centre_core::{Query, Told};
+use centre_core::{Query, QueryAnswer};
 use std::alloc::{AllocError, Allocator};
 use std::marker::{Model, PhantomData};
 
-/// A viewer inside the published copy, which stays as it is until the viewer leaves: so several queries are answered from
-/// one state. Contracts see the list that the copy was made by. It is not `Drop`: end it by `leave`, since the second
-/// publication from now on waits for that.
+/// A viewer inside the published copy. The copy stays as it is until the viewer leaves, so several queries are answered
+/// from one state. Contracts model it as the list of commands that made the copy. It is not `Drop`: end it by `leave`,
+/// since the second publication from now on waits for that.
 pub struct Visit<J: Centre> {
     inside: Inside<J>,
     list: Published<J>,
@@ -36,15 +36,19 @@ impl<J: Centre> Model for Visit<J> {
 }
 
 impl<J: Centre> Visit<J> {
-    /// The answer to a query, kept under `alloc`. Only a list takes memory.
-    pub fn query<C: Allocator + Copy>(&self, alloc: C, query: &Query) -> Result<Told<C>, AllocError>
-        ensures told { IfOk result (λ told. told ≡ tell (after J.base self.now) query.now) }
+    /// The answer to a query, kept under `alloc`. Only an answer that is a list takes memory.
+    pub fn query<C: Allocator + Copy>(
+        &self,
+        alloc: C,
+        query: &Query,
+    ) -> Result<QueryAnswer<C>, AllocError>
+        ensures answer { IfOk result (λ answer. answer ≡ answer_to (after J.base self.now) query.now) }
         ensures memory { OnErr result (AsksForList query.now) }
     {
         self.inside.get().register.query(alloc, query)
     }
 
-    /// After how many commands the copy is.
+    /// How many commands made the copy.
     pub fn count(&self) -> u64
         ensures { result ≡ length self.now }
     {
@@ -64,7 +68,7 @@ impl<J: Centre> Visit<J> {
     }
 }
 
-// The list of the copy that is entered.
+// The list of commands that made the copy inside.
 fn list_of<J: Centre>(inside: &Inside<J>, base: u64) -> Published<J>
     requires base { base ≡ J.base.count }
     requires snapshot { IsSnapshot J.base J.book inside.now.part.value }
@@ -78,7 +82,7 @@ fn list_of<J: Centre>(inside: &Inside<J>, base: u64) -> Published<J>
     }
 }
 
-// Enters the copy that is published now, whose list begins with all that the viewer has seen or was told of. It never
+// Enters the copy that is published now, whose list begins with all that the viewer has seen or learnt. It never
 // waits. If the copy can't be entered, the viewer comes back as it was.
 pub fn entered<J: Centre>(viewer: Viewer<J>) -> Result<Visit<J>, Viewer<J>>
     ensures { MatchResult result (λ visit. IsPrefix viewer visit) (λ same. same ≡ viewer) }

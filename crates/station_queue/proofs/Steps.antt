@@ -249,15 +249,15 @@ anything pass v items views h at = tt
 pub more_senders : (n : ℕ) (xs ys : List Sending) (t u : TableId) (s : Sending) → ys ≡ xs ++ s ∷ [] → length xs + 1 ≡ n → s ≡ sending t n [] → u ≡ t
     → ((k : ℕ) → k + 1 < n → slice_get xs k ≡ Some (sending t (k + 1) [])) → (k : ℕ) → k + 1 < n + 1 → slice_get ys k ≡ Some (sending u (k + 1) [])
 more_senders n xs ys t u s all long is same old k small =
-    rw (all, same) (⊎_elim (λ (lt : k + 1 < n). at_front xs s k _ (old k lt)) (λ (eq : k ≡ length xs). at_last' xs s k eq ∙ ap Some (is ∙ ap (λ m. sending t m []) (omega arith))) (below_or))
+    rw (all, same) (⊎_elim (λ (lt : k + 1 < n). at_prefix xs s k _ (old k lt)) (λ (eq : k ≡ length xs). at_last' xs s k eq ∙ ap Some (is ∙ ap (λ m. sending t m []) (omega arith))) (below_or))
   where
     below_or : (k + 1 < n) ⊎ (k ≡ length xs)
     below_or = grind arith
 
-    at_front : (l : List Sending) (a : Sending) (j : ℕ) (b : Sending) → slice_get l j ≡ Some b → slice_get (l ++ a ∷ []) j ≡ Some b
-    at_front [] a j b e = absurd cc
-    at_front (x ∷ l) a zero b e = e
-    at_front (x ∷ l) a (suc j) b e = at_front l a j b e
+    at_prefix : (l : List Sending) (a : Sending) (j : ℕ) (b : Sending) → slice_get l j ≡ Some b → slice_get (l ++ a ∷ []) j ≡ Some b
+    at_prefix [] a j b e = absurd cc
+    at_prefix (x ∷ l) a zero b e = e
+    at_prefix (x ∷ l) a (suc j) b e = at_prefix l a j b e
 
     at_last' : (l : List Sending) (a : Sending) (j : ℕ) → j ≡ length l → slice_get (l ++ a ∷ []) j ≡ Some a
     at_last' [] a j e = ap (slice_get (a ∷ [])) e

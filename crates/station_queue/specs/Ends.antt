@@ -1,4 +1,4 @@
--- What contracts see of the two ends.
+-- What the two ends are modelled as.
 use Rattle.std.specs.Prelude.{ℕ, Bool, List, ◌++◌}
 use Rattle.atomic_table.specs.Seated.{TableId}
 use Rattle.registration.specs.Numbers.{Station}
@@ -15,7 +15,7 @@ pub record Sending : Type 0 where
 abbrev pub sending : TableId → Station → List Entry → Sending
 sending queue station sent = record { queue = queue; station = station; sent = sent }
 
--- the taker: its queue, how many senders it made, what it took, the senders that came back, and whether its last call of `take` found the queue empty
+-- the taker: its queue, how many senders it made, what it took, the senders that came back, and whether its last `take` found the queue empty
 pub record Taking : Type 0 where
   pub queue : TableId
   pub made : ℕ

@@ -5,7 +5,7 @@ use Rattle.registration.specs.Numbers.{Station}
 use Rattle.station_queue.specs.declared.entry.Entry.{Entry}
 use Rattle.station_queue.specs.declared.entry.Entry.TheVariants.{Submitted, Ended}
 
--- whose entry it is
+-- the station whose entry it is
 abbrev pub station_of : Entry → Station
 station_of (Submitted request) = (arc_value request.command).station
 station_of (Ended station) = station

@@ -20,18 +20,18 @@ taker made taken settled = record { takes = true; made = made; taken = taken; se
 abbrev pub sender : Station → List Entry → View
 sender station sent = record { takes = false; made = 0; taken = []; settled = []; sends = true; station = station; sent = sent }
 
--- what is left of the pass of a sender that came back
+-- the pass of a sender that came back: it may do nothing more
 abbrev pub nobody : View
 nobody = record { takes = false; made = 0; taken = []; settled = []; sends = false; station = 0; sent = [] }
 
--- of each of these stations: what was taken of it, followed by what the queue holds of it, is what it sent
+-- of each of these stations, what was taken, followed by what the queue holds, is what it sent
 abbrev pub AreAllSent : List Entry → List Entry → List Settled → Type 0
 AreAllSent taken items stations = All (λ s. entries_of s.station (taken ++ items) ≡ s.sent) stations
 
 -- What the rule says of one pass. reader: the taker's pass; seat: the pass of each station's sender;
 -- made: how many senders there are; all: what was taken, followed by what the queue holds.
 module _ (reader : ℕ) (seat : Station → Option ℕ) (made : ℕ) (taken all : List Entry) where
-  -- a pass that takes is the taker's, and knows what was taken and how many senders there are
+  -- a pass that takes is the taker's, and has what was taken and how many senders there are
   abbrev pub FitsTaker : ℕ → View → Type 0
   FitsTaker pass v = v.takes ≡ true → (pass ≡ reader) × (v.taken ≡ taken) × (v.made ≡ made)
 
@@ -39,7 +39,7 @@ module _ (reader : ℕ) (seat : Station → Option ℕ) (made : ℕ) (taken all 
   abbrev pub FitsSettled : Settled → Type 0
   FitsSettled s = (seat s.station ≡ None) × (s.station ≤ made) × (entries_of s.station all ≡ s.sent)
 
-  -- a pass that sends is its station's, and knows what that station sent
+  -- a pass that sends is its station's, and has what that station sent
   abbrev pub FitsSender : ℕ → View → Type 0
   FitsSender pass v = v.sends ≡ true → (seat v.station ≡ Some pass) × (v.station ≤ made) × (entries_of v.station all ≡ v.sent) × (0 < v.station)
 
@@ -47,7 +47,7 @@ module _ (reader : ℕ) (seat : Station → Option ℕ) (made : ℕ) (taken all 
   abbrev pub Fits : ℕ → View → Type 0
   Fits pass v = FitsTaker pass v × All FitsSettled v.settled × FitsSender pass v
 
--- what was taken of a station, followed by what the queue holds of it, is what its pass says that it sent; stations without a sender sent nothing
+-- what was taken of a station, followed by what the queue holds of it, is what the station's pass has as sent; a station without a sender sent nothing
 abbrev pub IsInOrder : List Entry → List View → Type 0
 IsInOrder items views =
     (reader : ℕ) × (seat : Station → Option ℕ) × (made : ℕ) × (taken : List Entry)

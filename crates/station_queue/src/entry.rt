@@ -9,8 +9,8 @@ use std::sync::Arc;
 /// A command that threads share. It is freed with its last owner.
 pub type SharedCommand = Arc<Command<Global>, Global>;
 
-/// A command with two owners of it, made before it is sent: one for the list of accepted commands and one to come back
-/// with the answer. So its taker needs no memory for either.
+/// A command with two owners, both made before it is sent. One goes into the list of accepted commands, the other comes
+/// back with the answer. So its taker needs no memory for either.
 #[derive(Drop)]
 pub struct Request {
     pub command: Arc<Command<Global>, Global>,

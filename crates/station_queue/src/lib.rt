@@ -1,7 +1,8 @@
-//! One queue of 64 entries from the sessions of several stations to one taker.
+//! One queue of 64 entries from the sessions of several stations to one taker. A sender tries again while the queue is
+//! full. The crate starts no thread, and knows nothing of registers and disks.
 //!
 //! What was taken of a station, followed by what the queue holds of it, is what that station sent. At the end the taker
-//! takes the senders back and knows it of all of them at once.
+//! takes the senders back, and that is known of all of them at once.
 #![tactic(auto)]
 
 mod entry;

@@ -37,8 +37,8 @@ pub fn open_queue(alloc: Global, count: u16) -> Result<(Taker, Vec<Sender>), All
     Ok((taker, senders))
 }
 
-/// Takes all these senders of the queue back. Then there is one list of entries, which the queue holds, so that what was
-/// taken of a station, followed by what that list has of it, is what the station sent.
+/// Takes all these senders of the queue back. Then what was taken of each station, followed by what the queue holds of it,
+/// is what the station sent.
 pub fn settle_all(taker: &mut Taker, senders: Vec<Sender>)
     requires { All (λ s. s.queue ≡ taker.old.queue) senders.items }
     ensures settled { taker.new ≡ with_settled taker.old (map (λ s. settled s.station s.sent) senders.items) }

@@ -12,12 +12,12 @@ pub struct Settled {
 
 /// What the holder of a pass knows. No value of it is made.
 pub struct View {
-    /// It is the taker's: how many senders it made, what it took, and the senders that came back.
+    /// Set for the taker's pass: how many senders it made, what it took, and the senders that came back.
     pub takes: bool,
     pub made: u64,
     pub taken: LinkedList<Entry>,
     pub settled: LinkedList<Settled>,
-    /// It is a sender's: its station, and what it sent.
+    /// Set for a sender's pass: its station, and what it sent.
     pub sends: bool,
     pub station: u64,
     pub sent: LinkedList<Entry>,
@@ -86,7 +86,7 @@ impl Lesson<Entry, View> for Takes {
     ghost fact = { λ v items. ⊤ };
 }
 
-/// What was taken and what the queue holds, beside what the senders that came back have sent.
+/// What was taken, followed by what the queue holds, is what the senders that came back have sent.
 pub struct Total;
 
 impl Lesson<Entry, View> for Total {

@@ -34,7 +34,7 @@ impl Model for Sender {
 }
 
 impl Sender {
-    /// Whose entries it sends.
+    /// The station whose entries it sends.
     pub fn station(&self) -> Station
         ensures { result ≡ self.now.station }
     {

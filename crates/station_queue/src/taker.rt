@@ -73,8 +73,8 @@ impl Taker {
         self.queue.absorb::<SenderBack>(&mut self.pass, pass);
     }
 
-    /// Of the senders that came back: there is one list of entries, which the queue holds, so that what was taken of a
-    /// station, followed by what that list has of it, is what the station sent.
+    /// Of each sender that came back: what was taken of its station, followed by what the queue holds of it, is what the
+    /// station sent.
     pub fn total(&mut self)
         ensures same { self.new ≡ self.old }
         ensures total { (items : List Entry) × AreAllSent self.old.taken items self.old.settled }

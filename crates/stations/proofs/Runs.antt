@@ -27,7 +27,7 @@ module _ (J : Type 0) (base : State) where
       (record { station = station; world = record { station = station; view = s }; unread = q.1; written = q.2 })
       (record { result = r; world = record { station = q.0; view = t }; written = q.3 })) (λ i. (same i, gives i, holds i, leaves i)) run
 
-  -- nothing was done for want of memory
+  -- nothing was done when memory runs out
   pub refused : (station : Station) (unread written : Option (List Byte)) (s : SessionView) → IsRunOf J base station unread written s s written (Err NoMemory)
   refused station unread written s = λ input before known held.
       short_at_once (of_session J base) (record { station = station; world = record { station = station; view = s }; unread = unread; written = written }) before input NoMemory written held

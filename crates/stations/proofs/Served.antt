@@ -23,7 +23,7 @@ use Rattle.flusher.specs.Runs.{HasSameEnds}
 use Rattle.flusher.specs.Sessions.{view_of as session_view}
 use Rattle.flusher.specs.Shared.{commands_among}
 use Rattle.flusher.specs.Stages.{Sent}
-use Rattle.flusher.specs.Stored.{IsStoredFor, StandsBetween}
+use Rattle.flusher.specs.Stored.{IsStoredFor, OpensBetween}
 use Rattle.flusher.specs.Submitted.{SessionView}
 use Rattle.flusher.specs.View.{FlusherView}
 use Rattle.flusher.specs.declared.session.Ended.{Ended}
@@ -35,14 +35,14 @@ use Rattle.stations.specs.declared.job.Job.{Job}
 use Rattle.stations.specs.declared.port.Port.{Port}
 use Rattle.stations.specs.Done.{EndsAs, IsDone, IsRunOf}
 use Rattle.stations.specs.Flushed.{HasFlushed}
-use Rattle.stations.specs.Served.{Given, HasServed, IsBorneOut, new_view}
+use Rattle.stations.specs.Served.{Run, HasServed, IsBorneOut, new_view}
 use Rattle.stations.proofs.Places.{at_index, beside, map_length, mapped, one_only, zip_length, zip_mapped}
 
 -- its end is none of the commands that a session sent
 commands_before_end : (sent : List Entry) (station : Station) → commands_among (sent ++ entry.Ended station ∷ []) ≡ commands_among sent
 commands_before_end sent station = commands_among-append sent (entry.Ended station ∷ []) ∙ append-nil (commands_among sent)
 
--- where each image of an opened disk stands for its register, so it is of a new flusher
+-- if each image of an opened disk opens to its register, so does each image of a new flusher's disk
 pub stored_first : {D : Type 0} (disk : D → View) (base : State) (opened : StoreView Global D) (n : ℕ) (f : FlusherView D) → opened.broken ≡ false → IsNewFlusher n opened f →
     (disk opened.disk).honest → IsStoredIn Global disk opened → IsStoredFor disk base f
 stored_first {D} disk base opened n f whole new honest kept = record {
@@ -118,10 +118,10 @@ module _ {J I O : Type 0} (base : State) (unread : I → Option (List Byte)) (wr
         )
 
     -- what each run gave
-    abbrev pub given_of : Done J O → Given O
+    abbrev pub given_of : Done J O → Run O
     given_of d = (d.writer, d.ran)
 
-    pub each_run : (k : ℕ) (port : Port I O) (run : Given O) (view : SessionView) → slice_get ports k ≡ Some port → slice_get (map given_of done) k ≡ Some run →
+    pub each_run : (k : ℕ) (port : Port I O) (run : Run O) (view : SessionView) → slice_get ports k ≡ Some port → slice_get (map given_of done) k ≡ Some run →
         slice_get (views_of jobs done all) k ≡ Some view → IsRunOf J base (k + 1) (unread port.reader) (written port.writer) new_view view (written run.0) run.1
     each_run k port run view at_port at_run at_view =
         let j = beside jobs (views_of jobs done all) k view (views_length jobs done all) at_view in
@@ -130,7 +130,7 @@ module _ {J I O : Type 0} (base : State) (unread : I → Option (List Byte)) (wr
         let n = new_at k j.0 j.1 in
         let same_port = one_only ports k j.0.port port (subst (λ (l : List (Port I O)). slice_get l k ≡ Some j.0.port) with_ports (mapped (λ (x : Job J I O). x.port) jobs k j.0 j.1)) at_port in
         let same_run = one_only (map given_of done) k (given_of d.0) run (mapped given_of done k d.0 d.1) at_run in
-        subst (λ (q : Station × Port I O × SessionView × Given O). IsRunOf J base q.0 (unread q.1.reader) (written q.1.writer) q.2 view (written q.3.0) q.3.1) (λ i. (n.0 i, same_port i, n.1 i, same_run i)) e.run
+        subst (λ (q : Station × Port I O × SessionView × Run O). IsRunOf J base q.0 (unread q.1.reader) (written q.1.writer) q.2 view (written q.3.0) q.3.1) (λ i. (n.0 i, same_port i, n.1 i, same_run i)) e.run
 
     -- what is known of each session, by what is known of its end
     pub each_borne : IsClosed base last (map (λ (d : Done J O). d.ended) done) → AreSessionsOf last (map (λ (d : Done J O). d.ended) done) →
@@ -166,7 +166,7 @@ module _ {J I O : Type 0} (base : State) (unread : I → Option (List Byte)) (wr
 
     -- all of it
     pub has_served : (disk : D → View) (opened store : StoreView Global D) (n : ℕ) → opened.broken ≡ false → n ≡ length ports → IsNewFlusher n opened first → HasFlushed disk base first last → store ≡ last.store →
-        (ended : List (Ended J)) (runs : List (Given O)) → ended ≡ map (λ (d : Done J O). d.ended) done → runs ≡ map given_of done →
+        (ended : List (Ended J)) (runs : List (Run O)) → ended ≡ map (λ (d : Done J O). d.ended) done → runs ≡ map given_of done →
         (IsClosed base last ended ⊎ Any (λ (e : Ended J). length last.published < length e.viewer) ended) →
         HasServed disk J base unread written opened ports store runs
     has_served disk opened store n whole count begun flushed store_is ended runs is_ended is_runs closed =
@@ -182,13 +182,13 @@ module _ {J I O : Type 0} (base : State) (unread : I → Option (List Byte)) (wr
           settled = flushed.settled;
           store_is = store_is;
           stored = λ honest kept. flushed.stored (stored_first disk base opened n first whole begun honest kept);
-          any_moment = λ honest kept. at_ends (λ s t. LeavesOnly (disk s.disk) (disk t.disk) (StandsBetween base first last))
+          any_moment = λ honest kept. at_ends (λ s t. LeavesOnly (disk s.disk) (disk t.disk) (OpensBetween base first last))
               (flushed.any_moment (stored_first disk base opened n first whole begun honest kept) sound_first);
           later = at_ends (λ s t. (disk s.disk).failures ≤ (disk t.disk).failures) flushed.later;
           failed = λ broken. at_ends (λ s t. HasFailed (disk s.disk) (disk t.disk)) (flushed.failed sound_first (sym (ap (λ (s : StoreView Global D). s.broken) store_is) ∙ broken));
           views = views_of jobs done all;
           count = (runs_length, views_length jobs done all ∙ jobs_length);
-          each = λ k port run view at_port at_run at_view. each_run k port run view at_port (subst (λ (l : List (Given O)). slice_get l k ≡ Some run) is_runs at_run) at_view;
+          each = λ k port run view at_port at_run at_view. each_run k port run view at_port (subst (λ (l : List (Run O)). slice_get l k ≡ Some run) is_runs at_run) at_view;
           closed = either ended is_ended closed;
         }
       where

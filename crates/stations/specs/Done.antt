@@ -18,15 +18,16 @@ use Rattle.stations.specs.declared.job.Done.{Done}
 use Rattle.stations.specs.declared.job.Job.{Job}
 
 module _ (J : Type 0) (base : State) where
-  -- the lines of a station were answered by its session: what its reader had left and its writer held before, what the session had sent,
-  -- received and seen before and after, how the run ended, and what the writer holds after it
+  -- The lines of a station were answered by its session. Given are what its reader had left and its writer held before the run; what the
+  -- session had sent, received and seen before and after it; what the writer holds after it; and how it ended.
   abbrev pub IsRunOf : Station → Option (List Byte) → Option (List Byte) → SessionView → SessionView → Option (List Byte) → Result Ran RunFault → Type 0
   IsRunOf station unread written s t after ran =
       IsRun Global (of_session J base) (record { station = station; world = record { station = station; view = s }; unread = unread; written = written })
       (record { result = ran; world = record { station = station; view = t }; written = after })
 
   module _ {I O : Type 0} (unread : I → Option (List Byte)) (written : O → Option (List Byte)) where
-    -- a session answered the lines of its port and then ended, and this came of it: so it was after the run, and then it sent its end alone
+    -- A session answered the lines of its port and then ended, and this came of it. `last` is the session after the run; then it sent
+    -- its end, and nothing else.
     pub record EndsAs (job : Job J I O) (last : SessionView) (done : Done J O) : Type 0 where
       pub run : IsRunOf job.session.sender.station (unread job.port.reader) (written job.port.writer) (view_of job.session) last (written done.writer) done.ran
       pub sender : done.ended.sender ≡ sending job.session.sender.queue job.session.sender.station (last.sent ++ entry.Ended job.session.sender.station ∷ [])
@@ -34,6 +35,6 @@ module _ (J : Type 0) (base : State) where
       pub channel : receives_on done.ended.receiver.channel ≡ receives_on job.session.receiver.channel
       pub seen : done.ended.viewer ≡ last.seen
 
-    -- the same, whatever it did
+    -- the same for some session after the run
     abbrev pub IsDone : Job J I O → Done J O → Type 0
     IsDone job done = (last : SessionView) × EndsAs job last done

@@ -16,18 +16,18 @@ pub record Beginning : Type 0 where
   pub seen : List (Asked Global)
 
 module _ {J : Type 0} where
-  -- this session now
+  -- what this session is, as a beginning
   abbrev pub beginning_of : Session J → Beginning
   beginning_of s = record { sender = s.sender; receiver = s.receiver; seen = s.viewer }
 
-  -- it is the session that began so: of the same station, on the same queue and channel; and what was seen then is still seen, first
+  -- it is the session that began so: it has the same station, queue and channel, and what was seen then is a prefix of what is seen
   pub record GoesOnFrom (b : Beginning) (s : Session J) : Type 0 where
     pub queue : s.sender.queue ≡ b.sender.queue
     pub station : s.sender.station ≡ b.sender.station
     pub channel : receives_on s.receiver.channel ≡ receives_on b.receiver.channel
     pub seen : IsPrefix b.seen s.viewer
 
-  -- the same, where it is known how the session began
+  -- the same, if it is given how the session began
   abbrev pub GoesOn : Option Beginning → Session J → Type 0
   GoesOn None s = Unit {0}
   GoesOn (Some b) s = GoesOnFrom b s

@@ -6,15 +6,15 @@ use Rattle.registration.specs.Numbers.{Station}
 use Rattle.centre_core.specs.Asked.{Asked}
 use Rattle.centre_core.specs.State.{State}
 use Rattle.centre_core.specs.History.{after}
-use Rattle.centre_core.specs.Tell.{tell, AsksForList}
+use Rattle.centre_core.specs.Queries.{answer_to, AsksForList}
 use Rattle.centre_core.specs.declared.reply.Reply.{Reply}
 use Rattle.centre_core.specs.declared.reply.Reply.TheVariants as reply
 use Rattle.centre_core.specs.declared.query.Query.{Query}
-use Rattle.centre_core.specs.declared.query.Told.{Told}
+use Rattle.centre_core.specs.declared.query.QueryAnswer.{QueryAnswer}
 use Rattle.recovery.specs.declared.fault.StoreFault.{StoreFault}
 use Rattle.recovery.specs.declared.fault.StoreFault.TheVariants as fault
-use Rattle.desk.specs.declared.service.Service.{Service}
-use Rattle.desk.specs.declared.service.Service.TheVariants.{Memory, Device, Broken, Epochs, Closed}
+use Rattle.desk.specs.declared.outage.Outage.{Outage}
+use Rattle.desk.specs.declared.outage.Outage.TheVariants.{Memory, Device, Broken, Epochs, Closed}
 use Rattle.desk.specs.Rules.{Rules}
 use Rattle.flusher.specs.declared.answer.Answer.{Answer}
 use Rattle.flusher.specs.declared.answer.Answer.TheVariants as answer
@@ -22,13 +22,13 @@ use Rattle.flusher.specs.declared.session.Session.{Session}
 use Rattle.flusher.specs.Submitted.{SessionView, HasPut, HasReceived, BearsOutAnswer}
 use Rattle.flusher.specs.Sessions.{view_of}
 
--- what a session as a desk stands for: its station, and what it sent, received and has seen
+-- what a session as a desk is modelled as: its station, and what it sent, received and has seen
 pub record AtSession : Type 0 where
   pub station : Station
   pub view : SessionView
 
--- the word for a fault: the one that a store as a desk has for it
-abbrev pub word_of : StoreFault → Service
+-- the outage word for a fault: the one that a store as a desk has for it
+abbrev pub word_of : StoreFault → Outage
 word_of fault.DiskFault = Device
 word_of fault.NoMemory = Memory
 word_of fault.EpochsUsedUp = Epochs
@@ -39,12 +39,12 @@ word_of fault.Broken = Broken
 word_of fault.Unready = Broken
 
 module _ {J : Type 0} where
-  -- what this session stands for
+  -- this session as a desk, as modelled
   abbrev pub at_session : Session J → AtSession
   at_session s = record { station = s.sender.station; view = view_of s }
 
-  -- the reply in an answer, or the word for why there is none
-  abbrev pub result_of : Answer J → Result (Reply Global) Service
+  -- the reply in an answer, or the outage word in its place
+  abbrev pub result_of : Answer J → Result (Reply Global) Outage
   result_of (answer.Accepted n p published) = Ok (reply.Accepted n p)
   result_of (answer.Kept n p) = Ok (reply.Kept n p)
   result_of (answer.Refused r) = Ok (reply.Refused r)
@@ -52,9 +52,9 @@ module _ {J : Type 0} where
   result_of (answer.Fault f) = Err (word_of f)
   result_of answer.Closed = Err Closed
 
--- the command was submitted, and its answer gives this result: what was put into the queue, what was received, and what the answer
--- says of the lists that were seen before and are seen now. What was seen stays seen.
-pub record IsSubmitted (J : Type 0) (base : State) (s : AtSession) (c : Asked Global) (result : Result (Reply Global) Service) (t : AtSession) : Type 0 where
+-- The command was submitted, and its answer gives this result. It is said what was put into the queue, what was received, and what the
+-- answer says of the lists that were seen before and are seen now. What was seen stays seen.
+pub record IsSubmitted (J : Type 0) (base : State) (s : AtSession) (c : Asked Global) (result : Result (Reply Global) Outage) (t : AtSession) : Type 0 where
   pub answer : Answer J
   pub result_is : result ≡ result_of answer
   pub put : HasPut c s.view t.view answer
@@ -63,13 +63,13 @@ pub record IsSubmitted (J : Type 0) (base : State) (s : AtSession) (c : Asked Gl
   pub seen : IsPrefix s.view.seen t.view.seen
 
 -- a command of another station: it is not submitted, and nothing changes
-abbrev pub IsOfAnother : AtSession → Asked Global → Result (Reply Global) Service → AtSession → Type 0
+abbrev pub IsOfAnother : AtSession → Asked Global → Result (Reply Global) Outage → AtSession → Type 0
 IsOfAnother s c result t = (c.station ≡ s.station → ⊥) × (result ≡ Err Closed) × (t ≡ s)
 
--- what is read after a list of commands: what the register tells after all that is seen now, which begins with all that was seen
--- before; for want of memory, which a list needs, nothing; or the published copy could not be entered, and no more is seen
-abbrev pub Reads : State → List (Asked Global) → Query → Result (Told Global) Service → List (Asked Global) → Type 0
-Reads base old q (Ok told) new = (told ≡ tell (after base new) q) × IsPrefix old new
+-- The result of a query. It is what the register answers after all that is seen now, which begins with all that was seen before. Or
+-- memory ran out for a list. Or the published copy could not be entered, and no more is seen.
+abbrev pub Reads : State → List (Asked Global) → Query → Result (QueryAnswer Global) Outage → List (Asked Global) → Type 0
+Reads base old q (Ok query_answer) new = (query_answer ≡ answer_to (after base new) q) × IsPrefix old new
 Reads base old q (Err Memory) new = AsksForList q × IsPrefix old new
 Reads base old q (Err Closed) new = new ≡ old
 Reads base old q (Err Device) new = ⊥
@@ -78,14 +78,14 @@ Reads base old q (Err Epochs) new = ⊥
 
 module _ (J : Type 0) (base : State) where
   -- a command of the session's station is submitted
-  abbrev pub Applies : AtSession → Asked Global → Result (Reply Global) Service → AtSession → Type 0
+  abbrev pub Applies : AtSession → Asked Global → Result (Reply Global) Outage → AtSession → Type 0
   Applies s c result t = (t.station ≡ s.station) × (((c.station ≡ s.station) × IsSubmitted J base s c result t) ⊎ IsOfAnother s c result t)
 
-  -- a query is read. Nothing is sent or received.
-  abbrev pub Tells : AtSession → Query → Result (Told Global) Service → AtSession → Type 0
-  Tells s q result t =
+  -- a query is answered; nothing is sent or received
+  abbrev pub Answers : AtSession → Query → Result (QueryAnswer Global) Outage → AtSession → Type 0
+  Answers s q result t =
       (t.station ≡ s.station) × (t.view.sent ≡ s.view.sent) × (t.view.received ≡ s.view.received) × Reads base s.view.seen q result t.view.seen
 
-  -- a session with a centre whose register held this when the centre was opened
+  -- the rules of a session with a centre that was opened over this register
   abbrev pub of_session : Rules Global AtSession
-  of_session = record { applies = Applies; tells = Tells }
+  of_session = record { applies = Applies; answers = Answers }

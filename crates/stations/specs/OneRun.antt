@@ -9,8 +9,8 @@ use Rattle.console.specs.Runs.{IsRun}
 use Rattle.flusher.specs.declared.session.Session.{Session}
 use Rattle.stations.specs.OfSession.{at_session, of_session}
 
--- With a centre whose register held `base` when it was opened, the lines of the session's station were run by it: from this session,
--- what the reader had left and what the writer held, to this result, that session, and what the writer holds now.
+-- The lines of a session's station were run by it, with a centre that was opened over the register `base`. Before the run these are the
+-- session, what the reader had left, and what the writer held; after it the result, the session, and what the writer holds.
 abbrev pub IsRunBy : (J : Type 0) → State → Session J → Option (List Byte) → Option (List Byte) → Result Ran RunFault → Session J → Option (List Byte) → Type 0
 IsRunBy J base s unread before result t after = IsRun Global (of_session J base)
     (record { station = s.sender.station; world = at_session s; unread = unread; written = before })

@@ -17,33 +17,33 @@ use Rattle.flusher.specs.Order.{of_station}
 use Rattle.flusher.specs.Runs.{AreRounds, HasTakenEnds}
 use Rattle.flusher.specs.Served.{IsSettled}
 use Rattle.flusher.specs.Shared.{commands_among}
-use Rattle.flusher.specs.Stored.{IsStoredFor, StandsBetween}
+use Rattle.flusher.specs.Stored.{IsStoredFor, OpensBetween}
 use Rattle.flusher.specs.Submitted.{SessionView}
 use Rattle.flusher.specs.View.{FlusherView}
 use Rattle.stations.specs.Done.{IsRunOf}
 use Rattle.stations.specs.declared.port.Port.{Port}
 
 -- what the run of a station gives: the writer of its port, and how it ended
-abbrev pub Given : Type 0 → Type 0
-Given O = O × Result Ran RunFault
+abbrev pub Run : Type 0 → Type 0
+Run O = O × Result Ran RunFault
 
 -- a session that has sent, received and seen nothing
 abbrev pub new_view : SessionView
 new_view = record { sent = []; received = []; seen = [] }
 
--- what the session of a station did, beside the commands that are durable in the end: what it has seen is a prefix of them; each answer
--- that it received is borne out by a prefix of them, and no prefix is shorter than the one before it; and those of them that are of its
--- station are some of those that it sent, in the same order
+-- What the session of a station has to do with the commands that are durable in the end. What it has seen is a prefix of them. Each
+-- answer that it received is borne out by a prefix of them, and no such prefix is shorter than the one before it. Those of its own
+-- station are some of those that it sent, in the same order.
 pub record IsBorneOut (base : State) (durable : List (Asked Global)) (station : Station) (view : SessionView) : Type 0 where
   pub seen : IsPrefix view.seen durable
   pub answers : AreBorneOut base durable 0 view.received
   pub order : Sublist (of_station station durable) (commands_among view.sent)
 
--- Stations 1, 2 and so on were served over a store that was opened, each with its port, and this store and these runs came of it.
+-- Stations 1, 2 and so on were served over a store that was opened, each with its port. This store and these runs came of it.
 pub record HasServed {D I O : Type 0} (disk : D → View) (J : Type 0) (base : State) (unread : I → Option (List Byte)) (written : O → Option (List Byte))
-    (opened : StoreView Global D) (ports : List (Port I O)) (store : StoreView Global D) (runs : List (Given O)) : Type 0 where
-  -- a new flusher of the store has done rounds until it had taken the end of each session; what is durable then is a history, and the
-  -- register of a sound store is what it makes of the base
+    (opened : StoreView Global D) (ports : List (Port I O)) (store : StoreView Global D) (runs : List (Run O)) : Type 0 where
+  -- a new flusher of the store did rounds until it had taken the end of each session; what is durable then is a history, and the register
+  -- of a sound store is what it makes of the base
   pub first : FlusherView D
   pub last : FlusherView D
   pub begun : IsNewFlusher (length ports) opened first
@@ -51,19 +51,21 @@ pub record HasServed {D I O : Type 0} (disk : D → View) (J : Type 0) (base : S
   pub ended : HasTakenEnds last
   pub settled : IsSettled base last
   pub store_is : store ≡ last.store
-  -- if each image of the disk stood for the register at first, it stands for what is durable, or for that and what was under way
-  -- when the disk failed
+  -- if each image of the disk opens to the register at first, each opens to what is durable in the end, or to that and what was under
+  -- way when the disk failed
   pub stored : (disk opened.disk).honest → IsStoredIn Global disk opened → IsStoredFor disk base last
-  -- a stop at any moment of the run leaves the disk standing for what was durable at some moment of it
-  pub any_moment : (disk opened.disk).honest → IsStoredIn Global disk opened → LeavesOnly (disk opened.disk) (disk store.disk) (StandsBetween base first last)
+  -- after a stop at any moment of the run the disk opens to what was durable at some moment of it
+  pub any_moment : (disk opened.disk).honest → IsStoredIn Global disk opened
+      → LeavesOnly (disk opened.disk) (disk store.disk) (OpensBetween base first last)
   -- only a failure of the disk breaks the store
   pub later : (disk opened.disk).failures ≤ (disk store.disk).failures
   pub failed : store.broken ≡ true → HasFailed (disk opened.disk) (disk store.disk)
   -- one run for each port, in order of station: its lines were answered by a new session of its station, after what its writer held
   pub views : List SessionView
   pub count : (length runs ≡ length ports) × (length views ≡ length ports)
-  pub each : (k : ℕ) (port : Port I O) (run : Given O) (view : SessionView) → slice_get ports k ≡ Some port → slice_get runs k ≡ Some run → slice_get views k ≡ Some view →
-      IsRunOf J base (k + 1) (unread port.reader) (written port.writer) new_view view (written run.0) run.1
+  pub each : (k : ℕ) (port : Port I O) (run : Run O) (view : SessionView)
+      → slice_get ports k ≡ Some port → slice_get runs k ≡ Some run → slice_get views k ≡ Some view
+      → IsRunOf J base (k + 1) (unread port.reader) (written port.writer) new_view view (written run.0) run.1
   -- each session is borne out by what is durable; or one has seen more commands than are published, which never happens
   pub closed : ((k : ℕ) (view : SessionView) → slice_get views k ≡ Some view → IsBorneOut base last.durable (k + 1) view)
       ⊎ ((k : ℕ) × (view : SessionView) × (slice_get views k ≡ Some view) × (length last.published < length view.seen))

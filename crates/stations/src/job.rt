@@ -1,4 +1,4 @@
-//! What the thread of a station begins with, and what comes of it.
+//! What the thread of a station is given, and what it gives back.
 use crate::port::Port;
 use console::{Ran, RunFault};
 use flusher::{Ended, Session};

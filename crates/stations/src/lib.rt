@@ -1,4 +1,5 @@
 //! Many stations over one store: each station's lines are answered in a thread of its own, by its session, beside one flusher.
+//! It starts these threads and joins them. It reads and writes by the ports that it is given, and knows nothing of files.
 #![tactic(auto)]
 
 mod job;

@@ -26,10 +26,10 @@ use std::sync::Wait;
 use std::sync::atomic::AtomicU64;
 use std::thread::Threads;
 
-/// What a run of many stations is given beside its store and its ports.
+/// What a run of many stations is given besides its store and its ports.
 #[derive(Drop)]
 pub struct ManyTerms {
-    /// Where all that it needs lies.
+    /// Where its memory comes from.
     pub alloc: Global,
     /// The most calls of each reader.
     pub turns: u32,
@@ -46,7 +46,7 @@ pub struct Many<D: Disk, O: Drop> {
     pub runs: Vec<(O, Result<Ran, RunFault>)>,
 }
 
-/// Room for what comes of so many stations.
+/// Room for what comes of this many stations.
 #[derive(Drop)]
 struct Room<J: Centre, I: Read + Drop, O: Write + Drop> {
     stations: usize,
@@ -59,7 +59,7 @@ struct Room<J: Centre, I: Read + Drop, O: Write + Drop> {
     pub ghost room: { (stations ≤ vec_capacity jobs) × (stations ≤ vec_capacity ended) × (stations ≤ vec_capacity runs) },
 }
 
-// Room for the threads of so many stations.
+// Room for the threads of this many stations.
 fn thread_room<J: Centre, I: Read + Drop, O: Write + Drop>(
     alloc: Global,
     stations: usize,
@@ -75,7 +75,7 @@ fn thread_room<J: Centre, I: Read + Drop, O: Write + Drop>(
     })
 }
 
-// Room for so many stations.
+// Room for this many stations.
 fn room_for<J: Centre, I: Read + Drop, O: Write + Drop>(
     alloc: Global,
     stations: usize,
@@ -118,8 +118,8 @@ fn jobs_of<J: Centre, I: Read + Drop, O: Write + Drop>(
     jobs
 }
 
-// The ended sessions apart from what their runs gave, both in order.
-fn apart<J: Centre, O: Drop>(
+// The ended sessions, and what their runs gave, each in order.
+fn split_done<J: Centre, O: Drop>(
     done: Vec<Done<J, O>>,
     mut ended: Vec<Ended<J>>,
     mut runs: Vec<(O, Result<Ran, RunFault>)>,
@@ -141,8 +141,8 @@ fn apart<J: Centre, O: Drop>(
     (ended, runs)
 }
 
-// The store of a flusher that has taken the end of each session. The centre is closed. Where that is refused, since a session has seen
-// more commands than are published, the flusher is given up.
+// Closes the centre of a flusher that has taken the end of each session, and returns its store. If that is refused, because a session
+// has seen more commands than are published, the flusher is abandoned.
 fn store_of<J: Centre, D: Disk, R: Wait>(
     rt: &R,
     flusher: Flusher<J, D>,
@@ -195,17 +195,19 @@ fn serve_opened<
     let jobs = jobs_of(sessions, ports, jobs);
     let rt = shared.serving.rt;
     let (held, done) = serve_all(shared, Held { flusher, rt }, jobs, threads);
-    let (ended, runs) = apart(done, ended, runs);
+    let (ended, runs) = split_done(done, ended, runs);
     let store = store_of(rt, held.into_flusher(), ended);
     Many { store, runs }
 }
 
-/// Serves the ports as stations 1, 2 and so on over a store, which must not be broken: each in a thread of its own, by a session of
-/// its station, beside one flusher in this thread. It returns once each has ended.
+/// Serves the ports as stations 1, 2 and so on over a store that is not broken. Each is served in a thread of its own, by a session of
+/// its station, beside one flusher in this thread. The call returns once each has ended.
 ///
-/// A station whose run ends before its reader ends that station alone. Where no thread can be made for a station, its run ends for want
-/// of memory before its first line. `NoPlace` comes exactly if the number of ports is not from 1 to the register's limit of stations;
-/// else all that the run keeps is taken before the first thread begins, and `NoMemory` gives the store back as it was.
+/// A run that ends before its reader's last line ends for its station alone. If no thread can be made for a station, its run ends out of
+/// memory before its first line.
+///
+/// `NoPlace` comes exactly if the number of ports is not from 1 to the register's limit of stations. All memory that the run keeps is
+/// taken before the first thread begins; with `NoMemory` the store comes back as it was.
 pub fn run_many<
     J: Centre + Send + Sync,
     D: Disk + Drop,
@@ -224,7 +226,8 @@ pub fn run_many<
     requires centre { (terms.log.seen.book ≡ J.book) × (store.register ≡ J.base) }
 
     // How each station's lines were answered, and what became of the store.
-    ensures served { IfOk result (λ many. HasServed D.view J J.base I.remaining O.contents (store_view store) ports.items (store_view many.store) many.runs.items) }
+    ensures served { IfOk result (λ many. HasServed D.view J J.base I.remaining O.contents
+        (store_view store) ports.items (store_view many.store) many.runs.items) }
 
     // Which fault comes, and that the store comes back as it was.
     ensures place { IfOk result (λ many. has_place store.register.registered.limits.stations (vec_len ports) ≡ true) }

@@ -1,7 +1,7 @@
 //! The run of one station.
 ghost use Rattle.std.specs.Prelude.{◌≡◌, ◌⊎◌, ◌≤◌, ◌<◌, ◌+◌, IsErrOf, Some};
 ghost use mathlib.Core.List.{IsPrefix};
-ghost use Rattle.console.specs.Failures.{failures_told};
+ghost use Rattle.console.specs.Failures.{failures_reported};
 ghost use Rattle.flusher.specs.Sessions.{IsSameSession};
 ghost use Rattle.stations.specs.GoesOn.{GoesOn};
 ghost use Rattle.stations.specs.OneRun.{IsRunBy};
@@ -20,18 +20,18 @@ use std::sync::ledger::Ledger;
 /// What each run of a station is given.
 #[derive(Clone, Copy)]
 pub struct Serving<'r, 'w, R, V> {
-    /// What lets it wait.
+    /// The runtime, which lets it wait.
     pub rt: &'r R,
-    /// What shows how it goes on.
+    /// What is shown how it goes on.
     pub watch: &'w V,
-    /// Where its lines, commands and answers lie.
+    /// Where the memory for its lines, commands and answers comes from.
     pub alloc: Global,
     /// The most calls of its reader.
     pub turns: u32,
 }
 
 /// Answers the lines of a station by its session, as [`run_counted`] does: each line before the next is read. The session comes
-/// back; it is still the one of its station on its queue and its channel.
+/// back, of the same station, on the same queue and channel.
 pub fn run_session<
     J: Centre,
     R: Wait,
@@ -47,15 +47,20 @@ pub fn run_session<
     output: &mut Output<O, G>,
     session: Session<J>,
 ) -> (Session<J>, Result<Ran, RunFault>)
+    // How the lines were answered, and what the session is then.
     ensures answers { IsRunBy J J.base session (I.remaining input.old.reader.now) (O.contents output.old.writer.now)
         result.1 result.0 (O.contents output.new.writer.now) }
     ensures same { IsSameSession session result.0 }
     ensures seen { IsPrefix session.viewer result.0.viewer }
+
+    // How often the reader was called, and when each fault comes.
     ensures calls { input.new.steps.now ≤ input.old.steps.now + serving.now.turns }
     ensures read { IsErrOf result.1 RunFault.Read →
         (input.new.steps.now ≡ input.old.steps.now + serving.now.turns) ⊎ (input.old.faults.now < input.new.faults.now) }
-    ensures write { output.new.failures.now ≡ output.old.failures.now + failures_told result.1 }
+    ensures write { output.new.failures.now ≡ output.old.failures.now + failures_reported result.1 }
     ensures memory { IsErrOf result.1 RunFault.NoMemory → (input.new.steps.now ≡ input.old.steps.now) × (result.0 ≡ session) }
+
+    // The ghost names of all that it was given stay.
     ensures reader { input.new.reader.ghost_name ≡ input.old.reader.ghost_name }
     ensures steps { input.new.steps.ghost_name ≡ input.old.steps.ghost_name }
     ensures faults { input.new.faults.ghost_name ≡ input.old.faults.ghost_name }
@@ -65,7 +70,7 @@ pub fn run_session<
     run_begun::<Brand, J, R, V, I, O, L, F, G>(serving, input, output, session)
 }
 
-// The same of a session of which it is said how its run begins.
+// The same, where `K` says what the session was when its run began.
 fn run_begun<
     K: Began,
     J: Centre,
@@ -89,7 +94,7 @@ fn run_begun<
     ensures calls { input.new.steps.now ≤ input.old.steps.now + serving.now.turns }
     ensures read { IsErrOf result.1 RunFault.Read →
         (input.new.steps.now ≡ input.old.steps.now + serving.now.turns) ⊎ (input.old.faults.now < input.new.faults.now) }
-    ensures write { output.new.failures.now ≡ output.old.failures.now + failures_told result.1 }
+    ensures write { output.new.failures.now ≡ output.old.failures.now + failures_reported result.1 }
     ensures memory { IsErrOf result.1 RunFault.NoMemory → (input.new.steps.now ≡ input.old.steps.now) × (result.0 ≡ session) }
     ensures reader { input.new.reader.ghost_name ≡ input.old.reader.ghost_name }
     ensures steps { input.new.steps.ghost_name ≡ input.old.steps.ghost_name }

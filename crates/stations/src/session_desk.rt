@@ -3,11 +3,11 @@ ghost use Rattle.std.specs.Prelude.{◌≡◌, IfOk};
 ghost use mathlib.Core.List.{IsPrefix};
 ghost use Rattle.desk.specs.Replies.{HasShortPdu};
 ghost use Rattle.flusher.specs.Sessions.{IsSameSession};
-ghost use Rattle.stations.specs.OfSession.{AtSession, Applies, Tells, at_session, of_session, result_of, word_of};
+ghost use Rattle.stations.specs.OfSession.{AtSession, Applies, Answers, at_session, of_session, result_of, word_of};
 
 use crate::watch::Watch;
-use centre_core::{Command, Query, Reply, Told};
-use desk::{Desk, Service};
+use centre_core::{Command, Query, QueryAnswer, Reply};
+use desk::{Desk, Outage};
 use flusher::{Answer, Session};
 use recovery::StoreFault;
 use snapshots::{Centre, ReadFault};
@@ -15,7 +15,7 @@ use std::alloc::Global;
 use std::marker::{Brand, Model, PhantomData};
 use std::sync::Wait;
 
-/// What a session was when its run began. A run picks it, so that it is known what the session still is when the run ends.
+/// What a session was when its run began. A run picks it, so that contracts can say at its end what has stayed.
 pub(crate) trait Began {
     ghost use Rattle.std.specs.Prelude.{Option};
     ghost use Rattle.stations.specs.GoesOn.{Beginning};
@@ -23,14 +23,14 @@ pub(crate) trait Began {
     ghost began: { Option Beginning };
 }
 
-// A run names its session by `Brand`, and says in its proof which one is meant.
+// A run names its session by `Brand`, and its proof says which one is meant.
 impl Began for Brand {
     ghost use Rattle.std.specs.Prelude.{None};
 
     ghost began = { None };
 }
 
-/// A station's session as a desk: it submits commands of that station, and reads the register. Contracts see the session.
+/// A station's session as a desk: it submits commands of that station, and reads the register. Contracts model it as the session.
 #[derive(Drop)]
 pub(crate) struct SessionDesk<'r, 'w, K: Began, J: Centre, R: Wait, V: Watch> {
     rt: &'r R,
@@ -54,7 +54,7 @@ impl<'r, 'w, K: Began, J: Centre, R: Wait, V: Watch> SessionDesk<'r, 'w, K, J, R
     ghost use Rattle.std.specs.Prelude.{◌≡◌};
     ghost use Rattle.stations.specs.GoesOn.{GoesOn};
 
-    /// The session as a desk, of which this is shown.
+    /// This session as a desk. `watch` is shown what it does.
     pub(crate) fn new(rt: &'r R, watch: &'w V, session: Session<J>) -> Self
         requires { GoesOn K.began session }
         ensures { result ≡ session }
@@ -76,20 +76,20 @@ impl<'r, 'w, K: Began, J: Centre, R: Wait, V: Watch> SessionDesk<'r, 'w, K, J, R
     }
 }
 
-// The word for a fault.
-fn word_of(fault: StoreFault) -> Service
+// The outage word for a fault.
+fn word_of(fault: StoreFault) -> Outage
     ensures { result ≡ word_of fault }
 {
     match fault {
-        StoreFault::DiskFault => Service::Device,
-        StoreFault::NoMemory => Service::Memory,
-        StoreFault::EpochsUsedUp => Service::Epochs,
-        _ => Service::Broken,
+        StoreFault::DiskFault => Outage::Device,
+        StoreFault::NoMemory => Outage::Memory,
+        StoreFault::EpochsUsedUp => Outage::Epochs,
+        _ => Outage::Broken,
     }
 }
 
-// The reply in an answer, or the word for why there is none.
-fn result_of<J: Centre>(answer: Answer<J>) -> Result<Reply<Global>, Service>
+// The reply in an answer, or the outage word in its place.
+fn result_of<J: Centre>(answer: Answer<J>) -> Result<Reply<Global>, Outage>
     ensures { result ≡ result_of answer }
 {
     match answer {
@@ -100,47 +100,47 @@ fn result_of<J: Centre>(answer: Answer<J>) -> Result<Reply<Global>, Service>
         } => Ok(Reply::Accepted { number, pdu }),
         Answer::Kept { number, pdu } => Ok(Reply::Kept { number, pdu }),
         Answer::Refused(refusal) => Ok(Reply::Refused(refusal)),
-        Answer::NoMemory => Err(Service::Memory),
+        Answer::NoMemory => Err(Outage::Memory),
         Answer::Fault(fault) => Err(word_of(fault)),
-        Answer::Closed => Err(Service::Closed),
+        Answer::Closed => Err(Outage::Closed),
     }
 }
 
-// Submits a copy of a command, where it is of the session's station.
+// Submits a copy of a command, if it is of the session's station.
 fn submit<J: Centre, R: Wait>(
     rt: &R,
     session: &mut Session<J>,
     alloc: Global,
     command: &Command<Global>,
-) -> Result<Reply<Global>, Service>
+) -> Result<Reply<Global>, Outage>
     ensures applies { Applies J J.base (at_session session.old) command.now result (at_session session.new) }
     ensures short { IfOk result HasShortPdu }
     ensures same { IsSameSession session.old session.new }
     ensures seen { IsPrefix session.old.viewer session.new.viewer }
 {
     if command.station != session.station() {
-        return Err(Service::Closed);
+        return Err(Outage::Closed);
     }
     match command.try_copy(alloc) {
         Ok(own) => result_of(session.submit(rt, own)),
-        Err(_) => Err(Service::Memory),
+        Err(_) => Err(Outage::Memory),
     }
 }
 
-// Reads what the register tells.
+// Reads what the register answers.
 fn read<J: Centre>(
     session: &mut Session<J>,
     alloc: Global,
     query: &Query,
-) -> Result<Told<Global>, Service>
-    ensures tells { Tells J J.base (at_session session.old) query.now result (at_session session.new) }
+) -> Result<QueryAnswer<Global>, Outage>
+    ensures answers { Answers J J.base (at_session session.old) query.now result (at_session session.new) }
     ensures same { IsSameSession session.old session.new }
     ensures seen { IsPrefix session.old.viewer session.new.viewer }
 {
     match session.read(alloc, query) {
-        Ok((told, _)) => Ok(told),
-        Err(ReadFault::NoMemory) => Err(Service::Memory),
-        Err(ReadFault::Closed) => Err(Service::Closed),
+        Ok((query_answer, _)) => Ok(query_answer),
+        Err(ReadFault::NoMemory) => Err(Outage::Memory),
+        Err(ReadFault::Closed) => Err(Outage::Closed),
     }
 }
 
@@ -152,23 +152,19 @@ impl<'r, 'w, K: Began, J: Centre, R: Wait, V: Watch> Desk<Global>
 
     ghost rules = { of_session J J.base };
 
-    fn apply(
-        &mut self,
-        alloc: Global,
-        command: &Command<Global>,
-    ) -> Result<Reply<Global>, Service> {
+    fn apply(&mut self, alloc: Global, command: &Command<Global>) -> Result<Reply<Global>, Outage> {
         let station = self.session.station();
         self.watch.before_entry(station);
         let replied = submit(self.rt, &mut self.session, alloc, command);
         self.watch.after_entry(station);
-        let accepted = matches!(&replied, Ok(Reply::Accepted { .. }));
+        let accepted = matches!(&replied, Ok(reply) if reply.is_acceptance());
         self.watch.answered(station, accepted);
         replied
     }
 
-    fn query(&mut self, alloc: Global, query: &Query) -> Result<Told<Global>, Service> {
-        let told = read(&mut self.session, alloc, query);
+    fn query(&mut self, alloc: Global, query: &Query) -> Result<QueryAnswer<Global>, Outage> {
+        let query_answer = read(&mut self.session, alloc, query);
         self.watch.answered(self.session.station(), false);
-        told
+        query_answer
     }
 }

@@ -22,11 +22,11 @@ use std::sync::ledger::{Blank, Ledger};
 #[derive(Drop)]
 pub(crate) struct Shared<'r, 'w, R: Wait, V: Watch> {
     pub(crate) serving: Serving<'r, 'w, R, V>,
-    /// The station for which no thread could be made last; 0 while there is none.
+    /// The last station for which no thread could be made; 0 if there was none.
     pub(crate) refused: AtomicU64,
 }
 
-// What the ledgers of a run are made of.
+// What the ledgers of a run are made from.
 #[derive(Drop)]
 struct Blanks {
     steps: Blank,
@@ -67,7 +67,7 @@ fn answer_in<L: Ledger, F: Ledger, G: Ledger, J: Centre, R: Wait, V: Watch, I: R
     run_session(serving, &mut input, &mut output, session)
 }
 
-// Answers all lines of a reader by a session, or the first of them where the run ends early. Nothing else is written.
+// Answers all lines of a reader by a session, or a prefix of them if the run ends early. Nothing else is written.
 fn answer_lines<J: Centre, R: Wait, V: Watch, I: Read, O: Write>(
     serving: &Serving<R, V>,
     reader: &mut I,
@@ -87,19 +87,19 @@ fn answer_lines<J: Centre, R: Wait, V: Watch, I: Read, O: Write>(
 }
 
 impl<'r, 'w, R: Wait, V: Watch> Shared<'r, 'w, R, V> {
-    /// Notes that no thread could be made for this station.
+    /// Notes this station as the last one for which no thread could be made.
     pub(crate) fn refuse(&self, station: Station) {
         self.refused
             .store(u64::from(station.number()), Ordering::SeqCst);
     }
 
-    // Whether that was noted last.
+    // Whether this station is the one noted.
     fn is_refused(&self, station: Station) -> bool {
         self.refused.load(Ordering::SeqCst) == u64::from(station.number())
     }
 }
 
-// Answers the lines of a station. Where no thread could be made for it, memory is missing before its first line.
+// Answers the lines of a station. If no thread could be made for it, its run ends out of memory before its first line.
 fn run_station<J: Centre, R: Wait, V: Watch, I: Read, O: Write>(
     shared: &Shared<R, V>,
     reader: &mut I,

@@ -18,7 +18,7 @@ use std::sync::Wait;
 use std::thread;
 use std::thread::{Promise, PromisedHandle, Scope, Threads};
 
-/// That what comes of a thread is what came of this job.
+/// The promise of a thread: what comes of it is what came of this job.
 #[derive(Drop)]
 pub(crate) struct DoneOf<J: Centre, I: Read + Drop, O: Write + Drop> {
     job: Snapshot<Job<J, I, O>>,
@@ -30,10 +30,10 @@ impl<J: Centre, I: Read + Drop, O: Write + Drop> Promise<Done<J, O>> for DoneOf<
     ghost kept_by = { λ p done. IsDone J J.base I.remaining O.contents p.job.value done };
 }
 
-/// A station that was begun: its thread, or what came of it where no thread could be made.
+/// A station that was begun: its thread, or what came of the station if no thread could be made.
 pub(crate) type Begun<J, I, O> = Result<PromisedHandle<Done<J, O>, DoneOf<J, I, O>>, Done<J, O>>;
 
-/// A flusher that may be let go: its store is then dropped.
+/// A flusher that may be dropped. Its store is then dropped too.
 pub(crate) struct Held<'r, R: Wait, J: Centre, D: Disk + Drop> {
     pub(crate) flusher: Flusher<J, D>,
     pub(crate) rt: &'r R,
@@ -58,8 +58,8 @@ impl<'r, R: Wait, J: Centre, D: Disk + Drop> Held<'r, R, J, D> {
     }
 }
 
-// Begins a station in a thread of its own. Where none can be made its session is ended here, before its first line. That never
-// waits for a place in the queue: each session has one entry in it at most, and it has a place for each.
+// Begins a station in a thread of its own. If none can be made, its session is ended here, before its first line. That never
+// waits for a place in the queue, which has a place for each session, and at most one entry of each.
 fn begin<
     's,
     E,
@@ -84,7 +84,7 @@ fn begin<
     }
 }
 
-// Begins each, in order.
+// Begins each station, in order.
 fn begin_all<
     's,
     E,
@@ -101,7 +101,8 @@ fn begin_all<
 ) -> Vec<Begun<J, I, O>>
     requires new { begun.items ≡ [] }
     requires room { vec_len jobs ≤ vec_capacity begun }
-    ensures begun { AllZip (λ job b. MatchResult b (λ h. h.promise.job.value ≡ job) (λ done. IsDone J J.base I.remaining O.contents job done)) jobs.items result.items }
+    ensures begun { AllZip (λ job b. MatchResult b (λ h. h.promise.job.value ≡ job)
+        (λ done. IsDone J J.base I.remaining O.contents job done)) jobs.items result.items }
     ensures count { vec_len result ≡ vec_len jobs }
 {
     for job in jobs {
@@ -139,7 +140,7 @@ fn end_all<J: Centre, R: Threads, I: Read + Drop, O: Write + Drop>(
     done
 }
 
-/// Room for so many stations: for their threads, and for what comes of them.
+/// Room for this many stations: for their threads, and for what comes of them.
 #[derive(Drop)]
 pub(crate) struct ThreadRoom<J: Centre, I: Read + Drop, O: Write + Drop> {
     pub(crate) stations: usize,
@@ -176,7 +177,7 @@ fn serve_in<
     end_all(shared.serving.rt, begun, room.done)
 }
 
-// The same of a flusher that is passed on.
+// The same of a flusher that is passed by value.
 fn serve_held<
     's,
     'r,

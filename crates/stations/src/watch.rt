@@ -1,10 +1,10 @@
-//! What is shown of a run while it goes on.
+//! What sees a run while it goes on.
 
 use console::{Ran, RunFault};
 use flusher::Gate;
 use registration::Station;
 
-/// What is shown of a run while it goes on. It is the gate of the flusher's rounds too.
+/// What sees a run while it goes on. It is the gate of the flusher's rounds too.
 ///
 /// Each call is made in the station's thread. If no thread could be made for the station, `ended` and the calls for the end of its
 /// session are made in the thread of the run, before its first round.
@@ -13,12 +13,12 @@ pub trait Watch: Gate {
     /// memory is not put.
     fn before_entry(&self, station: Station);
 
-    /// The entry was put. A command was answered, too.
+    /// The entry was put into the queue, and answered if it is a command.
     fn after_entry(&self, station: Station);
 
-    /// A command or query of this station was answered; whether that accepted a command.
+    /// A command or query of this station was answered. `is_accepted`: the answer accepted a command.
     fn answered(&self, station: Station, is_accepted: bool);
 
-    /// The run of this station has ended so. Its session ends next.
+    /// The run of this station has ended with this result. Its session ends next.
     fn ended(&self, station: Station, ran: &Result<Ran, RunFault>);
 }

@@ -1,4 +1,5 @@
-//! Two stations: the second one asks while the gate holds the commit of the first. Then two of which the first can't be read.
+//! Two stations: the second one asks while the gate holds the commit of the first. Then two stations, of which the first one's reader
+//! fails.
 ghost use Rattle.std.specs.Prelude.{◌≡◌, false};
 
 use crate::stores::new_store;
@@ -27,7 +28,7 @@ const FIRST: &[u8] = b"2 10 mm 234-14-2001 7 10:260\n";
 
 const SECOND: &[u8] = b"where 234-14-2001\n";
 
-// How far both are, and how many answers were shown.
+// How far both have come, and how many answers were shown.
 #[derive(Drop)]
 struct Stages {
     stage: AtomicU64,
@@ -68,8 +69,8 @@ enum First {
     Fails,
 }
 
-// Gives its line at the first call and the end at the next: at once; once the gate holds the other station's commit, which it lets go
-// at the next call; or it fails.
+// Gives its line at the first call and the end at the next. It gives the line at once; or once the gate holds the other station's
+// commit, which the next call releases; or the first call fails.
 #[derive(Drop)]
 struct Line<'a> {
     text: &'a [u8],
@@ -147,7 +148,7 @@ fn port_of<'a>(
     }
 }
 
-// The runs of two stations, of which the first one's reader does this.
+// The runs of two stations. The first one's reader does this at its first call.
 fn both<J: Centre + Send + Sync, R: Threads + Wait + Sync>(
     rt: &R,
     terms: ManyTerms,
@@ -177,7 +178,7 @@ fn both<J: Centre + Send + Sync, R: Threads + Wait + Sync>(
     }
 }
 
-// That of a new disk.
+// The same over a new disk.
 fn served<R: Threads + Wait + Sync>(
     rt: &R,
     alloc: Global,

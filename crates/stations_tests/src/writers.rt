@@ -1,4 +1,4 @@
-//! Two stations with writers of their own, of which the first one's fails at its second answer.
+//! Two stations with writers of their own. The first one's writer fails at its second answer.
 ghost use Rattle.std.specs.Prelude.{◌≡◌, false};
 
 use crate::stores::new_store;
@@ -23,7 +23,7 @@ const FIRST: &[u8] = b"2 10 expire\n3 10 expire\n4 10 expire\n";
 
 const SECOND: &[u8] = b"1 10 expire\n2 10 expire\n";
 
-// Keeps what is written, and fails once it has taken so many writes.
+// Keeps what is written, and fails once it has taken this many writes.
 #[derive(Drop)]
 struct Failing {
     text: Vec<u8>,
@@ -101,7 +101,7 @@ impl Watch for Shown {
     }
 }
 
-// The runs of two stations, of which the first one's writer takes one write.
+// The runs of two stations. The first one's writer takes one write.
 fn both<J: Centre + Send + Sync, R: Threads + Wait + Sync>(
     rt: &R,
     terms: ManyTerms,
@@ -138,7 +138,7 @@ fn both<J: Centre + Send + Sync, R: Threads + Wait + Sync>(
     }
 }
 
-// That of a new disk.
+// The same over a new disk.
 fn served<R: Threads + Wait + Sync>(
     rt: &R,
     alloc: Global,
@@ -153,7 +153,7 @@ fn served<R: Threads + Wait + Sync>(
     both::<Brand, R>(rt, terms, store, shown)
 }
 
-// Whether a run ended so, after answers of so many bytes that begin so.
+// Whether a run ended with this result, after answers of this many bytes with this beginning.
 fn is_run(
     run: Option<&(Failing, Result<Ran, RunFault>)>,
     (begins, bytes): (&[u8], usize),

@@ -1,9 +1,14 @@
-//! Tells each call that a disk gets from a register that is kept on it, for `tests/disks.py`. Standard input begins with the
-//! sectors of a disk, each a line `N DIGITS`, and an empty line; a disk without any is made ready. Then a line is a
-//! station and what it says there, with a space between, and an empty line ends a batch of at most 64 commands. Standard output
-//! begins with `disk N`, the number of sectors. Then come the calls that make the disk ready, those that open it, and those of
-//! each batch, with an empty line behind each of these: `write N DIGITS`, the sector's bytes in hexadecimal digits without the
-//! zeros at its end; `sync`; and for each line of a batch `answer` and the text of its answer. Reads are left out.
+//! Prints each call that a register on a disk makes of the disk, for `tests/disks.py`. It touches only a disk in memory and
+//! the standard streams, and knows nothing of files.
+//!
+//! Standard input begins with the sectors of a disk, each a line `N DIGITS`, and an empty line. Without sectors the disk is
+//! formatted. Then each line is a station, a space and a command line of that station. An empty line ends a batch of at
+//! most 64 commands.
+//!
+//! Standard output begins with `disk N`, the number of sectors. Then come the calls that format the disk, those that open it,
+//! and those of each batch, with an empty line after each of these. A call is `write N DIGITS`, with the sector's bytes in
+//! hexadecimal digits without the zeros at its end, or `sync`. Reads are left out. For each line of a batch the line `answer`
+//! follows with the text of its answer.
 #![tactic(auto)]
 
 ghost use Rattle.std.specs.Prelude.{◌≤◌, length};
@@ -21,7 +26,7 @@ use std::alloc::Global;
 use std::cell::RefCell;
 use std::io::{self, BufRead, BufReader, BufWriter, Write};
 
-/// How many calls the disk bears.
+/// How many calls the disk allows.
 const MOST_CALLS: usize = 65_536;
 
 /// The most commands of a batch.
@@ -31,7 +36,7 @@ fn layout() -> Option<Layout> {
     Layout::new(Limits::new(16, 16, 256, 4)?, 39)
 }
 
-/// The command that a line tells.
+/// The command of a line.
 fn command(alloc: Global, line: &str) -> io::Result<Command<Global>> {
     let (station, said) = line.split_once(' ').ok_or(io::ErrorKind::InvalidData)?;
     let Ok(station) = station.parse() else {
@@ -49,7 +54,7 @@ fn trimmed(sector: &[u8; 512]) -> &[u8] {
     &sector[..=last.unwrap_or(0)]
 }
 
-fn tell_call<W: Write>(alloc: Global, out: &mut W, call: &Call) -> io::Result<()> {
+fn print_call<W: Write>(alloc: Global, out: &mut W, call: &Call) -> io::Result<()> {
     match call {
         Call::Write(at, bytes) => {
             let digits = hex::encode(alloc, trimmed(bytes))?;
@@ -59,19 +64,19 @@ fn tell_call<W: Write>(alloc: Global, out: &mut W, call: &Call) -> io::Result<()
     }
 }
 
-/// Writes the calls that the disk got, and forgets them.
-fn tell_calls<W: Write>(alloc: Global, out: &mut W, calls: &Calls) -> io::Result<()> {
+/// Prints the calls that the disk has had, and forgets them.
+fn print_calls<W: Write>(alloc: Global, out: &mut W, calls: &Calls) -> io::Result<()> {
     let Ok(calls) = calls.try_replace(Vec::new(alloc)) else {
         return Err(io::ErrorKind::Other.into());
     };
     for call in calls.iter() {
-        tell_call(alloc, out, call)?;
+        print_call(alloc, out, call)?;
     }
     Ok(())
 }
 
-/// Writes the answer to a command.
-fn tell_answer<W: Write>(
+/// Prints the answer to a command.
+fn print_outcome<W: Write>(
     alloc: Global,
     out: &mut W,
     command: &Command<Global>,
@@ -86,7 +91,7 @@ fn tell_answer<W: Write>(
     out.write_all(&text)
 }
 
-/// The sector that begins with these bytes; what is past 512 of them is left out.
+/// The sector that begins with these bytes. Bytes after the first 512 are left out.
 fn sector(bytes: &[u8]) -> [u8; 512] {
     let mut sector = [0; 512];
     for (to, byte) in sector.iter_mut().zip(bytes) {
@@ -110,7 +115,7 @@ fn write_sector<D: Disk>(alloc: Global, disk: &mut D, line: &str) -> io::Result<
     }
 }
 
-/// Writes the sectors that lines give, up to an empty one. Whether there were any.
+/// Writes the sectors that lines give, up to an empty line. Returns whether there were any.
 fn write_sectors<R: BufRead, D: Disk>(
     alloc: Global,
     lines: &mut R,
@@ -127,7 +132,7 @@ fn write_sectors<R: BufRead, D: Disk>(
     Err(io::ErrorKind::InvalidData.into())
 }
 
-/// Makes a disk ready: with the sectors that lines give, or anew where they give none.
+/// Writes the sectors that lines give to the disk, or formats it if they give none.
 fn make_ready<R: BufRead, D: Disk>(
     alloc: Global,
     lines: &mut R,
@@ -145,7 +150,7 @@ fn make_ready<R: BufRead, D: Disk>(
     Ok(())
 }
 
-/// A disk that was made ready.
+/// A disk with those sectors, or formatted.
 fn ready_disk<'a, R: BufRead>(
     alloc: Global,
     lines: &mut R,
@@ -178,7 +183,7 @@ fn commit<D: Disk>(
     }
 }
 
-/// Makes a checkpoint, and commits the commands that found no room.
+/// Makes a checkpoint, and commits the commands that did not fit.
 fn commit_again<D: Disk>(
     alloc: Global,
     store: &mut Store<Global, D>,
@@ -195,7 +200,7 @@ fn commit_again<D: Disk>(
     }
 }
 
-/// A register on a disk, and the batch whose lines come.
+/// A register on a disk, and the batch that is being read.
 #[derive(Drop)]
 struct Session<'a, D: Disk> {
     store: Store<Global, D>,
@@ -207,9 +212,9 @@ impl<'a, D: Disk> Session<'a, D> {
     /// Commits the batch, and writes its calls and answers.
     fn answer<W: Write>(&mut self, alloc: Global, out: &mut W) -> io::Result<()> {
         let outcomes = commit(alloc, &mut self.store, &self.batch)?;
-        tell_calls(alloc, out, self.calls)?;
+        print_calls(alloc, out, self.calls)?;
         for (command, outcome) in self.batch.iter().zip(outcomes) {
-            tell_answer(alloc, out, command, outcome)?;
+            print_outcome(alloc, out, command, outcome)?;
         }
         self.batch.clear();
         writeln!(out)
@@ -244,7 +249,7 @@ fn serve<R: BufRead + Drop, D: Disk, W: Write>(
     out: &mut W,
     session: &mut Session<'_, D>,
 ) -> io::Result<()> {
-    tell_calls(alloc, out, session.calls)?;
+    print_calls(alloc, out, session.calls)?;
     writeln!(out)?;
     for line in lines.lines(alloc) {
         session.take_line(alloc, out, &line?)?;
@@ -259,7 +264,7 @@ fn main(rt: HostRuntime) -> io::Result<()> {
     let calls = RefCell::new(Vec::new(alloc));
     let disk = ready_disk(alloc, &mut lines, &calls)?;
     writeln!(out, "disk {}", disk.sectors())?;
-    tell_calls(alloc, &mut out, &calls)?;
+    print_calls(alloc, &mut out, &calls)?;
     writeln!(out)?;
     let mut session = open(alloc, disk, &calls)?;
     serve(alloc, lines, &mut out, &mut session)?;

@@ -1,5 +1,5 @@
 //! The switch's program: it serves standard input over a new register in memory, or makes, serves and shows a register that is kept
-//! on a disk.
+//! on a disk. It reads the words of its command line, opens the files that these name, and leaves all rules to the crates below.
 #![tactic(auto)]
 
 ghost use Rattle.std.specs.Prelude.{◌≡◌, ◌≤◌, IfOk, OnOk, false, length};
@@ -14,8 +14,8 @@ use sector_disk::Disk;
 use served_disk::{
     Fault, PortNames, Progress, Served, ServiceWatch, TURNS, WatchedDesk, WatchedReader,
     check_names, check_stations, file_names, format_disk, inputs_of, layout_of, name_ended,
-    names_of, not_read, open_disk, open_files, outcome, pairs_of, ports_of, serve_stations,
-    service_outcome, show_disk, tell_formatted, tell_stations,
+    names_of, not_read, open_disk, open_files, outcome, pairs_of, ports_of, print_formatted,
+    print_stations, serve_stations, service_outcome, show_disk,
 };
 use snapshots::NewLog;
 use stations::{ManyTerms, Port, Watch};
@@ -40,11 +40,11 @@ const LIMITS: Limits = Limits {
 fn main(rt: HostRuntime) -> ExitCode {
     let words = match read_words(&rt) {
         Ok(words) => words,
-        Err(refusal) => return tell_refusal(&rt, &refusal),
+        Err(refusal) => return print_refusal(&rt, &refusal),
     };
     let request = match read_command_line(rt.alloc(), &words) {
         Ok(request) => request,
-        Err(refusal) => return tell_refusal(&rt, &refusal),
+        Err(refusal) => return print_refusal(&rt, &refusal),
     };
     let ended = match &request {
         Request::Memory => status_of(serve_memory(&rt)),
@@ -75,35 +75,35 @@ fn read_words(rt: &HostRuntime) -> Result<Vec<String>, Refusal> {
     Ok(words)
 }
 
-/// Tells help and the version on standard output, and what is wrong with the words on standard error.
-fn tell_refusal(rt: &HostRuntime, refusal: &Refusal) -> ExitCode {
-    let told = match refusal {
+/// Prints help and the version on standard output; prints what is wrong with the words on standard error.
+fn print_refusal(rt: &HostRuntime, refusal: &Refusal) -> ExitCode {
+    let written = match refusal {
         Refusal::Help(_) | Refusal::Version(_) => print!(rt; "{refusal}"),
         _ => eprint!(rt; "{refusal}"),
     };
-    match told {
+    match written {
         Err(_) if refusal.status() == 0 => exit_code(rt, Err(Fault::File("-"))),
         _ => ExitCode::from(refusal.status()),
     }
 }
 
-/// The exit status of a request that was carried out: 1 if an answer reported trouble.
+/// The exit status of a request that was carried out: 1 if an answer reported trouble, else 0.
 fn status_of<'a>(ended: Result<bool, Fault<'a>>) -> Result<u8, Fault<'a>> {
     ended.map(u8::from)
 }
 
-/// Reports a fault on standard error.
+/// Prints a fault on standard error, and returns the exit code.
 fn exit_code(rt: &HostRuntime, ended: Result<u8, Fault<'_>>) -> ExitCode {
     match ended {
         Ok(status) => ExitCode::from(status),
         Err(fault) => {
-            let _ = fault.tell(&mut rt.stderr());
+            let _ = fault.print(&mut rt.stderr());
             ExitCode::from(fault.status())
         }
     }
 }
 
-/// Answers station 1's lines from standard input over a new register in memory.
+/// Answers lines from standard input, as those of station 1, over a new register in memory.
 fn serve_memory<'a>(rt: &HostRuntime) -> Result<bool, Fault<'a>> {
     let Ok(register) = Register::new(rt.alloc(), LIMITS) else {
         return Err(Fault::Memory);
@@ -135,7 +135,7 @@ fn serve_memory<'a>(rt: &HostRuntime) -> Result<bool, Fault<'a>> {
     }
 }
 
-/// Makes a disk for an empty register in a new file, by the settings in another.
+/// Makes a disk for an empty register in a new file, by the settings in another file.
 fn make_disk<'a>(rt: &HostRuntime, settings: &'a str, disk: &'a str) -> Result<bool, Fault<'a>> {
     let text = match fs::read(rt, settings) {
         Ok(text) => text,
@@ -143,18 +143,18 @@ fn make_disk<'a>(rt: &HostRuntime, settings: &'a str, disk: &'a str) -> Result<b
     };
     let layout = layout_of(rt.alloc(), &text)?;
     let made = format_disk(rt, &layout, disk)?;
-    printed(tell_formatted(&mut io::writer(rt), made.sectors()), false)
+    printed(print_formatted(&mut io::writer(rt), made.sectors()), false)
 }
 
-/// What has come of a request whose answer was printed.
-fn printed<'a>(told: io::Result<()>, troubled: bool) -> Result<bool, Fault<'a>> {
-    match told {
+/// The result of a request whose answer was printed, or could not be.
+fn printed<'a>(written: io::Result<()>, troubled: bool) -> Result<bool, Fault<'a>> {
+    match written {
         Ok(()) => Ok(troubled),
         Err(_) => Err(Fault::File("-")),
     }
 }
 
-/// The register that is kept on a disk, which has a station for each of so many.
+/// Opens the register on a disk. It must have this many stations.
 fn open_for<'a, R: Files<File = File>>(
     rt: &R,
     alloc: Global,
@@ -225,7 +225,7 @@ fn serve_ports<
     serve_stations::<Brand, FileDisk<HostFile>, R, I, O, V>(rt, terms, store, ports, watch)
 }
 
-/// Prints the last figures and the answers of each station, and says how all have ended.
+/// Prints the last figures and the answers of each station, and returns how all have ended.
 fn report<'a, R: Clock + Print + Eprint>(
     rt: &R,
     names: &[PortNames<'a>],
@@ -239,14 +239,14 @@ fn report<'a, R: Clock + Print + Eprint>(
         progress.end(index, &served.runs[index].1);
     }
     progress.finish();
-    let told = tell_stations(&mut io::writer(rt), names, &served.runs);
+    let written = print_stations(&mut io::writer(rt), names, &served.runs);
     match outcome(names, served) {
-        Ok(troubled) => printed(told, troubled),
+        Ok(troubled) => printed(written, troubled),
         Err(fault) => Err(fault),
     }
 }
 
-/// Serves station 1 over the register on a disk by this port, standard input and standard output. `Ok` has the exit status.
+/// Serves station 1 over the register on a disk by this port: standard input and standard output. `Ok` has the exit status.
 fn serve_port<
     'a,
     R: Threads + Wait + Sync + Eprint + Files<File = File>,
@@ -264,7 +264,7 @@ fn serve_port<
     serve_watched(rt, store, ports, &watch)
 }
 
-/// Serves each pair of files as those of stations 1, 2 and so on, over the register on a disk. `Ok` has the exit status.
+/// Serves the pairs of files of stations 1, 2 and so on, over the register on a disk. `Ok` has the exit status.
 fn serve_pairs<'a, R: Threads + Wait + Sync + Eprint>(
     rt: &R,
     host: HostRuntime,
@@ -280,7 +280,7 @@ fn serve_pairs<'a, R: Threads + Wait + Sync + Eprint>(
     serve_watched(rt, store, ports, &watch)
 }
 
-/// Serves the ports of the stations that are watched; each answer is written as it comes. `Ok` has the exit status.
+/// Serves these ports; each answer is written as it comes. `Ok` has the exit status.
 fn serve_watched<
     'a,
     R: Threads + Wait + Sync + Eprint,
@@ -307,7 +307,7 @@ fn serve_watched<
     service_outcome(&names, &served)
 }
 
-/// Prints the answer to the query that the words are, of the register on a disk.
+/// Prints the answer to a query, given by these words, of the register on a disk.
 fn show_words<'a>(rt: &HostRuntime, disk: &'a str, words: &[&str]) -> Result<bool, Fault<'a>> {
     let Ok(line) = words.join(rt.alloc(), " ") else {
         return Err(Fault::Memory);

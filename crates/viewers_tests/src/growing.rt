@@ -3,7 +3,7 @@ ghost use Rattle.std.specs.Prelude.{◌≡◌};
 
 use crate::publishing::{empty, publish_all, visited};
 use crate::turns::TURNS;
-use centre_core::{Query, Register, Told};
+use centre_core::{Query, QueryAnswer, Register};
 use live_register::{LiveRegister, make_live};
 use snapshots::{Centre, NewLog, Viewer};
 use std::alloc::Global;
@@ -17,16 +17,16 @@ use std::thread::Threads;
 // How many commands are published, each by itself.
 const COMMANDS: u32 = 200;
 
-// Reads once: the length of the list, if the register has accepted that many commands.
+// Reads once: the length of the list, if the register has accepted exactly that many commands.
 fn counted<J: Centre>(viewer: &mut Viewer<J>, alloc: Global) -> Option<u32> {
     match viewer.read(alloc, &Query::Total) {
-        Ok((Told::Total(total), count)) if total == count => u32::try_from(count).ok(),
+        Ok((QueryAnswer::Total(total), count)) if total == count => u32::try_from(count).ok(),
         _ => None,
     }
 }
 
 // Reads twice: the length of the second list, if neither list is shorter than the one seen before it.
-fn looked<J: Centre>(viewer: Viewer<J>, alloc: Global, seen: u32) -> (Viewer<J>, Option<u32>) {
+fn read_twice<J: Centre>(viewer: Viewer<J>, alloc: Global, seen: u32) -> (Viewer<J>, Option<u32>) {
     let mut viewer = viewer;
     let first = counted(&mut viewer, alloc);
     let (viewer, second) = visited(viewer, alloc);
@@ -46,7 +46,7 @@ fn is_never_shorter<J: Centre>(viewer: Viewer<J>, alloc: Global) -> bool {
         if seen >= COMMANDS || turns == TURNS {
             break;
         }
-        let (next, found) = looked(viewer, alloc, seen);
+        let (next, found) = read_twice(viewer, alloc, seen);
         viewer = next;
         let Some(count) = found else {
             return false;
@@ -99,7 +99,8 @@ fn followed<J: Centre + Send + Sync, R: Threads + Wait + Sync>(
 {
     let (mut live, viewers) = make_live::<J, R>(rt, alloc, log, register, places).ok()?;
     let good = AtomicU64::new(0);
-    let done = is_published(rt, alloc, &mut live, viewers, &good) && live.publisher().is_level();
+    let done = is_published(rt, alloc, &mut live, viewers, &good)
+        && live.publisher().is_caught_up();
     live.close(rt);
     if done {
         Some(good.load(Ordering::SeqCst))

@@ -1,11 +1,11 @@
 //! A publisher of the commands of `live_register`, by number.
-use centre_core::{Query, Register, Told};
+use centre_core::{Query, QueryAnswer, Register};
 use live_register::{LiveRegister, command, itsi, limits};
 use snapshots::{Centre, Viewer, Visit};
 use std::alloc::Global;
 use std::sync::{Arc, Wait};
 
-/// A register without commands, with room for the radios of this number of commands.
+/// A register without commands, with room for the radios of this many commands.
 pub fn empty(alloc: Global, commands: u32) -> Option<Register<Global>> {
     Register::new(alloc, limits(commands)?).ok()
 }
@@ -44,18 +44,18 @@ pub fn publish_all<J: Centre, R: Wait>(
 // Whether the radio of this number is known.
 fn is_known<J: Centre>(visit: &Visit<J>, alloc: Global, number: u32) -> Option<bool> {
     let query = Query::Whereabouts(itsi(number)?);
-    let told = visit.query(alloc, &query);
-    match &told {
-        Ok(Told::Whereabouts { itsi: _, radio }) => Some(radio.is_some()),
+    let reported = visit.query(alloc, &query);
+    match &reported {
+        Ok(QueryAnswer::Whereabouts { itsi: _, radio }) => Some(radio.is_some()),
         _ => None,
     }
 }
 
 // Whether `count` commands were accepted.
 fn is_total<J: Centre>(visit: &Visit<J>, alloc: Global, count: u32) -> bool {
-    let told = visit.query(alloc, &Query::Total);
-    match &told {
-        Ok(Told::Total(total)) => *total == u64::from(count),
+    let reported = visit.query(alloc, &Query::Total);
+    match &reported {
+        Ok(QueryAnswer::Total(total)) => *total == u64::from(count),
         _ => false,
     }
 }
@@ -68,7 +68,7 @@ pub fn is_after<J: Centre>(visit: &Visit<J>, alloc: Global, count: u32) -> bool 
     has_last && has_next == Some(false) && is_total(visit, alloc, count)
 }
 
-// How many commands the list of the copy has, if the copy is the register after these.
+// How many commands the list of the copy has, if the copy is the register after them.
 fn count_of<J: Centre>(visit: &Visit<J>, alloc: Global) -> Option<u32> {
     let count = u32::try_from(visit.count()).ok()?;
     if is_after(visit, alloc, count) {
@@ -78,7 +78,7 @@ fn count_of<J: Centre>(visit: &Visit<J>, alloc: Global) -> Option<u32> {
     }
 }
 
-/// Enters the copy and leaves it: how many commands its list has, if the copy is the register after these.
+/// Enters the copy and leaves it: how many commands its list has, if the copy is the register after them.
 pub fn visited<J: Centre>(viewer: Viewer<J>, alloc: Global) -> (Viewer<J>, Option<u32>) {
     match viewer.enter() {
         Ok(visit) => {

@@ -21,7 +21,7 @@ const SECOND: u64 = 2;
 // The viewer saw what it should see.
 const GOOD: u64 = 3;
 
-// Stays inside until the second publication has begun, and a while longer: whether the copy stayed as it was.
+// Stays inside until the second publication has begun, and a while longer; whether the copy stayed as it was.
 fn is_as_it_was<J: Centre>(visit: &Visit<J>, alloc: Global, stage: &AtomicU64) -> bool {
     stage.store(INSIDE, Ordering::SeqCst);
     let came = comes_to(stage, SECOND);

@@ -2,7 +2,7 @@
 use std::sync::atomic::{AtomicU64, Ordering};
 use std::thread;
 
-/// How many turns a thread waits for another one at most.
+/// The most turns that a thread waits for another one.
 pub const TURNS: u32 = 1_000_000;
 
 /// Waits until `number` is at least `least`. False if it never was.

@@ -16,7 +16,7 @@ use mailbox::GroupEnvelope;
 use std::alloc::{AllocError, Allocator};
 
 impl<A: Allocator + Clone> Tables<A> {
-    // A message of a radio for a group. The list of the members is kept under `alloc` meanwhile.
+    // A message of a radio to a group. The list of the members is allocated in `alloc` meanwhile.
     pub(crate) fn group_short_data<B: Allocator, C: Allocator + Copy>(
         &mut self,
         alloc: C,
@@ -26,7 +26,8 @@ impl<A: Allocator + Clone> Tables<A> {
         pdu: &Bits<B>,
     ) -> Result<Reply<C>, AllocError>
         requires { CanBeAccepted self.old command.now }
-        ensures ok { IfOk result (λ reply. (self.new, reply) ≡ step_group_sds self.old command.now source group pdu.now (transfer_reference (heading pdu.now))) }
+        ensures ok { IfOk result (λ reply.
+            (self.new, reply) ≡ step_group_sds self.old command.now source group pdu.now (transfer_reference (heading pdu.now))) }
         ensures err { OnErr result (self.new ≡ self.old) }
         ensures memory { OnErr result (IsTrue (needs_reference (transfer_reference (heading pdu.now)))) }
     {
@@ -52,7 +53,8 @@ impl<A: Allocator + Clone> Tables<A> {
     ) -> Result<Reply<C>, AllocError>
         requires command { CanBeAccepted self.old command.now }
         requires pdu { IsTrue (is_head_of kind.Message envelope.now.reference (heading pdu.now)) }
-        ensures ok { IfOk result (λ reply. (self.new, reply) ≡ step_copies self.old command.now envelope.now (copies_of self.old command.now.moment envelope.now pdu.now)) }
+        ensures ok { IfOk result (λ reply. (self.new, reply) ≡ step_copies self.old command.now envelope.now
+            (copies_of self.old command.now.moment envelope.now pdu.now)) }
         ensures err { OnErr result (self.new ≡ self.old) }
     {
         let list = self.members(alloc, envelope.group)?;
@@ -68,7 +70,7 @@ impl<A: Allocator + Clone> Tables<A> {
         else {
             return Err(AllocError);
         };
-        // The copies have the next number already, which is counted now.
+        // The copies have the next number already; now it is counted.
         count_accepted(&mut self.served, &mut self.count, command, None);
         Ok(Reply::Accepted {
             number: self.count,
@@ -89,7 +91,7 @@ impl<A: Allocator + Clone> Tables<A> {
     }
 }
 
-// Of each attachment the radio.
+// The radio of each attachment.
 fn radios<A: Allocator>(alloc: A, attachments: &[Attachment]) -> Result<Vec<Itsi, A>, AllocError>
     ensures { IfOk result (λ radios. radios.items ≡ map (λ a. a.itsi) attachments.now) }
 {

@@ -6,7 +6,8 @@ ghost use Rattle.mailbox.specs.declared.key.Kind.TheVariants as kind;
 ghost use Rattle.mailbox.specs.Mail.{waiting};
 ghost use Rattle.mailbox.specs.Refusals.{post_refusal, report_refusal};
 ghost use Rattle.mailbox.specs.Sound.{is_head_of};
-ghost use Rattle.centre_core.specs.Step.{CanBeAccepted, envelope, message_of, step_made, report_of, step_sds, step_message, step_report, step_ack, step_sent, step_expire, step_delete};
+ghost use Rattle.centre_core.specs.Step.{CanBeAccepted, envelope, message_of, report_of, step_made};
+ghost use Rattle.centre_core.specs.Step.{step_sds, step_message, step_report, step_ack, step_sent, step_expire, step_delete};
 ghost use Rattle.centre_core.specs.Memory.{needs_head};
 
 use crate::last_accepted::{bits_copy, count_accepted};
@@ -18,7 +19,7 @@ use sds_tl::{DeliveryStatus, Head, MessageReference};
 use std::alloc::{AllocError, Allocator};
 
 impl<A: Allocator + Clone> Tables<A> {
-    // Copies of what waits for a radio.
+    // Copies of the items that wait for a radio.
     pub(crate) fn waiting<C: Allocator + Copy>(
         &self,
         alloc: C,
@@ -77,9 +78,11 @@ impl<A: Allocator + Clone> Tables<A> {
     ) -> Result<Reply<C>, AllocError>
         requires command { CanBeAccepted self.old command.now }
         requires pdu { IsTrue (is_head_of kind.Message envelope.now.reference (heading pdu.now)) }
-        ensures ok { IfOk result (λ reply. (self.new, reply) ≡ step_message self.old command.now (message_of self.old command.now.moment envelope.now pdu.now)) }
+        ensures ok { IfOk result (λ reply. (self.new, reply) ≡ step_message self.old command.now
+            (message_of self.old command.now.moment envelope.now pdu.now)) }
         ensures err { OnErr result (self.new ≡ self.old) }
-        ensures memory { OnErr result (IsTrue (is_none (post_refusal self.old.registered self.old.mail (message_of self.old command.now.moment envelope.now pdu.now)))) }
+        ensures memory { OnErr result (IsTrue (is_none (post_refusal self.old.registered self.old.mail
+            (message_of self.old command.now.moment envelope.now pdu.now)))) }
     {
         let opening = match self.mail.judge_post(&self.registry, envelope) {
             Ok(opening) => opening,
@@ -88,7 +91,7 @@ impl<A: Allocator + Clone> Tables<A> {
         let bits = bits_copy(self.alloc.clone()?, pdu)?;
         let stamp = self.stamp(command);
         self.mail.post_judged(&opening, stamp, bits)?;
-        // The item has the next number already, which is counted now.
+        // The item has the next number already; now it is counted.
         count_accepted(&mut self.served, &mut self.count, command, None);
         Ok(Reply::Accepted {
             number: self.count,
@@ -105,9 +108,11 @@ impl<A: Allocator + Clone> Tables<A> {
     ) -> Result<Reply<C>, AllocError>
         requires command { CanBeAccepted self.old command.now }
         requires pdu { IsTrue (is_head_of kind.Report envelope.now.reference (heading pdu.now)) }
-        ensures ok { IfOk result (λ reply. (self.new, reply) ≡ step_report self.old command.now envelope.now status (report_of self.old command.now.moment envelope.now pdu.now)) }
+        ensures ok { IfOk result (λ reply. (self.new, reply) ≡ step_report self.old command.now envelope.now status
+            (report_of self.old command.now.moment envelope.now pdu.now)) }
         ensures err { OnErr result (self.new ≡ self.old) }
-        ensures memory { OnErr result (IsTrue (is_none (report_refusal self.old.registered self.old.mail envelope.now status (report_of self.old command.now.moment envelope.now pdu.now)))) }
+        ensures memory { OnErr result (IsTrue (is_none (report_refusal self.old.registered self.old.mail envelope.now status
+            (report_of self.old command.now.moment envelope.now pdu.now)))) }
     {
         let judged = match self.mail.judge_report(&self.registry, envelope, status) {
             Ok(judged) => judged,
@@ -119,7 +124,7 @@ impl<A: Allocator + Clone> Tables<A> {
         let stamp = self.stamp(command);
         self.mail
             .report_judged(&judged, envelope, status, stamp, bits)?;
-        // The item has the next number already, which is counted now.
+        // The item has the next number already; now it is counted.
         count_accepted(&mut self.served, &mut self.count, command, None);
         Ok(Reply::Accepted {
             number: self.count,
@@ -181,7 +186,7 @@ impl<A: Allocator + Clone> Tables<A> {
         self.accepted_without_pdu(command)
     }
 
-    // What an item keeps of the command that makes it, which gets the next number.
+    // The number and moment that an item gets from its command, which is the next to be accepted.
     pub(crate) fn stamp<B: Allocator>(&self, command: &Command<B>) -> Stamp
         requires { CanBeAccepted self.now command.now }
         ensures { result ≡ record { number = self.now.count + 1; moment = command.now.moment } }

@@ -5,7 +5,7 @@ use Rattle.centre_core.specs.declared.command.Body.TheVariants.{RuleSet, RuleCle
 use Rattle.command_bytes.specs.Fields.{bytes_for}
 
 module _ {A : Type 0} where
-  -- how many bytes stand behind a tag
+  -- how many bytes follow a tag
   abbrev pub body_size : Body A → ℕ
   body_size (RuleSet prefix rule) = 16
   body_size (RuleClear prefix) = 7

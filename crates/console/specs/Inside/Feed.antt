@@ -15,20 +15,25 @@ use Rattle.console.specs.Answer.{text, texts, is_trouble}
 use Rattle.desk.specs.Rules.{Rules}
 use Rattle.console.specs.Dialogue.{Dialogue}
 use Rattle.console.specs.Runs.{Start, Outcome, HasRun}
-use Rattle.console.specs.Inside.Hand.{HasNoEnd, Holds, StandsIn}
+use Rattle.console.specs.Inside.Current.{HasNoEnd, Holds, IsGivenFor}
 
--- where a run stands: whose lines it answers, how far it has come, what its desk stands for, and what its writer holds
-pub record Stand (A W : Type 0) : Type 0 where
+-- where a run is: the station of its lines, how far it has come, the world of its desk, and the bytes that were written
+pub record Reached (A W : Type 0) : Type 0 where
   pub station : Station
   pub progress : Progress A
   pub world : W
   pub written : Option (List Byte)
 
--- where this run stands, by what its kind of desk stands for and what its kind of writer holds
-abbrev pub stand_of : {A W G D World : Type 0} → (D → World) → (W → Option (List Byte)) → Run A W G D → Stand A World
-stand_of world contents run = record { station = run.terms.now.station; progress = run.progress.now; world = world run.desk.now; written = contents run.output.now.writer.now }
+-- where this run is, by the world of its desk and the bytes of its writer
+abbrev pub reached_by : {A W G D World : Type 0} → (D → World) → (W → Option (List Byte)) → Run A W G D → Reached A World
+reached_by world contents run = record {
+  station = run.terms.now.station;
+  progress = run.progress.now;
+  world = world run.desk.now;
+  written = contents run.output.now.writer.now;
+}
 
--- it is the run that it was: on the same terms, with the same things lent to it
+-- the run is the same one: it has the same terms, and borrows the same things
 pub record IsSameRun {A W G D : Type 0} (old new : Run A W G D) : Type 0 where
   pub terms : new.terms ≡ old.terms
   pub progress : new.progress.ghost_name ≡ old.progress.ghost_name
@@ -38,16 +43,16 @@ pub record IsSameRun {A W G D : Type 0} (old new : Run A W G D) : Type 0 where
   pub failures : new.output.now.failures.ghost_name ≡ old.output.now.failures.ghost_name
 
 module _ {A W : Type 0} where
-  -- the start of a run from there, of whose reader this is left
-  abbrev pub start_at : Stand A W → Option (List Byte) → Start W
-  start_at stand unread = record { station = stand.station; world = stand.world; unread = unread; written = stand.written }
+  -- the start of a run from here, whose reader has these bytes left
+  abbrev pub start_at : Reached A W → Option (List Byte) → Start W
+  start_at reached unread = record { station = reached.station; world = reached.world; unread = unread; written = reached.written }
 
-  -- the end of a run there, with this result
-  abbrev pub outcome_at : Stand A W → Result Ran RunFault → Outcome W
-  outcome_at stand result = record { result = result; world = stand.world; written = stand.written }
+  -- the end of a run here, with this result
+  abbrev pub outcome_at : Reached A W → Result Ran RunFault → Outcome W
+  outcome_at reached result = record { result = result; world = reached.world; written = reached.written }
 
--- of the run that began so these bytes were taken: some whole lines, which are answered, and the front of one more
-pub record IsGoing {A W : Type 0} (rules : Rules A W) (start : Start W) (before taken : List Byte) (now : Stand A W) : Type 0 where
+-- a run that began at start has taken these bytes: some whole lines, which are answered, and a prefix of one more
+pub record IsGoing {A W : Type 0} (rules : Rules A W) (start : Start W) (before taken : List Byte) (now : Reached A W) : Type 0 where
   pub done : List (List Byte)
   pub answers : List (Answer A)
   pub line : List Byte
@@ -58,16 +63,16 @@ pub record IsGoing {A W : Type 0} (rules : Rules A W) (start : Start W) (before 
   pub written : now.written ≡ Some (before ++ texts answers)
   pub trouble : now.progress.troubled ≡ list_any is_trouble answers
   pub counted : now.progress.lines ≡ length done
-  pub holds : Holds now.progress.hand.bytes.items now.progress.hand.long line
+  pub holds : Holds now.progress.current.bytes.items now.progress.current.long line
 
--- from wherever a run stood
-module _ {A W : Type 0} (rules : Rules A W) (old : Stand A W) where
-  -- it has come these bytes further
-  abbrev pub GoesOn : List Byte → Stand A W → Type 0
+-- what a run does from where it was
+module _ {A W : Type 0} (rules : Rules A W) (old : Reached A W) where
+  -- it has taken these bytes
+  abbrev pub GoesOn : List Byte → Reached A W → Type 0
   GoesOn bytes new = (start : Start W) (before taken : List Byte) → IsGoing rules start before taken old → IsGoing rules start before (taken ++ bytes) new
 
-  -- it has ended with this fault within these bytes, whatever comes behind them
-  abbrev pub StopsWithin : List Byte → RunFault → Stand A W → Type 0
+  -- it has ended with this fault within these bytes, with any bytes after them
+  abbrev pub StopsWithin : List Byte → RunFault → Reached A W → Type 0
   StopsWithin bytes fault new = (start : Start W) (before taken rest : List Byte) → IsGoing rules start before taken old →
       HasRun A rules start (outcome_at new (Err fault)) (taken ++ bytes ++ rest) before
 
@@ -76,26 +81,28 @@ module _ {A W : Type 0} (rules : Rules A W) (old : Stand A W) where
   EndsSo end = (start : Start W) (before taken : List Byte) → IsGoing rules start before taken old → HasRun A rules start end taken before
 
 module _ {A : Type 0} where
-  -- its line is counted, with the trouble that it tells of, and the next one begins
+  -- the line is counted, with the trouble in its answer, and the next line begins
   abbrev pub IsCounted : Progress A → Answer A → Progress A → Type 0
-  IsCounted old given new = (new.lines ≡ old.lines + 1) × (new.troubled ≡ (old.troubled || is_trouble given)) × Holds new.hand.bytes.items new.hand.long []
+  IsCounted old given new =
+      (new.lines ≡ old.lines + 1) × (new.troubled ≡ (old.troubled || is_trouble given)) × Holds new.current.bytes.items new.current.long []
 
-  -- behind what the writer held stands this answer, or the one that stands in for it, and it is counted
+  -- the answer that is given is written after what was written before, and is counted
   abbrev pub Sends : Progress A → Option (List Byte) → Answer A → Progress A → Option (List ℕ) → Type 0
   Sends old held answer new now = (before : List ℕ) → held ≡ Some before →
-      (given : Answer A) × StandsIn (old.lines + 1) answer given × (now ≡ Some (before ++ text given)) × IsCounted old given new
+      (given : Answer A) × IsGivenFor (old.lines + 1) answer given × (now ≡ Some (before ++ text given)) × IsCounted old given new
 
-  -- a front of its text does; so many lines came before
-  abbrev pub SendsFront : ℕ → Option (List ℕ) → Answer A → Option (List Byte) → Type 0
-  SendsFront count held answer now = (before : List ℕ) → held ≡ Some before →
-      (given : Answer A) × (part : List ℕ) × (missing : List ℕ) × StandsIn (count + 1) answer given × (text given ≡ part ++ missing) × (now ≡ Some (before ++ part))
+  -- only a prefix of its text is written; so many lines came before
+  abbrev pub SendsPrefix : ℕ → Option (List ℕ) → Answer A → Option (List Byte) → Type 0
+  SendsPrefix count held answer now = (before : List ℕ) → held ≡ Some before →
+      (given : Answer A) × (part : List ℕ) × (missing : List ℕ)
+      × IsGivenFor (count + 1) answer given × (text given ≡ part ++ missing) × (now ≡ Some (before ++ part))
 
--- what a call of the reader gave, of the bytes that it had left
+-- the result of a call of the reader fits a buffer of this size
 abbrev pub FitsPiece : Piece → ℕ → Type 0
 FitsPiece End room = Unit {0}
 FitsPiece (Bytes n) room = n ≤ room
 
--- nothing was left and nothing was given; or the first n bytes of the buffer were given, and the rest is left
+-- nothing was left, and nothing was read; or the first n bytes of the buffer were read, and the rest is left
 abbrev pub IsPiece : Piece → List Byte → List Byte → Option (List Byte) → Type 0
 IsPiece End buffer input left = (input ≡ []) × (left ≡ Some [])
 IsPiece (Bytes n) buffer input left = (rest : List Byte) × (left ≡ Some rest) × (input ≡ take n buffer ++ rest)

@@ -1,4 +1,4 @@
--- The parts of an answer's text, and how many bytes each takes at most.
+-- The parts of an answer's text, and the most bytes that each takes.
 use Rattle.std.specs.Prelude.{ℕ, ◌+◌, ◌/◌, List, length, decimal, sum_by}
 use Rattle.std.specs.List.{flat_map}
 use Rattle.identity.specs.Numbers.{Byte}
@@ -21,7 +21,7 @@ module _ {B : Type 0} where
   abbrev pub parts_text : List (Part B) → List Byte
   parts_text parts = flat_map part_text parts
 
-  -- a number has at most 20 digits, and a digit of a PDU stands for four bits
+  -- the most bytes of a part: a number has at most 20 digits, and a digit of a PDU stands for four bits
   abbrev pub part_room : Part B → ℕ
   part_room (part.Text text) = length text.now
   part_room (part.Number number) = 20
@@ -30,10 +30,10 @@ module _ {B : Type 0} where
   part_room (part.Prefix prefix) = 83
   part_room (part.Pdu bits) = 21 + (length bits.now + 3) / 4
 
-  -- how many bytes the parts take at most, all together
+  -- the most bytes of all parts together
   abbrev pub parts_room : List (Part B) → ℕ
   parts_room parts = sum_by part_room parts
 
--- the room of a PDU of 2,048 bits
+-- the most bytes of a PDU of 2,048 bits
 abbrev pub pdu_room : ℕ
 pdu_room = 533

@@ -1,4 +1,4 @@
--- The call of a disk that is noted.
+-- The call that a note is of.
 use Rattle.sector_disk.specs.declared.record.Call.{Call}
 use Rattle.sector_disk.specs.declared.record.Call.TheVariants as call
 use Rattle.file_disk.specs.declared.history.Note.{Note}

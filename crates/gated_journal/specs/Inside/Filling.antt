@@ -1,4 +1,4 @@
--- What two runs of writes leave.
+-- What a stop leaves of two runs of writes.
 use Rattle.std.specs.Prelude.{◌≡◌, ◌⊎◌, ℕ, ◌<◌, ◌≤◌, ◌+◌, List, length, OnOk, Result}
 use Rattle.sector_disk.specs.Numbers.{Byte, Sector, Sectors}
 use Rattle.sector_disk.specs.Disk.{View, IsImageOf, sector}
@@ -6,8 +6,10 @@ use Rattle.sector_disk.specs.Run.{LeavesOnly}
 use Rattle.sector_disk.specs.declared.disk.DiskError.{DiskError}
 use Rattle.gated_journal.specs.Twice.{IsTornTwiceImage}
 
--- Two runs of writes: n sectors from at on, and then m sectors from to on, with these bytes. Up to their end any bytes may stand in them.
-pub record HasFilledTwice (old new : View) (at : Sector) (n : Sectors) (bytes : ℕ → List Byte) (to : Sector) (m : Sectors) (more : ℕ → List Byte) (result : Result Unit DiskError) : Type 0 where
+-- Two runs of writes: n sectors from at on, and then m sectors from to on, with these bytes. Until both end, these sectors may
+-- hold anything.
+pub record HasFilledTwice (old new : View) (at : Sector) (n : Sectors) (bytes : ℕ → List Byte) (to : Sector) (m : Sectors)
+    (more : ℕ → List Byte) (result : Result Unit DiskError) : Type 0 where
   pub honest : new.honest
   pub crash : LeavesOnly old new (IsTornTwiceImage old at n to m)
   pub now : (image : List (List Byte)) → IsImageOf new image → IsTornTwiceImage old at n to m image

@@ -7,7 +7,7 @@ use Rattle.gated_journal.specs.Record.{IsRecord, record_text}
 use Rattle.gated_journal.specs.declared.place.Place.{Place}
 
 module _ {A : Type 0} where
-  -- these commands may be the next record of the place, and this is its text
+  -- these commands may be the next record of the place, with this text
   pub record IsNext (place : Place) (commands : List (Asked A)) (text : List Byte) : Type 0 where
     pub record_is : IsRecord commands
     pub number : place.count < last_number

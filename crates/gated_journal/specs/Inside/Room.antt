@@ -1,4 +1,4 @@
--- How much a buffer of a record's text takes in all.
+-- The size of a buffer of a record's text.
 use Rattle.std.specs.Prelude.{ℕ, ◌+◌, length}
 use Rattle.bytes.specs.Filled.{Filled}
 

@@ -1,4 +1,4 @@
--- How many groups a radio has after a PDU, told item by item without the attachments themselves.
+-- How many groups a radio has after a PDU, counted item by item without the attachments themselves.
 use Rattle.std.specs.Prelude.{ℕ, ◌+◌, ◌-◌, ◌==◌, Bool, false, ◌||◌, if◌then◌else◌}
 use Rattle.std.specs.Option.{is_some}
 use Rattle.identity.specs.Numbers.{Itsi, Gtsi}

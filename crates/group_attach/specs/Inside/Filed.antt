@@ -20,7 +20,7 @@ use Rattle.group_attach.specs.Inside.ListedMap.{map_of}
 abbrev pub Filed : Type 0
 Filed = PathMap Attached
 
--- what a list that may not be there holds
+-- the attachments of a list; none where there is no list
 abbrev pub held : Option Attached → Attached
 held list = unwrap_or list no_groups
 
@@ -28,7 +28,7 @@ held list = unwrap_or list no_groups
 abbrev pub under : Filed → Path → Attached
 under f p = held (finite.get f p)
 
--- with this list under the path; an empty one is not kept
+-- with this list under the path; an empty one is not stored
 abbrev pub placed : Filed → Path → Attached → Filed
 placed f p list = if finite.len list == 0 then finite.remove f p else finite.insert f p list
 
@@ -36,7 +36,7 @@ placed f p list = if finite.len list == 0 then finite.remove f p else finite.ins
 abbrev pub unless_empty : Attached → Option Attached
 unless_empty list = if finite.len list == 0 then None else Some list
 
--- of each list the pairs whose number has the list's path
+-- of each list the entries whose number has the list's path
 abbrev pub of_entries : (Pair → Identity) → List (Path × Attached) → List (Pair × Usage)
 of_entries key es = flat_map (λ e. finite.entries (finite.retain_keys e.1 (λ pair. eq_by_cmp path_cmp (id_path (key pair)) e.0))) es
 
@@ -48,7 +48,7 @@ gathered key f = finite.from_entries (of_entries key (finite.entries f))
 abbrev pub AllHave : (Pair → Identity) → Identity → Attached → Type 0
 AllHave key k list = (pair : Pair) → IsSome (finite.get list pair) → key pair ≡ k
 
--- no list is empty, and each stands under the path of its pairs
+-- no list is empty, and each is under the path of its pairs
 unfoldable pub IsFiled : (Pair → Identity) → Filed → Type 0
 IsFiled key f = (p : Path) (list : Attached) → finite.get f p ≡ Some list → (0 < finite.len list) × AllHave key (number p) list
 
@@ -60,32 +60,32 @@ part_of key m k = finite.retain_keys m (λ pair. key pair == k)
 abbrev pub IsReplaced : Attached → Itsi → Attached → Attached → Type 0
 IsReplaced m itsi list n = (pair : Pair) → finite.get n pair ≡ (if pair.0 == itsi then finite.get list pair else finite.get m pair)
 
--- without the attachments of the old list whose pairs the new one has not
+-- whether the list has an attachment of this pair
 abbrev pub has_pair : List Attachment → Attachment → Bool
 has_pair list a = is_some (finite.get (map_of list) (pair_of a))
 
 -- without this attachment, unless the list has its pair
-abbrev pub left_where : List Attachment → Attached → Attachment → Attached
-left_where list m a = if has_pair list a then m else finite.remove m (pair_of a)
+abbrev pub left_unless : List Attachment → Attached → Attachment → Attached
+left_unless list m a = if has_pair list a then m else finite.remove m (pair_of a)
 
--- without those of the old list whose pairs the list has not
+-- without the attachments of the old list whose pairs are not in the list
 abbrev pub all_left : Attached → List Attachment → List Attachment → Attached
-all_left m old list = fold (left_where list) m old
+all_left m old list = fold (left_unless list) m old
 
--- without those of a list that an update ends
+-- without this attachment, if the update ends it
 abbrev pub left_if_ended : LocationUpdateType → Attached → Attachment → Attached
 left_if_ended update m a = if is_dropped update a.lifetime then finite.remove m (pair_of a) else m
 
--- without all of a list that the update ends
+-- without the attachments of a list that the update ends
 abbrev pub all_ended : LocationUpdateType → Attached → List Attachment → Attached
 all_ended update m list = fold (left_if_ended update) m list
 
--- a pair as it was before
+-- with the pair's usage as it was before, if it had one
 abbrev pub set_back : Attached → Pair → Option Usage → Attached
 set_back m pair None = finite.remove m pair
 set_back m pair (Some usage) = finite.insert m pair usage
 
--- what ends attachments of a radio: that it leaves a group, or a location update
+-- the attachments after a radio has left a group, or after its accepted location update
 abbrev pub ended : Attached → Itsi → Ending → Attached
 ended m itsi (ending.Leave gtsi) = finite.remove m (itsi, gtsi)
 ended m itsi (ending.Update update) = after_update m itsi update

@@ -1,5 +1,6 @@
--- Numbers as bits: each direction undoes the other, and bits come apart as numbers do.
-use Rattle.std.proofs.Common.{◌≡◌, ℕ, zero, suc, ◌+◌, ◌*◌, ◌^◌, ◌-◌, ◌/◌, ◌%◌, ◌<◌, ◌≤◌, Bool, true, false, List, [], ◌∷◌, ◌++◌, length, get_or, take, drop, replicate, refl, sym, ap, subst, ◌∙◌, arith}
+-- Laws of numbers as bits: each direction undoes the other, and bits split as numbers do.
+use Rattle.std.proofs.Common.{◌≡◌, ℕ, zero, suc, ◌+◌, ◌*◌, ◌^◌, ◌-◌, ◌/◌, ◌%◌, ◌<◌, ◌≤◌, Bool, true, false, List}
+use Rattle.std.proofs.Common.{[], ◌∷◌, ◌++◌, length, get_or, take, drop, replicate, refl, sym, ap, subst, ◌∙◌, arith}
 use Rattle.std.specs.Prelude.{◌==◌}
 use Rattle.std.specs.Int.{bit_at, from_bool}
 use Rattle.std.proofs.lemmas.Nat.{mod-pow-add, pow-add, pow_pos, shr-shr}
@@ -65,7 +66,11 @@ pub num-number : (bits : List Bool) → num (length bits) (number bits) ≡ bits
 unfolding num number
 num-number [] = refl
 num-number (b ∷ bits) =
-    rw (top_bit b (length bits) (number bits) (number-lt bits), num-cat (length bits) (length bits) (from_bool b) (number bits) (omega arith), num-number bits) refl
+    rw (
+      top_bit b (length bits) (number bits) (number-lt bits),
+      num-cat (length bits) (length bits) (from_bool b) (number bits) (omega arith),
+      num-number bits,
+    ) refl
 
 pub number-push : (bits : List Bool) (b : Bool) → number (bits ++ b ∷ []) ≡ 2 * number bits + from_bool b
 unfolding number
@@ -91,7 +96,7 @@ num-append (suc w) k v =
     let shift : v / 2 ^ (w + k) ≡ v / 2 ^ k / 2 ^ w = sym (shr-shr v k w ∙ ap (λ n. v / 2 ^ n) turned) in
     subst (λ n. num n v ≡ num (suc w) (v / 2 ^ k) ++ num k v) longer (λ i. (shift i % 2 == 1) ∷ num-append w k v i)
 
--- only zeros
+-- 0 has only zeros
 pub num-zero : (w : ℕ) → num w 0 ≡ replicate w false
 unfolding num
 num-zero zero = refl

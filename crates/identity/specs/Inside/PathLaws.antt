@@ -1,5 +1,6 @@
--- What an identity's bits, and the order of lists of bits, say.
-use Rattle.std.proofs.Common.{◌≡◌, ℕ, ◌+◌, ◌-◌, ◌*◌, ◌/◌, ◌%◌, ◌^◌, ◌<◌, ◌≤◌, Bool, true, false, List, [], ◌∷◌, ◌++◌, length, take, drop, replicate, refl, ap, sym, ◌∙◌, subst, add-zero, arith}
+-- Laws of an identity's bits, and of the order of lists of bits.
+use Rattle.std.proofs.Common.{◌≡◌, ℕ, ◌+◌, ◌-◌, ◌*◌, ◌/◌, ◌%◌, ◌^◌, ◌<◌, ◌≤◌, Bool, true, false, List, [], ◌∷◌}
+use Rattle.std.proofs.Common.{◌++◌, length, take, drop, replicate, refl, ap, sym, ◌∙◌, subst, add-zero, arith}
 use Rattle.std.proofs.lemmas.Nat.{shr_below, shl-shr, mod-mul-add, pow_pos}
 use Rattle.std.proofs.lemmas.List.{take-append-drop}
 use Rattle.std.proofs.lemmas.Bool.Decides.{nat_tests}
@@ -51,13 +52,13 @@ first_bits_fit n v small fits = let e : 48 ≡ n + (48 - n) = omega arith in shr
 whole_mod : (a k : ℕ) → a * 2 ^ k % 2 ^ k ≡ 0
 whole_mod a k = subst (λ n. n % 2 ^ k ≡ 0) (add-zero (a * 2 ^ k)) (mod-mul-add a (2 ^ k) 0 (pow_pos k))
 
--- bits at the left of an identity, with zeros behind them
+-- the identity of n bits and only zeros after them
 pub aligned : (n a : ℕ) → n ≤ 48 → id_path (a * 2 ^ (48 - n)) ≡ num n a ++ replicate (48 - n) false
 aligned n a small =
     let v = a * 2 ^ (48 - n) in
-    let front : take n (id_path v) ≡ num n a = take-id n v small ∙ ap (num n) (shl-shr a (48 - n)) in
+    let prefix : take n (id_path v) ≡ num n a = take-id n v small ∙ ap (num n) (shl-shr a (48 - n)) in
     let back : drop n (id_path v) ≡ replicate (48 - n) false = drop-id n v small ∙ zeros_if (48 - n) v (whole_mod a (48 - n)) in
-    sym (take-append-drop n (id_path v)) ∙ ap (λ (l : List Bool). l ++ drop n (id_path v)) front ∙ ap (λ (l : List Bool). num n a ++ l) back
+    sym (take-append-drop n (id_path v)) ∙ ap (λ (l : List Bool). l ++ drop n (id_path v)) prefix ∙ ap (λ (l : List Bool). num n a ++ l) back
 
 -- a list begins another where it is what the other begins with
 pub begins_if : (p q : Path) → length p ≤ length q → p ≡ take (length p) q → begins p q ≡ true

@@ -23,5 +23,6 @@ same_fields p q low high e =
 pub same_if : (p q : Inside) (x y : Path) → num p.len p.bits ≡ x → num q.len q.bits ≡ y → p.len ≡ q.len → p.bits ≡ q.bits → x ≡ y
 same_if p q x y left right lens bits = sym left ∙ (λ i. num (lens i) (bits i)) ∙ right
 
-pub same_then : (p q : Inside) (x y : Path) → p.bits < 2 ^ p.len → q.bits < 2 ^ q.len → num p.len p.bits ≡ x → num q.len q.bits ≡ y → x ≡ y → (p.len ≡ q.len) × (p.bits ≡ q.bits)
+pub same_then : (p q : Inside) (x y : Path) → p.bits < 2 ^ p.len → q.bits < 2 ^ q.len
+    → num p.len p.bits ≡ x → num q.len q.bits ≡ y → x ≡ y → (p.len ≡ q.len) × (p.bits ≡ q.bits)
 same_then p q x y low high left right e = same_fields p q low high (left ∙ e ∙ sym right)

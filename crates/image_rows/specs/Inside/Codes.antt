@@ -1,4 +1,4 @@
--- How a header and a loading are stored, for proofs.
+-- Codes of a header and of a loading, for proofs.
 use Rattle.std.specs.Prelude.{ℕ, Option, refl}
 use Rattle.std.specs.Coded.{Coded, code_by, coded×, coded_ℕ, coded_option}
 use Rattle.centre_core.specs.State.{State, coded_state}
@@ -14,4 +14,6 @@ coded_header =
 
 -- a loading: its header, if that came, and its state
 abbrev pub coded_loading : Coded Loading
-coded_loading = code_by (Option Header × State) (coded× (coded_option coded_header) coded_state) (λ l. (l.header, l.state)) (λ p. record { header = p.0; state = p.1 }) (λ _. refl)
+coded_loading =
+    code_by (Option Header × State) (coded× (coded_option coded_header) coded_state)
+    (λ l. (l.header, l.state)) (λ p. record { header = p.0; state = p.1 }) (λ _. refl)

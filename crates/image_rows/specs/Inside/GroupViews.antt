@@ -1,4 +1,4 @@
--- The groups of a radio's row that still lie in the bytes, as a list.
+-- The groups of a radio's row that are still in the bytes, as a list.
 use Rattle.std.specs.Prelude.{ℕ, List, [], Some, None}
 use Rattle.identity.specs.Numbers.{Byte}
 use Rattle.command_bytes.specs.Reading.{Read}
@@ -10,6 +10,6 @@ abbrev pub listed : Read (List Group) → List Group
 listed None = []
 listed (Some x) = x.0
 
--- so many groups from the first byte on
+-- the first n groups in the bytes
 unfoldable pub groups_from : ℕ → List Byte → List Group
 groups_from n bytes = listed (groups_at n bytes)

@@ -1,4 +1,4 @@
-//! A closure that changes a value of the tree, or lets it go with its node.
+//! A closure that changes a value of the tree, or drops it, and with it its node.
 
 use crate::trees::number::Number;
 use identity::Prefix;
@@ -7,7 +7,7 @@ use prefix_tree::PrefixTree;
 use std::alloc::{Allocator, Global};
 use std::test::Fail;
 
-/// Adds to the value at a prefix, if there is one; the one before.
+/// Adds to the value at a prefix, if there is one, and answers the value before.
 pub fn raise<A: Allocator>(
     tree: &mut PrefixTree<Number, A>,
     prefix: &Prefix,
@@ -18,8 +18,11 @@ pub fn raise<A: Allocator>(
     })
 }
 
-/// Lets the value at a prefix go; the one before.
-pub fn let_go<A: Allocator>(tree: &mut PrefixTree<Number, A>, prefix: &Prefix) -> Option<Number> {
+/// Drops the value at a prefix, and answers it.
+pub fn drop_value<A: Allocator>(
+    tree: &mut PrefixTree<Number, A>,
+    prefix: &Prefix,
+) -> Option<Number> {
     tree.change(prefix, |before| (before, None))
 }
 
@@ -38,8 +41,8 @@ fn grow<A: Allocator + Clone>(tree: &mut PrefixTree<Number, A>) -> bool {
     all
 }
 
-// A prefix, what its value is raised by (let go where that is 0), the value before and then, and how many nodes there are
-// then: at first the root, the three of the entries, and the one where the two part.
+// A prefix, what its value is raised by (0: it is dropped), the value before and after, and how many nodes there are
+// after. At first these are the root, the three of the entries, and the one where two of them part.
 const CHANGES: [(u64, u32, u64, u64, u64, usize); 9] = [
     (0x6000_0000_0004, 48, 10, 2, 12, 5),
     (0x6000_0000_0006, 48, 10, 0, 0, 5),
@@ -54,14 +57,14 @@ const CHANGES: [(u64, u32, u64, u64, u64, usize); 9] = [
 
 fn changed(tree: &mut PrefixTree<Number, Global>, prefix: &Prefix, more: u64) -> u64 {
     let before = if more == 0 {
-        let_go(tree, prefix)
+        drop_value(tree, prefix)
     } else {
         raise(tree, prefix, more)
     };
     before.map_or(0, |number| number.0)
 }
 
-// The first row that does not say what the tree does; nothing where all do.
+// The first row that the tree does not agree with; nothing where it agrees with all.
 fn first_wrong(tree: &mut PrefixTree<Number, Global>) -> Option<usize> {
     let mut row = 0usize;
     for (bits, len, more, before, then, nodes) in CHANGES {
@@ -85,14 +88,14 @@ fn wrong_row(alloc: Global) -> Option<usize> {
 }
 
 #[test]
-fn a_closure_changes_a_value_or_lets_it_go(rt: HostRuntime) -> Result<(), Fail> {
+fn a_closure_changes_a_value_or_drops_it(rt: HostRuntime) -> Result<(), Fail> {
     assert_eq!(rt; wrong_row(rt.alloc()), None);
     Ok(())
 }
 
 type Blocks<'h> = Vec<Vec<u8, &'h LocalHeap>, Global>;
 
-// Takes all that is left of the heap, in the smallest blocks.
+// Takes all that is free in the heap, in the smallest blocks.
 fn take_rest<'h>(blocks: &mut Blocks<'h>, heap: &'h LocalHeap) -> Result<bool, Fail> {
     for _ in 0..4096u32 {
         match Vec::with_capacity(heap, 1) {
@@ -112,16 +115,16 @@ fn are_raised(tree: &mut PrefixTree<Number, &LocalHeap>) -> bool {
     all
 }
 
-// Whether each raised value goes, and none at another prefix.
-fn are_let_go(tree: &mut PrefixTree<Number, &LocalHeap>) -> bool {
-    let mut all = let_go(tree, &Prefix::of(0, 48)).is_none();
+// Whether each raised value is dropped, and none at another prefix.
+fn are_dropped(tree: &mut PrefixTree<Number, &LocalHeap>) -> bool {
+    let mut all = drop_value(tree, &Prefix::of(0, 48)).is_none();
     for (bits, len, value) in ENTRIES {
-        all = let_go(tree, &Prefix::of(bits, len)) == Some(Number(value + 10)) && all;
+        all = drop_value(tree, &Prefix::of(bits, len)) == Some(Number(value + 10)) && all;
     }
     all
 }
 
-// Whether all values are changed and then let go in a heap of which nothing is left, and give their nodes back.
+// Whether all values are changed and then dropped in a heap of which nothing is free, and their nodes are freed.
 fn needs_nothing<'h>(blocks: &mut Blocks<'h>, heap: &'h LocalHeap) -> Result<bool, Fail> {
     let free = heap.used();
     let mut tree = PrefixTree::new_in(heap);
@@ -131,8 +134,8 @@ fn needs_nothing<'h>(blocks: &mut Blocks<'h>, heap: &'h LocalHeap) -> Result<boo
     let full = take_rest(blocks, heap)?;
     let used = heap.used();
     let raised = are_raised(&mut tree) && heap.used() == used;
-    let let_go = are_let_go(&mut tree) && used.wrapping_sub(heap.used()) == nodes;
-    Ok(grown && full && raised && let_go)
+    let dropped = are_dropped(&mut tree) && used.wrapping_sub(heap.used()) == nodes;
+    Ok(grown && full && raised && dropped)
 }
 
 fn is_done_in(alloc: Global, heap: &LocalHeap) -> Result<bool, Fail> {

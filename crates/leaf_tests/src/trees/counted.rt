@@ -8,7 +8,7 @@ use std::sync::ledger::{Blank, Ledger};
 
 type Tree = PrefixTree<Number, Global>;
 
-/// Sets the value at a prefix that has one, through `get_mut`; the one that `get` gave before.
+/// Sets the value at a prefix that has one, through `get_mut`, and answers what `get` gave before.
 pub fn write<L: Ledger>(
     tree: &mut Tree,
     prefix: &Prefix,
@@ -27,7 +27,7 @@ pub fn write<L: Ledger>(
     before
 }
 
-/// Takes a value out, counted.
+/// As `remove`, counted by this ledger.
 pub fn removed<L: Ledger>(tree: &mut Tree, prefix: &Prefix, blank: Blank) -> Option<Number>
     requires name { blank.name ≡ L.name }
     requires parts { blank.parts ≡ L.parts }
@@ -37,7 +37,7 @@ pub fn removed<L: Ledger>(tree: &mut Tree, prefix: &Prefix, blank: Blank) -> Opt
     tree.remove(prefix, &mut steps)
 }
 
-/// The longest entry, counted.
+/// As `longest`, counted by this ledger.
 pub fn longest<L: Ledger>(tree: &Tree, identity: u64, blank: Blank) -> Option<(Prefix, Number)>
     requires name { blank.name ≡ L.name }
     requires parts { blank.parts ≡ L.parts }
@@ -50,7 +50,7 @@ pub fn longest<L: Ledger>(tree: &Tree, identity: u64, blank: Blank) -> Option<(P
     }
 }
 
-/// The entry after a prefix, counted.
+/// As `next_counted`, counted by this ledger.
 pub fn next<L: Ledger>(tree: &Tree, after: Option<Prefix>, blank: Blank) -> Option<(Prefix, Number)>
     requires name { blank.name ≡ L.name }
     requires parts { blank.parts ≡ L.parts }

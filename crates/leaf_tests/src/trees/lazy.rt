@@ -1,4 +1,4 @@
-//! A map that is made for its first value and goes with the last.
+//! A map that is made for its first value and freed with the last.
 
 use crate::trees::number::Number;
 use identity::Prefix;
@@ -28,13 +28,13 @@ fn values(map: &Map) -> [u64; 3] {
     [value(map, ONE), value(map, OTHER), value(map, SHORT)]
 }
 
-// The value before, 0 where there was none; nothing where memory is wanting.
+// Sets the value there, and answers the one before, 0 where there was none; nothing where memory runs out.
 fn set<'h>(map: &mut Map<'h>, heap: &'h LocalHeap, place: (u64, u32), number: u64) -> Option<u64> {
     let before = map.insert(&heap, at(place), Number(number)).ok()?;
     Some(before.map_or(0, |number| number.0))
 }
 
-// Adds ten to the value there; the one before, 0 where there is none.
+// Adds ten to the value there, and answers the one before, 0 where there was none.
 fn raise(map: &mut Map, place: (u64, u32)) -> u64 {
     let raised = map.change(&at(place), |before| {
         (before.0, Some(Number(before.0.wrapping_add(10))))
@@ -42,8 +42,8 @@ fn raise(map: &mut Map, place: (u64, u32)) -> u64 {
     raised.unwrap_or(0)
 }
 
-// Lets the value there go; the one before, 0 where there is none.
-fn let_go(map: &mut Map, place: (u64, u32)) -> u64 {
+// Drops the value there, and answers it, 0 where there was none.
+fn drop_value(map: &mut Map, place: (u64, u32)) -> u64 {
     map.change(&at(place), |before| (before.0, None))
         .unwrap_or(0)
 }
@@ -63,8 +63,8 @@ fn is_changed(map: &mut Map) -> bool {
     raise(map, ONE) == 3
         && raise(map, OTHER) == 0
         && values(map) == [13, 0, 2]
-        && let_go(map, SHORT) == 2
-        && let_go(map, SHORT) == 0
+        && drop_value(map, SHORT) == 2
+        && drop_value(map, SHORT) == 0
         && values(map) == [13, 0, 0]
 }
 
@@ -104,13 +104,13 @@ fn filled<'h>(map: &mut Map<'h>, heap: &'h LocalHeap) -> u64 {
     0
 }
 
-// Whether so many values are as they were set, and no more.
+// Whether so many values are as they were set, and there are no more.
 fn are_there(map: &Map, count: u64) -> bool {
     (0..count).all(|number| value(map, (number, 48)) == number.wrapping_add(1))
         && value(map, (count, 48)) == 0
 }
 
-// Whether so many values are changed and let go in a heap that has no room for another one.
+// Whether so many values are changed and dropped in a heap that has no room for another one.
 fn needs_nothing<'h>(map: &mut Map<'h>, heap: &'h LocalHeap, count: u64) -> bool {
     let used = heap.used();
     let mut all = set(map, heap, (0, 48), 1) == Some(1);
@@ -119,7 +119,7 @@ fn needs_nothing<'h>(map: &mut Map<'h>, heap: &'h LocalHeap, count: u64) -> bool
     }
     all = all && heap.used() == used;
     for number in 0..count {
-        all = let_go(map, (number, 48)) == number.wrapping_add(11) && all;
+        all = drop_value(map, (number, 48)) == number.wrapping_add(11) && all;
     }
     all
 }

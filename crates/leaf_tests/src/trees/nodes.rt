@@ -42,7 +42,7 @@ fn are_counted(alloc: Global) -> Result<bool, Fail> {
 }
 
 #[test]
-fn nodes_stand_where_prefixes_part(rt: HostRuntime) -> Result<(), Fail> {
+fn nodes_are_where_prefixes_part(rt: HostRuntime) -> Result<(), Fail> {
     assert!(rt; are_counted(rt.alloc())?);
     Ok(())
 }
@@ -67,7 +67,7 @@ const ORDERED: [(u32, u32); 7] = [
     (2002, 48),
 ];
 
-// Sets the prefixes of a tree, in another order than theirs.
+// Sets the prefixes, in another order than the tree's.
 fn grow(tree: &mut Tree) -> Result<(), Fail> {
     for (ssi, len) in SET {
         set(tree, first_bits(ssi, len)?);
@@ -75,7 +75,7 @@ fn grow(tree: &mut Tree) -> Result<(), Fail> {
     Ok(())
 }
 
-// Whether the entry after this prefix, or the first of all, is the one of these bits.
+// Whether the entry after this prefix, or the first of all, is the wanted one.
 fn is_next(tree: &Tree, after: Option<Prefix>, want: Option<Prefix>) -> bool {
     match (tree.next(after), want) {
         (Some((prefix, _)), Some(want)) => prefix.same(&want),
@@ -93,7 +93,7 @@ fn is_next_counted(tree: &Tree, after: Option<Prefix>, want: Option<Prefix>) -> 
     }
 }
 
-// Whether the tree gives its prefixes one after the other, and then none.
+// Whether the tree gives its prefixes one after another, and then none.
 fn is_in_order(tree: &Tree) -> Result<bool, Fail> {
     let mut after = None;
     for (ssi, len) in ORDERED {
@@ -106,7 +106,7 @@ fn is_in_order(tree: &Tree) -> Result<bool, Fail> {
     Ok(is_next(tree, after, None))
 }
 
-// A prefix that is no entry, and the entry after it.
+// A prefix without an entry, and the entry after it.
 const BETWEEN: [(u32, u32, u32, u32); 5] = [
     (0, 23, 0, 24),
     (0, 25, 0, 48),
@@ -125,7 +125,7 @@ fn has_next(tree: &Tree) -> Result<bool, Fail> {
     Ok(is_next(tree, Some(first_bits(2003, 48)?), None))
 }
 
-// Whether the entries follow one another, and what is no entry.
+// Whether the entries come one after another, and whether one comes after each prefix that has no entry.
 fn follow(alloc: Global) -> Result<[bool; 2], Fail> {
     let mut tree = PrefixTree::new_in(alloc);
     grow(&mut tree)?;

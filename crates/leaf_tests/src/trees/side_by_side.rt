@@ -1,8 +1,9 @@
-use crate::trees::changed::{let_go, raise};
+use crate::list::PrefixList;
+use crate::trees::changed::{drop_value, raise};
 use crate::trees::counted::{longest, removed, write};
 use crate::trees::number::Number;
 use identity::Prefix;
-use prefix_tree::{PrefixList, PrefixTree, TryCopy};
+use prefix_tree::{PrefixTree, TryCopy};
 use std::alloc::Global;
 use std::marker::Brand;
 use std::sync::ledger::Blank;
@@ -12,7 +13,7 @@ type Tree = PrefixTree<Number, Global>;
 
 type List = PrefixList<Number, Global>;
 
-// What each step of the script does.
+// A step of the script.
 enum Step {
     Insert(Prefix, Number),
     Take(Prefix),
@@ -20,11 +21,11 @@ enum Step {
     Replace(Prefix, Number),
     Write(Prefix, Number),
     Raise(Prefix, u64),
-    LetGo(Prefix),
+    DropValue(Prefix),
     Longest(u64),
 }
 
-// The step that is made of a number: few prefixes, of all kinds of length.
+// The step of a number: of few prefixes, of all kinds of length.
 fn made(number: u64) -> Step {
     let lens = [0, 1, 2, 3, 17, 47, 48];
     let ids = [0, 0xffff_ffff_ffff, 0xaaaa_aaaa_aaaa, 0x8000_0000_0000, 1];
@@ -37,12 +38,12 @@ fn made(number: u64) -> Step {
         5 => Step::Replace(prefix, Number(number)),
         6 => Step::Write(prefix, Number(number)),
         7 => Step::Raise(prefix, number),
-        8 => Step::LetGo(prefix),
+        8 => Step::DropValue(prefix),
         _ => Step::Longest(id),
     }
 }
 
-// One step in both; whether the two answer alike.
+// Makes one step in both, and answers whether the two answer alike.
 fn alike(tree: &mut Tree, list: &mut List, step: Step) -> bool {
     match step {
         Step::Insert(prefix, value) => match (
@@ -61,7 +62,7 @@ fn alike(tree: &mut Tree, list: &mut List, step: Step) -> bool {
         }
         Step::Raise(prefix, more) => raise(tree, &prefix, more)
             == raise_in_list(list, &prefix, more),
-        Step::LetGo(prefix) => let_go(tree, &prefix) == list.remove(&prefix),
+        Step::DropValue(prefix) => drop_value(tree, &prefix) == list.remove(&prefix),
         Step::Replace(prefix, value) => tree.replace(&prefix, value)
             == list.replace(&prefix, value),
         Step::Longest(id) => {
@@ -116,7 +117,7 @@ fn same_entries(alloc: Global, tree: &Tree, list: &List) -> Result<bool, Fail> {
     Ok(true)
 }
 
-// Whether the copies of both are the same entries in the same order.
+// Whether the lists of both have the same entries in the same order.
 fn same_copies(alloc: Global, tree: &Tree, list: &List) -> Result<bool, Fail> {
     let (left, right) = (tree.entries(alloc)?, list.entries(alloc)?);
     if left.len() != right.len() {
@@ -130,7 +131,7 @@ fn same_copies(alloc: Global, tree: &Tree, list: &List) -> Result<bool, Fail> {
     Ok(true)
 }
 
-/// The most entries that there were in so many steps, after each of which both have the same ones.
+/// The most entries that there were within so many steps. After each step both must have the same ones.
 fn most_entries(
     alloc: Global,
     tree: &mut Tree,

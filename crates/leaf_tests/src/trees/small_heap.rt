@@ -31,7 +31,7 @@ fn is_copied(tree: &Tree) -> bool {
     tree.try_copy().is_ok()
 }
 
-// Whether the tree takes a number, or hands the pair back.
+// Whether the tree takes a number, or returns the pair.
 fn is_taken(tree: &mut Tree, prefix: Prefix, number: u64) -> Option<bool> {
     match tree.insert(prefix, Number(number)) {
         Ok(_) => Some(true),
@@ -39,7 +39,7 @@ fn is_taken(tree: &mut Tree, prefix: Prefix, number: u64) -> Option<bool> {
     }
 }
 
-// Whether the tree takes a number, or is as it was; nothing where a refusal changes something.
+// Whether the tree takes a number; nothing where a refusal changes something.
 fn tried(
     alloc: Global,
     heap: &LocalHeap,
@@ -78,7 +78,7 @@ fn is_full(alloc: Global, heap: &LocalHeap) -> Result<bool, Fail> {
 }
 
 #[test]
-fn a_full_heap_hands_the_pair_back(rt: HostRuntime) -> Result<(), Fail> {
+fn a_full_heap_returns_the_pair(rt: HostRuntime) -> Result<(), Fail> {
     let heap = LocalHeap::new(rt.alloc(), 4096)?;
     assert!(rt; is_full(rt.alloc(), &heap)?);
     Ok(())
@@ -151,8 +151,8 @@ fn are_removed(tree: &mut Tree) -> bool {
     all
 }
 
-// Whether prefixes are set in the heap, and give all of it back once they are removed.
-fn is_given_back(heap: &LocalHeap) -> bool {
+// Whether prefixes take memory of the heap when they are set, and all of it is freed once they are removed.
+fn is_freed(heap: &LocalHeap) -> bool {
     let used = heap.used();
     let mut tree = PrefixTree::new_in(heap);
     let grown = are_set(&mut tree) && heap.used() > used;
@@ -160,8 +160,8 @@ fn is_given_back(heap: &LocalHeap) -> bool {
 }
 
 #[test]
-fn removal_gives_all_nodes_back(rt: HostRuntime) -> Result<(), Fail> {
+fn removal_frees_all_nodes(rt: HostRuntime) -> Result<(), Fail> {
     let heap = LocalHeap::new(rt.alloc(), 16384)?;
-    assert!(rt; is_given_back(&heap));
+    assert!(rt; is_freed(&heap));
     Ok(())
 }

@@ -1,4 +1,4 @@
--- How the items are kept: in boxes by destination, and beside them an index of their places, in order.
+-- How the items are stored: in boxes by destination, and beside them an index of their places, in order.
 use Rattle.std.specs.Prelude.{◌≡◌, ◌<◌, ◌^◌, Bool, false, not, List, [], ◌∷◌, ◌++◌, map, Option, Some, None}
 use Rattle.std.specs.List.{All, AllPairs, filter, filter_map, find, list_any}
 use Rattle.std.specs.FinMap as finite
@@ -25,7 +25,7 @@ contents (Some ws) = ws
 abbrev pub items_under : Boxes → Path → List Item
 items_under boxes p = contents (finite.get boxes p)
 
--- where no items are, there is no box
+-- the box of these items; without items there is no box
 abbrev pub box_of : List Item → Option (List Item)
 box_of [] = None
 box_of (w ∷ ws) = Some (w ∷ ws)
@@ -35,15 +35,15 @@ abbrev pub with_items : Boxes → Path → List Item → Boxes
 with_items boxes p [] = finite.remove boxes p
 with_items boxes p (w ∷ ws) = finite.insert boxes p (w ∷ ws)
 
--- the items under the path that pass the test go
+-- the boxes without the items under the path that pass the test
 abbrev pub swept : Boxes → Path → (Item → Bool) → Boxes
 swept boxes p test = with_items boxes p (filter (λ w. not (test w)) (items_under boxes p))
 
--- the item is the last of these, in place of any at its key
+-- these items with this one as the last, in place of any at its key
 abbrev pub put_last : List Item → Item → List Item
 put_last ws w = filter (λ o. not (is_at w.key o)) ws ++ w ∷ []
 
--- the item is the last in its destination's box, in place of any at its key
+-- the boxes with this item as the last in its destination's box, in place of any at its key
 abbrev pub put : Boxes → Item → Boxes
 put boxes w = let p = id_path w.key.destination in with_items boxes p (put_last (items_under boxes p) w)
 
@@ -51,7 +51,7 @@ put boxes w = let p = id_path w.key.destination in with_items boxes p (put_last 
 abbrev pub item_at : Boxes → Key → Option Item
 item_at boxes k = find (is_at k) (items_under boxes (id_path k.destination))
 
--- whether an item stands at the key
+-- whether an item is at the key
 abbrev pub is_filed : Boxes → Key → Bool
 is_filed boxes k = list_any (is_at k) (items_under boxes (id_path k.destination))
 
@@ -63,12 +63,12 @@ name_of p = (p.number, p.key)
 abbrev pub in_order : Boxes → List Place → List Item
 in_order boxes order = filter_map (λ place. item_at boxes place.key) order
 
--- its destination has this path
+-- the item's destination has this path
 abbrev pub is_under : Path → Item → Bool
 is_under p w = eq_by_cmp path_cmp p (id_path w.key.destination)
 
--- These items are what is kept: each destination's box has its items, the index has the place of each item, they are in
--- order of number, then key, no two have one key, and each destination is the number of an identity.
+-- The boxes and the index store these items: each destination's box has its items, and the index has the place of each item. The
+-- items are in order of number, then of key. No two have the same key, and each destination is the number of an identity.
 pub record AreFiled (ws : List Item) (boxes : Boxes) (order : List Place) : Type 0 where
   pub boxed : (p : Path) → finite.get boxes p ≡ box_of (filter (is_under p) ws)
   pub indexed : order ≡ map place_of ws

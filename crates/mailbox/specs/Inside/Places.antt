@@ -11,7 +11,7 @@ use Rattle.mailbox.specs.contracts.place.Place as place
 use Rattle.mailbox.specs.Order.{named_cmp}
 use Rattle.mailbox.specs.Inside.Boxes.{name_of}
 
--- how they are stored, for proofs
+-- the coding of places, for proofs
 abbrev pub coded_places : Coded (List Place)
 coded_places = coded_list (place.the_row).coded
 
@@ -19,7 +19,7 @@ coded_places = coded_list (place.the_row).coded
 abbrev pub place_cmp : Place → Place → Ordering
 place_cmp p q = named_cmp (name_of p) (name_of q)
 
--- they have one number and one key
+-- they have the same number and key
 abbrev pub same_place : Place → Place → Bool
 same_place p q = is_eq (place_cmp p q)
 
@@ -38,12 +38,12 @@ soonest (p ∷ places) = min p.deadline (soonest places)
 
 -- ---- nodes
 
--- what contracts see of a node: the places at and below it, and its height, the number of nodes on the longest way down from it
+-- a node in contracts: the places at and below it, and its height, the number of nodes on the longest way down from it
 pub record Branch : Type 0 where
   pub places : List Place
   pub height : ℕ
 
--- how it is stored, for proofs
+-- its coding, for proofs
 abbrev pub coded_branch : Coded Branch
 coded_branch = code_by (List Place × ℕ) (coded× coded_places coded_ℕ) (λ b. (b.places, b.height)) (λ p. record { places = p.0; height = p.1 }) (λ _. refl)
 
@@ -65,22 +65,22 @@ all_of p earlier later = places_of earlier ++ p ∷ places_of later
 abbrev pub branch : {A : Type 0} → Place → Option (Box Branch A) → Option (Box Branch A) → Branch
 branch p earlier later = record { places = all_of p earlier later; height = max (height_of earlier) (height_of later) + 1 }
 
--- a tree of so many places is no higher than twice the logarithm of their number and one, to base 2
+-- this height is at most twice the base-2 logarithm of one more than this count
 abbrev pub IsLow : ℕ → ℕ → Type 0
 IsLow height count = 2 ^ (height / 2) ≤ count + 1
 
--- no tree of these places is as high
+-- no tree of these places is so high
 abbrev pub IsAbove : ℕ → List Place → Type 0
 IsAbove height places = length places + 1 < 2 ^ (height / 2)
 
--- how high a node is whose sides are so high, once it is balanced: of sides that differ by two levels it may be one lower
+-- the height of a balanced node with sides of these heights; where they differ by two levels, it may be one lower
 pub record IsBalanced (earlier later height : ℕ) : Type 0 where
   pub low : max earlier later ≤ height
   pub high : height ≤ max earlier later + 1
   pub even : earlier ≤ later + 1 → later ≤ earlier + 1 → height ≡ max earlier later + 1
 
--- What holds of a node: its height and the moment of its first end are those of its places, neither side is more than a level
--- higher than the other, it is low, and its places can be counted by 64 bits.
+-- What holds of a node: its height and its earliest deadline are those of its places, neither side is more than one level higher than
+-- the other, it is low, and 64 bits can count its places.
 pub record IsNode {A : Type 0} (height : ℕ) (least : Moment) (p : Place) (earlier later : Option (Box Branch A)) : Type 0 where
   pub tall : height ≡ max (height_of earlier) (height_of later) + 1
   pub soon : least ≡ soonest (all_of p earlier later)
@@ -102,4 +102,4 @@ IsLastOf old new (Some p) = old ≡ new ++ p ∷ []
 -- the last of these, if there are any
 abbrev pub EndsWith : List Place → Option Place → Type 0
 EndsWith places None = places ≡ []
-EndsWith places (Some p) = (front : List Place) × (places ≡ front ++ p ∷ [])
+EndsWith places (Some p) = (prefix : List Place) × (places ≡ prefix ++ p ∷ [])

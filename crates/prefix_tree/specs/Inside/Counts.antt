@@ -17,7 +17,8 @@ module _ {V : Type 0} where
   len_new m n p x absent is = ap map.len is ∙ len-insert paths_total m p x ∙ ap (λ o. cond (is_some o) (map.len m) (map.len m + 1)) (sym absent)
 
   -- a replacement, if there is something to replace
-  pub len_replaced : (m n : PathMap V) (p : Path) (x : V) (before : Option V) → before ≡ map.get m p → OnSome before (n ≡ map.insert m p x) → IfNone before (n ≡ m) → map.len n ≡ map.len m
+  pub len_replaced : (m n : PathMap V) (p : Path) (x : V) (before : Option V) →
+      before ≡ map.get m p → OnSome before (n ≡ map.insert m p x) → IfNone before (n ≡ m) → map.len n ≡ map.len m
   len_replaced m n p x None before there absent = ap map.len absent
   len_replaced m n p x (Some v) before there absent = len_over m n p v x before there
 
@@ -25,7 +26,8 @@ module _ {V : Type 0} where
   pub len_gone : (m n : PathMap V) (p : Path) (v : V) → Some v ≡ map.get m p → n ≡ map.remove m p → map.len m ≡ map.len n + 1
   len_gone m n p v there is =
       let less : map.len n ≡ map.len m - 1 = ap map.len is ∙ len-remove paths_total m p ∙ ap (λ o. cond (is_some o) (map.len m - 1) (map.len m)) (sym there) in
-      one_more (map.len m) (map.len n) less (λ none. false≢true (ap is_some (sym (get-empty path_cmp p) ∙ ap (λ k. map.get k p) (sym (empty_of_len m none)) ∙ sym there)))
+      one_more (map.len m) (map.len n) less
+      (λ none. false≢true (ap is_some (sym (get-empty path_cmp p) ∙ ap (λ k. map.get k p) (sym (empty_of_len m none)) ∙ sym there)))
     where
       one_more : (k l : ℕ) → l ≡ k - 1 → (k ≡ 0 → ⊥) → k ≡ l + 1
       one_more zero l less never = absurd (never refl)

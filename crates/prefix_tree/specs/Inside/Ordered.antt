@@ -11,7 +11,7 @@ abbrev pub held : {V : Type 0} → Option (Held V) → Option V
 held None = None
 held (Some h) = h.value
 
--- the map with these under their prefixes, the first of them where one stands twice
+-- the map with these under their prefixes; where a prefix occurs twice, the first one counts
 abbrev pub map_held : {V : Type 0} → List (Path × Held V) → PathMap V
 map_held [] = map.empty
 map_held (e ∷ es) = with_value (map_held es) e.0 e.1.value

@@ -1,4 +1,4 @@
--- A disk that was read whole, as the register and the journal that it opens to.
+-- The register and the journal that a disk opens to.
 use Rattle.std.specs.Prelude.{◌≡◌, ◌<◌}
 use Rattle.checkpoint.specs.Layout.{half_at, half_end}
 use Rattle.recovery.specs.declared.opening.Opened.{Opened}
@@ -8,7 +8,7 @@ use Rattle.recovery.specs.Opens.{Opening, opening}
 abbrev pub opened_view : {A : Type 0} → Opened A → Opening
 opened_view opened = opening opened.layout opened.side opened.epoch opened.journal.next opened.register
 
--- the register has the layout's limits, and the journal is that of the side, and counts the register's commands
+-- the register has the layout's limits, and the journal is that of the side and counts the register's commands
 pub record IsWhole {A : Type 0} (opened : Opened A) : Type 0 where
   pub limits : opened.register.registered.limits ≡ opened.layout.limits
   pub first : opened.journal.first ≡ half_at opened.layout opened.side

@@ -1,4 +1,4 @@
--- The two sides of a disk that is made ready.
+-- The two sides of a formatted disk.
 use Rattle.std.specs.Prelude.{◌≡◌, false}
 use Rattle.sector_disk.specs.Numbers.{Sector}
 use Rattle.sector_disk.specs.Disk.{View, sector}
@@ -8,7 +8,7 @@ use Rattle.checkpoint.specs.declared.side.Side.TheVariants as side
 use Rattle.checkpoint.specs.Layout.{half_at, root_at, slot_at}
 use Rattle.recovery.specs.Calls.{first_header}
 
--- nothing is pending; side A has an open root over the image of an empty register, side B a closed one, and neither half a record
+-- Nothing is pending. Side A has an open root and the image of an empty register, side B a closed root. Neither half has a record.
 pub record AreReady (layout : Layout) (disk : View) : Type 0 where
   pub durable : (k : Sector) → disk.pending k ≡ false
   pub header : sector disk.reads (slot_at layout side.A) ≡ first_header

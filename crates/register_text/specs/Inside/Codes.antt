@@ -1,4 +1,4 @@
--- How what was read of a text is stored, for proofs.
+-- A code of what is loaded of a text, for proofs.
 use Rattle.std.specs.Prelude.{Bool, refl}
 use Rattle.std.specs.Coded.{Coded, code_by, coded×, coded_bool}
 use Rattle.image_rows.specs.Loading.{Loading}

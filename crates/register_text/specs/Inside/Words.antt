@@ -1,4 +1,4 @@
--- The words of a line, as they are printed.
+-- The words of a line, printed.
 use Rattle.std.specs.Prelude.{List, ◌∷◌, decimal}
 use Rattle.identity.specs.Numbers.{Byte}
 use Rattle.identity.specs.IdentityText.{identity_text, prefix_text}

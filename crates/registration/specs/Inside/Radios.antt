@@ -1,4 +1,4 @@
--- How the known radios are kept: in a list by their identities' numbers.
+-- How the known radios are stored: in a list by their identities' numbers.
 use Rattle.std.specs.Prelude.{ℕ, ◌+◌, ◌<◌, ◌^◌, List, Option, Some, None}
 use Rattle.std.specs.List.{All}
 use Rattle.std.specs.List.Sorted.{IsStrictlySortedBy}
@@ -14,11 +14,11 @@ use Rattle.registration.specs.Listed.{under_bits}
 abbrev pub radios_of : List (Itsi × Radio) → PathMap Radio
 radios_of radios = map.from_entries (under_bits radios)
 
--- the numbers rise, so that none stands twice, and each is an identity's
+-- the numbers rise, so that none occurs twice, and each is an identity's
 abbrev pub AreInOrder : List (Itsi × Radio) → Type 0
 AreInOrder radios = IsStrictlySortedBy nat_cmp (keys_of radios) × All (λ number. number < 2 ^ 48) (keys_of radios)
 
--- the least number behind an identity, or the least of all
+-- the least number after an identity, or the least of all
 abbrev pub past : Option Itsi → ℕ
 past None = 0
 past (Some itsi) = itsi + 1

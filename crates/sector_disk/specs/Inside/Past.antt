@@ -10,7 +10,8 @@ use Rattle.sector_disk.specs.Crash.{is_pending}
 use Rattle.sector_disk.specs.declared.record.Call.{Call}
 use Rattle.sector_disk.specs.declared.memory.MemoryDisk.{MemoryDisk}
 
-counted : (was : Contents) (calls : List Call) (t : Tick) (image : List (List Byte)) → t ≤ length calls → IsLeftOf (after_calls calls was) image → left_since was calls t image
+counted : (was : Contents) (calls : List Call) (t : Tick) (image : List (List Byte)) → t ≤ length calls → IsLeftOf (after_calls calls was) image
+    → left_since was calls t image
 counted was calls t image le now =
     (length calls, le, omega arith, subst (λ (some : List Call). IsLeftOf (after_calls some was) image) (sym (take_all (length calls) calls (omega arith))) now)
 
@@ -23,25 +24,36 @@ after_calls-append was [] call = refl
 after_calls-append was (first ∷ calls) call = after_calls-append (called first was) calls call
 
 -- one call more
-left_on : (was : Contents) (calls : List Call) (call : Call) (t : Tick) (image : List (List Byte)) → left_since was calls t image → left_since was (calls ++ call ∷ []) t image
-left_on was calls call t image (k, low, high, left) =
-    (k, low, omega (arith, length-append calls (call ∷ [])), subst (λ (some : List Call). IsLeftOf (after_calls some was) image) (sym (take-append-le k calls (call ∷ []) high)) left)
+left_on : (was : Contents) (calls : List Call) (call : Call) (t : Tick) (image : List (List Byte)) → left_since was calls t image
+    → left_since was (calls ++ call ∷ []) t image
+left_on was calls call t image (k, low, high, left) = (
+  k,
+  low,
+  omega (arith, length-append calls (call ∷ [])),
+  subst (λ (some : List Call). IsLeftOf (after_calls some was) image) (sym (take-append-le k calls (call ∷ []) high)) left,
+)
 
-old_or_last : (was : Contents) (calls : List Call) (call : Call) (t : Tick) (image : List (List Byte)) → left_since was (calls ++ call ∷ []) t image → left_since was calls t image ⊎ IsLeftOf (after_calls (calls ++ call ∷ []) was) image
+old_or_last : (was : Contents) (calls : List Call) (call : Call) (t : Tick) (image : List (List Byte)) → left_since was (calls ++ call ∷ []) t image
+    → left_since was calls t image ⊎ IsLeftOf (after_calls (calls ++ call ∷ []) was) image
 old_or_last was calls call t image (k, low, high, left) = elim (cases_lt (length calls) k) [
   | inr within ↦ inl (k, low, within, subst (λ (some : List Call). IsLeftOf (after_calls some was) image) (take-append-le k calls (call ∷ []) within) left)
-  | inl past ↦ inr (subst (λ (some : List Call). IsLeftOf (after_calls some was) image) (take_all k (calls ++ call ∷ []) (omega (arith, past, length-append calls (call ∷ [])))) left)
+  | inl past ↦
+      let whole = take_all k (calls ++ call ∷ []) (omega (arith, past, length-append calls (call ∷ []))) in
+      inr (subst (λ (some : List Call). IsLeftOf (after_calls some was) image) whole left)
 ]
 
 -- since an earlier moment there are no fewer
-left_earlier : (was : Contents) (calls : List Call) (s t : Tick) (image : List (List Byte)) → s ≤ t → left_since was calls t image → left_since was calls s image
+left_earlier : (was : Contents) (calls : List Call) (s t : Tick) (image : List (List Byte)) → s ≤ t → left_since was calls t image
+    → left_since was calls s image
 left_earlier was calls s t image le (k, low, high, left) = (k, omega (arith, le, low), high, left)
 
--- what stands in the disk now
-pub of_contents : {A : Type 0} (disk : MemoryDisk A) (image : List (List Byte)) → IsReplayed disk → IsLeftOf (after_calls disk.record.calls.items (began disk)) image → IsImage disk.sectors.items (is_pending disk.pending.items) image
+-- what is in the disk now
+pub of_contents : {A : Type 0} (disk : MemoryDisk A) (image : List (List Byte)) → IsReplayed disk
+    → IsLeftOf (after_calls disk.record.calls.items (began disk)) image → IsImage disk.sectors.items (is_pending disk.pending.items) image
 of_contents disk image is left = rw (is.reads, is.pending) left
 
-to_contents : {A : Type 0} (disk : MemoryDisk A) (image : List (List Byte)) → IsReplayed disk → IsImage disk.sectors.items (is_pending disk.pending.items) image → IsLeftOf (after_calls disk.record.calls.items (began disk)) image
+to_contents : {A : Type 0} (disk : MemoryDisk A) (image : List (List Byte)) → IsReplayed disk
+    → IsImage disk.sectors.items (is_pending disk.pending.items) image → IsLeftOf (after_calls disk.record.calls.items (began disk)) image
 to_contents disk image is now = rw (is.reads, is.pending) at now
 
 -- a disk in memory that is replayed is sound
@@ -54,8 +66,9 @@ memory_sound disk is = record {
   earlier = left_earlier (began disk) disk.record.calls.items;
 }
 
--- time goes on by a call
-pub time_on : {A : Type 0} (old new : MemoryDisk A) (call : Call) → new.base.items ≡ old.base.items → new.record.calls.items ≡ old.record.calls.items ++ call ∷ [] → IsReplayed new → Elapses (memory_view old) (memory_view new)
+-- time passes by a call
+pub time_on : {A : Type 0} (old new : MemoryDisk A) (call : Call) → new.base.items ≡ old.base.items
+    → new.record.calls.items ≡ old.record.calls.items ++ call ∷ [] → IsReplayed new → Elapses (memory_view old) (memory_view new)
 time_on old new call base calls is = record {
   later = omega (arith, ap length calls, length-append old.record.calls.items (call ∷ []));
   each_stays = λ t image le left. rw (calls, base) (left_on (began old) old.record.calls.items call t image left);

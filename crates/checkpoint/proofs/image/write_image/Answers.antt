@@ -8,12 +8,12 @@ use Rattle.checkpoint.proofs.Called.{calls_at_last, calls_in_close, calls_in_las
 use Rattle.checkpoint.proofs.Imaged.{in_last, in_rows, is_ready, rows_have_room}
 use Rattle.sector_disk.proofs.Made.{made_none}
 use Rattle.sector_disk.proofs.Moments.{started}
-use Rattle.checkpoint.specs.Standing.{Stands}
+use Rattle.checkpoint.specs.OnSide.{IsOnSide}
 use Rattle.checkpoint.proofs.image.write_image.Goals as goal
 
 pub returns-then-epoch-ge-LAST_EPOCH-clause-any_moment : goal.returns-then-epoch-ge-LAST_EPOCH-clause-any_moment
 returns-then-epoch-ge-LAST_EPOCH-clause-any_moment g c form base held honest each =
-    started (g.D.Disk.view c.args.disk.now) (Stands c.args.layout.now c.args.current form base held) (g.met.D.Disk.sound c.args.disk.now honest) each
+    started (g.D.Disk.view c.args.disk.now) (IsOnSide c.args.layout.now c.args.current form base held) (g.met.D.Disk.sound c.args.disk.now honest) each
 
 pub write_rows-requires-clause-room : goal.write_rows-requires-clause-room
 write_rows-requires-clause-room g c =

@@ -20,24 +20,24 @@ loop-left-init g c = record {
 
 pub returns-in_default-clause-written : goal.returns-in_default-clause-written
 returns-in_default-clause-written g c =
-    let done : c.loop-left.progress.written ≡ length (rows_of c.args.epoch c.args.register.now) = progress_done c.args.epoch c.args.register.now c.loop-left.progress c.loop-left.invariant.progress (sym c.in_default.is ∙ c.row_after-told.ensures) in
+    let done : c.loop-left.progress.written ≡ length (rows_of c.args.epoch c.args.register.now) = progress_done c.args.epoch c.args.register.now c.loop-left.progress c.loop-left.invariant.progress (sym c.in_default.is ∙ c.row_after-coming.ensures) in
     omega (arith, done, c.loop-left.invariant.count, c.loop-left.invariant.most)
 
 pub returns-in_default-clause-effect : goal.returns-in_default-clause-effect
 returns-in_default-clause-effect g c honest =
-    let done : c.loop-left.progress.written ≡ length (rows_of c.args.epoch c.args.register.now) = progress_done c.args.epoch c.args.register.now c.loop-left.progress c.loop-left.invariant.progress (sym c.in_default.is ∙ c.row_after-told.ensures) in
+    let done : c.loop-left.progress.written ≡ length (rows_of c.args.epoch c.args.register.now) = progress_done c.args.epoch c.args.register.now c.loop-left.progress c.loop-left.invariant.progress (sym c.in_default.is ∙ c.row_after-coming.ensures) in
     let all : c.loop-left.progress.written - c.args.progress.now.written ≡ next_rows c.args.epoch c.args.register.now c.args.progress.now.written = omega (arith, done, c.loop-left.invariant.count, c.loop-left.invariant.most) in
     all_filled c.args.epoch c.args.register.now c.args.at c.args.progress.now.written c.loop-left.progress.written all (g.D.Disk.view c.args.disk.now) (g.D.Disk.view c.loop-left.disk) (c.loop-left.invariant.filled honest)
 
 pub returns-in_default-clause-calls : goal.returns-in_default-clause-calls
 returns-in_default-clause-calls g c =
-    let done : c.loop-left.progress.written ≡ length (rows_of c.args.epoch c.args.register.now) = progress_done c.args.epoch c.args.register.now c.loop-left.progress c.loop-left.invariant.progress (sym c.in_default.is ∙ c.row_after-told.ensures) in
+    let done : c.loop-left.progress.written ≡ length (rows_of c.args.epoch c.args.register.now) = progress_done c.args.epoch c.args.register.now c.loop-left.progress c.loop-left.invariant.progress (sym c.in_default.is ∙ c.row_after-coming.ensures) in
     let all : c.loop-left.progress.written - c.args.progress.now.written ≡ next_rows c.args.epoch c.args.register.now c.args.progress.now.written = omega (arith, done, c.loop-left.invariant.count, c.loop-left.invariant.most) in
     all_called c.args.epoch c.args.register.now c.args.at c.args.progress.now.written c.loop-left.progress.written all (g.D.Disk.view c.args.disk.now).calls (g.D.Disk.view c.loop-left.disk).calls c.loop-left.invariant.calls
 
 pub returns-in_default-clause-some_calls : goal.returns-in_default-clause-some_calls
 returns-in_default-clause-some_calls g c =
-    let done : c.loop-left.progress.written ≡ length (rows_of c.args.epoch c.args.register.now) = progress_done c.args.epoch c.args.register.now c.loop-left.progress c.loop-left.invariant.progress (sym c.in_default.is ∙ c.row_after-told.ensures) in
+    let done : c.loop-left.progress.written ≡ length (rows_of c.args.epoch c.args.register.now) = progress_done c.args.epoch c.args.register.now c.loop-left.progress c.loop-left.invariant.progress (sym c.in_default.is ∙ c.row_after-coming.ensures) in
     let all : c.loop-left.progress.written - c.args.progress.now.written ≡ next_rows c.args.epoch c.args.register.now c.args.progress.now.written = omega (arith, done, c.loop-left.invariant.count, c.loop-left.invariant.most) in
     all_have c.args.epoch c.args.register.now c.args.at c.args.progress.now.written c.loop-left.progress.written all (g.D.Disk.view c.args.disk.now) (g.D.Disk.view c.loop-left.disk) c.loop-left.invariant.calls
 
@@ -45,7 +45,7 @@ pub returns-in_err-write-clause-effect : goal.returns-in_err-write-clause-effect
 returns-in_err-write-clause-effect g c honest =
     let mid : View = g.D.Disk.view c.loop-left.disk in
     let was = c.loop-left.invariant.filled honest in
-    let on = progress_on c.args.epoch c.args.register.now c.loop-left.progress c.loop-left.invariant.progress c.in-Some.next.0 c.in-Some.next.1 (sym c.in-Some.is ∙ c.row_after-told.ensures) in
+    let on = progress_on c.args.epoch c.args.register.now c.loop-left.progress c.loop-left.invariant.progress c.in-Some.next.0 c.in-Some.next.1 (sym c.in-Some.is ∙ c.row_after-coming.ensures) in
     let few = on.0 in
     let up : c.args.progress.now.written ≤ c.loop-left.progress.written = omega (arith, c.loop-left.invariant.count, c.loop-left.invariant.most) in
     let left : c.loop-left.progress.written < c.args.progress.now.written + 8 = omega (arith, c.loop-left.invariant.count, c.loop-left-test.true) in
@@ -54,7 +54,7 @@ returns-in_err-write-clause-effect g c honest =
 
 pub returns-in_err-write-clause-some_calls : goal.returns-in_err-write-clause-some_calls
 returns-in_err-write-clause-some_calls g c =
-    let on = progress_on c.args.epoch c.args.register.now c.loop-left.progress c.loop-left.invariant.progress c.in-Some.next.0 c.in-Some.next.1 (sym c.in-Some.is ∙ c.row_after-told.ensures) in
+    let on = progress_on c.args.epoch c.args.register.now c.loop-left.progress c.loop-left.invariant.progress c.in-Some.next.0 c.in-Some.next.1 (sym c.in-Some.is ∙ c.row_after-coming.ensures) in
     let few = on.0 in
     let up : c.args.progress.now.written ≤ c.loop-left.progress.written = omega (arith, c.loop-left.invariant.count, c.loop-left.invariant.most) in
     let left : c.loop-left.progress.written < c.args.progress.now.written + 8 = omega (arith, c.loop-left.invariant.count, c.loop-left-test.true) in
@@ -63,7 +63,7 @@ returns-in_err-write-clause-some_calls g c =
 pub loop-left-preserved : goal.loop-left-preserved
 loop-left-preserved g c =
     let mid : View = g.D.Disk.view c.loop-left.disk in
-    let on = progress_on c.args.epoch c.args.register.now c.loop-left.progress c.loop-left.invariant.progress c.in-Some.next.0 c.in-Some.next.1 (sym c.in-Some.is ∙ c.row_after-told.ensures) in
+    let on = progress_on c.args.epoch c.args.register.now c.loop-left.progress c.loop-left.invariant.progress c.in-Some.next.0 c.in-Some.next.1 (sym c.in-Some.is ∙ c.row_after-coming.ensures) in
     let few = on.0 in
     let up : c.args.progress.now.written ≤ c.loop-left.progress.written = omega (arith, c.loop-left.invariant.count, c.loop-left.invariant.most) in
     record {

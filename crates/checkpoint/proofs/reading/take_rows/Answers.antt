@@ -1,10 +1,10 @@
 use Rattle.std.proofs.Common.{◌≡◌, ℕ, ◌+◌, ◌<◌, ◌≤◌, None, refl, sym, ap, ◌∙◌, arith}
 use Rattle.std.proofs.lemmas.Result.{err_from_is_err_and}
 use Rattle.sector_disk.specs.Disk.{View, IsSector, sector}
-use Rattle.sector_disk.proofs.Looked.{looked_on, not_looked}
+use Rattle.sector_disk.proofs.OnlyRead.{only_read_on, no_read}
 use Rattle.image_rows.specs.Loading.{Loading, finished}
-use Rattle.checkpoint.proofs.Looks.{calls_at, look_made, made_at, no_look_yet, one_look_more, some_looks}
-use Rattle.checkpoint.proofs.Readback.{all_came, bad_behind, damaged_is, none_whole, one_taken, rest_bad, rest_begun, rest_ended, rest_next, rest_whole, slot_before, slot_fits, slot_is, slot_within, some_whole, taken_begun}
+use Rattle.checkpoint.proofs.ReadCalls.{calls_at, read_made, made_at, no_read_yet, one_read_more, some_reads}
+use Rattle.checkpoint.proofs.Readback.{all_came, bad_after, damaged_is, none_whole, one_taken, rest_bad, rest_begun, rest_ended, rest_next, rest_whole, slot_before, slot_fits, slot_is, slot_within, some_whole, taken_begun}
 use Rattle.checkpoint.proofs.reading.take_rows.Goals as goal
 
 pub loop-first-init : goal.loop-first-init
@@ -15,10 +15,10 @@ loop-first-init g c =
       few = omega arith;
       sectors = refl;
       later = omega arith;
-      looked = λ honest. not_looked _ honest;
+      only_read = λ honest. no_read _ honest;
       only_reads = refl;
       limits = ap (λ (l : Loading). l.state.registered.limits) c.requires.begun;
-      calls = no_look_yet _ _;
+      calls = no_read_yet _ _;
       rest = λ honest. rest_begun old.reads c.slot-first.result c.slot_len-sectors.result layout.limits c.args.loader.now c.requires.begun;
       taken = λ honest. taken_begun layout.limits c.args.loader.now c.requires.begun;
     }
@@ -68,20 +68,20 @@ loop-first-preserved g c =
       few = omega (arith, lt);
       sectors = c.in_ok-take_row.ensures.sectors ∙ so_far.sectors;
       later = omega (arith, c.in_ok-take_row.ensures.later, so_far.later);
-      looked = λ honest.
-          let looked = so_far.looked honest in
-          looked_on _ mid _ looked (c.in_ok-take_row.ensures.looked looked.honest);
+      only_read = λ honest.
+          let only_read = so_far.only_read honest in
+          only_read_on _ mid _ only_read (c.in_ok-take_row.ensures.only_read only_read.honest);
       only_reads = c.in_ok-take_row.ensures.only_reads ∙ so_far.only_reads;
       limits = c.in_ok-take_row.ensures.limits ∙ so_far.limits;
-      calls = one_look_more old.calls mid.calls _ first k so_far.calls c.in_ok-take_row.ensures.calls;
+      calls = one_read_more old.calls mid.calls _ first k so_far.calls c.in_ok-take_row.ensures.calls;
       rest = λ honest.
-          let looked = so_far.looked honest in
-          let taken = rw looked.reads at (c.in_ok-take_row.ensures.taken looked.honest) in
+          let only_read = so_far.only_read honest in
+          let taken = rw only_read.reads at (c.in_ok-take_row.ensures.taken only_read.honest) in
           sym (rest_next old.reads first size k l more lt c.take_row.new.loader taken) ∙ so_far.rest honest;
       taken = λ honest.
-          let looked = so_far.looked honest in
+          let only_read = so_far.only_read honest in
           let sound = g.met.D.Disk.sound c.args.disk.now honest in
-          let taken = rw looked.reads at (c.in_ok-take_row.ensures.taken looked.honest) in
+          let taken = rw only_read.reads at (c.in_ok-take_row.ensures.taken only_read.honest) in
           let bytes : IsSector (sector old.reads (first + k)) = sound.reads_left.whole (first + k) (omega (arith, inside, sound.count)) in
           one_taken layout.limits k l c.take_row.new.loader (sector old.reads (first + k)) bytes taken (so_far.taken honest);
     }
@@ -109,7 +109,7 @@ returns-then-read-sectors-clause-some_calls g c =
     let size = c.slot_len-sectors.result in
     let k = c.loop-first.read in
     let so_far = c.loop-first.invariant in
-    made_at old mid first _ size _ c.slot-first.ensures c.slot_len-sectors.ensures.value (some_looks old mid first k size so_far.few so_far.calls)
+    made_at old mid first _ size _ c.slot-first.ensures c.slot_len-sectors.ensures.value (some_reads old mid first k size so_far.few so_far.calls)
 
 pub returns-in_err-take_row-clause-damaged : goal.returns-in_err-take_row-clause-damaged
 returns-in_err-take_row-clause-damaged g c at e honest =
@@ -126,10 +126,10 @@ returns-in_err-take_row-clause-damaged g c at e honest =
     let slot = slot_is layout side first size c.slot-first.ensures c.slot_len-sectors.ensures.value old.reads in
     let p = err_from_is_err_and c.from_residual.result c.from_residual.ensures.1 in
     let failed = rw (p.1, p.2) at e in
-    let told = c.in_err-take_row.ensures.damaged at failed in
-    let looked = so_far.looked honest in
-    let bad = rw looked.reads at (told.1 looked.honest) in
-    (k, sym (so_far.rest honest ∙ slot) ∙ rest_bad old.reads first size k l more lt bad, told.0 ∙ ap (λ (at : ℕ). at + k) c.slot-first.ensures)
+    let stated = c.in_err-take_row.ensures.damaged at failed in
+    let only_read = so_far.only_read honest in
+    let bad = rw only_read.reads at (stated.1 only_read.honest) in
+    (k, sym (so_far.rest honest ∙ slot) ∙ rest_bad old.reads first size k l more lt bad, stated.0 ∙ ap (λ (at : ℕ). at + k) c.slot-first.ensures)
 
 pub returns-in_err-take_row-clause-memory : goal.returns-in_err-take_row-clause-memory
 returns-in_err-take_row-clause-memory g c e honest =
@@ -147,13 +147,13 @@ returns-in_err-take_row-clause-memory g c e honest =
     let slot = slot_is layout side first size c.slot-first.ensures c.slot_len-sectors.ensures.value old.reads in
     let p = err_from_is_err_and c.from_residual.result c.from_residual.ensures.1 in
     let failed = rw (p.1, p.2) at e in
-    let told = c.in_err-take_row.ensures.memory failed in
-    let looked = so_far.looked honest in
-    let good = rw looked.reads at (told.1 looked.honest) in
+    let stated = c.in_err-take_row.ensures.memory failed in
+    let only_read = so_far.only_read honest in
+    let good = rw only_read.reads at (stated.1 only_read.honest) in
     record {
       read = k + 1;
-      calls = calls_at old.calls _ first _ (k + 1) _ c.slot-first.ensures refl (one_look_more old.calls mid.calls _ first k so_far.calls told.0);
-      good = λ place is. bad_behind old.reads first size k l more lt good place (so_far.rest honest ∙ slot ∙ is);
+      calls = calls_at old.calls _ first _ (k + 1) _ c.slot-first.ensures refl (one_read_more old.calls mid.calls _ first k so_far.calls stated.0);
+      good = λ place is. bad_after old.reads first size k l more lt good place (so_far.rest honest ∙ slot ∙ is);
     }
 
 pub returns-in_err-take_row-clause-some_calls : goal.returns-in_err-take_row-clause-some_calls
@@ -165,14 +165,14 @@ returns-in_err-take_row-clause-some_calls g c =
     let k = c.loop-first.read in
     let so_far = c.loop-first.invariant in
     let lt : k < size = omega (arith, so_far.few, c.if-read-sectors.false) in
-    made_at old _ first _ size _ c.slot-first.ensures c.slot_len-sectors.ensures.value (look_made old mid _ first k size lt so_far.calls c.take_row.ensures.some_calls)
+    made_at old _ first _ size _ c.slot-first.ensures c.slot_len-sectors.ensures.value (read_made old mid _ first k size lt so_far.calls c.take_row.ensures.some_calls)
 
-pub returns-in_err-take_row-clause-looked : goal.returns-in_err-take_row-clause-looked
-returns-in_err-take_row-clause-looked g c honest =
+pub returns-in_err-take_row-clause-only_read : goal.returns-in_err-take_row-clause-only_read
+returns-in_err-take_row-clause-only_read g c honest =
     let mid : View = g.D.Disk.view c.loop-first.disk in
     let so_far = c.loop-first.invariant in
-    let looked = so_far.looked honest in
-    looked_on _ mid _ looked (c.take_row.ensures.looked looked.honest)
+    let only_read = so_far.only_read honest in
+    only_read_on _ mid _ only_read (c.take_row.ensures.only_read only_read.honest)
 
 pub returns-clause-exact : goal.returns-clause-exact
 returns-clause-exact g c honest =
@@ -210,7 +210,7 @@ returns-clause-some_calls g c =
     let size = c.slot_len-sectors.result in
     let k = c.loop-first.read in
     let so_far = c.loop-first.invariant in
-    made_at old mid first _ size _ c.slot-first.ensures c.slot_len-sectors.ensures.value (some_looks old mid first k size so_far.few so_far.calls)
+    made_at old mid first _ size _ c.slot-first.ensures c.slot_len-sectors.ensures.value (some_reads old mid first k size so_far.few so_far.calls)
 
 pub returns-in_err-take_row-clause-limits : goal.returns-in_err-take_row-clause-limits
 returns-in_err-take_row-clause-limits g c = c.take_row.ensures.limits ∙ c.loop-first.invariant.limits
@@ -233,8 +233,8 @@ returns-in_err-take_row-clause-on_disk g c at e =
     let before = slot_before layout c.args.side c.slot-first.result c.slot_len-sectors.result c.slot-first.ensures c.slot_len-sectors.ensures.value in
     let p = err_from_is_err_and c.from_residual.result c.from_residual.ensures.1 in
     let failed = rw (p.1, p.2) at e in
-    let told = c.in_err-take_row.ensures.damaged at failed in
-    let here = told.0 in
+    let stated = c.in_err-take_row.ensures.damaged at failed in
+    let here = stated.0 in
     let few = c.loop-first.invariant.few in
     let room = c.requires.room in
     omega (arith, here, few, before, room)

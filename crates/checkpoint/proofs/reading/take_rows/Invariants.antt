@@ -1,10 +1,10 @@
 use Rattle.std.proofs.Common.{◌≡◌, ◌-◌, ◌≤◌, ◌++◌}
 use Rattle.sector_disk.specs.Disk.{View}
 use Rattle.sector_disk.specs.Reading.{before_reads}
-use Rattle.sector_disk.specs.Run.{HasLooked}
+use Rattle.sector_disk.specs.Run.{HasOnlyRead}
 use Rattle.image_rows.specs.Image.{slot_of}
-use Rattle.checkpoint.specs.Standing.{sectors_from}
-use Rattle.checkpoint.specs.Reading.{looks}
+use Rattle.checkpoint.specs.OnSide.{sectors_from}
+use Rattle.checkpoint.specs.Reading.{read_calls}
 use Rattle.checkpoint.proofs.Readback.{HasTaken, rest_of}
 use Rattle.checkpoint.proofs.reading.take_rows.Given as goal
 
@@ -16,10 +16,10 @@ invariant-loop-first g l =
       few : l.read ≤ l.sectors;
       sectors : now.sectors ≡ old.sectors;
       later : old.failures ≤ now.failures;
-      looked : old.honest → HasLooked old now;
+      only_read : old.honest → HasOnlyRead old now;
       only_reads : before_reads now.calls ≡ before_reads old.calls;
       limits : l.loader.state.registered.limits ≡ l.layout.limits;
-      calls : now.calls ≡ old.calls ++ looks l.first l.read;
+      calls : now.calls ≡ old.calls ++ read_calls l.first l.read;
       rest : old.honest → rest_of old.reads l.first l.sectors l.read l.loader ≡ slot_of l.layout.limits (sectors_from old.reads l.first l.sectors);
       taken : old.honest → HasTaken l.layout.limits l.read l.loader;
     }

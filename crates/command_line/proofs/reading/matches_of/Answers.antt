@@ -9,4 +9,4 @@ returns-in-Ok-clause-taken g c = taken (app_of c.in_ok-command.command) (map g.S
 
 pub returns-in-Err-clause-refused : goal.returns-in-Err-clause-refused
 returns-in-Err-clause-refused g c = refused (app_of c.in_ok-command.command) (map g.S.AsStr.text c.args.words.now) c.in-Err.error
-    c.told.result c.in_ok-command.ensures.0 c.in-Err.ensures.kinds c.told.ensures
+    c.refusal_of.result c.in_ok-command.ensures.0 c.in-Err.ensures.kinds c.refusal_of.ensures

@@ -1,7 +1,7 @@
 use Rattle.std.proofs.Common.{◌<◌}
 use Rattle.sector_disk.specs.Disk.{View, sector}
-use Rattle.sector_disk.specs.Run.{HasLooked}
-use Rattle.file_disk.proofs.Parts.{HasGoneOn, IsFront}
+use Rattle.sector_disk.specs.Run.{HasOnlyRead}
+use Rattle.file_disk.proofs.Parts.{HasGoneOn, IsPrefix}
 use Rattle.file_disk.proofs.whole.read_sector.Given as goal
 
 abbrev pub invariant-loop-call : goal.invariant-loop-call
@@ -11,5 +11,5 @@ invariant-loop-call g l =
     record {
       less : l.done < 512;
       gone : HasGoneOn old now (g.F.SectorFile.turns l.initial.file) (g.F.SectorFile.turns l.file) l._call;
-      read : l.at < old.sectors → old.honest → HasLooked old now × IsFront l.bytes (sector old.reads l.at) l.done;
+      read : l.at < old.sectors → old.honest → HasOnlyRead old now × IsPrefix l.bytes (sector old.reads l.at) l.done;
     }

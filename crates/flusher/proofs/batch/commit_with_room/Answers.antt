@@ -7,7 +7,7 @@ use Rattle.recovery.specs.Lives.{StoreView, view_of}
 use Rattle.recovery.specs.Outcomes.{asked}
 use Rattle.flusher.specs.declared.committing.Attempts.{Attempts}
 use Rattle.flusher.specs.Attempts.{HasAttempted}
-use Rattle.flusher.specs.Batches.{HasMadeRoom, IsAnswerOf, IsBehindCheckpoint}
+use Rattle.flusher.specs.Batches.{HasMadeRoom, IsAnswerOf, IsAfterCheckpoint}
 use Rattle.flusher.proofs.Kept.{fails_from, fails_on, keeps_from, keeps_on}
 use Rattle.flusher.proofs.Published.{unless, when}
 use Rattle.flusher.proofs.Tried.{answered_after, answered_at_once, few_sectors, out_after, out_at, length-asked, not_again, not_empty, refused_before, unready_is}
@@ -55,7 +55,7 @@ returns-clause-committed g c =
     let new = view_of c.commit.new.self.store in
     let u = unready_is cmds was first c.commit-first.result (when c.is_unready.result _ _ c.is_unready.ensures c.if-not-is_unready.false) c.commit-first.ensures.tried in
     let m = c.in_ok-make_room.ensures.made in
-    let b : IsBehindCheckpoint was mid = subst (λ (s : StoreView Global g.row.D.Denot). IsBehindCheckpoint s mid) u.0 m in
+    let b : IsAfterCheckpoint was mid = subst (λ (s : StoreView Global g.row.D.Denot). IsAfterCheckpoint s mid) u.0 m in
     answered_after cmds was mid new true (λ e. u.1) b.layout b.room b.undone c.commit.result c.args.committer.now.attempts c.commit.new.self.attempts
     (not_again c.args.commands.now first.layout (other_of first.side) first.register.count mid new c.commit.result (few_sectors c.args.commands.now c.size_of-size.result c.requires.few c.size_of-size.ensures.size c.size_of-size.ensures.most) m.room.0.journal c.commit.ensures.tried)
     (out_after c.args.committer.now.attempts c.commit-first.new.self.attempts c.commit.new.self.attempts c.commit-first.result c.commit.result c.commit-first.ensures.attempted (subst (λ (a : Attempts). HasAttempted a c.commit.result c.commit.new.self.attempts) c.make_room.ensures.attempts c.commit.ensures.attempted)) c.commit.ensures.tried

@@ -8,8 +8,8 @@ use Rattle.gated_journal.proofs.journal.add_all.Goals as goal
 pub add_command-requires : goal.add_command-requires
 add_command-requires g c =
     let part = one_fits c.args.commands.now c.loop-command.command-index c.command-item.result (omega (arith, c.loop-command-test.true)) c.command-item.is in
-    let front = flat_map (λ command. command_text command.now) (take c.loop-command.command-index c.args.commands.now) in
-    let long : length c.loop-command.out.items ≡ length c.args.out.now.items + length front = ap length c.loop-command.invariant.items ∙ length-append c.args.out.now.items front in
+    let prefix = flat_map (λ command. command_text command.now) (take c.loop-command.command-index c.args.commands.now) in
+    let long : length c.loop-command.out.items ≡ length c.args.out.now.items + length prefix = ap length c.loop-command.invariant.items ∙ length-append c.args.out.now.items prefix in
     record { room = omega (arith, part, long, c.loop-command.invariant.capacity, c.requires.room) }
 
 pub loop-command-preserved : goal.loop-command-preserved

@@ -5,17 +5,17 @@ use Rattle.sector_disk.specs.Disk.{View}
 use Rattle.gated_journal.specs.Half.{half_of}
 use Rattle.gated_journal.specs.Reading.{entry_view, entries_view}
 use Rattle.gated_journal.specs.declared.place.Place.{Place}
-use Rattle.sector_disk.proofs.Looked.{looked_on}
-use Rattle.gated_journal.proofs.Halves.{counted_more, front_more, front_closed, error_on}
+use Rattle.sector_disk.proofs.OnlyRead.{only_read_on}
+use Rattle.gated_journal.proofs.Halves.{counted_more, prefix_more, prefix_closed, error_on}
 use Rattle.gated_journal.proofs.reading.read_half.Goals as goal
 
 pub returns-in_err-commands-clause-exact : goal.returns-in_err-commands-clause-exact
 returns-in_err-commands-clause-exact g c honest =
     let old : View = g.D.Disk.view c.args.disk.now in
     let rest : Place = c.loop-entries.rest in
-    let looked = c.loop-entries.invariant.looked honest in
+    let only_read = c.loop-entries.invariant.only_read honest in
     let p = err_from_is_err_and c.from_residual-in_err-commands.result c.from_residual-in_err-commands.ensures.1 in
-    let read = rw looked.reads at ((c.in_err-commands.ensures.effect looked.honest).1) in
+    let read = rw only_read.reads at ((c.in_err-commands.ensures.effect only_read.honest).1) in
     rw (p.1, p.2) (error_on rest.form rest.count old.reads rest.next rest.end (entries_view c.loop-entries.entries.items) (half_of c.args.place.now.form c.args.place.now.count old.reads c.args.place.now.next c.args.place.now.end)
     c.loop-entries.invariant.within (c.loop-entries.invariant.so_far honest) c.in_err-commands.field-0.0 read)
 
@@ -38,14 +38,14 @@ loop-entries-preserved g c =
       sectors = c.in_ok-commands.ensures.sectors ∙ c.loop-entries.invariant.sectors;
       capacity = omega (arith, c.in_ok-commands.ensures.capacity, c.loop-entries.invariant.capacity);
       later = omega (arith, c.in_ok-commands.ensures.later, c.loop-entries.invariant.later);
-      looked = λ honest.
-          let looked = c.loop-entries.invariant.looked honest in
-          looked_on _ mid _ looked ((c.in_ok-commands.ensures.effect looked.honest).0);
+      only_read = λ honest.
+          let only_read = c.loop-entries.invariant.only_read honest in
+          only_read_on _ mid _ only_read ((c.in_ok-commands.ensures.effect only_read.honest).0);
       only_reads = c.in_ok-commands.ensures.only_reads ∙ c.loop-entries.invariant.only_reads;
       so_far = λ honest.
-          let looked = c.loop-entries.invariant.looked honest in
-          let read = rw (c.in-Some.is, looked.reads) at ((c.in_ok-commands.ensures.effect looked.honest).1) in
-          rw (many, pushed) (front_more rest.form rest.count old.reads rest.next rest.end (entries_view c.loop-entries.entries.items) (half_of c.args.place.now.form c.args.place.now.count old.reads c.args.place.now.next c.args.place.now.end)
+          let only_read = c.loop-entries.invariant.only_read honest in
+          let read = rw (c.in-Some.is, only_read.reads) at ((c.in_ok-commands.ensures.effect only_read.honest).1) in
+          rw (many, pushed) (prefix_more rest.form rest.count old.reads rest.next rest.end (entries_view c.loop-entries.entries.items) (half_of c.args.place.now.form c.args.place.now.count old.reads c.args.place.now.next c.args.place.now.end)
           c.loop-entries.invariant.within (c.loop-entries.invariant.so_far honest) c.in-Some.commands.items c.in-Some.next read);
     }
 
@@ -53,7 +53,7 @@ pub returns-clause-exact : goal.returns-clause-exact
 returns-clause-exact g c honest =
     let old : View = g.D.Disk.view c.args.disk.now in
     let rest : Place = c.loop-entries.rest in
-    let looked = c.loop-entries.invariant.looked honest in
-    let read = rw (c.in_default.is, looked.reads) at ((c.in_ok-commands.ensures.effect looked.honest).1) in
-    front_closed rest.form rest.count old.reads rest.next rest.end (entries_view c.loop-entries.entries.items) (half_of c.args.place.now.form c.args.place.now.count old.reads c.args.place.now.next c.args.place.now.end)
+    let only_read = c.loop-entries.invariant.only_read honest in
+    let read = rw (c.in_default.is, only_read.reads) at ((c.in_ok-commands.ensures.effect only_read.honest).1) in
+    prefix_closed rest.form rest.count old.reads rest.next rest.end (entries_view c.loop-entries.entries.items) (half_of c.args.place.now.form c.args.place.now.count old.reads c.args.place.now.next c.args.place.now.end)
     c.loop-entries.invariant.within (c.loop-entries.invariant.so_far honest) read

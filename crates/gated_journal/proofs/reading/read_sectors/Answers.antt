@@ -2,7 +2,7 @@ use Rattle.std.proofs.Common.{◌≡◌, ◌+◌, ◌<◌, ℕ, List, ap, refl, 
 use Rattle.sector_disk.specs.Disk.{View, sector}
 use Rattle.sector_disk.specs.Reading.{before_reads}
 use Rattle.sector_disk.proofs.Reading.{one_read}
-use Rattle.sector_disk.proofs.Looked.{not_looked, looked_on, one_look}
+use Rattle.sector_disk.proofs.OnlyRead.{no_read, only_read_on, one_only_read}
 use Rattle.gated_journal.proofs.Steps.{data_more}
 use Rattle.gated_journal.proofs.reading.read_sectors.Goals as goal
 
@@ -12,9 +12,9 @@ loop-k-init g c = record {
   room = c.requires.room;
   capacity = omega arith;
   later = omega arith;
-  looked = λ honest. not_looked _ honest;
+  only_read = λ honest. no_read _ honest;
   only_reads = refl;
-  bytes = λ honest front. front;
+  bytes = λ honest prefix. prefix;
 }
 
 pub loop-k-preserved : goal.loop-k-preserved
@@ -27,13 +27,13 @@ loop-k-preserved g c =
       room = omega (arith, c.add.ensures.len, c.add.ensures.capacity, c.loop-k.invariant.room);
       capacity = omega (arith, c.add.ensures.capacity, c.loop-k.invariant.capacity);
       later = omega (arith, c.in_ok-read.ensures.cause.later, c.loop-k.invariant.later);
-      looked = λ honest.
-          let before = c.loop-k.invariant.looked honest in
-          looked_on _ mid _ before (one_look _ _ _ _ _ (c.in_ok-read.ensures.effect inside before.honest));
+      only_read = λ honest.
+          let before = c.loop-k.invariant.only_read honest in
+          only_read_on _ mid _ before (one_only_read _ _ _ _ _ (c.in_ok-read.ensures.effect inside before.honest));
       only_reads = ap before_reads c.in_ok-read.ensures.called.made ∙ one_read mid.calls (c.args.at + c.loop-k.k) ∙ c.loop-k.invariant.only_reads;
-      bytes = λ honest front.
-          let before = c.loop-k.invariant.looked honest in
+      bytes = λ honest prefix.
+          let before = c.loop-k.invariant.only_read honest in
           let given = (c.in_ok-read.ensures.effect inside before.honest).given in
           let more : c.read.new.bytes ≡ sector old.reads (c.args.at + c.loop-k.k) = given ∙ ap (λ (reads : List (List ℕ)). sector reads (c.args.at + c.loop-k.k)) before.reads in
-          c.add.ensures.items ∙ data_more old.reads c.args.at c.loop-k.k c.loop-k.buffer.items c.read.new.bytes (c.loop-k.invariant.bytes honest front) more;
+          c.add.ensures.items ∙ data_more old.reads c.args.at c.loop-k.k c.loop-k.buffer.items c.read.new.bytes (c.loop-k.invariant.bytes honest prefix) more;
     }

@@ -1,5 +1,5 @@
 use Rattle.group_attach.specs.Attached.{pair_of}
-use Rattle.group_attach.proofs.Places.{found_at, gap_at, set_in_order, set_is_insert, new_in_order, new_is_insert, not_in_gap, tells_found, tells_none}
+use Rattle.group_attach.proofs.Places.{found_at, gap_at, set_in_order, set_is_insert, new_in_order, new_is_insert, not_in_gap, reports_found, reports_none}
 use Rattle.group_attach.proofs.edit.attach.Goals as goal
 
 pub returns-in-Ok-clause-in_order : goal.returns-in-Ok-clause-in_order
@@ -10,7 +10,7 @@ returns-in-Ok-clause-in_order g c =
 pub returns-in-Ok-clause-before : goal.returns-in-Ok-clause-before
 returns-in-Ok-clause-before g c =
     let at = found_at c.args.entries.now.items _ (pair_of c.args.attachment) _ c.deref.ensures.value c.in-Ok.ensures.within c.in-Ok.ensures.place in
-    tells_found c.args.entries.now.items (pair_of c.args.attachment) _ _ c.requires.in_order at c.index-before.ensures
+    reports_found c.args.entries.now.items (pair_of c.args.attachment) _ _ c.requires.in_order at c.index-before.ensures
 
 pub returns-in-Ok-clause-ok : goal.returns-in-Ok-clause-ok
 returns-in-Ok-clause-ok g c =
@@ -25,7 +25,7 @@ returns-in-Ok-insert-clause-in_order g c =
 pub returns-in-Ok-insert-clause-before : goal.returns-in-Ok-insert-clause-before
 returns-in-Ok-insert-clause-before g c =
     let gap = gap_at c.args.entries.now.items _ (pair_of c.args.attachment) _ c.deref.ensures.value c.requires.in_order c.in-Err.ensures.within c.in-Err.ensures.place in
-    tells_none c.args.entries.now.items (pair_of c.args.attachment) _ c.requires.in_order gap
+    reports_none c.args.entries.now.items (pair_of c.args.attachment) _ c.requires.in_order gap
 
 pub returns-in-Ok-insert-clause-ok : goal.returns-in-Ok-insert-clause-ok
 returns-in-Ok-insert-clause-ok g c =

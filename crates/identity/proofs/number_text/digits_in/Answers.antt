@@ -1,16 +1,16 @@
 use Rattle.std.proofs.Common.{rules, ◌≡◌, ◌<◌, ◌+◌, ◌*◌, ◌^◌, length, take, arith}
 use Rattle.identity.specs.NumberText.{value}
-use Rattle.identity.proofs.NumberText.{all_more, digit_more, front_below}
+use Rattle.identity.proofs.NumberText.{all_more, digit_more, prefix_below}
 use Rattle.identity.proofs.number_text.digits_in.Goals as goal
 
 pub overflow_mul-value : goal.overflow_mul-value
 overflow_mul-value c =
-    let small = front_below c.args.text.now c.loop-byte.byte-index c.loop-byte.value c.loop-byte.invariant.1 (omega (arith, c.loop-byte-test.true)) c.requires.few c.loop-byte.invariant.0 in
+    let small = prefix_below c.args.text.now c.loop-byte.byte-index c.loop-byte.value c.loop-byte.invariant.1 (omega (arith, c.loop-byte-test.true)) c.requires.few c.loop-byte.invariant.0 in
     omega (arith, small)
 
 pub overflow_add-value : goal.overflow_add-value
 overflow_add-value c =
-    let small = front_below c.args.text.now c.loop-byte.byte-index c.loop-byte.value c.loop-byte.invariant.1 (omega (arith, c.loop-byte-test.true)) c.requires.few c.loop-byte.invariant.0 in
+    let small = prefix_below c.args.text.now c.loop-byte.byte-index c.loop-byte.value c.loop-byte.invariant.1 (omega (arith, c.loop-byte-test.true)) c.requires.few c.loop-byte.invariant.0 in
     let byte : c.from.result < 2 ^ 8 = search rules in
     omega (arith, small, byte)
 

@@ -3,7 +3,7 @@ use Rattle.identity.proofs.NumberText.{all_of_number, all_take, number_digit, va
 use Rattle.identity.proofs.number_text.value_of.Goals as goal
 
 pub short_value-requires-clause-digits : goal.short_value-requires-clause-digits
-short_value-requires-clause-digits c = all_take c.args.digits.now c.min-front.result (all_of_number c.args.digits.now c.requires.form)
+short_value-requires-clause-digits c = all_take c.args.digits.now c.min-prefix.result (all_of_number c.args.digits.now c.requires.form)
 
 pub returns-then-value-most : goal.returns-then-value-most
 returns-then-value-most c = sym (value_large c.args.digits.now c.loop-at.at c.args.most (omega (arith, c.loop-at.invariant.0, c.if-value-most.true)))

@@ -9,13 +9,13 @@ use Rattle.identity.proofs.packed.put_bits.Goals as goal
 
 pub loop-done-preserved : goal.loop-done-preserved
 loop-done-preserved c =
-    let front = take c.args.len (bits_of c.args.bytes.now) in
-    let is_len : length front ≡ c.args.len = omega (arith, length-take c.args.len (bits_of c.args.bytes.now), length-bits_of c.args.bytes.now, c.requires.room) in
+    let prefix = take c.args.len (bits_of c.args.bytes.now) in
+    let is_len : length prefix ≡ c.args.len = omega (arith, length-take c.args.len (bits_of c.args.bytes.now), length-bits_of c.args.bytes.now, c.requires.room) in
     let room : c.args.len + c.args.width ≤ 8 * length c.loop-done.bytes = omega (arith, c.requires.room, c.loop-done.invariant.1) in
     let fits : c.loop-done.done + c.min-next.result ≤ c.args.width = omega (arith, c.min-next.ensures, c.loop-done-test.true) in (
       fits,
       c.put_piece.auto.bytes ∙ c.loop-done.invariant.1,
-      put_next c.loop-done.bytes front c.args.len c.args.width c.args.value c.loop-done.done is_len room c.loop-done.invariant.0 c.loop-done.invariant.2 c.put_piece.new.bytes c.min-next.result fits c.put_piece.ensures,
+      put_next c.loop-done.bytes prefix c.args.len c.args.width c.args.value c.loop-done.done is_len room c.loop-done.invariant.0 c.loop-done.invariant.2 c.put_piece.new.bytes c.min-next.result fits c.put_piece.ensures,
     )
 
 pub returns : goal.returns

@@ -6,7 +6,7 @@ use Rattle.group_attach.specs.Applied.{most_of_radio}
 use Rattle.group_attach.specs.InOrder.{IsInOrder}
 use Rattle.centre_core.specs.State.{State}
 use Rattle.identity.proofs.NumberText.{and_right as right}
-use Rattle.image_rows.specs.Held.{Came, IsPlace, with_groups}
+use Rattle.image_rows.specs.Held.{IsOutcome, IsPlace, with_groups}
 use Rattle.image_rows.proofs.WithAttachments.{in_order}
 use Rattle.image_rows.proofs.Filling.{all_own}
 use Rattle.image_rows.proofs.PutRows.{with_own}
@@ -24,5 +24,5 @@ returns-clause-ok g c =
     let n : State = record s { registered = c.add_radio.new.registry; groups = c.add_radio.new.groups } in
     let same : s ≡ c.args.parts.now = c.parts.view_is in
     let place : IsPlace s c.args.itsi = subst (λ (t : State). IsPlace t c.args.itsi) (sym same) c.requires in
-    subst (λ (t : State). Came (with_groups t c.args.itsi c.args.radio c.args.groups) t true n) same
+    subst (λ (t : State). IsOutcome (with_groups t c.args.itsi c.args.radio c.args.groups) t true n) same
     (with_own s c.args.itsi c.args.radio c.args.groups _ c.add_radio.new.registry c.add_radio.new.groups place (sym c.in-Some.ensures.fits) c.in-Some.ensures.own.1 c.in_ok-add_radio.ensures.ok.0 c.in_ok-add_radio.ensures.ok.1)

@@ -4,7 +4,7 @@ use Rattle.centre_core.specs.State.{State, LastAccepted}
 use Rattle.mailbox.proofs.Results.{known_err}
 use Rattle.image_rows.specs.Rows.{ServedRow}
 use Rattle.image_rows.specs.Loading.{put, served_may}
-use Rattle.image_rows.specs.Held.{Came}
+use Rattle.image_rows.specs.Held.{IsOutcome}
 use Rattle.image_rows.proofs.PutRows.{served_place, with_last, without_last, some_last}
 use Rattle.image_rows.proofs.putting.put_served.Goals as goal
 
@@ -44,5 +44,5 @@ returns-clause-ok g c =
     let same : s ≡ c.args.parts.now = c.parts.view_is in
     let set : n.served ≡ slice_set s.served (c.args.station - 1) (Some x) =
     c.put_last.ensures ∙ (λ i. slice_set s.served (c.args.station - 1) (Some (record { sequence = x.sequence; number = x.number; pdu = c.in_ok-pdu.ensures.ok i }))) in
-    subst (λ (t : State). Came (put c.args.header.now t (ServedRow c.args.station x)) t true n) same
+    subst (λ (t : State). IsOutcome (put c.args.header.now t (ServedRow c.args.station x)) t true n) same
     (with_last c.args.header.now s c.args.station x n.served (subst (λ (t : State). served_may c.args.header.now t c.args.station x ≡ true) (sym same) may) set)

@@ -3,16 +3,16 @@ use Rattle.std.proofs.lemmas.Bool.Decides.{nat_tests}
 use Rattle.std.specs.Prelude.{IsTrue}
 use Rattle.identity.specs.Path.{Path, begins}
 use Rattle.prefix_tree.proofs.Begins.{longer_side}
-use Rattle.prefix_tree.proofs.Standing.{never_so}
+use Rattle.prefix_tree.proofs.NodePlaces.{never_so}
 use Rattle.prefix_tree.proofs.VisitLaws.{one_side}
 use Rattle.prefix_tree.proofs.next.goes_on_with_one.Goals as goal
 
-told : (p q : Path) (b : Bool) → IsTrue (begins (p ++ b ∷ []) q) → b ≡ begins (p ++ true ∷ []) q
-told p q true on = sym on
-told p q false on = sym (one_side p q on)
+reported : (p q : Path) (b : Bool) → IsTrue (begins (p ++ b ∷ []) q) → b ≡ begins (p ++ true ∷ []) q
+reported p q true on = sym on
+reported p q false on = sym (one_side p q on)
 
 pub returns-then-len : goal.returns-then-len
-returns-then-len c = told c.args.at.now c.args.key.now c.side.result c.side.ensures
+returns-then-len c = reported c.args.at.now c.args.key.now c.side.result c.side.ensures
 
 pub returns-else-len : goal.returns-else-len
 returns-else-len c =

@@ -1,7 +1,7 @@
 use Rattle.std.proofs.Common.{◌+◌, ◌<◌, arith}
 use Rattle.std.proofs.lemmas.Result.{on_ok_weaker}
 use Rattle.gated_journal.specs.declared.form.Form.TheVariants.{Numbered}
-use Rattle.checkpoint.specs.Standing.{Base, Held, Stands, fresh}
+use Rattle.checkpoint.specs.OnSide.{Base, Held, IsOnSide, fresh}
 use Rattle.checkpoint.specs.Calls.{image_calls, image_calls_by, switch_calls}
 use Rattle.checkpoint.specs.Layout.{other_of}
 use Rattle.checkpoint.proofs.Spared.{left_each}
@@ -25,7 +25,7 @@ returns-clause-any_moment g c = λ form base held same honest each.
     let still = c.write_image.ensures.honest honest in
     let newer : base.0 < next.0 = omega (arith, same) in
     then_switched c.args.layout.now c.args.current form Numbered base next held more old mid written (g.D.Disk.view c.switch.new.disk)
-    (c.switch.ensures.any_moment form Numbered base next held more newer still (left_each old mid (Stands c.args.layout.now c.args.current form base held) written (g.met.D.Disk.sound c.write_image.new.disk still)) (c.in_ok-write_image.ensures.ready honest))
+    (c.switch.ensures.any_moment form Numbered base next held more newer still (left_each old mid (IsOnSide c.args.layout.now c.args.current form base held) written (g.met.D.Disk.sound c.write_image.new.disk still)) (c.in_ok-write_image.ensures.ready honest))
 
 pub returns-clause-switched : goal.returns-clause-switched
 returns-clause-switched g c = on_ok_weaker c.switch.result (λ then form base held same honest each.
@@ -36,7 +36,7 @@ returns-clause-switched g c = on_ok_weaker c.switch.result (λ then form base he
     let written = c.write_image.ensures.any_moment form base held honest each in
     let still = c.write_image.ensures.honest honest in
     let newer : base.0 < next.0 = omega (arith, same) in
-    then form Numbered base next held more newer still (left_each old mid (Stands c.args.layout.now c.args.current form base held) written (g.met.D.Disk.sound c.write_image.new.disk still)) (c.in_ok-write_image.ensures.ready honest)) c.switch.ensures.switched
+    then form Numbered base next held more newer still (left_each old mid (IsOnSide c.args.layout.now c.args.current form base held) written (g.met.D.Disk.sound c.write_image.new.disk still)) (c.in_ok-write_image.ensures.ready honest)) c.switch.ensures.switched
 
 pub returns-in_err-write_image-clause-some_calls : goal.returns-in_err-write_image-clause-some_calls
 returns-in_err-write_image-clause-some_calls g c honest =

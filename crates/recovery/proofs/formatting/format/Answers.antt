@@ -9,7 +9,7 @@ use Rattle.recovery.specs.Calls.{label_sector, side_calls}
 use Rattle.recovery.specs.Lives.{begins}
 use Rattle.recovery.specs.Opens.{opening}
 use Rattle.recovery.proofs.Called.{calls_in_last}
-use Rattle.recovery.proofs.Formatted.{opens_so, stands_so, within}
+use Rattle.recovery.proofs.Formatted.{opens_so, image_opens, within}
 use Rattle.recovery.proofs.formatting.format.Goals as goal
 
 pub returns-in_err-write_sides-clause-some_calls : goal.returns-in_err-write_sides-clause-some_calls
@@ -26,8 +26,8 @@ returns-clause-some_calls g c room =
     calls_in_last c.args.layout.now (g.D.Disk.view c.args.disk.now) (g.D.Disk.view c.write_sides.new.disk) c.in_ok-write_sides.ensures.calls
     (g.D.Disk.view c.write.new.self) (rw c.label_sector.ensures at c.in_ok-write.ensures.called.made) _ c.sync.result c.sync.ensures.called
 
-pub returns-clause-stands : goal.returns-clause-stands
-returns-clause-stands g c honest =
+pub returns-clause-on_side : goal.returns-clause-on_side
+returns-clause-on_side g c honest =
     let layout = c.args.layout.now in
     let sides : View = g.D.Disk.view c.write_sides.new.disk in
     let labelled : View = g.D.Disk.view c.write.new.self in
@@ -36,7 +36,7 @@ returns-clause-stands g c honest =
     let at_last : disk_size layout ≤ last.sectors = omega (arith, at_sides, c.in_ok-write.ensures.cause.sectors, c.in_ok-sync.ensures.cause.sectors) in
     let wrote = rw c.label_sector.ensures at (c.in_ok-write.ensures.effect (within layout sides.sectors at_sides).label (c.write_sides.ensures.honest honest)) in
     let syncs = c.in_ok-sync.ensures.effect wrote.honest in
-    stands_so layout sides labelled last (c.in_ok-write_sides.ensures.ready honest) wrote syncs (g.met.D.Disk.sound c.sync.new.self syncs.honest) at_last
+    image_opens layout sides labelled last (c.in_ok-write_sides.ensures.ready honest) wrote syncs (g.met.D.Disk.sound c.sync.new.self syncs.honest) at_last
 
 pub returns-clause-opens : goal.returns-clause-opens
 returns-clause-opens g c honest =

@@ -1,7 +1,7 @@
 use Rattle.std.proofs.Common.{◌≡◌, Result, subst, sym}
 use Rattle.sector_disk.specs.Disk.{View}
-use Rattle.sector_disk.proofs.Looked.{looked_on}
-use Rattle.checkpoint.specs.Standing.{slot_form}
+use Rattle.sector_disk.proofs.OnlyRead.{only_read_on}
+use Rattle.checkpoint.specs.OnSide.{slot_form}
 use Rattle.recovery.specs.declared.fault.StoreFault.{StoreFault}
 use Rattle.recovery.specs.Inside.Opened.{opened_view}
 use Rattle.recovery.specs.Opening.{Gives}
@@ -14,16 +14,16 @@ returns-clause-memory g c e honest =
     let old : View = g.D.Disk.view c.args.disk.now in
     let one : View = g.D.Disk.view c.read_layout.new.disk in
     let two : View = g.D.Disk.view c.read_side.new.disk in
-    let looked = c.in_ok-layout.ensures.looked honest in
-    let after = c.in_ok-current.ensures.looked looked.honest in
-    let looked_2 = looked_on old one two looked after in
-    let form : c.in_ok-current.current.form ≡ slot_form c.in_ok-layout.layout c.in_ok-current.current.side two.reads = rw after.reads (c.in_ok-current.ensures.form looked.honest) in
+    let only_read = c.in_ok-layout.ensures.only_read honest in
+    let after = c.in_ok-current.ensures.only_read only_read.honest in
+    let only_read_2 = only_read_on old one two only_read after in
+    let form : c.in_ok-current.current.form ≡ slot_form c.in_ok-layout.layout c.in_ok-current.current.side two.reads = rw after.reads (c.in_ok-current.ensures.form only_read.honest) in
     record {
       layout = c.in_ok-layout.layout;
       side = c.in_ok-current.current.side;
       label = c.in_ok-layout.ensures.exact honest;
-      counts = rw looked.reads at (c.in_ok-current.ensures.exact looked.honest);
-      good = rw looked_2.reads at (c.read_by.ensures.memory e looked_2.honest form);
+      counts = rw only_read.reads at (c.in_ok-current.ensures.exact only_read.honest);
+      good = rw only_read_2.reads at (c.read_current.ensures.memory e only_read_2.honest form);
     }
 
 pub returns-clause-exact : goal.returns-clause-exact
@@ -31,9 +31,9 @@ returns-clause-exact g c honest =
     let old : View = g.D.Disk.view c.args.disk.now in
     let one : View = g.D.Disk.view c.read_layout.new.disk in
     let two : View = g.D.Disk.view c.read_side.new.disk in
-    let looked = c.in_ok-layout.ensures.looked honest in
-    let after = c.in_ok-current.ensures.looked looked.honest in
-    let looked_2 = looked_on old one two looked after in
-    let form : c.in_ok-current.current.form ≡ slot_form c.in_ok-layout.layout c.in_ok-current.current.side two.reads = rw after.reads (c.in_ok-current.ensures.form looked.honest) in
-    let there = opens_on g.row.A.Denot old.reads c.in_ok-layout.layout c.in_ok-current.current.side (c.in_ok-layout.ensures.exact honest) (rw looked.reads at (c.in_ok-current.ensures.exact looked.honest)) in
-    subst (λ (q : Result Opening StoreFault). Gives opened_view c.read_by.result q) (sym there) (rw looked_2.reads at (c.read_by.ensures.exact looked_2.honest form))
+    let only_read = c.in_ok-layout.ensures.only_read honest in
+    let after = c.in_ok-current.ensures.only_read only_read.honest in
+    let only_read_2 = only_read_on old one two only_read after in
+    let form : c.in_ok-current.current.form ≡ slot_form c.in_ok-layout.layout c.in_ok-current.current.side two.reads = rw after.reads (c.in_ok-current.ensures.form only_read.honest) in
+    let there = opens_on g.row.A.Denot old.reads c.in_ok-layout.layout c.in_ok-current.current.side (c.in_ok-layout.ensures.exact honest) (rw only_read.reads at (c.in_ok-current.ensures.exact only_read.honest)) in
+    subst (λ (q : Result Opening StoreFault). Gives opened_view c.read_current.result q) (sym there) (rw only_read_2.reads at (c.read_current.ensures.exact only_read_2.honest form))

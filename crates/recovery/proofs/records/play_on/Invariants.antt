@@ -1,7 +1,7 @@
 use Rattle.std.proofs.Common.{◌≡◌, ◌<◌, ◌≤◌, ◌-◌}
 use Rattle.sector_disk.specs.Disk.{View}
 use Rattle.sector_disk.specs.Reading.{before_reads}
-use Rattle.sector_disk.specs.Run.{HasLooked}
+use Rattle.sector_disk.specs.Run.{HasOnlyRead}
 use Rattle.gated_journal.specs.Half.{half_of}
 use Rattle.gated_journal.specs.Settled.{IsCounted}
 use Rattle.recovery.specs.Opening.{BeginsWith}
@@ -22,7 +22,7 @@ invariant-loop g l =
       limits : l.register.registered.limits ≡ l.initial.register.registered.limits;
       sectors : now.sectors ≡ old.sectors;
       later : old.failures ≤ now.failures;
-      looked : old.honest → HasLooked old now;
+      only_read : old.honest → HasOnlyRead old now;
       only_reads : before_reads now.calls ≡ before_reads old.calls;
       begins : old.honest → BeginsWith (half_of {A = g.row.A.Denot} l.initial.journal.form l.initial.journal.count old.reads l.initial.journal.next l.initial.journal.end) (half_of {A = g.row.A.Denot} l.journal.form l.journal.count old.reads l.journal.next l.initial.journal.end);
       so_far : old.honest → played_from l.initial.register (half_of {A = g.row.A.Denot} l.initial.journal.form l.initial.journal.count old.reads l.initial.journal.next l.initial.journal.end) ≡ played_from l.register (half_of {A = g.row.A.Denot} l.journal.form l.journal.count old.reads l.journal.next l.initial.journal.end);

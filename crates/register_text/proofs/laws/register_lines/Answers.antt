@@ -1,8 +1,8 @@
-use Rattle.register_text.proofs.Texts.{lines_stand, lines_again, lines_under, lines_only}
+use Rattle.register_text.proofs.Texts.{lines_made, lines_again, lines_under, lines_only}
 use Rattle.register_text.proofs.laws.register_lines.Goals as goal
 
-pub returns-clause-stand : goal.returns-clause-stand
-returns-clause-stand c = lines_stand
+pub returns-clause-made : goal.returns-clause-made
+returns-clause-made c = lines_made
 
 pub returns-clause-again : goal.returns-clause-again
 returns-clause-again c = lines_again

@@ -20,8 +20,8 @@ jobs_of-jobs-requires-clause-room g c = omega (arith, c.requires.sessions.count,
 pub serve_all-held-requires-clause-room : goal.serve_all-held-requires-clause-room
 serve_all-held-requires-clause-room g c = omega (arith, c.jobs_of-jobs.ensures.count, c.requires.sessions.count, c.requires.flusher.count, c.args.opened.1.ok.0, c.requires.room, c.args.room.threads_room)
 
-pub apart-ended-requires-clause-room : goal.apart-ended-requires-clause-room
-apart-ended-requires-clause-room g c =
+pub split_done-ended-requires-clause-room : goal.split_done-ended-requires-clause-room
+split_done-ended-requires-clause-room g c =
     let count = zip_length _ c.jobs_of-jobs.result.items c.serve_all-held.result.1.items c.serve_all-held.ensures.done in (
       omega (arith, count, c.jobs_of-jobs.ensures.count, c.jobs_of-jobs.result.ok.0, c.serve_all-held.result.1.ok.0, c.requires.sessions.count, c.requires.flusher.count, c.args.opened.1.ok.0, c.requires.room, c.args.room.room.1),
       omega (arith, count, c.jobs_of-jobs.ensures.count, c.jobs_of-jobs.result.ok.0, c.serve_all-held.result.1.ok.0, c.requires.sessions.count, c.requires.flusher.count, c.args.opened.1.ok.0, c.requires.room, c.args.room.room.2),
@@ -38,7 +38,7 @@ store_of-store-requires-clause-sessions g c =
     let first = view_of c.args.opened.0 in
     let last = view_of c.into_flusher.result in
     let same = subst (λ f. HasSameEnds first (view_of f)) (sym c.into_flusher.ensures) c.serve_all-held.ensures.flushed.same in
-    subst (λ (l : List (Ended g.row.J.Denot)). AreSessionsOf last l) (sym c.apart-ended.ensures.ended)
+    subst (λ (l : List (Ended g.row.J.Denot)). AreSessionsOf last l) (sym c.split_done-ended.ensures.ended)
     (sessions_ended g.J.Centre.base g.I.Read.remaining g.O.Write.contents first last c.args.opened.1.items c.args.ports.items c.jobs_of-jobs.result.items
     c.serve_all-held.result.1.items c.jobs_of-jobs.ensures.sessions c.jobs_of-jobs.ensures.ports c.requires.sessions c.serve_all-held.ensures.done same)
 
@@ -50,4 +50,4 @@ returns g c =
     c.serve_all-held.result.1.items c.jobs_of-jobs.ensures.sessions c.jobs_of-jobs.ensures.ports c.requires.sessions c.serve_all-held.ensures.done
     g.D.Disk.view first.store (store_view c.store_of-store.result) (length c.args.ports.items) c.requires.sound refl (subst (λ n. IsNewFlusher n first.store first) c.args.ports.ok.0 c.requires.flusher)
     (subst (λ f. HasFlushed g.D.Disk.view g.J.Centre.base first (view_of f)) (sym c.into_flusher.ensures) c.serve_all-held.ensures.flushed)
-    c.store_of-store.ensures.store c.apart-ended.result.0.items c.apart-ended.result.1.items c.apart-ended.ensures.ended c.apart-ended.ensures.runs c.store_of-store.ensures.closed
+    c.store_of-store.ensures.store c.split_done-ended.result.0.items c.split_done-ended.result.1.items c.split_done-ended.ensures.ended c.split_done-ended.ensures.runs c.store_of-store.ensures.closed

@@ -11,17 +11,17 @@ use Rattle.centre_core.proofs.tables.Tables.post.Goals as goal
 
 pub returns-in-Err-clause-ok : goal.returns-in-Err-clause-ok
 returns-in-Err-clause-ok g c =
-    let told = c.in-Err.ensures.refusal (record { number = c.self.inside.count + 1; moment = c.args.command.now.moment }) c.args.pdu.now in
+    let answer = c.in-Err.ensures.refusal (record { number = c.self.inside.count + 1; moment = c.args.command.now.moment }) c.args.pdu.now in
     search rules
 
 pub returns-in_err-clone-clause-memory : goal.returns-in_err-clone-clause-memory
 returns-in_err-clone-clause-memory g c =
-    let told = c.in-Ok.ensures.refusal (record { number = c.self.inside.count + 1; moment = c.args.command.now.moment }) c.args.pdu.now in
+    let answer = c.in-Ok.ensures.refusal (record { number = c.self.inside.count + 1; moment = c.args.command.now.moment }) c.args.pdu.now in
     search rules
 
 pub returns-in_err-bits-clause-memory : goal.returns-in_err-bits-clause-memory
 returns-in_err-bits-clause-memory g c =
-    let told = c.in-Ok.ensures.refusal (record { number = c.self.inside.count + 1; moment = c.args.command.now.moment }) c.args.pdu.now in
+    let answer = c.in-Ok.ensures.refusal (record { number = c.self.inside.count + 1; moment = c.args.command.now.moment }) c.args.pdu.now in
     search rules
 
 pub post_judged-requires-clause-refusal : goal.post_judged-requires-clause-refusal

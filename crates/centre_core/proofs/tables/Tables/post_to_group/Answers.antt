@@ -9,7 +9,7 @@ use Rattle.centre_core.proofs.tables.Tables.post_to_group.Goals as goal
 
 pub returns-in-Some-clause-ok : goal.returns-in-Some-clause-ok
 returns-in-Some-clause-ok g c =
-    let told = c.in-Some.ensures (record { number = c.self.inside.count + 1; moment = c.args.command.now.moment }) c.args.pdu.now in
+    let answer = c.in-Some.ensures (record { number = c.self.inside.count + 1; moment = c.args.command.now.moment }) c.args.pdu.now in
     search rules
 
 pub invariant_of-self-2 : goal.invariant_of-self-2

@@ -1,7 +1,7 @@
 use Rattle.std.proofs.Common.{◌≡◌, ◌-◌, ◌+◌, ◌++◌, ◌≤◌, List, ℕ, Some, length, take}
 use Rattle.console.proofs.output.Output.send.Given as goal
 
--- a front of the bytes was written, and nothing failed
+-- a prefix of the bytes was written, and nothing failed
 abbrev pub invariant-loop-at : goal.invariant-loop-at
 invariant-loop-at g l = (l.at ≤ length l.bytes)
     × (l.self.writer.ghost_name ≡ l.fn.self.writer.ghost_name) × (l.self.failures.ghost_name ≡ l.fn.self.failures.ghost_name)

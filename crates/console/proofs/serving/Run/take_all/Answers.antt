@@ -3,7 +3,7 @@ use Rattle.std.proofs.lemmas.Grind.{common_steps}
 use Rattle.std.proofs.lemmas.Result.{err_from_is_err_and}
 use Rattle.console.specs.declared.running.Piece.{Piece}
 use Rattle.console.specs.declared.running.RunFault.TheVariants.{Read}
-use Rattle.console.specs.Inside.Feed.{IsPiece, FitsPiece, stand_of, start_at}
+use Rattle.console.specs.Inside.Feed.{IsPiece, FitsPiece, reached_by, start_at}
 use Rattle.console.proofs.Answering.{never_read, never_memory}
 use Rattle.console.proofs.Writing.{at_the_end, passed_on}
 use Rattle.console.proofs.Going.{going_start, short_between, run_same, still_same}
@@ -15,8 +15,8 @@ loop-init g c = (
   omega arith,
   omega arith,
   λ input before known held.
-      let start = start_at (stand_of g.D.Desk.world g.W.Write.contents c.args.self.now) (g.R.Read.remaining c.args.input.now.reader.now) in
-      ([], input, known, refl, going_start g.D.Desk.rules start before _ refl refl held c.begin.ensures.troubled c.begin.ensures.lines c.begin.ensures.hand),
+      let start = start_at (reached_by g.D.Desk.world g.W.Write.contents c.args.self.now) (g.R.Read.remaining c.args.input.now.reader.now) in
+      ([], input, known, refl, going_start g.D.Desk.rules start before _ refl refl held c.begin.ensures.troubled c.begin.ensures.lines c.begin.ensures.current),
   refl,
   refl,
   refl,
@@ -26,21 +26,21 @@ loop-init g c = (
 
 pub returns-in_err-read-clause-answers : goal.returns-in_err-read-clause-answers
 returns-in_err-read-clause-answers g c = λ input before known held.
-    let start = start_at (stand_of g.D.Desk.world g.W.Write.contents c.args.self.now) (g.R.Read.remaining c.args.input.now.reader.now) in
+    let start = start_at (reached_by g.D.Desk.world g.W.Write.contents c.args.self.now) (g.R.Read.remaining c.args.input.now.reader.now) in
     let so = c.loop.invariant.3 input before known held in
     let p = err_from_is_err_and c.from_residual.result c.from_residual.ensures.1 in
     run_same g.row.A.Denot g.D.Desk.rules start before _ input (Err p.0) c.from_residual.result _ _ (sym so.3) (sym p.1) (short_between g.D.Desk.rules start before so.0 so.1 _ Read so.4)
 
 pub returns-in-End-clause-answers : goal.returns-in-End-clause-answers
 returns-in-End-clause-answers g c = λ input before known held.
-    let start = start_at (stand_of g.D.Desk.world g.W.Write.contents c.args.self.now) (g.R.Read.remaining c.args.input.now.reader.now) in
+    let start = start_at (reached_by g.D.Desk.world g.W.Write.contents c.args.self.now) (g.R.Read.remaining c.args.input.now.reader.now) in
     let so = c.loop.invariant.3 input before known held in
     let piece = subst (λ (p : Piece). IsPiece p c.read.new.buffer so.1 (g.R.Read.remaining c.read.new.self.reader.now)) c.in-End.is (c.in_ok-read.ensures.ok so.1 so.2) in
     run_same g.row.A.Denot g.D.Desk.rules start before so.0 input c.finish.result _ _ _ (sym (at_the_end input so.0 so.1 so.3 piece.0)) refl (c.finish.ensures.ends start before so.0 so.4)
 
 pub returns-in_err-take_piece-in-Bytes-clause-answers : goal.returns-in_err-take_piece-in-Bytes-clause-answers
 returns-in_err-take_piece-in-Bytes-clause-answers g c = λ input before known held.
-    let start = start_at (stand_of g.D.Desk.world g.W.Write.contents c.args.self.now) (g.R.Read.remaining c.args.input.now.reader.now) in
+    let start = start_at (reached_by g.D.Desk.world g.W.Write.contents c.args.self.now) (g.R.Read.remaining c.args.input.now.reader.now) in
     let so = c.loop.invariant.3 input before known held in
     let piece = subst (λ (p : Piece). IsPiece p c.read.new.buffer so.1 (g.R.Read.remaining c.read.new.self.reader.now)) c.in-Bytes.is (c.in_ok-read.ensures.ok so.1 so.2) in
     let p = err_from_is_err_and c.from_residual-in_err-take_piece-in-Bytes.result c.from_residual-in_err-take_piece-in-Bytes.ensures.1 in
@@ -55,7 +55,7 @@ loop-preserved g c = let kept = c.take_piece.ensures in let was = c.loop.invaria
   omega (arith, c.loop.invariant.1, c.read.ensures.calls),
   omega (arith, c.loop.invariant.2, c.read.ensures.ledger),
   λ input before known held.
-      let start = start_at (stand_of g.D.Desk.world g.W.Write.contents c.args.self.now) (g.R.Read.remaining c.args.input.now.reader.now) in
+      let start = start_at (reached_by g.D.Desk.world g.W.Write.contents c.args.self.now) (g.R.Read.remaining c.args.input.now.reader.now) in
       let so = c.loop.invariant.3 input before known held in
       let piece = subst (λ (p : Piece). IsPiece p c.read.new.buffer so.1 (g.R.Read.remaining c.read.new.self.reader.now)) c.in-Bytes.is (c.in_ok-read.ensures.ok so.1 so.2) in (
         so.0 ++ take c.in-Bytes.n c.read.new.buffer,
@@ -73,7 +73,7 @@ loop-preserved g c = let kept = c.take_piece.ensures in let was = c.loop.invaria
 
 pub returns-clause-answers : goal.returns-clause-answers
 returns-clause-answers g c = λ input before known held.
-    let start = start_at (stand_of g.D.Desk.world g.W.Write.contents c.args.self.now) (g.R.Read.remaining c.args.input.now.reader.now) in
+    let start = start_at (reached_by g.D.Desk.world g.W.Write.contents c.args.self.now) (g.R.Read.remaining c.args.input.now.reader.now) in
     let so = c.loop.invariant.3 input before known held in
     run_same g.row.A.Denot g.D.Desk.rules start before _ input (Err Read) _ (g.D.Desk.world c.loop.self.desk.now) _ (sym so.3) refl (short_between g.D.Desk.rules start before so.0 so.1 _ Read so.4)
 

@@ -1,5 +1,5 @@
 use Rattle.std.proofs.Common.{◌≡◌, ◌++◌, ◌+◌, ◌*◌, ◌≤◌, List, ℕ, Some}
-use Rattle.console.specs.Inside.Feed.{IsGoing, IsSameRun, stand_of, start_at}
+use Rattle.console.specs.Inside.Feed.{IsGoing, IsSameRun, reached_by, start_at}
 use Rattle.console.proofs.serving.Run.take_all.Given as goal
 
 -- what the reader gave was taken, and the rest is still to come
@@ -8,8 +8,8 @@ invariant-loop g l = (l.self.progress.now.lines ≤ 65536 * l.counter) × (l.inp
     g.R.Read.remaining l.fn.input.reader.now ≡ Some input → g.W.Write.contents l.fn.self.output.now.writer.now ≡ Some before →
     (taken : List ℕ) × (left : List ℕ) × (g.R.Read.remaining l.input.reader.now ≡ Some left) × (input ≡ taken ++ left)
     × IsGoing g.D.Desk.rules
-    (start_at (stand_of g.D.Desk.world g.W.Write.contents l.fn.self) (g.R.Read.remaining l.fn.input.reader.now)) before taken
-    (stand_of g.D.Desk.world g.W.Write.contents l.self))
+    (start_at (reached_by g.D.Desk.world g.W.Write.contents l.fn.self) (g.R.Read.remaining l.fn.input.reader.now)) before taken
+    (reached_by g.D.Desk.world g.W.Write.contents l.self))
     × (l.input.reader.ghost_name ≡ l.fn.input.reader.ghost_name) × (l.input.steps.ghost_name ≡ l.fn.input.steps.ghost_name) × (l.input.faults.ghost_name ≡ l.fn.input.faults.ghost_name)
     × (l.self.output.now.failures.now ≡ l.fn.self.output.now.failures.now)
     × IsSameRun l.fn.self l.self

@@ -110,7 +110,7 @@ returns-clause-round g c =
     let new = c.catch_up-level.new.self in
     let e = c.catch_up-level.ensures in
     let served = served_idle base (store_view old.committer.store) old.committer.attempts old.committer.attempts old.publication.publisher.published (durable_of old.publication) new.publisher.published (durable_of new) (commands_in c.take_batch.new.room.batch.items)
-    old.senders.items c.refuse.new.senders.items c.is_sound-sound.result c.fault_of.result c.is_sound-sound.ensures c.fault_of.ensures c.requires.settled.prefix (e.behind c.if-level.false) (unless c.catch_up-level.result _ _ e.level c.if-level.false) e.durable c.refuse.ensures.answered in
+    old.senders.items c.refuse.new.senders.items c.is_sound-sound.result c.fault_of.result c.is_sound-sound.ensures c.fault_of.ensures c.requires.settled.prefix (e.lagging c.if-level.false) (unless c.catch_up-level.result _ _ e.level c.if-level.false) e.durable c.refuse.ensures.answered in
     record {
       popped = t.0;
       taken = t.1;

@@ -9,8 +9,8 @@ pub returns-clause-exact : goal.returns-clause-exact
 returns-clause-exact g c =
     let place = c.args.self.now in
     let head : c.head_len.result ≡ head_len place.form = search rules in
-    let size : (c.head_len.result + c.size_of.result + 511) / 512 ≡ data_size (text_at g.row.A.Denot place c.args.commands.now) =
-    (λ i. (head i + c.size_of.ensures.size i + 511) / 512) ∙ sym (given_size g.row.A.Denot place.form place.count c.args.commands.now) in
+    let size : c.sectors_for.result ≡ data_size (text_at g.row.A.Denot place c.args.commands.now) =
+    c.sectors_for.ensures ∙ (λ i. (head i + c.size_of.ensures.size i + 511) / 512) ∙ sym (given_size g.row.A.Denot place.form place.count c.args.commands.now) in
     let room : c.room.result ≡ room_of place = search rules in
     λ i. nat_le (size i) (room i)
 

@@ -10,7 +10,7 @@ use Rattle.mailbox.specs.Mail.{waiting}
 use Rattle.mailbox.specs.Judged.{keep_of}
 use Rattle.mailbox.specs.Refusals.{unknown_refusal}
 use Rattle.mailbox.proofs.Effects.{ends_waiting, found_waiting}
-use Rattle.mailbox.proofs.Judged.{report_missing, report_told}
+use Rattle.mailbox.proofs.Judged.{report_missing, report_as_judged}
 use Rattle.mailbox.proofs.mail.Mail.judge_report.Goals as goal
 
 pub returns-then-not-any_at-clause-refusal : goal.returns-then-not-any_at-clause-refusal
@@ -25,14 +25,14 @@ returns-in-Some-full_by_report-clause-refusal g c = λ stamp pdu.
     let ruled : Some c.in-Some.rule ≡ rule_of c.args.registry.now c.args.envelope.now.destination = c.in-Some.ensures ∙ ap (rule_of c.args.registry.now) c.number.ensures.value in
     let held : list_any (is_at (answered c.args.envelope.now Message)) (waiting c.args.self.now c.args.envelope.now.source) ≡ true =
     (λ i. list_any (is_at (sym c.answered.ensures i)) (sym c.items_of-at_source.ensures.items i)) ∙ sym c.any_at.ensures ∙ c.if-not-any_at.false in
-    report_told c.args.registry.now c.args.self.now c.args.envelope.now (ap unknown_refusal (sym ruled)) (sym c.in_default-absent_refusal.ensures) c.args.status stamp pdu held _ c.in-Some-full_by_report.ensures
+    report_as_judged c.args.registry.now c.args.self.now c.args.envelope.now (ap unknown_refusal (sym ruled)) (sym c.in_default-absent_refusal.ensures) c.args.status stamp pdu held _ c.in-Some-full_by_report.ensures
 
 pub returns-clause-refusal : goal.returns-clause-refusal
 returns-clause-refusal g c = λ stamp pdu.
     let ruled : Some c.in-Some.rule ≡ rule_of c.args.registry.now c.args.envelope.now.destination = c.in-Some.ensures ∙ ap (rule_of c.args.registry.now) c.number.ensures.value in
     let held : list_any (is_at (answered c.args.envelope.now Message)) (waiting c.args.self.now c.args.envelope.now.source) ≡ true =
     (λ i. list_any (is_at (sym c.answered.ensures i)) (sym c.items_of-at_source.ensures.items i)) ∙ sym c.any_at.ensures ∙ c.if-not-any_at.false in
-    report_told c.args.registry.now c.args.self.now c.args.envelope.now (ap unknown_refusal (sym ruled)) (sym c.in_default-absent_refusal.ensures) c.args.status stamp pdu held _ c.in_default-full_by_report.ensures
+    report_as_judged c.args.registry.now c.args.self.now c.args.envelope.now (ap unknown_refusal (sym ruled)) (sym c.in_default-absent_refusal.ensures) c.args.status stamp pdu held _ c.in_default-full_by_report.ensures
 
 pub returns-clause-found : goal.returns-clause-found
 returns-clause-found g c =

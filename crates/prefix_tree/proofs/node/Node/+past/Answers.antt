@@ -5,7 +5,7 @@ use Rattle.prefix_tree.proofs.StepLaws.{zero_any, one_any}
 use Rattle.std.specs.Ordering.{is_lt}
 use Rattle.identity.specs.Path.{begins, path_cmp}
 use Rattle.prefix_tree.proofs.NodeLaws.{at_is, at_box, fits}
-use Rattle.prefix_tree.proofs.NextLaws.{past_zero, past_via_one, past_then_one, none_past, past_ahead, past_behind, first_is_there, longer_below, if_none}
+use Rattle.prefix_tree.proofs.NextLaws.{past_zero, past_via_one, past_then_one, none_past, past_ahead, past_after, first_is_there, longer_below, if_none}
 use Rattle.prefix_tree.proofs.node.Node.+past.Goals as goal
 
 pub past-returns-in-Some-clause-found : goal.past-returns-in-Some-clause-found
@@ -94,7 +94,7 @@ pub past_below-returns-clause-found : goal.past_below-returns-clause-found
 past_below-returns-clause-found g t c =
     let low = at_box c.behind-node.inside _ c.behind-node.view_is _ c.deref.ensures in
     let low2 = at_box c.behind-node-2.inside _ c.behind-node-2.view_is _ c.deref-2.ensures in
-    past_behind _ c.in-Some.node c.args.key.now c.in-Some.is c.requires
+    past_after _ c.in-Some.node c.args.key.now c.in-Some.is c.requires
     (ap (λ p. begins p c.args.key.now) (sym low) ∙ sym c.begins.ensures ∙ c.if-begins.false)
     (sym c.if-comes_before.false ∙ c.comes_before.ensures.before ∙ ap (λ p. is_lt (path_cmp c.args.key.now p)) low2)
 

@@ -1,7 +1,7 @@
 use Rattle.std.proofs.Common.{true, false, refl, sym, ◌∙◌, arith}
 use Rattle.prefix_tree.proofs.NodeLaws.{table_is, side_is, read_zero, read_one, zero_under, one_under, off_link}
 use Rattle.prefix_tree.proofs.StepLaws.{visits_zero, visits_one, visits_off}
-use Rattle.prefix_tree.proofs.LendLaws.{same_like, none_never, way_far, zero_lent, one_lent, zero_ways, one_ways, step_cost}
+use Rattle.prefix_tree.proofs.BorrowLaws.{same_like, none_never, way_far, zero_borrowed, one_borrowed, zero_ways, one_ways, step_cost}
 use Rattle.prefix_tree.proofs.node.Node.down_1.Goals as goal
 
 pub returns-then-not-visit : goal.returns-then-not-visit
@@ -27,7 +27,7 @@ returns-else-not-visit g c =
     let step = visits_one c.self.inside _ c.self.view_is c.requires.sound _ side in
     let on = sym c.visit.ensures.value ∙ c.if-not-visit.false in
     let ways = one_ways c.self.inside _ c.self.view_is c.requires.sound c.as_mut.result c.args.key.now c.as_mut.ensures.value on in (
-      (refl, λ w. one_lent c.self.inside _ c.self.view_is c.requires.sound c.as_mut.result c.as_mut.ensures.value w, (table_is c.self.inside _ c.self.view_is, same_like c.self.inside _ c.self.view_is c.requires.sound)),
+      (refl, λ w. one_borrowed c.self.inside _ c.self.view_is c.requires.sound c.as_mut.result c.as_mut.ensures.value w, (table_is c.self.inside _ c.self.view_is, same_like c.self.inside _ c.self.view_is c.requires.sound)),
       record {
         writes_back = tt;
         on_way = ways;
@@ -61,7 +61,7 @@ returns-else-not-visit-2 g c =
     let step = visits_zero c.self.inside _ c.self.view_is c.requires.sound _ side in
     let on = sym c.visit-else-side.ensures.value ∙ c.if-not-visit-2.false in
     let ways = zero_ways c.self.inside _ c.self.view_is c.requires.sound c.as_mut-else-side.result c.args.key.now c.as_mut-else-side.ensures.value on in (
-      (refl, λ w. zero_lent c.self.inside _ c.self.view_is c.requires.sound c.as_mut-else-side.result c.as_mut-else-side.ensures.value w, (table_is c.self.inside _ c.self.view_is, same_like c.self.inside _ c.self.view_is c.requires.sound)),
+      (refl, λ w. zero_borrowed c.self.inside _ c.self.view_is c.requires.sound c.as_mut-else-side.result c.as_mut-else-side.ensures.value w, (table_is c.self.inside _ c.self.view_is, same_like c.self.inside _ c.self.view_is c.requires.sound)),
       record {
         writes_back = tt;
         on_way = ways;

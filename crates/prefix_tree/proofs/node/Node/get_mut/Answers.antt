@@ -2,10 +2,10 @@ use Rattle.std.proofs.Common.{◌≡◌, refl, sym, length, ap, ◌∙◌, arith
 use Rattle.std.proofs.lemmas.Bool.Decides.{nat_tests}
 use Rattle.std.specs.FinMap as map
 use Rattle.prefix_tree.specs.Visits.{visits_beyond}
-use Rattle.prefix_tree.specs.Inside.Around.{NodeSeen}
+use Rattle.prefix_tree.specs.Inside.Around.{NodeModel}
 use Rattle.prefix_tree.proofs.NodeLaws.{at_is, whole_key, longer_key}
 use Rattle.prefix_tree.proofs.VisitLaws.{visits_done}
-use Rattle.prefix_tree.proofs.LendLaws.{if_at, on_some, at_end, graft_insert, graft_like, graft_same}
+use Rattle.prefix_tree.proofs.BorrowLaws.{if_at, on_some, at_end, graft_insert, graft_like, graft_same}
 use Rattle.prefix_tree.proofs.node.Node.get_mut.Goals as goal
 
 pub returns-then-len : goal.returns-then-len
@@ -37,7 +37,7 @@ returns g c =
     let on = c.in_ok-down_64.ensures.on_way in
     let low = c.inside.ensures.value in
     let end = at_end _ _ _ on 64 (omega (arith, c.len-2.ensures.value, c.len-2.ensures.at_most_48)) c.in_ok-down_64.ensures.far in
-    let at = ap (λ (x : NodeSeen _). x.at) low ∙ end in
+    let at = ap (λ (x : NodeModel _). x.at) low ∙ end in
     let done : visits_beyond link.value.table link.value.at key ≡ 0 = visits_done link.value _ (let e = ap length end in omega (arith, e)) in
     let next = c.own_mut-2.follows in
     let ends : (n : _) → _ = λ n. if_at _ c.down_64.result _ c.in_ok-down_64.was (c.down_64.follows.holds (record link { value = n })) in (

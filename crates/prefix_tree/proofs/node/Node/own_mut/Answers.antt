@@ -1,6 +1,6 @@
 use Rattle.std.proofs.Common.{refl, sym, ◌∙◌}
 use Rattle.prefix_tree.proofs.NodeLaws.{table_is, read_here, write_here}
-use Rattle.prefix_tree.proofs.LendLaws.{all_some, own_like, same_like}
+use Rattle.prefix_tree.proofs.BorrowLaws.{all_some, own_like, same_like}
 use Rattle.prefix_tree.proofs.node.Node.own_mut.Goals as goal
 
 pub returns : goal.returns

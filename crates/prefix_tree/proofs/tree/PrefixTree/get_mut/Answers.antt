@@ -1,15 +1,15 @@
 use Rattle.std.proofs.Common.{ap, ◌∙◌, arith}
 use Rattle.std.specs.FinMap as map
 use Rattle.prefix_tree.proofs.VisitLaws.{way_is, few_on_way}
-use Rattle.prefix_tree.proofs.LendLaws.{on_some}
-use Rattle.prefix_tree.proofs.LendFacts.{told_alike}
+use Rattle.prefix_tree.proofs.BorrowLaws.{on_some}
+use Rattle.prefix_tree.proofs.BorrowFacts.{reported_alike}
 use Rattle.prefix_tree.proofs.tree.PrefixTree.get_mut.Goals as goal
 
 pub returns : goal.returns
 returns g c =
     let way = way_is c.self.inside.root.table _ c.self.inside.root.at c.args.prefix.now c.self.invariant.0 c.self.view_is in
     let few = few_on_way c.args.self.now c.args.prefix.now in (
-      told_alike c.get_mut.result _ _ _ _
+      reported_alike c.get_mut.result _ _ _ _
           (λ w. on_some c.get_mut.result (λ e. e ∙ ap (λ m. map.insert m c.args.prefix.now w) c.self.view_is) (c.get_mut.follows.holds w).0)
           (c.get_mut.follows.holds-at-none.0 ∙ c.self.view_is),
       record {

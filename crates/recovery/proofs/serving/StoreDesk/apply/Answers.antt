@@ -20,7 +20,7 @@ pub returns-in-Err-clause-applies : goal.returns-in-Err-clause-applies
 returns-in-Err-clause-applies g c =
     let old = c.args.self.now in let new = c.commit_one.new.self in
     by_fault (g.D.Disk.view old.disk).failures (g.D.Disk.view new.disk).failures old.epoch new.epoch old.broken new.broken old.before.value new.before.value old.register new.register c.args.command.now c.in-Err.fault
-    c.service_of.result c.in-Err.ensures.kinds c.service_of.ensures
+    c.outage_of.result c.in-Err.ensures.kinds c.outage_of.ensures
     (λ is. ((c.in-Err.ensures.only_broken (ap Err is)).0, ap (λ self. stored_of (g.D.Disk.view self.disk).failures self.epoch self.broken self.before.value self.register) (c.in-Err.ensures.only_broken (ap Err is)).1))
     (λ is. c.in-Err.ensures.memory (ap Err is))
     (λ is. let e = c.in-Err.ensures.epochs (ap Err is) in (e.0, e.1, e.2, e.3, ap (λ disk. (g.D.Disk.view disk).failures) e.4, e.5))

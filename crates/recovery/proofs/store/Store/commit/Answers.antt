@@ -3,11 +3,11 @@ use Rattle.std.proofs.lemmas.Bool.{true≢false}
 use mathlib.Core.Bool.{false≢true}
 use Rattle.std.proofs.lemmas.List.{append-nil, nil_from_length}
 use Rattle.mailbox.proofs.Results.{known_err}
-use Rattle.recovery.proofs.Stored.{batch_done, fewer_fit, stored_stands, no_length, none_answered, nothing_done, only_before}
+use Rattle.recovery.proofs.Stored.{batch_done, fewer_fit, stored_opens, no_length, none_answered, nothing_done, only_before}
 use Rattle.sector_disk.proofs.Made.{made_none}
 use Rattle.gated_journal.specs.Record.{given}
-use Rattle.recovery.proofs.Batches.{recorded_behind, none_recorded}
-use Rattle.recovery.proofs.Committed.{batch_history, batch_leaves, batch_kept, batch_made, belongs_later, counts_beside, it_fits, no_room, kept_from, none_kept}
+use Rattle.recovery.proofs.Batches.{recorded_after, none_recorded}
+use Rattle.recovery.proofs.Committed.{batch_history, batch_leaves, batch_kept, batch_made, belongs_later, counts_ongoing, it_fits, no_room, kept_from, none_kept}
 use Rattle.recovery.specs.Outcomes.{asked}
 use Rattle.recovery.specs.Lives.{IsUnansweredCall, view_of}
 use Rattle.recovery.proofs.Events.{answered_later, is_answered, is_unanswered, nothing_accepted, unanswered_idle}
@@ -70,7 +70,7 @@ returns-then-is_empty-clause-outcomes g c =
     none_answered c.args.self.now.register c.args.commands.now c.new.result.items (nil_from_length c.args.commands.now nothing) empty
 
 pub returns-then-is_empty-clause-acknowledged : goal.returns-then-is_empty-clause-acknowledged
-returns-then-is_empty-clause-acknowledged g c = λ honest stored. stored_stands g.row.A.Denot c.args.self.now.layout c.args.self.now.side c.args.self.now.epoch c.args.self.now.journal c.args.self.now.register (g.D.Disk.view c.args.self.now.disk) stored.stored
+returns-then-is_empty-clause-acknowledged g c = λ honest stored. stored_opens g.row.A.Denot c.args.self.now.layout c.args.self.now.side c.args.self.now.epoch c.args.self.now.journal c.args.self.now.register (g.D.Disk.view c.args.self.now.disk) stored.stored
 
 pub returns-then-is_empty-clause-calls : goal.returns-then-is_empty-clause-calls
 returns-then-is_empty-clause-calls g c = λ honest. ([], none_recorded g.row.A.Denot c.args.self.now.register c.args.self.now.register (asked c.args.commands.now) refl, none_kept (view_of c.args.self.now), sym (append-nil (g.D.Disk.view c.args.self.now.disk).calls))
@@ -91,7 +91,7 @@ invariant_of-self g c =
       end = self.end;
       next = self.next;
       counts = omega (arith, self.counts, c.apply_all.ensures.counted);
-      other = belongs_later self.layout self.side self.epoch self.journal self.register.count c.apply_all.new.register.count self.beside self.other (omega (arith, c.apply_all.ensures.counted));
+      other = belongs_later self.layout self.side self.epoch self.journal self.register.count c.apply_all.new.register.count self.ongoing self.other (omega (arith, c.apply_all.ensures.counted));
     }
 
 pub keep-requires-clause-fits : goal.keep-requires-clause-fits
@@ -103,7 +103,7 @@ keep-requires-clause-counted g c = rw c.deref.ensures.value (omega (arith, c.app
 pub keep-requires-clause-other_counted : goal.keep-requires-clause-other_counted
 keep-requires-clause-other_counted g c =
     let self = c.args.self.now in
-    rw c.deref.ensures.value (counts_beside self.layout self.side self.epoch self.journal self.register.count c.apply_all.new.register.count self.beside self.other (length c.apply_all.new.accepted.items) (omega (arith, c.apply_all.ensures.counted)))
+    rw c.deref.ensures.value (counts_ongoing self.layout self.side self.epoch self.journal self.register.count c.apply_all.new.register.count self.ongoing self.other (length c.apply_all.new.accepted.items) (omega (arith, c.apply_all.ensures.counted)))
 
 pub returns-in_err-keep-clause-any_moment : goal.returns-in_err-keep-clause-any_moment
 returns-in_err-keep-clause-any_moment g c = λ honest stored.
@@ -128,12 +128,12 @@ returns-clause-kept g c = λ honest stored.
     let history = batch_history s t c.deref.result.now c.apply_all.new.accepted.items c.deref.ensures.value c.apply_all.ensures.history in
     let made = batch_made s t c.deref.result.now c.apply_all.new.accepted.items c.deref.ensures.value c.apply_all.ensures.state in
     let self = c.keep.new.self in
-    batch_kept g.row.A.Denot self.layout self.side self.epoch self.journal self.beside t self.register (g.D.Disk.view self.disk) c.keep.ensures.same.1 (c.in_ok-keep.ensures.kept s history made honest stored)
+    batch_kept g.row.A.Denot self.layout self.side self.epoch self.journal self.ongoing t self.register (g.D.Disk.view self.disk) c.keep.ensures.same.1 (c.in_ok-keep.ensures.kept s history made honest stored)
 
 pub returns-clause-acknowledged : goal.returns-clause-acknowledged
 returns-clause-acknowledged g c = λ honest stored.
     let self = c.keep.new.self in
-    stored_stands g.row.A.Denot self.layout self.side self.epoch self.journal self.register (g.D.Disk.view self.disk) (returns-clause-kept g c honest stored).stored
+    stored_opens g.row.A.Denot self.layout self.side self.epoch self.journal self.register (g.D.Disk.view self.disk) (returns-clause-kept g c honest stored).stored
 
 pub returns-clause-sound : goal.returns-clause-sound
 returns-clause-sound g c = c.in_ok-keep.ensures.sound ∙ c.if-self.false
@@ -146,7 +146,7 @@ pub returns-in_err-keep-clause-some_calls : goal.returns-in_err-keep-clause-some
 returns-in_err-keep-clause-some_calls g c = λ honest.
     let self = c.args.self.now in
     let these = given g.row.A.Denot c.deref.result.now in
-    let recorded = recorded_behind g.row.A.Denot self.register self.register c.apply_all.new.register c.keep.new.self.register (asked c.args.commands.now) c.deref.result.now c.apply_all.new.accepted.items refl c.deref.ensures.value c.keep.ensures.same.1 c.apply_all.ensures.recorded in
+    let recorded = recorded_after g.row.A.Denot self.register self.register c.apply_all.new.register c.keep.new.self.register (asked c.args.commands.now) c.deref.result.now c.apply_all.new.accepted.items refl c.deref.ensures.value c.keep.ensures.same.1 c.apply_all.ensures.recorded in
     let some = c.keep.ensures.some_calls honest in
     (these, some.0, recorded, some.1, some.2)
 
@@ -154,7 +154,7 @@ pub returns-in_err-keep-clause-some_calls_on_any_disk : goal.returns-in_err-keep
 returns-in_err-keep-clause-some_calls_on_any_disk g c =
     let self = c.args.self.now in
     let these = given g.row.A.Denot c.deref.result.now in
-    let recorded = recorded_behind g.row.A.Denot self.register self.register c.apply_all.new.register c.keep.new.self.register (asked c.args.commands.now) c.deref.result.now c.apply_all.new.accepted.items refl c.deref.ensures.value c.keep.ensures.same.1 c.apply_all.ensures.recorded in
+    let recorded = recorded_after g.row.A.Denot self.register self.register c.apply_all.new.register c.keep.new.self.register (asked c.args.commands.now) c.deref.result.now c.apply_all.new.accepted.items refl c.deref.ensures.value c.keep.ensures.same.1 c.apply_all.ensures.recorded in
     let some = c.keep.ensures.some_calls_on_any_disk in
     (these, some.0, some.1, recorded, some.2, some.3)
 
@@ -162,7 +162,7 @@ pub returns-clause-some_calls : goal.returns-clause-some_calls
 returns-clause-some_calls g c = λ honest.
     let self = c.args.self.now in
     let these = given g.row.A.Denot c.deref.result.now in
-    let recorded = recorded_behind g.row.A.Denot self.register self.register c.apply_all.new.register c.keep.new.self.register (asked c.args.commands.now) c.deref.result.now c.apply_all.new.accepted.items refl c.deref.ensures.value c.keep.ensures.same.1 c.apply_all.ensures.recorded in
+    let recorded = recorded_after g.row.A.Denot self.register self.register c.apply_all.new.register c.keep.new.self.register (asked c.args.commands.now) c.deref.result.now c.apply_all.new.accepted.items refl c.deref.ensures.value c.keep.ensures.same.1 c.apply_all.ensures.recorded in
     let some = c.keep.ensures.some_calls honest in
     (these, some.0, recorded, some.1, some.2)
 
@@ -170,7 +170,7 @@ pub returns-clause-some_calls_on_any_disk : goal.returns-clause-some_calls_on_an
 returns-clause-some_calls_on_any_disk g c =
     let self = c.args.self.now in
     let these = given g.row.A.Denot c.deref.result.now in
-    let recorded = recorded_behind g.row.A.Denot self.register self.register c.apply_all.new.register c.keep.new.self.register (asked c.args.commands.now) c.deref.result.now c.apply_all.new.accepted.items refl c.deref.ensures.value c.keep.ensures.same.1 c.apply_all.ensures.recorded in
+    let recorded = recorded_after g.row.A.Denot self.register self.register c.apply_all.new.register c.keep.new.self.register (asked c.args.commands.now) c.deref.result.now c.apply_all.new.accepted.items refl c.deref.ensures.value c.keep.ensures.same.1 c.apply_all.ensures.recorded in
     let some = c.keep.ensures.some_calls_on_any_disk in
     (these, some.0, some.1, recorded, some.2, some.3)
 
@@ -178,16 +178,16 @@ pub returns-clause-calls : goal.returns-clause-calls
 returns-clause-calls g c = λ honest.
     let self = c.args.self.now in
     let these = given g.row.A.Denot c.deref.result.now in
-    let recorded = recorded_behind g.row.A.Denot self.register self.register c.apply_all.new.register c.keep.new.self.register (asked c.args.commands.now) c.deref.result.now c.apply_all.new.accepted.items refl c.deref.ensures.value c.keep.ensures.same.1 c.apply_all.ensures.recorded in
-    let kept = kept_from _ (view_of self) (view_of c.keep.new.self) these c.in_ok-keep.ensures.gone_on refl refl refl refl refl in
+    let recorded = recorded_after g.row.A.Denot self.register self.register c.apply_all.new.register c.keep.new.self.register (asked c.args.commands.now) c.deref.result.now c.apply_all.new.accepted.items refl c.deref.ensures.value c.keep.ensures.same.1 c.apply_all.ensures.recorded in
+    let kept = kept_from _ (view_of self) (view_of c.keep.new.self) these c.in_ok-keep.ensures.goes refl refl refl refl refl in
     (these, recorded, kept, c.in_ok-keep.ensures.calls honest)
 
 pub returns-clause-calls_on_any_disk : goal.returns-clause-calls_on_any_disk
 returns-clause-calls_on_any_disk g c =
     let self = c.args.self.now in
     let these = given g.row.A.Denot c.deref.result.now in
-    let recorded = recorded_behind g.row.A.Denot self.register self.register c.apply_all.new.register c.keep.new.self.register (asked c.args.commands.now) c.deref.result.now c.apply_all.new.accepted.items refl c.deref.ensures.value c.keep.ensures.same.1 c.apply_all.ensures.recorded in
-    let kept = kept_from _ (view_of self) (view_of c.keep.new.self) these c.in_ok-keep.ensures.gone_on refl refl refl refl refl in
+    let recorded = recorded_after g.row.A.Denot self.register self.register c.apply_all.new.register c.keep.new.self.register (asked c.args.commands.now) c.deref.result.now c.apply_all.new.accepted.items refl c.deref.ensures.value c.keep.ensures.same.1 c.apply_all.ensures.recorded in
+    let kept = kept_from _ (view_of self) (view_of c.keep.new.self) these c.in_ok-keep.ensures.goes refl refl refl refl refl in
     let all = c.in_ok-keep.ensures.calls_on_any_disk in
     (these, all.0, recorded, kept, all.1)
 

@@ -8,10 +8,10 @@ use Rattle.checkpoint.specs.Calls.{is_root_open}
 use Rattle.checkpoint.specs.Layout.{other_of}
 use Rattle.recovery.specs.declared.outcome.Outcome.TheVariants.{Replied}
 use Rattle.recovery.specs.Calls.{fits_in, room_calls, room_calls_by}
-use Rattle.recovery.specs.GoneOn.{with_room}
+use Rattle.recovery.specs.AfterCommit.{with_room}
 use Rattle.recovery.specs.Lives.{view_of}
-use Rattle.recovery.proofs.Batches.{ends_counted, ends_history, ends_recorded, ends_size, ends_state, none_recorded, recorded_behind}
-use Rattle.recovery.proofs.Committed.{batch_kept, begins_none, belongs_later, counts_beside, desk_leaves, it_fits, kept_from, made_then, room_calls_are, room_calls_read, room_kept, room_may, some_then}
+use Rattle.recovery.proofs.Batches.{ends_counted, ends_history, ends_recorded, ends_size, ends_state, none_recorded, recorded_after}
+use Rattle.recovery.proofs.Committed.{batch_kept, begins_none, belongs_later, counts_ongoing, desk_leaves, it_fits, kept_from, made_then, room_calls_are, room_calls_read, room_kept, room_may, some_then}
 use Rattle.recovery.proofs.Limited.{result_limits}
 use Rattle.recovery.proofs.OneCommand.{after_one, by_room, err_part, few_kept, one_ends, result_counts}
 use Rattle.recovery.proofs.Stored.{fewer_fit, nothing_done, only_before}
@@ -123,7 +123,7 @@ invariant_of-self g c =
       end = self.end;
       next = self.next;
       counts = omega (arith, self.counts, more);
-      other = belongs_later self.layout self.side self.epoch self.journal self.register.count c.apply.new.self.count self.beside self.other more;
+      other = belongs_later self.layout self.side self.epoch self.journal self.register.count c.apply.new.self.count self.ongoing self.other more;
     }
 
 pub keep-requires-clause-few : goal.keep-requires-clause-few
@@ -149,7 +149,7 @@ keep-requires-clause-other_counted g c =
     let kept = c.if_accepted.result.now in
     let one = Replied c.in_ok-reply.reply ∷ [] in
     let ends = one_ends m t c.in_ok-reply.reply c.args.command.now c.in_ok-reply.ensures.ok c.args.command kept refl c.if_accepted.ensures in
-    counts_beside self.layout self.side self.epoch self.journal self.register.count t.count self.beside self.other (length kept) (omega (arith, ends_counted m t (c.args.command ∷ []) kept one ends))
+    counts_ongoing self.layout self.side self.epoch self.journal self.register.count t.count self.ongoing self.other (length kept) (omega (arith, ends_counted m t (c.args.command ∷ []) kept one ends))
 
 pub returns-in_err-keep-clause-register : goal.returns-in_err-keep-clause-register
 returns-in_err-keep-clause-register g c = after_one c.make_room.new.self.register c.apply.new.self c.in_ok-reply.reply c.args.command.now c.in_ok-reply.ensures.ok c.args.self.now.register c.keep.new.self.register c.make_room.ensures.same.1 c.keep.ensures.same.1
@@ -181,7 +181,7 @@ returns-in_err-keep-clause-some_calls g c = λ honest.
     let mid = g.D.Disk.view room.disk in
     let new = g.D.Disk.view c.keep.new.self.disk in
     let these = given g.row.A.Denot kept in
-    let recorded = recorded_behind g.row.A.Denot self.register m t c.keep.new.self.register (c.args.command.now ∷ []) kept kept c.make_room.ensures.same.1 refl c.keep.ensures.same.1 (ends_recorded m t (c.args.command ∷ []) kept one ends g.row.A.Denot) in
+    let recorded = recorded_after g.row.A.Denot self.register m t c.keep.new.self.register (c.args.command.now ∷ []) kept kept c.make_room.ensures.same.1 refl c.keep.ensures.same.1 (ends_recorded m t (c.args.command ∷ []) kept one ends g.row.A.Denot) in
     let place = c.in_ok-make_room.ensures.place in
     let was_open = is_root_open (other_of self.side) old.reads in
     let also = is_root_open (other_of room.side) mid.reads in
@@ -210,7 +210,7 @@ returns-in_err-keep-clause-some_calls_on_any_disk g c =
     let mid = g.D.Disk.view room.disk in
     let new = g.D.Disk.view c.keep.new.self.disk in
     let these = given g.row.A.Denot kept in
-    let recorded = recorded_behind g.row.A.Denot self.register m t c.keep.new.self.register (c.args.command.now ∷ []) kept kept c.make_room.ensures.same.1 refl c.keep.ensures.same.1 (ends_recorded m t (c.args.command ∷ []) kept one ends g.row.A.Denot) in
+    let recorded = recorded_after g.row.A.Denot self.register m t c.keep.new.self.register (c.args.command.now ∷ []) kept kept c.make_room.ensures.same.1 refl c.keep.ensures.same.1 (ends_recorded m t (c.args.command ∷ []) kept one ends g.row.A.Denot) in
     let place = c.in_ok-make_room.ensures.place in
     let all = c.in_ok-make_room.ensures.calls_on_any_disk in
     let some = c.keep.ensures.some_calls_on_any_disk in (
@@ -253,7 +253,7 @@ returns-clause-some_calls g c = λ honest.
     let mid = g.D.Disk.view room.disk in
     let new = g.D.Disk.view c.keep.new.self.disk in
     let these = given g.row.A.Denot kept in
-    let recorded = recorded_behind g.row.A.Denot self.register m t c.keep.new.self.register (c.args.command.now ∷ []) kept kept c.make_room.ensures.same.1 refl c.keep.ensures.same.1 (ends_recorded m t (c.args.command ∷ []) kept one ends g.row.A.Denot) in
+    let recorded = recorded_after g.row.A.Denot self.register m t c.keep.new.self.register (c.args.command.now ∷ []) kept kept c.make_room.ensures.same.1 refl c.keep.ensures.same.1 (ends_recorded m t (c.args.command ∷ []) kept one ends g.row.A.Denot) in
     let place = c.in_ok-make_room.ensures.place in
     let was_open = is_root_open (other_of self.side) old.reads in
     let also = is_root_open (other_of room.side) mid.reads in
@@ -282,7 +282,7 @@ returns-clause-some_calls_on_any_disk g c =
     let mid = g.D.Disk.view room.disk in
     let new = g.D.Disk.view c.keep.new.self.disk in
     let these = given g.row.A.Denot kept in
-    let recorded = recorded_behind g.row.A.Denot self.register m t c.keep.new.self.register (c.args.command.now ∷ []) kept kept c.make_room.ensures.same.1 refl c.keep.ensures.same.1 (ends_recorded m t (c.args.command ∷ []) kept one ends g.row.A.Denot) in
+    let recorded = recorded_after g.row.A.Denot self.register m t c.keep.new.self.register (c.args.command.now ∷ []) kept kept c.make_room.ensures.same.1 refl c.keep.ensures.same.1 (ends_recorded m t (c.args.command ∷ []) kept one ends g.row.A.Denot) in
     let place = c.in_ok-make_room.ensures.place in
     let all = c.in_ok-make_room.ensures.calls_on_any_disk in
     let some = c.keep.ensures.some_calls_on_any_disk in (
@@ -306,7 +306,7 @@ returns-clause-kept g c = λ sound honest stored.
     let one = Replied c.in_ok-reply.reply ∷ [] in
     let ends = one_ends m t c.in_ok-reply.reply c.args.command.now c.in_ok-reply.ensures.ok c.args.command kept refl c.if_accepted.ensures in
     let new = c.keep.new.self in
-    batch_kept g.row.A.Denot new.layout new.side new.epoch new.journal new.beside t new.register (g.D.Disk.view new.disk) c.keep.ensures.same.1
+    batch_kept g.row.A.Denot new.layout new.side new.epoch new.journal new.ongoing t new.register (g.D.Disk.view new.disk) c.keep.ensures.same.1
     (c.in_ok-keep.ensures.kept m (ends_history m t (c.args.command ∷ []) kept one ends) (ends_state m t (c.args.command ∷ []) kept one ends) (c.make_room.ensures.honest honest) (c.in_ok-make_room.ensures.kept honest stored))
 
 pub returns-clause-calls : goal.returns-clause-calls
@@ -324,16 +324,16 @@ returns-clause-calls g c = λ honest.
     let mid = g.D.Disk.view room.disk in
     let new = g.D.Disk.view c.keep.new.self.disk in
     let these = given g.row.A.Denot kept in
-    let recorded = recorded_behind g.row.A.Denot self.register m t c.keep.new.self.register (c.args.command.now ∷ []) kept kept c.make_room.ensures.same.1 refl c.keep.ensures.same.1 (ends_recorded m t (c.args.command ∷ []) kept one ends g.row.A.Denot) in
+    let recorded = recorded_after g.row.A.Denot self.register m t c.keep.new.self.register (c.args.command.now ∷ []) kept kept c.make_room.ensures.same.1 refl c.keep.ensures.same.1 (ends_recorded m t (c.args.command ∷ []) kept one ends g.row.A.Denot) in
     let place = c.in_ok-make_room.ensures.place in
     let was_open = is_root_open (other_of self.side) old.reads in
     let also = is_root_open (other_of room.side) mid.reads in
     let same : fits ≡ true → also ≡ was_open = λ is. ap (λ store. is_root_open (other_of store.side) (g.D.Disk.view store.disk).reads) (c.make_room.ensures.stays (it_fits g.row.A.Denot self.journal (c.args.command ∷ []) is)).1 in
-    let begins = is_some c.keep.new.self.beside in (
+    let begins = is_some c.keep.new.self.ongoing in (
       these,
       also,
       recorded,
-      room_kept (view_of room) (view_of self) fits c.make_room.ensures.same.0 place these (view_of c.keep.new.self) (kept_from _ (view_of room) (view_of c.keep.new.self) these c.in_ok-keep.ensures.gone_on refl refl refl refl refl),
+      room_kept (view_of room) (view_of self) fits c.make_room.ensures.same.0 place these (view_of c.keep.new.self) (kept_from _ (view_of room) (view_of c.keep.new.self) these c.in_ok-keep.ensures.goes refl refl refl refl refl),
       made_then old mid new (room_calls self.layout self.side self.epoch self.register old.reads fits) _ _ (c.in_ok-make_room.ensures.calls honest) (room_calls_read (view_of room) (view_of self) fits c.make_room.ensures.same.0 place these begins was_open also same) (c.in_ok-keep.ensures.calls (c.make_room.ensures.honest honest)),
     )
 
@@ -352,16 +352,16 @@ returns-clause-calls_on_any_disk g c =
     let mid = g.D.Disk.view room.disk in
     let new = g.D.Disk.view c.keep.new.self.disk in
     let these = given g.row.A.Denot kept in
-    let recorded = recorded_behind g.row.A.Denot self.register m t c.keep.new.self.register (c.args.command.now ∷ []) kept kept c.make_room.ensures.same.1 refl c.keep.ensures.same.1 (ends_recorded m t (c.args.command ∷ []) kept one ends g.row.A.Denot) in
+    let recorded = recorded_after g.row.A.Denot self.register m t c.keep.new.self.register (c.args.command.now ∷ []) kept kept c.make_room.ensures.same.1 refl c.keep.ensures.same.1 (ends_recorded m t (c.args.command ∷ []) kept one ends g.row.A.Denot) in
     let place = c.in_ok-make_room.ensures.place in
-    let begins = is_some c.keep.new.self.beside in
+    let begins = is_some c.keep.new.self.ongoing in
     let all = c.in_ok-make_room.ensures.calls_on_any_disk in
     let also = c.in_ok-keep.ensures.calls_on_any_disk in (
       these,
       all.0,
       also.0,
       recorded,
-      room_kept (view_of room) (view_of self) fits c.make_room.ensures.same.0 place these (view_of c.keep.new.self) (kept_from _ (view_of room) (view_of c.keep.new.self) these c.in_ok-keep.ensures.gone_on refl refl refl refl refl),
+      room_kept (view_of room) (view_of self) fits c.make_room.ensures.same.0 place these (view_of c.keep.new.self) (kept_from _ (view_of room) (view_of c.keep.new.self) these c.in_ok-keep.ensures.goes refl refl refl refl refl),
       made_then old mid new (room_calls_by self.layout self.side self.epoch self.register all.0 fits) _ _ all.1 (room_calls_are (view_of room) (view_of self) fits c.make_room.ensures.same.0 place these begins also.0) also.1,
     )
 

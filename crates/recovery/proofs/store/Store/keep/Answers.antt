@@ -11,7 +11,7 @@ use Rattle.centre_core.specs.History.{after}
 use Rattle.checkpoint.specs.Calls.{is_root_open}
 use Rattle.checkpoint.specs.Layout.{other_of}
 use Rattle.recovery.specs.Lives.{view_of}
-use Rattle.recovery.specs.Outcomes.{StandsForEither, asked}
+use Rattle.recovery.specs.Outcomes.{OpensToEither, asked}
 use Rattle.recovery.specs.UnderWay.{IsKept}
 use Rattle.recovery.proofs.KeptOn.{kept_by, made_all, made_record, made_some, then_as_it_is}
 use Rattle.recovery.proofs.Stored.{no_length, nothing_done, some_length}
@@ -29,8 +29,8 @@ returns-then-is_empty-clause-kept g c = λ state history made honest kept.
     let same : c.args.self.now.register ≡ state = rw none at made in
     rw same kept
 
-pub returns-then-is_empty-clause-gone_on : goal.returns-then-is_empty-clause-gone_on
-returns-then-is_empty-clause-gone_on g c =
+pub returns-then-is_empty-clause-goes : goal.returns-then-is_empty-clause-goes
+returns-then-is_empty-clause-goes g c =
     let none : c.args.accepted.now ≡ [] = nil_from_length c.args.accepted.now (no_length (length c.args.accepted.now) (sym c.is_empty.ensures ∙ c.if-is_empty.true)) in
     rw none (record { side = refl; epoch = refl; journal = refl }, refl)
 
@@ -52,71 +52,71 @@ returns-then-is_empty-clause-some_calls_on_any_disk g c = (false, false, λ is. 
 
 pub returns-in_err-add_record-clause-any_moment : goal.returns-in_err-add_record-clause-any_moment
 returns-in_err-add_record-clause-any_moment g c = λ state history made honest kept.
-    subst (λ (t : State). LeavesOnly (g.D.Disk.view c.args.self.now.disk) (g.D.Disk.view c.add_record.new.self.disk) (StandsForEither g.row.A.Denot state t)) (sym made) (c.add_record.ensures.any_moment state history honest kept)
+    subst (λ (t : State). LeavesOnly (g.D.Disk.view c.args.self.now.disk) (g.D.Disk.view c.add_record.new.self.disk) (OpensToEither g.row.A.Denot state t)) (sym made) (c.add_record.ensures.any_moment state history honest kept)
 
 pub returns-in_err-add_record-clause-some_calls : goal.returns-in_err-add_record-clause-some_calls
 returns-in_err-add_record-clause-some_calls g c = λ honest.
     let some : 1 ≤ length c.args.accepted.now = some_length (length c.args.accepted.now) (sym c.is_empty.ensures ∙ c.if-is_empty.false) in
-    (false, λ is. absurd (true≢false (sym is)), made_record c.args.self.now.layout c.args.self.now.side c.args.self.now.epoch c.args.self.now.journal c.args.self.now.beside c.args.accepted.now some false (is_root_open (other_of c.args.self.now.side) (g.D.Disk.view c.args.self.now.disk).reads) (g.D.Disk.view c.args.self.now.disk) (g.D.Disk.view c.add_record.new.self.disk) c.add_record.ensures.some_calls)
+    (false, λ is. absurd (true≢false (sym is)), made_record c.args.self.now.layout c.args.self.now.side c.args.self.now.epoch c.args.self.now.journal c.args.self.now.ongoing c.args.accepted.now some false (is_root_open (other_of c.args.self.now.side) (g.D.Disk.view c.args.self.now.disk).reads) (g.D.Disk.view c.args.self.now.disk) (g.D.Disk.view c.add_record.new.self.disk) c.add_record.ensures.some_calls)
 
 pub returns-in_err-add_record-clause-some_calls_on_any_disk : goal.returns-in_err-add_record-clause-some_calls_on_any_disk
 returns-in_err-add_record-clause-some_calls_on_any_disk g c =
     let some : 1 ≤ length c.args.accepted.now = some_length (length c.args.accepted.now) (sym c.is_empty.ensures ∙ c.if-is_empty.false) in
-    (false, false, λ is. absurd (true≢false (sym is)), made_record c.args.self.now.layout c.args.self.now.side c.args.self.now.epoch c.args.self.now.journal c.args.self.now.beside c.args.accepted.now some false false (g.D.Disk.view c.args.self.now.disk) (g.D.Disk.view c.add_record.new.self.disk) c.add_record.ensures.some_calls)
+    (false, false, λ is. absurd (true≢false (sym is)), made_record c.args.self.now.layout c.args.self.now.side c.args.self.now.epoch c.args.self.now.journal c.args.self.now.ongoing c.args.accepted.now some false false (g.D.Disk.view c.args.self.now.disk) (g.D.Disk.view c.add_record.new.self.disk) c.add_record.ensures.some_calls)
 
 pub returns-clause-any_moment : goal.returns-clause-any_moment
 returns-clause-any_moment g c = λ state history made honest kept.
     let mid_honest = c.add_record.ensures.honest honest in
     let register : c.add_record.new.self.register ≡ after state (asked c.args.accepted.now) = c.add_record.ensures.same.3 ∙ made in
-    let mid_kept : IsKept g.row.A.Denot c.add_record.new.self.layout c.add_record.new.self.side c.add_record.new.self.epoch c.add_record.new.self.journal c.add_record.new.self.beside c.add_record.new.self.register (g.D.Disk.view c.add_record.new.self.disk) =
-    subst (λ (t : State). IsKept g.row.A.Denot c.add_record.new.self.layout c.add_record.new.self.side c.add_record.new.self.epoch c.add_record.new.self.journal c.add_record.new.self.beside t (g.D.Disk.view c.add_record.new.self.disk)) (sym register) (c.in_ok-add_record.ensures.kept state history honest kept) in
+    let mid_kept : IsKept g.row.A.Denot c.add_record.new.self.layout c.add_record.new.self.side c.add_record.new.self.epoch c.add_record.new.self.journal c.add_record.new.self.ongoing c.add_record.new.self.register (g.D.Disk.view c.add_record.new.self.disk) =
+    subst (λ (t : State). IsKept g.row.A.Denot c.add_record.new.self.layout c.add_record.new.self.side c.add_record.new.self.epoch c.add_record.new.self.journal c.add_record.new.self.ongoing t (g.D.Disk.view c.add_record.new.self.disk)) (sym register) (c.in_ok-add_record.ensures.kept state history honest kept) in
     let same : c.args.self.now.register ≡ c.add_record.new.self.register = sym c.add_record.ensures.same.3 in
-    subst (λ (t : State). LeavesOnly (g.D.Disk.view c.args.self.now.disk) (g.D.Disk.view c.go_on.new.self.disk) (StandsForEither g.row.A.Denot state t)) (sym same)
-    (then_as_it_is g.row.A.Denot state (after state (asked c.args.accepted.now)) c.add_record.new.self.register (g.D.Disk.view c.args.self.now.disk) (g.D.Disk.view c.add_record.new.self.disk) (g.D.Disk.view c.go_on.new.self.disk) register (c.add_record.ensures.any_moment state history honest kept) (c.go_on.ensures.any_moment mid_honest mid_kept))
+    subst (λ (t : State). LeavesOnly (g.D.Disk.view c.args.self.now.disk) (g.D.Disk.view c.advance_checkpoint.new.self.disk) (OpensToEither g.row.A.Denot state t)) (sym same)
+    (then_as_it_is g.row.A.Denot state (after state (asked c.args.accepted.now)) c.add_record.new.self.register (g.D.Disk.view c.args.self.now.disk) (g.D.Disk.view c.add_record.new.self.disk) (g.D.Disk.view c.advance_checkpoint.new.self.disk) register (c.add_record.ensures.any_moment state history honest kept) (c.advance_checkpoint.ensures.any_moment mid_honest mid_kept))
 
 pub returns-clause-kept : goal.returns-clause-kept
 returns-clause-kept g c =
-    on_ok_weaker c.go_on.result (λ then state history made honest kept.
+    on_ok_weaker c.advance_checkpoint.result (λ then state history made honest kept.
     let mid_honest = c.add_record.ensures.honest honest in
     let register : c.add_record.new.self.register ≡ after state (asked c.args.accepted.now) = c.add_record.ensures.same.3 ∙ made in
-    let mid_kept : IsKept g.row.A.Denot c.add_record.new.self.layout c.add_record.new.self.side c.add_record.new.self.epoch c.add_record.new.self.journal c.add_record.new.self.beside c.add_record.new.self.register (g.D.Disk.view c.add_record.new.self.disk) =
-    subst (λ (t : State). IsKept g.row.A.Denot c.add_record.new.self.layout c.add_record.new.self.side c.add_record.new.self.epoch c.add_record.new.self.journal c.add_record.new.self.beside t (g.D.Disk.view c.add_record.new.self.disk)) (sym register) (c.in_ok-add_record.ensures.kept state history honest kept) in
-    let same : c.go_on.new.self.register ≡ c.args.self.now.register = c.go_on.ensures.same.1 ∙ c.add_record.ensures.same.3 in
-    subst (λ (t : State). IsKept g.row.A.Denot c.go_on.new.self.layout c.go_on.new.self.side c.go_on.new.self.epoch c.go_on.new.self.journal c.go_on.new.self.beside t (g.D.Disk.view c.go_on.new.self.disk)) same (then mid_honest mid_kept)) c.go_on.ensures.kept
+    let mid_kept : IsKept g.row.A.Denot c.add_record.new.self.layout c.add_record.new.self.side c.add_record.new.self.epoch c.add_record.new.self.journal c.add_record.new.self.ongoing c.add_record.new.self.register (g.D.Disk.view c.add_record.new.self.disk) =
+    subst (λ (t : State). IsKept g.row.A.Denot c.add_record.new.self.layout c.add_record.new.self.side c.add_record.new.self.epoch c.add_record.new.self.journal c.add_record.new.self.ongoing t (g.D.Disk.view c.add_record.new.self.disk)) (sym register) (c.in_ok-add_record.ensures.kept state history honest kept) in
+    let same : c.advance_checkpoint.new.self.register ≡ c.args.self.now.register = c.advance_checkpoint.ensures.same.1 ∙ c.add_record.ensures.same.3 in
+    subst (λ (t : State). IsKept g.row.A.Denot c.advance_checkpoint.new.self.layout c.advance_checkpoint.new.self.side c.advance_checkpoint.new.self.epoch c.advance_checkpoint.new.self.journal c.advance_checkpoint.new.self.ongoing t (g.D.Disk.view c.advance_checkpoint.new.self.disk)) same (then mid_honest mid_kept)) c.advance_checkpoint.ensures.kept
 
-pub returns-clause-gone_on : goal.returns-clause-gone_on
-returns-clause-gone_on g c =
+pub returns-clause-goes : goal.returns-clause-goes
+returns-clause-goes g c =
     let some : 1 ≤ length c.args.accepted.now = some_length (length c.args.accepted.now) (sym c.is_empty.ensures ∙ c.if-is_empty.false) in
-    on_ok_weaker c.go_on.result (λ goes. kept_by (view_of c.args.self.now) (view_of c.add_record.new.self) (view_of c.go_on.new.self) c.args.accepted.now some c.add_record.ensures.same.0 c.add_record.ensures.same.1 c.add_record.ensures.same.2 c.in_ok-add_record.ensures.behind.0 c.in_ok-add_record.ensures.behind.1 goes) c.go_on.ensures.goes
+    on_ok_weaker c.advance_checkpoint.result (λ goes. kept_by (view_of c.args.self.now) (view_of c.add_record.new.self) (view_of c.advance_checkpoint.new.self) c.args.accepted.now some c.add_record.ensures.same.0 c.add_record.ensures.same.1 c.add_record.ensures.same.2 c.in_ok-add_record.ensures.following.0 c.in_ok-add_record.ensures.following.1 goes) c.advance_checkpoint.ensures.goes
 
 pub returns-clause-calls : goal.returns-clause-calls
 returns-clause-calls g c =
     let some : 1 ≤ length c.args.accepted.now = some_length (length c.args.accepted.now) (sym c.is_empty.ensures ∙ c.if-is_empty.false) in
-    on_ok_weaker c.go_on.result (λ then honest.
+    on_ok_weaker c.advance_checkpoint.result (λ then honest.
     let root : is_root_open (other_of c.args.self.now.side) (g.D.Disk.view c.add_record.new.self.disk).reads ≡ is_root_open (other_of c.args.self.now.side) (g.D.Disk.view c.args.self.now.disk).reads = ap is_open (c.in_ok-add_record.ensures.root honest) in
     let made = rw (c.add_record.ensures.same.0, c.add_record.ensures.same.1, c.add_record.ensures.same.2, root) at (then (c.add_record.ensures.honest honest)) in
-    made_all c.args.self.now.layout c.args.self.now.side c.args.self.now.epoch c.args.self.now.journal c.args.self.now.beside c.args.accepted.now some _ _ (g.D.Disk.view c.args.self.now.disk) (g.D.Disk.view c.add_record.new.self.disk) (g.D.Disk.view c.go_on.new.self.disk) c.in_ok-add_record.ensures.calls c.add_record.new.self.beside c.in_ok-add_record.ensures.behind.1 made) c.go_on.ensures.calls
+    made_all c.args.self.now.layout c.args.self.now.side c.args.self.now.epoch c.args.self.now.journal c.args.self.now.ongoing c.args.accepted.now some _ _ (g.D.Disk.view c.args.self.now.disk) (g.D.Disk.view c.add_record.new.self.disk) (g.D.Disk.view c.advance_checkpoint.new.self.disk) c.in_ok-add_record.ensures.calls c.add_record.new.self.ongoing c.in_ok-add_record.ensures.following.1 made) c.advance_checkpoint.ensures.calls
 
 pub returns-clause-some_calls : goal.returns-clause-some_calls
 returns-clause-some_calls g c = λ honest.
     let some : 1 ≤ length c.args.accepted.now = some_length (length c.args.accepted.now) (sym c.is_empty.ensures ∙ c.if-is_empty.false) in
     let root : is_root_open (other_of c.args.self.now.side) (g.D.Disk.view c.add_record.new.self.disk).reads ≡ is_root_open (other_of c.args.self.now.side) (g.D.Disk.view c.args.self.now.disk).reads = ap is_open (c.in_ok-add_record.ensures.root honest) in
-    let then = c.go_on.ensures.some_calls (c.add_record.ensures.honest honest) in
+    let then = c.advance_checkpoint.ensures.some_calls (c.add_record.ensures.honest honest) in
     let made = rw (c.add_record.ensures.same.0, c.add_record.ensures.same.1, c.add_record.ensures.same.2, root) at then.2 in
-    let may = rw (c.add_record.ensures.same.0, c.add_record.ensures.same.2, c.in_ok-add_record.ensures.behind.0) at then.1 in
-    (then.0, may, made_some c.args.self.now.layout c.args.self.now.side c.args.self.now.epoch c.args.self.now.journal c.args.self.now.beside c.args.accepted.now some then.0 _ (g.D.Disk.view c.args.self.now.disk) (g.D.Disk.view c.add_record.new.self.disk) (g.D.Disk.view c.go_on.new.self.disk) c.in_ok-add_record.ensures.calls c.add_record.new.self.beside c.in_ok-add_record.ensures.behind.1 made)
+    let may = rw (c.add_record.ensures.same.0, c.add_record.ensures.same.2, c.in_ok-add_record.ensures.following.0) at then.1 in
+    (then.0, may, made_some c.args.self.now.layout c.args.self.now.side c.args.self.now.epoch c.args.self.now.journal c.args.self.now.ongoing c.args.accepted.now some then.0 _ (g.D.Disk.view c.args.self.now.disk) (g.D.Disk.view c.add_record.new.self.disk) (g.D.Disk.view c.advance_checkpoint.new.self.disk) c.in_ok-add_record.ensures.calls c.add_record.new.self.ongoing c.in_ok-add_record.ensures.following.1 made)
 
 pub returns-clause-calls_on_any_disk : goal.returns-clause-calls_on_any_disk
 returns-clause-calls_on_any_disk g c =
     let some : 1 ≤ length c.args.accepted.now = some_length (length c.args.accepted.now) (sym c.is_empty.ensures ∙ c.if-is_empty.false) in
-    on_ok_weaker c.go_on.result (λ then.
+    on_ok_weaker c.advance_checkpoint.result (λ then.
     let made = rw (c.add_record.ensures.same.0, c.add_record.ensures.same.1, c.add_record.ensures.same.2) at then.1 in
-    (then.0, made_all c.args.self.now.layout c.args.self.now.side c.args.self.now.epoch c.args.self.now.journal c.args.self.now.beside c.args.accepted.now some _ then.0 (g.D.Disk.view c.args.self.now.disk) (g.D.Disk.view c.add_record.new.self.disk) (g.D.Disk.view c.go_on.new.self.disk) c.in_ok-add_record.ensures.calls c.add_record.new.self.beside c.in_ok-add_record.ensures.behind.1 made)) c.go_on.ensures.calls_on_any_disk
+    (then.0, made_all c.args.self.now.layout c.args.self.now.side c.args.self.now.epoch c.args.self.now.journal c.args.self.now.ongoing c.args.accepted.now some _ then.0 (g.D.Disk.view c.args.self.now.disk) (g.D.Disk.view c.add_record.new.self.disk) (g.D.Disk.view c.advance_checkpoint.new.self.disk) c.in_ok-add_record.ensures.calls c.add_record.new.self.ongoing c.in_ok-add_record.ensures.following.1 made)) c.advance_checkpoint.ensures.calls_on_any_disk
 
 pub returns-clause-some_calls_on_any_disk : goal.returns-clause-some_calls_on_any_disk
 returns-clause-some_calls_on_any_disk g c =
     let some : 1 ≤ length c.args.accepted.now = some_length (length c.args.accepted.now) (sym c.is_empty.ensures ∙ c.if-is_empty.false) in
-    let then = c.go_on.ensures.some_calls_on_any_disk in
+    let then = c.advance_checkpoint.ensures.some_calls_on_any_disk in
     let made = rw (c.add_record.ensures.same.0, c.add_record.ensures.same.1, c.add_record.ensures.same.2) at then.3 in
-    let may = rw (c.add_record.ensures.same.0, c.add_record.ensures.same.2, c.in_ok-add_record.ensures.behind.0) at then.2 in
-    (then.0, then.1, may, made_some c.args.self.now.layout c.args.self.now.side c.args.self.now.epoch c.args.self.now.journal c.args.self.now.beside c.args.accepted.now some then.0 then.1 (g.D.Disk.view c.args.self.now.disk) (g.D.Disk.view c.add_record.new.self.disk) (g.D.Disk.view c.go_on.new.self.disk) c.in_ok-add_record.ensures.calls c.add_record.new.self.beside c.in_ok-add_record.ensures.behind.1 made)
+    let may = rw (c.add_record.ensures.same.0, c.add_record.ensures.same.2, c.in_ok-add_record.ensures.following.0) at then.2 in
+    (then.0, then.1, may, made_some c.args.self.now.layout c.args.self.now.side c.args.self.now.epoch c.args.self.now.journal c.args.self.now.ongoing c.args.accepted.now some then.0 then.1 (g.D.Disk.view c.args.self.now.disk) (g.D.Disk.view c.add_record.new.self.disk) (g.D.Disk.view c.advance_checkpoint.new.self.disk) c.in_ok-add_record.ensures.calls c.add_record.new.self.ongoing c.in_ok-add_record.ensures.following.1 made)

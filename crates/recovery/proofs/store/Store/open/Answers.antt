@@ -3,11 +3,11 @@ use Rattle.sector_disk.specs.Disk.{View}
 use Rattle.sector_disk.specs.Reading.{before_reads}
 use Rattle.sector_disk.proofs.Reading.{one_sync}
 use Rattle.checkpoint.specs.Layout.{disk_size}
-use Rattle.checkpoint.specs.Standing.{slot_form}
+use Rattle.checkpoint.specs.OnSide.{slot_form}
 use Rattle.recovery.specs.Inside.Opened.{opened_view}
 use Rattle.recovery.specs.Opens.{Opening, opens}
 use Rattle.recovery.specs.Lives.{opens_not, opens_to}
-use Rattle.recovery.proofs.Stood.{stored_so}
+use Rattle.recovery.proofs.FromOpening.{stored_so}
 use Rattle.recovery.proofs.Synced.{after_sync, no_image_arises, one_image}
 use Rattle.recovery.proofs.store.Store.open.Goals as goal
 
@@ -17,15 +17,15 @@ returns-in-Ok-read_all-clause-kept g c honest =
     let synced : View = g.D.Disk.view c.sync.new.self in
     let now : View = g.D.Disk.view c.read_all.new.disk in
     let syncs = c.in-Ok.ensures.effect honest in
-    let looked = c.in-Ok-read_all.ensures.looked syncs.honest in
+    let only_read = c.in-Ok-read_all.ensures.only_read syncs.honest in
     let o : Opening = opened_view c.in-Ok-read_all.opened in
     let there : opens g.row.A.Denot synced.reads ≡ Ok o = c.in-Ok-read_all.ensures.exact syncs.honest in
-    let last : opens g.row.A.Denot now.reads ≡ Ok o = ap (opens g.row.A.Denot) looked.reads ∙ there in
-    let sound = g.met.D.Disk.sound c.read_all.new.disk looked.honest in
+    let last : opens g.row.A.Denot now.reads ≡ Ok o = ap (opens g.row.A.Denot) only_read.reads ∙ there in
+    let sound = g.met.D.Disk.sound c.read_all.new.disk only_read.honest in
     let room : disk_size o.layout ≤ synced.sectors = c.in-Ok-read_all.ensures.room in
     let some : 0 < length now.reads = omega (arith, room, sound.count, c.read_all.ensures.sectors) in
-    let form : c.in-Ok-read_all.opened.journal.form ≡ slot_form o.layout o.side now.reads = rw looked.reads (c.in-Ok-read_all.ensures.form syncs.honest) in
-    let stored = stored_so g.row.A.Denot now o c.in-Ok-read_all.opened.journal (one_image given synced now syncs looked) (sound.reads_left.whole 0 some).bytes last c.in-Ok-read_all.ensures.whole.next refl form c.in-Ok-read_all.ensures.whole.counts in
+    let form : c.in-Ok-read_all.opened.journal.form ≡ slot_form o.layout o.side now.reads = rw only_read.reads (c.in-Ok-read_all.ensures.form syncs.honest) in
+    let stored = stored_so g.row.A.Denot now o c.in-Ok-read_all.opened.journal (one_image given synced now syncs only_read) (sound.reads_left.whole 0 some).bytes last c.in-Ok-read_all.ensures.whole.next refl form c.in-Ok-read_all.ensures.whole.counts in
     record { stored = stored; under_way = tt }
 
 pub returns-in-Ok-read_all-clause-only : goal.returns-in-Ok-read_all-clause-only
@@ -34,8 +34,8 @@ returns-in-Ok-read_all-clause-only g c honest image is =
     let synced : View = g.D.Disk.view c.sync.new.self in
     let now : View = g.D.Disk.view c.read_all.new.disk in
     let syncs = c.in-Ok.ensures.effect honest in
-    let looked = c.in-Ok-read_all.ensures.looked syncs.honest in
-    one_image given synced now syncs looked image is ∙ looked.reads ∙ syncs.reads
+    let only_read = c.in-Ok-read_all.ensures.only_read syncs.honest in
+    one_image given synced now syncs only_read image is ∙ only_read.reads ∙ syncs.reads
 
 pub returns-in-Ok-read_all-clause-left : goal.returns-in-Ok-read_all-clause-left
 returns-in-Ok-read_all-clause-left g c honest =
@@ -43,8 +43,8 @@ returns-in-Ok-read_all-clause-left g c honest =
     let synced : View = g.D.Disk.view c.sync.new.self in
     let now : View = g.D.Disk.view c.read_all.new.disk in
     let syncs = c.in-Ok.ensures.effect honest in
-    let looked = c.in-Ok-read_all.ensures.looked syncs.honest in
-    no_image_arises given synced now (Ok tt) (g.met.D.Disk.sound c.args.disk honest) syncs looked
+    let only_read = c.in-Ok-read_all.ensures.only_read syncs.honest in
+    no_image_arises given synced now (Ok tt) (g.met.D.Disk.sound c.args.disk honest) syncs only_read
 
 pub returns-in-Ok-read_all-clause-calls : goal.returns-in-Ok-read_all-clause-calls
 returns-in-Ok-read_all-clause-calls g c =
@@ -67,9 +67,9 @@ returns-in_default-clause-some_calls g c =
 pub returns-in-Ok-read_all-clause-call : goal.returns-in-Ok-read_all-clause-call
 returns-in-Ok-read_all-clause-call g c honest =
     let syncs = c.in-Ok.ensures.effect honest in
-    let looked = c.in-Ok-read_all.ensures.looked syncs.honest in
+    let only_read = c.in-Ok-read_all.ensures.only_read syncs.honest in
     opens_to _ _ (record {
-      honest = looked.honest;
+      honest = only_read.honest;
       opened = ap (opens g.row.A.Denot) (sym syncs.reads) ∙ c.in-Ok-read_all.ensures.exact syncs.honest;
       kept = returns-in-Ok-read_all-clause-kept g c honest;
       left = returns-in-Ok-read_all-clause-left g c honest;
@@ -81,8 +81,8 @@ returns-in-Err-clause-call_by g c honest =
     let synced : View = g.D.Disk.view c.sync.new.self in
     let now : View = g.D.Disk.view c.read_all.new.disk in
     let syncs = c.in-Ok.ensures.effect honest in
-    let looked = c.read_all.ensures.looked syncs.honest in
-    opens_not _ _ (record { honest = looked.honest; left = no_image_arises given synced now (Ok tt) (g.met.D.Disk.sound c.args.disk honest) syncs looked })
+    let only_read = c.read_all.ensures.only_read syncs.honest in
+    opens_not _ _ (record { honest = only_read.honest; left = no_image_arises given synced now (Ok tt) (g.met.D.Disk.sound c.args.disk honest) syncs only_read })
 
 pub returns-in_default-clause-call_by : goal.returns-in_default-clause-call_by
 returns-in_default-clause-call_by g c honest =

@@ -1,8 +1,8 @@
 use Rattle.std.proofs.Common.{◌≡◌, ℕ, Ok, refl, rules, subst}
 use Rattle.checkpoint.specs.Progress.{written_after}
-use Rattle.recovery.specs.declared.beside.Beside.{Beside}
-use Rattle.recovery.specs.GoneOn.{HasGone}
-use Rattle.recovery.specs.UnderWay.{BelongsTo, IsBeside}
+use Rattle.recovery.specs.declared.ongoing.Ongoing.{Ongoing}
+use Rattle.recovery.specs.AfterCommit.{HasWrittenRows}
+use Rattle.recovery.specs.UnderWay.{BelongsTo, IsOngoing}
 use Rattle.recovery.proofs.Stored.{nothing_done}
 use Rattle.recovery.proofs.UnderWay.{kept_next, leaves_next}
 use Rattle.recovery.proofs.store.Store.write_rows.Goals as goal
@@ -13,25 +13,25 @@ returns-in_default-clause-any_moment g c = λ honest kept. nothing_done g.row.A.
 pub returns-then-is_err-clause-any_moment : goal.returns-then-is_err-clause-any_moment
 returns-then-is_err-clause-any_moment g c = λ honest kept.
     let self = c.args.self.now in
-    let it = c.in-Some.beside in
+    let it = c.in-Some.ongoing in
     let other : BelongsTo self.layout self.side self.epoch self.journal self.register.count it = rw c.in-Some.is at self.other in
-    let under : IsBeside g.row.A.Denot self.layout self.side self.epoch it self.register (g.D.Disk.view self.disk) = rw c.in-Some.is at kept.under_way in
+    let under : IsOngoing g.row.A.Denot self.layout self.side self.epoch it self.register (g.D.Disk.view self.disk) = rw c.in-Some.is at kept.under_way in
     leaves_next g.row.A.Denot self.layout self.side self.epoch self.journal self.register it (g.D.Disk.view self.disk) kept.stored under self.register.count other c.registers.ensures.state (g.D.Disk.view c.write_next_rows-written.new.disk) c.write_next_rows-written.result (c.write_next_rows-written.ensures.effect honest)
 
 pub returns-clause-any_moment : goal.returns-clause-any_moment
 returns-clause-any_moment g c = λ honest kept.
     let self = c.args.self.now in
-    let it = c.in-Some.beside in
+    let it = c.in-Some.ongoing in
     let other : BelongsTo self.layout self.side self.epoch self.journal self.register.count it = rw c.in-Some.is at self.other in
-    let under : IsBeside g.row.A.Denot self.layout self.side self.epoch it self.register (g.D.Disk.view self.disk) = rw c.in-Some.is at kept.under_way in
+    let under : IsOngoing g.row.A.Denot self.layout self.side self.epoch it self.register (g.D.Disk.view self.disk) = rw c.in-Some.is at kept.under_way in
     leaves_next g.row.A.Denot self.layout self.side self.epoch self.journal self.register it (g.D.Disk.view self.disk) kept.stored under self.register.count other c.registers.ensures.state (g.D.Disk.view c.write_next_rows-written.new.disk) c.write_next_rows-written.result (c.write_next_rows-written.ensures.effect honest)
 
 pub returns-clause-kept : goal.returns-clause-kept
 returns-clause-kept g c = λ honest kept.
     let self = c.args.self.now in
-    let it = c.in-Some.beside in
+    let it = c.in-Some.ongoing in
     let other : BelongsTo self.layout self.side self.epoch self.journal self.register.count it = rw c.in-Some.is at self.other in
-    let under : IsBeside g.row.A.Denot self.layout self.side self.epoch it self.register (g.D.Disk.view self.disk) = rw c.in-Some.is at kept.under_way in
+    let under : IsOngoing g.row.A.Denot self.layout self.side self.epoch it self.register (g.D.Disk.view self.disk) = rw c.in-Some.is at kept.under_way in
     let done : c.write_next_rows-written.result ≡ Ok tt = search rules in
     let written : c.write_next_rows-written.new.progress.written ≡ written_after it.progress.epoch it.register it.progress.written = rw done at c.write_next_rows-written.ensures.written in
     kept_next g.row.A.Denot self.layout self.side self.epoch self.journal self.register it (g.D.Disk.view self.disk) kept.stored under self.register.count other c.registers.ensures.state (g.D.Disk.view c.write_next_rows-written.new.disk) c.write_next_rows-written.result done (c.write_next_rows-written.ensures.effect honest) (record { register = it.register; progress = c.write_next_rows-written.new.progress; journal = it.journal }) refl refl written
@@ -39,10 +39,10 @@ returns-clause-kept g c = λ honest kept.
 pub returns-clause-gone : goal.returns-clause-gone
 returns-clause-gone g c =
     let self = c.args.self.now in
-    let it = c.in-Some.beside in
+    let it = c.in-Some.ongoing in
     let other : BelongsTo self.layout self.side self.epoch self.journal self.register.count it = rw c.in-Some.is at self.other in
     let done : c.write_next_rows-written.result ≡ Ok tt = search rules in
     let written : c.write_next_rows-written.new.progress.written ≡ written_after it.progress.epoch it.register it.progress.written = rw done at c.write_next_rows-written.ensures.written in
-    let now : Beside g.row.A.Denot = record { register = it.register; progress = c.write_next_rows-written.new.progress; journal = it.journal } in
-    let gone : HasGone self.epoch it now = record { register = refl; written = subst (λ (e : ℕ). now.progress.written ≡ written_after e it.register it.progress.written) other.epoch_is written; journal = refl } in
+    let now : Ongoing g.row.A.Denot = record { register = it.register; progress = c.write_next_rows-written.new.progress; journal = it.journal } in
+    let gone : HasWrittenRows self.epoch it now = record { register = refl; written = subst (λ (e : ℕ). now.progress.written ≡ written_after e it.register it.progress.written) other.epoch_is written; journal = refl } in
     rw c.in-Some.is (now, refl, gone)

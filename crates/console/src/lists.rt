@@ -1,0 +1,173 @@
+//! The texts of lists. Each `put_` adds its text; when memory runs out, a prefix of it.
+ghost use Rattle.std.specs.Prelude.{◌≡◌, ◌≤◌, ◌<◌, ◌+◌, ◌++◌, OnOk, OnErr, length, vec_len, vec_capacity, codes, decimal};
+ghost use Rattle.std.specs.List.{flat_map};
+ghost use Rattle.identity.specs.NumberText.{IsPrefixOf};
+ghost use Rattle.identity.specs.IdentityText.{identity_text};
+ghost use Rattle.console.specs.Inside.Parts.{part_text, part_room, pdu_room};
+ghost use Rattle.console.specs.Answer.{group_text, member_text, item_text, item_end, key_text};
+
+use crate::text_part::{Part, put_parts};
+use crate::words::kind_word;
+use group_attach::Attachment;
+use identity::Gtsi;
+use mailbox::{Item, Key};
+use std::alloc::{AllocError, Allocator};
+
+/// How many lines of a list follow.
+#[tactic(auto, using(std::proofs::Common::append_assoc))]
+pub(crate) fn put_count<A: Allocator>(out: &mut Vec<u8, A>, count: usize) -> Result<(), AllocError>
+    ensures ok { OnOk result (out.new.items ≡ out.old.items ++ (codes " " ++ decimal count ++ codes "\n")) }
+    ensures err { OnErr result (IsPrefixOf out.old.items out.new.items) }
+    ensures full { OnErr result (vec_capacity out.old < vec_len out.old + length (codes " " ++ decimal count ++ codes "\n")) }
+    ensures capacity { vec_capacity out.old ≤ vec_capacity out.new }
+{
+    let end: [Part; 3] = [
+        Part::Text(" "),
+        Part::Number(count as u64),
+        Part::Text("\n"),
+    ];
+    put_parts(out, &end)
+}
+
+pub(crate) fn put_groups<A: Allocator>(
+    out: &mut Vec<u8, A>,
+    groups: &[Attachment],
+) -> Result<(), AllocError>
+    ensures ok { OnOk result (out.new.items ≡ out.old.items ++ flat_map group_text groups.now) }
+    ensures err { OnErr result (IsPrefixOf out.old.items out.new.items) }
+    ensures full { OnErr result (vec_capacity out.old < vec_len out.old + length (flat_map group_text groups.now)) }
+    ensures capacity { vec_capacity out.old ≤ vec_capacity out.new }
+{
+    for group in groups {
+        put_group(out, group)?;
+    }
+    Ok(())
+}
+
+#[tactic(auto, using(std::proofs::Common::append_assoc))]
+fn put_group<A: Allocator>(out: &mut Vec<u8, A>, group: &Attachment) -> Result<(), AllocError>
+    ensures ok { OnOk result (out.new.items ≡ out.old.items ++ group_text group.now) }
+    ensures err { OnErr result (IsPrefixOf out.old.items out.new.items) }
+    ensures full { OnErr result (vec_capacity out.old < vec_len out.old + length (group_text group.now)) }
+    ensures capacity { vec_capacity out.old ≤ vec_capacity out.new }
+{
+    let line: [Part; 7] = [
+        Part::Text("group "),
+        Part::Group(group.gtsi),
+        Part::Text(" "),
+        Part::Number(u64::from(group.class.number())),
+        Part::Text(" "),
+        Part::Number(u64::from(group.lifetime.number())),
+        Part::Text("\n"),
+    ];
+    put_parts(out, &line)
+}
+
+pub(crate) fn put_members<A: Allocator>(
+    out: &mut Vec<u8, A>,
+    members: &[Attachment],
+) -> Result<(), AllocError>
+    ensures ok { OnOk result (out.new.items ≡ out.old.items ++ flat_map member_text members.now) }
+    ensures err { OnErr result (IsPrefixOf out.old.items out.new.items) }
+    ensures full { OnErr result (vec_capacity out.old < vec_len out.old + length (flat_map member_text members.now)) }
+    ensures capacity { vec_capacity out.old ≤ vec_capacity out.new }
+{
+    for member in members {
+        put_member(out, member)?;
+    }
+    Ok(())
+}
+
+#[tactic(auto, using(std::proofs::Common::append_assoc))]
+fn put_member<A: Allocator>(out: &mut Vec<u8, A>, member: &Attachment) -> Result<(), AllocError>
+    ensures ok { OnOk result (out.new.items ≡ out.old.items ++ member_text member.now) }
+    ensures err { OnErr result (IsPrefixOf out.old.items out.new.items) }
+    ensures full { OnErr result (vec_capacity out.old < vec_len out.old + length (member_text member.now)) }
+    ensures capacity { vec_capacity out.old ≤ vec_capacity out.new }
+{
+    let line: [Part; 5] = [
+        Part::Text("member "),
+        Part::Radio(member.itsi),
+        Part::Text(" "),
+        Part::Number(u64::from(member.class.number())),
+        Part::Text("\n"),
+    ];
+    put_parts(out, &line)
+}
+
+pub(crate) fn put_items<A: Allocator, B: Allocator>(
+    out: &mut Vec<u8, A>,
+    items: &[Item<B>],
+) -> Result<(), AllocError>
+    ensures ok { OnOk result (out.new.items ≡ out.old.items ++ flat_map item_text items.now) }
+    ensures err { OnErr result (IsPrefixOf out.old.items out.new.items) }
+    ensures full { OnErr result (vec_capacity out.old < vec_len out.old + length (flat_map item_text items.now)) }
+    ensures capacity { vec_capacity out.old ≤ vec_capacity out.new }
+{
+    for item in items {
+        put_item(out, item)?;
+    }
+    Ok(())
+}
+
+#[tactic(auto, using(identity::proofs::Printed::printed))]
+fn put_item<A: Allocator, B: Allocator>(
+    out: &mut Vec<u8, A>,
+    item: &Item<B>,
+) -> Result<(), AllocError>
+    ensures ok { OnOk result (out.new.items ≡ out.old.items ++ item_text item.now) }
+    ensures err { OnErr result (IsPrefixOf out.old.items out.new.items) }
+    ensures full { OnErr result (vec_capacity out.old < vec_len out.old + length (item_text item.now)) }
+    ensures capacity { vec_capacity out.old ≤ vec_capacity out.new }
+{
+    let number: [Part; 3] = [
+        Part::Text("item "),
+        Part::Number(item.number()),
+        Part::Text(" "),
+    ];
+    put_parts(out, &number)?;
+    put_key(out, item.key())?;
+    put_parts(
+        out,
+        &[
+            Part::Text(" "),
+            Part::Number(item.deadline()),
+            Part::Text(" "),
+            Part::Pdu(item.pdu()),
+        ],
+    )?;
+    put_item_end(out, item.group())
+}
+
+/// The end of an item's line, which names the group of a copy.
+#[tactic(auto, using(std::proofs::Common::append_assoc))]
+fn put_item_end<A: Allocator>(out: &mut Vec<u8, A>, group: Option<Gtsi>) -> Result<(), AllocError>
+    ensures ok { OnOk result (out.new.items ≡ out.old.items ++ item_end group) }
+    ensures err { OnErr result (IsPrefixOf out.old.items out.new.items) }
+    ensures full { OnErr result (vec_capacity out.old < vec_len out.old + length (item_end group)) }
+    ensures capacity { vec_capacity out.old ≤ vec_capacity out.new }
+{
+    let Some(group) = group else {
+        let end: [Part; 1] = [Part::Text("\n")];
+        return put_parts(out, &end);
+    };
+    let end: [Part; 3] = [Part::Text(" "), Part::Group(group), Part::Text("\n")];
+    put_parts(out, &end)
+}
+
+#[tactic(auto, using(std::proofs::Common::append_assoc))]
+fn put_key<A: Allocator>(out: &mut Vec<u8, A>, key: Key) -> Result<(), AllocError>
+    ensures ok { OnOk result (out.new.items ≡ out.old.items ++ key_text key) }
+    ensures err { OnErr result (IsPrefixOf out.old.items out.new.items) }
+    ensures full { OnErr result (vec_capacity out.old < vec_len out.old + length (key_text key)) }
+    ensures capacity { vec_capacity out.old ≤ vec_capacity out.new }
+{
+    let words: [Part; 5] = [
+        Part::Text(kind_word(key.kind)),
+        Part::Text(" "),
+        Part::Radio(key.source),
+        Part::Text(" "),
+        Part::Number(u64::from(key.reference.number())),
+    ];
+    put_parts(out, &words)
+}

@@ -1,0 +1,3 @@
+mod LastLongest
+mod Places
+mod Removal

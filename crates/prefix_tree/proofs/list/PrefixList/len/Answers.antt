@@ -1,6 +1,0 @@
-use Rattle.std.proofs.Common.{rules}
-use Rattle.prefix_tree.proofs.Places.{len_of}
-use Rattle.prefix_tree.proofs.list.PrefixList.len.Goals as goal
-
-pub returns : goal.returns
-returns g c = let e = len_of c.self.inside.entries.items _ c.self.view_is c.self.invariant in search (rules, e)

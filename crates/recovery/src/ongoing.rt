@@ -1,0 +1,228 @@
+// A checkpoint that is written a few rows at a time, between commits.
+ghost use Rattle.std.specs.Prelude.{◌≡◌, ◌≤◌, ◌+◌, ℕ, IfErr, IfSome, IsErr, None, OnOk, Some, length, nat_eq, true, false};
+ghost use Rattle.sector_disk.specs.Disk.{HasFailed};
+ghost use Rattle.sector_disk.specs.Run.{HasCalled, HasMade};
+ghost use Rattle.image_rows.specs.Rows.{rows_of};
+ghost use Rattle.checkpoint.specs.Layout.{disk_size};
+ghost use Rattle.recovery.specs.declared.fault.StoreFault.TheVariants.{DiskFault};
+ghost use Rattle.recovery.specs.Calls.{end_calls, rows_calls};
+ghost use Rattle.recovery.specs.Commits.{OngoingCalls, OngoingCallsOnAnyDisk, SomeOngoingCalls, SomeOngoingCallsOnAnyDisk};
+ghost use Rattle.recovery.specs.AfterCommit.{GoesOn, HasBegun, HasEnded, HasWrittenRows, Stays};
+ghost use Rattle.recovery.specs.Lives.{HasSameRegister, StaysKept, StopsLeave, view_of};
+ghost use Rattle.recovery.specs.OpensTo.{OpensTo};
+ghost use Rattle.recovery.specs.UnderWay.{BelongsTo, MayBegin, SwitchLeaves, SwitchStores};
+ghost use Rattle.gated_journal.specs.declared.place.Place.{Place};
+
+use crate::{Store, StoreFault};
+use centre_core::Register;
+use centre_core::laws::registers;
+use checkpoint::{CheckpointError, Layout, Progress, Side, begin, switch, write_next_rows};
+use gated_journal::{Form, Journal};
+use image_rows::LAST_EPOCH;
+use prefix_tree::TryCopy;
+use sector_disk::Disk;
+use std::alloc::Allocator;
+
+// A checkpoint that is under way: the register as it was when the checkpoint began, how many rows of its image are
+// written, and the journal of the other half.
+#[derive(Drop)]
+pub(crate) struct Ongoing<A: Allocator> {
+    pub(crate) register: Register<A>,
+    pub(crate) progress: Progress,
+    pub(crate) journal: Journal<A>,
+}
+
+// Syncs the rows of the checkpoint, which are all written, and switches to its side.
+fn end_side<A: Allocator + Clone, D: Disk>(
+    disk: &mut D,
+    layout: &Layout,
+    side: Side,
+    epoch: u64,
+    ongoing: &Ongoing<A>,
+) -> Result<(), CheckpointError>
+    requires room { disk_size layout.now ≤ (D.view disk.old).sectors }
+    requires belongs { (current : Place) × (count : ℕ) × BelongsTo layout.now side epoch current count ongoing.now }
+    requires whole { ongoing.now.progress.written ≡ length (rows_of (epoch + 1) ongoing.now.register) }
+    ensures any_moment { SwitchLeaves A layout.now side epoch ongoing.now (D.view disk.old) (D.view disk.new) }
+    ensures ended { OnOk result (SwitchStores A layout.now side epoch ongoing.now (D.view disk.old) (D.view disk.new)) }
+    ensures calls { OnOk result (HasCalled (D.view disk.old) (D.view disk.new) (end_calls layout.now side epoch true)) }
+    ensures some_calls { HasMade (D.view disk.old) (D.view disk.new) (end_calls layout.now side epoch true) }
+    ensures fault { IsErr result → HasFailed (D.view disk.old) (D.view disk.new) }
+    ensures sectors { (D.view disk.new).sectors ≡ (D.view disk.old).sectors }
+    ensures later { (D.view disk.old).failures ≤ (D.view disk.new).failures }
+    ensures honest { (D.view disk.old).honest → (D.view disk.new).honest }
+{
+    registers(&ongoing.register);
+    disk.sync()?;
+    switch::<A, D>(disk, layout, side)
+}
+
+impl<A: Allocator + Copy, D: Disk> Store<A, D> {
+    // Whether half of the journal's sectors are used and the epoch is not the last one.
+    fn may_begin(&self) -> bool
+        ensures may { result ≡ true → MayBegin self.now.layout self.now.epoch self.now.journal }
+        ensures may_not { result ≡ false → ¬ MayBegin self.now.layout self.now.epoch self.now.journal }
+    {
+        u64::from(self.layout.journal()) <= 2 * self.journal.used() && self.epoch < LAST_EPOCH
+    }
+
+    // Begins a checkpoint of the register as it is, if one may begin. None is under way. Without memory for it nothing is
+    // done.
+    fn begin_checkpoint(&mut self) -> Result<(), StoreFault>
+        requires idle { self.old.ongoing ≡ None }
+        ensures any_moment { StopsLeave A D.view (view_of self.old) (view_of self.new) (OpensTo A self.old.register) }
+        ensures kept { OnOk result (StaysKept A D.view (view_of self.old) (view_of self.new)) }
+        ensures stays { Stays (view_of self.old) (view_of self.new) }
+        ensures begun { OnOk result (IfSome self.new.ongoing (HasBegun (view_of self.old) (view_of self.new))) }
+        ensures calls { OnOk result (OngoingCalls A D.view (view_of self.old) (view_of self.new) None) }
+        ensures some_calls { SomeOngoingCalls A D.view (view_of self.old) (view_of self.new) None }
+        ensures calls_on_any_disk { OnOk result (OngoingCallsOnAnyDisk A D.view (view_of self.old) (view_of self.new) None) }
+        ensures some_calls_on_any_disk { SomeOngoingCallsOnAnyDisk A D.view (view_of self.old) (view_of self.new) None }
+        ensures same { HasSameRegister self.old self.new }
+        ensures fault { IfErr result (λ fault. (fault ≡ DiskFault) × HasFailed (D.view self.old.disk) (D.view self.new.disk) × (self.new.broken ≡ true)) }
+        ensures sound { OnOk result (self.new.broken ≡ self.old.broken) }
+        ensures later { (D.view self.old.disk).failures ≤ (D.view self.new.disk).failures }
+        ensures honest { (D.view self.old.disk).honest → (D.view self.new.disk).honest }
+    {
+        if !self.may_begin() {
+            return Ok(());
+        }
+        let first = self.layout.half(self.side.other());
+        let sectors = u64::from(self.layout.journal());
+        let count = self.register.count();
+        let Ok(journal) = Journal::start(self.alloc, first, sectors, Form::Numbered, count) else {
+            return Ok(());
+        };
+        let Ok(register) = self.register.try_copy() else {
+            drop(journal);
+            return Ok(());
+        };
+        if begin::<A, D>(&mut self.disk, &self.layout, self.side).is_err() {
+            drop(journal);
+            drop(register);
+            self.broken = true;
+            return Err(StoreFault::DiskFault);
+        }
+        let progress = Progress::begun(self.epoch + 1, &register);
+        drop(
+            self.ongoing.replace(Ongoing {
+                register,
+                progress,
+                journal,
+            }),
+        );
+        Ok(())
+    }
+
+    // Writes the next rows of the checkpoint under way.
+    fn write_rows(&mut self) -> Result<(), StoreFault>
+        ensures any_moment { StopsLeave A D.view (view_of self.old) (view_of self.new) (OpensTo A self.old.register) }
+        ensures kept { OnOk result (StaysKept A D.view (view_of self.old) (view_of self.new)) }
+        ensures stays { Stays (view_of self.old) (view_of self.new) }
+        ensures gone { OnOk result (IfSome self.old.ongoing (λ was. (is : Ongoing A) × (self.new.ongoing ≡ Some is) × HasWrittenRows self.old.epoch was is)) }
+        ensures calls { OnOk result (IfSome self.old.ongoing (λ was.
+            HasCalled (D.view self.old.disk) (D.view self.new.disk) (rows_calls self.old.layout self.old.side self.old.epoch was))) }
+        ensures some_calls { IfSome self.old.ongoing (λ was.
+            HasMade (D.view self.old.disk) (D.view self.new.disk) (rows_calls self.old.layout self.old.side self.old.epoch was)) }
+        ensures same { HasSameRegister self.old self.new }
+        ensures fault { IfErr result (λ fault. (fault ≡ DiskFault) × HasFailed (D.view self.old.disk) (D.view self.new.disk) × (self.new.broken ≡ true)) }
+        ensures sound { OnOk result (self.new.broken ≡ self.old.broken) }
+        ensures later { (D.view self.old.disk).failures ≤ (D.view self.new.disk).failures }
+        ensures honest { (D.view self.old.disk).honest → (D.view self.new.disk).honest }
+    {
+        let Some(ongoing) = &mut self.ongoing else {
+            return Ok(());
+        };
+        registers(&ongoing.register);
+        let written = write_next_rows(
+            &mut self.disk,
+            &self.layout,
+            self.side,
+            &ongoing.register,
+            &mut ongoing.progress,
+        );
+        if written.is_err() {
+            self.broken = true;
+            return Err(StoreFault::DiskFault);
+        }
+        Ok(())
+    }
+
+    // Whether all rows of the checkpoint under way are written.
+    fn is_written(&self) -> bool
+        ensures { IfSome self.now.ongoing (λ it. result ≡ nat_eq it.progress.written (length (rows_of (self.now.epoch + 1) it.register))) }
+    {
+        match &self.ongoing {
+            Some(ongoing) => ongoing.progress.is_whole(&ongoing.register),
+            None => false,
+        }
+    }
+
+    // Switches to the other side. All rows are written.
+    fn end_checkpoint(&mut self) -> Result<(), StoreFault>
+        requires whole { IfSome self.old.ongoing (λ it. it.progress.written ≡ length (rows_of (self.old.epoch + 1) it.register)) }
+        ensures any_moment { StopsLeave A D.view (view_of self.old) (view_of self.new) (OpensTo A self.old.register) }
+        ensures kept { OnOk result (StaysKept A D.view (view_of self.old) (view_of self.new)) }
+        ensures ended { OnOk result (IfSome self.old.ongoing (HasEnded (view_of self.old) (view_of self.new))) }
+        ensures calls { OnOk result (IfSome self.old.ongoing (λ was.
+            HasCalled (D.view self.old.disk) (D.view self.new.disk) (end_calls self.old.layout self.old.side self.old.epoch true))) }
+        ensures some_calls { HasMade (D.view self.old.disk) (D.view self.new.disk) (end_calls self.old.layout self.old.side self.old.epoch true) }
+        ensures same { HasSameRegister self.old self.new }
+        ensures fault { IfErr result (λ fault. (fault ≡ DiskFault) × HasFailed (D.view self.old.disk) (D.view self.new.disk) × (self.new.broken ≡ true)) }
+        ensures sound { OnOk result (self.new.broken ≡ self.old.broken) }
+        ensures later { (D.view self.old.disk).failures ≤ (D.view self.new.disk).failures }
+        ensures honest { (D.view self.old.disk).honest → (D.view self.new.disk).honest }
+    {
+        let Some(ongoing) = self.ongoing.take() else {
+            return Ok(());
+        };
+        let ended = end_side(
+            &mut self.disk,
+            &self.layout,
+            self.side,
+            self.epoch,
+            &ongoing,
+        );
+        let Ongoing {
+            register,
+            journal,
+            ..
+        } = ongoing;
+        drop(register);
+        if ended.is_err() {
+            drop(journal);
+            self.broken = true;
+            return Err(StoreFault::DiskFault);
+        }
+        self.side = self.side.other();
+        self.epoch += 1;
+        self.journal = journal;
+        Ok(())
+    }
+
+    // After a record: the checkpoint that is under way continues, and after its last row its side counts. If none is
+    // under way, one may begin.
+    pub(crate) fn advance_checkpoint(&mut self) -> Result<(), StoreFault>
+        ensures any_moment { StopsLeave A D.view (view_of self.old) (view_of self.new) (OpensTo A self.old.register) }
+        ensures kept { OnOk result (StaysKept A D.view (view_of self.old) (view_of self.new)) }
+        ensures goes { OnOk result (GoesOn (view_of self.old) (view_of self.new) self.old.ongoing) }
+        ensures calls { OnOk result (OngoingCalls A D.view (view_of self.old) (view_of self.new) self.old.ongoing) }
+        ensures some_calls { SomeOngoingCalls A D.view (view_of self.old) (view_of self.new) self.old.ongoing }
+        ensures calls_on_any_disk { OnOk result (OngoingCallsOnAnyDisk A D.view (view_of self.old) (view_of self.new) self.old.ongoing) }
+        ensures some_calls_on_any_disk { SomeOngoingCallsOnAnyDisk A D.view (view_of self.old) (view_of self.new) self.old.ongoing }
+        ensures same { HasSameRegister self.old self.new }
+        ensures fault { IfErr result (λ fault. (fault ≡ DiskFault) × HasFailed (D.view self.old.disk) (D.view self.new.disk) × (self.new.broken ≡ true)) }
+        ensures sound { OnOk result (self.new.broken ≡ self.old.broken) }
+        ensures later { (D.view self.old.disk).failures ≤ (D.view self.new.disk).failures }
+        ensures honest { (D.view self.old.disk).honest → (D.view self.new.disk).honest }
+    {
+        if self.ongoing.is_none() {
+            return self.begin_checkpoint();
+        }
+        self.write_rows()?;
+        if self.is_written() {
+            return self.end_checkpoint();
+        }
+        Ok(())
+    }
+}

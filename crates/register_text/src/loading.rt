@@ -1,0 +1,195 @@
+//! A register's text, read from any reader.
+ghost use Rattle.std.specs.Prelude.{◌≡◌, ◌≤◌, ◌<◌, ◌+◌, ◌-◌, ◌^◌, ◌++◌, ◌∷◌, [], List, ℕ, length, take, drop};
+ghost use Rattle.std.specs.Prelude.{slice_get, MatchOption, IfErr, IfOk, OnOk, IfSome, Ok, Some};
+ghost use Rattle.register_text.specs.Dump.{HasNoFeed, IsAll, IsLoadFault, long_cause, longest_line, text_read};
+ghost use Rattle.register_text.specs.Inside.Going.{FitsPiece, IsKept, IsPiece, outcome};
+
+use crate::cause::Cause;
+use crate::load_fault::LoadFault;
+use crate::loader::{TakeFault, TextLoader};
+use centre_core::Register;
+use memchr::memchr;
+use registration::Limits;
+use std::alloc::{AllocError, Allocator};
+use std::io::{ErrorKind, Read};
+
+/// The most bytes of a line, without its line feed.
+const LONGEST: usize = 4096;
+
+/// The most bytes that one call of the reader gives.
+const PIECE: usize = 65536;
+
+/// A text that is being read: the lines so far, and what came of the next one.
+#[derive(Drop)]
+struct Reading<A: Allocator> {
+    loader: TextLoader<A>,
+    number: u64,
+    line: Vec<u8, A>,
+}
+
+// Calls the reader once. It gives no byte where the call was interrupted, and `None` at the end.
+fn next_piece<R: Read>(reader: &mut R, buffer: &mut [u8]) -> Result<Option<usize>, LoadFault>
+    requires { 0 < length buffer.old }
+    ensures bound { IfOk result (λ piece. FitsPiece piece (length buffer.new)) }
+    ensures ok { IfOk result (λ piece. (input : List ℕ) → R.remaining reader.old ≡ Some input → IsPiece piece buffer.new input (R.remaining reader.new)) }
+    ensures err { IfErr result (λ fault. fault ≡ LoadFault.Read) }
+{
+    match reader.read(buffer) {
+        Ok(0) => Ok(None),
+        Ok(n) => Ok(Some(n)),
+        Err(e) if e.kind() == ErrorKind::Interrupted => Ok(Some(0)),
+        Err(_) => Err(LoadFault::Read),
+    }
+}
+
+/// Where the next line feed is, from `at` on.
+fn next_end(piece: &[u8], at: usize) -> Option<usize>
+    requires { at ≤ length piece.now }
+    ensures { MatchOption result (HasNoFeed (drop at piece.now))
+        (λ end. (at ≤ end) × (end < length piece.now) × HasNoFeed (take (end - at) (drop at piece.now)) × (slice_get piece.now end ≡ Some 10)) }
+{
+    let length = memchr(b'\n', &piece[at..])?;
+    Some(at + length)
+}
+
+// Why a line can't be taken that is longer than any.
+fn long_cause(is_headed: bool) -> Cause
+    ensures { result ≡ long_cause is_headed }
+{
+    if is_headed {
+        Cause::Spelling
+    } else {
+        Cause::Head
+    }
+}
+
+impl<A: Allocator + Clone> Reading<A> {
+    #[tactic(auto, using(crate::proofs::Parts::none_kept))]
+    fn new(alloc: A, limits: Limits) -> Result<Self, AllocError>
+        ensures read { IfOk result (λ reading. (left : List ℕ) → outcome reading left ≡ text_read limits left) }
+        ensures kept { IfOk result (λ reading. IsKept reading.line.items) }
+        ensures first { IfOk result (λ reading. reading.number ≡ 1) }
+    {
+        Ok(Reading {
+            line: Vec::new(alloc.clone()?),
+            number: 1,
+            loader: TextLoader::new(alloc, limits)?,
+        })
+    }
+
+    // Takes the line that ends with these bytes.
+    #[tactic(auto, using(crate::proofs::Parts::line_made, crate::proofs::Parts::line_refused, crate::proofs::Parts::none_kept))]
+    fn take_line(&mut self, end: &[u8]) -> Result<(), LoadFault>
+        requires room { self.old.number + 1 < 2 ^ 64 }
+        requires kept { IsKept self.old.line.items }
+        requires plain { HasNoFeed end.now }
+        ensures ok { OnOk result ((left : List ℕ) → outcome self.old (end.now ++ 10 ∷ left) ≡ outcome self.new left) }
+        ensures fault { IfErr result (λ fault. (left : List ℕ) → IsLoadFault (outcome self.old (end.now ++ 10 ∷ left)) fault) }
+        ensures kept { OnOk result (IsKept self.new.line.items) }
+        ensures number { OnOk result (self.new.number ≡ self.old.number + 1) }
+    {
+        let Ok(()) = self.line.extend_from_slice(end) else {
+            return Err(LoadFault::Memory);
+        };
+        match self.loader.take(&self.line) {
+            Ok(()) => {}
+            Err(TakeFault::Memory) => return Err(LoadFault::Memory),
+            Err(TakeFault::Line(cause)) => return Err(LoadFault::Line(self.number, cause)),
+        }
+        self.line.clear();
+        self.number += 1;
+        Ok(())
+    }
+
+    // Keeps bytes of a line that goes on after them.
+    #[tactic(auto, using(crate::proofs::Parts::long_line, crate::proofs::Parts::kept_more, crate::proofs::Parts::is_kept))]
+    fn keep(&mut self, part: &[u8]) -> Result<(), LoadFault>
+        requires kept { IsKept self.old.line.items }
+        requires plain { HasNoFeed part.now }
+        ensures ok { OnOk result ((left : List ℕ) → outcome self.old (part.now ++ left) ≡ outcome self.new left) }
+        ensures fault { IfErr result (λ fault. (left : List ℕ) → IsLoadFault (outcome self.old (part.now ++ left)) fault) }
+        ensures kept { OnOk result (IsKept self.new.line.items) }
+        ensures number { self.new.number ≡ self.old.number }
+    {
+        let Ok(()) = self.line.extend_from_slice(part) else {
+            return Err(LoadFault::Memory);
+        };
+        if self.line.len() > LONGEST {
+            let cause = long_cause(self.loader.is_headed());
+            return Err(LoadFault::Line(self.number, cause));
+        }
+        Ok(())
+    }
+
+    // Takes all lines that end in a piece of the text, and keeps what follows the last of them.
+    fn take_piece(&mut self, piece: &[u8]) -> Result<(), LoadFault>
+        requires room { self.old.number + length piece.now < 2 ^ 64 }
+        requires kept { IsKept self.old.line.items }
+        ensures ok { OnOk result ((left : List ℕ) → outcome self.old (piece.now ++ left) ≡ outcome self.new left) }
+        ensures fault { IfErr result (λ fault. (left : List ℕ) → IsLoadFault (outcome self.old (piece.now ++ left)) fault) }
+        ensures kept { OnOk result (IsKept self.new.line.items) }
+        ensures number { OnOk result (self.new.number ≤ self.old.number + length piece.now) }
+    {
+        let mut at = 0;
+        while let Some(end) = next_end(piece, at) {
+            self.take_line(&piece[at..end])?;
+            at = end + 1;
+        }
+        self.keep(&piece[at..])
+    }
+
+    // Takes all that the reader gives.
+    fn take_all<R: Read>(&mut self, reader: &mut R) -> Result<(), LoadFault>
+        requires first { self.old.number ≡ 1 }
+        requires kept { IsKept self.old.line.items }
+        ensures ok { OnOk result ((text : List ℕ) × IsAll (R.remaining reader.old) text × (outcome self.old text ≡ outcome self.new [])) }
+        ensures fault { IfErr result (λ fault. (text : List ℕ) → R.remaining reader.old ≡ Some text → IsLoadFault (outcome self.old text) fault) }
+        ensures kept { OnOk result (IsKept self.new.line.items) }
+    {
+        let mut buffer = [0u8; PIECE];
+        for _ in 0..u32::MAX {
+            match next_piece(reader, &mut buffer)? {
+                None => return Ok(()),
+                Some(n) => self.take_piece(&buffer[..n])?,
+            }
+        }
+        Err(LoadFault::Read)
+    }
+
+    // The register, once all of the text was taken.
+    #[tactic(auto, using(crate::proofs::Parts::at_end, crate::proofs::Parts::cut_end))]
+    fn finish(self) -> Result<Register<A>, LoadFault>
+        requires kept { IsKept self.line.items }
+        ensures { result ≡ outcome self [] }
+    {
+        let Reading {
+            loader,
+            number,
+            line,
+        } = self;
+        if !line.is_empty() {
+            return Err(LoadFault::Cut(number));
+        }
+        match loader.finish() {
+            Some(register) => Ok(register),
+            None => Err(LoadFault::Cut(number)),
+        }
+    }
+}
+
+/// Reads the text of a register to its end, and makes the register of it under these limits. Beside the register it keeps
+/// one line, of at most 4,096 bytes: a longer one is never kept whole, and can't be taken.
+pub fn read_register<A: Allocator + Clone, R: Read>(
+    alloc: A,
+    limits: Limits,
+    reader: &mut R,
+) -> Result<Register<A>, LoadFault>
+    ensures ok { IfOk result (λ register. (text : List ℕ) × IsAll (R.remaining reader.old) text × (text_read limits text ≡ Ok register)) }
+    ensures fault { IfErr result (λ fault. IfSome (R.remaining reader.old) (λ text. IsLoadFault (text_read limits text) fault)) }
+{
+    let Ok(mut reading) = Reading::new(alloc, limits) else {
+        return Err(LoadFault::Memory);
+    };
+    reading.take_all(reader)?;
+    reading.finish()
+}
