@@ -16,6 +16,8 @@ from testing import Count, options
 SETTINGS = {'rules': 16, 'radios': 16, 'mail': 256, 'stations': 4, 'journal': 39}
 SECTORS = 667
 DISK, LINES = 'd.img', 'a.txt'
+# Why a file is not opened
+HELD, EXISTS, MISSING, NOT_ALLOWED, NOT_A_FILE = 'held by another process', 'exists', 'no such file', 'not allowed', 'not a file'
 # A folder that lies in memory, where there is one: its syncs cost nothing
 MEMORY = '/dev/shm' if os.access('/dev/shm', os.W_OK) else None
 
@@ -56,10 +58,13 @@ class Place:
         gives([*self.command, *words], status, out, err, **{'stdin': subprocess.DEVNULL, 'cwd': self.folder, **how})
 
     def prints(self, line, shown):
-        """Runs a command that a document shows: the program's name, its words, and perhaps `<` and the file on standard input."""
+        """Runs a command that a document shows: the program's name, its words, and perhaps `<` and the file on standard input, or `>` and
+        the file that gets what it prints."""
+        line, _, printed = line.partition(' > ')
         words, _, name = line.partition(' < ')
         data = self.path(name).read_bytes() if name else b''
-        self.gives(words.split(' ')[1:], 0, shown.encode(), stdin=subprocess.PIPE, data=data)
+        with open(self.path(printed), 'wb') if printed else contextlib.nullcontext(subprocess.PIPE) as out:
+            self.gives(words.split(' ')[1:], 0, shown.encode(), stdin=subprocess.PIPE, data=data, stdout=out)
 
     def format(self, name=DISK):
         self.write('s.toml', settings().encode())
@@ -102,8 +107,9 @@ def fault_line(fault):
     return f'fault: {words[type(fault)]}\n'.encode()
 
 
-def file_fault(name):
-    return f'fault: file {name}\n'.encode()
+def file_fault(name, cause=None):
+    """Of a file; a second line has the cause, if it is known."""
+    return text([f'fault: file {name}', *[f'cause: {cause}'] * bool(cause)])
 
 
 def register_of(image):

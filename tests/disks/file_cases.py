@@ -10,7 +10,8 @@ import subprocess
 import time
 
 import reading
-from disk_files import DISK, LINES, SECTORS, file_fault, register_of, settings, text, untouched
+from disk_files import (DISK, EXISTS, HELD, LINES, MISSING, NOT_A_FILE, NOT_ALLOWED, SECTORS, file_fault, register_of, settings, text,
+                        untouched)
 from made_disks import FORMS
 from reading_disks import NUMBERED
 from reading_rows import SECTOR
@@ -42,20 +43,20 @@ def all_say(place, *told, **how):
 
 def no_disk(place):
     place.write(LINES, b'')
-    all_say(place, 4, err=file_fault(DISK))
+    all_say(place, 4, err=file_fault(DISK, MISSING))
     compare('a disk is there', place.path().exists(), False)
 
 
 def a_folder_as_a_disk(place):
     place.path().mkdir()
-    all_say(place, 4, err=file_fault(DISK))
+    all_say(place, 4, err=file_fault(DISK, NOT_A_FILE))
 
 
 def strange_names(place):
     ready(place)
-    for name in (f'{DISK}/x', f'no/{DISK}', 'x' * 300, ''):
-        place.gives(['show', name, 'count'], 4, err=file_fault(name))
-        place.gives(['run', name, LINES], 4, err=file_fault(name))
+    for name, cause in (f'{DISK}/x', MISSING), (f'no/{DISK}', MISSING), ('x' * 300, None), ('', MISSING):
+        place.gives(['show', name, 'count'], 4, err=file_fault(name, cause))
+        place.gives(['run', name, LINES], 4, err=file_fault(name, cause))
 
 
 def links_in_a_circle(place):
@@ -103,7 +104,7 @@ def no_permission_for_the_disk(place):
     how = as_nobody(place)
     for mode in (0o000, 0o444, 0o222):
         os.chmod(place.path(), mode)
-        all_say(place, 4, err=file_fault(DISK), **how)
+        all_say(place, 4, err=file_fault(DISK, NOT_ALLOWED), **how)
 
 
 def no_permission_for_the_commands(place):
@@ -111,19 +112,19 @@ def no_permission_for_the_commands(place):
     os.chmod(place.path(), 0o666)
     os.chmod(place.path(LINES), 0o000)
     with untouched(place.path()):
-        place.gives(RUN, 4, err=file_fault(LINES), **as_nobody(place))
+        place.gives(RUN, 4, err=file_fault(LINES, NOT_ALLOWED), **as_nobody(place))
 
 
 def no_permission_for_the_settings(place):
     place.write('s.toml', settings().encode())
     os.chmod(place.path('s.toml'), 0o000)
-    place.gives(FORMAT, 4, err=file_fault('s.toml'), **as_nobody(place))
+    place.gives(FORMAT, 4, err=file_fault('s.toml', NOT_ALLOWED), **as_nobody(place))
 
 
 def no_permission_for_the_folder(place):
     place.write('s.toml', settings().encode())
     os.chmod(place.folder, 0o555)
-    place.gives(FORMAT, 4, err=file_fault(DISK), **as_nobody(place))
+    place.gives(FORMAT, 4, err=file_fault(DISK, NOT_ALLOWED), **as_nobody(place))
     os.chmod(place.folder, 0o755)
 
 
@@ -133,7 +134,7 @@ def held_by_another(place):
     ready(place)
     with open(place.path(), 'rb') as other, untouched(place.path()):
         fcntl.flock(other, fcntl.LOCK_EX)
-        all_say(place, 4, err=file_fault(DISK))
+        all_say(place, 4, err=file_fault(DISK, HELD))
     place.gives(COUNT, 0, b'count 0\n')
 
 
@@ -154,8 +155,8 @@ def held_by_a_run(place):
     command = [*place.command, 'run', DISK, 'pipe']
     with started(command, cwd=place.folder, stdin=subprocess.DEVNULL, stdout=subprocess.PIPE) as program:
         pipe = opened_to_write(place.path('pipe'))
-        all_say(place, 4, err=file_fault(DISK))
-        place.gives(FORMAT, 4, err=file_fault(DISK))
+        all_say(place, 4, err=file_fault(DISK, HELD))
+        place.gives(FORMAT, 4, err=file_fault(DISK, EXISTS))
         os.write(pipe, text([RULE, 'count']))
         os.close(pipe)
         compare('output', ends(program, 0), text(['station 1 pipe', '1 ok 1 -', 'count 1']))
@@ -168,7 +169,7 @@ def no_commands(place):
     ready(place)
     os.remove(place.path(LINES))
     with untouched(place.path()):
-        place.gives(RUN, 4, err=file_fault(LINES))
+        place.gives(RUN, 4, err=file_fault(LINES, MISSING))
 
 
 def a_folder_of_commands(place):
@@ -184,7 +185,7 @@ def the_disk_is_judged_before_the_commands(place):
     place.write(DISK, b'')
     place.gives(RUN, 5, err=UNFORMATTED)
     os.remove(place.path())
-    place.gives(RUN, 4, err=file_fault(DISK))
+    place.gives(RUN, 4, err=file_fault(DISK, MISSING))
 
 
 def strange_commands(place):
@@ -242,7 +243,7 @@ def at_most(size):
 def left_unmade(place):
     """What a `format` without room left is no disk, and is not made again."""
     place.gives(COUNT, 5, err=UNFORMATTED)
-    place.gives(FORMAT, 4, err=file_fault(DISK))
+    place.gives(FORMAT, 4, err=file_fault(DISK, EXISTS))
 
 
 def formatted_past_a_limit(place):

@@ -13,7 +13,7 @@ from disk_files import DISK, LINES, fault_line, place, text, untouched
 from images import are_same, fault_of, told_as
 from made_disks import (CLOSED, FORMS, GATE, NONE, OPEN, OTHER_GATE, OTHER_SLOT, SLOT, as_plain, expire, image, record, records, side,
                         text_of, zeroed)
-from reading_disks import LONGEST, MOST_COMMANDS, NUMBERED, PLAIN, Damaged, data_sectors, opens, records_in, told_in
+from reading_disks import LONGEST, MOST_COMMANDS, NUMBERED, PLAIN, Damaged, data_sectors, figures, opens, records_in, told_in
 from reading_rows import SECTOR, header_row
 from running import Differs, compare
 from testing import Count
@@ -149,6 +149,18 @@ def any_count_before(form):
     is_damaged(image({**last, **record(GATE, text_of(form, [expire(1)], reading.LAST_NUMBER + 1))}, form), GATE + 1)
 
 
+def the_figures():
+    """Of disks whose figures are written here by hand, by docs/formats/disk.md."""
+    one = image({GATE: OPEN, GATE + 1: bytes_of(ONE[PLAIN], P), GATE + 2: CLOSED}, PLAIN)
+    last = image({SLOT: header_row(2 ** 62, 5, NONE)})
+    for made, wanted in ((zeroed(), 'disk layout 2 side A epoch 1 left 4611686018427387903 gate 589 free 39 count 0'),
+                         (one, 'disk layout 1 side A epoch 1 left 4611686018427387903 gate 591 free 37 count 1'),
+                         (moved(11), 'disk layout 2 side B epoch 2 left 4611686018427387902 gate 630 free 37 count 11'),
+                         (image(full_half(PLAIN)[0], PLAIN), 'disk layout 1 side A epoch 1 left 4611686018427387903 gate 627 free 1 count 19'),
+                         (last, 'disk layout 2 side A epoch 4611686018427387904 left 0 gate 589 free 39 count 5')):
+        compare('the figures', figures(made), wanted)
+
+
 def counted(count):
     register = reading.Register()
     register.count = count
@@ -165,14 +177,15 @@ def by_the_reading(count):
     for name, made, wanted in good():
         if wanted[1] == NUMBERED:
             count.case(f'{name}, in layout 1', in_layout_1, made)
+    count.case(the_figures.__name__, the_figures)
 
 
 # The program
 
-def shown(place, image, status, out, err):
+def shown(place, image, status, out, err, query='count'):
     place.put(image)
     with untouched(place.path()):
-        place.gives(['show', DISK, 'count'], status, out, err)
+        place.gives(['show', DISK, query], status, out, err)
 
 
 def serves(place, sequence, words, pdu='-'):
@@ -264,9 +277,11 @@ def by_the_program(command, count):
     for name, made, wanted in good():
         with place(command) as folder:
             count.case(f'{name}, shown', shown, folder, made, 0, text([f'count {wanted[4]}']), b'')
+            count.case(f'{name}, its figures', shown, folder, made, 0, text([figures(made)]), b'', 'disk')
     for name, made, at in damaged():
         with place(command) as folder:
             count.case(f'{name}, shown', shown, folder, made, 5, b'', fault_line(Damaged(at)))
+            count.case(f'{name}, its figures', shown, folder, made, 5, b'', fault_line(Damaged(at)), 'disk')
     for case in a_new_disk, an_old_disk, an_old_disk_in_one_run, a_new_disk_in_one_run, a_full_old_disk, a_moved_disk:
         with place(command) as folder:
             count.case(case.__name__, case, folder)

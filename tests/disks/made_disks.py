@@ -1,6 +1,6 @@
 """Disks of both layouts, written from docs/formats/disk.md alone. A disk of layout 1 is made here and nowhere else: the program
 makes and leaves sides of layout 2. The form of a side is as reading_disks.py has it."""
-from reading_disks import (LABEL, NUMBERED, PLAIN, RECORD_HEAD, ROOTS, base_of, data_sectors, head_in, is_open, layout_in, opens,
+from reading_disks import (LABEL, NUMBERED, PLAIN, RECORD_HEAD, ROOTS, base_of, data_sectors, form_of, head_in, is_open, layout_in,
                            records_in)
 from reading_rows import SECTOR, Fields, header_row, number, rows
 
@@ -82,14 +82,19 @@ def without_number(held):
 
 def as_plain(numbered):
     """A disk of layout 2 as it would be in layout 1: its headers have the other tag, and its records no numbers."""
-    layout, opening = layout_in(numbered[LABEL], len(numbered)), opens(numbered)
-    plain = dict(enumerate(numbered))
+    layout, plain = layout_in(numbered[LABEL], len(numbered)), dict(enumerate(numbered))
     for which in (0, 1):
-        if is_open(numbered[ROOTS[which]]):
-            plain[layout.slot(which)] = number(PLAIN, 1) + numbered[layout.slot(which)][1:]
-    gate, (_, register) = layout.half(opening.side), base_of(numbered, layout, opening.side)
-    held, _ = records_in(numbered, gate, layout.half(opening.side + 1), NUMBERED, register.count)
+        if is_open(numbered[ROOTS[which]]) and form_of(numbered, layout, which) == NUMBERED:
+            plain.update(plain_side(numbered, layout, which))
+    return list(plain.values())
+
+
+def plain_side(numbered, layout, which):
+    """The sectors of a side that differ in layout 1."""
+    slot, gate, (_, register) = layout.slot(which), layout.half(which), base_of(numbered, layout, which)
+    plain = {slot: number(PLAIN, 1) + numbered[slot][1:]}
+    held, _ = records_in(numbered, gate, layout.half(which + 1), NUMBERED, register.count)
     for one in held:
         plain.update(record(gate, without_number(one)))
         gate += 1 + data_sectors(plain[gate + 1], PLAIN)
-    return list(plain.values())
+    return plain

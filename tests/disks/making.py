@@ -17,7 +17,7 @@ import faulty_disks
 import made_disks
 import reading
 import refusing
-from disk_files import DISK, LINES, MEMORY, SECTORS, SETTINGS, fault_line, file_fault, place, settings
+from disk_files import DISK, EXISTS, LINES, MEMORY, SECTORS, SETTINGS, fault_line, file_fault, place, settings
 from images import fault_of
 from made_disks import FORMS
 from pending import Disk, choices
@@ -123,7 +123,7 @@ def a_call_fails(made, record, number):
     compare('the calls before', failed[:-1], record[:number - 1])
     compare('the last call', failed[-1].kind, 'f')
     compare('the disk has no label', has_no_label(made.place.image()), number < len(KINDS))
-    made.place.gives([*WORDS, DISK], 4, err=file_fault(DISK))
+    made.place.gives([*WORDS, DISK], 4, err=file_fault(DISK, EXISTS))
 
 
 def no_memory(made):

@@ -19,7 +19,7 @@ import time
 import refusing
 from base_stations import (STATIONS, Resending, Station, at_once, ends_by, finish, go_on, judge, make_pipes, names_of, on_streams, reader_of,
                            serving, serving_pipes, status_of, stop, with_default, writer_of)
-from disk_files import DISK, MEMORY, file_fault, place, register_of, text, untouched
+from disk_files import DISK, HELD, MEMORY, MISSING, file_fault, place, register_of, text, untouched
 from many_files import LONG, SHORTEST, WHEN_BROKEN, formats
 from program import queued, receives, waits, without
 from program_disks import peak
@@ -189,7 +189,7 @@ def refused(place):
     refuses(place, [DISK, *most, 'a.txt', 'a.out'], 2, b'fault: more files than stations\n')
     refuses(place, [DISK, 'a.txt', 'a.out', 'b.txt', 'b.out', 'a.txt', 'c.out'], 2, twice('a.txt'))
     refuses(place, ['no.img', 'a.txt', 'a.out', 'a.txt', 'b.out'], 2, twice('a.txt'))
-    refuses(place, ['no.img', 'a.txt', 'a.out'], 4, file_fault('no.img'))
+    refuses(place, ['no.img', 'a.txt', 'a.out'], 4, file_fault('no.img', MISSING))
     refuses(place, ['a.txt', 'a.txt', 'a.out'], 5, b'fault: unformatted\n')
 
 
@@ -199,7 +199,7 @@ def a_disk_that_is_served(place):
         station = on_streams(program)
         station.ask(b'count')
         for words in ['serve', DISK], ['serve', DISK, 'a.txt', 'a.out'], ['run', DISK, 'a.txt'], ['show', DISK, 'count']:
-            place.gives(words, 4, err=file_fault(DISK))
+            place.gives(words, 4, err=file_fault(DISK, HELD))
         station.end()
         finish(program, 0)
 
@@ -225,7 +225,7 @@ def receive_all(stream, count):
 
 
 def files_that_can_not_be_opened(place, dice):
-    """Their stations end alone, each with its fault as it happens. Status 4 comes before 1."""
+    """Their stations end alone, each with its fault as it happens, in one line. Status 4 comes before 1."""
     formats(place, STATIONS, SHORTEST)
     make_pipes(place, STATIONS)
     for name in 'a.txt', 'b.txt':

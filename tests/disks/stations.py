@@ -13,7 +13,7 @@ import time
 import reading
 import rows
 from changed_outputs import CHANGES, kept_of
-from disk_files import DISK, MEMORY, file_fault, place, register_of, shows_all, text, untouched
+from disk_files import DISK, MEMORY, MISSING, file_fault, place, register_of, shows_all, text, untouched
 from made_disks import FORMS
 from many_files import LONG, SHORTEST, Files, by_chance, empty, formats, ordered, ran, runs, stands_for
 from reading_disks import NUMBERED, opens
@@ -197,7 +197,7 @@ def too_many(place):
     prepared(place)
     fault, names = b'fault: more files than stations\n', ['a.txt', 'b.txt', 'c.txt', 'e.txt', 'no.txt']
     refuses(place, names, 2, fault)
-    place.gives(['run', 'no.img', *names], 4, err=file_fault('no.img'))
+    place.gives(['run', 'no.img', *names], 4, err=file_fault('no.img', MISSING))
     place.write('zeros.img', bytes(len(place.path().read_bytes())))
     place.gives(['run', 'zeros.img', *names], 5, err=b'fault: unformatted\n')
 
@@ -206,7 +206,7 @@ def not_opened(place):
     """All files are opened before any is served; the first that can't be is reported."""
     prepared(place)
     for names in (['no.txt', 'a.txt'], ['a.txt', 'no.txt'], ['a.txt', 'no.txt', 'none.txt']):
-        refuses(place, names, 4, file_fault('no.txt'))
+        refuses(place, names, 4, file_fault('no.txt', MISSING))
 
 
 def cut(lines, files, station, out):

@@ -2,6 +2,7 @@
 """Runs format, run and show of the built program: the sample, each fault line with its status, and what is left of the files.
 Prints the cases that fail, and last 'N passed, M failed'.
 Usage: tests/run program_disks PROGRAM (the program itself, not a script that starts it)"""
+import fcntl
 import os
 import pathlib
 import re
@@ -11,9 +12,11 @@ import subprocess
 import tempfile
 
 import refusing
-from disk_files import DISK, SECTORS, file_fault, run_cases, settings, untouched
+from disk_files import DISK, EXISTS, MISSING, NOT_A_FILE, SECTORS, file_fault, run_cases, settings, text, untouched
+from file_cases import as_nobody
 from made_disks import FORMS
 from program import TOP
+from reading_disks import figures
 from running import SECONDS, Differs, compare
 
 FORMATTED = f'formatted {SECTORS} sectors\n'.encode()
@@ -73,9 +76,30 @@ def what_is_shown(place):
                 (['1', '0', 'expire'], 1, b'line 1 bad syntax\n'), (['0', '0', 'expire'], 1, b'line 1 bad value\n'),
                 (['1', '0', '', 'expire'], 1, b'line 1 bad syntax\n'), (['count\ncount'], 1, b'line 1 bad syntax\n'),
                 (['where', ''], 1, b'line 1 bad value\n'), (['where 1-2-3'], 0, b'where 1-2-3 unknown\n'),
+                (['disk', 'x'], 1, b'line 1 bad syntax\n'), (['disk', ''], 1, b'line 1 bad syntax\n'), (['', 'disk'], 1, b'line 1 bad syntax\n'),
+                (['disk\n'], 1, b'line 1 bad syntax\n'), (['disk', 'count'], 1, b'line 1 bad syntax\n'),
                 (['a' * 1024], 1, b'line 1 bad syntax\n'), (['a' * 1025], 1, b'line 1 bad too-long\n'),
                 (['#' * 1025], 1, b'line 1 bad too-long\n'), (['mail', '1-2-3'], 0, b'mail 1-2-3 0\n')]:
             place.gives(['show', 'd.img', *words], status, out)
+
+
+def shows_figures(place):
+    with untouched(place.path()):
+        place.gives(['show', DISK, 'disk'], 0, text([figures(place.image())]))
+
+
+def figures_of_a_disk(place):
+    """Of a disk made ready; after two commands; and after ten more, beside which a checkpoint begins and ends."""
+    place.write('a.txt', LINES)
+    place.write('b.txt', text(f'{sequence} 20 expire' for sequence in range(3, 13)))
+    for form in FORMS:
+        place.begins(form)
+        shows_figures(place)
+        place.gives(['run', DISK, 'a.txt'], 0, b'station 1 a.txt\n' + FIRST)
+        shows_figures(place)
+        place.gives(['run', DISK, 'b.txt'], 0, text(['station 1 b.txt', *(f'{number} ok {number} -' for number in range(3, 13))]))
+        compare('the side that counts', figures(place.image())[:28], 'disk layout 2 side B epoch 2')
+        shows_figures(place)
 
 
 def lines_without_trouble_and_with(place):
@@ -128,7 +152,8 @@ def wrong_words(place):
     place.format()
     place.write('a.txt', LINES)
     for words in (['format'], ['format', 's.toml'], ['format', 's.toml', 'e.img', 'x'], ['run'], ['run', 'd.img'],
-                  ['serve'], ['serve', 'd.img', 'a.txt'], ['show'], ['show', 'd.img'], ['no such'], [''], [b'show', b'd.img', b'\xff']):
+                  ['serve'], ['serve', 'd.img', 'a.txt'], ['show'], ['show', 'd.img'], ['dump'], ['dump', 'd.img', 'x'], ['load'],
+                  ['load', 'a.txt', 's.toml'], ['load', 'a.txt', 's.toml', 'e.img', 'x'], ['no such'], [''], [b'show', b'd.img', b'\xff']):
         with subprocess.Popen([*place.command, *words], stdin=subprocess.DEVNULL, stdout=subprocess.PIPE, stderr=subprocess.PIPE,
                               cwd=place.folder) as program:
             out, err = program.communicate(timeout=20)
@@ -145,11 +170,15 @@ def told(place, *words):
 
 
 def help_and_version(place):
-    for words, parts in (([], [b'format', b'run', b'serve', b'show', b'--help', b'--version', b'\nExample: tetra-switch < ']),
+    names = [b'format', b'run', b'serve', b'show', b'check', b'dump', b'load']
+    for words, parts in (([], [*names, b'--help', b'--version', b'\nExample: tetra-switch < ']),
                          (['format'], [b'SETTINGS', b'DISK', b'\nExample: tetra-switch format ']),
                          (['run'], [b'DISK', b'FILE', b'\nExample: tetra-switch run ']),
                          (['serve'], [b'DISK', b'IN', b'OUT', b'\nExample: tetra-switch serve ']),
-                         (['show'], [b'DISK', b'WORD', b'\nExample: tetra-switch show '])):
+                         (['show'], [b'DISK', b'WORD', b'\nExample: tetra-switch show ']),
+                         (['check'], [b'DISK', b'\nExample: tetra-switch check ']),
+                         (['dump'], [b'DISK', b'\nExample: tetra-switch dump ']),
+                         (['load'], [b'DUMP', b'SETTINGS', b'DISK', b'\nExample: tetra-switch load '])):
         for flag in '--help', '-h':
             text, usage = told(place, *words, flag), b'Usage: tetra-switch ' + ''.join(words).encode()
             compare(f'parts of the help of {words}', [part for part in [usage, *parts, b'\nExit status: 0 '] if part not in text], [])
@@ -180,16 +209,16 @@ def bad_geometry(place):
 
 
 def settings_that_can_not_be_read(place):
-    place.gives(['format', 'no.toml', 'd.img'], 4, err=file_fault('no.toml'))
-    place.gives(['format', '.', 'd.img'], 4, err=file_fault('.'))
-    place.gives(['format', '', 'd.img'], 4, err=file_fault(''))
+    place.gives(['format', 'no.toml', 'd.img'], 4, err=file_fault('no.toml', MISSING))
+    place.gives(['format', '.', 'd.img'], 4, err=file_fault('.', NOT_A_FILE))
+    place.gives(['format', '', 'd.img'], 4, err=file_fault('', MISSING))
 
 
 def a_disk_that_can_not_be_made(place):
     place.format()
-    refuses(place, ['format', 's.toml', 'd.img'], 4, file_fault(DISK))
-    place.gives(['format', 's.toml', 'no/d.img'], 4, err=file_fault('no/d.img'))
-    place.gives(['format', 's.toml', '.'], 4, err=file_fault('.'))
+    refuses(place, ['format', 's.toml', 'd.img'], 4, file_fault(DISK, EXISTS))
+    place.gives(['format', 's.toml', 'no/d.img'], 4, err=file_fault('no/d.img', MISSING))
+    place.gives(['format', 's.toml', '.'], 4, err=file_fault('.', EXISTS))
 
 
 def no_room_for_a_disk(place):
@@ -215,9 +244,9 @@ def nowhere_to_say_it(place):
 
 def disks_that_can_not_be_opened(place):
     place.write('a.txt', LINES)
-    for name in 'no.img', '.', 'no/d.img', '':
+    for name, cause in ('no.img', MISSING), ('.', NOT_A_FILE), ('no/d.img', MISSING), ('', MISSING):
         for words in (['run', name, 'a.txt'], ['show', name, 'count']):
-            place.gives(words, 4, err=file_fault(name))
+            place.gives(words, 4, err=file_fault(name, cause))
 
 
 def hostile_disk(place, form):
@@ -248,9 +277,26 @@ def hostile_disks(place):
 
 def files_that_can_not_be_read(place):
     place.format()
-    refuses(place, ['run', 'd.img', 'no.txt'], 4, file_fault('no.txt'))
+    refuses(place, ['run', 'd.img', 'no.txt'], 4, file_fault('no.txt', MISSING))
     place.gives(['run', 'd.img', '.'], 4, b'station 1 .\n', file_fault('.'))
     place.gives(['show', 'd.img', 'count'], 0, b'count 0\n')
+
+
+def each_cause(place):
+    """The second line says why the file is not opened. A name that is too long has none."""
+    place.format()
+    place.path('folder').mkdir()
+    place.write('closed.img', b'')
+    place.path('closed.img').chmod(0o000)
+    long = 'x' * 256
+    with open(place.path(), 'rb') as other:
+        fcntl.flock(other, fcntl.LOCK_EX)
+        refuses(place, ['show', 'd.img', 'count'], 4, b'fault: file d.img\ncause: held by another process\n')
+    refuses(place, ['format', 's.toml', 'd.img'], 4, b'fault: file d.img\ncause: exists\n')
+    place.gives(['show', 'no.img', 'count'], 4, err=b'fault: file no.img\ncause: no such file\n')
+    place.gives(['show', 'folder', 'count'], 4, err=b'fault: file folder\ncause: not a file\n')
+    place.gives(['show', long, 'count'], 4, err=b'fault: file %s\n' % long.encode())
+    place.gives(['show', 'closed.img', 'count'], 4, err=b'fault: file closed.img\ncause: not allowed\n', **as_nobody(place))
 
 
 def the_order_of_faults(place):
@@ -260,17 +306,17 @@ def the_order_of_faults(place):
     place.gives(['format', 's.toml', 'd.img'], 3, err=fault('settings'))
     written(place, rules=0)
     place.gives(['format', 's.toml', 'd.img'], 5, err=fault('bad geometry'))
-    place.gives(['format', 'no.toml', 'd.img'], 4, err=file_fault('no.toml'))
+    place.gives(['format', 'no.toml', 'd.img'], 4, err=file_fault('no.toml', MISSING))
     place.gives(['run', 'd.img', 'no.txt'], 5, err=fault('unformatted'))
-    place.gives(['run', 'no.img', 'no.txt'], 4, err=file_fault('no.img'))
+    place.gives(['run', 'no.img', 'no.txt'], 4, err=file_fault('no.img', MISSING))
     place.gives(['show', 'd.img', 'x'], 5, err=fault('unformatted'))
     with open('/dev/full', 'wb') as full:
         place.gives(['format', 's.toml', 'd.img'], 5, err=fault('bad geometry'), stdout=full)
         place.gives(['show', 'd.img', 'x'], 5, err=fault('unformatted'), stdout=full)
         place.path().unlink()
         place.format()
-        for name in 'no.txt', '.':
-            place.gives(['run', 'd.img', name], 4, err=file_fault(name), stdout=full)
+        for name, cause in ('no.txt', MISSING), ('.', None):
+            place.gives(['run', 'd.img', name], 4, err=file_fault(name, cause), stdout=full)
 
 
 def no_memory(place):
@@ -314,9 +360,9 @@ def memory_that_ends_between(place):
 
 
 CASES = [
-    the_sample, the_readme, what_is_shown, lines_without_trouble_and_with, a_long_file, wrong_words, help_and_version, bad_settings, bad_geometry, settings_that_can_not_be_read,
+    the_sample, the_readme, what_is_shown, figures_of_a_disk, lines_without_trouble_and_with, a_long_file, wrong_words, help_and_version, bad_settings, bad_geometry, settings_that_can_not_be_read,
     a_disk_that_can_not_be_made, no_room_for_a_disk, nowhere_to_say_it, disks_that_can_not_be_opened,
-    hostile_disks, files_that_can_not_be_read, the_order_of_faults, no_memory, memory_that_ends_between,
+    hostile_disks, files_that_can_not_be_read, each_cause, the_order_of_faults, no_memory, memory_that_ends_between,
 ]
 
 

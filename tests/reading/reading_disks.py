@@ -5,7 +5,7 @@ import functools
 
 import reading
 from reading_pdus import Refused
-from reading_rows import (HEADER, LAST_AREA, PLAIN_HEADER, SECTOR, BadSector, Fields, Header, NoRow, mail_kind_in, read_image, row_in,
+from reading_rows import (HEADER, LAST_AREA, LAST_EPOCH, PLAIN_HEADER, SECTOR, BadSector, Fields, Header, NoRow, mail_kind_in, read_image, row_in,
                           rule_in, want)
 
 NAME, LAYOUT = b'TETRALOC', 1
@@ -17,6 +17,7 @@ LABEL, ROOTS, SLOTS = 0, (1, 2), 3
 # has the number of its first command. How many bytes of a record come before its commands
 PLAIN, NUMBERED = PLAIN_HEADER, HEADER
 RECORD_HEAD = {PLAIN: 6, NUMBERED: 14}
+SIDE_LAYOUTS = {PLAIN: 1, NUMBERED: 2}
 
 # A record: its first data sector, its form and its data. Told: the number of its first command, and its commands. Opening: what an
 # image opens to. It has the side that counts (0 for A, 1 for B), the form of its records, its epoch, the first closed gate, which
@@ -249,15 +250,32 @@ def after(register, record):
 
 # The whole
 
-def opens(image):
-    """What an image stands for, or Unformatted, BadGeometry or Damaged."""
-    if not image:
-        raise Unformatted
-    layout = layout_in(image[LABEL], len(image))
-    side = side_in(image, layout)
+def opens_from(image, layout, side):
+    """What an image stands for by this side alone, whose root is open, or Damaged."""
     epoch, register = base_of(image, layout, side)
     form = form_of(image, layout, side)
     records, gate = records_in(image, layout.half(side), layout.half(side + 1), form, register.count)
     for record in records:
         register = after(register, record)
     return Opening(side, form, epoch, gate, register)
+
+
+def layout_on(image):
+    """The layout of an image, or Unformatted or BadGeometry."""
+    if not image:
+        raise Unformatted
+    return layout_in(image[LABEL], len(image))
+
+
+def opens(image):
+    """What an image stands for, or Unformatted, BadGeometry or Damaged."""
+    layout = layout_on(image)
+    return opens_from(image, layout, side_in(image, layout))
+
+
+def figures(image):
+    """The line that `show` answers to `disk`, of an image that opens."""
+    layout, it = layout_in(image[LABEL], len(image)), opens(image)
+    free = layout.half(it.side + 1) - it.gate
+    return (f'disk layout {SIDE_LAYOUTS[it.form]} side {"AB"[it.side]} epoch {it.epoch} left {LAST_EPOCH - it.epoch}'
+            f' gate {it.gate} free {free} count {it.register.count}')

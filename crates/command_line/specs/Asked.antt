@@ -23,6 +23,9 @@ pub data Asked : Type 0 where
   run : Text → List Text → Asked
   serve : Text → List (Text × Text) → Asked
   show : Text → List Text → Asked
+  dump : Text → Asked
+  load : Text → Text → Text → Asked
+  check : Text → Asked
 
 -- the texts of pairs of words
 abbrev pub pair_texts : List (Bor Text × Bor Text) → List (Text × Text)
@@ -35,6 +38,9 @@ asked_by (request.Format settings disk) = format settings.now disk.now
 asked_by (request.Run disk files) = run disk.now (map (λ file. file.now) files.items)
 asked_by (request.Serve disk pairs) = serve disk.now (pair_texts pairs.items)
 asked_by (request.Show disk words) = show disk.now (map (λ word. word.now) words.items)
+asked_by (request.Dump disk) = dump disk.now
+asked_by (request.Load file settings disk) = load file.now settings.now disk.now
+asked_by (request.Check disk) = check disk.now
 
 -- two parts of a request, where neither is missing
 abbrev pub both : {X Y : Type 0} → (Text → X → Y) → Option Text → Option X → Option Y
@@ -48,9 +54,17 @@ disk_and_words name found = both (λ disk words. (disk, words)) (first_of (codes
 abbrev pub texts_of : Bor Text × Vec (Bor Text) Global → Text × List Text
 texts_of found = (found.0.now, map (λ word. word.now) found.1.items)
 
+-- the settings and the disk
+abbrev pub settings_and_disk : List Row → Option (Text × Text)
+settings_and_disk found = both (λ settings disk. (settings, disk)) (first_of (codes "SETTINGS") found) (first_of (codes "DISK") found)
+
+-- the texts of two words
+abbrev pub two_texts : Bor Text × Bor Text → Text × Text
+two_texts found = (found.0.now, found.1.now)
+
 -- the request of `format`, by the words that clap found: its settings and its disk
 abbrev pub format_in : List Row → Option Asked
-format_in found = both format (first_of (codes "SETTINGS") found) (first_of (codes "DISK") found)
+format_in found = option_map (λ (named : Text × Text). format named.0 named.1) (settings_and_disk found)
 
 -- the request of `run`: its disk and its files
 abbrev pub run_in : List Row → Option Asked
@@ -70,6 +84,26 @@ serve_in found = both serve (first_of (codes "DISK") found) (paired (unwrap_or (
 abbrev pub show_in : List Row → Option Asked
 show_in found = option_map (λ (named : Text × List Text). show named.0 named.1) (disk_and_words (codes "WORD") found)
 
+-- the request of `dump`: its disk
+abbrev pub dump_in : List Row → Option Asked
+dump_in found = option_map dump (first_of (codes "DISK") found)
+
+-- the request of `load`: its dump, its settings and its disk
+abbrev pub load_in : List Row → Option Asked
+load_in found = both (λ file (named : Text × Text). load file named.0 named.1) (first_of (codes "DUMP") found) (settings_and_disk found)
+
+-- the request of `check`: its disk
+abbrev pub check_in : List Row → Option Asked
+check_in found = option_map check (first_of (codes "DISK") found)
+
+-- the request of `dump`, `load` or `check`
+abbrev pub dump_load_or_check_in : Text × List Row → Option Asked
+dump_load_or_check_in found =
+    if bytes_eq found.0 (codes "dump") then dump_in found.1
+    else (if bytes_eq found.0 (codes "load") then load_in found.1
+    else (if bytes_eq found.0 (codes "check") then check_in found.1
+    else None))
+
 -- the request of a subcommand that clap found, with its words
 abbrev pub asked_of : Text × List Row → Option Asked
 asked_of found =
@@ -77,7 +111,7 @@ asked_of found =
     else (if bytes_eq found.0 (codes "run") then run_in found.1
     else (if bytes_eq found.0 (codes "serve") then serve_in found.1
     else (if bytes_eq found.0 (codes "show") then show_in found.1
-    else None)))
+    else dump_load_or_check_in found)))
 
 -- no word follows the program's name
 abbrev pub is_bare : List Text → Bool

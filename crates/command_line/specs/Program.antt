@@ -1,4 +1,4 @@
--- The definition of the command line for clap: four subcommands, each with its words in order. How clap reads words
+-- The definition of the command line for clap: seven subcommands, each with its words in order. How clap reads words
 -- by it is said by its own definitions, `subcommand_of` and `fault_of`.
 use Rattle.std.specs.Prelude.{◌≡◌, false, true, Some, codes}
 use Rattle.clap.specs.Words.{App, Rule, Text, app_of, new_app, new_rule, with_rule, with_subcommand}
@@ -48,6 +48,18 @@ serve = with_two_words (codes "serve") (one_word (codes "DISK")) ends
 abbrev pub show : App
 show = with_two_words (codes "show") (one_word (codes "DISK")) (some_words (codes "WORD"))
 
+-- `dump DISK`
+abbrev pub dump : App
+dump = with_rule (new_app (codes "dump")) (one_word (codes "DISK"))
+
+-- `load DUMP SETTINGS DISK`
+abbrev pub load : App
+load = with_rule (with_two_words (codes "load") (one_word (codes "DUMP")) (one_word (codes "SETTINGS"))) (one_word (codes "DISK"))
+
+-- `check DISK`
+abbrev pub check : App
+check = with_rule (new_app (codes "check")) (one_word (codes "DISK"))
+
 -- the program without its subcommands: one of them must be named, it has a version, and `help` is no subcommand
 abbrev pub bare : App
 bare = on_top (λ top. record top {
@@ -56,9 +68,17 @@ bare = on_top (λ top. record top {
   has_version = true;
 }) (new_app (codes "tetra-switch"))
 
--- the program
+-- the program with the subcommands that make, change and query a disk file
+abbrev pub serving : App
+serving = with_subcommand (with_subcommand (with_subcommand (with_subcommand bare format.top) run.top) serve.top) show.top
+
+-- also the subcommands that print a register as text, and make a disk file from that text
+abbrev pub loading : App
+loading = with_subcommand (with_subcommand serving dump.top) load.top
+
+-- the program: also the subcommand that prints what is damaged in a disk file
 abbrev pub program : App
-program = with_subcommand (with_subcommand (with_subcommand (with_subcommand bare format.top) run.top) serve.top) show.top
+program = with_subcommand loading check.top
 
 -- clap's command has this definition, and no argument is global, so none is passed down to subcommands
 abbrev pub Describes : App → Command → Type 0

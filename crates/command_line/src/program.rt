@@ -11,6 +11,10 @@ const NAME: &str = "tetra-switch";
 
 const DISK: &str = "The disk file";
 
+const NEW_DISK: &str = "The disk file, which may not exist yet";
+
+const SETTINGS: &str = "The settings: five numbers in TOML";
+
 /// The program with its subcommands.
 pub(crate) fn program<'a>(alloc: Global) -> Result<Command<'a>, AllocError>
     ensures { IfOk result (spec.Describes spec.program) }
@@ -19,7 +23,10 @@ pub(crate) fn program<'a>(alloc: Global) -> Result<Command<'a>, AllocError>
         .subcommand(format(alloc)?)?
         .subcommand(run(alloc)?)?
         .subcommand(serve(alloc)?)?
-        .subcommand(show(alloc)?)
+        .subcommand(show(alloc)?)?
+        .subcommand(dump(alloc)?)?
+        .subcommand(load(alloc)?)?
+        .subcommand(check(alloc)?)
 }
 
 /// The program without its subcommands, under its name.
@@ -50,8 +57,8 @@ fn named<'a>(alloc: Global, name: &'a str, about: &'a str, after: &'a str) -> Co
 fn format<'a>(alloc: Global) -> Result<Command<'a>, AllocError>
     ensures { IfOk result (spec.Describes spec.format) }
 {
-    let settings = one_word(alloc, "SETTINGS", "The settings: five numbers in TOML");
-    let disk = one_word(alloc, "DISK", "The disk file, which may not exist yet");
+    let settings = one_word(alloc, "SETTINGS", SETTINGS);
+    let disk = one_word(alloc, "DISK", NEW_DISK);
     named(alloc, "format", FORMAT, AFTER_FORMAT)
         .arg(settings)?
         .arg(disk)
@@ -86,6 +93,32 @@ fn show<'a>(alloc: Global) -> Result<Command<'a>, AllocError>
     let disk = one_word(alloc, "DISK", DISK);
     let words = some_words(alloc, "WORD", "The words of the query");
     named(alloc, "show", SHOW, AFTER_SHOW).arg(disk)?.arg(words)
+}
+
+fn dump<'a>(alloc: Global) -> Result<Command<'a>, AllocError>
+    ensures { IfOk result (spec.Describes spec.dump) }
+{
+    let disk = one_word(alloc, "DISK", DISK);
+    named(alloc, "dump", DUMP, AFTER_DUMP).arg(disk)
+}
+
+fn load<'a>(alloc: Global) -> Result<Command<'a>, AllocError>
+    ensures { IfOk result (spec.Describes spec.load) }
+{
+    let dump = one_word(alloc, "DUMP", "The text that dump printed");
+    let settings = one_word(alloc, "SETTINGS", SETTINGS);
+    let disk = one_word(alloc, "DISK", NEW_DISK);
+    named(alloc, "load", LOAD, AFTER_LOAD)
+        .arg(dump)?
+        .arg(settings)?
+        .arg(disk)
+}
+
+fn check<'a>(alloc: Global) -> Result<Command<'a>, AllocError>
+    ensures { IfOk result (spec.Describes spec.check) }
+{
+    let disk = one_word(alloc, "DISK", DISK);
+    named(alloc, "check", CHECK, AFTER_CHECK).arg(disk)
 }
 
 /// One required word.
@@ -136,6 +169,14 @@ const SERVE_ENDS: &str = "The lines of a station, and its answers: a FIFO, a dev
 
 const SHOW: &str = "Answers one query of a disk file, and changes nothing.";
 
+const DUMP: &str =
+    "Prints the register of a disk file as text, a line for each entry, and changes nothing.";
+
+const LOAD: &str =
+    "Makes a disk file with the register of a dump. The settings may have other limits than the disk that was dumped.";
+
+const CHECK: &str = "Reads both sides of a disk file, prints what is damaged, and changes nothing.";
+
 const AFTER: &str = "Example: tetra-switch < station1.txt > answers.txt
 
 Exit status: 0 each line was answered; 1 a line was bad, or an answer told of the service; 2 the command line is \
@@ -163,3 +204,19 @@ const AFTER_SHOW: &str = "Example: tetra-switch show centre.disk where 234-14-20
 
 Exit status: 0 the query was answered; 1 it is no query, or the answer told of the service; 2 the command line is \
      wrong; 4 the disk file can't be read; 5 it holds no register or the disk failed, or no memory.";
+
+const AFTER_DUMP: &str = "Example: tetra-switch dump centre.disk > centre.txt
+
+Exit status: 0 the register is printed; 2 the command line is wrong; 4 the disk file can't be read, or the dump can't \
+     be written; 5 it holds no register or the disk failed, or no memory.";
+
+const AFTER_LOAD: &str = "Example: tetra-switch load centre.txt settings.toml centre.disk
+
+Exit status: 0 the disk file is made; 2 the command line is wrong; 3 the settings are not five numbers in TOML, or a \
+     line of the dump is wrong or does not fit them; 4 the dump or the settings can't be read, or the disk file exists \
+     or can't be made; 5 no disk has these limits, the disk failed, or no memory.";
+
+const AFTER_CHECK: &str = "Example: tetra-switch check centre.disk
+
+Exit status: 0 nothing is damaged; 2 the command line is wrong; 4 the disk file can't be read, or the text can't be \
+     written; 5 a sector is damaged, the file holds no register or the disk failed, or no memory.";

@@ -13,7 +13,8 @@ use std::convert::AsStr;
 
 /// The request of a command line, whose first word is the program's name. Without further words it is to serve
 /// standard input over a register in memory. Else clap reads the words: `format SETTINGS DISK`, `run DISK FILE...`,
-/// `serve DISK [IN OUT]...` or `show DISK WORD...`. A word after `--` is never read as a flag.
+/// `serve DISK [IN OUT]...`, `show DISK WORD...`, `dump DISK`, `load DUMP SETTINGS DISK` or `check DISK`. A word after
+/// `--` is never read as a flag.
 ///
 /// # Errors
 /// `Help` for `--help` or `-h`, also of a subcommand; `Version` for `--version` or `-V`. `Wrong` or `Missing` for every
@@ -87,14 +88,29 @@ fn request_of<'a>(
     if name == "show" {
         return show_of(alloc, found);
     }
-    Ok(None)
+    Ok(dump_load_or_check_of(name, found))
+}
+
+/// The request of `dump`, `load` or `check`, with the words that clap found; `None` where one is missing.
+fn dump_load_or_check_of<'a>(name: &str, found: &ArgMatches<'a>) -> Option<Request<'a>>
+    ensures { option_map spec.asked_by result ≡ spec.dump_load_or_check_in (name.now, rows_of (found_of found.now)) }
+{
+    if name == "dump" {
+        return dump_of(found);
+    }
+    if name == "load" {
+        return load_of(found);
+    }
+    if name == "check" {
+        return check_of(found);
+    }
+    None
 }
 
 fn format_of<'a>(found: &ArgMatches<'a>) -> Option<Request<'a>>
     ensures { option_map spec.asked_by result ≡ spec.format_in (rows_of (found_of found.now)) }
 {
-    let settings = word(found, "SETTINGS")?;
-    let disk = word(found, "DISK")?;
+    let (settings, disk) = settings_and_disk(found)?;
     Some(Request::Format { settings, disk })
 }
 
@@ -152,6 +168,41 @@ fn show_of<'a>(alloc: Global, found: &ArgMatches<'a>) -> Result<Option<Request<'
         Some((disk, words)) => Ok(Some(Request::Show { disk, words })),
         None => Ok(None),
     }
+}
+
+fn dump_of<'a>(found: &ArgMatches<'a>) -> Option<Request<'a>>
+    ensures { option_map spec.asked_by result ≡ spec.dump_in (rows_of (found_of found.now)) }
+{
+    let disk = word(found, "DISK")?;
+    Some(Request::Dump { disk })
+}
+
+fn load_of<'a>(found: &ArgMatches<'a>) -> Option<Request<'a>>
+    ensures { option_map spec.asked_by result ≡ spec.load_in (rows_of (found_of found.now)) }
+{
+    let dump = word(found, "DUMP")?;
+    let (settings, disk) = settings_and_disk(found)?;
+    Some(Request::Load {
+        dump,
+        settings,
+        disk,
+    })
+}
+
+fn check_of<'a>(found: &ArgMatches<'a>) -> Option<Request<'a>>
+    ensures { option_map spec.asked_by result ≡ spec.check_in (rows_of (found_of found.now)) }
+{
+    let disk = word(found, "DISK")?;
+    Some(Request::Check { disk })
+}
+
+/// The settings and the disk that clap found.
+fn settings_and_disk<'a>(found: &ArgMatches<'a>) -> Option<(&'a str, &'a str)>
+    ensures { option_map spec.two_texts result ≡ spec.settings_and_disk (rows_of (found_of found.now)) }
+{
+    let settings = word(found, "SETTINGS")?;
+    let disk = word(found, "DISK")?;
+    Some((settings, disk))
 }
 
 /// The disk that clap found, and all the words under a name.

@@ -44,6 +44,25 @@ pub enum Request<'a> {
         /// The words of the query, one at least.
         words: Vec<&'a str>,
     },
+    /// `dump DISK`: print the register of a disk file as text, a line for each entry.
+    Dump {
+        /// The disk file.
+        disk: &'a str,
+    },
+    /// `load DUMP SETTINGS DISK`: make a disk file, for the settings in a file, with the register of a dump.
+    Load {
+        /// The dump.
+        dump: &'a str,
+        /// The settings file.
+        settings: &'a str,
+        /// The disk file that is made.
+        disk: &'a str,
+    },
+    /// `check DISK`: read both sides of a disk file, and print what is damaged.
+    Check {
+        /// The disk file.
+        disk: &'a str,
+    },
 }
 
 /// Why no request is carried out. `Display` writes the text that is reported.

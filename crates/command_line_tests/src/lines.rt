@@ -30,6 +30,24 @@ show centre.disk where 234-14-2001 = show centre.disk where 234-14-2001
 show d 1 0 rule 234-14-0/24 1 99 1 3600 = show d 1 0 rule 234-14-0/24 1 99 1 3600
 show d where -- -x = show d where -x
 show d  where = show d  where
+dump centre.disk = dump centre.disk
+dump dump = dump dump
+dump - = dump -
+dump -- -d = dump -d
+dump -- --help = dump --help
+load centre.txt settings.toml centre.disk = load centre.txt settings.toml centre.disk
+load load dump load = load load dump load
+load - s d = load - s d
+load -- -t -s -d = load -t -s -d
+load t -- s -d = load t s -d
+load t s -- --help = load t s --help
+load  s d = load  s d
+check centre.disk = check centre.disk
+check check = check check
+check dump = check dump
+check - = check -
+check -- -x = check -x
+check -- --help = check --help
 --help = help
 -h = help
 -hx = help
@@ -43,6 +61,14 @@ serve --help = help
 serve d a --help = help
 show --help = help
 show d where --help = help
+dump --help = help
+dump -h = help
+dump d --help = help
+load --help = help
+load t s d --help = help
+check --help = help
+check -h = help
+check d --help = help
 --version = version
 -V = version
 --version --help = version
@@ -84,7 +110,37 @@ show = wrong
 show d = wrong
 show d -- = wrong
 show d where -x = wrong
-show --disk d count = wrong";
+show --disk d count = wrong
+dump = wrong
+dump -- = wrong
+dump d e = wrong
+dump d -- e = wrong
+dump d where = wrong
+dump -d = wrong
+dump --disk d = wrong
+dump d --version = wrong
+Dump d = wrong
+dum d = wrong
+load = wrong
+load t = wrong
+load t s = wrong
+load t s -- = wrong
+load -- t s = wrong
+load t s d x = wrong
+load t s d -- x = wrong
+load t s d x --help = wrong
+load -t s d = wrong
+load t --settings s d = wrong
+loads t s d = wrong
+check = wrong
+check -- = wrong
+check d e = wrong
+check d -- e = wrong
+check -x = wrong
+check --disk d = wrong
+check d --version = wrong
+Check d = wrong
+chec d = wrong";
 
 /// Appends the words of each pair.
 fn push_pairs(text: &mut String, pairs: &[(&str, &str)]) -> Result<(), AllocError> {
@@ -125,6 +181,22 @@ fn request_text(alloc: Global, request: &Request<'_>) -> Result<String, AllocErr
             text.push_str("show")?;
             push_words(&mut text, &[*disk])?;
             push_words(&mut text, words.as_slice())?;
+        }
+        Request::Dump { disk } => {
+            text.push_str("dump")?;
+            push_words(&mut text, &[*disk])?;
+        }
+        Request::Load {
+            dump,
+            settings,
+            disk,
+        } => {
+            text.push_str("load")?;
+            push_words(&mut text, &[*dump, *settings, *disk])?;
+        }
+        Request::Check { disk } => {
+            text.push_str("check")?;
+            push_words(&mut text, &[*disk])?;
         }
     }
     Ok(text)

@@ -38,6 +38,9 @@ fn help_of_the_program(rt: HostRuntime) -> Result<(), Fail> {
         "run",
         "serve",
         "show",
+        "dump",
+        "load",
+        "check",
         "--version",
         "Example: tetra-switch < ",
         "Exit status:",
@@ -73,6 +76,30 @@ fn help_of_each_subcommand(rt: HostRuntime) -> Result<(), Fail> {
     assert!(rt; text_contains(alloc, &["tetra-switch", "serve", "--help"], &serve)?);
     assert!(rt; text_contains(alloc, &["tetra-switch", "run", "--help"], &run)?);
     assert!(rt; text_contains(alloc, &["tetra-switch", "show", "--help"], &show)?);
+    Ok(())
+}
+
+#[test]
+fn help_of_dump_load_and_check(rt: HostRuntime) -> Result<(), Fail> {
+    let alloc = rt.alloc();
+    let dump = [
+        "Usage: tetra-switch dump <DISK>\n",
+        "Example: tetra-switch dump ",
+        "Exit status:",
+    ];
+    let load = [
+        "Usage: tetra-switch load <DUMP> <SETTINGS> <DISK>\n",
+        "Example: tetra-switch load ",
+        "Exit status:",
+    ];
+    let check = [
+        "Usage: tetra-switch check <DISK>\n",
+        "Example: tetra-switch check ",
+        "Exit status:",
+    ];
+    assert!(rt; text_contains(alloc, &["tetra-switch", "dump", "--help"], &dump)?);
+    assert!(rt; text_contains(alloc, &["tetra-switch", "load", "--help"], &load)?);
+    assert!(rt; text_contains(alloc, &["tetra-switch", "check", "--help"], &check)?);
     Ok(())
 }
 

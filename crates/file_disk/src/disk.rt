@@ -30,6 +30,7 @@ pub struct FileDisk<F> {
 
 impl<F: SectorFile> FileDisk<F> {
     ghost use Rattle.file_disk.specs.declared.fault.FileFault.TheVariants.{NotOpened};
+    ghost use Rattle.file_disk.specs.declared.fault.OpenCause.{OpenCause};
     ghost use Rattle.file_disk.specs.Disk.{IsBlank, IsNew, blank_calls, calls_of, file_of, file_view, is_lost};
 
     /// A disk on a file as it is, with each whole sector of the file. Bytes after the last whole sector are ignored.
@@ -37,7 +38,7 @@ impl<F: SectorFile> FileDisk<F> {
         ensures file { IfOk result (λ disk. file_of disk ≡ file) }
         ensures sectors { (F.view file).honest → IfOk result (λ disk. disk.sectors ≡ (F.view file).sectors) }
         ensures honest { (F.view file).honest → IfOk result (λ disk. (file_view F.view disk).honest) }
-        ensures refused { IsErrOf result NotOpened → ⊥ }
+        ensures refused { (cause : OpenCause) → IsErrOf result (NotOpened cause) → ⊥ }
         ensures new { IfOk result IsNew }
     {
         match file.len() {
@@ -58,7 +59,7 @@ impl<F: SectorFile> FileDisk<F> {
         ensures calls { IfOk result (λ disk. calls_of disk ≡ blank_calls disk.sectors) }
         ensures failures { IfOk result (λ disk. disk.failures ≡ 0) }
         ensures kept { IfOk result (λ disk. is_lost disk ≡ false) }
-        ensures refused { IsErrOf result NotOpened → ⊥ }
+        ensures refused { (cause : OpenCause) → IsErrOf result (NotOpened cause) → ⊥ }
     {
         let mut disk = FileDisk::over(file)?;
         let sectors = disk.sectors;

@@ -12,6 +12,6 @@ mod whole;
 mod zeros;
 
 pub use disk::FileDisk;
-pub use fault::FileFault;
+pub use fault::{FileFault, OpenCause};
 pub use file::SectorFile;
 pub use host::HostFile;

@@ -1,5 +1,6 @@
 // Files of the operating system as disks.
-ghost use Rattle.std.specs.Prelude.{◌≡◌, false, IfOk};
+ghost use Rattle.std.specs.Prelude.{◌≡◌, ◌⊎◌, false, IfErr, IfOk, IsErrOf};
+ghost use Rattle.file_disk.specs.Fault.{IsOfLock, IsOfOpening};
 
 use crate::{FileDisk, FileFault, HostFile};
 use sector_disk::Disk;
@@ -11,8 +12,10 @@ use std::path::Path;
 impl FileDisk<HostFile> {
     ghost use Rattle.file_disk.specs.Disk.{IsNew, blank_calls, calls_of, file_of, is_lost};
     ghost use Rattle.file_disk.specs.Host.{host_turns};
+    ghost use Rattle.file_disk.specs.declared.fault.FileFault.TheVariants.{NotOpened};
+    ghost use Rattle.file_disk.specs.declared.fault.OpenCause.TheVariants.{Exists};
 
-    /// Makes a file of that many sectors of zeros, and keeps it locked. A file that exists is `NotOpened`.
+    /// Makes a file of that many sectors of zeros, and keeps it locked. A file that exists is `NotOpened(Exists)`.
     ///
     /// Every sector is written and synced, so that a device without room for them fails now. At `Ok` the file, its length and
     /// its entry in the folder are durable, as far as `fsync` of a file and of its folder on Linux makes them so. The entries
@@ -50,37 +53,51 @@ impl FileDisk<HostFile> {
     pub fn adopt<R: Files<File = File>>(rt: &R, path: &str) -> Result<Self, FileFault>
         ensures new { IfOk result IsNew }
         ensures untouched { IfOk result (λ disk. host_turns (file_of disk) ≡ 0) }
+        ensures refused { IsErrOf result (NotOpened Exists) → ⊥ }
     {
         FileDisk::over(HostFile::new(open_locked(rt, path, false)?))
     }
 }
 
 // Opens a file for reading and writing, or makes one, and locks it.
-fn open_locked<R: Files<File = File>>(rt: &R, path: &str, is_new: bool) -> Result<File, FileFault> {
+fn open_locked<R: Files<File = File>>(rt: &R, path: &str, is_new: bool) -> Result<File, FileFault>
+    ensures { IfErr result (λ fault. IsOfOpening is_new fault ⊎ IsOfLock fault) }
+{
+    let file = open_file(rt, path, is_new)?;
+    lock(&file)?;
+    Ok(file)
+}
+
+// Opens a file for reading and writing, or makes one.
+fn open_file<R: Files<File = File>>(rt: &R, path: &str, is_new: bool) -> Result<File, FileFault>
+    ensures { IfErr result (IsOfOpening is_new) }
+{
     let opened = OpenOptions::new()
         .read(true)
         .write(true)
         .create_new(is_new)
         .open(rt, path);
-    let file = match opened {
-        Ok(file) => file,
-        Err(error) => return Err(FileFault::NotOpened.or_memory(error)),
-    };
-    if file.try_lock().is_err() {
-        return Err(FileFault::NotOpened);
+    match opened.and_then(off_the_streams) {
+        Ok(file) => Ok(file),
+        Err(error) => Err(FileFault::of_opening(is_new, error)),
     }
-    off_the_streams(file)
 }
 
 // The file, under a number that is no standard stream's. Where such a stream was closed, the file may have got its number,
 // and what is printed would land in the file.
-fn off_the_streams(file: File) -> Result<File, FileFault> {
+fn off_the_streams(file: File) -> io::Result<File> {
     if file.as_raw_fd() > 2 {
         return Ok(file);
     }
-    match file.try_clone() {
-        Ok(other) => Ok(other),
-        Err(error) => Err(FileFault::NotOpened.or_memory(error)),
+    file.try_clone()
+}
+
+fn lock(file: &File) -> Result<(), FileFault>
+    ensures { IfErr result IsOfLock }
+{
+    match file.try_lock() {
+        Ok(()) => Ok(()),
+        Err(error) => Err(FileFault::of_lock(error)),
     }
 }
 

@@ -1,21 +1,25 @@
 //! Disks over files of the operating system.
 
 use crate::parts::pattern;
-use file_disk::{FileDisk, FileFault, HostFile};
+use file_disk::{FileDisk, FileFault, HostFile, OpenCause};
 use sector_disk::{Disk, DiskError};
 use std::fs::{File, OpenOptions};
 use std::os::unix::fs::FileExt;
 use std::test::Fail;
 use std::{fs, io};
 
-fn fault(opened: Result<FileDisk<HostFile>, FileFault>) -> Option<FileFault> {
-    opened.err()
+/// Why a file was not opened.
+fn cause(opened: Result<FileDisk<HostFile>, FileFault>) -> Option<OpenCause> {
+    match opened {
+        Err(FileFault::NotOpened(cause)) => Some(cause),
+        _ => None,
+    }
 }
 
 /// Whether the open file can't be opened again, nor made anew.
 fn is_held(rt: &HostRuntime, path: &str) -> bool {
-    let adopted = fault(FileDisk::adopt(rt, path)) == Some(FileFault::NotOpened);
-    adopted && fault(FileDisk::create(rt, path, 3)) == Some(FileFault::NotOpened)
+    let adopted = cause(FileDisk::adopt(rt, path)) == Some(OpenCause::Held);
+    adopted && cause(FileDisk::create(rt, path, 3)) == Some(OpenCause::Exists)
 }
 
 /// Whether a new disk of three sectors holds zeros. Its middle sector is then written and synced.
@@ -81,19 +85,29 @@ fn a_rest_is_ignored(rt: HostRuntime) -> Result<(), Fail> {
     Ok(())
 }
 
-/// Whether what is no file, or can't be one, is not opened, and too many sectors are a fault that leaves no file.
+/// Whether a file that is missing, or lies in no folder, is not opened and not made.
+fn is_missing(rt: &HostRuntime) -> bool {
+    let missing = cause(FileDisk::adopt(rt, "missing.disk")) == Some(OpenCause::Missing);
+    let nowhere = cause(FileDisk::create(rt, "missing/in.disk", 1)) == Some(OpenCause::Missing);
+    let empty = cause(FileDisk::create(rt, "", 1)) == Some(OpenCause::Missing);
+    let within = cause(FileDisk::adopt(rt, "/dev/null/in.disk")) == Some(OpenCause::Missing);
+    missing && nowhere && empty && within
+}
+
+/// Whether what is no file, or can't be one, is not opened, and too many sectors are a fault that leaves no file. The system
+/// lets nobody write its own name.
 fn is_refused(rt: &HostRuntime) -> io::Result<bool> {
-    let missing = fault(FileDisk::adopt(rt, "missing.disk")) == Some(FileFault::NotOpened);
-    let folder = fault(FileDisk::adopt(rt, ".")) == Some(FileFault::NotOpened);
-    let nowhere = fault(FileDisk::create(rt, "missing/in.disk", 1)) == Some(FileFault::NotOpened);
-    let empty = fault(FileDisk::create(rt, "", 1)) == Some(FileFault::NotOpened);
-    let many = fault(FileDisk::create(rt, "many.disk", u64::MAX)) == Some(FileFault::DiskFault);
-    Ok(missing && folder && nowhere && empty && many && !fs::exists(rt, "many.disk")?)
+    let folder = cause(FileDisk::adopt(rt, ".")) == Some(OpenCause::NotAFile);
+    let made = cause(FileDisk::create(rt, ".", 1)) == Some(OpenCause::Exists);
+    let name = cause(FileDisk::adopt(rt, "/proc/sys/kernel/ostype")) == Some(OpenCause::NotAllowed);
+    let odd = cause(FileDisk::adopt(rt, "in\0.disk")) == Some(OpenCause::Other);
+    let many = FileDisk::create(rt, "many.disk", u64::MAX).err() == Some(FileFault::DiskFault);
+    Ok(folder && made && name && odd && many && !fs::exists(rt, "many.disk")?)
 }
 
 #[test]
 fn what_is_no_file_is_refused(rt: HostRuntime) -> Result<(), Fail> {
-    assert!(rt; is_refused(&rt)?);
+    assert!(rt; is_missing(&rt) && is_refused(&rt)?);
     Ok(())
 }
 

@@ -103,6 +103,14 @@ impl<A: Allocator> Journal<A> {
         self.place.next - self.place.first
     }
 
+    /// The place of its half, and the gate at which its next record goes.
+    pub fn place(&self) -> Place
+        ensures { result ≡ self.now }
+    {
+        let Journal { place, .. } = self;
+        *place
+    }
+
     /// Whether a record of these commands, at most 64, has no more data sectors than `room`. Takes no memory.
     pub fn has_room<B: Allocator>(&self, commands: &[&Command<B>]) -> bool
         requires few { length commands.now ≤ most_commands }

@@ -15,6 +15,7 @@ mod Going
 mod Recorded
 mod KeptOn
 mod Chained
+mod States
 mod Limited
 mod Applied
 mod Replayed

@@ -1,8 +1,10 @@
 pub mod Ranges
 pub mod Label
 pub mod Opens
+pub mod Figures
 pub mod Opening
 pub mod OpensTo
+pub mod Checking
 pub mod Calls
 pub mod FormatWith
 pub mod Stored

@@ -14,6 +14,7 @@ ghost use Rattle.checkpoint.specs.Label.{IsLabel, name};
 ghost use Rattle.checkpoint.specs.Layout.{disk_size, label_at, other_of, root_at, slot_at};
 ghost use Rattle.checkpoint.specs.OnSide.{Base, Held, IsBelow, IsOnSide, slot_epoch};
 ghost use Rattle.recovery.specs.declared.fault.StoreFault.TheVariants.{BadGeometry, Damaged, Unformatted};
+ghost use Rattle.recovery.specs.Checking.{Agrees, opened_by, state_in};
 ghost use Rattle.recovery.specs.Label.{layout_in};
 ghost use Rattle.recovery.specs.Lasting.{NoneLostMadeOnDisk, NoneLostOnDisk};
 ghost use Rattle.recovery.specs.Opens.{Opening, opening, opens, side_in};
@@ -62,6 +63,12 @@ pub fn side_opens<A: Allocator>()
 /// commands are accepted one after the other, and the image opens to the state after them.
 pub fn opens_on_side<A: Allocator>()
     ensures { (opening : Opening) (image : List (List ℕ)) → AreBytes (sector image label_at) → opens A image ≡ Ok opening → OpensAs A opening image }
+{}
+
+/// What opening makes of an image follows from the states of its two sides alone.
+pub fn states_decide<A: Allocator>()
+    ensures { (layout : Layout) (image : List (List ℕ)) → layout_in image ≡ Ok layout
+        → Agrees image (opened_by (state_in A layout Side.A image) (state_in A layout Side.B image)) (opens A image) }
 {}
 
 /// What an image of sectors opens to is a state under the limits that it states, with all its numbers in their ranges.

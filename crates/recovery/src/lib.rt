@@ -4,9 +4,11 @@
 
 mod batch;
 mod before;
+mod checking;
 mod checkpointing;
 mod commit;
 mod fault;
+mod figures;
 mod formatting;
 mod formatting_with;
 mod keeping;
@@ -22,7 +24,9 @@ mod sides;
 mod single;
 mod store;
 
+pub use checking::{Checked, Part, SideState, check};
 pub use fault::StoreFault;
+pub use figures::Figures;
 pub use formatting::format;
 pub use formatting_with::format_with;
 pub use outcome::Outcome;

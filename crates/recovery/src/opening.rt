@@ -75,7 +75,7 @@ fn read_half<A: Allocator + Copy, D: Disk>(
 
 // What the disk opens to, read from this side.
 #[tactic(auto, unfolding(crate::specs::Opens::opens_by))]
-fn read_current<A: Allocator + Copy, D: Disk>(
+pub(crate) fn read_current<A: Allocator + Copy, D: Disk>(
     alloc: A,
     disk: &mut D,
     layout: Layout,

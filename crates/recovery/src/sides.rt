@@ -9,6 +9,7 @@ ghost use Rattle.gated_journal.specs.declared.form.Form.{Form};
 ghost use Rattle.checkpoint.specs.declared.side.Side.{Side};
 ghost use Rattle.checkpoint.specs.OnSide.{epoch_of, slot_form};
 ghost use Rattle.recovery.specs.declared.fault.StoreFault.TheVariants.{Damaged, DiskFault};
+ghost use Rattle.recovery.specs.Checking.{greater};
 ghost use Rattle.recovery.specs.Opens.{chosen, side_at, side_in};
 ghost use Rattle.recovery.specs.Opening.{Gives, IsOfDisk};
 
@@ -20,9 +21,9 @@ use sector_disk::Disk;
 
 // What the header in a slot states: the epoch of the image, and the form of the records after it.
 #[derive(Clone, Copy, Drop)]
-struct Head {
-    epoch: u64,
-    form: Form,
+pub(crate) struct Head {
+    pub(crate) epoch: u64,
+    pub(crate) form: Form,
 }
 
 // The side that counts, and the form of the records in its half.
@@ -44,7 +45,11 @@ fn epoch_of(bytes: &[u8]) -> Option<u64>
 
 // The header of a side whose root is open.
 #[tactic(auto, unfolding(crate::specs::Opens::side_at), using(sector_disk::proofs::Reading::one_read))]
-fn read_head<D: Disk>(disk: &mut D, layout: &Layout, side: Side) -> Result<Option<Head>, StoreFault>
+pub(crate) fn read_head<D: Disk>(
+    disk: &mut D,
+    layout: &Layout,
+    side: Side,
+) -> Result<Option<Head>, StoreFault>
     requires room { disk_size layout.now ≤ (D.view disk.old).sectors }
     ensures exact { (D.view disk.old).honest → Gives (option_map (λ head. head.epoch)) result (side_at layout.now side (D.view disk.old).reads) }
     ensures form { IfOk result (λ found. (D.view disk.old).honest → IfSome found (λ head. head.form ≡ slot_form layout.now side (D.view disk.old).reads)) }
@@ -73,12 +78,25 @@ fn read_head<D: Disk>(disk: &mut D, layout: &Layout, side: Side) -> Result<Optio
 }
 
 // This side, with the form that its header states.
-fn by(side: Side, head: Head) -> Current
+pub(crate) fn by(side: Side, head: Head) -> Current
     ensures { result ≡ record { side = side; form = head.form } }
 {
     Current {
         side,
         form: head.form,
+    }
+}
+
+// The side of the greater epoch, of two with these epochs; `None` if both have the same.
+pub(crate) fn greater(a: u64, b: u64) -> Option<Side>
+    ensures { result ≡ greater a b }
+{
+    if a == b {
+        None
+    } else if a < b {
+        Some(Side::B)
+    } else {
+        Some(Side::A)
     }
 }
 
@@ -95,15 +113,11 @@ fn chosen(a: Option<Head>, b: Option<Head>) -> Result<Current, StoreFault>
         (None, None) => Err(StoreFault::Damaged(1)),
         (Some(a), None) => Ok(by(Side::A, a)),
         (None, Some(b)) => Ok(by(Side::B, b)),
-        (Some(a), Some(b)) => {
-            if a.epoch == b.epoch {
-                Err(StoreFault::Damaged(2))
-            } else if a.epoch < b.epoch {
-                Ok(by(Side::B, b))
-            } else {
-                Ok(by(Side::A, a))
-            }
-        }
+        (Some(a), Some(b)) => match greater(a.epoch, b.epoch) {
+            None => Err(StoreFault::Damaged(2)),
+            Some(Side::A) => Ok(by(Side::A, a)),
+            Some(Side::B) => Ok(by(Side::B, b)),
+        },
     }
 }
 

@@ -426,10 +426,10 @@ fn a_call_that_fails_once_leaves_what_was_acknowledged(rt: HostRuntime) -> Resul
 const LAST_COMMAND: [u8; 17] = [22, 0, 0, 0, 0, 0, 0, 0, 1, 0x40, 0, 0, 0, 0, 0, 0, 0];
 
 /// A header of the last epoch, 2 to the 62nd.
-const LAST_EPOCH: [u8; 9] = [22, 0x40, 0, 0, 0, 0, 0, 0, 0];
+pub const LAST_EPOCH: [u8; 9] = [22, 0x40, 0, 0, 0, 0, 0, 0, 0];
 
 /// A disk ready for a register with this header.
-fn headed(alloc: Global, header: &[u8]) -> Result<MemoryDisk<Global>, Fail> {
+pub fn headed(alloc: Global, header: &[u8]) -> Result<MemoryDisk<Global>, Fail> {
     let mut disk = made::formatted(alloc)?;
     match disk.write(3, &made::sector(header)) {
         Ok(()) => Ok(disk),

@@ -22,7 +22,7 @@ const PLAIN_EXPIRY: [u8; 6] = [0, 1, 0, 0, 0, 0x0b];
 // ---- layout 1
 
 /// A disk of layout 1, with a rule.
-fn old(alloc: Global) -> Result<MemoryDisk<Global>, Fail> {
+pub fn old(alloc: Global) -> Result<MemoryDisk<Global>, Fail> {
     disk(
         alloc,
         &[(3, &PLAIN_FIRST), (589, &OPEN), (590, &PLAIN_RULE)],
@@ -128,7 +128,7 @@ fn a_checkpoint_beside_its_commits_moves_it(rt: HostRuntime) -> Result<(), Fail>
 }
 
 /// Whether a checkpoint of the disk is answered; and the disk.
-fn checkpoint<D: Disk>(alloc: Global, disk: D) -> (bool, D) {
+pub fn checkpoint<D: Disk>(alloc: Global, disk: D) -> (bool, D) {
     match Store::open(alloc, disk) {
         Ok(mut store) => {
             let made = store.checkpoint() == Ok(());

@@ -4,7 +4,11 @@
 #[cfg(test)]
 mod calls;
 #[cfg(test)]
+mod checks;
+#[cfg(test)]
 mod commits;
+#[cfg(test)]
+mod figures;
 #[cfg(test)]
 mod formats;
 #[cfg(test)]

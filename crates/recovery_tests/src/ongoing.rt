@@ -24,7 +24,12 @@ fn command(sequence: u32) -> Option<Command<Global>> {
 }
 
 /// Commits the commands of these sequences one by one; returns how many were answered.
-fn commit_from<D: Disk>(alloc: Global, store: &mut Store<Global, D>, first: u32, last: u32) -> u32 {
+pub fn commit_from<D: Disk>(
+    alloc: Global,
+    store: &mut Store<Global, D>,
+    first: u32,
+    last: u32,
+) -> u32 {
     for sequence in first..=last {
         let Some(command) = command(sequence) else {
             return 0;

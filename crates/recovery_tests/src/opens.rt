@@ -18,17 +18,17 @@ const LABEL: [u8; 30] = [
 pub const PLAIN_FIRST: [u8; 9] = [0x10, 0, 0, 0, 0, 0, 0, 0, 1];
 
 /// Headers of epochs 1 and 2.
-const FIRST: [u8; 9] = [0x16, 0, 0, 0, 0, 0, 0, 0, 1];
+pub const FIRST: [u8; 9] = [0x16, 0, 0, 0, 0, 0, 0, 0, 1];
 
 const SECOND: [u8; 9] = [0x16, 0, 0, 0, 0, 0, 0, 0, 2];
 
 /// A header of epoch 2 with a rule, and the rule.
-const WITH_RULE: [u8; 33] = [
+pub const WITH_RULE: [u8; 33] = [
     0x16, 0, 0, 0, 0, 0, 0, 0, 2, 0, 0, 0, 0, 0, 0, 0, 1, 0, 0, 0, 1, 0, 0, 0, 0, 0, 0, 0, 0, 0, 0,
     0, 0,
 ];
 
-const RULE: [u8; 17] = [
+pub const RULE: [u8; 17] = [
     0x11, 0x18, 0x3a, 0x80, 0x0e, 0, 0, 0, 0, 1, 0, 0x63, 1, 0, 0, 0x0e, 0x10,
 ];
 

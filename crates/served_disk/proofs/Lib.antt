@@ -3,3 +3,4 @@ mod Lacking
 mod Borrowed
 mod NotOpened
 mod Stations
+mod AtOpening

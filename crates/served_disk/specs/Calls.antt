@@ -6,7 +6,6 @@ use Rattle.sector_disk.specs.declared.record.Call.TheVariants.{Sync}
 use Rattle.file_disk.specs.Disk.{blank_calls}
 use Rattle.checkpoint.specs.Layout.{disk_size}
 use Rattle.checkpoint.specs.declared.layout.Layout.{Layout}
-use Rattle.recovery.specs.Calls.{format_calls}
 use Rattle.served_disk.specs.declared.fault.Fault.{Fault}
 use Rattle.served_disk.specs.declared.fault.Fault.TheVariants.{Device}
 
@@ -18,10 +17,10 @@ IsOnlyRead calls = before_reads calls ≡ Sync ∷ []
 abbrev pub IsReadAtMost : Fault → List Call → Type 0
 IsReadAtMost fault calls = IsOnlyRead calls ⊎ ((fault ≡ Device) × (calls ≡ []))
 
--- the calls that make a disk in a new file: zeros into each sector and a sync, then those of `format`
-abbrev pub making_calls : Layout → List Call
-making_calls layout = blank_calls (disk_size layout) ++ format_calls layout
+-- the calls that make a disk in a new file: zeros into each sector and a sync, then these
+abbrev pub making_calls : Layout → List Call → List Call
+making_calls layout calls = blank_calls (disk_size layout) ++ calls
 
 -- a prefix of these calls
-abbrev pub IsPartlyMade : Layout → List Call → Type 0
-IsPartlyMade layout calls = (left : List Call) × (making_calls layout ≡ calls ++ left)
+abbrev pub IsPartlyMade : List Call → List Call → Type 0
+IsPartlyMade all calls = (left : List Call) × (all ≡ calls ++ left)

@@ -1,7 +1,10 @@
 pub mod Calls
+pub mod Dumping
 pub mod Faults
 pub mod Files
+pub mod Loading
 pub mod Making
 pub mod Showing
+pub mod Checking
 pub mod Stations
 pub mod Printing

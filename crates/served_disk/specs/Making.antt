@@ -3,6 +3,7 @@ use Rattle.std.specs.Prelude.{◌≡◌, List, IsUtf8}
 use Rattle.toml.specs.Errors.{IsBlank}
 use Rattle.registration.specs.Limits.{AreLimits}
 use Rattle.sector_disk.specs.Numbers.{Byte}
+use Rattle.file_disk.specs.declared.fault.OpenCause.TheVariants.{Exists}
 use Rattle.checkpoint.specs.declared.layout.Layout.{Layout}
 use Rattle.checkpoint.specs.Half.{IsHalfSize}
 use Rattle.settings.specs.declared.reading.Settings.{Settings}
@@ -35,16 +36,18 @@ AsksForNone text other = ⊥
 
 -- why a disk in a file of this name was not made: the file was not made, the device failed, or memory ran out
 abbrev pub IsOfMaking : List Byte → Fault → Type 0
-IsOfMaking name (fault.File text) = text.now ≡ name
+IsOfMaking name (fault.File text cause) = text.now ≡ name
 IsOfMaking name fault.Device = Unit {0}
 IsOfMaking name fault.Memory = Unit {0}
 IsOfMaking name other = ⊥
 
--- why the register on the disk in a file of this name was not opened
+-- why the register on the disk in a file of this name was not opened; that the file exists is never the cause
 abbrev pub IsOfOpening : List Byte → Fault → Type 0
-IsOfOpening name (fault.File text) = text.now ≡ name
+IsOfOpening name (fault.File text cause) = (text.now ≡ name) × ¬ (cause ≡ Exists)
 IsOfOpening name fault.Settings = ⊥
 IsOfOpening name fault.Epochs = ⊥
 IsOfOpening name (fault.Twice text) = ⊥
 IsOfOpening name fault.TooMany = ⊥
+IsOfOpening name (fault.DumpLine line cause) = ⊥
+IsOfOpening name (fault.DumpCut line) = ⊥
 IsOfOpening name other = Unit {0}

@@ -15,9 +15,17 @@ part_text (part.Number number) = decimal number
 abbrev pub parts_text : List LinePart → List Byte
 parts_text parts = flat_map part_text parts
 
--- a disk of this many sectors was made
+-- what was done, and of how many sectors the disk is
+abbrev pub sectors_text : List Byte → Sectors → List Byte
+sectors_text done sectors = done ++ decimal sectors ++ codes " sectors\n"
+
+-- a disk of this many sectors was made for an empty register
 abbrev pub formatted_text : Sectors → List Byte
-formatted_text sectors = codes "formatted " ++ decimal sectors ++ codes " sectors\n"
+formatted_text sectors = sectors_text (codes "formatted ") sectors
+
+-- the same for a register that was loaded
+abbrev pub loaded_text : Sectors → List Byte
+loaded_text sectors = sectors_text (codes "loaded ") sectors
 
 -- a station, and the name of the file that its lines were in
 abbrev pub station_text : Station → List Byte → List Byte

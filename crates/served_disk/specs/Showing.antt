@@ -1,5 +1,6 @@
 -- What is shown for a query.
-use Rattle.std.specs.Prelude.{◌≡◌, ◌⊎◌, Bool, true, List, Ok}
+use Rattle.std.specs.Prelude.{◌≡◌, ◌⊎◌, Bool, true, false, List, ◌++◌, MatchBool, Ok, codes, decimal}
+use Rattle.std.specs.Str.{bytes_eq}
 use Rattle.centre_core.specs.State.{State}
 use Rattle.desk.specs.declared.outage.Outage.TheVariants.{Memory}
 use Rattle.desk.specs.OfRegister.{of_register}
@@ -12,7 +13,11 @@ use Rattle.console.specs.Answer.{text, is_trouble, IsLine}
 use Rattle.console.specs.Dialogue.{AnswersQuery}
 use Rattle.console.specs.Reading.{reading}
 use Rattle.sector_disk.specs.Numbers.{Byte}
+use Rattle.checkpoint.specs.declared.side.Side.{Side}
+use Rattle.checkpoint.specs.declared.side.Side.TheVariants as side
 use Rattle.recovery.specs.Opens.{Opening, opens}
+use Rattle.recovery.specs.declared.figures.Figures.{Figures}
+use Rattle.recovery.specs.Figures.{figures_in}
 
 module _ {A : Type 0} where
   -- The answer to what the only line says. A query is answered as a station's. A command is no query, and so a bad line.
@@ -44,14 +49,49 @@ pub record IsShown (A : Type 0) (s : State) (whole : List Byte) (out : List Byte
   pub written : out ≡ text given
   pub trouble : troubled ≡ is_trouble given
 
--- this is the state that the image opens to
-pub record IsShownOf (A : Type 0) (image : List (List Byte)) (s : State) : Type 0 where
+-- ---- a disk
+
+-- the letter of a side
+abbrev pub side_text : Side → List Byte
+side_text side.A = codes "A"
+side_text side.B = codes "B"
+
+-- the first word of a line of figures, with layout, side and epochs
+abbrev pub epochs_text : List Byte → Figures → List Byte
+epochs_text word figures = word ++ codes " layout " ++ decimal figures.layout ++ codes " side " ++ side_text figures.side
+    ++ codes " epoch " ++ decimal figures.epoch ++ codes " left " ++ decimal figures.epochs_left
+
+-- the rest of the line: the half of the side, and the number of commands
+abbrev pub half_text : Figures → List Byte
+half_text figures = codes " gate " ++ decimal figures.gate ++ codes " free " ++ decimal figures.free ++ codes " count " ++ decimal figures.count ++ codes "\n"
+
+-- a line of a disk's figures, with its first word
+abbrev pub figures_line : List Byte → Figures → List Byte
+figures_line word figures = epochs_text word figures ++ half_text figures
+
+-- the line asks for a disk's figures
+abbrev pub asks_figures : List Byte → Bool
+asks_figures whole = bytes_eq whole (codes "disk")
+
+-- the line of these figures, which is no trouble
+pub record AreFigures (figures : Figures) (out : List Byte) (troubled : Bool) : Type 0 where
+  pub written : out ≡ figures_line (codes "disk") figures
+  pub trouble : troubled ≡ false
+
+-- the text of the answer to a line about a disk: its figures, or its register's answer
+abbrev pub IsShownFor : Type 0 → Figures → State → List Byte → List Byte → Bool → Type 0
+IsShownFor A figures s whole out troubled = MatchBool (asks_figures whole) (AreFigures figures out troubled) (IsShown A s whole out troubled)
+
+-- the image opens to this state, with these figures
+pub record IsShownOf (A : Type 0) (image : List (List Byte)) (figures : Figures) (s : State) : Type 0 where
   pub opened : Opening
   pub opens_to : opens A image ≡ Ok opened
+  pub figures_are : figures ≡ figures_in opened image
   pub state : s ≡ opened.state
 
--- the text of a register's answer to a line; if the disk is honest, the register is the one that the disk's image opens to
+-- The text of the answer to a line about a disk. If the disk is honest, figures and register are those that its image opens to.
 pub record IsShownBy (A : Type 0) (honest : Type 0) (image : List (List Byte)) (whole : List Byte) (out : List Byte) (troubled : Bool) : Type 0 where
+  pub figures : Figures
   pub register : State
-  pub kept : honest → IsShownOf A image register
-  pub shown : IsShown A register whole out troubled
+  pub kept : honest → IsShownOf A image figures register
+  pub shown : IsShownFor A figures register whole out troubled

@@ -1,13 +1,15 @@
 //! Why the program did not do what it was asked.
 ghost use Rattle.std.specs.Prelude.{◌≡◌, ◌++◌, OnOk, codes, decimal};
 ghost use Rattle.std.specs.Io.KnownBytes.{Appends};
-ghost use Rattle.served_disk.specs.Faults.{IsOfFile, IsOfRun, fault_status, fault_text, of_settings, of_store};
+ghost use Rattle.served_disk.specs.Faults.{IsOfFile, IsOfRun, fault_status, fault_text, of_settings, of_store, open_cause_text};
+ghost use Rattle.served_disk.specs.Faults.{IsOfDump, IsOfLoad, dump_cause_text, dump_line_number_text, dump_line_text, named_text};
 
-use crate::PortNames;
 use crate::printing::{LinePart, print};
+use crate::{DiskDumpFault, PortNames};
 use console::RunFault;
-use file_disk::FileFault;
+use file_disk::{FileFault, OpenCause};
 use recovery::StoreFault;
+use register_text::{Cause, DumpFault, LoadFault};
 use settings::SettingsFault;
 use std::io;
 use std::io::Write;
@@ -17,8 +19,8 @@ use std::io::Write;
 pub enum Fault<'a> {
     /// The settings are not the five numbers in TOML.
     Settings,
-    /// The file of this name can't be opened, made, read or written, or another process holds it.
-    File(&'a str),
+    /// The file of this name can't be opened, made, read or written, for this cause. A call of an open file has the cause `Other`.
+    File(&'a str, OpenCause),
     /// The disk has no label.
     Unformatted,
     /// The settings, or the disk's label, state numbers out of range, or the disk has too few sectors.
@@ -35,6 +37,10 @@ pub enum Fault<'a> {
     Twice(&'a str),
     /// The run has more files than the register has stations.
     TooMany,
+    /// The line of this number of a dump can't be taken.
+    DumpLine(u64, Cause),
+    /// The dump is cut before the end of the line of this number.
+    DumpCut(u64),
 }
 
 impl<'a> Fault<'a> {
@@ -53,7 +59,7 @@ impl<'a> Fault<'a> {
         ensures { IsOfFile fault name.now result }
     {
         match fault {
-            FileFault::NotOpened => Fault::File(name),
+            FileFault::NotOpened(cause) => Fault::File(name, cause),
             FileFault::DiskFault => Fault::Device,
             FileFault::NoMemory => Fault::Memory,
         }
@@ -74,38 +80,61 @@ impl<'a> Fault<'a> {
         }
     }
 
+    /// Why the register on a disk was not printed as text.
+    pub fn of_dump(fault: DiskDumpFault) -> Fault<'a>
+        ensures { IsOfDump fault result }
+    {
+        match fault {
+            DiskDumpFault::Opening(fault) => Fault::of_store(fault),
+            DiskDumpFault::Writing(DumpFault::Memory) => Fault::Memory,
+            DiskDumpFault::Writing(DumpFault::Write) => Fault::File("-", OpenCause::Other),
+        }
+    }
+
+    /// Why the dump in the file of this name was not loaded.
+    pub fn of_load(fault: LoadFault, name: &'a str) -> Fault<'a>
+        ensures { IsOfLoad fault name.now result }
+    {
+        match fault {
+            LoadFault::Memory => Fault::Memory,
+            LoadFault::Read => Fault::File(name, OpenCause::Other),
+            LoadFault::Line(line, cause) => Fault::DumpLine(line, cause),
+            LoadFault::Cut(line) => Fault::DumpCut(line),
+        }
+    }
+
     /// Why the lines of a station with these files were not all answered. If the answers wait in memory, a failed write ran out
     /// of memory.
     pub fn of_run(fault: RunFault, names: &PortNames<'a>) -> Fault<'a>
         ensures { IsOfRun fault names.now result }
     {
         match (fault, names.output) {
-            (RunFault::Read, _) => Fault::File(names.input),
-            (RunFault::Write, Some(output)) => Fault::File(output),
+            (RunFault::Read, _) => Fault::File(names.input, OpenCause::Other),
+            (RunFault::Write, Some(output)) => Fault::File(output, OpenCause::Other),
             (RunFault::Write, None) | (RunFault::NoMemory, _) => Fault::Memory,
         }
     }
 
-    /// The exit status: 2 for files that no run may have, 3 for settings, 4 for a file; 5 for what is on a disk, for the device
-    /// and for memory.
+    /// The exit status: 2 for files that no run may have, 3 for settings and a dump, 4 for a file; 5 for what is on a disk, for
+    /// the device and for memory.
     pub fn status(&self) -> u8
         ensures { result ≡ fault_status self.now }
     {
         match self {
             Fault::Twice(_) | Fault::TooMany => 2,
-            Fault::Settings => 3,
-            Fault::File(_) => 4,
+            Fault::Settings | Fault::DumpLine(..) | Fault::DumpCut(_) => 3,
+            Fault::File(..) => 4,
             _ => 5,
         }
     }
 
-    /// Writes its line.
+    /// Writes its line, and that of its cause if this is known.
     pub fn print<W: Write>(&self, out: &mut W) -> io::Result<()>
         ensures { OnOk result (Appends (W.contents out.old) (W.contents out.new) (fault_text self.now)) }
     {
         match self {
             Fault::Settings => print(out, &[LinePart::Text("fault: settings\n")]),
-            Fault::File(name) => print_named(out, name),
+            Fault::File(name, cause) => print_file(out, name, *cause),
             Fault::Unformatted => print(out, &[LinePart::Text("fault: unformatted\n")]),
             Fault::BadGeometry => print(out, &[LinePart::Text("fault: bad geometry\n")]),
             Fault::Damaged(sector) => print_damaged(out, *sector),
@@ -114,12 +143,14 @@ impl<'a> Fault<'a> {
             Fault::Epochs => print(out, &[LinePart::Text("fault: epochs\n")]),
             Fault::Twice(name) => print_twice(out, name),
             Fault::TooMany => print(out, &[LinePart::Text("fault: more files than stations\n")]),
+            Fault::DumpLine(line, cause) => print_dump_line(out, *line, dump_cause_text(*cause)),
+            Fault::DumpCut(line) => print_dump_line(out, *line, "cut"),
         }
     }
 }
 
 fn print_named<W: Write>(out: &mut W, name: &str) -> io::Result<()>
-    ensures { OnOk result (Appends (W.contents out.old) (W.contents out.new) (codes "fault: file " ++ name.now ++ codes "\n")) }
+    ensures { OnOk result (Appends (W.contents out.old) (W.contents out.new) (named_text name.now)) }
 {
     let parts = [
         LinePart::Text("fault: file "),
@@ -127,6 +158,33 @@ fn print_named<W: Write>(out: &mut W, name: &str) -> io::Result<()>
         LinePart::Text("\n"),
     ];
     print(out, &parts)
+}
+
+fn print_cause<W: Write>(out: &mut W, cause: OpenCause) -> io::Result<()>
+    ensures { OnOk result (Appends (W.contents out.old) (W.contents out.new) (open_cause_text cause)) }
+{
+    out.write_all(cause_line(cause).as_bytes())
+}
+
+fn print_file<W: Write>(out: &mut W, name: &str, cause: OpenCause) -> io::Result<()>
+    ensures { OnOk result (Appends (W.contents out.old) (W.contents out.new) (named_text name.now ++ open_cause_text cause)) }
+{
+    print_named(out, name)?;
+    print_cause(out, cause)
+}
+
+/// The line of a cause, and no text for `Other`.
+fn cause_line(cause: OpenCause) -> &'static str
+    ensures { result.now ≡ open_cause_text cause }
+{
+    match cause {
+        OpenCause::Held => "cause: held by another process\n",
+        OpenCause::Exists => "cause: exists\n",
+        OpenCause::Missing => "cause: no such file\n",
+        OpenCause::NotAllowed => "cause: not allowed\n",
+        OpenCause::NotAFile => "cause: not a file\n",
+        OpenCause::Other => "",
+    }
 }
 
 fn print_twice<W: Write>(out: &mut W, name: &str) -> io::Result<()>
@@ -149,4 +207,33 @@ fn print_damaged<W: Write>(out: &mut W, sector: u64) -> io::Result<()>
         LinePart::Text("\n"),
     ];
     print(out, &parts)
+}
+
+/// What is wrong with a line of a dump.
+fn dump_cause_text(cause: Cause) -> &'static str
+    ensures { result.now ≡ dump_cause_text cause }
+{
+    match cause {
+        Cause::Head => "first line",
+        Cause::Spelling => "spelling",
+        Cause::Place => "place",
+    }
+}
+
+fn print_dump_line_number<W: Write>(out: &mut W, line: u64) -> io::Result<()>
+    ensures { OnOk result (Appends (W.contents out.old) (W.contents out.new) (dump_line_number_text line)) }
+{
+    let parts = [
+        LinePart::Text("fault: dump line "),
+        LinePart::Number(line),
+        LinePart::Text(": "),
+    ];
+    print(out, &parts)
+}
+
+fn print_dump_line<W: Write>(out: &mut W, line: u64, what: &str) -> io::Result<()>
+    ensures { OnOk result (Appends (W.contents out.old) (W.contents out.new) (dump_line_text line what.now)) }
+{
+    print_dump_line_number(out, line)?;
+    print(out, &[LinePart::Text(what), LinePart::Text("\n")])
 }

@@ -5,6 +5,7 @@ ghost use Rattle.served_disk.specs.declared.fault.Fault.TheVariants.{Memory, Too
 ghost use Rattle.served_disk.specs.Files.{IsNotRead, IsOfFiles, IsOfNames};
 
 use crate::{Fault, PortNames, Progress, WatchedReader};
+use file_disk::OpenCause;
 use recovery::Store;
 use registration::Station;
 use sector_disk::Disk;
@@ -55,13 +56,13 @@ pub fn check_stations<'a, D: Disk>(store: &Store<Global, D>, files: usize) -> Re
     }
 }
 
-/// Why the file of this name was not opened or read.
+/// Why the file of this name was not opened or read, where a call failed with an error of this kind.
 pub fn not_read<'a>(kind: ErrorKind, name: &'a str) -> Fault<'a>
-    ensures { IsNotRead name.now result }
+    ensures { IsNotRead kind name.now result }
 {
     match kind {
         ErrorKind::OutOfMemory => Fault::Memory,
-        _ => Fault::File(name),
+        _ => Fault::File(name, OpenCause::of(kind)),
     }
 }
 

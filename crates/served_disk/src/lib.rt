@@ -1,11 +1,14 @@
-//! What the program does with the disks and files that it is named: it makes a disk for an empty register, serves stations'
-//! lines over the register that is kept on a disk, and answers a query of one. It opens files, prints to
-//! writers and to standard error, and knows nothing of the program's words.
+//! What the program does with the disks and files that it is named: it makes a disk for an empty register or for one
+//! that is loaded from a dump, serves stations' lines over the register that is kept on a disk, answers a query of one, dumps it,
+//! and checks a disk. It opens files, prints to writers and to standard error, and knows nothing of the program's words.
 #![tactic(auto)]
 
+mod checking;
 mod doorbell;
+mod dumping;
 mod fault;
 mod files;
+mod loading;
 mod making;
 mod opening;
 mod pairs;
@@ -18,17 +21,21 @@ mod service_watch;
 mod serving;
 mod showing;
 mod showing_disk;
+mod showing_figures;
 mod watched;
 
+pub use checking::{CheckReport, check_disk, check_on, print_checked};
+pub use dumping::{DiskDumpFault, dump_disk, dump_on};
 pub use fault::Fault;
 pub use files::{FilePort, check_names, check_stations, file_names, not_read, open_files};
-pub use making::{format_disk, layout_of};
+pub use loading::load_register;
+pub use making::{format_disk, layout_of, make_disk_with};
 pub use opening::open_disk;
 pub use pairs::{
     Pair, PairPort, PairReader, PairWriter, inputs_of, name_ended, names_of, pairs_of, ports_of,
 };
 pub use port_names::PortNames;
-pub use printing::{print_formatted, print_station};
+pub use printing::{print_formatted, print_loaded, print_station};
 pub use progress::Progress;
 pub use refused::Refused;
 pub use running::serve_stations;

@@ -1,14 +1,18 @@
-//! A disk made for an empty register.
-ghost use Rattle.std.specs.Prelude.{◌≡◌, ◌↔◌, IfErr, IfOk, IfSome, IsSome};
-ghost use Rattle.file_disk.specs.Disk.{calls_of};
+//! A disk made for an empty register, or for one that is there.
+ghost use Rattle.std.specs.Prelude.{◌≡◌, ◌↔◌, IfErr, IfOk, IfSome, IsSome, None, Ok, Some, is_err, true};
+ghost use Rattle.file_disk.specs.Disk.{blank_calls, calls_of};
 ghost use Rattle.checkpoint.specs.Layout.{disk_size};
+ghost use Rattle.recovery.specs.Calls.{format_calls};
+ghost use Rattle.recovery.specs.FormatWith.{format_with_calls};
+ghost use Rattle.served_disk.specs.Faults.{of_store};
 ghost use Rattle.served_disk.specs.Calls.{IsPartlyMade, making_calls};
 ghost use Rattle.served_disk.specs.Making.{AreInRange, AsksFor, AsksForNone, IsFor, IsOfMaking};
 
 use crate::{Fault, Refused};
+use centre_core::Register;
 use checkpoint::Layout;
 use file_disk::{FileDisk, HostFile};
-use recovery::format;
+use recovery::{StoreFault, format, format_with};
 use registration::Limits;
 use settings::{Settings, read_settings};
 use std::alloc::Global;
@@ -42,6 +46,38 @@ pub fn layout_of<'a>(alloc: Global, text: &[u8]) -> Result<Layout, Fault<'a>>
     }
 }
 
+/// A disk of zeros for this layout, in a new file of this name.
+fn blank_disk<'a, R: Files<File = File>>(
+    rt: &R,
+    layout: &Layout,
+    name: &'a str,
+) -> Result<FileDisk<HostFile>, Refused<'a>>
+    ensures sectors { IfOk result (λ disk. disk.sectors ≡ disk_size layout.now) }
+    ensures calls { IfOk result (λ disk. calls_of disk ≡ blank_calls (disk_size layout.now)) }
+    ensures none { IfErr result (λ e. e.disk ≡ None) }
+    ensures kinds { IfErr result (λ e. IsOfMaking name.now e.fault) }
+{
+    match FileDisk::<HostFile>::create(rt, name, layout.sectors()) {
+        Ok(disk) => Ok(disk),
+        Err(fault) => Err(Refused::of_file(fault, name)),
+    }
+}
+
+/// The disk, if it was formatted.
+fn if_formatted<'a>(
+    disk: FileDisk<HostFile>,
+    done: Result<(), StoreFault>,
+) -> Result<FileDisk<HostFile>, Refused<'a>>
+    ensures ok { IfOk result (λ same. (done ≡ Ok tt) × (same ≡ disk)) }
+    ensures refused { IfErr result (λ e. (e.disk ≡ Some disk) × IfErr done (λ fault. e.fault ≡ of_store fault)) }
+    ensures err { IfErr result (λ e. is_err done ≡ true) }
+{
+    match done {
+        Ok(()) => Ok(disk),
+        Err(fault) => Err(Refused::of_store(fault, disk)),
+    }
+}
+
 /// Makes a disk in a new file of this name, for an empty register. It writes zeros into each sector and syncs; then it formats the
 /// disk. Nothing is written after the last sync.
 ///
@@ -53,16 +89,33 @@ pub fn format_disk<'a, R: Files<File = File>>(
     name: &'a str,
 ) -> Result<FileDisk<HostFile>, Refused<'a>>
     ensures sectors { IfOk result (λ disk. disk.sectors ≡ disk_size layout.now) }
-    ensures calls { IfOk result (λ disk. calls_of disk ≡ making_calls layout.now) }
-    ensures some_calls { IfErr result (λ e. IfSome e.disk (λ disk. IsPartlyMade layout.now (calls_of disk))) }
+    ensures calls { IfOk result (λ disk. calls_of disk ≡ making_calls layout.now (format_calls layout.now)) }
+    ensures some_calls { IfErr result (λ e. IfSome e.disk (λ disk. IsPartlyMade (making_calls layout.now (format_calls layout.now)) (calls_of disk))) }
     ensures kinds { IfErr result (λ e. IsOfMaking name.now e.fault) }
 {
-    let mut disk = match FileDisk::<HostFile>::create(rt, name, layout.sectors()) {
-        Ok(disk) => disk,
-        Err(fault) => return Err(Refused::of_file(fault, name)),
-    };
-    match format::<Global, FileDisk<HostFile>>(&mut disk, layout) {
-        Ok(()) => Ok(disk),
-        Err(fault) => Err(Refused::of_store(fault, disk)),
-    }
+    let mut disk = blank_disk(rt, layout, name)?;
+    let done = format::<Global, FileDisk<HostFile>>(&mut disk, layout);
+    if_formatted(disk, done)
+}
+
+/// The same for this register, which has the layout's limits.
+///
+/// # Errors
+/// Those of `format_disk`.
+pub fn make_disk_with<'a, R: Files<File = File>>(
+    rt: &R,
+    layout: &Layout,
+    register: &Register<Global>,
+    name: &'a str,
+) -> Result<FileDisk<HostFile>, Refused<'a>>
+    requires limits { register.now.registered.limits ≡ layout.now.limits }
+    ensures sectors { IfOk result (λ disk. disk.sectors ≡ disk_size layout.now) }
+    ensures calls { IfOk result (λ disk. calls_of disk ≡ making_calls layout.now (format_with_calls layout.now register.now)) }
+    ensures some_calls { IfErr result (λ e. IfSome e.disk (λ disk.
+        IsPartlyMade (making_calls layout.now (format_with_calls layout.now register.now)) (calls_of disk))) }
+    ensures kinds { IfErr result (λ e. IsOfMaking name.now e.fault) }
+{
+    let mut disk = blank_disk(rt, layout, name)?;
+    let done = format_with(&mut disk, layout, register);
+    if_formatted(disk, done)
 }

@@ -1,7 +1,7 @@
 //! What the program writes beside the answers.
 ghost use Rattle.std.specs.Prelude.{◌≡◌, ◌++◌, OnOk, codes, decimal};
 ghost use Rattle.std.specs.Io.KnownBytes.{Appends};
-ghost use Rattle.served_disk.specs.Printing.{formatted_text, part_text, parts_text, station_text};
+ghost use Rattle.served_disk.specs.Printing.{formatted_text, loaded_text, part_text, parts_text, sectors_text, station_text};
 
 use itoa::Buffer;
 use registration::Station;
@@ -37,17 +37,31 @@ pub(crate) fn print<W: Write>(out: &mut W, parts: &[LinePart]) -> io::Result<()>
     Ok(())
 }
 
-/// Writes that a disk of this many sectors was made.
+/// Writes what was done, and of how many sectors the disk is.
 #[tactic(auto, using(std::proofs::Common::append_assoc))]
-pub fn print_formatted<W: Write>(out: &mut W, sectors: u64) -> io::Result<()>
-    ensures { OnOk result (Appends (W.contents out.old) (W.contents out.new) (formatted_text sectors)) }
+fn print_sectors<W: Write>(out: &mut W, done: &str, sectors: u64) -> io::Result<()>
+    ensures { OnOk result (Appends (W.contents out.old) (W.contents out.new) (sectors_text done.now sectors)) }
 {
     let parts = [
-        LinePart::Text("formatted "),
+        LinePart::Text(done),
         LinePart::Number(sectors),
         LinePart::Text(" sectors\n"),
     ];
     print(out, &parts)
+}
+
+/// Writes that a disk of this many sectors was made for an empty register.
+pub fn print_formatted<W: Write>(out: &mut W, sectors: u64) -> io::Result<()>
+    ensures { OnOk result (Appends (W.contents out.old) (W.contents out.new) (formatted_text sectors)) }
+{
+    print_sectors(out, "formatted ", sectors)
+}
+
+/// Writes that a disk of this many sectors was made for a register that was loaded.
+pub fn print_loaded<W: Write>(out: &mut W, sectors: u64) -> io::Result<()>
+    ensures { OnOk result (Appends (W.contents out.old) (W.contents out.new) (loaded_text sectors)) }
+{
+    print_sectors(out, "loaded ", sectors)
 }
 
 /// Writes a station, and the name of the file that its lines were in.

@@ -1,12 +1,12 @@
-//! Why a disk in a file was not made, opened or shown.
+//! Why a disk in a file was not made, opened, shown or dumped.
 ghost use Rattle.std.specs.Prelude.{◌≡◌, Some, None};
-ghost use Rattle.served_disk.specs.Faults.{IsOfFile, of_store};
+ghost use Rattle.served_disk.specs.Faults.{IsOfDump, IsOfFile, of_store};
 
-use crate::Fault;
+use crate::{DiskDumpFault, Fault};
 use file_disk::{FileDisk, FileFault, HostFile};
 use recovery::StoreFault;
 
-/// Why the disk in a file was not made, opened or shown; and the disk, if its file was opened.
+/// Why the disk in a file was not made, opened, shown or dumped; and the disk, if its file was opened.
 #[derive(Drop)]
 pub struct Refused<'a> {
     /// Why it was refused.
@@ -34,6 +34,17 @@ impl<'a> Refused<'a> {
     {
         Refused {
             fault: Fault::of_store(fault),
+            disk: Some(disk),
+        }
+    }
+
+    /// For a disk whose register was not dumped.
+    pub(crate) fn of_dump(fault: DiskDumpFault, disk: FileDisk<HostFile>) -> Refused<'a>
+        ensures fault { IsOfDump fault result.fault }
+        ensures disk { result.disk ≡ Some disk }
+    {
+        Refused {
+            fault: Fault::of_dump(fault),
             disk: Some(disk),
         }
     }

@@ -52,7 +52,7 @@ fn answer<A: Allocator + Copy, B: Allocator + Clone>(
 }
 
 /// Room for any text but a list's.
-const ROOM: usize = 1024;
+pub(crate) const ROOM: usize = 1024;
 
 /// Makes the text of an answer, and returns whether it reports trouble. If memory runs out for a list, the text reports that
 /// instead.

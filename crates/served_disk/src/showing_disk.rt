@@ -1,26 +1,45 @@
-//! One query of the register on a disk.
-ghost use Rattle.std.specs.Prelude.{◌≡◌, ◌⊎◌, ◌++◌, ◌∷◌, [], IfErr, IfOk, IfSome, None};
+//! One query of the register on a disk, or the disk's figures.
+ghost use Rattle.std.specs.Prelude.{◌≡◌, ◌⊎◌, ◌++◌, ◌∷◌, [], IfErr, IfOk, IfSome, None, false};
 ghost use Rattle.sector_disk.specs.Reading.{before_reads};
 ghost use Rattle.sector_disk.specs.declared.record.Call.TheVariants.{Sync};
 ghost use Rattle.file_disk.specs.Disk.{calls_of};
 ghost use Rattle.centre_core.specs.State.{State};
+ghost use Rattle.recovery.specs.declared.figures.Figures.{Figures};
 ghost use Rattle.recovery.specs.declared.fault.StoreFault.TheVariants.{DiskFault};
+ghost use Rattle.recovery.specs.Figures.{figures_at};
+ghost use Rattle.recovery.specs.Lives.{view_of};
 ghost use Rattle.recovery.specs.Opens.{opens};
 ghost use Rattle.recovery.specs.Opening.{Fails, IsOfOpening as IsOfStoreOpening};
 ghost use Rattle.served_disk.specs.Calls.{IsOnlyRead, IsReadAtMost};
 ghost use Rattle.served_disk.specs.Making.{IsOfMaking, IsOfOpening};
-ghost use Rattle.served_disk.specs.Showing.{IsShown, IsShownBy};
+ghost use Rattle.served_disk.specs.Showing.{IsShownBy, IsShownFor};
 
 use crate::opening::adopt_disk;
+use crate::showing_figures::show_figures;
 use crate::{Refused, Shown, show};
 use file_disk::{FileDisk, HostFile};
 use recovery::{Store, StoreFault};
 use sector_disk::Disk;
-use std::alloc::{Allocator, Global};
+use std::alloc::{AllocError, Allocator, Global};
 use std::fs::{File, Files};
 
-/// Answers a query of the register that is kept on a disk, as the only line of a station. The disk is synced once, and then only
-/// read. It is returned, also after a fault.
+/// Answers a line about a store that is not broken: `disk` by its figures, a query by its register.
+fn show_store<A: Allocator + Copy + Drop, D: Disk>(
+    alloc: A,
+    store: &Store<A, D>,
+    line: &[u8],
+) -> Result<Shown<A>, AllocError>
+    requires sound { store.now.broken ≡ false }
+    ensures { IfOk result (λ shown. IsShownFor A (figures_at (view_of store.now)) store.now.register line.now shown.text.items shown.troubled) }
+{
+    if line == b"disk".as_slice() {
+        return show_figures(alloc, &store.figures().unwrap());
+    }
+    show(alloc, store.register().unwrap(), line)
+}
+
+/// Answers `disk` by the figures of a disk, or a query of the register that is kept on it, as the only line of a station. The disk
+/// is synced once, and then only read. It is returned, also after a fault.
 ///
 /// # Errors
 /// A fault of what is on the disk or of the device, and out of memory.
@@ -37,7 +56,7 @@ pub fn show_on<A: Allocator + Copy + Drop, D: Disk>(
     ensures kinds { IfErr result (λ e. IsOfStoreOpening e.0) }
 {
     let store = Store::open(alloc, disk)?;
-    let shown = show(alloc, store.register().unwrap(), line);
+    let shown = show_store(alloc, &store, line);
     let disk = store.into_disk();
     match shown {
         Ok(shown) => Ok((shown, disk)),
@@ -45,8 +64,7 @@ pub fn show_on<A: Allocator + Copy + Drop, D: Disk>(
     }
 }
 
-/// Answers a query of the register on the disk in the file of this name, as the only line of a station. The disk is synced once,
-/// and then only read. It is returned.
+/// The same of the disk in the file of this name.
 ///
 /// # Errors
 /// Those of `open_disk`. `Memory` also comes if there is none for a text of 1,024 bytes.
@@ -56,7 +74,8 @@ pub fn show_disk<'a, R: Files<File = File>>(
     name: &'a str,
     line: &[u8],
 ) -> Result<(Shown<Global>, FileDisk<HostFile>), Refused<'a>>
-    ensures shown { IfOk result (λ r. (register : State) × IsShown Global register line.now r.0.text.items r.0.troubled) }
+    ensures shown { IfOk result (λ r. (figures : Figures) × (register : State)
+        × IsShownFor Global figures register line.now r.0.text.items r.0.troubled) }
     ensures calls { IfOk result (λ r. IsOnlyRead (calls_of r.1)) }
     ensures some_calls { IfErr result (λ e. IfSome e.disk (λ disk. IsReadAtMost e.fault (calls_of disk))) }
     ensures kinds { IfErr result (λ e. IsOfOpening name.now e.fault) }

@@ -1,21 +1,23 @@
-//! The switch's program: it serves standard input over a new register in memory, or makes, serves and shows a register that is kept
-//! on a disk. It reads the words of its command line, opens the files that these name, and leaves all rules to the crates below.
+//! The switch's program: it serves standard input over a new register in memory, or makes, serves, shows, dumps and checks a
+//! register that is kept on a disk. It reads the words of its command line, opens the files that these name, and leaves all rules to the crates below.
 #![tactic(auto)]
 
 ghost use Rattle.std.specs.Prelude.{◌≡◌, ◌≤◌, IfOk, OnOk, false, length};
 
 use centre_core::Register;
+use checkpoint::Layout;
 use command_line::{Refusal, Request, read_command_line};
 use console::{RunFault, run};
-use file_disk::{FileDisk, HostFile};
+use file_disk::{FileDisk, HostFile, OpenCause};
 use recovery::Store;
 use registration::{Limits, Station};
 use sector_disk::Disk;
 use served_disk::{
     Fault, PortNames, Progress, Served, ServiceWatch, TURNS, WatchedDesk, WatchedReader,
-    check_names, check_stations, file_names, format_disk, inputs_of, layout_of, name_ended,
-    names_of, not_read, open_disk, open_files, outcome, pairs_of, ports_of, print_formatted,
-    print_stations, serve_stations, service_outcome, show_disk,
+    check_disk, check_names, check_stations, dump_disk, file_names, format_disk, inputs_of,
+    layout_of, load_register, make_disk_with, name_ended, names_of, not_read, open_disk,
+    open_files, outcome, pairs_of, ports_of, print_formatted, print_loaded, print_stations,
+    serve_stations, service_outcome, show_disk,
 };
 use snapshots::NewLog;
 use stations::{ManyTerms, Port, Watch};
@@ -62,6 +64,13 @@ fn main(rt: HostRuntime) -> ExitCode {
         }
         Request::Serve { disk, pairs } => serve_pairs(&rt, rt, disk, pairs),
         Request::Show { disk, words } => status_of(show_words(&rt, disk, words)),
+        Request::Dump { disk } => status_of(dump_register(&rt, disk)),
+        Request::Load {
+            dump,
+            settings,
+            disk,
+        } => status_of(load_disk(&rt, dump, settings, disk)),
+        Request::Check { disk } => check_sides(&rt, disk),
     };
     exit_code(&rt, ended)
 }
@@ -82,7 +91,7 @@ fn print_refusal(rt: &HostRuntime, refusal: &Refusal) -> ExitCode {
         _ => eprint!(rt; "{refusal}"),
     };
     match written {
-        Err(_) if refusal.status() == 0 => exit_code(rt, Err(Fault::File("-"))),
+        Err(_) if refusal.status() == 0 => exit_code(rt, Err(Fault::File("-", OpenCause::Other))),
         _ => ExitCode::from(refusal.status()),
     }
 }
@@ -130,27 +139,73 @@ fn serve_memory<'a>(rt: &HostRuntime) -> Result<bool, Fault<'a>> {
     progress.finish();
     match ended {
         Ok(ran) => Ok(ran.troubled),
-        Err(RunFault::Read | RunFault::Write) => Err(Fault::File("-")),
+        Err(RunFault::Read | RunFault::Write) => Err(Fault::File("-", OpenCause::Other)),
         Err(RunFault::NoMemory) => Err(Fault::Memory),
     }
 }
 
 /// Makes a disk for an empty register in a new file, by the settings in another file.
 fn make_disk<'a>(rt: &HostRuntime, settings: &'a str, disk: &'a str) -> Result<bool, Fault<'a>> {
-    let text = match fs::read(rt, settings) {
-        Ok(text) => text,
-        Err(error) => return Err(not_read(error.kind(), settings)),
-    };
-    let layout = layout_of(rt.alloc(), &text)?;
+    let layout = read_layout(rt, settings)?;
     let made = format_disk(rt, &layout, disk)?;
     printed(print_formatted(&mut io::writer(rt), made.sectors()), false)
+}
+
+/// Makes a disk in a new file for the register of a dump, by the settings in another file. The dump is read before the disk is
+/// made.
+fn load_disk<'a>(
+    rt: &HostRuntime,
+    dump: &'a str,
+    settings: &'a str,
+    disk: &'a str,
+) -> Result<bool, Fault<'a>> {
+    let layout = read_layout(rt, settings)?;
+    let register = read_dump(rt, layout.limits(), dump)?;
+    let made = make_disk_with(rt, &layout, &register, disk);
+    drop(register);
+    printed(print_loaded(&mut io::writer(rt), made?.sectors()), false)
+}
+
+/// The layout of the disk that the settings in a file ask for.
+fn read_layout<'a>(rt: &HostRuntime, settings: &'a str) -> Result<Layout, Fault<'a>> {
+    match fs::read(rt, settings) {
+        Ok(text) => layout_of(rt.alloc(), &text),
+        Err(error) => Err(not_read(error.kind(), settings)),
+    }
+}
+
+/// The register that the dump in a file makes under these limits.
+fn read_dump<'a>(
+    rt: &HostRuntime,
+    limits: Limits,
+    dump: &'a str,
+) -> Result<Register<Global>, Fault<'a>>
+    ensures under { IfOk result (λ register. register.registered.limits ≡ limits) }
+{
+    match File::open(rt, dump) {
+        Ok(mut file) => load_register(rt.alloc(), limits, &mut file, dump),
+        Err(error) => Err(not_read(error.kind(), dump)),
+    }
+}
+
+/// Prints the register on a disk as text.
+fn dump_register<'a>(rt: &HostRuntime, disk: &'a str) -> Result<bool, Fault<'a>> {
+    let _disk = dump_disk(rt, rt.alloc(), disk, &mut io::writer(rt))?;
+    Ok(false)
+}
+
+/// Prints what a check of a disk finds. `Ok` has the exit status: 5 if a side is damaged or the disk does not open.
+fn check_sides<'a>(rt: &HostRuntime, disk: &'a str) -> Result<u8, Fault<'a>> {
+    let (report, _disk) = check_disk(rt, rt.alloc(), disk)?;
+    let well = printed(io::writer(rt).write_all(&report.text), report.well)?;
+    Ok(if well { 0 } else { 5 })
 }
 
 /// The result of a request whose answer was printed, or could not be.
 fn printed<'a>(written: io::Result<()>, troubled: bool) -> Result<bool, Fault<'a>> {
     match written {
         Ok(()) => Ok(troubled),
-        Err(_) => Err(Fault::File("-")),
+        Err(_) => Err(Fault::File("-", OpenCause::Other)),
     }
 }
 

@@ -1,14 +1,22 @@
-use Rattle.std.proofs.Common.{◌≡◌, refl}
+use Rattle.std.proofs.Common.{refl}
+use Rattle.recovery.specs.Figures.{figures_at}
+use Rattle.recovery.specs.Lives.{view_of}
 use Rattle.recovery.specs.Opens.{opening}
-use Rattle.served_disk.proofs.Borrowed.{borrowed}
+use Rattle.served_disk.proofs.AtOpening.{opened_figures}
 use Rattle.served_disk.proofs.showing_disk.show_on.Goals as goal
 
 pub returns-in-Ok-clause-shown : goal.returns-in-Ok-clause-shown
 returns-in-Ok-clause-shown g c =
     let s = c.in_ok-store.store in
-    let is : c.unwrap.result.now ≡ s.register = borrowed c.register.result c.unwrap.result s.register (c.register.ensures.sound c.in_ok-store.ensures.sound) c.unwrap.ensures in
+    let opened = c.in_ok-store.ensures in
     record {
+      figures = figures_at (view_of s);
       register = s.register;
-      kept = λ honest. record { opened = opening s.layout s.side s.epoch s.journal.next s.register; opens_to = c.in_ok-store.ensures.opened honest; state = refl };
-      shown = rw (← is) c.in-Ok.ensures.shown;
+      kept = λ honest. record {
+        opened = opening s.layout s.side s.epoch s.journal.next s.register;
+        opens_to = opened.opened honest;
+        figures_are = opened_figures g.row.A.Denot s.layout s.side s.epoch s.journal s.register (g.D.Disk.view s.disk) _ (opened.kept honest).stored (g.met.D.Disk.sound s.disk (opened.honest honest)) (opened.only honest);
+        state = refl;
+      };
+      shown = c.in-Ok.ensures;
     }

@@ -1,0 +1,151 @@
+-- What a check of a disk reports: the state of each side, and what opening makes of the two.
+use Rattle.std.specs.Prelude.{◌≡◌, ◌==◌, ◌||◌, Bool, false, true, List, Option, Some, None, Result, Ok, Err, nat_lt, if◌then◌else◌}
+use Rattle.identity.specs.Numbers.{Byte}
+use Rattle.sector_disk.specs.Numbers.{Sector}
+use Rattle.sector_disk.specs.declared.record.Call.{Call}
+use Rattle.image_rows.specs.Numbers.{Epoch}
+use Rattle.checkpoint.specs.declared.layout.Layout.{Layout}
+use Rattle.checkpoint.specs.declared.side.Side.{Side}
+use Rattle.checkpoint.specs.declared.side.Side.TheVariants as side
+use Rattle.checkpoint.specs.Layout.{half_at, label_at, root_at, slot_at}
+use Rattle.recovery.specs.declared.figures.Figures.{Figures}
+use Rattle.recovery.specs.declared.fault.StoreFault.{StoreFault}
+use Rattle.recovery.specs.declared.fault.StoreFault.TheVariants.{BadGeometry, Broken, Damaged, DiskFault, EpochsUsedUp, NoMemory, Unformatted, Unready}
+use Rattle.recovery.specs.declared.checking.Checked.{Checked}
+use Rattle.recovery.specs.declared.checking.Part.{Part}
+use Rattle.recovery.specs.declared.checking.Part.TheVariants as part
+use Rattle.recovery.specs.declared.checking.SideState.{SideState}
+use Rattle.recovery.specs.declared.checking.SideState.TheVariants as state
+use Rattle.recovery.specs.Figures.{figures_in}
+use Rattle.recovery.specs.Label.{layout_in}
+use Rattle.recovery.specs.Opening.{AreGoodSoFar}
+use Rattle.recovery.specs.Opens.{Opening, opens_by, side_at, ◌>>=◌}
+
+-- ---- the state of a side
+
+-- the sector that a fault names; no other fault is met on a side
+abbrev pub sector_of : StoreFault → Sector
+sector_of (Damaged at) = at
+sector_of other = label_at
+
+-- the state of a side with this epoch in its header, by what it opens to
+abbrev pub state_by : Epoch → List (List Byte) → Result Opening StoreFault → SideState
+state_by epoch image (Ok opening) = state.Whole (figures_in opening image)
+state_by epoch image (Err fault) = state.Damaged (Some epoch) (sector_of fault)
+
+-- the state of a side, by its header and by what it opens to
+abbrev pub stated : List (List Byte) → Result (Option Epoch) StoreFault → Result Opening StoreFault → SideState
+stated image (Err fault) opened = state.Damaged None (sector_of fault)
+stated image (Ok None) opened = state.Unused
+stated image (Ok (Some epoch)) opened = state_by epoch image opened
+
+module _ (A : Type 0) where
+  -- the state of a side
+  unfoldable pub state_in : Layout → Side → List (List Byte) → SideState
+  state_in layout side image = stated image (side_at layout side image) (opens_by A layout side image)
+
+  -- the layout of an image and the states of its sides, or why it has no layout
+  unfoldable pub checked_in : List (List Byte) → Result Checked StoreFault
+  checked_in image = do
+    layout ← layout_in image
+    Ok (record { layout = layout; a = state_in layout side.A image; b = state_in layout side.B image })
+
+-- a fault of reading a side: damage is the state of the side, another fault stays one
+abbrev pub state_after : Option Epoch → StoreFault → Result SideState StoreFault
+state_after epoch (Damaged at) = Ok (state.Damaged epoch at)
+state_after epoch other = Err other
+
+-- that sector of the side is damaged
+abbrev pub IsDamagedAt : Sector → SideState → Type 0
+IsDamagedAt at (state.Damaged epoch sector) = sector ≡ at
+IsDamagedAt at state.Unused = ⊥
+IsDamagedAt at (state.Whole contents) = ⊥
+
+-- the side has a damaged sector
+abbrev pub is_damaged : SideState → Bool
+is_damaged (state.Damaged epoch sector) = true
+is_damaged state.Unused = false
+is_damaged (state.Whole contents) = false
+
+-- ---- what opening makes of two sides
+
+-- the figures of the side that opening takes, or the sector at which it stops
+abbrev pub Taken : Type 0
+Taken = Result Figures Sector
+
+-- the epoch of a side whose root is open; or its header, which could not be read
+abbrev pub epoch_of : SideState → Result (Option Epoch) Sector
+epoch_of state.Unused = Ok None
+epoch_of (state.Whole figures) = Ok (Some figures.epoch)
+epoch_of (state.Damaged (Some epoch) at) = Ok (Some epoch)
+epoch_of (state.Damaged None at) = Err at
+
+-- what opening makes of the side with this root
+abbrev pub taken_from : Sector → SideState → Taken
+taken_from root state.Unused = Err root
+taken_from root (state.Whole figures) = Ok figures
+taken_from root (state.Damaged epoch at) = Err at
+
+-- the side of the greater epoch, of two with these epochs
+abbrev pub greater : Epoch → Epoch → Option Side
+greater a b = if a == b then None else if nat_lt a b then Some side.B else Some side.A
+
+-- what opening makes of two sides with open roots, of which this one has the greater epoch
+abbrev pub taken_of : Option Side → Taken → Taken → Taken
+taken_of None a b = Err (root_at side.B)
+taken_of (Some side.A) a b = a
+taken_of (Some side.B) a b = b
+
+-- what opening makes of two sides, by their epochs
+abbrev pub taken_by : Result (Option Epoch) Sector → Result (Option Epoch) Sector → Taken → Taken → Taken
+taken_by (Err at) second a b = Err at
+taken_by (Ok first) (Err at) a b = Err at
+taken_by (Ok None) (Ok None) a b = Err (root_at side.A)
+taken_by (Ok (Some x)) (Ok None) a b = a
+taken_by (Ok None) (Ok (Some y)) a b = b
+taken_by (Ok (Some x)) (Ok (Some y)) a b = taken_of (greater x y) a b
+
+-- what opening makes of sides in these states
+abbrev pub opened_by : SideState → SideState → Taken
+opened_by a b = taken_by (epoch_of a) (epoch_of b) (taken_from (root_at side.A) a) (taken_from (root_at side.B) b)
+
+-- what a check reports of opening is what the image opens to
+abbrev pub Agrees : List (List Byte) → Taken → Result Opening StoreFault → Type 0
+Agrees image (Ok figures) opened = (opening : Opening) × (opened ≡ Ok opening) × (figures ≡ figures_in opening image)
+Agrees image (Err at) opened = opened ≡ Err (Damaged at)
+
+-- ---- the parts of a disk
+
+-- what a sector is by its place: a root, the first sector of a slot, another one of it, or one of a half
+abbrev pub part_at : Layout → Sector → Part
+part_at layout at =
+    if nat_lt at (slot_at layout side.A) then part.Root
+    else if (at == slot_at layout side.A) || (at == slot_at layout side.B) then part.Header
+    else if nat_lt at (half_at layout side.A) then part.Row
+    else part.Record
+
+-- ---- faults
+
+-- A fault of a check: damage is none, since it is in the states.
+abbrev pub IsOfCheck : StoreFault → Type 0
+IsOfCheck Unformatted = Unit {0}
+IsOfCheck BadGeometry = Unit {0}
+IsOfCheck (Damaged at) = ⊥
+IsOfCheck DiskFault = Unit {0}
+IsOfCheck Broken = ⊥
+IsOfCheck NoMemory = Unit {0}
+IsOfCheck EpochsUsedUp = ⊥
+IsOfCheck Unready = ⊥
+
+-- The side's root is open, and its header and what was read of the side after it are good.
+pub record IsGoodSideSoFar (A : Type 0) (layout : Layout) (side : Side) (image : List (List Byte)) (calls : List Call) : Type 0 where
+  pub epoch : Epoch
+  pub header : side_at layout side image ≡ Ok (Some epoch)
+  pub good : AreGoodSoFar A layout side image calls
+
+-- The image has a label, and what was read last is a side that is good so far.
+pub record HasGoodSideSoFar (A : Type 0) (image : List (List Byte)) (calls : List Call) : Type 0 where
+  pub layout : Layout
+  pub side : Side
+  pub label : layout_in image ≡ Ok layout
+  pub last : IsGoodSideSoFar A layout side image calls

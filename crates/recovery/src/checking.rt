@@ -1,0 +1,263 @@
+//! A check of a disk: what is damaged on each side, and what opening makes of it.
+ghost use Rattle.std.specs.Prelude.{◌≡◌, ◌⊎◌, ◌++◌, ◌∷◌, ◌≤◌, ◌<◌, ◌||◌, ℕ, [], IfErr, IfOk, IsErrOf, Ok};
+ghost use Rattle.sector_disk.specs.Disk.{HasFailed, IsImageOf};
+ghost use Rattle.sector_disk.specs.Reading.{before_reads};
+ghost use Rattle.sector_disk.specs.Run.{HasOnlyRead, LeavesOnly};
+ghost use Rattle.sector_disk.specs.declared.record.Call.TheVariants.{Sync};
+ghost use Rattle.checkpoint.specs.Layout.{disk_size};
+ghost use Rattle.checkpoint.specs.OnSide.{ReadsForm};
+ghost use Rattle.recovery.specs.declared.fault.StoreFault.TheVariants.{Damaged, DiskFault, NoMemory};
+ghost use Rattle.recovery.specs.Checking.{HasGoodSideSoFar, IsDamagedAt, IsGoodSideSoFar, IsOfCheck};
+ghost use Rattle.recovery.specs.Checking.{checked_in, epoch_of, is_damaged, opened_by, part_at, state_after, state_by, state_in, taken_from};
+ghost use Rattle.recovery.specs.Lives.{Answered, Closed, IsCall};
+ghost use Rattle.recovery.specs.Opening.{AreGoodSoFar, Gives, IsOfOpening};
+ghost use Rattle.recovery.specs.Opens.{opens_by};
+
+use crate::figures::figures_by;
+use crate::label::read_layout;
+use crate::opening::read_current;
+use crate::sides::{Current, by, greater, read_head};
+use crate::{Figures, StoreFault};
+use checkpoint::{Layout, Side};
+use sector_disk::Disk;
+use std::alloc::Allocator;
+
+/// The state of one side of a disk.
+#[derive(Clone, Copy, Debug, PartialEq, Eq, Drop)]
+pub enum SideState {
+    /// Its root is closed.
+    Unused,
+    /// Its root is open, and its image and all its records are good.
+    Whole(Figures),
+    /// Its root is open. `sector` is its first damaged sector; `epoch` is that of its header, if this could be read.
+    Damaged { epoch: Option<u64>, sector: u64 },
+}
+
+impl SideState {
+    /// Whether the side has a damaged sector.
+    pub fn is_damaged(&self) -> bool
+        ensures { result ≡ is_damaged self.now }
+    {
+        matches!(self, SideState::Damaged { .. })
+    }
+
+    // The epoch of a side whose root is open, or its header, which could not be read.
+    fn epoch(&self) -> Result<Option<u64>, u64>
+        ensures { result ≡ epoch_of self.now }
+    {
+        match self {
+            SideState::Unused => Ok(None),
+            SideState::Whole(figures) => Ok(Some(figures.epoch)),
+            SideState::Damaged {
+                epoch: None,
+                sector,
+            } => Err(*sector),
+            SideState::Damaged { epoch, .. } => Ok(*epoch),
+        }
+    }
+
+    // What opening makes of this side, whose root is at `root`.
+    fn taken(&self, root: u64) -> Result<Figures, u64>
+        ensures { result ≡ taken_from root self.now }
+    {
+        match self {
+            SideState::Unused => Err(root),
+            SideState::Whole(figures) => Ok(*figures),
+            SideState::Damaged { sector, .. } => Err(*sector),
+        }
+    }
+}
+
+/// What a sector is by its place on a disk.
+#[derive(Clone, Copy, Debug, PartialEq, Eq, Drop)]
+pub enum Part {
+    /// The root of a side.
+    Root,
+    /// The first sector of a slot: the header of an image.
+    Header,
+    /// Another sector of a slot: a row of an image.
+    Row,
+    /// A sector of a half: a gate, or data of a record.
+    Record,
+}
+
+/// What a check found on a disk.
+#[derive(Clone, Copy, Debug, PartialEq, Eq, Drop)]
+pub struct Checked {
+    /// The layout that its label states.
+    pub layout: Layout,
+    /// The state of side A.
+    pub a: SideState,
+    /// The state of side B.
+    pub b: SideState,
+}
+
+impl Checked {
+    /// The figures of the side that opening takes, or the damaged sector at which opening stops.
+    pub fn opened(&self) -> Result<Figures, u64>
+        ensures { result ≡ opened_by self.now.a self.now.b }
+    {
+        let root_a = self.layout.root(Side::A);
+        let root_b = self.layout.root(Side::B);
+        match (self.a.epoch()?, self.b.epoch()?) {
+            (None, None) => Err(root_a),
+            (Some(_), None) => self.a.taken(root_a),
+            (None, Some(_)) => self.b.taken(root_b),
+            (Some(first), Some(second)) => match greater(first, second) {
+                None => Err(root_b),
+                Some(Side::A) => self.a.taken(root_a),
+                Some(Side::B) => self.b.taken(root_b),
+            },
+        }
+    }
+
+    /// Whether a side has a damaged sector.
+    pub fn is_damaged(&self) -> bool
+        ensures { result ≡ (is_damaged self.now.a || is_damaged self.now.b) }
+    {
+        self.a.is_damaged() || self.b.is_damaged()
+    }
+
+    /// What a sector of the disk is by its place.
+    pub fn part(&self, sector: u64) -> Part
+        ensures { result ≡ part_at self.now.layout sector }
+    {
+        let layout = &self.layout;
+        if sector < layout.slot(Side::A) {
+            Part::Root
+        } else if sector == layout.slot(Side::A) || sector == layout.slot(Side::B) {
+            Part::Header
+        } else if sector < layout.half(Side::A) {
+            Part::Row
+        } else {
+            Part::Record
+        }
+    }
+}
+
+// A fault of reading a side: damage is the state of the side, another fault stays one.
+fn state_after(epoch: Option<u64>, fault: StoreFault) -> Result<SideState, StoreFault>
+    ensures value { result ≡ state_after epoch fault }
+    ensures kinds { IsOfOpening fault → IfErr result IsOfCheck }
+    ensures same { IfErr result (λ e. e ≡ fault) }
+    ensures damaged { (at : ℕ) → IfOk result (λ state. IsDamagedAt at state → fault ≡ Damaged at) }
+{
+    match fault {
+        StoreFault::Damaged(sector) => Ok(SideState::Damaged { epoch, sector }),
+        other => Err(other),
+    }
+}
+
+// The state of a side with this epoch in its header. Its register is dropped.
+fn check_contents<A: Allocator + Copy, D: Disk>(
+    alloc: A,
+    disk: &mut D,
+    layout: &Layout,
+    current: Current,
+    epoch: u64,
+) -> Result<SideState, StoreFault>
+    requires room { disk_size layout.now ≤ (D.view disk.old).sectors }
+    ensures exact { (D.view disk.old).honest → ReadsForm layout.now current.side current.form (D.view disk.old)
+        → Gives (λ state. state) result (Ok (state_by epoch (D.view disk.old).reads (opens_by A layout.now current.side (D.view disk.old).reads))) }
+    ensures memory { IsErrOf result NoMemory → (D.view disk.old).honest → ReadsForm layout.now current.side current.form (D.view disk.old)
+        → AreGoodSoFar A layout.now current.side (D.view disk.old).reads (D.view disk.new).calls }
+    ensures kinds { IfErr result IsOfCheck }
+    ensures on_disk { (at : ℕ) → IfOk result (λ state. IsDamagedAt at state → at < (D.view disk.old).sectors) }
+    ensures only_read { (D.view disk.old).honest → HasOnlyRead (D.view disk.old) (D.view disk.new) }
+    ensures only_reads { before_reads (D.view disk.new).calls ≡ before_reads (D.view disk.old).calls }
+    ensures fault { IsErrOf result DiskFault → HasFailed (D.view disk.old) (D.view disk.new) }
+    ensures sectors { (D.view disk.new).sectors ≡ (D.view disk.old).sectors }
+    ensures later { (D.view disk.old).failures ≤ (D.view disk.new).failures }
+{
+    match read_current(alloc, disk, *layout, current) {
+        Ok(opened) => {
+            let place = opened.journal.place();
+            let figures = figures_by(current.side, opened.epoch, place, opened.register.count());
+            drop(opened);
+            Ok(SideState::Whole(figures))
+        }
+        Err(fault) => state_after(Some(epoch), fault),
+    }
+}
+
+// The state of a side.
+#[tactic(auto, unfolding(crate::specs::Checking::state_in))]
+fn check_side<A: Allocator + Copy, D: Disk>(
+    alloc: A,
+    disk: &mut D,
+    layout: &Layout,
+    side: Side,
+) -> Result<SideState, StoreFault>
+    requires room { disk_size layout.now ≤ (D.view disk.old).sectors }
+    ensures exact { (D.view disk.old).honest → Gives (λ state. state) result (Ok (state_in A layout.now side (D.view disk.old).reads)) }
+    ensures memory { IsErrOf result NoMemory → (D.view disk.old).honest
+        → IsGoodSideSoFar A layout.now side (D.view disk.old).reads (D.view disk.new).calls }
+    ensures kinds { IfErr result IsOfCheck }
+    ensures on_disk { (at : ℕ) → IfOk result (λ state. IsDamagedAt at state → at < (D.view disk.old).sectors) }
+    ensures only_read { (D.view disk.old).honest → HasOnlyRead (D.view disk.old) (D.view disk.new) }
+    ensures only_reads { before_reads (D.view disk.new).calls ≡ before_reads (D.view disk.old).calls }
+    ensures fault { IsErrOf result DiskFault → HasFailed (D.view disk.old) (D.view disk.new) }
+    ensures sectors { (D.view disk.new).sectors ≡ (D.view disk.old).sectors }
+    ensures later { (D.view disk.old).failures ≤ (D.view disk.new).failures }
+{
+    match read_head(disk, layout, side) {
+        Ok(None) => Ok(SideState::Unused),
+        Ok(Some(head)) => check_contents(alloc, disk, layout, by(side, head), head.epoch),
+        Err(fault) => state_after(None, fault),
+    }
+}
+
+// The layout of the disk and the states of its sides, one after the other.
+#[tactic(auto, unfolding(crate::specs::Checking::checked_in))]
+fn check_sides<A: Allocator + Copy, D: Disk>(alloc: A, disk: &mut D) -> Result<Checked, StoreFault>
+    ensures exact { (D.view disk.old).honest → Gives (λ checked. checked) result (checked_in A (D.view disk.old).reads) }
+    ensures memory { IsErrOf result NoMemory → (D.view disk.old).honest → HasGoodSideSoFar A (D.view disk.old).reads (D.view disk.new).calls }
+    ensures kinds { IfErr result IsOfCheck }
+    ensures on_disk { (at : ℕ) → IfOk result (λ checked. IsDamagedAt at checked.a ⊎ IsDamagedAt at checked.b → at < (D.view disk.old).sectors) }
+    ensures only_read { (D.view disk.old).honest → HasOnlyRead (D.view disk.old) (D.view disk.new) }
+    ensures only_reads { before_reads (D.view disk.new).calls ≡ before_reads (D.view disk.old).calls }
+    ensures fault { IsErrOf result DiskFault → HasFailed (D.view disk.old) (D.view disk.new) }
+    ensures sectors { (D.view disk.new).sectors ≡ (D.view disk.old).sectors }
+    ensures later { (D.view disk.old).failures ≤ (D.view disk.new).failures }
+{
+    let layout = read_layout(disk)?;
+    let a = check_side(alloc, disk, &layout, Side::A)?;
+    let b = check_side(alloc, disk, &layout, Side::B)?;
+    Ok(Checked { layout, a, b })
+}
+
+/// Reads both sides of a disk, as opening reads one, and returns what is on each or its first damaged sector. The disk is synced
+/// first, and then only read. At most one register is in memory, under `alloc`.
+///
+/// `Unformatted` and `BadGeometry` report a disk without a layout. It never returns `Damaged`: damage is in the states.
+pub fn check<A: Allocator + Copy, D: Disk>(alloc: A, disk: &mut D) -> Result<Checked, StoreFault>
+    // The states are those of the disk as it reads.
+    ensures exact { (D.view disk.old).honest → Gives (λ checked. checked) result (checked_in A (D.view disk.old).reads) }
+
+    // It calls one sync and then only reads. With a `DiskFault` there may be no call.
+    ensures calls { IfOk result (λ checked. before_reads (D.view disk.new).calls ≡ (D.view disk.old).calls ++ Sync ∷ []) }
+    ensures some_calls { IfErr result (λ fault. (before_reads (D.view disk.new).calls ≡ (D.view disk.old).calls ++ Sync ∷ [])
+        ⊎ ((fault ≡ DiskFault) × ((D.view disk.new).calls ≡ (D.view disk.old).calls))) }
+    ensures left { (D.view disk.old).honest → LeavesOnly (D.view disk.old) (D.view disk.new) (IsImageOf (D.view disk.old)) }
+    ensures reads { (D.view disk.old).honest → (D.view disk.new).reads ≡ (D.view disk.old).reads }
+
+    // A damaged sector is one of the disk, even if the disk is not honest.
+    ensures on_disk { (at : ℕ) → IfOk result (λ checked. IsDamagedAt at checked.a ⊎ IsDamagedAt at checked.b → at < (D.view disk.old).sectors) }
+
+    // Out of memory never masks damage to the side that was read last: after its rows, all its records are judged before it is
+    // reported. Damage to the side before is not reported then.
+    ensures memory { IsErrOf result NoMemory → (D.view disk.old).honest → HasGoodSideSoFar A (D.view disk.old).reads (D.view disk.new).calls }
+
+    // It fails only for these reasons.
+    ensures fault { IsErrOf result DiskFault → HasFailed (D.view disk.old) (D.view disk.new) }
+    ensures kinds { IfErr result IsOfCheck }
+    ensures sectors { (D.view disk.new).sectors ≡ (D.view disk.old).sectors }
+    ensures later { (D.view disk.old).failures ≤ (D.view disk.new).failures }
+    ensures honest { (D.view disk.old).honest → (D.view disk.new).honest }
+
+    // In the life of the disk this is a call that accepts nothing.
+    ensures call { (D.view disk.old).honest → IsCall A D.view (Closed disk.old) (Answered []) (Closed disk.new) }
+{
+    disk.sync()?;
+    check_sides(alloc, disk)
+}

@@ -1,0 +1,19 @@
+use Rattle.std.proofs.Common.{◌≡◌, refl}
+use Rattle.recovery.specs.Opens.{opening}
+use Rattle.served_disk.proofs.Borrowed.{borrowed}
+use Rattle.served_disk.proofs.dumping.dump_on.Goals as goal
+
+pub returns-in-Ok-dumped-clause-dumped : goal.returns-in-Ok-dumped-clause-dumped
+returns-in-Ok-dumped-clause-dumped g c =
+    let s = c.in-Ok.store in
+    let is : c.unwrap.result.now ≡ s.register = borrowed c.register.result c.unwrap.result s.register (c.register.ensures.sound c.in-Ok.ensures.sound) c.unwrap.ensures in
+    record {
+      register = s.register;
+      kept = λ honest. record { opening = opening s.layout s.side s.epoch s.journal.next s.register; opens = c.in-Ok.ensures.opened honest; same = refl };
+      dumped = rw (← is) c.in-Ok-dumped.ensures;
+    }
+
+pub returns-in-Err-dumped-clause-refused : goal.returns-in-Err-dumped-clause-refused
+returns-in-Err-dumped-clause-refused g c honest =
+    let s = c.in-Ok.store in
+    (s.register, record { opening = opening s.layout s.side s.epoch s.journal.next s.register; opens = c.in-Ok.ensures.opened honest; same = refl })

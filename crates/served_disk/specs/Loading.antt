@@ -1,0 +1,23 @@
+-- Why no register is loaded from a dump.
+use Rattle.std.specs.Prelude.{◌≡◌, List, Result, Err}
+use Rattle.file_disk.specs.declared.fault.OpenCause.TheVariants.{Other}
+use Rattle.centre_core.specs.State.{State}
+use Rattle.sector_disk.specs.Numbers.{Byte}
+use Rattle.register_text.specs.declared.load_fault.LoadFault.{LoadFault}
+use Rattle.register_text.specs.declared.load_fault.LoadFault.TheVariants as load
+use Rattle.served_disk.specs.declared.fault.Fault.{Fault}
+use Rattle.served_disk.specs.declared.fault.Fault.TheVariants as fault
+
+-- why none is loaded from the file of this name: a line of the dump, or its end; the file was not read, or memory ran out
+abbrev pub IsOfLoading : List Byte → Fault → Type 0
+IsOfLoading name (fault.DumpLine line cause) = Unit {0}
+IsOfLoading name (fault.DumpCut line) = Unit {0}
+IsOfLoading name (fault.File text cause) = (text.now ≡ name) × (cause ≡ Other)
+IsOfLoading name fault.Memory = Unit {0}
+IsOfLoading name other = ⊥
+
+-- A fault of a line or of the end is what the dump is read as. The others say nothing of the dump.
+abbrev pub IsReadAs : Result State LoadFault → Fault → Type 0
+IsReadAs made (fault.DumpLine line cause) = made ≡ Err (load.Line line cause)
+IsReadAs made (fault.DumpCut line) = made ≡ Err (load.Cut line)
+IsReadAs made other = Unit {0}

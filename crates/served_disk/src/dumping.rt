@@ -1,0 +1,99 @@
+//! The text of the register on a disk.
+ghost use Rattle.std.specs.Prelude.{◌≡◌, ◌⊎◌, ◌++◌, ◌∷◌, [], IfErr, IfOk, IfSome, None, OnOk};
+ghost use Rattle.sector_disk.specs.Reading.{before_reads};
+ghost use Rattle.sector_disk.specs.declared.record.Call.TheVariants.{Sync};
+ghost use Rattle.file_disk.specs.Disk.{calls_of};
+ghost use Rattle.centre_core.specs.State.{State};
+ghost use Rattle.recovery.specs.declared.fault.StoreFault.{StoreFault};
+ghost use Rattle.recovery.specs.declared.fault.StoreFault.TheVariants.{DiskFault};
+ghost use Rattle.served_disk.specs.Calls.{IsOnlyRead, IsReadAtMost};
+ghost use Rattle.served_disk.specs.Dumping.{IsDumped, IsDumpedBy, IsOfDiskDump, IsOfDumping, IsUndumped};
+ghost use Rattle.served_disk.specs.Making.{IsOfMaking};
+
+use crate::Refused;
+use crate::opening::adopt_disk;
+use centre_core::Register;
+use centre_core::laws::registers;
+use file_disk::{FileDisk, HostFile};
+use recovery::{Store, StoreFault};
+use register_text::{DumpFault, write_register};
+use sector_disk::Disk;
+use std::alloc::{Allocator, Global};
+use std::fs::{File, Files};
+use std::io::Write;
+
+/// Why the register on a disk was not dumped.
+#[derive(Clone, Copy, Debug, PartialEq, Eq)]
+pub enum DiskDumpFault {
+    /// The disk gives no register.
+    Opening(StoreFault),
+    /// The register's text was not written.
+    Writing(DumpFault),
+}
+
+/// Writes the text of a register.
+fn dump<A: Allocator + Clone, B: Allocator + Clone, W: Write>(
+    alloc: &A,
+    register: &Register<B>,
+    out: &mut W,
+) -> Result<(), DumpFault>
+    ensures { OnOk result (IsDumped (W.contents out.old) (W.contents out.new) register.now) }
+{
+    registers(register);
+    write_register(alloc, out, register)
+}
+
+/// Writes the text of the register that is kept on a disk. The disk is synced once, and then only read. It is returned, also
+/// after a fault.
+///
+/// # Errors
+/// `Opening` for a fault of what is on the disk or of the device, and out of memory: nothing is written. `Writing` if memory
+/// runs out afterwards or the writer fails: some of the text may be written.
+pub fn dump_on<A: Allocator + Copy + Drop, D: Disk, W: Write>(
+    alloc: A,
+    disk: D,
+    out: &mut W,
+) -> Result<D, (DiskDumpFault, D)>
+    ensures dumped { IfOk result (λ d. IsDumpedBy A (D.view disk).honest (D.view disk).reads (W.contents out.old) (W.contents out.new)) }
+    ensures refused { IfErr result (λ e. (D.view disk).honest → IsUndumped A (D.view disk).reads e.0) }
+    ensures unwritten { IfErr result (λ e. (fault : StoreFault) → e.0 ≡ DiskDumpFault.Opening fault → out.new ≡ out.old) }
+    ensures calls { IfOk result (λ d. before_reads (D.view d).calls ≡ (D.view disk).calls ++ Sync ∷ []) }
+    ensures some_calls { IfErr result (λ e. (before_reads (D.view e.1).calls ≡ (D.view disk).calls ++ Sync ∷ [])
+        ⊎ ((e.0 ≡ DiskDumpFault.Opening DiskFault) × ((D.view e.1).calls ≡ (D.view disk).calls))) }
+    ensures kinds { IfErr result (λ e. IsOfDumping e.0) }
+{
+    let store = match Store::open(alloc, disk) {
+        Ok(store) => store,
+        Err((fault, disk)) => return Err((DiskDumpFault::Opening(fault), disk)),
+    };
+    let dumped = dump(&alloc, store.register().unwrap(), out);
+    let disk = store.into_disk();
+    match dumped {
+        Ok(()) => Ok(disk),
+        Err(fault) => Err((DiskDumpFault::Writing(fault), disk)),
+    }
+}
+
+/// Writes the text of the register on the disk in the file of this name. The disk is synced once, and then only read. It is
+/// returned.
+///
+/// # Errors
+/// Those of `open_disk`. `File` with `-` if the writer fails, and `Memory`.
+pub fn dump_disk<'a, R: Files<File = File>, W: Write>(
+    rt: &R,
+    alloc: Global,
+    name: &'a str,
+    out: &mut W,
+) -> Result<FileDisk<HostFile>, Refused<'a>>
+    ensures dumped { IfOk result (λ disk. (register : State) × IsDumped (W.contents out.old) (W.contents out.new) register) }
+    ensures calls { IfOk result (λ disk. IsOnlyRead (calls_of disk)) }
+    ensures some_calls { IfErr result (λ e. IfSome e.disk (λ disk. IsReadAtMost e.fault (calls_of disk))) }
+    ensures kinds { IfErr result (λ e. IsOfDiskDump name.now e.fault) }
+    ensures none { IfErr result (λ e. e.disk ≡ None → IsOfMaking name.now e.fault) }
+{
+    let disk = adopt_disk(rt, name)?;
+    match dump_on(alloc, disk, out) {
+        Ok(disk) => Ok(disk),
+        Err((fault, disk)) => Err(Refused::of_dump(fault, disk)),
+    }
+}

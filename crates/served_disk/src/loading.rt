@@ -1,0 +1,41 @@
+//! A register that is loaded from a dump.
+ghost use Rattle.std.specs.Prelude.{◌≡◌, List, ℕ, IfErr, IfOk, IfSome, Ok, Some};
+ghost use Rattle.centre_core.specs.State.{IsState, State};
+ghost use Rattle.centre_core.specs.StateRanges.{StateInRange};
+ghost use Rattle.image_rows.specs.Rows.{rows_of};
+ghost use Rattle.register_text.specs.Dump.{IsAll, register_bytes, text_read};
+ghost use Rattle.register_text.specs.Text.{IsUnder};
+ghost use Rattle.served_disk.specs.Loading.{IsOfLoading, IsReadAs};
+
+use crate::Fault;
+use centre_core::Register;
+use register_text::{laws, read_register};
+use registration::Limits;
+use std::alloc::Global;
+use std::io::Read;
+
+/// The register that a dump makes under these limits. The dump is read to its end; `name` is that of its file.
+///
+/// # Errors
+/// `DumpLine` for the first line that can't be taken, and `DumpCut` if the dump is cut; `File` if it can't be read, and `Memory`.
+pub fn load_register<'a, R: Read>(
+    alloc: Global,
+    limits: Limits,
+    reader: &mut R,
+    name: &'a str,
+) -> Result<Register<Global>, Fault<'a>>
+    ensures loaded { IfOk result (λ register. (text : List ℕ) × IsAll (R.remaining reader.old) text × (text_read limits text ≡ Ok register)) }
+    ensures under { IfOk result (λ register. register.registered.limits ≡ limits) }
+
+    // From the text of a register, that register is loaded, under these limits.
+    ensures dumped { (s : State) → IsState s → StateInRange s → R.remaining reader.old ≡ Some (register_bytes s)
+        → IfOk result (λ register. IsUnder limits (rows_of 1 s) register) }
+    ensures refused { IfErr result (λ fault. IfSome (R.remaining reader.old) (λ text. IsReadAs (text_read limits text) fault)) }
+    ensures kinds { IfErr result (IsOfLoading name.now) }
+{
+    laws::register_bytes();
+    match read_register(alloc, limits, reader) {
+        Ok(register) => Ok(register),
+        Err(fault) => Err(Fault::of_load(fault, name)),
+    }
+}

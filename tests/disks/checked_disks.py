@@ -1,0 +1,130 @@
+"""Disks of both layouts, and the lines that `check` prints of each, written here by hand."""
+import itertools
+
+from layouts import full_half, moved
+from made_disks import CLOSED, GATE, NONE, OPEN, OTHER_GATE, OTHER_SLOT, SLOT, expire, image, record, records, text_of
+from reading_disks import NUMBERED, PLAIN
+from reading_rows import LAST_EPOCH, SECTOR, header_row, rule_row
+
+LAYOUTS = {1: PLAIN, 2: NUMBERED}
+JUNK, RULE, ONE_RULE = b'\xa5' * SECTOR, rule_row('01', (1, 2, 0, 0)), (1, 0, 0, 0)
+# Of the disk with two sides: side B counts
+A, B = 'side A epoch 5 count 8 gate 591', 'side B epoch 6 count 10 gate 632'
+BY_A, BY_B = 'side A epoch 5 left 4611686018427387899 gate 591 free 37 count 8', 'side B epoch 6 left 4611686018427387898 gate 632 free 35 count 10'
+NO_A, NO_B = 'side A unused', 'side B unused'
+
+
+def sound():
+    """One side, or both."""
+    for number, form in LAYOUTS.items():
+        yield (f'layout {number}, made ready', image(form=form), 'side A epoch 1 count 0 gate 589', NO_B,
+               f'ok layout {number} side A epoch 1 left 4611686018427387903 gate 589 free 39 count 0')
+        yield (f'layout {number}, a full half', image(full_half(form)[0], form), 'side A epoch 1 count 19 gate 627', NO_B,
+               f'ok layout {number} side A epoch 1 left 4611686018427387903 gate 627 free 1 count 19')
+        last = {1: CLOSED, 2: OPEN, OTHER_SLOT: header_row(LAST_EPOCH, 9, NONE, form), SLOT: JUNK}
+        yield (f'layout {number}, side B alone with the last epoch', image(last, form), NO_A,
+               'side B epoch 4611686018427387904 count 9 gate 628',
+               f'ok layout {number} side B epoch 4611686018427387904 left 0 gate 628 free 39 count 9')
+    yield ('side A of layout 1 and side B of layout 2', moved(11), 'side A epoch 1 count 10 gate 609', 'side B epoch 2 count 11 gate 630',
+           'ok layout 2 side B epoch 2 left 4611686018427387902 gate 630 free 37 count 11')
+
+
+def two_sides(form, changes={}):
+    """A rule in each slot. Side A has a record, side B has two. Other sectors are in these places."""
+    first = {SLOT: header_row(5, 7, ONE_RULE, form), SLOT + 1: RULE, **records(GATE, form, [expire(1)], 7)[0]}
+    second = {OTHER_SLOT: header_row(6, 8, ONE_RULE, form), OTHER_SLOT + 1: RULE, **records(OTHER_GATE, form, [expire(2), expire(3)], 8)[0]}
+    return image({2: OPEN, **first, **second, **changes}, form)
+
+
+def at(first, sectors):
+    """The same sectors, counted from this one on."""
+    return {first + place: sector for place, sector in sectors.items()}
+
+
+# Damage to a slot or a half: the sectors that differ, the place of the damaged one, and what that is
+
+def no_headers(form):
+    yield from (({0: sector}, 0, 'header') for sector in (JUNK, RULE, bytes(SECTOR), header_row(0, 7, ONE_RULE, form)))
+
+
+def bad_rows(epoch, form):
+    yield from (({1: sector}, 1, 'row') for sector in (JUNK, bytes(SECTOR), header_row(epoch, 7, ONE_RULE, form)))
+    # A header that can't be one of this disk, or that other rows must follow
+    for count, rows, place, what in ((2 ** 62 + 1, ONE_RULE, 0, 'header'), (7, (17, 0, 0, 0), 0, 'header'), (7, (1, 0, 0, 5), 0, 'header'),
+                                     (7, (0, 1, 0, 0), 1, 'row'), (7, (1, 1, 0, 0), 2, 'row')):
+        yield {0: header_row(epoch, count, rows, form)}, place, what
+    yield {0: header_row(epoch, 7, (2, 0, 0, 0), form), 2: RULE}, 2, 'row'
+
+
+def bad_records(before, form):
+    """After so many commands. The first command here has the sequence 9."""
+    texts = {name: text_of(form, commands, before + 1) for name, commands in
+             {'good': [expire(9)], 'refused': [expire(9, station=5)], 'twice': [expire(9)] * 2, 'none': [expire(9, tag=9)]}.items()}
+    for data in (JUNK, bytes(SECTOR), texts['good'] + b'\1', texts['none'], texts['refused'], texts['twice'],
+                 text_of(form, [expire(9)], before + 1, size=500)):
+        yield record(0, data), 1, 'record'
+    for first, second in (('good', JUNK), ('refused', JUNK), ('good', text_of(form, [expire(9)], before + 2))):
+        yield {**record(0, texts[first]), **record(2, second)}, 3, 'record'
+    many, gate = records(0, form, map(expire, range(9, 28)), before)
+    yield {**many, gate: OPEN}, gate, 'record'
+    if form == NUMBERED:
+        yield from ((record(0, text_of(form, [expire(9)], first)), 1, 'record') for first in (0, before, before + 2, 2 ** 64 - 1))
+
+
+# Disks with damage
+
+def damage_to_a(number, form):
+    """Where slot A has no header, the disk does not open; it does in each other case."""
+    for sectors, place, what in no_headers(form):
+        yield at(SLOT, sectors), f'side A damaged sector {SLOT + place}: {what}', B, 'lost sector 3'
+    slots, halves = ((first, part) for first, part in ((SLOT, bad_rows(5, form)), (GATE, bad_records(7, form))))
+    for first, part in (slots, halves):
+        for sectors, place, what in part:
+            yield at(first, sectors), f'side A damaged sector {first + place}: {what}', B, f'kept layout {number} {BY_B}'
+
+
+def damage_to_b(number, form):
+    for first, part in ((OTHER_SLOT, no_headers(form)), (OTHER_SLOT, bad_rows(6, form)), (OTHER_GATE, bad_records(8, form))):
+        for sectors, place, what in part:
+            yield at(first, sectors), A, f'side B damaged sector {first + place}: {what}', f'lost sector {first + place}'
+
+
+def damage_to_both(number, form):
+    yield {SLOT: JUNK, OTHER_SLOT: JUNK}, 'side A damaged sector 3: header', 'side B damaged sector 296: header', 'lost sector 3'
+    yield {SLOT + 1: JUNK, OTHER_SLOT + 1: JUNK}, 'side A damaged sector 4: row', 'side B damaged sector 297: row', 'lost sector 297'
+    yield {GATE + 1: JUNK, OTHER_GATE + 1: JUNK}, 'side A damaged sector 590: record', 'side B damaged sector 629: record', 'lost sector 629'
+    yield {SLOT + 1: JUNK, OTHER_GATE + 3: JUNK}, 'side A damaged sector 4: row', 'side B damaged sector 631: record', 'lost sector 631'
+    yield {1: CLOSED, OTHER_SLOT: JUNK}, NO_A, 'side B damaged sector 296: header', 'lost sector 296'
+    yield {2: CLOSED, SLOT + 1: JUNK}, 'side A damaged sector 4: row', NO_B, 'lost sector 4'
+
+
+def other_roots(number, form):
+    """Roots and gates that read closed, which nobody can tell from sound ones; and sides that can't both count."""
+    yield {1: CLOSED}, NO_A, B, f'ok layout {number} {BY_B}'
+    yield {2: CLOSED}, A, NO_B, f'ok layout {number} {BY_A}'
+    yield {2: b'\2' * SECTOR, OTHER_SLOT: JUNK}, A, NO_B, f'ok layout {number} {BY_A}'
+    yield {1: CLOSED, 2: CLOSED}, NO_A, NO_B, 'lost sector 1'
+    yield {1: JUNK, 2: JUNK, SLOT: JUNK, OTHER_SLOT: JUNK}, NO_A, NO_B, 'lost sector 1'
+    yield {GATE: CLOSED}, 'side A epoch 5 count 7 gate 589', B, f'ok layout {number} {BY_B}'
+    gate = f'ok layout {number} side B epoch 6 left 4611686018427387898 gate 630 free 37 count 9'
+    yield {OTHER_GATE + 2: CLOSED}, A, 'side B epoch 6 count 9 gate 630', gate
+    same, older = ({OTHER_SLOT: header_row(epoch, 8, ONE_RULE, form)} for epoch in (5, 4))
+    yield same, A, 'side B epoch 5 count 10 gate 632', 'lost sector 2'
+    yield {**same, SLOT + 1: JUNK}, 'side A damaged sector 4: row', 'side B epoch 5 count 10 gate 632', 'lost sector 2'
+    yield {**same, OTHER_GATE + 3: JUNK}, A, 'side B damaged sector 631: record', 'lost sector 2'
+    yield older, A, 'side B epoch 4 count 10 gate 632', f'ok layout {number} {BY_A}'
+    yield {**older, OTHER_SLOT + 1: JUNK}, A, 'side B damaged sector 297: row', f'kept layout {number} {BY_A}'
+    yield {**older, SLOT + 1: JUNK}, 'side A damaged sector 4: row', 'side B epoch 4 count 10 gate 632', 'lost sector 4'
+
+
+def changed():
+    for number, form in LAYOUTS.items():
+        yield f'layout {number}, two sides', two_sides(form), A, B, f'ok layout {number} {BY_B}'
+        for part in damage_to_a, damage_to_b, damage_to_both, other_roots:
+            for k, (changes, *lines) in enumerate(part(number, form)):
+                yield (f'layout {number}, {part.__name__}, case {k}', two_sides(form, changes), *lines)
+
+
+def cases():
+    """The name of each, its image, and the three lines."""
+    return ((name, image, lines) for name, image, *lines in itertools.chain(sound(), changed()))
