@@ -179,8 +179,8 @@ const CHECK: &str = "Reads both sides of a disk file, prints what is damaged, an
 
 const AFTER: &str = "Example: tetra-switch < station1.txt > answers.txt
 
-Exit status: 0 each line was answered; 1 a line was bad, or an answer told of the service; 2 the command line is \
-     wrong; 3 settings; 4 a file; 5 the disk, or no memory.";
+Exit status: 0 each line was answered; 1 a line was bad, or an answer was an outage word; 2 the command line is \
+     wrong; 3 settings, or a dump; 4 a file; 5 the disk, or no memory.";
 
 const AFTER_FORMAT: &str = "Example: tetra-switch format settings.toml centre.disk
 
@@ -190,19 +190,19 @@ Exit status: 0 the disk file is made; 2 the command line is wrong; 3 the setting
 
 const AFTER_RUN: &str = "Example: tetra-switch run centre.disk station1.txt station2.txt
 
-Exit status: 0 each line was answered; 1 a line was bad, or an answer told of the service; 2 the command line is \
+Exit status: 0 each line was answered; 1 a line was bad, or an answer was an outage word; 2 the command line is \
      wrong, a file is named twice, or there are more files than stations; 4 a file can't be read or written; 5 the \
      disk file holds no register or the disk failed, or no memory.";
 
 const AFTER_SERVE: &str = "Example: tetra-switch serve centre.disk station1.in station1.out
 
-Exit status: 0 each line was answered; 1 a line was bad, or an answer told of the service; 2 the command line is \
+Exit status: 0 each line was answered; 1 a line was bad, or an answer was an outage word; 2 the command line is \
      wrong, an IN is named twice, or there are more pairs than stations; 4 a file can't be read or written; 5 the disk \
      file holds no register or the disk failed, or no memory.";
 
 const AFTER_SHOW: &str = "Example: tetra-switch show centre.disk where 234-14-2001
 
-Exit status: 0 the query was answered; 1 it is no query, or the answer told of the service; 2 the command line is \
+Exit status: 0 the query was answered; 1 it is no query, or the answer was an outage word; 2 the command line is \
      wrong; 4 the disk file can't be read; 5 it holds no register or the disk failed, or no memory.";
 
 const AFTER_DUMP: &str = "Example: tetra-switch dump centre.disk > centre.txt
