@@ -15,6 +15,8 @@ pub mod Next
 pub mod NextItem
 pub mod Sides
 pub mod Heights
+pub mod DueSides
+pub mod NextDue
 pub mod Expiry
 pub mod Cost
 pub mod Pushed

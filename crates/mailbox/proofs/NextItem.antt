@@ -15,7 +15,7 @@ use Rattle.mailbox.specs.Inside.Boxes.{Boxes, item_at, name_of, AreFiled}
 use Rattle.mailbox.proofs.Filing.{found_each}
 
 module _ {X : Type 0} where
-  found_all : (P : X → Type 0) (test : X → Bool) (xs : List X) → All P xs → IfSome (find test xs) P
+  pub found_all : (P : X → Type 0) (test : X → Bool) (xs : List X) → All P xs → IfSome (find test xs) P
   found_all P test [] all = tt
   found_all P test (x ∷ xs) all = by (test x) (found_all P test xs (All-tail P x xs all))
     where
@@ -35,7 +35,7 @@ places_rise ws order is rise = subst (AreRising named_cmp name_of) (sym is) mapp
         let short : j < length ws = subst (λ n. j < n) (length-map ws place_of) within in
         (λ k. named_cmp (name_of (get_or-map place_of ws i (item_with d) k)) (name_of (get_or-map place_of ws j (item_with d) k))) ∙ rise i j (item_with d) lt short
 
-same_test : (after : Option (ℕ × Key)) (w : Item) → is_after named_cmp name_of after (place_of w) ≡ is_after named_cmp named after w
+pub same_test : (after : Option (ℕ × Key)) (w : Item) → is_after named_cmp name_of after (place_of w) ≡ is_after named_cmp named after w
 same_test None w = refl
 same_test (Some k) w = refl
 
@@ -53,7 +53,7 @@ abbrev pub at_place : Boxes → Option Place → Option Item
 at_place boxes None = None
 at_place boxes (Some p) = item_at boxes p.key
 
-looked_up : (boxes : Boxes) (o : Option Item) → IfSome o (λ w. item_at boxes w.key ≡ Some w) → at_place boxes (option_map place_of o) ≡ o
+pub looked_up : (boxes : Boxes) (o : Option Item) → IfSome o (λ w. item_at boxes w.key ≡ Some w) → at_place boxes (option_map place_of o) ≡ o
 looked_up boxes None there = refl
 looked_up boxes (Some w) there = there
 

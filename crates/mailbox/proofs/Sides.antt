@@ -29,7 +29,7 @@ module _ {X : Type 0} where
   middle P [] x ys h = All-head P x ys h
   middle P (y ∷ xs) x ys h = middle P xs x ys (All-tail P y (xs ++ x ∷ ys) h)
 
-  none_found : (test : X → Bool) (xs : List X) → All (λ x. test x ≡ false) xs → find test xs ≡ None
+  pub none_found : (test : X → Bool) (xs : List X) → All (λ x. test x ≡ false) xs → find test xs ≡ None
   none_found test [] h = refl
   none_found test (x ∷ xs) h = ap (λ b. cond b (Some x) (find test xs)) (All-head (λ y. test y ≡ false) x xs h) ∙ none_found test xs (All-tail (λ y. test y ≡ false) x xs h)
 
@@ -205,6 +205,14 @@ module _ (es : List Place) (own : Place) (ls : List Place) (order : InOrder (es 
 
   pub none_earlier : (after : Option (ℕ × Key)) → is_after named_cmp name_of after own ≡ false → find (is_after named_cmp name_of after) es ≡ None
   none_earlier after not_after = none_found (is_after named_cmp name_of after) es (All-weaker (λ q. place_cmp q own ≡ Less) (λ q. is_after named_cmp name_of after q ≡ false) (λ q less. still_not after q less not_after) es befores)
+
+  -- what comes after a place that is after a key is after it too
+  still_after : (after : Option (ℕ × Key)) (q : Place) → place_cmp own q ≡ Less → is_after named_cmp name_of after own ≡ true → is_after named_cmp name_of after q ≡ true
+  still_after None q less here = refl
+  still_after (Some k) q less here = ap is_lt (place_total.trans (record { number = k.0; key = k.1; deadline = 0 }) own q (less_is (named_cmp k (name_of own)) here) less)
+
+  pub all_later : (after : Option (ℕ × Key)) → is_after named_cmp name_of after own ≡ true → All (λ q. is_after named_cmp name_of after q ≡ true) ls
+  all_later after here = All-weaker (λ q. place_cmp own q ≡ Less) (λ q. is_after named_cmp name_of after q ≡ true) (λ q less. still_after after q less here) ls afters
 
 module _ {A : Type 0} (o : Option (Box Branch A)) (b : Box Branch A) (v : Branch) (is : o ≡ Some b) (at : v ≡ b.value) (p : Place) (e l : Option (Box Branch A)) (parts : branch p e l ≡ v) where
   pub there : places_of o ≡ all_of p e l

@@ -1,17 +1,18 @@
 -- In which order the items wait: by the number of the command that made them, then by key.
 use Rattle.std.specs.Prelude.{◌≡◌, ℕ, List, [], ◌∷◌, Option}
-use Rattle.std.specs.List.{All}
+use Rattle.std.specs.List.{All, filter}
 use Rattle.std.specs.Ordering.{nat_cmp}
 use Rattle.std.specs.declared.cmp.Ordering.{Ordering}
 use Rattle.std.specs.declared.cmp.Ordering.TheVariants.{Less}
 use Rattle.std.specs.Cmp.Lexicographic.{slice_cmp}
 use Rattle.prefix_tree.specs.Following.{next_of}
-use Rattle.mailbox.specs.Numbers.{Number}
+use Rattle.mailbox.specs.Numbers.{Number, Moment}
 use Rattle.mailbox.specs.declared.key.Key.{Key}
 use Rattle.mailbox.specs.declared.key.Kind.{Kind}
 use Rattle.mailbox.specs.declared.key.Kind.TheVariants.{Message, Report}
 use Rattle.mailbox.specs.declared.place.Place.{Place}
 use Rattle.mailbox.specs.Values.{Item, Mailed}
+use Rattle.mailbox.specs.Item.{is_expired}
 
 -- a kind as a number: a message comes before a report
 abbrev pub kind_number : Kind → ℕ
@@ -41,6 +42,10 @@ named w = (w.number, w.key)
 -- the first item after this number and key, or the first of all
 abbrev pub next_item : Mailed → Option (Number × Key) → Option Item
 next_item m after = next_of named_cmp named m.items after
+
+-- the first item after this number and key that has ended by the moment, or the first of all that have
+abbrev pub next_due : Mailed → Moment → Option (Number × Key) → Option Item
+next_due m moment after = next_of named_cmp named (filter (is_expired moment) m.items) after
 
 -- an item's place in the order of all, with its deadline
 abbrev pub place_of : Item → Place

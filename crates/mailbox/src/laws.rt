@@ -1,10 +1,11 @@
 //! What holds of the definitions alone: each law is the contract of a function that does nothing.
 
 ghost use Rattle.std.specs.Prelude.{◌≡◌, ◌≤◌, ℕ, None, length};
-ghost use Rattle.std.specs.List.{AllPairs};
+ghost use Rattle.std.specs.List.{AllPairs, filter};
 ghost use Rattle.prefix_tree.specs.Following.{one_by_one};
 ghost use Rattle.mailbox.specs.Values.{Mailed};
-ghost use Rattle.mailbox.specs.Order.{IsBefore, named, next_item};
+ghost use Rattle.mailbox.specs.Item.{is_expired};
+ghost use Rattle.mailbox.specs.Order.{IsBefore, named, next_item, next_due};
 ghost use Rattle.mailbox.specs.Sound.{IsMail};
 ghost use Rattle.mailbox.specs.Laws.{EmptyIsMail, MoreIsMail, RemovalIsMail, PostIsMail, ReportIsMail, GroupPostIsMail, NewComesLast, ItemsAreTexts};
 
@@ -38,4 +39,11 @@ pub fn items_are_texts<A: Allocator>()
 /// to the next.
 pub fn next_comes_to_all()
     ensures { (count : ℕ) (m : Mailed) (n : _) → IsMail count m → length m.items ≤ n → one_by_one (next_item m) named n None ≡ m.items }
+{}
+
+/// `next_due` visits all items whose deadline is at most the moment in order, each item once: first from `None`, then
+/// from the number and key of each to the next.
+pub fn next_due_comes_to_all()
+    ensures { (count moment : ℕ) (m : Mailed) (n : _) → IsMail count m → length m.items ≤ n
+        → one_by_one (next_due m moment) named n None ≡ filter (is_expired moment) m.items }
 {}

@@ -4,6 +4,7 @@
 #![tactic(auto)]
 
 mod boxes;
+mod due;
 mod fault;
 mod group_post;
 mod group_refusal;

@@ -8,10 +8,10 @@ ghost use Rattle.mailbox.specs.declared.fault.MailFault.TheVariants.{NoMemory};
 ghost use Rattle.mailbox.specs.declared.key.Kind.TheVariants as kind;
 ghost use Rattle.mailbox.specs.Values.{empty_mailed, latest_deadline};
 ghost use Rattle.mailbox.specs.Item.{same_key, key_of, answered, is_to, is_at, is_reported, is_expired};
-ghost use Rattle.mailbox.specs.Order.{IsBefore, ComesLast, next_item, place_of};
+ghost use Rattle.mailbox.specs.Order.{IsBefore, ComesLast, next_item, next_due, place_of};
 ghost use Rattle.mailbox.specs.Mail.{holds, without, with_item, deadline_by, message_item, report_item, waiting};
 ghost use Rattle.mailbox.specs.Mail.{posted, reported, acknowledged, confirmed, expired, deleted};
-ghost use Rattle.mailbox.specs.Cost.{IsAboveAll, expiry_steps};
+ghost use Rattle.mailbox.specs.Cost.{IsAboveAll, next_due_steps, expiry_steps};
 ghost use Rattle.mailbox.specs.GroupPost.{shortened};
 ghost use Rattle.mailbox.specs.Judged.{none_waits, waits_alone, item_in, report_opening, MayPost, MayReport};
 ghost use Rattle.mailbox.specs.Refusals.{restore_refusal, post_refusal, report_refusal, ack_refusal, sent_refusal, delete_refusal};
@@ -90,8 +90,8 @@ impl<A: Allocator> Mail<A> {
         self.order.allocator()
     }
 
-    /// What waits for a destination.
-    pub(crate) fn items_of(&self, destination: Itsi) -> &[Item<A>]
+    /// What waits for a destination, in order of number, then of key.
+    pub fn items_of(&self, destination: Itsi) -> &[Item<A>]
         ensures items { result.now ≡ waiting self.now destination }
         ensures apart { AllPairs (λ a b. same_key b.key a.key ≡ false) self.now.items }
     {
@@ -128,6 +128,31 @@ impl<A: Allocator> Mail<A> {
         ensures { option_copied result ≡ next_item self.now after }
     {
         match self.order.first_after(&after) {
+            Some(place) => self.boxes.item_at(&place.key),
+            None => None,
+        }
+    }
+
+    /// The first item after this number and key in order of number, then of key, or the first of all for `None`, whose
+    /// deadline is at most the moment. No item need wait under this number and key. It takes no memory.
+    pub fn next_due(&self, moment: Moment, after: Option<(u64, Key)>) -> Option<&Item<A>>
+        ensures { option_copied result ≡ next_due self.now moment after }
+    {
+        next_due_from::<A, Brand>(self, moment, after, Blank::new(1))
+    }
+
+    /// The same. Each visited node of the tree of places is a step. If every tree of so many places is lower than
+    /// `height`, it takes at most four times `height` steps, and one more.
+    pub fn next_due_counted<L: Ledger>(
+        &self,
+        moment: Moment,
+        after: Option<(u64, Key)>,
+        steps: &mut Steps<L>,
+    ) -> Option<&Item<A>>
+        ensures item { option_copied result ≡ next_due self.now moment after }
+        ensures cost { (height : ℕ) → IsAboveAll height self.now → steps.new ≤ steps.old + next_due_steps height }
+    {
+        match self.order.first_due_after(moment, &after, steps) {
             Some(place) => self.boxes.item_at(&place.key),
             None => None,
         }
@@ -502,4 +527,20 @@ fn expire_from<A: Allocator, L: Ledger>(mail: &mut Mail<A>, moment: Moment, blan
 {
     let mut steps = Steps::<L>::new(blank);
     mail.expire_counted(moment, &mut steps);
+}
+
+// `next_due_counted`, with a step counter over this ledger.
+fn next_due_from<'m, A: Allocator, L: Ledger>(
+    mail: &'m Mail<A>,
+    moment: Moment,
+    after: Option<(u64, Key)>,
+    blank: Blank,
+) -> Option<&'m Item<A>>
+    requires name { blank.name ≡ L.name }
+    requires parts { blank.parts ≡ L.parts }
+    requires some { 0 < blank.parts }
+    ensures { option_copied result ≡ next_due mail.now moment after }
+{
+    let mut steps = Steps::<L>::new(blank);
+    mail.next_due_counted(moment, after, &mut steps)
 }

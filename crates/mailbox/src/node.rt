@@ -80,8 +80,8 @@ impl<A: Allocator> Node<A> {
         (&self.place, &self.earlier, &self.later)
     }
 
-    // Whether no item in this node or under it has ended by the moment.
-    fn is_later_than(&self, moment: u64) -> bool
+    /// Whether no item in this node or under it has ended by the moment.
+    pub(crate) fn is_later_than(&self, moment: u64) -> bool
         ensures { result ≡ nat_lt moment (soonest self.now.places) }
     {
         self.least > moment

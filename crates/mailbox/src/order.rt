@@ -5,12 +5,13 @@ ghost use Rattle.std.specs.List.{filter, find, list_any};
 ghost use Rattle.std.specs.Option.{option_copied};
 ghost use Rattle.prefix_tree.specs.Following.{next_of};
 ghost use Rattle.mailbox.specs.Order.{named_cmp};
+ghost use Rattle.mailbox.specs.Cost.{next_due_steps};
 ghost use Rattle.mailbox.specs.Inside.Boxes.{name_of};
-ghost use Rattle.mailbox.specs.Inside.Places.{same_place, InOrder, is_due, places_of, IsAbove, IsLastOf, EndsWith};
+ghost use Rattle.mailbox.specs.Inside.Places.{same_place, InOrder, is_due, is_due_after, places_of, IsAbove, IsLastOf, EndsWith};
 
 use crate::node::{self, Link, Node};
 use crate::place::Place;
-use crate::{Key, Moment};
+use crate::{Key, Moment, due};
 use prefix_tree::{Steps, TryCopy};
 use std::alloc::{AllocError, Allocator};
 use std::marker::{Brand, Model};
@@ -93,6 +94,22 @@ impl<A: Allocator> Order<A> {
     {
         let _low = node::height(&self.root);
         node::first_due(&self.root, u64::from(moment.number()), steps)
+    }
+
+    /// The first place after this number and key, or the first of all, whose item has ended by the moment. Each
+    /// visited node is a step.
+    pub(crate) fn first_due_after<L: Ledger>(
+        &self,
+        moment: Moment,
+        after: &Option<(u64, Key)>,
+        steps: &mut Steps<L>,
+    ) -> Option<&Place>
+        requires { InOrder self.now }
+        ensures first { option_copied result ≡ find (is_due_after moment after.now) self.now }
+        ensures cost { (height : ℕ) → IsAbove height self.now → steps.new ≤ steps.old + next_due_steps height }
+    {
+        let _low = node::height(&self.root);
+        due::first_due_after(&self.root, u64::from(moment.number()), after, steps)
     }
 
     /// Puts the place at the end, in a node in the given box.

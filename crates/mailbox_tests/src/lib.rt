@@ -3,6 +3,8 @@
 #![tactic(auto)]
 
 #[cfg(test)]
+mod due;
+#[cfg(test)]
 mod expiry;
 #[cfg(test)]
 mod fixed_heap;

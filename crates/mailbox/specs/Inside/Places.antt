@@ -1,11 +1,12 @@
 -- The places of all items as a tree keeps them: a node's place, those before it on one side, those after it on the other.
-use Rattle.std.specs.Prelude.{◌≡◌, ℕ, ◌+◌, ◌<◌, ◌≤◌, ◌/◌, ◌^◌, min, max, nat_le, Bool, List, [], ◌∷◌, ◌++◌, length, Option, Some, None, refl}
+use Rattle.std.specs.Prelude.{◌≡◌, ℕ, ◌+◌, ◌<◌, ◌≤◌, ◌/◌, ◌^◌, min, max, nat_le, ◌&&◌, Bool, List, [], ◌∷◌, ◌++◌, length, Option, Some, None, refl}
 use Rattle.std.specs.Coded.{Coded, code_by, coded×, coded_list, coded_ℕ}
 use Rattle.std.specs.Ordering.{is_eq}
 use Rattle.std.specs.declared.boxed.Box.{Box}
 use Rattle.std.specs.declared.cmp.Ordering.{Ordering}
-use Rattle.prefix_tree.specs.Following.{AreRising}
-use Rattle.mailbox.specs.Numbers.{Moment}
+use Rattle.prefix_tree.specs.Following.{AreRising, is_after}
+use Rattle.mailbox.specs.Numbers.{Number, Moment}
+use Rattle.mailbox.specs.declared.key.Key.{Key}
 use Rattle.mailbox.specs.declared.place.Place.{Place}
 use Rattle.mailbox.specs.contracts.place.Place as place
 use Rattle.mailbox.specs.Order.{named_cmp}
@@ -30,6 +31,10 @@ InOrder places = AreRising named_cmp name_of places
 -- its item has ended by the moment
 abbrev pub is_due : Moment → Place → Bool
 is_due moment p = nat_le p.deadline moment
+
+-- its item has ended by the moment, and it comes after this number and key
+abbrev pub is_due_after : Moment → Option (Number × Key) → Place → Bool
+is_due_after moment after p = is_due moment p && is_after named_cmp name_of after p
 
 -- the moment at which the first of the items ends; where there are none, the last number of 64 bits
 abbrev pub soonest : List Place → Moment
