@@ -1,11 +1,12 @@
 -- The file that a disk is on. Its whole sectors are modelled as those of a disk, and each call moves some bytes of one sector.
-use Rattle.std.specs.Prelude.{◌≡◌, ◌⊎◌, ℕ, ◌+◌, ◌-◌, ◌^◌, ◌≤◌, ◌==◌, min, Bool, true, false, List, take, drop, if◌then◌else◌, Result, Ok, Err, IfOk}
+use Rattle.std.specs.Prelude.{◌≡◌, ◌⊎◌, ℕ, ◌+◌, ◌-◌, ◌*◌, ◌^◌, ◌≤◌, ◌==◌, min, Bool, true, false, List, take, drop, if◌then◌else◌, Result, Ok, Err, IfOk}
 use Rattle.std.specs.IoError.{error_kind}
 use Rattle.std.specs.declared.io.Error.{Error}
 use Rattle.std.specs.declared.io.ErrorKind.{ErrorKind}
 use Rattle.std.specs.declared.io.ErrorKind.TheVariants.{Interrupted}
-use Rattle.sector_disk.specs.Numbers.{Byte, Sector, Bytes}
+use Rattle.sector_disk.specs.Numbers.{Byte, Sector, Sectors, Bytes}
 use Rattle.sector_disk.specs.Disk.{View, HasFailed, HasWritten, sector}
+use Rattle.sector_disk.specs.Filling.{HasFilled}
 use Rattle.sector_disk.specs.Run.{HasOnlyRead}
 use Rattle.sector_disk.specs.declared.disk.DiskError.{DiskError}
 use Rattle.sector_disk.specs.declared.disk.DiskError.TheVariants.{DiskFault}
@@ -53,3 +54,12 @@ pub record HasWrittenPart (old new : View) (at : Sector) (from : Bytes) (bytes :
   pub before : IfOk result (λ n. take from (sector new.reads at) ≡ take from (sector old.reads at))
   pub written : IfOk result (λ n. take n (drop from (sector new.reads at)) ≡ take n bytes)
   pub marked : IfOk result (λ n. (new.pending at ≡ true) ⊎ ((n ≡ 0) × (sector new.reads at ≡ sector old.reads at)))
+
+-- a run of so many sectors is written if all its bytes are
+abbrev pub run_written : Sectors → Result Bytes DiskError → Result Unit DiskError
+run_written count (Ok n) = if n == 512 * count then Ok tt else Err DiskFault
+run_written count (Err e) = Err e
+
+-- A write of whole sectors, from the sector `at` on. Unless it has written all their bytes, these sectors may hold anything.
+abbrev pub HasWrittenSectors : View → View → Sector → Sectors → List Byte → Result Bytes DiskError → Type 0
+HasWrittenSectors old new at count bytes result = HasFilled old new at count (λ k. take 512 (drop (512 * k) bytes)) (run_written count result)

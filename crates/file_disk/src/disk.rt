@@ -1,5 +1,5 @@
 // A disk over a file.
-ghost use Rattle.std.specs.Prelude.{◌≡◌, ◌⊎◌, ◌<◌, ◌≤◌, ◌+◌, ◌-◌, ◌*◌, ◌/◌, ◌^◌, true, false, Err, IfOk, IsErrOf, is_err};
+ghost use Rattle.std.specs.Prelude.{◌≡◌, ◌⊎◌, ◌<◌, ◌≤◌, ◌+◌, ◌-◌, ◌*◌, ◌/◌, ◌^◌, ◌++◌, true, false, Err, IfOk, IsErrOf, OnOk, is_err, replicate};
 ghost use Rattle.sector_disk.specs.Disk.{HasCause, HasFailed, IsCalled, HasRead, HasSynced, HasWritten, one_failure_more};
 ghost use Rattle.sector_disk.specs.declared.record.Call.TheVariants.{Read, Sync, Write};
 ghost use Rattle.sector_disk.specs.declared.disk.DiskError.TheVariants.{DiskFault, OutOfRange};
@@ -31,6 +31,8 @@ pub struct FileDisk<F> {
 impl<F: SectorFile> FileDisk<F> {
     ghost use Rattle.file_disk.specs.declared.fault.FileFault.TheVariants.{NotOpened};
     ghost use Rattle.file_disk.specs.declared.fault.OpenCause.{OpenCause};
+    ghost use Rattle.sector_disk.specs.Filling.{HasFilled};
+    ghost use Rattle.sector_disk.specs.Run.{writes};
     ghost use Rattle.file_disk.specs.Disk.{IsBlank, IsNew, blank_calls, calls_of, file_of, file_view, is_lost};
 
     /// A disk on a file as it is, with each whole sector of the file. Bytes after the last whole sector are ignored.
@@ -53,7 +55,8 @@ impl<F: SectorFile> FileDisk<F> {
         }
     }
 
-    /// The same, with zeros in each sector, made durable. Each sector is written once, and then the file is synced.
+    /// The same, with zeros in each sector, made durable. Each sector is written, and then the file is synced. A call of the file
+    /// writes 128 sectors; if it writes fewer, they are written one after another.
     pub fn blank(file: F) -> Result<Self, FileFault>
         ensures blank { (F.view file).honest → IfOk result (IsBlank F.view (F.view file).sectors) }
         ensures calls { IfOk result (λ disk. calls_of disk ≡ blank_calls disk.sectors) }
@@ -62,13 +65,37 @@ impl<F: SectorFile> FileDisk<F> {
         ensures refused { (cause : OpenCause) → IsErrOf result (NotOpened cause) → ⊥ }
     {
         let mut disk = FileDisk::over(file)?;
-        let sectors = disk.sectors;
-        let Ok(()) = fill_with_zeros(&mut disk, 0, sectors) else {
+        let Ok(()) = disk.fill() else {
             return Err(FileFault::DiskFault);
         };
         match disk.sync() {
             Ok(()) => Ok(disk),
             Err(_) => Err(FileFault::DiskFault),
+        }
+    }
+
+    // Writes zeros into each sector.
+    fn fill(&mut self) -> Result<(), DiskError>
+        ensures effect { (file_view F.view self.old).honest
+            → HasFilled (file_view F.view self.old) (file_view F.view self.new) 0 self.old.sectors (λ k. replicate 512 0) result }
+        ensures sectors { self.new.sectors ≡ self.old.sectors }
+        ensures calls { OnOk result (calls_of self.new ≡ calls_of self.old ++ writes 0 self.old.sectors (λ k. replicate 512 0)) }
+        ensures kept { (self.new.lost ≡ self.old.lost) × (self.new.failures ≡ self.old.failures) }
+    {
+        fill_with_zeros(&mut self.file, self.sectors)?;
+        self.note_zeros();
+        Ok(())
+    }
+
+    // Notes a write of zeros into each sector.
+    fn note_zeros(&mut self)
+        ensures calls { calls_of self.new ≡ calls_of self.old ++ writes 0 self.old.sectors (λ k. replicate 512 0) }
+        ensures file { (self.new.file ≡ self.old.file) × (self.new.sectors ≡ self.old.sectors) }
+        ensures kept { (self.new.lost ≡ self.old.lost) × (self.new.failures ≡ self.old.failures) }
+    {
+        let sectors = self.sectors;
+        for k in 0..sectors {
+            self.history = self.history.then(&Note::Write(k, &[0; 512]));
         }
     }
 

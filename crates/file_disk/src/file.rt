@@ -2,7 +2,7 @@
 ghost use Rattle.std.specs.Prelude.{◌≡◌, ◌<◌, ◌≤◌, ◌+◌, ◌*◌, ◌/◌, ℕ, IfOk, length};
 ghost use Rattle.std.specs.Io.{ReadsAtMost, WritesAtMost};
 ghost use Rattle.sector_disk.specs.Disk.{View, IsSound, HasSynced, HasCause};
-ghost use Rattle.file_disk.specs.File.{HasReadPart, HasWrittenPart, ended, moved, one_more};
+ghost use Rattle.file_disk.specs.File.{HasReadPart, HasWrittenPart, HasWrittenSectors, ended, moved, one_more};
 
 use sector_disk::DiskError;
 use std::io;
@@ -34,10 +34,13 @@ pub trait SectorFile: Drop {
     /// Writes a prefix of these bytes from an offset on, and returns its length. It may be interrupted, and write fewer than
     /// asked for.
     ///
-    /// Until the next sync that succeeds, a stop may leave any bytes in their sector.
+    /// Until the next sync that succeeds, a stop may leave any bytes in their sector, or in all sectors that they are.
     fn write_at(&mut self, bytes: &[u8], offset: u64) -> io::Result<usize>
         ensures effect { (at from : ℕ) → offset ≡ 512 * at + from → from < 512 → from + length bytes.now ≤ 512
             → at < (view self.old).sectors → (view self.old).honest → HasWrittenPart (view self.old) (view self.new) at from bytes.now (moved result) }
+        ensures sectors { (at count : ℕ) → offset ≡ 512 * at → 1 < count → length bytes.now ≡ 512 * count
+            → at + count ≤ (view self.old).sectors → (view self.old).honest
+            → HasWrittenSectors (view self.old) (view self.new) at count bytes.now (moved result) }
         ensures bound { WritesAtMost result bytes.now }
         ensures cause { HasCause (view self.old) (view self.new) (moved result) }
         ensures turns { turns self.new ≡ one_more (turns self.old) };

@@ -1,28 +1,55 @@
-// Zeros on a disk over a file.
-ghost use Rattle.std.specs.Prelude.{◌≡◌, ◌≤◌, ◌<◌, ◌+◌, ◌^◌, ◌++◌, OnOk, replicate};
-ghost use Rattle.sector_disk.specs.Run.{writes};
+// Zeros in the sectors of a file.
+ghost use Rattle.std.specs.Prelude.{◌≡◌, ◌≤◌, ◌<◌, ◌+◌, ◌*◌, ◌^◌, replicate};
 ghost use Rattle.sector_disk.specs.Filling.{HasFilled};
-ghost use Rattle.file_disk.specs.Disk.{calls_of, file_view};
 
-use crate::{FileDisk, SectorFile};
-use sector_disk::{Disk, DiskError};
+use crate::SectorFile;
+use crate::file::moved;
+use crate::whole::write_sector;
+use sector_disk::DiskError;
 
-// Writes zeros into so many sectors, from the sector `at` on.
-pub(crate) fn fill_with_zeros<F: SectorFile>(
-    disk: &mut FileDisk<F>,
-    at: u64,
-    count: u64,
-) -> Result<(), DiskError>
-    requires room { at + count ≤ disk.old.sectors }
-    requires fits { at + count < 2 ^ 64 }
-    ensures effect { (file_view F.view disk.old).honest
-        → HasFilled (file_view F.view disk.old) (file_view F.view disk.new) at count (λ k. replicate 512 0) result }
-    ensures sectors { disk.new.sectors ≡ disk.old.sectors }
-    ensures calls { OnOk result (calls_of disk.new ≡ calls_of disk.old ++ writes at count (λ k. replicate 512 0)) }
-    ensures failures { OnOk result (disk.new.failures ≡ disk.old.failures) }
+// How many sectors one call of the file fills.
+const PIECE: u64 = 128;
+
+// Writes zeros into so many sectors, from the sector `at` on: one after another.
+fn fill_each<F: SectorFile>(file: &mut F, at: u64, count: u64) -> Result<(), DiskError>
+    requires fits { 512 * (at + count) < 2 ^ 64 }
+    ensures effect { at + count ≤ (F.view file.old).sectors → (F.view file.old).honest
+        → HasFilled (F.view file.old) (F.view file.new) at count (λ k. replicate 512 0) result }
+    ensures sectors { (F.view file.new).sectors ≡ (F.view file.old).sectors }
 {
     for k in 0..count {
-        disk.write(at + k, &[0; 512])?;
+        write_sector(file, at + k, &[0; 512])?;
     }
     Ok(())
+}
+
+// Writes zeros into the sectors of a piece, from the sector `at` on: by one call of the file. If that call writes fewer, they are
+// written one after another.
+fn fill_piece<F: SectorFile>(file: &mut F, at: u64, zeros: &[u8]) -> Result<(), DiskError>
+    requires zeros { zeros.now ≡ replicate 65536 0 }
+    requires fits { 512 * (at + 128) < 2 ^ 64 }
+    ensures effect { at + 128 ≤ (F.view file.old).sectors → (F.view file.old).honest
+        → HasFilled (F.view file.old) (F.view file.new) at 128 (λ k. replicate 512 0) result }
+    ensures sectors { (F.view file.new).sectors ≡ (F.view file.old).sectors }
+{
+    let written = moved(file.write_at(zeros, 512 * at))?;
+    if written == zeros.len() {
+        return Ok(());
+    }
+    fill_each(file, at, PIECE)
+}
+
+// Writes zeros into the first sectors of a file, so many.
+pub(crate) fn fill_with_zeros<F: SectorFile>(file: &mut F, count: u64) -> Result<(), DiskError>
+    requires fits { 512 * count < 2 ^ 64 }
+    ensures effect { count ≤ (F.view file.old).sectors → (F.view file.old).honest
+        → HasFilled (F.view file.old) (F.view file.new) 0 count (λ k. replicate 512 0) result }
+    ensures sectors { (F.view file.new).sectors ≡ (F.view file.old).sectors }
+{
+    let zeros = [0u8; 65536];
+    let pieces = count / PIECE;
+    for k in 0..pieces {
+        fill_piece(file, PIECE * k, &zeros)?;
+    }
+    fill_each(file, PIECE * pieces, count - PIECE * pieces)
 }

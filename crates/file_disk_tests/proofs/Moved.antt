@@ -1,10 +1,13 @@
 -- What a call of a file over a disk does.
-use Rattle.std.proofs.Common.{◌≡◌, ◌⊎◌, inl, inr, ℕ, List, true, take, drop, Result, Ok, Err, refl, arith}
-use Rattle.std.specs.Result.{IfOk}
-use Rattle.sector_disk.specs.Disk.{View, Elapses, sector}
+use Rattle.std.proofs.Common.{◌≡◌, ◌⊎◌, inl, inr, ℕ, ◌+◌, ◌*◌, ◌<◌, ◌≤◌, ◌==◌, Bool, if◌then◌else◌, List, true, false, take, drop, Result, Ok, Err, refl, subst, arith}
+use Rattle.std.proofs.lemmas.Bool.{ne_eqb, true≢false}
+use Rattle.std.specs.Result.{IfOk, IsErr}
+use Rattle.sector_disk.specs.Disk.{View, Elapses, HasWritten, IsSound, sector}
 use Rattle.sector_disk.specs.declared.disk.DiskError.{DiskError}
+use Rattle.sector_disk.specs.declared.disk.DiskError.TheVariants.{DiskFault}
+use Rattle.sector_disk.proofs.Filled.{fill_more, fill_none, fill_wider}
 use Rattle.sector_disk.proofs.OnlyRead.{no_read}
-use Rattle.file_disk.specs.File.{HasReadPart, HasWrittenPart}
+use Rattle.file_disk.specs.File.{HasReadPart, HasWrittenPart, HasWrittenSectors, run_written}
 use Rattle.file_disk_tests.specs.PartFile.{part_view}
 use Rattle.file_disk_tests.specs.declared.part_file.PartFile.{PartFile}
 
@@ -39,6 +42,40 @@ nothing_written file at from bytes r honest none = record {
   written = none_given (drop from (sector file.reads at)) bytes r none;
   marked = unmarked file at r none;
 }
+
+-- ---- a write of several sectors writes a part of the first at most
+
+abbrev all_or : Bool → Result Unit DiskError
+all_or whole = if whole then Ok tt else Err DiskFault
+
+not_whole : (whole : Bool) → whole ≡ false → IsErr (all_or whole)
+not_whole true is = absurd (true≢false is)
+not_whole false is = refl
+
+not_all : (count n : ℕ) → 1 < count → n ≤ 512 → IsErr (run_written count (Ok n))
+not_all count n many small = not_whole (n == 512 * count) (ne_eqb n (512 * count) (omega (arith, many, small)))
+
+is_failed : (count : ℕ) (r : Result ℕ DiskError) → 1 < count → IfOk r (λ n. n ≤ 512) → IsErr (run_written count r)
+is_failed count (Ok n) many small = not_all count n many small
+is_failed count (Err e) many small = refl
+
+pub sectors_in_part : (old new : View) (at count : ℕ) (bytes : List ℕ) (r : Result ℕ DiskError) → old.honest → IsSound old → 1 < count → at + count ≤ old.sectors → IfOk r (λ n. n ≤ 512) → HasWrittenPart old new at 0 bytes r
+    → HasWrittenSectors old new at count bytes r
+sectors_in_part old new at count bytes r honest sound many within small part =
+    let pieces : ℕ → List ℕ = λ k. take 512 (drop (512 * k) bytes) in
+    let place : at ≡ at + 0 = omega arith in
+    let wrote : HasWritten old new at (pieces 0) (Err DiskFault) = record {
+      honest = part.rest.honest;
+      time = part.rest.time;
+      count = part.rest.count;
+      others = part.rest.others;
+      others_pending = part.rest.others_pending;
+      still_pending = part.rest.still_pending;
+      written = tt;
+    } in
+    let first : HasWritten old new (at + 0) (pieces 0) (Err DiskFault) = subst (λ j. HasWritten old new j (pieces 0) (Err DiskFault)) place wrote in
+    fill_wider old new at (0 + 1) count pieces (Err DiskFault) (run_written count r) (is_failed count r many small) (omega (arith, many))
+    (fill_more old old new at 0 pieces (pieces 0) (Err DiskFault) (fill_none old at pieces honest sound) first refl sound (omega (arith, many, within)))
 
 -- a call of the disk is one of the file
 module _ {D : Type 0} (view : D → View) (old new : PartFile D) (at from : ℕ) (bytes : List ℕ) (r : Result ℕ DiskError) where

@@ -60,7 +60,7 @@ fn copy_part(bytes: &mut [u8], sector: &[u8; 512], from: usize, most: usize) -> 
 // Puts bytes into a sector, and returns how many.
 fn put_part(sector: &mut [u8; 512], bytes: &[u8], from: usize, most: usize) -> usize
     requires { from < 512 }
-    ensures bound { result ≤ length bytes.now }
+    ensures bound { (result ≤ length bytes.now) × (result ≤ 512) }
     ensures before { take from sector.new ≡ take from sector.old }
     ensures put { take result (drop from sector.new) ≡ take result bytes.now }
 {
@@ -157,6 +157,7 @@ impl<D: Disk + Drop> PartFile<D> {
         ensures effect { (at from : ℕ) → offset ≡ 512 * at + from → from < 512 → at < (D.view self.old.disk).sectors → (D.view self.old.disk).honest
             → HasWrittenPart (D.view self.old.disk) (D.view self.new.disk) at from bytes.now (moved result) }
         ensures bound { IfOk result (λ n. n ≤ length bytes.now) }
+        ensures small { IfOk (moved result) (λ n. n ≤ 512) }
         ensures sectors { (D.view self.new.disk).sectors ≡ (D.view self.old.disk).sectors }
         ensures kept { (self.new.turns ≡ self.old.turns) × (self.new.failures ≡ self.old.failures) }
     {

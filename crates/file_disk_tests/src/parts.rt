@@ -95,6 +95,9 @@ const ROWS: [Row; 9] = [
     },
 ];
 
+// The first and last sectors of the pieces of 300 sectors
+const ENDS: [u64; 6] = [0, 127, 128, 255, 256, 299];
+
 /// Bytes that differ by their places.
 pub fn pattern() -> [u8; 512] {
     let mut bytes = [0; 512];
@@ -205,4 +208,40 @@ fn is_left(alloc: Global) -> Result<bool, AllocError> {
 fn a_stop_leaves_what_was_synced(rt: HostRuntime) -> Result<(), Fail> {
     assert!(rt; is_left(rt.alloc())?);
     Ok(())
+}
+
+/// Writes bytes that are no zeros to sectors at both ends of each piece.
+fn write_ends<D: Disk>(disk: &mut D) -> Option<()> {
+    for at in ENDS {
+        disk.write(at, &pattern()).ok()?;
+    }
+    Some(())
+}
+
+/// Whether these sectors read as zeros.
+fn are_zeros<D: Disk>(disk: &mut D) -> Option<bool> {
+    let mut all = true;
+    for at in ENDS {
+        let mut bytes = [9; 512];
+        disk.read(at, &mut bytes).ok()?;
+        all = all && bytes == [0; 512];
+    }
+    Some(all)
+}
+
+/// How many calls write zeros into 300 sectors, if all read as zeros.
+fn blank_turns(alloc: Global, most: usize, plan: Plan) -> Option<u64> {
+    let disk = MemoryDisk::new(alloc, 300, 1000).ok()?;
+    let mut disk = FileDisk::over(PartFile::new(disk, 512, Plan::Calm)).ok()?;
+    write_ends(&mut disk)?;
+    let file = PartFile::new(disk.into_file().into_disk(), most, plan);
+    let mut disk = FileDisk::blank(file).ok()?;
+    let blank = are_zeros(&mut disk)?;
+    let turns = disk.into_file().turns().checked_sub(ENDS.len() as u64)?;
+    blank.then_some(turns)
+}
+
+#[test]
+fn zeros_go_into_each_sector_of_a_piece_that_was_written_in_part(rt: HostRuntime) {
+    assert!(rt; blank_turns(rt.alloc(), 512, Plan::Calm) == Some(302));
 }

@@ -1,44 +1,44 @@
-use Rattle.std.proofs.Common.{◌+◌, ◌<◌, ◌∙◌, Ok, arith, refl}
+use Rattle.std.proofs.Common.{◌≡◌, ◌+◌, ◌-◌, ◌*◌, ◌/◌, ◌≤◌, ◌∙◌, Ok, subst, arith}
 use Rattle.sector_disk.specs.Disk.{View}
-use Rattle.sector_disk.proofs.Filled.{fill_none, fill_wider}
-use Rattle.sector_disk.proofs.Made.{no_write_yet, one_made}
-use Rattle.file_disk.specs.Disk.{file_sound, file_view}
-use Rattle.file_disk.proofs.Blank.{one_more, zeros}
+use Rattle.sector_disk.specs.Filling.{HasFilled}
+use Rattle.sector_disk.proofs.Filled.{fill_wider}
+use Rattle.file_disk.proofs.Blank.{zeros, zeros_on}
 use Rattle.file_disk.proofs.zeros.fill_with_zeros.Goals as goal
 
-pub loop-k-init : goal.loop-k-init
-loop-k-init g c =
-    let old : View = file_view g.F.SectorFile.view c.args.disk.now in
-    record {
-      sectors = refl;
-      filled = λ honest. fill_none old c.args.at zeros honest (file_sound g.F.SectorFile.view c.args.disk.now (g.met.F.SectorFile.sound c.args.disk.now.file honest.0) honest.1);
-      calls = no_write_yet old.calls c.args.at zeros;
-      failures = refl;
-    }
-
-pub returns-in_err-write-clause-effect : goal.returns-in_err-write-clause-effect
-returns-in_err-write-clause-effect g c honest =
-    let old : View = file_view g.F.SectorFile.view c.args.disk.now in
-    let mid : View = file_view g.F.SectorFile.view c.loop-k.disk in
-    let new : View = file_view g.F.SectorFile.view c.write.new.self in
-    let was = c.loop-k.invariant.filled honest in
-    let inside : c.args.at + c.loop-k.k < mid.sectors = omega (arith, c.loop-k.invariant.sectors, c.requires.room) in
-    fill_wider old new c.args.at (c.loop-k.k + 1) c.args.count zeros c.write.result c.from_residual.result c.from_residual.ensures.0 (omega arith)
-    (one_more old mid new c.args.at c.loop-k.k c.write.result was (c.write.ensures.effect inside was.honest)
-    (file_sound g.F.SectorFile.view c.loop-k.disk (g.met.F.SectorFile.sound c.loop-k.disk.file was.honest.0) was.honest.1) inside)
+pub returns-in_err-fill_piece-clause-effect : goal.returns-in_err-fill_piece-clause-effect
+returns-in_err-fill_piece-clause-effect g c within honest =
+    let old : View = g.F.SectorFile.view c.args.file.now in
+    let mid : View = g.F.SectorFile.view c.loop-k.file in
+    let new : View = g.F.SectorFile.view c.fill_piece.new.file in
+    let was = c.loop-k.invariant.filled within honest in
+    let room : 128 * c.loop-k.k + 128 ≤ c.args.count = omega (arith, c.loop-k-test.true) in
+    let inside : 128 * c.loop-k.k + 128 ≤ mid.sectors = omega (arith, room, within, c.loop-k.invariant.sectors) in
+    fill_wider old new 0 (128 * c.loop-k.k + 128) c.args.count zeros c.fill_piece.result c.from_residual.result c.from_residual.ensures.0 room
+    (zeros_on old mid new 0 (128 * c.loop-k.k) (128 * c.loop-k.k) 128 c.fill_piece.result (omega arith) was (c.fill_piece.ensures.effect inside was.honest))
 
 pub loop-k-preserved : goal.loop-k-preserved
 loop-k-preserved g c =
-    let old : View = file_view g.F.SectorFile.view c.args.disk.now in
-    let mid : View = file_view g.F.SectorFile.view c.loop-k.disk in
-    let new : View = file_view g.F.SectorFile.view c.write.new.self in
+    let old : View = g.F.SectorFile.view c.args.file.now in
+    let mid : View = g.F.SectorFile.view c.loop-k.file in
+    let new : View = g.F.SectorFile.view c.fill_piece.new.file in
     record {
-      sectors = c.write.ensures.cause.sectors ∙ c.loop-k.invariant.sectors;
-      filled = λ honest.
-          let was = c.loop-k.invariant.filled honest in
-          let inside : c.args.at + c.loop-k.k < mid.sectors = omega (arith, c.loop-k.invariant.sectors, c.requires.room) in
-          one_more old mid new c.args.at c.loop-k.k (Ok tt) was (c.in_ok-write.ensures.effect inside was.honest)
-          (file_sound g.F.SectorFile.view c.loop-k.disk (g.met.F.SectorFile.sound c.loop-k.disk.file was.honest.0) was.honest.1) inside;
-      calls = one_made old.calls mid.calls new.calls c.args.at c.loop-k.k zeros (zeros c.loop-k.k) refl c.loop-k.invariant.calls c.in_ok-write.ensures.called.made;
-      failures = ◌∙◌ {b = mid.failures} c.in_ok-write.ensures.counted c.loop-k.invariant.failures;
+      sectors = c.fill_piece.ensures.sectors ∙ c.loop-k.invariant.sectors;
+      filled = λ within honest.
+          let was = c.loop-k.invariant.filled within honest in
+          let inside : 128 * c.loop-k.k + 128 ≤ mid.sectors = omega (arith, within, c.loop-k-test.true, c.loop-k.invariant.sectors) in
+          let next : 128 * c.loop-k.k + 128 ≡ 128 * (c.loop-k.k + 1) = omega arith in
+          subst (λ n. HasFilled old new 0 n zeros (Ok tt)) next (zeros_on old mid new 0 (128 * c.loop-k.k) (128 * c.loop-k.k) 128 (Ok tt) (omega arith) was (c.in_ok-fill_piece.ensures.effect inside was.honest));
     }
+
+pub returns-clause-effect : goal.returns-clause-effect
+returns-clause-effect g c within honest =
+    let old : View = g.F.SectorFile.view c.args.file.now in
+    let mid : View = g.F.SectorFile.view c.loop-k.file in
+    let new : View = g.F.SectorFile.view c.fill_each.new.file in
+    let pieces = c.args.count / 128 in
+    let last : c.loop-k.k ≡ pieces = omega (arith, c.loop-k-test.false, c.loop-k.auto.k-end) in
+    let was = c.loop-k.invariant.filled within honest in
+    let inside : 128 * pieces + (c.args.count - 128 * pieces) ≤ mid.sectors = omega (arith, within, c.loop-k.invariant.sectors) in
+    let all : 128 * pieces + (c.args.count - 128 * pieces) ≡ c.args.count = omega arith in
+    let before : HasFilled old mid 0 (128 * pieces) zeros (Ok tt) = rw (← last) was in
+    subst (λ n. HasFilled old new 0 n zeros c.fill_each.result) all (zeros_on old mid new 0 (128 * pieces) (128 * pieces) (c.args.count - 128 * pieces) c.fill_each.result (omega arith) before (c.fill_each.ensures.effect inside was.honest))

@@ -1,0 +1,39 @@
+use Rattle.std.proofs.Common.{◌+◌, ◌<◌, ◌∙◌, Ok, arith, refl}
+use Rattle.sector_disk.specs.Disk.{View}
+use Rattle.sector_disk.proofs.Filled.{fill_none, fill_wider}
+use Rattle.file_disk.proofs.Blank.{one_more, zeros}
+use Rattle.file_disk.proofs.zeros.fill_each.Goals as goal
+
+pub loop-k-init : goal.loop-k-init
+loop-k-init g c =
+    let old : View = g.F.SectorFile.view c.args.file.now in
+    record {
+      sectors = refl;
+      filled = λ within honest. fill_none old c.args.at zeros honest (g.met.F.SectorFile.sound c.args.file.now honest);
+    }
+
+pub returns-in_err-write_sector-clause-effect : goal.returns-in_err-write_sector-clause-effect
+returns-in_err-write_sector-clause-effect g c within honest =
+    let old : View = g.F.SectorFile.view c.args.file.now in
+    let mid : View = g.F.SectorFile.view c.loop-k.file in
+    let new : View = g.F.SectorFile.view c.write_sector.new.file in
+    let was = c.loop-k.invariant.filled within honest in
+    let inside : c.args.at + c.loop-k.k < mid.sectors = omega (arith, c.loop-k.invariant.sectors, within) in
+    fill_wider old new c.args.at (c.loop-k.k + 1) c.args.count zeros c.write_sector.result c.from_residual.result c.from_residual.ensures.0 (omega arith)
+    (one_more old mid new c.args.at c.loop-k.k c.write_sector.result was (c.write_sector.ensures.effect inside was.honest) (g.met.F.SectorFile.sound c.loop-k.file was.honest) inside)
+
+pub returns-in_err-write_sector-clause-sectors : goal.returns-in_err-write_sector-clause-sectors
+returns-in_err-write_sector-clause-sectors g c = c.write_sector.ensures.sectors ∙ c.loop-k.invariant.sectors
+
+pub loop-k-preserved : goal.loop-k-preserved
+loop-k-preserved g c =
+    let old : View = g.F.SectorFile.view c.args.file.now in
+    let mid : View = g.F.SectorFile.view c.loop-k.file in
+    let new : View = g.F.SectorFile.view c.write_sector.new.file in
+    record {
+      sectors = c.write_sector.ensures.sectors ∙ c.loop-k.invariant.sectors;
+      filled = λ within honest.
+          let was = c.loop-k.invariant.filled within honest in
+          let inside : c.args.at + c.loop-k.k < mid.sectors = omega (arith, c.loop-k.invariant.sectors, within) in
+          one_more old mid new c.args.at c.loop-k.k (Ok tt) was (c.in_ok-write_sector.ensures.effect inside was.honest) (g.met.F.SectorFile.sound c.loop-k.file was.honest) inside;
+    }

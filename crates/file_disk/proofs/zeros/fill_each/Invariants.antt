@@ -1,0 +1,13 @@
+use Rattle.std.proofs.Common.{◌≡◌, ◌≤◌, ◌+◌, replicate, Ok}
+use Rattle.sector_disk.specs.Disk.{View}
+use Rattle.sector_disk.specs.Filling.{HasFilled}
+use Rattle.file_disk.proofs.zeros.fill_each.Given as goal
+
+abbrev pub invariant-loop-k : goal.invariant-loop-k
+invariant-loop-k g l =
+    let old : View = g.F.SectorFile.view l.initial.file in
+    let now : View = g.F.SectorFile.view l.file in
+    record {
+      sectors : now.sectors ≡ old.sectors;
+      filled : l.at + l.count ≤ old.sectors → old.honest → HasFilled old now l.at l.k (λ k. replicate 512 0) (Ok tt);
+    }
