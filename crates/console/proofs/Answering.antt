@@ -1,32 +1,39 @@
 -- Answers and the room that their texts take.
-use Rattle.std.proofs.Common.{◌≡◌, ℕ, Bool, true, false, List, Result, IfErr, IsErrOf, refl, sym, ap, subst, ◌∙◌, inl, inr}
+use Rattle.std.proofs.Common.{◌≡◌, ◌⊎◌, ℕ, ◌+◌, ◌<◌, ◌≤◌, Bool, true, false, List, Result, Err, IfErr, IsErrOf, refl, sym, ap, subst, ◌∙◌, inl, inr, arith}
 use Rattle.std.proofs.lemmas.Bool.{true≢false}
 use Rattle.centre_core.specs.declared.query.QueryAnswer.{QueryAnswer}
 use Rattle.console.specs.declared.line.Line.{Line}
-use Rattle.console.specs.declared.line.Line.TheVariants.{Silent, Bad, Apply, Ask}
+use Rattle.console.specs.declared.line.Line.TheVariants.{Silent, Bad, Apply, Ask, Print}
 use Rattle.console.specs.declared.answer.Answer.{Answer}
 use Rattle.console.specs.declared.answer.Answer.TheVariants as answer
 use Rattle.console.specs.declared.running.RunFault.{RunFault}
 use Rattle.console.specs.declared.running.RunFault.TheVariants.{Read, Write, NoMemory}
+use Rattle.listings.specs.Parts.{answer_room}
+use Rattle.listings.specs.Texts.{is_line}
+use Rattle.listings.specs.declared.listing.Listing.{Listing}
+use Rattle.desk.specs.declared.outage.Outage.{Outage}
 use Rattle.desk.specs.declared.outage.Outage.TheVariants.{Memory}
-use Rattle.console.specs.Answer.{is_list, is_list_answer, IsOneLine, IsLine, HasNoLongPdu}
+use Rattle.desk.specs.Listed.{IsUnlisted}
+use Rattle.console.specs.Answer.{is_list, is_list_answer, IsOneLine, IsLine}
 use Rattle.console.specs.Reading.{reading}
 use Rattle.console.specs.Inside.Current.{IsGivenFor}
+use Rattle.console.specs.Inside.Given.{IsPrintable}
 use Rattle.desk.specs.Rules.{Rules}
-use Rattle.console.specs.Dialogue.{AnswersReading, Answers}
+use Rattle.console.specs.Dialogue.{AnswersReading, Answers, LacksLines}
 
 -- the answer to a query is one line, or a list
 line_or_list : {B : Type 0} (b : Bool) (t : QueryAnswer B) → is_list t ≡ b → (IsOneLine t → ⊥) → is_list t ≡ true
 line_or_list true t is long = is
 line_or_list false t is long = absurd (long is)
 
--- an answer without a long PDU that is no line is a list
-pub only_lists_are_long : {B : Type 0} (a : Answer B) → HasNoLongPdu a → (IsLine a → ⊥) → is_list_answer a ≡ true
+-- an answer that can be printed and is no line is a list
+pub only_lists_are_long : {B : Type 0} (a : Answer B) → IsPrintable a → (IsLine a → ⊥) → is_list_answer a ≡ true
 only_lists_are_long answer.Quiet short long = absurd (long tt)
 only_lists_are_long (answer.Bad line fault) short long = absurd (long tt)
 only_lists_are_long (answer.Replied sequence reply) short long = absurd (long short)
 only_lists_are_long (answer.CommandOutage sequence word) short long = absurd (long tt)
 only_lists_are_long (answer.Queried query_answer) short long = line_or_list (is_list query_answer) query_answer refl long
+only_lists_are_long (answer.Listed lines) short long = absurd short
 only_lists_are_long (answer.QueryOutage line word) short long = absurd (long tt)
 
 module _ {A W : Type 0} where
@@ -38,6 +45,7 @@ module _ {A W : Type 0} where
   query_outage rules n s t (Apply c) answer.Quiet list given = absurd given
   query_outage rules n s t (Apply c) (answer.Bad number fault) list given = absurd given
   query_outage rules n s t (Apply c) (answer.Queried query_answer) list given = absurd given
+  query_outage rules n s t (Apply c) (answer.Listed lines) list given = absurd given
   query_outage rules n s t (Apply c) (answer.QueryOutage number word) list given = absurd given
   query_outage rules n s t (Ask q) (answer.Queried query_answer) list given = (refl, inr (refl, (query_answer, list, given)))
   query_outage rules n s t (Ask q) (answer.QueryOutage number word) list given = absurd (true≢false (sym list))
@@ -45,6 +53,14 @@ module _ {A W : Type 0} where
   query_outage rules n s t (Ask q) (answer.Bad number fault) list given = absurd given
   query_outage rules n s t (Ask q) (answer.Replied sequence reply) list given = absurd given
   query_outage rules n s t (Ask q) (answer.CommandOutage sequence word) list given = absurd given
+  query_outage rules n s t (Ask q) (answer.Listed lines) list given = absurd given
+  query_outage rules n s t (Print l) (answer.Listed lines) list given = absurd (true≢false (sym list))
+  query_outage rules n s t (Print l) (answer.QueryOutage number word) list given = absurd (true≢false (sym list))
+  query_outage rules n s t (Print l) answer.Quiet list given = absurd given
+  query_outage rules n s t (Print l) (answer.Bad number fault) list given = absurd given
+  query_outage rules n s t (Print l) (answer.Replied sequence reply) list given = absurd given
+  query_outage rules n s t (Print l) (answer.CommandOutage sequence word) list given = absurd given
+  query_outage rules n s t (Print l) (answer.Queried query_answer) list given = absurd given
 
   -- what is given in place of an answer is an answer
   pub is_given_for : (rules : Rules A W) (station n : ℕ) (s t : W) (line : List ℕ) (a given : Answer A) → IsGivenFor n a given → Answers rules station n s line a t → Answers rules station n s line given t
@@ -52,6 +68,18 @@ module _ {A W : Type 0} where
     | inl same ↦ subst (λ (b : Answer A). Answers rules station n s line b t) (sym same) answers
     | inr list ↦ subst (λ (b : Answer A). Answers rules station n s line b t) (sym list.1) (query_outage rules n s t (reading station line) a list.0 answers)
   ]
+
+-- what has room for one line, and not for this listing, has no room for a list
+no_line : (b : Bool) (l : Listing) (size capacity : ℕ) → size ≡ 0 → answer_room ≤ capacity → is_line l ≡ b → (is_line l ≡ true → capacity < size + answer_room) → is_line l ≡ false
+no_line true l size capacity empty room is lacks = absurd (let few = lacks is in omega (arith, empty, room, few))
+no_line false l size capacity empty room is lacks = is
+
+pub lacks_lines : {A W : Type 0} (rules : Rules A W) (s t : W) (l : Listing) (size capacity : ℕ) (word : Outage) → size ≡ 0 → answer_room ≤ capacity →
+    IsUnlisted rules s l size capacity word t → rules.reads s (Err word) t ⊎ LacksLines rules s l word t
+lacks_lines rules s t l size capacity word empty room why = elim why [
+  | inl says ↦ inl says
+  | inr lacks ↦ inr (lacks.0, no_line (is_line l) l size capacity empty room refl lacks.1.2.1, (lacks.1.0, lacks.1.1))
+]
 
 -- a run stops for the writer alone while it answers
 pub only_write : {T : Type 0} (r : Result T RunFault) (e : RunFault) → IfErr r (λ f. f ≡ Write) → IsErrOf r e → e ≡ Write

@@ -1,5 +1,5 @@
 -- How far a run has come, a byte at a time.
-use Rattle.std.proofs.Common.{◌≡◌, ℕ, ◌+◌, ◌<◌, false, List, [], ◌∷◌, ◌++◌, ◌||◌, length, refl, sym, ◌∙◌, ap, subst, arith, append_assoc, Result, Option, Some, Ok, Err}
+use Rattle.std.proofs.Common.{◌≡◌, ℕ, ◌+◌, ◌<◌, Bool, false, List, [], ◌∷◌, ◌++◌, ◌||◌, length, refl, sym, ◌∙◌, ap, subst, arith, append_assoc, Result, Option, Some, Ok, Err}
 use Rattle.std.proofs.lemmas.List.{append-nil, length_push}
 use Rattle.std.proofs.lemmas.List.Elements.{All-nil}
 use Rattle.std.specs.Prelude.{All, ◌==◌}
@@ -13,15 +13,29 @@ use Rattle.desk.specs.Rules.{Rules}
 use Rattle.console.specs.Dialogue.{Answers, Dialogue}
 use Rattle.console.specs.Runs.{Start, HasRun}
 use Rattle.console.specs.Inside.Feed.{Reached, IsGoing, IsCounted, IsSameRun, outcome_at, Sends, SendsPrefix}
-use Rattle.console.specs.Inside.Current.{HasNoEnd, Holds}
+use Rattle.console.specs.Inside.Current.{HasNoEnd, Holds, IsGivenFor}
+use Rattle.console.specs.Inside.Given.{IsTextFor}
 use Rattle.console.proofs.Answering.{is_given_for}
-use Rattle.console.proofs.Lines.{is_feed, line_ended, lines_last}
+use Rattle.console.proofs.Splits.{is_feed, line_ended, lines_last}
 use Rattle.console.proofs.Talk.{texts_more, trouble_more, dialogue_more}
 
 -- the lines of a text that doesn't end in a line feed
 pub last_split : (taken line : List ℕ) (done : List (List ℕ)) → 0 < length line → All (λ b. is_feed b ≡ false) line → lines (taken ++ []) ≡ done ++ lines (line ++ []) → lines taken ≡ done ++ line ∷ []
 last_split taken [] done some none split = absurd (omega (arith, some))
 last_split taken (b ∷ line) done some none split = ap lines (sym (append-nil taken)) ∙ split ∙ ap (λ l. done ++ lines l) (append-nil (b ∷ line)) ∙ ap (λ ls. done ++ ls) (lines_last b line none)
+
+-- the text that is held for an answer is written
+pub all_sent : {A : Type 0} (n : ℕ) (a : Answer A) (bytes sent before : List ℕ) (was troubled : Bool) (now : Option (List ℕ)) →
+    IsTextFor n a bytes troubled → sent ≡ bytes → now ≡ Some (before ++ sent) →
+    (given : Answer A) × IsGivenFor n a given × (now ≡ Some (before ++ text given)) × ((was || troubled) ≡ (was || is_trouble given))
+all_sent n a bytes sent before was troubled now held same written =
+    (held.0, held.1, written ∙ ap (λ ts. Some (before ++ ts)) (same ∙ held.2), ap (λ b. was || b) held.3)
+
+-- only a prefix of it is written
+pub part_sent : {A : Type 0} (n : ℕ) (a : Answer A) (bytes sent before : List ℕ) (troubled : Bool) (now : Option (List ℕ)) →
+    IsTextFor n a bytes troubled → sent ≡ bytes → ((part : List ℕ) × (missing : List ℕ) × (sent ≡ part ++ missing) × (now ≡ Some (before ++ part))) →
+    (given : Answer A) × (part : List ℕ) × (missing : List ℕ) × IsGivenFor n a given × (text given ≡ part ++ missing) × (now ≡ Some (before ++ part))
+part_sent n a bytes sent before troubled now held same written = (held.0, written.0, written.1, held.1, sym (same ∙ held.2) ∙ written.2, written.3)
 
 module _ {A W : Type 0} (rules : Rules A W) (start : Start W) (before : List ℕ) where
   -- at the start nothing was taken

@@ -13,15 +13,18 @@ use Rattle.centre_core.specs.declared.command.Body.{Body}
 use Rattle.centre_core.specs.declared.command.Body.TheVariants.{RuleClear, Sent, Expire, Delete}
 use Rattle.centre_core.specs.declared.query.Query.{Query}
 use Rattle.centre_core.specs.declared.query.Query.TheVariants.{Whereabouts, Look, GroupsOf, MembersOf, Waiting, Total}
+use Rattle.listings.specs.declared.listing.Listing.{Listing}
+use Rattle.listings.specs.declared.listing.Listing.TheVariants.{Entries, Last, Room}
+use Rattle.listings.specs.declared.listing.Table.TheVariants.{Rules, Radios, Items}
 use Rattle.console.specs.declared.body.Head.{Head}
 use Rattle.console.specs.declared.line.LineFault.{LineFault}
 use Rattle.console.specs.declared.line.LineFault.TheVariants.{Syntax, Value, TooLong}
 use Rattle.console.specs.declared.line.Line.{Line}
-use Rattle.console.specs.declared.line.Line.TheVariants.{Silent, Bad, Apply, Ask}
-use Rattle.console.specs.Reading.{words, of_words, is_silent, longest_line, reading, head_in, area_in, rule_in, key_in, rule_body, mm_body, sds_body, group_sds_body, body_in, command_line, saying, query_in, ask}
-use Rattle.console.specs.Spelling.{has_form, SpellsSome, BadLines}
-use Rattle.console.proofs.Spelled.{only_commands, only_queries}
-use Rattle.console.proofs.Taken.{all_commands, all_queries}
+use Rattle.console.specs.declared.line.Line.TheVariants.{Silent, Bad, Apply, Ask, Print}
+use Rattle.console.specs.Reading.{words, of_words, is_silent, longest_line, reading, head_in, area_in, rule_in, key_in, rule_body, mm_body, sds_body, group_sds_body, body_in, command_line, saying, query_in, ask, prefix_in, seconds_in, station_in, radios_under, due_at, listing_or, print, of_word, of_two}
+use Rattle.console.specs.Spelling.{has_form, is_one_of, SpellsSome, BadLines}
+use Rattle.console.proofs.Spelled.{only_commands, only_queries, only_listings}
+use Rattle.console.proofs.Taken.{all_commands, all_queries, all_listings}
 
 -- what the words of a form give: a value, or that one of them is out of form or range
 abbrev IsFormed : {T : Type 0} → Result T LineFault → Type 0
@@ -48,7 +51,11 @@ last_formed b x good e = formed_if b false x (Err Syntax) good (λ f. absurd (fa
 last_formless : {T : Type 0} (b : Bool) (x : Result T LineFault) → (b || false) ≡ false → (if b then x else Err Syntax) ≡ Err Syntax
 last_formless b x e = formless_if b false x (Err Syntax) (λ f. refl) e
 
-query_formed : (name identity : List ℕ) → has_form (name ∷ identity ∷ []) ≡ true → IsFormed (query_in name identity)
+-- the words that name a query about an identity
+abbrev query_names : List (List ℕ)
+query_names = codes "where" ∷ codes "look" ∷ codes "groups" ∷ codes "members" ∷ codes "mail" ∷ []
+
+query_formed : (name identity : List ℕ) → is_one_of query_names name ≡ true → IsFormed (query_in name identity)
 query_formed name identity e =
     let o = result_ok (reading_identity identity) in
     formed_if (bytes_eq name (codes "where")) _ (saying Whereabouts o) _ (formed_saying Whereabouts o)
@@ -57,7 +64,7 @@ query_formed name identity e =
     (formed_if (bytes_eq name (codes "members")) _ (saying MembersOf o) _ (formed_saying MembersOf o)
     (last_formed (bytes_eq name (codes "mail")) (saying Waiting o) (formed_saying Waiting o))))) e
 
-query_formless : (name identity : List ℕ) → has_form (name ∷ identity ∷ []) ≡ false → query_in name identity ≡ Err Syntax
+query_formless : (name identity : List ℕ) → is_one_of query_names name ≡ false → query_in name identity ≡ Err Syntax
 query_formless name identity e =
     let o = result_ok (reading_identity identity) in
     formless_if (bytes_eq name (codes "where")) _ (saying Whereabouts o) _
@@ -129,8 +136,9 @@ module _ (A : Type 0) where
   kind_of (Bad Value) = 3
   kind_of (Apply c) = 4
   kind_of (Ask q) = 5
+  kind_of (Print l) = 6
 
-  -- words of a form are a command, a query, or a bad value
+  -- words of a form are a command, a query, a listing, or a bad value
   abbrev IsValued : Line A → Type 0
   IsValued l = 3 ≤ kind_of l
 
@@ -140,6 +148,12 @@ module _ (A : Type 0) where
   valued_ask (Err Syntax) good = absurd good
   valued_ask (Err TooLong) good = absurd good
 
+  valued_print : (r : Result Listing LineFault) → IsFormed r → IsValued (print r)
+  valued_print (Ok l) good = omega arith
+  valued_print (Err Value) good = omega arith
+  valued_print (Err Syntax) good = absurd good
+  valued_print (Err TooLong) good = absurd good
+
   valued_command : (station : ℕ) (head : Option Head) (r : Result (Body A) LineFault) → IsFormed r → IsValued (command_line station head r)
   valued_command station None (Ok b) good = omega arith
   valued_command station (Some head) (Ok b) good = omega arith
@@ -147,24 +161,68 @@ module _ (A : Type 0) where
   valued_command station head (Err Syntax) good = absurd good
   valued_command station head (Err TooLong) good = absurd good
 
-  count_valued : (b : Bool) → (b || false) ≡ true → IsValued (if b then (let l : Line A = Ask Total in l) else Bad Syntax)
-  count_valued true e = omega arith
-  count_valued false e = absurd (false≢true e)
+  -- a line under its name, or one of the rest
+  valued_if : (b c : Bool) (x y : Line A) → IsValued x → (c ≡ true → IsValued y) → (b || c) ≡ true → IsValued (if b then x else y)
+  valued_if true c x y good rest e = good
+  valued_if false c x y good rest e = rest e
 
-  count_formless : (b : Bool) → (b || false) ≡ false → (if b then (let l : Line A = Ask Total in l) else Bad Syntax) ≡ Bad Syntax
-  count_formless true e = absurd (true≢false e)
-  count_formless false e = refl
+  unformed_if : (b c : Bool) (x y : Line A) → (c ≡ false → y ≡ Bad Syntax) → (b || c) ≡ false → (if b then x else y) ≡ Bad Syntax
+  unformed_if true c x y rest e = absurd (true≢false e)
+  unformed_if false c x y rest e = rest e
+
+  word_valued : (name : List ℕ) → has_form (name ∷ []) ≡ true → IsValued (of_word name)
+  word_valued name e =
+      valued_if (bytes_eq name (codes "count")) _ (Ask Total) _ (omega arith)
+      (valued_if (bytes_eq name (codes "rules")) _ (Print (Entries Rules)) _ (omega arith)
+      (valued_if (bytes_eq name (codes "radios")) _ (Print (Entries (Radios None))) _ (omega arith)
+      (valued_if (bytes_eq name (codes "items")) _ (Print (Entries Items)) _ (omega arith)
+      (valued_if (bytes_eq name (codes "room")) false (Print Room) (Bad Syntax) (omega arith) (λ f. absurd (false≢true f)))))) e
+
+  word_formless : (name : List ℕ) → has_form (name ∷ []) ≡ false → of_word {A = A} name ≡ Bad Syntax
+  word_formless name e =
+      unformed_if (bytes_eq name (codes "count")) _ (Ask Total) _
+      (unformed_if (bytes_eq name (codes "rules")) _ (Print (Entries Rules)) _
+      (unformed_if (bytes_eq name (codes "radios")) _ (Print (Entries (Radios None))) _
+      (unformed_if (bytes_eq name (codes "items")) _ (Print (Entries Items)) _
+      (unformed_if (bytes_eq name (codes "room")) false (Print Room) (Bad Syntax) (λ f. refl))))) e
+
+  -- a listing under its name, or one of the rest
+  listing_valued : (b c : Bool) (x : Result Listing LineFault) (rest : Option (Result Listing LineFault)) (r : Result Query LineFault) →
+      IsFormed x → (c ≡ true → IsValued (listing_or rest r)) → (b || c) ≡ true → IsValued (listing_or (if b then Some x else rest) r)
+  listing_valued true c x rest r good more e = valued_print x good
+  listing_valued false c x rest r good more e = more e
+
+  listing_formless : (b c : Bool) (x : Result Listing LineFault) (rest : Option (Result Listing LineFault)) (r : Result Query LineFault) →
+      (c ≡ false → listing_or {A = A} rest r ≡ Bad Syntax) → (b || c) ≡ false → listing_or {A = A} (if b then Some x else rest) r ≡ Bad Syntax
+  listing_formless true c x rest r more e = absurd (true≢false e)
+  listing_formless false c x rest r more e = more e
+
+  two_valued : (name word : List ℕ) → has_form (name ∷ word ∷ []) ≡ true → IsValued (of_two name word)
+  two_valued name word e =
+      let query = query_in name word in
+      listing_valued (bytes_eq name (codes "radios")) _ (saying radios_under (prefix_in word)) _ query (formed_saying radios_under (prefix_in word))
+      (listing_valued (bytes_eq name (codes "due")) _ (saying due_at (seconds_in word)) _ query (formed_saying due_at (seconds_in word))
+      (listing_valued (bytes_eq name (codes "last")) (is_one_of query_names name) (saying Last (station_in word)) None query (formed_saying Last (station_in word))
+      (λ f. valued_ask query (query_formed name word f)))) e
+
+  two_formless : (name word : List ℕ) → has_form (name ∷ word ∷ []) ≡ false → of_two {A = A} name word ≡ Bad Syntax
+  two_formless name word e =
+      let query = query_in name word in
+      listing_formless (bytes_eq name (codes "radios")) _ (saying radios_under (prefix_in word)) _ query
+      (listing_formless (bytes_eq name (codes "due")) _ (saying due_at (seconds_in word)) _ query
+      (listing_formless (bytes_eq name (codes "last")) (is_one_of query_names name) (saying Last (station_in word)) None query
+      (λ f. ap (λ r. ask {A = A} r) (query_formless name word f)))) e
 
   valued : (station : ℕ) (ws : List (List ℕ)) → has_form ws ≡ true → IsValued (of_words station ws)
   valued station [] e = absurd (false≢true e)
-  valued station (name ∷ []) e = count_valued (bytes_eq name (codes "count")) e
-  valued station (name ∷ identity ∷ []) e = valued_ask (query_in name identity) (query_formed name identity e)
+  valued station (name ∷ []) e = word_valued name e
+  valued station (name ∷ word ∷ []) e = two_valued name word e
   valued station (s ∷ m ∷ name ∷ more) e = valued_command station (head_in s m) (body_in name more) (body_formed s m name more e)
 
   formless : (station : ℕ) (ws : List (List ℕ)) → has_form ws ≡ false → of_words {A = A} station ws ≡ Bad Syntax
   formless station [] e = refl
-  formless station (name ∷ []) e = count_formless (bytes_eq name (codes "count")) e
-  formless station (name ∷ identity ∷ []) e = ap (λ r. ask {A = A} r) (query_formless name identity e)
+  formless station (name ∷ []) e = word_formless name e
+  formless station (name ∷ word ∷ []) e = two_formless name word e
   formless station (s ∷ m ∷ name ∷ more) e = ap (λ r. command_line station (head_in s m) r) (body_formless s m name more e)
 
   -- ---- lines
@@ -209,22 +267,28 @@ module _ (A : Type 0) where
   judged_of : (long silent : Bool) (l : Line A) → long ≡ false → silent ≡ false → judging long silent l ≡ l
   judged_of long silent l short speaks = rw (short, speaks) refl
 
-  value_left : (l : Line A) → IsValued l → ((c : Command A) → l ≡ Apply c → ⊥) → ((q : Query) → l ≡ Ask q → ⊥) → l ≡ Bad Value
-  value_left Silent good no_command no_ask = absurd (omega (arith, good))
-  value_left (Bad TooLong) good no_command no_ask = absurd (omega (arith, good))
-  value_left (Bad Syntax) good no_command no_ask = absurd (omega (arith, good))
-  value_left (Bad Value) good no_command no_ask = refl
-  value_left (Apply c) good no_command no_ask = absurd (no_command c refl)
-  value_left (Ask q) good no_command no_ask = absurd (no_ask q refl)
+  value_left : (l : Line A) → IsValued l → ((c : Command A) → l ≡ Apply c → ⊥) → ((q : Query) → l ≡ Ask q → ⊥) → ((k : Listing) → l ≡ Print k → ⊥) → l ≡ Bad Value
+  value_left Silent good no_command no_ask no_print = absurd (omega (arith, good))
+  value_left (Bad TooLong) good no_command no_ask no_print = absurd (omega (arith, good))
+  value_left (Bad Syntax) good no_command no_ask no_print = absurd (omega (arith, good))
+  value_left (Bad Value) good no_command no_ask no_print = refl
+  value_left (Apply c) good no_command no_ask no_print = absurd (no_command c refl)
+  value_left (Ask q) good no_command no_ask no_print = absurd (no_ask q refl)
+  value_left (Print k) good no_command no_ask no_print = absurd (no_print k refl)
 
-  -- what spells a command or a query is no bad line
+  -- what spells a command, a query or a listing is no bad line
   spelt_is_taken : (station : ℕ) (line : List ℕ) → length line ≤ longest_line → SpellsSome A station line → reading {A = A} station line ≡ Bad Value → ⊥
   spelt_is_taken station line short spelt e = elim spelt [
     | inl command ↦ (let c = command.0 in let taken = subst (λ (n : ℕ). reading {A = A} n line ≡ Apply c) command.1 (all_commands line c command.2 command.3 short) in
         omega (arith, same_kind (Apply c) (Bad Value) (sym taken ∙ e)))
-    | inr query ↦ (let q = query.0 in let same = query.2 in
-        let taken = subst (λ (text : List ℕ). reading {A = A} station text ≡ Ask q) (sym same) (all_queries {A = A} station q query.1 (subst (λ (text : List ℕ). length text ≤ longest_line) same short)) in
-        omega (arith, same_kind (Ask q) (Bad Value) (sym taken ∙ e)))
+    | inr others ↦ elim others [
+      | inl query ↦ (let q = query.0 in let same = query.2 in
+          let taken = subst (λ (text : List ℕ). reading {A = A} station text ≡ Ask q) (sym same) (all_queries {A = A} station q query.1 (subst (λ (text : List ℕ). length text ≤ longest_line) same short)) in
+          omega (arith, same_kind (Ask q) (Bad Value) (sym taken ∙ e)))
+      | inr listing ↦ (let l = listing.0 in
+          let taken = subst (λ (text : List ℕ). reading {A = A} station text ≡ Print l) (sym listing.2) (all_listings {A = A} station l listing.1) in
+          omega (arith, same_kind (Print l) (Bad Value) (sym taken ∙ e)))
+    ]
   ]
 
   pub bad_lines : BadLines A
@@ -240,6 +304,7 @@ module _ (A : Type 0) where
           λ e. (let f = value_only long silent form l none e in let short = short_flag (length line) f.0 in ((short, f.1), f.2, λ spelt. spelt_is_taken station line short spelt e)),
           λ f. (let all = judged_of long silent l (is_short (length line) f.0.0) f.0.1 in all ∙ value_left l (some f.1)
               (λ c e. (let only = only_commands station line c (all ∙ e) in f.2 (inl (c, only.of_station, only.in_range, only.spelt))))
-              (λ q e. (let only = only_queries station line q (all ∙ e) in f.2 (inr (q, only.in_range, only.spelt))))),
+              (λ q e. (let only = only_queries station line q (all ∙ e) in f.2 (inr (inl (q, only.in_range, only.spelt)))))
+              (λ k e. (let only = only_listings station line k (all ∙ e) in f.2 (inr (inr (k, only.in_range, only.spelt)))))),
         );
       }

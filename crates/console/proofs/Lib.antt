@@ -1,10 +1,9 @@
-pub mod Lines
+pub mod Splits
 pub mod Forms
 pub mod Writing
 pub mod Talk
 pub mod Going
 pub mod Wholes
-pub mod Listed
 pub mod Answering
 pub mod Spelled
 pub mod Taken

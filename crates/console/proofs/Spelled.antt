@@ -1,4 +1,4 @@
--- What is taken for a command or a query spells it.
+-- What is taken for a command, a query or a listing spells it.
 use Rattle.std.proofs.Common.{◌≡◌, ℕ, zero, suc, ◌<◌, ◌≤◌, ◌^◌, Bool, true, false, List, [], ◌∷◌, length, refl, sym, ◌∙◌, ap, subst, arith, Option, Some, None, Result, Ok, Err, nat_lt, nat_le}
 use Rattle.std.specs.Prelude.{if◌then◌else◌, codes, decimal}
 use Rattle.std.specs.Option.{option_and_then}
@@ -25,16 +25,19 @@ use Rattle.centre_core.specs.declared.command.Body.{Body}
 use Rattle.centre_core.specs.declared.command.Body.TheVariants.{RuleSet, RuleClear, Mm, Sds, GroupSds, Sent, Expire, Delete}
 use Rattle.centre_core.specs.declared.query.Query.{Query}
 use Rattle.centre_core.specs.declared.query.Query.TheVariants.{Whereabouts, Look, GroupsOf, MembersOf, Waiting, Total}
+use Rattle.listings.specs.declared.listing.Listing.{Listing}
+use Rattle.listings.specs.declared.listing.Listing.TheVariants.{Entries, Last, Room}
+use Rattle.listings.specs.declared.listing.Table.TheVariants.{Rules, Radios, Items}
 use Rattle.console.specs.declared.body.Head.{Head}
 use Rattle.console.specs.declared.line.LineFault.{LineFault}
 use Rattle.console.specs.declared.line.LineFault.TheVariants.{Syntax, Value, TooLong}
 use Rattle.console.specs.declared.line.Line.{Line}
-use Rattle.console.specs.declared.line.Line.TheVariants.{Silent, Bad, Apply, Ask}
-use Rattle.console.specs.Reading.{words, of_words, is_silent, longest_line, seconds_in, not_zero, sequence_in, head_of, head_in, area_in, lifetime_in, rule_of, rule_in, reference_in, kind_in, key_of, key_in, rule_body, mm_body, sds_body, group_sds_body, body_in, command_line, saying, query_in, ask}
+use Rattle.console.specs.declared.line.Line.TheVariants.{Silent, Bad, Apply, Ask, Print}
+use Rattle.console.specs.Reading.{words, of_words, is_silent, longest_line, seconds_in, not_zero, sequence_in, head_of, head_in, area_in, lifetime_in, rule_of, rule_in, reference_in, kind_in, key_of, key_in, rule_body, mm_body, sds_body, group_sds_body, body_in, command_line, saying, query_in, ask, prefix_in, station_in, radios_under, due_at, listing_in, listing_or, print, of_word}
 use Rattle.mailbox.specs.Values.{KeyInRange}
 use Rattle.centre_core.specs.Ranges.{BodyInRange, InRange}
-use Rattle.console.specs.Words.{kind_word}
-use Rattle.console.specs.Spelling.{spaced, key_words, SpellsBody, query_text, Askable, OnlyCommands, OnlyQueries}
+use Rattle.listings.specs.Words.{kind_word}
+use Rattle.console.specs.Spelling.{spaced, key_words, SpellsBody, query_text, Askable, listing_line, Listable, OnlyCommands, OnlyQueries, OnlyListings}
 
 -- ---- one word
 
@@ -129,6 +132,52 @@ query_spelled name identity q e =
     (or_else (bytes_eq name (codes "groups")) (saying GroupsOf o) _ q groups
     (or_else (bytes_eq name (codes "members")) (saying MembersOf o) _ q members
     (or_else (bytes_eq name (codes "mail")) (saying Waiting o) (Err Syntax) q mail (λ none. absurd (err_ok Syntax q none)))))) e
+
+-- ---- listings
+
+-- a listing in range, in words
+abbrev Lists : Listing → List (List ℕ) → Type 0
+Lists l ws = Listable l × (spaced ws ≡ listing_line l)
+
+-- a listing that is named, or one of the rest
+listing_else : {P : Type 0} (b : Bool) (x : Result Listing LineFault) (rest : Option (Result Listing LineFault)) (l : Listing) →
+    (b ≡ true → x ≡ Ok l → P) → (rest ≡ Some (Ok l) → P) → (if b then Some x else rest) ≡ Some (Ok l) → P
+listing_else true x rest l first second e = first refl (some_same x (Ok l) e)
+listing_else false x rest l first second e = second e
+
+no_listing : (l : Listing) (e : (let o : Option (Result Listing LineFault) = None in o) ≡ Some (Ok l)) → ⊥
+no_listing l e = none_some (Ok l) e
+
+part_spelled : (keyword name word : List ℕ) (l m : Listing) (text : List ℕ) → Listable m → spaced (keyword ∷ text ∷ []) ≡ listing_line m →
+    word ≡ text → m ≡ l → bytes_eq name keyword ≡ true → Lists l (name ∷ word ∷ [])
+part_spelled keyword name word l m text range spelt same is_l is =
+    subst (λ (k : Listing). Lists k (name ∷ word ∷ [])) is_l
+    (range, ap (λ w. spaced (w ∷ word ∷ [])) (named name keyword is) ∙ ap (λ w. spaced (keyword ∷ w ∷ [])) same ∙ spelt)
+
+radios_spelled : (name word : List ℕ) (l : Listing) → bytes_eq name (codes "radios") ≡ true → saying radios_under (prefix_in word) ≡ Ok l → Lists l (name ∷ word ∷ [])
+radios_spelled name word l is e =
+    let f = saying_only radios_under (prefix_in word) l e in
+    let read = reading_prefix_only f.0 word (ok_of (reading_prefix word) f.0 f.1) in
+    part_spelled (codes "radios") name word l (radios_under f.0) (prefix_text f.0) read.0 refl read.1 f.2 is
+
+due_spelled : (name word : List ℕ) (l : Listing) → bytes_eq name (codes "due") ≡ true → saying due_at (seconds_in word) ≡ Ok l → Lists l (name ∷ word ∷ [])
+due_spelled name word l is e =
+    let f = saying_only due_at (seconds_in word) l e in
+    let read = number_only 4294967295 f.0 word (omega arith) f.1 in
+    part_spelled (codes "due") name word l (due_at f.0) (decimal f.0) (omega (arith, read.0)) refl read.1 f.2 is
+
+last_spelled : (name word : List ℕ) (l : Listing) → bytes_eq name (codes "last") ≡ true → saying Last (station_in word) ≡ Ok l → Lists l (name ∷ word ∷ [])
+last_spelled name word l is e =
+    let f = saying_only Last (station_in word) l e in
+    let read = number_only 65535 f.0 word (omega arith) f.1 in
+    part_spelled (codes "last") name word l (Last f.0) (decimal f.0) (omega (arith, read.0)) refl read.1 f.2 is
+
+listing_spelled : (name word : List ℕ) (l : Listing) → listing_in name word ≡ Some (Ok l) → Lists l (name ∷ word ∷ [])
+listing_spelled name word l e =
+    listing_else (bytes_eq name (codes "radios")) (saying radios_under (prefix_in word)) _ l (radios_spelled name word l)
+    (listing_else (bytes_eq name (codes "due")) (saying due_at (seconds_in word)) _ l (due_spelled name word l)
+    (listing_else (bytes_eq name (codes "last")) (saying Last (station_in word)) None l (last_spelled name word l)
+    (λ none. absurd (no_listing l none)))) e
 
 -- ---- commands
 
@@ -298,12 +347,15 @@ module _ {A : Type 0} where
 
   -- ---- lines
 
-  -- what is no command, and what is no query
+  -- what is no command, what is no query, and what is no listing
   bad_command : (f : LineFault) (c : Command A) (e : (let l : Line A = Bad f in l) ≡ Apply c) → ⊥
   bad_command f c e = cc
 
   ask_command : (q : Query) (c : Command A) (e : (let l : Line A = Ask q in l) ≡ Apply c) → ⊥
   ask_command q c e = cc
+
+  print_command : (l : Listing) (c : Command A) (e : (let line : Line A = Print l in line) ≡ Apply c) → ⊥
+  print_command l c e = cc
 
   silent_command : (c : Command A) (e : (let l : Line A = Silent in l) ≡ Apply c) → ⊥
   silent_command c e = cc
@@ -323,21 +375,94 @@ module _ {A : Type 0} where
   ask_same : (p q : Query) (e : (let l : Line A = Ask p in l) ≡ Ask q) → p ≡ q
   ask_same p q e = cc
 
-  count_no_command : (b : Bool) (c : Command A) (e : (if b then (let l : Line A = Ask Total in l) else Bad Syntax) ≡ Apply c) → ⊥
-  count_no_command true c e = ask_command Total c e
-  count_no_command false c e = bad_command Syntax c e
+  print_ask : (l : Listing) (q : Query) (e : (let line : Line A = Print l in line) ≡ Ask q) → ⊥
+  print_ask l q e = cc
 
-  count_only : (b : Bool) (q : Query) (e : (if b then (let l : Line A = Ask Total in l) else Bad Syntax) ≡ Ask q) → (b ≡ true) × (Total ≡ q)
-  count_only true q e = (refl, ask_same Total q e)
-  count_only false q e = absurd (bad_ask Syntax q e)
+  bad_print : (f : LineFault) (l : Listing) (e : (let line : Line A = Bad f in line) ≡ Print l) → ⊥
+  bad_print f l e = cc
+
+  ask_print : (q : Query) (l : Listing) (e : (let line : Line A = Ask q in line) ≡ Print l) → ⊥
+  ask_print q l e = cc
+
+  command_print : (c : Command A) (l : Listing) (e : (let line : Line A = Apply c in line) ≡ Print l) → ⊥
+  command_print c l e = cc
+
+  silent_print : (l : Listing) (e : (let line : Line A = Silent in line) ≡ Print l) → ⊥
+  silent_print l e = cc
+
+  print_same : (k l : Listing) (e : (let line : Line A = Print k in line) ≡ Print l) → k ≡ l
+  print_same k l e = cc
+
+  -- one of two lines, each of which gives the same
+  line_else : {P : Type 0} (b : Bool) (x y l : Line A) → (b ≡ true → x ≡ l → P) → (y ≡ l → P) → (if b then x else y) ≡ l → P
+  line_else true x y l first second e = first refl e
+  line_else false x y l first second e = second e
 
   ask_no_command : (r : Result Query LineFault) (c : Command A) (e : ask {A = A} r ≡ Apply c) → ⊥
   ask_no_command (Ok q) c e = ask_command q c e
   ask_no_command (Err f) c e = bad_command f c e
 
+  print_no_command : (r : Result Listing LineFault) (c : Command A) (e : print {A = A} r ≡ Apply c) → ⊥
+  print_no_command (Ok l) c e = print_command l c e
+  print_no_command (Err f) c e = bad_command f c e
+
+  two_no_command : (o : Option (Result Listing LineFault)) (r : Result Query LineFault) (c : Command A) (e : listing_or {A = A} o r ≡ Apply c) → ⊥
+  two_no_command (Some listing) r c e = print_no_command listing c e
+  two_no_command None r c e = ask_no_command r c e
+
+  word_no_command : (name : List ℕ) (c : Command A) → of_word {A = A} name ≡ Apply c → ⊥
+  word_no_command name c e =
+      line_else (bytes_eq name (codes "count")) (Ask Total) _ (Apply c) (λ is same. ask_command Total c same)
+      (line_else (bytes_eq name (codes "rules")) (Print (Entries Rules)) _ (Apply c) (λ is same. print_command (Entries Rules) c same)
+      (line_else (bytes_eq name (codes "radios")) (Print (Entries (Radios None))) _ (Apply c) (λ is same. print_command (Entries (Radios None)) c same)
+      (line_else (bytes_eq name (codes "items")) (Print (Entries Items)) _ (Apply c) (λ is same. print_command (Entries Items) c same)
+      (line_else (bytes_eq name (codes "room")) (Print Room) (Bad Syntax) (Apply c) (λ is same. print_command Room c same) (λ same. bad_command Syntax c same))))) e
+
+  word_asked : (name : List ℕ) (q : Query) → of_word {A = A} name ≡ Ask q → Asks q (name ∷ [])
+  word_asked name q e =
+      line_else (bytes_eq name (codes "count")) (Ask Total) _ (Ask q) (λ is same. subst (λ (p : Query). Asks p (name ∷ [])) (ask_same Total q same) (tt, named name (codes "count") is))
+      (line_else (bytes_eq name (codes "rules")) (Print (Entries Rules)) _ (Ask q) (λ is same. absurd (print_ask (Entries Rules) q same))
+      (line_else (bytes_eq name (codes "radios")) (Print (Entries (Radios None))) _ (Ask q) (λ is same. absurd (print_ask (Entries (Radios None)) q same))
+      (line_else (bytes_eq name (codes "items")) (Print (Entries Items)) _ (Ask q) (λ is same. absurd (print_ask (Entries Items) q same))
+      (line_else (bytes_eq name (codes "room")) (Print Room) (Bad Syntax) (Ask q) (λ is same. absurd (print_ask Room q same)) (λ same. absurd (bad_ask Syntax q same)))))) e
+
+  -- a listing that is named by a word alone
+  alone : (keyword name : List ℕ) (k l : Listing) → Listable k → keyword ≡ listing_line k → bytes_eq name keyword ≡ true → (e : (let line : Line A = Print k in line) ≡ Print l) → Lists l (name ∷ [])
+  alone keyword name k l range spelt is e = subst (λ (m : Listing). Lists m (name ∷ [])) (print_same k l e) (range, named name keyword is ∙ spelt)
+
+  word_listed : (name : List ℕ) (l : Listing) → of_word {A = A} name ≡ Print l → Lists l (name ∷ [])
+  word_listed name l e =
+      line_else (bytes_eq name (codes "count")) (Ask Total) _ (Print l) (λ is same. absurd (ask_print Total l same))
+      (line_else (bytes_eq name (codes "rules")) (Print (Entries Rules)) _ (Print l) (alone (codes "rules") name (Entries Rules) l tt refl)
+      (line_else (bytes_eq name (codes "radios")) (Print (Entries (Radios None))) _ (Print l) (alone (codes "radios") name (Entries (Radios None)) l tt refl)
+      (line_else (bytes_eq name (codes "items")) (Print (Entries Items)) _ (Print l) (alone (codes "items") name (Entries Items) l tt refl)
+      (line_else (bytes_eq name (codes "room")) (Print Room) (Bad Syntax) (Print l) (alone (codes "room") name Room l tt refl) (λ same. absurd (bad_print Syntax l same)))))) e
+
   ask_only : (r : Result Query LineFault) (q : Query) (e : ask {A = A} r ≡ Ask q) → r ≡ Ok q
   ask_only (Ok p) q e = ap (λ (o : Query). let r : Result Query LineFault = Ok o in r) (ask_same p q e)
   ask_only (Err f) q e = absurd (bad_ask f q e)
+
+  print_no_ask : (r : Result Listing LineFault) (q : Query) (e : print {A = A} r ≡ Ask q) → ⊥
+  print_no_ask (Ok l) q e = print_ask l q e
+  print_no_ask (Err f) q e = bad_ask f q e
+
+  two_asked : (o : Option (Result Listing LineFault)) (r : Result Query LineFault) (q : Query) (e : listing_or {A = A} o r ≡ Ask q) → r ≡ Ok q
+  two_asked (Some listing) r q e = absurd (print_no_ask listing q e)
+  two_asked None r q e = ask_only r q e
+
+  ask_no_print : (r : Result Query LineFault) (l : Listing) (e : ask {A = A} r ≡ Print l) → ⊥
+  ask_no_print (Ok q) l e = ask_print q l e
+  ask_no_print (Err f) l e = bad_print f l e
+
+  two_listed : (o : Option (Result Listing LineFault)) (r : Result Query LineFault) (l : Listing) (e : listing_or {A = A} o r ≡ Print l) → o ≡ Some (Ok l)
+  two_listed (Some (Ok k)) r l e = ap (λ (m : Listing). let o : Option (Result Listing LineFault) = Some (Ok m) in o) (print_same k l e)
+  two_listed (Some (Err f)) r l e = absurd (bad_print f l e)
+  two_listed None r l e = absurd (ask_no_print r l e)
+
+  command_no_print : (station : ℕ) (head : Option Head) (body : Result (Body A) LineFault) (l : Listing) (e : command_line station head body ≡ Print l) → ⊥
+  command_no_print station head (Err f) l e = bad_print f l e
+  command_no_print station None (Ok body) l e = bad_print Value l e
+  command_no_print station (Some head) (Ok body) l e = command_print _ l e
 
   command_no_ask : (station : ℕ) (head : Option Head) (body : Result (Body A) LineFault) (q : Query) (e : command_line station head body ≡ Ask q) → ⊥
   command_no_ask station head (Err f) q e = bad_ask f q e
@@ -356,8 +481,8 @@ module _ {A : Type 0} where
 
   words_spelled : (station : ℕ) (ws : List (List ℕ)) (c : Command A) → of_words station ws ≡ Apply c → IsSpelled station c ws
   words_spelled station [] c e = absurd (bad_command Syntax c e)
-  words_spelled station (name ∷ []) c e = absurd (count_no_command (bytes_eq name (codes "count")) c e)
-  words_spelled station (name ∷ identity ∷ []) c e = absurd (ask_no_command (query_in name identity) c e)
+  words_spelled station (name ∷ []) c e = absurd (word_no_command name c e)
+  words_spelled station (name ∷ word ∷ []) c e = absurd (two_no_command (listing_in name word) (query_in name word) c e)
   words_spelled station (s ∷ m ∷ name ∷ more) c e =
       let f = command_only station (head_in s m) (body_in name more) c e in
       let head = head_spelled s m f.0 f.2 in
@@ -374,9 +499,15 @@ module _ {A : Type 0} where
 
   words_asked : (station : ℕ) (ws : List (List ℕ)) (q : Query) → of_words {A = A} station ws ≡ Ask q → Asks q ws
   words_asked station [] q e = absurd (bad_ask Syntax q e)
-  words_asked station (name ∷ []) q e = let f = count_only (bytes_eq name (codes "count")) q e in subst (λ (p : Query). Asks p (name ∷ [])) f.1 (tt, named name (codes "count") f.0)
-  words_asked station (name ∷ identity ∷ []) q e = query_spelled name identity q (ask_only (query_in name identity) q e)
+  words_asked station (name ∷ []) q e = word_asked name q e
+  words_asked station (name ∷ word ∷ []) q e = query_spelled name word q (two_asked (listing_in name word) (query_in name word) q e)
   words_asked station (s ∷ m ∷ name ∷ more) q e = absurd (command_no_ask station (head_in s m) (body_in name more) q e)
+
+  words_listed : (station : ℕ) (ws : List (List ℕ)) (l : Listing) → of_words {A = A} station ws ≡ Print l → Lists l ws
+  words_listed station [] l e = absurd (bad_print Syntax l e)
+  words_listed station (name ∷ []) l e = word_listed name l e
+  words_listed station (name ∷ word ∷ []) l e = listing_spelled name word l (two_listed (listing_in name word) (query_in name word) l e)
+  words_listed station (s ∷ m ∷ name ∷ more) l e = absurd (command_no_print station (head_in s m) (body_in name more) l e)
 
   through_command : (long silent : Bool) (l : Line A) (c : Command A) → (if long then Bad TooLong else (if silent then Silent else l)) ≡ Apply c → (long ≡ false) × (l ≡ Apply c)
   through_command true silent l c e = absurd (bad_command TooLong c e)
@@ -387,6 +518,11 @@ module _ {A : Type 0} where
   through_ask true silent l q e = absurd (bad_ask TooLong q e)
   through_ask false true l q e = absurd (silent_ask q e)
   through_ask false false l q e = (refl, e)
+
+  through_print : (long silent : Bool) (line : Line A) (l : Listing) → (if long then Bad TooLong else (if silent then Silent else line)) ≡ Print l → (long ≡ false) × (line ≡ Print l)
+  through_print true silent line l e = absurd (bad_print TooLong l e)
+  through_print false true line l e = absurd (silent_print l e)
+  through_print false false line l e = (refl, e)
 
   pub only_commands : OnlyCommands A
   only_commands station line c e =
@@ -404,3 +540,9 @@ module _ {A : Type 0} where
       let through = through_ask (nat_lt longest_line (length line)) (is_silent line) (of_words station (words line)) q e in
       let asks = words_asked station (words line) q through.1 in
       record { in_range = asks.0; spelt = sym (join_with_byte-slice_split 32 line) ∙ asks.1; short = short_of_flag (length line) through.0 }
+
+  pub only_listings : OnlyListings A
+  only_listings station line l e =
+      let through = through_print (nat_lt longest_line (length line)) (is_silent line) (of_words station (words line)) l e in
+      let lists = words_listed station (words line) l through.1 in
+      record { in_range = lists.0; spelt = sym (join_with_byte-slice_split 32 line) ∙ lists.1; short = short_of_flag (length line) through.0 }

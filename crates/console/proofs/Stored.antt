@@ -9,14 +9,15 @@ use Rattle.centre_core.specs.declared.query.Query.{Query}
 use Rattle.desk.specs.declared.outage.Outage.{Outage}
 use Rattle.desk.specs.declared.outage.Outage.TheVariants.{Memory, Device, Broken, Epochs, Closed}
 use Rattle.desk.specs.OfRegister.{of_register}
-use Rattle.desk.specs.OfStore.{Stored, Refuses, StoreApplies, StoreAnswers, of_store}
+use Rattle.desk.specs.OfStore.{Stored, Refuses, StoreApplies, StoreAnswers, StoreReads, of_store}
+use Rattle.listings.specs.declared.listing.Listing.{Listing}
 use Rattle.console.specs.declared.line.Line.{Line}
-use Rattle.console.specs.declared.line.Line.TheVariants.{Silent, Bad, Apply, Ask}
+use Rattle.console.specs.declared.line.Line.TheVariants.{Silent, Bad, Apply, Ask, Print}
 use Rattle.console.specs.declared.answer.Answer.{Answer}
 use Rattle.console.specs.declared.answer.Answer.TheVariants as answer
 use Rattle.console.specs.Answer.{is_outage}
 use Rattle.console.specs.Reading.{reading}
-use Rattle.console.specs.Dialogue.{AnswersReading, AnswersCommand, AnswersQuery, Dialogue, LacksPdu}
+use Rattle.console.specs.Dialogue.{AnswersReading, AnswersCommand, AnswersQuery, AnswersListing, Dialogue, LacksPdu}
 use Rattle.console.specs.Stored.{SaysBroken, BrokenAfterDevice, RegisterAtDevice, StoredAsRegister}
 use Rattle.console.proofs.Wholes.{or_left, or_right}
 
@@ -49,6 +50,13 @@ query_outage B s t q Broken broken says = (refl, says.1)
 query_outage B s t q Epochs broken says = absurd says
 query_outage B s t q Closed broken says = absurd says
 
+listing_outage : (s t : Stored) (word : Outage) → s.broken ≡ true → StoreReads s (Err word) t → (word ≡ Broken) × (t ≡ s)
+listing_outage s t Memory broken says = absurd says
+listing_outage s t Device broken says = absurd says
+listing_outage s t Broken broken says = (refl, says.1)
+listing_outage s t Epochs broken says = absurd says
+listing_outage s t Closed broken says = absurd says
+
 module _ {A : Type 0} where
   -- what a broken desk answers, and that it stays as it is
   abbrev pub Stays : Answer A → Stored → Stored → Type 0
@@ -66,6 +74,7 @@ module _ {A : Type 0} where
   on_command s t c answer.Quiet broken given = absurd given
   on_command s t c (answer.Bad line fault) broken given = absurd given
   on_command s t c (answer.Queried query_answer) broken given = absurd given
+  on_command s t c (answer.Listed lines) broken given = absurd given
   on_command s t c (answer.QueryOutage line word) broken given = absurd given
 
   on_query : (n : ℕ) (s t : Stored) (q : Query) (a : Answer A) → s.broken ≡ true → AnswersQuery of_store n s q a t → Stays a s t
@@ -78,12 +87,26 @@ module _ {A : Type 0} where
   on_query n s t q (answer.Bad line fault) broken given = absurd given
   on_query n s t q (answer.Replied sequence reply) broken given = absurd given
   on_query n s t q (answer.CommandOutage sequence word) broken given = absurd given
+  on_query n s t q (answer.Listed lines) broken given = absurd given
+
+  on_listing : (n : ℕ) (s t : Stored) (l : Listing) (a : Answer A) → s.broken ≡ true → AnswersListing of_store n s l a t → Stays a s t
+  on_listing n s t l (answer.Listed lines) broken given = not_both s broken given.1.0
+  on_listing n s t l (answer.QueryOutage line word) broken given = elim given.1 [
+    | inl says ↦ listing_outage s t word broken says
+    | inr lacks ↦ not_both s broken lacks.2.1.0
+  ]
+  on_listing n s t l answer.Quiet broken given = absurd given
+  on_listing n s t l (answer.Bad line fault) broken given = absurd given
+  on_listing n s t l (answer.Replied sequence reply) broken given = absurd given
+  on_listing n s t l (answer.CommandOutage sequence word) broken given = absurd given
+  on_listing n s t l (answer.Queried query_answer) broken given = absurd given
 
   on_reading : (n : ℕ) (s t : Stored) (line : Line A) (a : Answer A) → s.broken ≡ true → AnswersReading of_store n s line a t → Stays a s t
   on_reading n s t Silent a broken given = (subst (λ (b : Answer A). SaysBroken b) (sym given.0) tt, given.1)
   on_reading n s t (Bad fault) a broken given = (subst (λ (b : Answer A). SaysBroken b) (sym given.0) tt, given.1)
   on_reading n s t (Apply c) a broken given = on_command s t c a broken given
   on_reading n s t (Ask q) a broken given = on_query n s t q a broken given
+  on_reading n s t (Print l) a broken given = on_listing n s t l a broken given
 
   -- from a broken desk on
   stays_broken : (station n : ℕ) (s t : Stored) (given : List (List ℕ)) (answers : List (Answer A)) → s.broken ≡ true → Dialogue of_store station n s given answers t → All SaysBroken answers
@@ -112,6 +135,7 @@ module _ {A : Type 0} where
     | inr lacks ↦ absurd (device_no_memory lacks.1)
   ]
   device_breaks n sequence s t (Ask q) given = absurd given
+  device_breaks n sequence s t (Print l) given = absurd given
 
   pub broken_after : BrokenAfterDevice A
   broken_after station n sequence s t [] [] following each = absurd each
@@ -137,6 +161,7 @@ module _ {A : Type 0} where
   as_command s t c answer.Quiet given calm = absurd given
   as_command s t c (answer.Bad line fault) given calm = absurd given
   as_command s t c (answer.Queried query_answer) given calm = absurd given
+  as_command s t c (answer.Listed lines) given calm = absurd given
   as_command s t c (answer.QueryOutage line word) given calm = absurd given
 
   as_query : (n : ℕ) (s t : Stored) (q : Query) (a : Answer A) → AnswersQuery of_store n s q a t → is_outage a ≡ false → AnswersQuery of_register n s.register q a t.register
@@ -145,13 +170,24 @@ module _ {A : Type 0} where
   as_query n s t q answer.Quiet given calm = absurd given
   as_query n s t q (answer.Bad line fault) given calm = absurd given
   as_query n s t q (answer.Replied sequence reply) given calm = absurd given
+  as_query n s t q (answer.Listed lines) given calm = absurd given
   as_query n s t q (answer.CommandOutage sequence word) given calm = absurd given
+
+  as_listing : (n : ℕ) (s t : Stored) (l : Listing) (a : Answer A) → AnswersListing of_store n s l a t → is_outage a ≡ false → AnswersListing of_register n s.register l a t.register
+  as_listing n s t l (answer.Listed lines) given calm = (given.0, (ap (λ (w : Stored). w.register) given.1.1, given.1.2), given.2)
+  as_listing n s t l (answer.QueryOutage line word) given calm = absurd (true≢false calm)
+  as_listing n s t l (answer.CommandOutage sequence word) given calm = absurd (true≢false calm)
+  as_listing n s t l answer.Quiet given calm = absurd given
+  as_listing n s t l (answer.Bad line fault) given calm = absurd given
+  as_listing n s t l (answer.Replied sequence reply) given calm = absurd given
+  as_listing n s t l (answer.Queried query_answer) given calm = absurd given
 
   as_reading : (n : ℕ) (s t : Stored) (line : Line A) (a : Answer A) → AnswersReading of_store n s line a t → is_outage a ≡ false → AnswersReading of_register n s.register line a t.register
   as_reading n s t Silent a given calm = (given.0, ap (λ (w : Stored). w.register) given.1)
   as_reading n s t (Bad fault) a given calm = (given.0, ap (λ (w : Stored). w.register) given.1)
   as_reading n s t (Apply c) a given calm = as_command s t c a given calm
   as_reading n s t (Ask q) a given calm = as_query n s t q a given calm
+  as_reading n s t (Print l) a given calm = as_listing n s t l a given calm
 
   pub as_register : StoredAsRegister A
   as_register station n s t [] [] each calm = ap (λ (w : Stored). w.register) each

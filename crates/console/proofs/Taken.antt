@@ -1,5 +1,5 @@
--- What spells a command or a query is taken for it.
-use Rattle.std.proofs.Common.{◌≡◌, ℕ, zero, suc, ◌-◌, ◌<◌, ◌≤◌, ◌^◌, Bool, true, false, List, [], ◌∷◌, ◌++◌, length, replicate, refl, sym, ◌∙◌, ap, subst, arith, Option, Some, Result, Ok, not, nat_lt, nat_le}
+-- What spells a command, a query or a listing is taken for it.
+use Rattle.std.proofs.Common.{◌≡◌, ℕ, zero, suc, ◌+◌, ◌-◌, ◌<◌, ◌≤◌, ◌^◌, Bool, true, false, List, [], ◌∷◌, ◌++◌, length, replicate, refl, sym, ◌∙◌, ap, subst, arith, Option, Some, None, Result, Ok, not, nat_lt, nat_le}
 use Rattle.std.specs.Prelude.{◌==◌, codes, decimal}
 use Rattle.std.specs.Char.{is_ascii_digit, is_ascii_hexdigit}
 use Rattle.std.specs.List.{list_all}
@@ -7,6 +7,7 @@ use Rattle.std.specs.Option.{option_and_then}
 use Rattle.std.specs.Result.{result_ok}
 use Rattle.std.proofs.lemmas.Grind.{common_steps}
 use Rattle.std.proofs.lemmas.Fmt.{decimal_nonempty}
+use Rattle.std.proofs.lemmas.List.{length-append}
 use Rattle.std.proofs.lemmas.List.Elements.{All-nil, All-cons, All-append}
 use Rattle.std.proofs.lemmas.List.Splits.{slice_split_at, slice_split_none}
 use Rattle.identity.specs.Number.{number}
@@ -19,6 +20,7 @@ use Rattle.identity.proofs.NumberText.{and_left, and_right, all_of_number}
 use Rattle.identity.proofs.Texts.{reading_number_again, number_of_decimal}
 use Rattle.identity.proofs.IdentityTexts.{reading_identity_again, reading_prefix_again}
 use Rattle.identity.proofs.BitsTexts.{reading_bits_again}
+use Rattle.identity.proofs.Lengths.{decimal_fits, prefix_fits}
 use Rattle.mm_pdus.specs.declared.lifetime.Lifetime.{Lifetime}
 use Rattle.mm_pdus.specs.declared.lifetime.Lifetime.TheVariants.{NotNeeded, NextItsiAttach, NotAllowedAtNextItsiAttach, NextLocationUpdate}
 use Rattle.mm_pdus.specs.Values.{lifetime_of, lifetime_number}
@@ -30,16 +32,19 @@ use Rattle.centre_core.specs.declared.command.Body.{Body}
 use Rattle.centre_core.specs.declared.command.Body.TheVariants.{RuleSet, RuleClear, Mm, Sds, GroupSds, Sent, Expire, Delete}
 use Rattle.centre_core.specs.declared.query.Query.{Query}
 use Rattle.centre_core.specs.declared.query.Query.TheVariants.{Whereabouts, Look, GroupsOf, MembersOf, Waiting, Total}
+use Rattle.listings.specs.declared.listing.Listing.{Listing}
+use Rattle.listings.specs.declared.listing.Listing.TheVariants.{Entries, Last, Room}
+use Rattle.listings.specs.declared.listing.Table.TheVariants.{Rules, Radios, Items, Due}
 use Rattle.console.specs.declared.body.Head.{Head}
 use Rattle.console.specs.declared.line.LineFault.{LineFault}
 use Rattle.console.specs.declared.line.Line.{Line}
-use Rattle.console.specs.declared.line.Line.TheVariants.{Apply, Ask}
-use Rattle.console.specs.Reading.{Lacks, words, of_words, reading, is_silent, longest_line, seconds_in, not_zero, sequence_in, head_of, head_in, area_in, lifetime_in, rule_of, rule_in, reference_in, kind_in, key_of, key_in, rule_body, mm_body, sds_body, group_sds_body, body_in, command_line, saying, query_in, ask}
-use Rattle.console.specs.Words.{kind_word}
+use Rattle.console.specs.declared.line.Line.TheVariants.{Apply, Ask, Print}
+use Rattle.console.specs.Reading.{Lacks, words, of_words, reading, is_silent, longest_line, seconds_in, not_zero, sequence_in, head_of, head_in, area_in, lifetime_in, rule_of, rule_in, reference_in, kind_in, key_of, key_in, rule_body, mm_body, sds_body, group_sds_body, body_in, command_line, saying, ask, prefix_in, station_in, radios_under, due_at, print, of_two}
+use Rattle.listings.specs.Words.{kind_word}
 use Rattle.mailbox.specs.Values.{KeyInRange}
 use Rattle.centre_core.specs.Ranges.{BodyInRange}
-use Rattle.console.specs.Spelling.{spaced, key_words, SpellsBody, AllCommands, AllQueries}
-use Rattle.console.proofs.Lines.{is_space}
+use Rattle.console.specs.Spelling.{spaced, key_words, SpellsBody, AllCommands, AllQueries, AllListings}
+use Rattle.console.proofs.Splits.{is_space}
 
 -- ---- no space in a word
 
@@ -114,6 +119,9 @@ not_zero_again (suc n) some = refl
 
 sequence_again : (n : ℕ) → 0 < n → n < 2 ^ 32 → sequence_in (decimal n) ≡ Some n
 sequence_again n some small = ap (λ o. option_and_then not_zero o) (seconds_again n small) ∙ not_zero_again n some
+
+station_again : (n : ℕ) → n < 2 ^ 16 → station_in (decimal n) ≡ Some n
+station_again n small = ap result_ok (reading_number_again 65535 n (omega (arith, small)) (omega arith))
 
 area_again : (n : ℕ) → n < 2 ^ 14 → area_in (decimal n) ≡ Some n
 area_again n small = ap result_ok (reading_number_again 16383 n (omega (arith, small)) (omega arith))
@@ -283,13 +291,13 @@ module _ {A : Type 0} where
 
   -- a query about an identity is taken for itself, where its keyword and an identity are
   about_again : (about : ℕ → Query) (station : ℕ) (keyword : List ℕ) (n : ℕ) → n < 2 ^ 48 → list_all (λ b. not (b == 32)) keyword ≡ true →
-      ((word : List ℕ) → query_in keyword word ≡ saying about (result_ok (reading_identity word))) →
+      ((word : List ℕ) → of_two {A = A} keyword word ≡ ask (saying about (result_ok (reading_identity word)))) →
       is_silent (spaced (keyword ∷ identity_text n ∷ [])) ≡ false → length (spaced (keyword ∷ identity_text n ∷ [])) ≤ longest_line →
       reading {A = A} station (spaced (keyword ∷ identity_text n ∷ [])) ≡ Ask (about n)
   about_again about station keyword n small letters named speaks short =
       passes station (spaced (keyword ∷ identity_text n ∷ [])) (Ask (about n)) short speaks (
       ap (λ ws. of_words station ws) (words_back keyword (identity_text n ∷ []) (letters_lack keyword letters, (identity_lacks n small, tt)))
-      ∙ ap (λ r. ask r) (named (identity_text n))
+      ∙ named (identity_text n)
       ∙ ap (λ r. ask r) (saying_again about (result_ok (reading_identity (identity_text n))) n (ap result_ok (reading_identity_again n small)))
       )
 
@@ -301,3 +309,34 @@ module _ {A : Type 0} where
   all_queries station (Waiting itsi) small short = about_again Waiting station (codes "mail") itsi small refl (λ word. refl) refl short
   all_queries station Total small short =
       passes station (codes "count") (Ask Total) short refl (ap (λ ws. of_words station ws) (words_back (codes "count") [] (letters_lack (codes "count") refl, tt)))
+
+  -- a listing that is named by a word alone
+  alone_again : (station : ℕ) (keyword : List ℕ) (l : Listing) → list_all (λ b. not (b == 32)) keyword ≡ true → of_words {A = A} station (keyword ∷ []) ≡ Print l →
+      is_silent keyword ≡ false → length keyword ≤ 6 → reading {A = A} station keyword ≡ Print l
+  alone_again station keyword l letters said speaks short =
+      passes station keyword (Print l) (omega (arith, short)) speaks (ap (λ ws. of_words station ws) (words_back keyword [] (letters_lack keyword letters, tt)) ∙ said)
+
+  -- a listing of a part
+  part_again : (station : ℕ) (keyword word : List ℕ) (l : Listing) → list_all (λ b. not (b == 32)) keyword ≡ true → Lacks 32 word → of_two {A = A} keyword word ≡ Print l →
+      is_silent (spaced (keyword ∷ word ∷ [])) ≡ false → length keyword ≤ 6 → length word ≤ 83 → reading {A = A} station (spaced (keyword ∷ word ∷ [])) ≡ Print l
+  part_again station keyword word l letters lacks said speaks few short =
+      let whole : length (keyword ++ 32 ∷ word) ≡ length keyword + length (32 ∷ word) = length-append keyword (32 ∷ word) in
+      passes station (spaced (keyword ∷ word ∷ [])) (Print l) (omega (arith, whole, few, short)) speaks
+      (ap (λ ws. of_words station ws) (words_back keyword (word ∷ []) (letters_lack keyword letters, (lacks, tt))) ∙ said)
+
+  pub all_listings : AllListings A
+  all_listings station (Entries Rules) range = alone_again station (codes "rules") (Entries Rules) refl refl refl (omega arith)
+  all_listings station (Entries (Radios None)) range = alone_again station (codes "radios") (Entries (Radios None)) refl refl refl (omega arith)
+  all_listings station (Entries (Radios (Some prefix))) range =
+      part_again station (codes "radios") (prefix_text prefix) (radios_under prefix) refl (prefix_lacks prefix range)
+      (ap (λ r. print {A = A} r) (saying_again radios_under (prefix_in (prefix_text prefix)) prefix (ap result_ok (reading_prefix_again prefix range)))) refl (omega arith) (prefix_fits prefix range)
+  all_listings station (Entries Items) range = alone_again station (codes "items") (Entries Items) refl refl refl (omega arith)
+  all_listings station (Entries (Due moment)) range =
+      part_again station (codes "due") (decimal moment) (due_at moment) refl (decimal_lacks moment (omega (arith, range)))
+      (ap (λ r. print {A = A} r) (saying_again due_at (seconds_in (decimal moment)) moment (seconds_again moment range))) refl (omega arith)
+      (let fits = decimal_fits moment (omega (arith, range)) in omega (arith, fits))
+  all_listings station (Last n) range =
+      part_again station (codes "last") (decimal n) (Last n) refl (decimal_lacks n (omega (arith, range)))
+      (ap (λ r. print {A = A} r) (saying_again Last (station_in (decimal n)) n (station_again n range))) refl (omega arith)
+      (let fits = decimal_fits n (omega (arith, range)) in omega (arith, fits))
+  all_listings station Room range = alone_again station (codes "room") Room refl refl refl (omega arith)

@@ -11,16 +11,18 @@ use Rattle.centre_core.specs.declared.query.Query.{Query}
 use Rattle.centre_core.specs.declared.query.QueryAnswer.{QueryAnswer}
 use Rattle.centre_core.specs.declared.reply.Reply.{Reply}
 use Rattle.console.specs.declared.line.Line.{Line}
-use Rattle.console.specs.declared.line.Line.TheVariants.{Silent, Bad, Apply, Ask}
+use Rattle.console.specs.declared.line.Line.TheVariants.{Silent, Bad, Apply, Ask, Print}
 use Rattle.console.specs.declared.answer.Answer.{Answer}
 use Rattle.console.specs.declared.answer.Answer.TheVariants as answer
 use Rattle.console.specs.Answer.{text, texts, is_trouble, is_outage}
 use Rattle.console.specs.Reading.{reading}
+use Rattle.listings.specs.Texts.{listing_text}
+use Rattle.listings.specs.declared.listing.Listing.{Listing}
 use Rattle.desk.specs.Rules.{Rules}
 use Rattle.desk.specs.OfRegister.{of_register}
 use Rattle.desk.specs.OfStore.{Stored, of_store}
 use Rattle.desk.specs.declared.outage.Outage.TheVariants.{Broken}
-use Rattle.console.specs.Dialogue.{AnswersReading, AnswersCommand, AnswersQuery, Answers, Dialogue, CutOffIsPrefix, OneText}
+use Rattle.console.specs.Dialogue.{AnswersReading, AnswersCommand, AnswersQuery, AnswersListing, Answers, Dialogue, CutOffIsPrefix, OneText}
 
 pub or_left : (a b : Bool) → (a || b) ≡ false → a ≡ false
 or_left true b h = h
@@ -41,6 +43,7 @@ module _ {A : Type 0} where
   in_memory n s (Bad fault) = (answer.Bad n fault, s, (refl, refl))
   in_memory n s (Apply c) = (answer.Replied c.sequence (step s c).1, (step s c).0, (refl, refl))
   in_memory n s (Ask q) = (answer.Queried (answer_to s q), s, (refl, refl))
+  in_memory n s (Print l) = (answer.Listed (listing_text s l), s, (s, (refl, refl), refl))
 
   -- at a desk over a disk, be it broken or not
   command_on_disk : (n : ℕ) (s : Stored) (c : Command A) (broken : Bool) → s.broken ≡ broken → HasAnswer of_store n s (Apply c)
@@ -51,11 +54,16 @@ module _ {A : Type 0} where
   query_on_disk n s q true is = (answer.QueryOutage n Broken, s, (refl, inl (is, refl)))
   query_on_disk n s q false is = (answer.Queried (answer_to s.register q), s, (is, refl, refl))
 
+  listing_on_disk : (n : ℕ) (s : Stored) (l : Listing) (broken : Bool) → s.broken ≡ broken → HasAnswer of_store n s (Print l)
+  listing_on_disk n s l true is = (answer.QueryOutage n Broken, s, (refl, inl (is, refl)))
+  listing_on_disk n s l false is = (answer.Listed (listing_text s.register l), s, (s.register, (is, refl, refl), refl))
+
   pub on_disk : (n : ℕ) (s : Stored) (line : Line A) → HasAnswer of_store n s line
   on_disk n s Silent = (answer.Quiet, s, (refl, refl))
   on_disk n s (Bad fault) = (answer.Bad n fault, s, (refl, refl))
   on_disk n s (Apply c) = command_on_disk n s c s.broken refl
   on_disk n s (Ask q) = query_on_disk n s q s.broken refl
+  on_disk n s (Print l) = listing_on_disk n s l s.broken refl
 
   -- where each line has an answer at a desk of this kind
   module _ {W : Type 0} (rules : Rules A W) (has_answer : (n : ℕ) (s : W) (line : Line A) → HasAnswer rules n s line) where
@@ -111,11 +119,13 @@ module _ {A : Type 0} where
   one_command s c (answer.Replied p x) answer.Quiet t u f h calm still = absurd h
   one_command s c (answer.Replied p x) (answer.Bad n e) t u f h calm still = absurd h
   one_command s c (answer.Replied p x) (answer.Queried query_answer) t u f h calm still = absurd h
+  one_command s c (answer.Replied p x) (answer.Listed lines) t u f h calm still = absurd h
   one_command s c (answer.Replied p x) (answer.QueryOutage n w) t u f h calm still = absurd h
   one_command s c (answer.CommandOutage q w) b t u f h calm still = absurd (true≢false calm)
   one_command s c answer.Quiet b t u f h calm still = absurd f
   one_command s c (answer.Bad n e) b t u f h calm still = absurd f
   one_command s c (answer.Queried query_answer) b t u f h calm still = absurd f
+  one_command s c (answer.Listed lines) b t u f h calm still = absurd f
   one_command s c (answer.QueryOutage n w) b t u f h calm still = absurd f
 
   one_query : (n : ℕ) (s : State) (q : Query) (a b : Answer A) (t u : State) → AnswersQuery of_register n s q a t → AnswersQuery of_register n s q b u → is_outage a ≡ false → is_outage b ≡ false → Same a b t u
@@ -125,17 +135,37 @@ module _ {A : Type 0} where
   one_query n s q (answer.Queried x) (answer.Bad m e) t u f h calm still = absurd h
   one_query n s q (answer.Queried x) (answer.Replied p y) t u f h calm still = absurd h
   one_query n s q (answer.Queried x) (answer.CommandOutage p w) t u f h calm still = absurd h
+  one_query n s q (answer.Queried x) (answer.Listed lines) t u f h calm still = absurd h
   one_query n s q (answer.QueryOutage m w) b t u f h calm still = absurd (true≢false calm)
   one_query n s q answer.Quiet b t u f h calm still = absurd f
   one_query n s q (answer.Bad m e) b t u f h calm still = absurd f
   one_query n s q (answer.Replied p y) b t u f h calm still = absurd f
   one_query n s q (answer.CommandOutage p w) b t u f h calm still = absurd f
+  one_query n s q (answer.Listed lines) b t u f h calm still = absurd f
+
+  one_listing : (n : ℕ) (s : State) (l : Listing) (a b : Answer A) (t u : State) → AnswersListing of_register n s l a t → AnswersListing of_register n s l b u → is_outage a ≡ false → is_outage b ≡ false → Same a b t u
+  one_listing n s l (answer.Listed x) (answer.Listed y) t u f h calm still =
+      let lines : x ≡ y = f.2 ∙ ap (λ (r : State). listing_text r l) (f.1.1 ∙ sym h.1.1) ∙ sym h.2 in
+      (ap (λ (text : List ℕ). answer.Listed text) lines, f.1.0 ∙ sym h.1.0)
+  one_listing n s l (answer.Listed x) (answer.QueryOutage m w) t u f h calm still = absurd (true≢false still)
+  one_listing n s l (answer.Listed x) (answer.CommandOutage p w) t u f h calm still = absurd h
+  one_listing n s l (answer.Listed x) answer.Quiet t u f h calm still = absurd h
+  one_listing n s l (answer.Listed x) (answer.Bad m e) t u f h calm still = absurd h
+  one_listing n s l (answer.Listed x) (answer.Replied p y) t u f h calm still = absurd h
+  one_listing n s l (answer.Listed x) (answer.Queried y) t u f h calm still = absurd h
+  one_listing n s l (answer.QueryOutage m w) b t u f h calm still = absurd (true≢false calm)
+  one_listing n s l (answer.CommandOutage p w) b t u f h calm still = absurd f
+  one_listing n s l answer.Quiet b t u f h calm still = absurd f
+  one_listing n s l (answer.Bad m e) b t u f h calm still = absurd f
+  one_listing n s l (answer.Replied p y) b t u f h calm still = absurd f
+  one_listing n s l (answer.Queried y) b t u f h calm still = absurd f
 
   one_reading : (n : ℕ) (s : State) (line : Line A) (a b : Answer A) (t u : State) → AnswersReading of_register n s line a t → AnswersReading of_register n s line b u → is_outage a ≡ false → is_outage b ≡ false → Same a b t u
   one_reading n s Silent a b t u f h calm still = (f.0 ∙ sym h.0, f.1 ∙ sym h.1)
   one_reading n s (Bad e) a b t u f h calm still = (f.0 ∙ sym h.0, f.1 ∙ sym h.1)
   one_reading n s (Apply c) a b t u f h calm still = one_command s c a b t u f h calm still
   one_reading n s (Ask q) a b t u f h calm still = one_query n s q a b t u f h calm still
+  one_reading n s (Print l) a b t u f h calm still = one_listing n s l a b t u f h calm still
 
   pub one_answer : (station n : ℕ) (s : State) (line : List ℕ) (a b : Answer A) (t u : State) → Answers of_register station n s line a t → Answers of_register station n s line b u → is_outage a ≡ false → is_outage b ≡ false → Same a b t u
   one_answer station n s line a b t u f h calm still = one_reading n s (reading station line) a b t u f h calm still

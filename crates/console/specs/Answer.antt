@@ -1,13 +1,12 @@
 -- How an answer is written. B is the allocator of its bits; nothing depends on it.
-use Rattle.std.specs.Prelude.{◌≡◌, ℕ, Bool, true, false, List, [], ◌++◌, length, Option, Some, None, codes, decimal}
+use Rattle.std.specs.Prelude.{◌≡◌, Bool, true, false, List, [], ◌++◌, Option, Some, None, codes, decimal}
 use Rattle.std.specs.List.{flat_map}
-use Rattle.identity.specs.Numbers.{Gtsi, Byte}
-use Rattle.identity.specs.IdentityText.{identity_text, prefix_text}
+use Rattle.identity.specs.Numbers.{Byte}
+use Rattle.identity.specs.IdentityText.{identity_text}
 use Rattle.identity.specs.BitsText.{bits_text}
 use Rattle.identity.specs.Path.{Path}
 use Rattle.mm_pdus.specs.Values.{lifetime_number}
 use Rattle.group_attach.specs.declared.attachment.Attachment.{Attachment}
-use Rattle.mailbox.specs.declared.key.Key.{Key}
 use Rattle.mailbox.specs.Values.{Item}
 use Rattle.registration.specs.declared.radio.Radio.{Radio}
 use Rattle.registration.specs.declared.rule.Rule.{Rule}
@@ -22,29 +21,19 @@ use Rattle.console.specs.declared.answer.Answer.{Answer}
 use Rattle.console.specs.declared.answer.Answer.TheVariants as answer
 use Rattle.desk.specs.Words.{outage_word}
 use Rattle.desk.specs.Replies.{HasShortPdu}
-use Rattle.console.specs.Words.{line_word, mm_word, registration_word, group_word, sds_word, mail_word, kind_word}
-
--- the PDU for the radio, or `-`
-abbrev pub pdu_text : Option (List Bool) → List Byte
-pdu_text None = codes "-"
-pdu_text (Some bits) = bits_text bits
-
--- whether a radio is present
-abbrev pub presence_text : Bool → List Byte
-presence_text true = codes " present"
-presence_text false = codes " absent"
+use Rattle.console.specs.Words.{line_word, mm_word, registration_word, group_word, sds_word, mail_word}
+use Rattle.listings.specs.Words.{pdu_text}
+use Rattle.listings.specs.Lines.{radio_words, rule_words, key_text, item_end, list_text}
 
 -- where a radio is, or was last, and whether it is present
 abbrev pub whereabouts_text : Option Radio → List Byte
 whereabouts_text None = codes "unknown"
-whereabouts_text (Some radio) = codes "station " ++ decimal radio.station ++ codes " la " ++ decimal radio.area
-    ++ presence_text radio.present
+whereabouts_text (Some radio) = radio_words radio
 
 -- the rule that serves an identity, after its prefix
 abbrev pub rule_text : Option (Path × Rule) → List Byte
 rule_text None = codes "none"
-rule_text (Some e) = prefix_text e.0 ++ codes " " ++ decimal e.1.low ++ codes " " ++ decimal e.1.high
-    ++ codes " " ++ decimal (lifetime_number e.1.lifetime) ++ codes " " ++ decimal e.1.keep
+rule_text (Some e) = rule_words e.0 e.1
 
 -- the line of a group that a radio is attached to, with its class of usage and lifetime
 abbrev pub group_text : Attachment → List Byte
@@ -54,27 +43,10 @@ group_text a = codes "group " ++ identity_text a.gtsi ++ codes " " ++ decimal a.
 abbrev pub member_text : Attachment → List Byte
 member_text a = codes "member " ++ identity_text a.itsi ++ codes " " ++ decimal a.class ++ codes "\n"
 
--- the key of an item: message or report, its source, and the message reference
-abbrev pub key_text : Key → List Byte
-key_text key = kind_word key.kind ++ codes " " ++ identity_text key.source ++ codes " " ++ decimal key.reference
-
--- the end of an item's line, which names the group of a copy
-abbrev pub item_end : Option Gtsi → List Byte
-item_end None = codes "\n"
-item_end (Some group) = codes " " ++ identity_text group ++ codes "\n"
-
 -- the line of an item: its number, its key, its deadline, its PDU, and the group of a copy
 abbrev pub item_text : Item → List Byte
 item_text i = codes "item " ++ decimal i.number ++ codes " " ++ key_text i.key ++ codes " " ++ decimal i.deadline
     ++ codes " " ++ bits_text i.pdu ++ item_end i.group
-
--- a list: the number of its lines, and these after it
-abbrev pub list_text : {T : Type 0} → (T → List Byte) → List T → List Byte
-list_text line list = decimal (length list) ++ codes "\n" ++ flat_map line list
-
--- the room for an answer of one line, in bytes
-abbrev pub answer_room : ℕ
-answer_room = 1024
 
 module _ {B : Type 0} where
   -- why a command is refused, and the PDU that rejects a location update
@@ -111,6 +83,7 @@ module _ {B : Type 0} where
   text (answer.Replied sequence reply) = decimal sequence ++ reply_text reply ++ codes "\n"
   text (answer.CommandOutage sequence word) = decimal sequence ++ codes " no " ++ outage_word word ++ codes "\n"
   text (answer.Queried query_answer) = query_answer_text query_answer
+  text (answer.Listed lines) = lines
   text (answer.QueryOutage line word) = codes "line " ++ decimal line ++ codes " no " ++ outage_word word ++ codes "\n"
 
   -- the lines of all answers, one after another
@@ -135,10 +108,11 @@ module _ {B : Type 0} where
   is_list_answer (answer.Queried query_answer) = is_list query_answer
   is_list_answer other = false
 
-  -- no list, and a PDU in it has at most 2,048 bits: its text fits answer_room bytes
+  -- no list, no listing, and a PDU in it has at most 2,048 bits: its text fits answer_room bytes
   abbrev pub IsLine : Answer B → Type 0
   IsLine (answer.Replied sequence reply) = HasShortPdu reply
   IsLine (answer.Queried query_answer) = IsOneLine query_answer
+  IsLine (answer.Listed lines) = ⊥
   IsLine other = Unit {0}
 
   -- an outage word is answered

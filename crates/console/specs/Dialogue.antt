@@ -12,6 +12,8 @@ use Rattle.desk.specs.declared.outage.Outage.{Outage}
 use Rattle.desk.specs.declared.outage.Outage.TheVariants.{Memory}
 use Rattle.desk.specs.Rules.{Rules}
 use Rattle.desk.specs.OfRegister.{of_register}
+use Rattle.listings.specs.Texts.{is_line, listing_text}
+use Rattle.listings.specs.declared.listing.Listing.{Listing}
 use Rattle.console.specs.declared.line.Line.{Line}
 use Rattle.console.specs.declared.line.Line.TheVariants as line
 use Rattle.console.specs.declared.answer.Answer.{Answer}
@@ -23,6 +25,10 @@ use Rattle.console.specs.Answer.{texts, is_trouble, is_outage, is_list}
 abbrev pub LacksText : {A W : Type 0} → Rules A W → W → Query → Outage → W → Type 0
 LacksText {A = A} rules s q word t =
     (word ≡ Memory) × ((query_answer : QueryAnswer A) × (is_list query_answer ≡ true) × rules.answers s q (Ok query_answer) t)
+
+-- memory runs out for the text of a list of a register that the desk may read
+abbrev pub LacksLines : {A W : Type 0} → Rules A W → W → Listing → Outage → W → Type 0
+LacksLines rules s l word t = (word ≡ Memory) × (is_line l ≡ false) × ((r : State) × rules.reads s (Ok r) t)
 
 module _ {A W : Type 0} where
   -- memory runs out for the PDU in a command, and the desk does nothing
@@ -41,12 +47,19 @@ module _ {A W : Type 0} where
   AnswersQuery rules n s q (answer.QueryOutage number word) t = (number ≡ n) × (rules.answers s q (Err word) t ⊎ LacksText rules s q word t)
   AnswersQuery rules n s q other t = ⊥
 
+  -- the answer to a listing: its lines of a register that the desk may read, or an outage word with the number of the line
+  abbrev pub AnswersListing : Rules A W → ℕ → W → Listing → Answer A → W → Type 0
+  AnswersListing rules n s l (answer.Listed lines) t = (r : State) × rules.reads s (Ok r) t × (lines ≡ listing_text r l)
+  AnswersListing rules n s l (answer.QueryOutage number word) t = (number ≡ n) × (rules.reads s (Err word) t ⊎ LacksLines rules s l word t)
+  AnswersListing rules n s l other t = ⊥
+
   -- the answer to the line numbered n, by its reading, and the world of the desk after it
   abbrev pub AnswersReading : Rules A W → ℕ → W → Line A → Answer A → W → Type 0
   AnswersReading rules n s line.Silent given t = (given ≡ answer.Quiet) × (t ≡ s)
   AnswersReading rules n s (line.Bad fault) given t = (given ≡ answer.Bad n fault) × (t ≡ s)
   AnswersReading rules n s (line.Apply c) given t = AnswersCommand rules s c given t
   AnswersReading rules n s (line.Ask q) given t = AnswersQuery rules n s q given t
+  AnswersReading rules n s (line.Print l) given t = AnswersListing rules n s l given t
 
   -- the answer to the line numbered n, whose text is from this station
   abbrev pub Answers : Rules A W → Station → ℕ → W → List Byte → Answer A → W → Type 0

@@ -1,3 +1,3 @@
 pub mod Feed
 pub mod Current
-pub mod Parts
+pub mod Given

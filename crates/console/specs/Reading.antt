@@ -24,11 +24,14 @@ use Rattle.centre_core.specs.declared.command.Body.{Body}
 use Rattle.centre_core.specs.declared.command.Body.TheVariants.{RuleSet, RuleClear, Mm, Sds, GroupSds, Sent, Expire, Delete}
 use Rattle.centre_core.specs.declared.query.Query.{Query}
 use Rattle.centre_core.specs.declared.query.Query.TheVariants.{Whereabouts, Look, GroupsOf, MembersOf, Waiting, Total}
+use Rattle.listings.specs.declared.listing.Listing.{Listing}
+use Rattle.listings.specs.declared.listing.Listing.TheVariants.{Entries, Last, Room}
+use Rattle.listings.specs.declared.listing.Table.TheVariants.{Rules, Radios, Items, Due}
 use Rattle.console.specs.declared.body.Head.{Head}
 use Rattle.console.specs.declared.line.LineFault.{LineFault}
 use Rattle.console.specs.declared.line.LineFault.TheVariants.{Syntax, Value, TooLong}
 use Rattle.console.specs.declared.line.Line.{Line}
-use Rattle.console.specs.declared.line.Line.TheVariants.{Silent, Bad, Apply, Ask}
+use Rattle.console.specs.declared.line.Line.TheVariants.{Silent, Bad, Apply, Ask, Print}
 
 -- no byte of the text is the mark
 abbrev pub Lacks : Byte → List Byte → Type 0
@@ -118,6 +121,26 @@ abbrev pub saying : {V S : Type 0} → (V → S) → Option V → Result S LineF
 saying says (Some value) = Ok (says value)
 saying says None = Err Value
 
+-- a station: 0 to 65,535
+abbrev pub station_in : List Byte → Option Station
+station_in word = result_ok (reading_number 65535 word)
+
+-- the radios under a prefix
+abbrev pub radios_under : Path → Listing
+radios_under prefix = Entries (Radios (Some prefix))
+
+-- the items that are due at a moment
+abbrev pub due_at : Moment → Listing
+due_at moment = Entries (Due moment)
+
+-- name WORD: a listing of a part, if the name is one of these
+abbrev pub listing_in : List Byte → List Byte → Option (Result Listing LineFault)
+listing_in name word =
+    if bytes_eq name (codes "radios") then Some (saying radios_under (prefix_in word))
+    else if bytes_eq name (codes "due") then Some (saying due_at (seconds_in word))
+    else if bytes_eq name (codes "last") then Some (saying Last (station_in word))
+    else None
+
 -- name ID: a query about an identity
 abbrev pub query_in : List Byte → List Byte → Result Query LineFault
 query_in name identity =
@@ -177,11 +200,35 @@ module _ {A : Type 0} where
   ask (Ok query) = Ask query
   ask (Err fault) = Bad fault
 
-  -- one or two words are a query, more are a command
+  -- a listing, or a bad line
+  abbrev pub print : Result Listing LineFault → Line A
+  print (Ok listing) = Print listing
+  print (Err fault) = Bad fault
+
+  -- a word alone: the count, or a listing
+  abbrev pub of_word : List Byte → Line A
+  of_word name =
+      if bytes_eq name (codes "count") then Ask Total
+      else if bytes_eq name (codes "rules") then Print (Entries Rules)
+      else if bytes_eq name (codes "radios") then Print (Entries (Radios None))
+      else if bytes_eq name (codes "items") then Print (Entries Items)
+      else if bytes_eq name (codes "room") then Print Room
+      else Bad Syntax
+
+  -- a listing, or else a query
+  abbrev pub listing_or : Option (Result Listing LineFault) → Result Query LineFault → Line A
+  listing_or (Some listing) query = print listing
+  listing_or None query = ask query
+
+  -- two words
+  abbrev pub of_two : List Byte → List Byte → Line A
+  of_two name word = listing_or (listing_in name word) (query_in name word)
+
+  -- one or two words are a query or a listing, more are a command
   abbrev pub of_words : Station → List (List Byte) → Line A
   of_words station [] = Bad Syntax
-  of_words station (name ∷ []) = if bytes_eq name (codes "count") then Ask Total else Bad Syntax
-  of_words station (name ∷ identity ∷ []) = ask (query_in name identity)
+  of_words station (name ∷ []) = of_word name
+  of_words station (name ∷ word ∷ []) = of_two name word
   of_words station (sequence ∷ moment ∷ name ∷ more) = command_line station (head_in sequence moment) (body_in name more)
 
 -- the most bytes of a line, without its end

@@ -1,5 +1,5 @@
 -- The lines that spell a command or a query.
-use Rattle.std.specs.Prelude.{◌≡◌, ◌↔◌, ◌⊎◌, ◌<◌, ◌≤◌, ◌^◌, Bool, true, false, length, List, [], ◌∷◌, codes, decimal}
+use Rattle.std.specs.Prelude.{◌≡◌, ◌↔◌, ◌⊎◌, ◌<◌, ◌≤◌, ◌^◌, Bool, true, false, length, List, [], ◌∷◌, Some, None, codes, decimal}
 use Rattle.std.specs.List.{join_with_byte, list_any}
 use Rattle.std.specs.Str.{bytes_eq}
 use Rattle.identity.specs.Numbers.{Byte}
@@ -14,9 +14,12 @@ use Rattle.centre_core.specs.declared.command.Body.TheVariants.{RuleSet, RuleCle
 use Rattle.centre_core.specs.Ranges.{InRange}
 use Rattle.centre_core.specs.declared.query.Query.{Query}
 use Rattle.centre_core.specs.declared.query.Query.TheVariants.{Whereabouts, Look, GroupsOf, MembersOf, Waiting, Total}
-use Rattle.console.specs.declared.line.Line.TheVariants.{Bad, Apply, Ask}
+use Rattle.listings.specs.Words.{kind_word}
+use Rattle.listings.specs.declared.listing.Listing.{Listing}
+use Rattle.listings.specs.declared.listing.Listing.TheVariants.{Entries, Last, Room}
+use Rattle.listings.specs.declared.listing.Table.TheVariants.{Rules, Radios, Items, Due}
+use Rattle.console.specs.declared.line.Line.TheVariants.{Bad, Apply, Ask, Print}
 use Rattle.console.specs.declared.line.LineFault.TheVariants.{Syntax, Value, TooLong}
-use Rattle.console.specs.Words.{kind_word}
 use Rattle.console.specs.Reading.{reading, words, is_silent, longest_line}
 
 -- words with single spaces between them
@@ -65,6 +68,26 @@ Askable (MembersOf gtsi) = gtsi < 2 ^ 48
 Askable (Waiting itsi) = itsi < 2 ^ 48
 Askable Total = Unit {0}
 
+-- a listing's line
+abbrev pub listing_line : Listing → List Byte
+listing_line (Entries Rules) = codes "rules"
+listing_line (Entries (Radios None)) = codes "radios"
+listing_line (Entries (Radios (Some prefix))) = spaced (codes "radios" ∷ prefix_text prefix ∷ [])
+listing_line (Entries Items) = codes "items"
+listing_line (Entries (Due moment)) = spaced (codes "due" ∷ decimal moment ∷ [])
+listing_line (Last station) = spaced (codes "last" ∷ decimal station ∷ [])
+listing_line Room = codes "room"
+
+-- the prefix, moment or station in a listing is in range
+abbrev pub Listable : Listing → Type 0
+Listable (Entries Rules) = Unit {0}
+Listable (Entries (Radios None)) = Unit {0}
+Listable (Entries (Radios (Some prefix))) = length prefix ≤ 48
+Listable (Entries Items) = Unit {0}
+Listable (Entries (Due moment)) = moment < 2 ^ 32
+Listable (Last station) = station < 2 ^ 16
+Listable Room = Unit {0}
+
 -- a line from this station gives a command: it spells that command, which is in range and of the station
 pub record GivesCommand {A : Type 0} (station : Station) (line : List Byte) (c : Command A) : Type 0 where
   pub of_station : c.station ≡ station
@@ -78,6 +101,12 @@ pub record GivesQuery (line : List Byte) (q : Query) : Type 0 where
   pub spelt : line ≡ query_text q
   pub short : length line ≤ longest_line
 
+-- a line gives a listing: it is that listing's line, and the listing is in range
+pub record GivesListing (line : List Byte) (l : Listing) : Type 0 where
+  pub in_range : Listable l
+  pub spelt : line ≡ listing_line l
+  pub short : length line ≤ longest_line
+
 -- a line is read as a command only if it gives that command
 abbrev pub OnlyCommands : Type 0 → Type 0
 OnlyCommands A = (station : Station) (line : List Byte) (c : Command A) → reading station line ≡ Apply c → GivesCommand station line c
@@ -85,6 +114,10 @@ OnlyCommands A = (station : Station) (line : List Byte) (c : Command A) → read
 -- a line is read as a query only if it gives that query
 abbrev pub OnlyQueries : Type 0 → Type 0
 OnlyQueries A = (station : Station) (line : List Byte) (q : Query) → reading {A = A} station line ≡ Ask q → GivesQuery line q
+
+-- a line is read as a listing only if it gives that listing
+abbrev pub OnlyListings : Type 0 → Type 0
+OnlyListings A = (station : Station) (line : List Byte) (l : Listing) → reading {A = A} station line ≡ Print l → GivesListing line l
 
 -- each line that spells a command in range is read as that command
 abbrev pub AllCommands : Type 0 → Type 0
@@ -94,14 +127,20 @@ AllCommands A = (line : List Byte) (c : Command A) → InRange c → SpellsComma
 abbrev pub AllQueries : Type 0 → Type 0
 AllQueries A = (station : Station) (q : Query) → Askable q → length (query_text q) ≤ longest_line → reading {A = A} station (query_text q) ≡ Ask q
 
+-- each line of a listing in range is read as that listing
+abbrev pub AllListings : Type 0 → Type 0
+AllListings A = (station : Station) (l : Listing) → Listable l → reading {A = A} station (listing_line l) ≡ Print l
+
 -- a word is one of these
 abbrev pub is_one_of : List (List Byte) → List Byte → Bool
 is_one_of names word = list_any (bytes_eq word) names
 
--- the forms of lines, by their number of words: a query is named by its first word, a command by its third
+-- the forms of lines, by their number of words: a query or a listing is named by its first word, a command by its third
 abbrev pub has_form : List (List Byte) → Bool
-has_form (name ∷ []) = is_one_of (codes "count" ∷ []) name
-has_form (name ∷ identity ∷ []) = is_one_of (codes "where" ∷ codes "look" ∷ codes "groups" ∷ codes "members" ∷ codes "mail" ∷ []) name
+has_form (name ∷ []) = is_one_of (codes "count" ∷ codes "rules" ∷ codes "radios" ∷ codes "items" ∷ codes "room" ∷ []) name
+has_form (name ∷ word ∷ []) =
+    is_one_of (codes "radios" ∷ codes "due" ∷ codes "last"
+    ∷ codes "where" ∷ codes "look" ∷ codes "groups" ∷ codes "members" ∷ codes "mail" ∷ []) name
 has_form (sequence ∷ moment ∷ name ∷ []) = is_one_of (codes "expire" ∷ []) name
 has_form (sequence ∷ moment ∷ name ∷ a ∷ []) = is_one_of (codes "unrule" ∷ []) name
 has_form (sequence ∷ moment ∷ name ∷ a ∷ b ∷ c ∷ []) = is_one_of (codes "mm" ∷ codes "sds" ∷ codes "gsds" ∷ []) name
@@ -117,9 +156,13 @@ IsCommandLine A station line = (c : Command A) × (c.station ≡ station) × InR
 abbrev pub IsQueryLine : List Byte → Type 0
 IsQueryLine line = (q : Query) × Askable q × (line ≡ query_text q)
 
--- a line spells a command of its station, or a query, in range
+-- a line spells a listing, in range
+abbrev pub IsListingLine : List Byte → Type 0
+IsListingLine line = (l : Listing) × Listable l × (line ≡ listing_line l)
+
+-- a line spells a command of its station, a query or a listing, in range
 abbrev pub SpellsSome : Type 0 → Station → List Byte → Type 0
-SpellsSome A station line = IsCommandLine A station line ⊎ IsQueryLine line
+SpellsSome A station line = IsCommandLine A station line ⊎ IsQueryLine line ⊎ IsListingLine line
 
 -- the line is short enough, and neither empty nor a comment
 abbrev pub IsJudged : List Byte → Type 0

@@ -17,6 +17,7 @@ abbrev pub SaysBroken : {A : Type 0} → Answer A → Type 0
 SaysBroken (answer.Replied sequence reply) = ⊥
 SaysBroken (answer.CommandOutage sequence word) = (word ≡ Broken) ⊎ (word ≡ Memory)
 SaysBroken (answer.Queried query_answer) = ⊥
+SaysBroken (answer.Listed lines) = ⊥
 SaysBroken (answer.QueryOutage line word) = word ≡ Broken
 SaysBroken other = Unit {0}
 

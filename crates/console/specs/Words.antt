@@ -11,8 +11,6 @@ use Rattle.sds_tl.specs.declared.fault.SdsFault.{SdsFault}
 use Rattle.sds_tl.specs.declared.fault.SdsFault.TheVariants as sds
 use Rattle.mailbox.specs.declared.fault.MailFault.{MailFault}
 use Rattle.mailbox.specs.declared.fault.MailFault.TheVariants as mail
-use Rattle.mailbox.specs.declared.key.Kind.{Kind}
-use Rattle.mailbox.specs.declared.key.Kind.TheVariants as kind
 use Rattle.console.specs.declared.line.LineFault.{LineFault}
 use Rattle.console.specs.declared.line.LineFault.TheVariants as line
 
@@ -70,8 +68,3 @@ mail_word mail.CentreFull = codes "centre-full"
 mail_word mail.NoSuchMessage = codes "no-such-message"
 mail_word mail.NoMemory = codes "memory"
 mail_word mail.NoMembers = codes "no-members"
-
--- the kind of an item
-abbrev pub kind_word : Kind → List Byte
-kind_word kind.Message = codes "m"
-kind_word kind.Report = codes "r"

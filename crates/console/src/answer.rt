@@ -1,5 +1,6 @@
 ghost use Rattle.std.specs.Prelude.{◌≡◌, ◌≤◌, ◌<◌, ◌+◌, ◌++◌, OnOk, OnErr, length, vec_len, vec_capacity};
-ghost use Rattle.console.specs.Answer.{text, is_trouble, IsLine, answer_room};
+ghost use Rattle.console.specs.Answer.{text, is_trouble, IsLine};
+ghost use Rattle.listings.specs.Parts.{answer_room};
 
 use crate::answer_text::put_answer;
 use crate::line::LineFault;
@@ -7,6 +8,37 @@ use centre_core::{QueryAnswer, Reply, Sequence};
 use desk::Outage;
 use identity::put_whole;
 use std::alloc::{AllocError, Allocator};
+use std::marker::Model;
+
+/// The lines of a listing, with their ends. Contracts model them as their bytes.
+#[derive(Drop)]
+pub struct Lines<B: Allocator> {
+    bytes: Vec<u8, B>,
+}
+
+impl<B: Allocator> Model for Lines<B> {
+    ghost use Rattle.std.specs.Prelude.{List, ℕ};
+
+    ghost Value = { List ℕ };
+
+    ghost view = { λ l. l.bytes.items };
+}
+
+impl<B: Allocator> Lines<B> {
+    /// These bytes as the lines of a listing.
+    pub fn new(bytes: Vec<u8, B>) -> Self
+        ensures { result ≡ bytes.items }
+    {
+        Lines { bytes }
+    }
+
+    /// Their bytes.
+    pub fn as_slice(&self) -> &[u8]
+        ensures { result.now ≡ self.now }
+    {
+        self.bytes.as_slice()
+    }
+}
 
 /// The answer to a line.
 #[derive(Drop)]
@@ -21,7 +53,9 @@ pub enum Answer<B: Allocator> {
     CommandOutage(Sequence, Outage),
     /// The answer to a query.
     Queried(QueryAnswer<B>),
-    /// The query in the line of this number was not answered.
+    /// The lines of a listing.
+    Listed(Lines<B>),
+    /// The query or listing in the line of this number was not answered.
     QueryOutage(u64, Outage),
 }
 

@@ -5,16 +5,19 @@ ghost use Rattle.identity.specs.NumberText.{IsPrefixOf};
 ghost use Rattle.identity.specs.IdentityText.{identity_text};
 ghost use Rattle.centre_core.specs.Ranges.{IsShort};
 ghost use Rattle.desk.specs.Replies.{HasShortPdu, HasShortReject};
-ghost use Rattle.console.specs.Inside.Parts.{part_text, part_room, pdu_room};
-ghost use Rattle.console.specs.Answer.{text, pdu_text, reply_text, refusal_text, query_answer_text, whereabouts_text, rule_text, presence_text};
-ghost use Rattle.console.specs.Answer.{IsOneLine, IsLine, answer_room};
+ghost use Rattle.listings.specs.Parts.{part_text, part_room, pdu_room};
+ghost use Rattle.listings.specs.Words.{pdu_text, presence_text};
+ghost use Rattle.console.specs.Answer.{text, reply_text, refusal_text, query_answer_text, whereabouts_text, rule_text};
+ghost use Rattle.listings.specs.Lines.{radio_words, rule_words};
+ghost use Rattle.listings.specs.Parts.{answer_room};
+ghost use Rattle.console.specs.Answer.{IsOneLine, IsLine};
 
 use crate::answer::Answer;
 use crate::lists::{put_count, put_groups, put_items, put_members};
-use crate::text_part::{Part, pdu_part, put_parts};
 use crate::words::{group_word, line_word, mail_word, mm_word, registration_word, sds_word};
 use centre_core::{QueryAnswer, Refusal, Reply, Sequence};
 use identity::{Bits, Itsi, Prefix};
+use listings::{Part, pdu_part, presence_word, put_parts};
 use registration::{Radio, Rule};
 use std::alloc::{AllocError, Allocator};
 
@@ -35,6 +38,7 @@ pub(crate) fn put_answer<A: Allocator, B: Allocator>(
         Answer::Replied(sequence, reply) => put_reply(out, *sequence, reply),
         Answer::CommandOutage(sequence, word) => put_refused(out, *sequence, word.word()),
         Answer::Queried(query_answer) => put_query_answer(out, query_answer),
+        Answer::Listed(lines) => out.extend_from_slice(lines.as_slice()),
         Answer::QueryOutage(line, word) => put_of_line(out, *line, " no ", word.word()),
     }
 }
@@ -323,10 +327,4 @@ fn put_total<A: Allocator>(out: &mut Vec<u8, A>, count: u64) -> Result<(), Alloc
 {
     let line: [Part; 3] = [Part::Text("count "), Part::Number(count), Part::Text("\n")];
     put_parts(out, &line)
-}
-
-fn presence_word(present: bool) -> &'static str
-    ensures { result.now ≡ presence_text present }
-{
-    if present { " present" } else { " absent" }
 }

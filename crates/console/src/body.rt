@@ -5,15 +5,16 @@ ghost use Rattle.identity.specs.IdentityText.{reading_identity, reading_prefix};
 ghost use Rattle.identity.specs.BitsText.{reading_bits};
 ghost use Rattle.centre_core.specs.declared.query.Query.TheVariants.{Whereabouts};
 ghost use Rattle.centre_core.specs.declared.command.Body.TheVariants.{RuleClear};
-ghost use Rattle.console.specs.Reading.{query_in, body_in, mm_body, sds_body, group_sds_body, rule_body, GivesPdu, head_in};
+ghost use Rattle.console.specs.Reading.{listing_in, station_in, query_in, body_in, mm_body, sds_body, group_sds_body, rule_body, GivesPdu, head_in};
 ghost use Rattle.console.specs.Reading.{seconds_in, sequence_in, area_in, lifetime_in, rule_in, reference_in, kind_in, key_in, saying};
 
 use crate::line::LineFault;
 use centre_core::{Body, Query, Sequence};
 use identity::{Bits, Fault, parse_bits, parse_gtsi, parse_itsi, parse_number, parse_prefix};
+use listings::{Listing, Table};
 use mailbox::{Key, Kind, Moment};
 use mm_pdus::Lifetime;
-use registration::{LocationArea, Rule};
+use registration::{LocationArea, Rule, Station};
 use sds_tl::MessageReference;
 use std::alloc::{AllocError, Allocator};
 
@@ -32,6 +33,24 @@ pub(crate) fn head_in(sequence: &[u8], moment: &[u8]) -> Option<Head>
     let sequence = sequence_in(sequence)?;
     let moment = Moment::new(seconds_in(moment)?);
     Some(Head { sequence, moment })
+}
+
+/// A listing of a part: `radios PREFIX`, `due MOMENT` or `last STATION`. `None` for another name.
+pub(crate) fn listing_in(name: &[u8], word: &[u8]) -> Option<Result<Listing, LineFault>>
+    ensures { result ≡ listing_in name.now word.now }
+{
+    let listing = if name == b"radios".as_slice() {
+        let prefix = parse_prefix(word).ok();
+        prefix.map(|prefix| Listing::Entries(Table::Radios(Some(prefix))))
+    } else if name == b"due".as_slice() {
+        let moment = seconds_in(word);
+        moment.map(|moment| Listing::Entries(Table::Due(Moment::new(moment))))
+    } else if name == b"last".as_slice() {
+        station_in(word).map(Listing::Last)
+    } else {
+        return None;
+    };
+    Some(listing.ok_or(LineFault::Value))
 }
 
 /// A query about an identity.
@@ -246,6 +265,16 @@ fn sequence_in(word: &[u8]) -> Option<Sequence>
     match seconds_in(word) {
         Some(sequence) => Sequence::new(sequence),
         None => None,
+    }
+}
+
+#[tactic(auto, unfolding(identity::specs::NumberText::reading_number))]
+fn station_in(word: &[u8]) -> Option<Station>
+    ensures { result ≡ station_in word.now }
+{
+    match parse_number(word, 65_535) {
+        Ok(station) => Some(Station::new(station as u16)),
+        Err(_) => None,
     }
 }
 

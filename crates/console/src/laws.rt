@@ -2,7 +2,7 @@
 //! commands and replies; nothing depends on it.
 
 ghost use Rattle.console.specs.Dialogue.{CutOffIsPrefix, OneText};
-ghost use Rattle.console.specs.Spelling.{OnlyCommands, OnlyQueries, AllCommands, AllQueries, BadLines};
+ghost use Rattle.console.specs.Spelling.{OnlyCommands, OnlyQueries, OnlyListings, AllCommands, AllQueries, AllListings, BadLines};
 ghost use Rattle.desk.specs.OfRegister.{of_register};
 ghost use Rattle.desk.specs.OfStore.{of_store};
 ghost use Rattle.console.specs.Stored.{BrokenAfterDevice, RegisterAtDevice, StoredAsRegister};
@@ -36,16 +36,18 @@ pub fn stored_as_register<A: Allocator>()
     ensures { StoredAsRegister A }
 {}
 
-/// A line is read as a command or a query only if it spells that, with values in range.
+/// A line is read as a command, a query or a listing only if it spells that, with values in range.
 pub fn only_what_is_spelled<A: Allocator>()
     ensures commands { OnlyCommands A }
     ensures queries { OnlyQueries A }
+    ensures listings { OnlyListings A }
 {}
 
-/// A line that spells a command or a query is read as that.
+/// A line that spells a command, a query or a listing is read as that.
 pub fn all_that_is_spelled<A: Allocator>()
     ensures commands { AllCommands A }
     ensures queries { AllQueries A }
+    ensures listings { AllListings A }
 {}
 
 /// Which lines are too long, which have no form (`syntax`), and which have a form but spell nothing (`value`).

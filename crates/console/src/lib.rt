@@ -16,10 +16,9 @@ mod output;
 mod progress;
 mod running;
 mod serving;
-mod text_part;
 mod words;
 
-pub use answer::{Answer, print_answer};
+pub use answer::{Answer, Lines, print_answer};
 pub use desk::{Desk, Outage};
 pub use input::Input;
 pub use line::{Line, LineFault, parse_line};

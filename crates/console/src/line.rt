@@ -1,9 +1,10 @@
 ghost use Rattle.std.specs.Prelude.{◌≡◌, ◌∷◌, [], Some, IfOk, IfErr, OnErr, IsSome, option_map, MatchOption, ◌<◌, ◌≤◌, length, map, take, slice_get};
 ghost use Rattle.centre_core.specs.Ranges.{IsShort, pdu_of};
-ghost use Rattle.console.specs.Reading.{reading, sequence_of, Lacks, words, words_after, of_words, body_in, command_line, ask};
+ghost use Rattle.console.specs.Reading.{reading, sequence_of, Lacks, words, words_after, of_words, of_word, of_two, body_in, command_line, ask, print};
 
-use crate::body::{Head, body_in, head_in, query_in};
+use crate::body::{Head, body_in, head_in, listing_in, query_in};
 use centre_core::{Body, Command, Query, Sequence};
+use listings::{Listing, Table};
 use memchr::memchr;
 use registration::Station;
 use std::alloc::{AllocError, Allocator};
@@ -33,6 +34,8 @@ pub enum Line<A: Allocator> {
     Apply(Command<A>),
     /// A query.
     Ask(Query),
+    /// A listing.
+    Print(Listing),
 }
 
 /// Memory ran out for the PDU of the command of this sequence.
@@ -144,7 +147,7 @@ fn read_words<A: Allocator>(alloc: A, station: Station, words: &[&[u8]]) -> Resu
     match words {
         [] => Ok(Line::Bad(LineFault::Syntax)),
         [name] => Ok(read_one(name)),
-        [name, identity] => Ok(ask(query_in(name, identity))),
+        [name, word] => Ok(read_two(name, word)),
         [sequence, moment, name, more @ ..] => {
             read_command(alloc, station, head_in(sequence, moment), name, more)
         }
@@ -152,12 +155,38 @@ fn read_words<A: Allocator>(alloc: A, station: Station, words: &[&[u8]]) -> Resu
 }
 
 fn read_one<A: Allocator>(name: &[u8]) -> Line<A>
-    ensures { result ≡ of_words 0 (name.now ∷ []) }
+    ensures { result ≡ of_word name.now }
 {
     if name == b"count".as_slice() {
         Line::Ask(Query::Total)
+    } else if name == b"rules".as_slice() {
+        Line::Print(Listing::Entries(Table::Rules))
+    } else if name == b"radios".as_slice() {
+        Line::Print(Listing::Entries(Table::Radios(None)))
+    } else if name == b"items".as_slice() {
+        Line::Print(Listing::Entries(Table::Items))
+    } else if name == b"room".as_slice() {
+        Line::Print(Listing::Room)
     } else {
         Line::Bad(LineFault::Syntax)
+    }
+}
+
+fn read_two<A: Allocator>(name: &[u8], word: &[u8]) -> Line<A>
+    ensures { result ≡ of_two name.now word.now }
+{
+    match listing_in(name, word) {
+        Some(listing) => print(listing),
+        None => ask(query_in(name, word)),
+    }
+}
+
+fn print<A: Allocator>(listing: Result<Listing, LineFault>) -> Line<A>
+    ensures { result ≡ print listing }
+{
+    match listing {
+        Ok(listing) => Line::Print(listing),
+        Err(fault) => Line::Bad(fault),
     }
 }
 

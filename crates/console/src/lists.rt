@@ -3,14 +3,12 @@ ghost use Rattle.std.specs.Prelude.{◌≡◌, ◌≤◌, ◌<◌, ◌+◌, ◌+
 ghost use Rattle.std.specs.List.{flat_map};
 ghost use Rattle.identity.specs.NumberText.{IsPrefixOf};
 ghost use Rattle.identity.specs.IdentityText.{identity_text};
-ghost use Rattle.console.specs.Inside.Parts.{part_text, part_room, pdu_room};
-ghost use Rattle.console.specs.Answer.{group_text, member_text, item_text, item_end, key_text};
+ghost use Rattle.listings.specs.Parts.{part_text, part_room, pdu_room};
+ghost use Rattle.console.specs.Answer.{group_text, member_text, item_text};
 
-use crate::text_part::{Part, put_parts};
-use crate::words::kind_word;
 use group_attach::Attachment;
-use identity::Gtsi;
-use mailbox::{Item, Key};
+use listings::{Part, put_item_end, put_key, put_parts};
+use mailbox::Item;
 use std::alloc::{AllocError, Allocator};
 
 /// How many lines of a list follow.
@@ -137,37 +135,4 @@ fn put_item<A: Allocator, B: Allocator>(
         ],
     )?;
     put_item_end(out, item.group())
-}
-
-/// The end of an item's line, which names the group of a copy.
-#[tactic(auto, using(std::proofs::Common::append_assoc))]
-fn put_item_end<A: Allocator>(out: &mut Vec<u8, A>, group: Option<Gtsi>) -> Result<(), AllocError>
-    ensures ok { OnOk result (out.new.items ≡ out.old.items ++ item_end group) }
-    ensures err { OnErr result (IsPrefixOf out.old.items out.new.items) }
-    ensures full { OnErr result (vec_capacity out.old < vec_len out.old + length (item_end group)) }
-    ensures capacity { vec_capacity out.old ≤ vec_capacity out.new }
-{
-    let Some(group) = group else {
-        let end: [Part; 1] = [Part::Text("\n")];
-        return put_parts(out, &end);
-    };
-    let end: [Part; 3] = [Part::Text(" "), Part::Group(group), Part::Text("\n")];
-    put_parts(out, &end)
-}
-
-#[tactic(auto, using(std::proofs::Common::append_assoc))]
-fn put_key<A: Allocator>(out: &mut Vec<u8, A>, key: Key) -> Result<(), AllocError>
-    ensures ok { OnOk result (out.new.items ≡ out.old.items ++ key_text key) }
-    ensures err { OnErr result (IsPrefixOf out.old.items out.new.items) }
-    ensures full { OnErr result (vec_capacity out.old < vec_len out.old + length (key_text key)) }
-    ensures capacity { vec_capacity out.old ≤ vec_capacity out.new }
-{
-    let words: [Part; 5] = [
-        Part::Text(kind_word(key.kind)),
-        Part::Text(" "),
-        Part::Radio(key.source),
-        Part::Text(" "),
-        Part::Number(u64::from(key.reference.number())),
-    ];
-    put_parts(out, &words)
 }

@@ -1,14 +1,18 @@
 //! How far a run has come.
-ghost use Rattle.std.specs.Prelude.{◌≡◌, ◌++◌, ◌≤◌, [], List, ℕ, MatchBool, option_map, length, ◌<◌, false, vec_capacity};
+ghost use Rattle.std.specs.Prelude.{◌≡◌, ◌⊎◌, ◌++◌, ◌≤◌, [], List, ℕ, Err, IfErr, MatchBool, OnOk, option_map, length, ◌<◌, false, vec_capacity};
 ghost use Rattle.console.specs.declared.progress.TheConstants.{ANSWER, ROOM};
-ghost use Rattle.console.specs.Answer.{text, answer_room, HasNoLongPdu};
+ghost use Rattle.desk.specs.Listed.{IsListed};
+ghost use Rattle.console.specs.Answer.{text};
+ghost use Rattle.console.specs.Dialogue.{LacksLines};
+ghost use Rattle.console.specs.Inside.Given.{IsPrintable, IsTextFor, MayBePrinted, answer_of};
 ghost use Rattle.std.specs.Str.Lines.{strip_carriage_return};
 ghost use Rattle.console.specs.Inside.Current.{Holds, HoldsWith, line_at_end, KeepsLine, IsGivenFor};
 
 use crate::answer::{Answer, print_answer};
 use crate::line::LONGEST;
 use crate::running::Ran;
-use desk::Outage;
+use desk::{Desk, Outage};
+use listings::Listing;
 use std::alloc::{AllocError, Allocator};
 
 /// The most bytes of a line that are kept: a line of the greatest length, and a carriage return.
@@ -114,6 +118,15 @@ fn without_return(line: &[u8]) -> &[u8]
     line
 }
 
+/// What is given for a line, before its text is written.
+#[derive(Drop)]
+pub(crate) enum Given<B: Allocator> {
+    /// An answer.
+    Answered(Answer<B>),
+    /// A listing, whose lines are in the text already.
+    Listed,
+}
+
 /// Room for an answer of one line. Even `SEQ kept NUMBER PDU` with a PDU of 2,048 bits takes at most half of it.
 const ANSWER: usize = 1024;
 
@@ -135,8 +148,8 @@ impl<A: Allocator> AnswerText<A> {
     /// Makes the text of the answer to the line of this number, and returns that answer. When memory runs out for the
     /// text of a list, the answer is `memory` instead.
     #[inline(always)]
-    pub(crate) fn hold<B: Allocator + Drop>(&mut self, number: u64, answer: Answer<B>) -> Answer<B>
-        requires { HasNoLongPdu answer }
+    fn print<B: Allocator + Drop>(&mut self, number: u64, answer: Answer<B>) -> Answer<B>
+        requires { IsPrintable answer }
         ensures held { IsGivenFor number answer result }
         ensures text { self.new.bytes.items ≡ text result }
     {
@@ -147,6 +160,28 @@ impl<A: Allocator> AnswerText<A> {
         let query_outage = Answer::QueryOutage(number, Outage::Memory);
         print_answer(&mut self.bytes, &query_outage).unwrap();
         query_outage
+    }
+
+    /// Makes the text of what is given for the line of this number, and returns whether it reports trouble.
+    #[inline(always)]
+    pub(crate) fn hold<B: Allocator + Drop>(&mut self, number: u64, given: Given<B>) -> bool
+        requires { MayBePrinted given }
+        ensures { IsTextFor number (answer_of self.old.bytes.items given) self.new.bytes.items result }
+    {
+        match given {
+            Given::Answered(answer) => self.print(number, answer).is_trouble(),
+            Given::Listed => false,
+        }
+    }
+
+    /// Makes the text of a listing of a desk's register.
+    pub(crate) fn list<D: Desk<A>>(&mut self, desk: &mut D, listing: &Listing) -> Result<(), Outage>
+        ensures listed { OnOk result (IsListed D.rules (D.world desk.old) listing.now [] self.new.bytes.items (D.world desk.new)) }
+        ensures unlisted { IfErr result (λ word. D.rules.reads (D.world desk.old) (Err word) (D.world desk.new)
+            ⊎ LacksLines D.rules (D.world desk.old) listing.now word (D.world desk.new)) }
+    {
+        self.bytes.clear();
+        desk.list(listing, &mut self.bytes)
     }
 
     pub(crate) fn as_slice(&self) -> &[u8]

@@ -1,7 +1,7 @@
 //! Answering lines as their bytes come.
 ghost use Rattle.std.specs.Prelude.{◌≡◌, ◌⊎◌, ◌≤◌, ◌<◌, ◌+◌, ◌-◌, ◌^◌, ◌++◌, ◌∷◌, [], List, ℕ, length, take, drop, slice_get};
 ghost use Rattle.std.specs.Prelude.{MatchOption, option_map, IfErr, IsErrOf, OnOk, OnErr, Some};
-ghost use Rattle.console.specs.Answer.{HasNoLongPdu};
+ghost use Rattle.console.specs.Inside.Given.{MayBePrinted, answer_of};
 ghost use Rattle.console.specs.Inside.Feed.{Sends, SendsPrefix, GoesOn, StopsWithin, EndsSo, IsSameRun, reached_by, start_at, outcome_at};
 ghost use Rattle.console.specs.Failures.{failures_reported};
 ghost use Rattle.console.specs.Inside.Current.{HasNoEnd, KeepsLine};
@@ -13,7 +13,7 @@ use crate::answer::Answer;
 use crate::input::Input;
 use crate::line::{Line, LineFault, read_line};
 use crate::output::Output;
-use crate::progress::Progress;
+use crate::progress::{AnswerText, Given, Progress};
 use crate::running::{Piece, Ran, RunFault, Terms};
 use desk::{Desk, Outage};
 use memchr::memchr;
@@ -31,32 +31,37 @@ struct Asked<'a> {
     line: Option<&'a [u8]>,
 }
 
-/// Does what a station's line asks, and returns the answer.
+/// Does what a station's line asks, and returns what is given for it. The lines of a listing are put into `text`.
 #[inline(always)]
 fn answer_line<A: Allocator + Copy, D: Desk<A>>(
     terms: &Terms<A>,
     asked: Asked,
     desk: &mut D,
-) -> Answer<A>
+    text: &mut AnswerText<A>,
+) -> Given<A>
     ensures answers { (whole : List ℕ) → KeepsLine (option_map (λ l. l.now) asked.entry.line) whole
-        → Answers D.rules terms.now.station asked.entry.number (D.world desk.old) whole result (D.world desk.new) }
-    ensures short { HasNoLongPdu result }
+        → Answers D.rules terms.now.station asked.entry.number (D.world desk.old) whole (answer_of text.new.bytes.items result) (D.world desk.new) }
+    ensures printable { MayBePrinted result }
 {
     let Some(line) = asked.line else {
-        return Answer::Bad(asked.number, LineFault::TooLong);
+        return Given::Answered(Answer::Bad(asked.number, LineFault::TooLong));
     };
     match read_line(terms.alloc, terms.station, line) {
-        Ok(Line::Silent) => Answer::Quiet,
-        Ok(Line::Bad(fault)) => Answer::Bad(asked.number, fault),
+        Ok(Line::Silent) => Given::Answered(Answer::Quiet),
+        Ok(Line::Bad(fault)) => Given::Answered(Answer::Bad(asked.number, fault)),
         Ok(Line::Apply(command)) => match desk.apply(terms.alloc, &command) {
-            Ok(reply) => Answer::Replied(command.sequence, reply),
-            Err(word) => Answer::CommandOutage(command.sequence, word),
+            Ok(reply) => Given::Answered(Answer::Replied(command.sequence, reply)),
+            Err(word) => Given::Answered(Answer::CommandOutage(command.sequence, word)),
         },
         Ok(Line::Ask(query)) => match desk.query(terms.alloc, &query) {
-            Ok(query_answer) => Answer::Queried(query_answer),
-            Err(word) => Answer::QueryOutage(asked.number, word),
+            Ok(query_answer) => Given::Answered(Answer::Queried(query_answer)),
+            Err(word) => Given::Answered(Answer::QueryOutage(asked.number, word)),
         },
-        Err(unread) => Answer::CommandOutage(unread.sequence, Outage::Memory),
+        Ok(Line::Print(listing)) => match text.list(desk, &listing) {
+            Ok(()) => Given::Listed,
+            Err(word) => Given::Answered(Answer::QueryOutage(asked.number, word)),
+        },
+        Err(unread) => Given::Answered(Answer::CommandOutage(unread.sequence, Outage::Memory)),
     }
 }
 
@@ -64,13 +69,15 @@ fn answer_line<A: Allocator + Copy, D: Desk<A>>(
 #[inline(always)]
 fn send_answer<A: Allocator + Copy + Drop, W: Write, G: Ledger>(
     progress: &mut Progress<A>,
-    answer: Answer<A>,
+    given: Given<A>,
     output: &mut Output<W, G>,
 ) -> Result<(), RunFault>
     requires room { progress.old.lines + 1 < 2 ^ 64 }
-    requires short { HasNoLongPdu answer }
-    ensures ok { OnOk result (Sends progress.old (W.contents output.old.writer.now) answer progress.new (W.contents output.new.writer.now)) }
-    ensures err { OnErr result (SendsPrefix progress.old.lines (W.contents output.old.writer.now) answer (W.contents output.new.writer.now)) }
+    requires printable { MayBePrinted given }
+    ensures ok { OnOk result (Sends progress.old (W.contents output.old.writer.now) (answer_of progress.old.out.bytes.items given)
+        progress.new (W.contents output.new.writer.now)) }
+    ensures err { OnErr result (SendsPrefix progress.old.lines (W.contents output.old.writer.now) (answer_of progress.old.out.bytes.items given)
+        (W.contents output.new.writer.now)) }
     ensures lines { progress.new.lines ≤ progress.old.lines + 1 }
     ensures stops { IfErr result (λ e. e ≡ RunFault.Write) }
     ensures writer { output.new.writer.ghost_name ≡ output.old.writer.ghost_name }
@@ -78,10 +85,10 @@ fn send_answer<A: Allocator + Copy + Drop, W: Write, G: Ledger>(
     ensures ledger { output.new.failures.now ≡ output.old.failures.now + failures_reported result }
 {
     let number = progress.lines + 1;
-    let held = progress.out.hold(number, answer);
+    let troubled = progress.out.hold(number, given);
     output.send(progress.out.as_slice())?;
     progress.lines = number;
-    progress.troubled = progress.troubled | held.is_trouble();
+    progress.troubled = progress.troubled | troubled;
     progress.current.clear();
     Ok(())
 }
@@ -147,8 +154,8 @@ impl<'t, 'p, 'o, 'd, 'w, 'f, A: Allocator + Copy + Drop, W: Write, G: Ledger, D:
             number: progress.lines + 1,
             line: progress.current.ended(run),
         };
-        let answer = answer_line(self.terms, asked, self.desk);
-        send_answer(progress, answer, self.output)
+        let given = answer_line(self.terms, asked, self.desk, &mut progress.out);
+        send_answer(progress, given, self.output)
     }
 
     /// Takes a piece of the text, and answers each line that it ends.
@@ -186,8 +193,8 @@ impl<'t, 'p, 'o, 'd, 'w, 'f, A: Allocator + Copy + Drop, W: Write, G: Ledger, D:
             number: progress.lines + 1,
             line: progress.current.line(false),
         };
-        let answer = answer_line(self.terms, asked, self.desk);
-        send_answer(progress, answer, self.output)?;
+        let given = answer_line(self.terms, asked, self.desk, &mut progress.out);
+        send_answer(progress, given, self.output)?;
         Ok(progress.ran())
     }
 

@@ -1,10 +1,10 @@
 //! The words of the answers.
 ghost use Rattle.std.specs.Prelude.{◌≡◌, ◌≤◌, length};
-ghost use Rattle.console.specs.Words.{line_word, mm_word, registration_word, group_word, sds_word, mail_word, kind_word};
+ghost use Rattle.console.specs.Words.{line_word, mm_word, registration_word, group_word, sds_word, mail_word};
 
 use crate::line::LineFault;
 use group_attach::GroupFault;
-use mailbox::{Kind, MailFault};
+use mailbox::MailFault;
 use mm_pdus::MmFault;
 use registration::RegFault;
 use sds_tl::SdsFault;
@@ -91,14 +91,5 @@ pub(crate) fn mail_word(fault: MailFault) -> &'static str
         MailFault::NoSuchMessage => "no-such-message",
         MailFault::NoMemory => "memory",
         MailFault::NoMembers => "no-members",
-    }
-}
-
-pub(crate) fn kind_word(kind: Kind) -> &'static str
-    ensures { result.now ≡ kind_word kind }
-{
-    match kind {
-        Kind::Message => "m",
-        Kind::Report => "r",
     }
 }

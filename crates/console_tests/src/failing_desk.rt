@@ -7,6 +7,7 @@ use crate::answered::are_answered;
 use crate::limits::usual;
 use centre_core::{Command, Query, QueryAnswer, Register, Reply, Sequence};
 use console::{Answer, Desk, Outage, print_answer};
+use listings::{Listing, print_listing};
 use std::alloc::{Allocator, Global};
 use std::test::Fail;
 
@@ -59,6 +60,16 @@ impl<A: Allocator + Copy, B: Allocator + Clone> Desk<A> for FailingDesk<B> {
             Err(_) => Err(Outage::Memory),
         }
     }
+
+    fn list(&mut self, listing: &Listing, out: &mut Vec<u8, A>) -> Result<(), Outage> {
+        if self.broken {
+            return Err(Outage::Broken);
+        }
+        match print_listing(out, &self.register, listing) {
+            Ok(()) => Ok(()),
+            Err(_) => Err(Outage::Memory),
+        }
+    }
 }
 
 /// Whether these are the answers of a new desk with so much room and so many sound commands.
@@ -86,8 +97,8 @@ const ROWS: [(u32, u32, &str, &str); 2] = [
     (
         9,
         1,
-        "1 0 expire\ncount\n2 0 expire\n3 0 expire\ncount\nwhat\n",
-        "1 ok 1 -\ncount 1\n2 no device\n3 no broken\nline 5 no broken\nline 6 bad syntax\n",
+        "1 0 expire\ncount\nradios\n2 0 expire\n3 0 expire\ncount\nroom\nradios\nwhat\n",
+        "1 ok 1 -\ncount 1\nradios 0\n2 no device\n3 no broken\nline 6 no broken\nline 7 no broken\nline 8 no broken\nline 9 bad syntax\n",
     ),
     (
         1,

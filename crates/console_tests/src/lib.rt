@@ -20,6 +20,8 @@ mod group_copies;
 #[cfg(test)]
 mod limits;
 #[cfg(test)]
+mod listed;
+#[cfg(test)]
 mod lists;
 #[cfg(test)]
 mod long_runs;

@@ -1,5 +1,6 @@
 pub mod Words
 pub mod Replies
 pub mod Rules
+pub mod Listed
 pub mod OfRegister
 pub mod OfStore

@@ -24,6 +24,11 @@ abbrev pub Answers : {B : Type 0} → State → Query → Result (QueryAnswer B)
 Answers s q (Ok answer) t = (t ≡ s) × (answer ≡ answer_to s q)
 Answers s q (Err word) t = (word ≡ Memory) × (t ≡ s) × AsksForList q
 
+-- it is listed as it is
+abbrev pub Reads : State → Result State Outage → State → Type 0
+Reads s (Ok r) t = (t ≡ s) × (r ≡ s)
+Reads s (Err word) t = ⊥
+
 -- a register that nobody else changes
 abbrev pub of_register : {A : Type 0} → Rules A State
-of_register = record { applies = Applies; answers = Answers }
+of_register = record { applies = Applies; answers = Answers; reads = Reads }

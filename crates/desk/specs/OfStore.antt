@@ -49,6 +49,15 @@ StoreAnswers s q (Err Device) t = ⊥
 StoreAnswers s q (Err Epochs) t = ⊥
 StoreAnswers s q (Err Closed) t = ⊥
 
+-- its register is listed as it is, and the disk is not read
+abbrev pub StoreReads : Stored → Result State Outage → Stored → Type 0
+StoreReads s (Ok r) t = (s.broken ≡ false) × (t ≡ s) × (r ≡ s.register)
+StoreReads s (Err Broken) t = (s.broken ≡ true) × (t ≡ s)
+StoreReads s (Err Memory) t = ⊥
+StoreReads s (Err Device) t = ⊥
+StoreReads s (Err Epochs) t = ⊥
+StoreReads s (Err Closed) t = ⊥
+
 -- a register on a disk that nobody else changes
 abbrev pub of_store : {A : Type 0} → Rules A Stored
-of_store = record { applies = StoreApplies; answers = StoreAnswers }
+of_store = record { applies = StoreApplies; answers = StoreAnswers; reads = StoreReads }

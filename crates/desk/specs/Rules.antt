@@ -1,12 +1,15 @@
 -- The rules of desks. A is the allocator of the bits of commands and replies; nothing depends on it.
 use Rattle.std.specs.Prelude.{Result}
+use Rattle.centre_core.specs.State.{State}
 use Rattle.centre_core.specs.declared.command.Command.{Command}
 use Rattle.centre_core.specs.declared.reply.Reply.{Reply}
 use Rattle.centre_core.specs.declared.query.Query.{Query}
 use Rattle.centre_core.specs.declared.query.QueryAnswer.{QueryAnswer}
 use Rattle.desk.specs.declared.outage.Outage.{Outage}
 
--- what desks of a kind, which are modelled as values of W, may do at a command and at a query
+-- what desks of a kind, which are modelled as values of W, may do at a command and at a query, and which register they read for a
+-- listing
 pub record Rules (A W : Type 0) : Type 1 where
   pub applies : W → Command A → Result (Reply A) Outage → W → Type 0
   pub answers : W → Query → Result (QueryAnswer A) Outage → W → Type 0
+  pub reads : W → Result State Outage → W → Type 0

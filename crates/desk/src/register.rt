@@ -6,6 +6,7 @@ use crate::desk::Desk;
 use crate::outage::Outage;
 use centre_core::laws::registers;
 use centre_core::{Command, Query, QueryAnswer, Register, Reply};
+use listings::{Listing, print_listing};
 use std::alloc::Allocator;
 
 impl<A: Allocator + Copy, B: Allocator + Clone> Desk<A> for Register<B> {
@@ -26,6 +27,13 @@ impl<A: Allocator + Copy, B: Allocator + Clone> Desk<A> for Register<B> {
     fn query(&mut self, alloc: A, query: &Query) -> Result<QueryAnswer<A>, Outage> {
         match Register::query(self, alloc, query) {
             Ok(answer) => Ok(answer),
+            Err(_) => Err(Outage::Memory),
+        }
+    }
+
+    fn list(&mut self, listing: &Listing, out: &mut Vec<u8, A>) -> Result<(), Outage> {
+        match print_listing(out, self, listing) {
+            Ok(()) => Ok(()),
             Err(_) => Err(Outage::Memory),
         }
     }

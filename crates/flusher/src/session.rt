@@ -9,6 +9,7 @@ use crate::decision::Decision;
 use crate::response::Response;
 use answers::AnswerReceiver;
 use centre_core::{Command, Query, QueryAnswer, Reply};
+use listings::Listing;
 use registration::Station;
 use snapshots::{Centre, Published, ReadFault, Viewer};
 use station_queue::{Entry, Request, Sender, SharedCommand};
@@ -72,10 +73,11 @@ fn request_for(alloc: Global, command: Command<Global>) -> Option<(Request, Shar
 }
 
 impl<J: Centre> Session<J> {
-    ghost use Rattle.std.specs.Prelude.{◌≡◌, ◌⊎◌, ◌∷◌, ◌++◌, [], IfOk, IsErrOf, length};
+    ghost use Rattle.std.specs.Prelude.{◌≡◌, ◌≤◌, ◌⊎◌, ◌∷◌, ◌++◌, [], IfOk, IsErrOf, OnErr, OnOk, length, vec_capacity, vec_len};
     ghost use mathlib.Core.List.{IsPrefix};
     ghost use Rattle.centre_core.specs.History.{after};
     ghost use Rattle.centre_core.specs.Queries.{AsksForList, answer_to};
+    ghost use Rattle.listings.specs.Texts.{LacksRoom, listing_text};
     ghost use Rattle.snapshots.specs.declared.viewer.ReadFault.TheVariants.{Closed, NoMemory};
     ghost use Rattle.station_queue.specs.Ends.{sending};
     ghost use Rattle.station_queue.specs.declared.entry.Entry.TheVariants as entry;
@@ -137,6 +139,27 @@ impl<J: Centre> Session<J> {
         ensures same { (self.new.sender ≡ self.old.sender) × (self.new.receiver ≡ self.old.receiver) }
     {
         self.viewer.read(alloc, query)
+    }
+
+    /// Adds the text of a listing after a list of commands to `out`. The list begins with all that the session has seen. It
+    /// never waits. If it fails, `out` is unchanged. `NoMemory` comes only where the text has no room; the session may then have
+    /// seen more. After `Closed` it has seen no more than before.
+    pub fn list<C: Allocator + Copy>(
+        &mut self,
+        listing: &Listing,
+        out: &mut Vec<u8, C>,
+    ) -> Result<(), ReadFault>
+        ensures listed { OnOk result (out.new.items ≡ out.old.items ++ listing_text (after J.base self.new.viewer) listing.now) }
+        ensures later { IsPrefix self.old.viewer self.new.viewer }
+        ensures memory { IsErrOf result NoMemory → LacksRoom (vec_len out.old) (vec_capacity out.old) (after J.base self.new.viewer) listing.now }
+        ensures closed { IsErrOf result Closed → self.new.viewer ≡ self.old.viewer }
+        ensures unlisted { OnErr result (out.new.items ≡ out.old.items) }
+        ensures capacity { vec_capacity out.old ≤ vec_capacity out.new }
+
+        // Nothing is sent or received.
+        ensures same { (self.new.sender ≡ self.old.sender) × (self.new.receiver ≡ self.old.receiver) }
+    {
+        self.viewer.list(listing, out)
     }
 
     /// From now on what it reads begins with this list too. It never waits.

@@ -13,3 +13,5 @@ mod failing;
 mod gapless;
 #[cfg(test)]
 mod held;
+#[cfg(test)]
+mod listing;

@@ -23,5 +23,6 @@ mod FromOpening
 mod Synced
 mod Ranged
 mod Lived
+mod FirstDamage
 mod Events
 pub mod Committed

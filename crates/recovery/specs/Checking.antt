@@ -1,5 +1,5 @@
 -- What a check of a disk reports: the state of each side, and what opening makes of the two.
-use Rattle.std.specs.Prelude.{◌≡◌, ◌==◌, ◌||◌, Bool, false, true, List, Option, Some, None, Result, Ok, Err, nat_lt, if◌then◌else◌}
+use Rattle.std.specs.Prelude.{◌≡◌, ◌==◌, Bool, false, true, List, Option, Some, None, Result, Ok, Err, nat_lt, if◌then◌else◌}
 use Rattle.identity.specs.Numbers.{Byte}
 use Rattle.sector_disk.specs.Numbers.{Sector}
 use Rattle.sector_disk.specs.declared.record.Call.{Call}
@@ -7,13 +7,11 @@ use Rattle.image_rows.specs.Numbers.{Epoch}
 use Rattle.checkpoint.specs.declared.layout.Layout.{Layout}
 use Rattle.checkpoint.specs.declared.side.Side.{Side}
 use Rattle.checkpoint.specs.declared.side.Side.TheVariants as side
-use Rattle.checkpoint.specs.Layout.{half_at, label_at, root_at, slot_at}
+use Rattle.checkpoint.specs.Layout.{label_at, root_at}
 use Rattle.recovery.specs.declared.figures.Figures.{Figures}
 use Rattle.recovery.specs.declared.fault.StoreFault.{StoreFault}
 use Rattle.recovery.specs.declared.fault.StoreFault.TheVariants.{BadGeometry, Broken, Damaged, DiskFault, EpochsUsedUp, NoMemory, Unformatted, Unready}
 use Rattle.recovery.specs.declared.checking.Checked.{Checked}
-use Rattle.recovery.specs.declared.checking.Part.{Part}
-use Rattle.recovery.specs.declared.checking.Part.TheVariants as part
 use Rattle.recovery.specs.declared.checking.SideState.{SideState}
 use Rattle.recovery.specs.declared.checking.SideState.TheVariants as state
 use Rattle.recovery.specs.Figures.{figures_in}
@@ -113,16 +111,6 @@ opened_by a b = taken_by (epoch_of a) (epoch_of b) (taken_from (root_at side.A) 
 abbrev pub Agrees : List (List Byte) → Taken → Result Opening StoreFault → Type 0
 Agrees image (Ok figures) opened = (opening : Opening) × (opened ≡ Ok opening) × (figures ≡ figures_in opening image)
 Agrees image (Err at) opened = opened ≡ Err (Damaged at)
-
--- ---- the parts of a disk
-
--- what a sector is by its place: a root, the first sector of a slot, another one of it, or one of a half
-abbrev pub part_at : Layout → Sector → Part
-part_at layout at =
-    if nat_lt at (slot_at layout side.A) then part.Root
-    else if (at == slot_at layout side.A) || (at == slot_at layout side.B) then part.Header
-    else if nat_lt at (half_at layout side.A) then part.Row
-    else part.Record
 
 -- ---- faults
 

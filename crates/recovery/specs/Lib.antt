@@ -5,6 +5,7 @@ pub mod Figures
 pub mod Opening
 pub mod OpensTo
 pub mod Checking
+pub mod Damage
 pub mod Calls
 pub mod FormatWith
 pub mod Stored

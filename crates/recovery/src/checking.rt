@@ -8,7 +8,7 @@ ghost use Rattle.checkpoint.specs.Layout.{disk_size};
 ghost use Rattle.checkpoint.specs.OnSide.{ReadsForm};
 ghost use Rattle.recovery.specs.declared.fault.StoreFault.TheVariants.{Damaged, DiskFault, NoMemory};
 ghost use Rattle.recovery.specs.Checking.{HasGoodSideSoFar, IsDamagedAt, IsGoodSideSoFar, IsOfCheck};
-ghost use Rattle.recovery.specs.Checking.{checked_in, epoch_of, is_damaged, opened_by, part_at, state_after, state_by, state_in, taken_from};
+ghost use Rattle.recovery.specs.Checking.{checked_in, epoch_of, is_damaged, opened_by, state_after, state_by, state_in, taken_from};
 ghost use Rattle.recovery.specs.Lives.{Answered, Closed, IsCall};
 ghost use Rattle.recovery.specs.Opening.{AreGoodSoFar, Gives, IsOfOpening};
 ghost use Rattle.recovery.specs.Opens.{opens_by};
@@ -68,19 +68,6 @@ impl SideState {
     }
 }
 
-/// What a sector is by its place on a disk.
-#[derive(Clone, Copy, Debug, PartialEq, Eq, Drop)]
-pub enum Part {
-    /// The root of a side.
-    Root,
-    /// The first sector of a slot: the header of an image.
-    Header,
-    /// Another sector of a slot: a row of an image.
-    Row,
-    /// A sector of a half: a gate, or data of a record.
-    Record,
-}
-
 /// What a check found on a disk.
 #[derive(Clone, Copy, Debug, PartialEq, Eq, Drop)]
 pub struct Checked {
@@ -116,22 +103,6 @@ impl Checked {
         ensures { result ≡ (is_damaged self.now.a || is_damaged self.now.b) }
     {
         self.a.is_damaged() || self.b.is_damaged()
-    }
-
-    /// What a sector of the disk is by its place.
-    pub fn part(&self, sector: u64) -> Part
-        ensures { result ≡ part_at self.now.layout sector }
-    {
-        let layout = &self.layout;
-        if sector < layout.slot(Side::A) {
-            Part::Root
-        } else if sector == layout.slot(Side::A) || sector == layout.slot(Side::B) {
-            Part::Header
-        } else if sector < layout.half(Side::A) {
-            Part::Row
-        } else {
-            Part::Record
-        }
     }
 }
 
@@ -212,6 +183,7 @@ fn check_side<A: Allocator + Copy, D: Disk>(
 fn check_sides<A: Allocator + Copy, D: Disk>(alloc: A, disk: &mut D) -> Result<Checked, StoreFault>
     ensures exact { (D.view disk.old).honest → Gives (λ checked. checked) result (checked_in A (D.view disk.old).reads) }
     ensures memory { IsErrOf result NoMemory → (D.view disk.old).honest → HasGoodSideSoFar A (D.view disk.old).reads (D.view disk.new).calls }
+    ensures room { IfOk result (λ checked. disk_size checked.layout ≤ (D.view disk.old).sectors) }
     ensures kinds { IfErr result IsOfCheck }
     ensures on_disk { (at : ℕ) → IfOk result (λ checked. IsDamagedAt at checked.a ⊎ IsDamagedAt at checked.b → at < (D.view disk.old).sectors) }
     ensures only_read { (D.view disk.old).honest → HasOnlyRead (D.view disk.old) (D.view disk.new) }
@@ -226,8 +198,8 @@ fn check_sides<A: Allocator + Copy, D: Disk>(alloc: A, disk: &mut D) -> Result<C
     Ok(Checked { layout, a, b })
 }
 
-/// Reads both sides of a disk, as opening reads one, and returns what is on each or its first damaged sector. The disk is synced
-/// first, and then only read. At most one register is in memory, under `alloc`.
+/// Reads both sides of a disk, as opening reads one, and returns what is on each or its first damaged sector. `damage_of` finds
+/// those after it. The disk is synced first, and then only read. At most one register is in memory, under `alloc`.
 ///
 /// `Unformatted` and `BadGeometry` report a disk without a layout. It never returns `Damaged`: damage is in the states.
 pub fn check<A: Allocator + Copy, D: Disk>(alloc: A, disk: &mut D) -> Result<Checked, StoreFault>
@@ -241,7 +213,8 @@ pub fn check<A: Allocator + Copy, D: Disk>(alloc: A, disk: &mut D) -> Result<Che
     ensures left { (D.view disk.old).honest → LeavesOnly (D.view disk.old) (D.view disk.new) (IsImageOf (D.view disk.old)) }
     ensures reads { (D.view disk.old).honest → (D.view disk.new).reads ≡ (D.view disk.old).reads }
 
-    // A damaged sector is one of the disk, even if the disk is not honest.
+    // The disk has a sector for each of the layout, and a damaged sector is one of them, even if the disk is not honest.
+    ensures room { IfOk result (λ checked. disk_size checked.layout ≤ (D.view disk.old).sectors) }
     ensures on_disk { (at : ℕ) → IfOk result (λ checked. IsDamagedAt at checked.a ⊎ IsDamagedAt at checked.b → at < (D.view disk.old).sectors) }
 
     // Out of memory never masks damage to the side that was read last: after its rows, all its records are judged before it is

@@ -1,5 +1,6 @@
 //! A register that is kept on a disk, as a desk: each command is a commit of one command.
-ghost use Rattle.std.specs.Prelude.{◌≡◌, ◌∷◌, [], IfOk, OnErr, OnOk, true, false};
+ghost use Rattle.std.specs.Prelude.{◌≡◌, ◌≤◌, ◌∷◌, [], IfErr, IfOk, OnErr, OnOk, true, false, vec_capacity, vec_len};
+ghost use Rattle.desk.specs.Listed.{IsListed, IsUnlisted};
 ghost use Rattle.desk.specs.OfStore.{Stored, of_store};
 ghost use Rattle.desk.specs.Replies.{HasShortPdu};
 ghost use Rattle.recovery.specs.Calls.{fits_in};
@@ -14,6 +15,7 @@ use crate::{Store, StoreFault};
 use centre_core::laws::registers;
 use centre_core::{Command, Query, QueryAnswer, Reply};
 use desk::{Desk, Outage};
+use listings::{Listing, print_listing};
 use sector_disk::Disk;
 use std::alloc::Allocator;
 
@@ -77,6 +79,30 @@ impl<A: Allocator + Copy, B: Allocator + Copy, D: Disk> Desk<A> for Store<B, D> 
         match register.query(alloc, query) {
             Ok(answer) => Ok(answer),
             Err(_) => Err(Outage::Memory),
+        }
+    }
+
+    fn list(&mut self, listing: &Listing, out: &mut Vec<u8, A>) -> Result<(), Outage>
+        ensures listed { OnOk result (IsListed (of_store {A = A})
+            (stored_of (D.view self.old.disk).failures self.old.epoch self.old.broken self.old.before.value self.old.register) listing.now
+            out.old.items out.new.items
+            (stored_of (D.view self.new.disk).failures self.new.epoch self.new.broken self.new.before.value self.new.register)) }
+        ensures unlisted { IfErr result (λ word. IsUnlisted (of_store {A = A})
+            (stored_of (D.view self.old.disk).failures self.old.epoch self.old.broken self.old.before.value self.old.register) listing.now
+            (vec_len out.old) (vec_capacity out.old) word
+            (stored_of (D.view self.new.disk).failures self.new.epoch self.new.broken self.new.before.value self.new.register)) }
+        ensures unchanged { OnErr result (out.new.items ≡ out.old.items) }
+        ensures capacity { vec_capacity out.old ≤ vec_capacity out.new }
+
+        // Neither the store nor its disk is touched.
+        ensures same { self.new ≡ self.old }
+    {
+        match self.register() {
+            None => Err(Outage::Broken),
+            Some(register) => match print_listing(out, register, listing) {
+                Ok(()) => Ok(()),
+                Err(_) => Err(Outage::Memory),
+            },
         }
     }
 }

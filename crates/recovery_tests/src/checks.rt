@@ -1,10 +1,12 @@
 //! Disks that are checked: what is on them is put there by hand, or by a checkpoint.
 
 use crate::layouts::checkpoint;
-use crate::opens::{FIRST, OPEN, RULE, SET_RULE, WITH_RULE, disk, opened, put_expiries};
+use crate::opens::{
+    FIRST, FROM_STATION_5, OPEN, RULE, SET_RULE, WITH_RULE, disk, opened, put_expiries,
+};
 use checkpoint::Side;
 use linked_list_allocator::LocalHeap;
-use recovery::{Checked, Figures, Part, SideState, StoreFault, check};
+use recovery::{Checked, Damage, Figures, Kind, Reason, SideState, StoreFault, check, damage_of};
 use sector_disk::{Disk, Failing, FailingDisk, MemoryDisk};
 use std::alloc::Global;
 use std::test::Fail;
@@ -227,35 +229,81 @@ fn a_disk_without_a_layout_is_refused(rt: HostRuntime) -> Result<(), Fail> {
     Ok(())
 }
 
-/// What some sectors are by their places.
-fn parts(alloc: Global) -> Result<bool, Fail> {
-    let mut disk = disk(alloc, &[])?;
-    let Ok(checked) = check(alloc, &mut disk) else {
-        return Ok(false);
-    };
-    let wanted = [
-        (1, Part::Root),
-        (2, Part::Root),
-        (3, Part::Header),
-        (4, Part::Row),
-        (295, Part::Row),
-        (296, Part::Header),
-        (297, Part::Row),
-        (588, Part::Row),
-        (589, Part::Record),
-        (666, Part::Record),
-    ];
-    for (sector, part) in &wanted {
-        if checked.part(*sector) != *part {
-            return Ok(false);
-        }
+/// A header of epoch 1 with two rules, a radio, an item and a station.
+const OF_EACH_KIND: [u8; 33] = [
+    0x16, 0, 0, 0, 0, 0, 0, 0, 1, 0, 0, 0, 0, 0, 0, 0, 0, 0, 0, 0, 2, 0, 0, 0, 1, 0, 0, 0, 1, 0, 0,
+    0, 1,
+];
+
+/// A damaged sector.
+fn at(sector: u64, kind: Kind, reason: Reason) -> Damage {
+    Damage {
+        sector,
+        kind,
+        reason,
     }
-    Ok(true)
+}
+
+/// Whether just these sectors of the sides are damaged.
+fn damages(alloc: Global, disk: MemoryDisk<Global>, a: &[Damage], b: &[Damage]) -> bool {
+    let mut disk = disk;
+    let Ok(checked) = check(alloc, &mut disk) else {
+        return false;
+    };
+    let found_a = damage_of(alloc, &mut disk, &checked.layout, Side::A, &checked.a);
+    let found_b = damage_of(alloc, &mut disk, &checked.layout, Side::B, &checked.b);
+    match (found_a, found_b) {
+        (Ok(found_a), Ok(found_b)) => &found_a[..] == a && &found_b[..] == b,
+        _ => false,
+    }
 }
 
 #[test]
-fn each_sector_has_its_part(rt: HostRuntime) -> Result<(), Fail> {
-    assert!(rt; parts(rt.alloc())?);
+fn each_damaged_sector_is_found(rt: HostRuntime) -> Result<(), Fail> {
+    let alloc = rt.alloc();
+    let rows = disk(
+        alloc,
+        &[
+            (3, &OF_EACH_KIND),
+            (4, &[]),
+            (5, &RULE),
+            (6, &RULE),
+            (7, &[]),
+            (8, &RULE),
+            (589, &OPEN),
+            (590, &[]),
+            (2, &OPEN),
+            (296, &WITH_RULE),
+            (297, &RULE),
+        ],
+    )?;
+    let wanted = [
+        at(4, Kind::Rule, Reason::Unreadable),
+        at(6, Kind::Radio, Reason::OutOfPlace),
+        at(7, Kind::Item, Reason::Unreadable),
+        at(8, Kind::Station, Reason::OutOfPlace),
+        at(590, Kind::Record, Reason::Unreadable),
+    ];
+    assert!(rt; damages(alloc, rows, &wanted, &[]));
+    Ok(())
+}
+
+#[test]
+fn nothing_is_judged_after_a_header_or_a_record(rt: HostRuntime) -> Result<(), Fail> {
+    let alloc = rt.alloc();
+    let refused = disk(
+        alloc,
+        &[
+            (589, &OPEN),
+            (590, &FROM_STATION_5),
+            (2, &OPEN),
+            (297, &[]),
+            (628, &OPEN),
+        ],
+    )?;
+    let a = [at(590, Kind::Record, Reason::Refused)];
+    let b = [at(296, Kind::Header, Reason::Unreadable)];
+    assert!(rt; damages(alloc, refused, &a, &b));
     Ok(())
 }
 

@@ -45,7 +45,7 @@ const SET_RULE_AGAIN: [u8; 41] = [
 ];
 
 /// A record of an expiry, number 1, sequence 1 of station 5, of which there is none.
-const FROM_STATION_5: [u8; 25] = [
+pub const FROM_STATION_5: [u8; 25] = [
     0, 1, 0, 0, 0, 0, 0, 0, 0, 1, 0, 0, 0, 0x0b, 0, 5, 0, 0, 0, 1, 0, 0, 0, 0, 6,
 ];
 

@@ -24,9 +24,9 @@ use Rattle.centre_core.specs.StateRanges.{IsReply}
 use Rattle.centre_core.specs.State.{LastAccepted}
 use Rattle.command_bytes.specs.Fields.{◌>>=◌, big}
 use Rattle.command_bytes.specs.Text.{prefix_text, key_text, bits_text}
-use Rattle.console.specs.Answer.{pdu_text}
+use Rattle.listings.specs.Words.{pdu_text}
 use Rattle.console.specs.Reading.{words, identity_in, prefix_in, pdu_in, reference_in, kind_in, key_of, key_in}
-use Rattle.console.specs.Words.{kind_word}
+use Rattle.listings.specs.Words.{kind_word}
 use Rattle.image_rows.specs.Rows.{Row, HeaderRow, RuleRow, RadioRow, MailRow, ServedRow, Header, Group, GroupInRange}
 use Rattle.image_rows.specs.RowText.{copied_text, group_text, mail_tag, padded, present_number, reply_bits, row_bytes, sector_of}
 use Rattle.image_rows.specs.RowReading.{IsRow, row_in}

@@ -7,7 +7,7 @@ use Rattle.std.proofs.lemmas.List.Splits.{join_with_byte-slice_split}
 use Rattle.registration.specs.declared.limits.Limits.{Limits}
 use Rattle.centre_core.specs.State.{State, IsState}
 use Rattle.centre_core.specs.StateRanges.{StateInRange}
-use Rattle.console.proofs.Lines.{is_feed}
+use Rattle.console.proofs.Splits.{is_feed}
 use Rattle.image_rows.specs.Rows.{Row, rows_of}
 use Rattle.register_text.specs.Lines.{row_line, IsLineRow}
 use Rattle.register_text.specs.Text.{TextLoading, IsUnder, line_taken, lines_taken, register_lines, text_begun, text_finished, then_lines, whole}

@@ -6,7 +6,7 @@ use Rattle.std.proofs.lemmas.List.{append-nil, take-append-drop}
 use Rattle.std.proofs.lemmas.List.Concat.{flat_map-append}
 use Rattle.std.proofs.Math.Seq.{take-append_seam}
 use Rattle.identity.specs.NumberText.{IsPrefixOf}
-use Rattle.console.proofs.Listed.{prefix_with_more}
+use Rattle.listings.proofs.Listed.{prefix_with_more}
 use Rattle.image_rows.specs.Rows.{Group}
 use Rattle.register_text.specs.Lines.{group_words, spaced}
 

@@ -6,7 +6,7 @@ use Rattle.std.proofs.lemmas.List.{append-nil, length-append}
 use Rattle.std.proofs.lemmas.List.Elements.{All-nil, All-append, All-head, All-tail}
 use Rattle.std.proofs.lemmas.List.Splits.{slice_split_none, slice_split_at, slice_split-cons_no}
 use Rattle.centre_core.specs.State.{State}
-use Rattle.console.proofs.Lines.{IsNonempty, is_feed, split_nonempty}
+use Rattle.console.proofs.Splits.{IsNonempty, is_feed, split_nonempty}
 use Rattle.register_text.specs.declared.cause.Cause.{Cause}
 use Rattle.register_text.specs.declared.load_fault.LoadFault.{LoadFault}
 use Rattle.register_text.specs.declared.load_fault.LoadFault.TheVariants as fault

@@ -20,10 +20,10 @@ use Rattle.mm_pdus.specs.Values.{lifetime_number}
 use Rattle.mailbox.specs.declared.key.Kind.{Kind}
 use Rattle.mailbox.specs.declared.key.Kind.TheVariants.{Message, Report}
 use Rattle.centre_core.specs.StateRanges.{IsReply}
-use Rattle.console.specs.Answer.{pdu_text}
+use Rattle.listings.specs.Words.{pdu_text}
 use Rattle.console.specs.Reading.{Lacks, words}
-use Rattle.console.specs.Words.{kind_word}
-use Rattle.console.proofs.Lines.{is_space}
+use Rattle.listings.specs.Words.{kind_word}
+use Rattle.console.proofs.Splits.{is_space}
 use Rattle.image_rows.specs.Rows.{Row, HeaderRow, RuleRow, RadioRow, MailRow, ServedRow, Group, GroupInRange}
 use Rattle.image_rows.specs.RowReading.{IsRow}
 use Rattle.register_text.specs.Lines.{keyword, fields, presence_word, group_words, copied_words, spaced, row_line}

@@ -14,9 +14,9 @@ use Rattle.mailbox.specs.declared.key.Kind.{Kind}
 use Rattle.mailbox.specs.declared.key.Kind.TheVariants.{Message, Report}
 use Rattle.centre_core.specs.StateRanges.{IsReply}
 use Rattle.command_bytes.proofs.Steps.{some_is}
-use Rattle.console.specs.Answer.{pdu_text}
+use Rattle.listings.specs.Words.{pdu_text}
 use Rattle.console.specs.Reading.{words}
-use Rattle.console.specs.Words.{kind_word}
+use Rattle.listings.specs.Words.{kind_word}
 use Rattle.image_rows.specs.Rows.{Row, HeaderRow, RuleRow, RadioRow, MailRow, ServedRow, Group, GroupInRange}
 use Rattle.image_rows.specs.Loading.{Loading}
 use Rattle.register_text.specs.Lines.{fields, presence_word, group_words, copied_words, spaced, row_line, IsLineRow}

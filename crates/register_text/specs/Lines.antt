@@ -5,8 +5,8 @@ use Rattle.identity.specs.Numbers.{Gtsi, Byte}
 use Rattle.identity.specs.IdentityText.{identity_text, prefix_text}
 use Rattle.identity.specs.BitsText.{bits_text}
 use Rattle.mm_pdus.specs.Values.{lifetime_number}
-use Rattle.console.specs.Answer.{pdu_text}
-use Rattle.console.specs.Words.{kind_word}
+use Rattle.listings.specs.Words.{pdu_text}
+use Rattle.listings.specs.Words.{kind_word}
 use Rattle.image_rows.specs.Rows.{Row, HeaderRow, RuleRow, RadioRow, MailRow, ServedRow, Group}
 use Rattle.image_rows.specs.RowReading.{IsRow}
 use Rattle.image_rows.specs.RowSizes.{HasFewGroups}

@@ -5,8 +5,8 @@ ghost use Rattle.identity.specs.NumberText.{IsPrefixOf};
 ghost use Rattle.image_rows.specs.Rows.{HeaderRow, RuleRow, RadioRow, MailRow, ServedRow};
 ghost use Rattle.image_rows.specs.RowText.{group_in};
 ghost use Rattle.image_rows.specs.RowViews.{row_view};
-ghost use Rattle.console.specs.Answer.{pdu_text};
-ghost use Rattle.console.specs.Words.{kind_word};
+ghost use Rattle.listings.specs.Words.{pdu_text};
+ghost use Rattle.listings.specs.Words.{kind_word};
 ghost use Rattle.register_text.specs.Inside.Words.{word_text};
 ghost use Rattle.register_text.specs.Lines.{copied_words, group_words, presence_word, row_line, spaced};
 

@@ -8,14 +8,17 @@ use Rattle.centre_core.specs.declared.query.QueryAnswer.{QueryAnswer}
 use Rattle.centre_core.specs.declared.query.QueryAnswer.TheVariants as answered
 use Rattle.desk.specs.declared.outage.Outage.TheVariants.{Memory}
 use Rattle.desk.specs.OfRegister.{of_register}
+use Rattle.listings.specs.Texts.{is_line}
+use Rattle.listings.specs.declared.listing.Listing.{Listing}
+use Rattle.listings.specs.declared.listing.Listing.TheVariants as listing
 use Rattle.console.specs.declared.line.Line.{Line}
-use Rattle.console.specs.declared.line.Line.TheVariants.{Silent, Bad, Apply, Ask}
+use Rattle.console.specs.declared.line.Line.TheVariants.{Silent, Bad, Apply, Ask, Print}
 use Rattle.console.specs.declared.answer.Answer.{Answer}
 use Rattle.console.specs.declared.answer.Answer.TheVariants as answer
 use Rattle.console.specs.Answer.{is_list, IsLine, IsOneLine}
 use Rattle.console.specs.Dialogue.{AnswersQuery}
 use Rattle.console.specs.Reading.{reading}
-use Rattle.served_disk.specs.Showing.{IsShown, IsTextOf, ShowsReading}
+use Rattle.served_disk.specs.Showing.{HasNoListing, IsListingOf, IsShown, IsTextOf, ShowsReading}
 
 listed : {B : Type 0} (t : QueryAnswer B) → (IsOneLine t → ⊥) → is_list t ≡ true
 listed (answered.Whereabouts itsi radio) long = absurd (long refl)
@@ -33,19 +36,36 @@ module _ {A : Type 0} where
   query_outage s q (answer.Bad number fault) long is = absurd is
   query_outage s q (answer.Replied sequence reply) long is = absurd is
   query_outage s q (answer.CommandOutage sequence word) long is = absurd is
+  query_outage s q (answer.Listed lines) long is = absurd is
 
   short : (a b : Answer A) → a ≡ b → IsLine b → IsLine a
   short a b same is = subst (λ (c : Answer A). IsLine c) (sym same) is
 
-  gives_way : (s : State) (said : Line A) (a : Answer A) → (IsLine a → ⊥) → ShowsReading s said a → ShowsReading {A = A} s said (answer.QueryOutage 1 Memory)
-  gives_way s Silent a long is = absurd (long (short a _ is tt))
-  gives_way s (Bad fault) a long is = absurd (long (short a _ is tt))
-  gives_way s (Apply c) a long is = absurd (long (short a _ is tt))
-  gives_way s (Ask q) a long is = query_outage s q a long is
+  gives_way : (s : State) (said : Line A) (a : Answer A) → HasNoListing A said → (IsLine a → ⊥) → ShowsReading s said a → ShowsReading {A = A} s said (answer.QueryOutage 1 Memory)
+  gives_way s Silent a none long is = absurd (long (short a _ is tt))
+  gives_way s (Bad fault) a none long is = absurd (long (short a _ is tt))
+  gives_way s (Apply c) a none long is = absurd (long (short a _ is tt))
+  gives_way s (Ask q) a none long is = query_outage s q a long is
+  gives_way s (Print l) a none long is = absurd none
 
-  pub shown : (s : State) (whole out : List ℕ) (troubled : Bool) (a : Answer A) → ShowsReading s (reading 1 whole) a → IsTextOf a out troubled → IsShown A s whole out troubled
-  shown s whole out troubled a is (inl answered) = record { given = a; answers = is; written = answered.written; trouble = answered.trouble }
-  shown s whole out troubled a is (inr answered) = record { given = answer.QueryOutage 1 Memory; answers = gives_way s (reading 1 whole) a answered.long is; written = answered.written; trouble = answered.trouble }
+  pub shown : (s : State) (whole out : List ℕ) (troubled : Bool) (a : Answer A) → ShowsReading s (reading 1 whole) a × HasNoListing A (reading 1 whole) → IsTextOf a out troubled → IsShown A s whole out troubled
+  shown s whole out troubled a is (inl answered) = record { given = a; answers = is.0; written = answered.written; trouble = answered.trouble }
+  shown s whole out troubled a is (inr answered) = record { given = answer.QueryOutage 1 Memory; answers = gives_way s (reading 1 whole) a is.1 answered.long is.0; written = answered.written; trouble = answered.trouble }
+
+  -- a listing in place of an answer
+  pub shown_listing : (s : State) (whole out : List ℕ) (troubled : Bool) (l : Listing) → reading {A = A} 1 whole ≡ Print l → IsListingOf A s l out troubled → IsShown A s whole out troubled
+  shown_listing s whole out troubled l said listed = record {
+    given = listed.given;
+    answers = subst (λ (x : Line A). ShowsReading s x listed.given) (sym said) listed.answers;
+    written = listed.written;
+    trouble = listed.trouble;
+  }
+
+-- a listing that is no line is a list
+pub no_line_is_a_list : (l : Listing) → (is_line l ≡ true → ⊥) → is_line l ≡ false
+no_line_is_a_list (listing.Entries table) long = refl
+no_line_is_a_list (listing.Last station) long = absurd (long refl)
+no_line_is_a_list listing.Room long = absurd (long refl)
 
 -- what was written after nothing
 pub written_first : {X E : Type 0} (r : Result X E) (old new more : List ℕ) → old ≡ [] → is_ok r ≡ true → OnOk r (new ≡ old ++ more) → new ≡ more

@@ -1,36 +1,53 @@
--- What `check` prints of a disk: a line for each side, and one for the whole.
-use Rattle.std.specs.Prelude.{◌≡◌, ◌||◌, Bool, true, false, not, List, ◌++◌, Ok, Err, codes, decimal}
+-- What `check` prints of a disk: a line for each side, or for each damaged sector of it, and one for the whole.
+use Rattle.std.specs.Prelude.{◌≡◌, ◌||◌, Bool, true, false, not, List, [], ◌∷◌, ◌++◌, Ok, Err, codes, decimal}
+use Rattle.std.specs.List.{flat_map}
 use Rattle.sector_disk.specs.Numbers.{Byte}
-use Rattle.checkpoint.specs.declared.layout.Layout.{Layout}
 use Rattle.checkpoint.specs.declared.side.Side.{Side}
 use Rattle.checkpoint.specs.declared.side.Side.TheVariants as side
 use Rattle.recovery.specs.declared.checking.Checked.{Checked}
-use Rattle.recovery.specs.declared.checking.Part.{Part}
-use Rattle.recovery.specs.declared.checking.Part.TheVariants as part
 use Rattle.recovery.specs.declared.checking.SideState.{SideState}
 use Rattle.recovery.specs.declared.checking.SideState.TheVariants as state
+use Rattle.recovery.specs.declared.damaged.Damage.{Damage}
+use Rattle.recovery.specs.declared.damaged.Kind.{Kind}
+use Rattle.recovery.specs.declared.damaged.Kind.TheVariants as kind
+use Rattle.recovery.specs.declared.damaged.Reason.{Reason}
+use Rattle.recovery.specs.declared.damaged.Reason.TheVariants as reason
 use Rattle.recovery.specs.declared.figures.Figures.{Figures}
-use Rattle.recovery.specs.Checking.{Taken, checked_in, is_damaged, opened_by, part_at}
+use Rattle.recovery.specs.Checking.{Taken, checked_in, is_damaged, opened_by}
+use Rattle.recovery.specs.Damage.{IsOfState, damage_in}
 use Rattle.served_disk.specs.Showing.{figures_line, side_text}
 
--- the word for what a sector is
-abbrev pub part_text : Part → List Byte
-part_text part.Root = codes "root"
-part_text part.Header = codes "header"
-part_text part.Row = codes "row"
-part_text part.Record = codes "record"
+-- what a sector is to hold
+abbrev pub kind_text : Kind → List Byte
+kind_text kind.Header = codes "header"
+kind_text kind.Rule = codes "row of a rule"
+kind_text kind.Radio = codes "row of a radio"
+kind_text kind.Item = codes "row of an item"
+kind_text kind.Station = codes "row of a station"
+kind_text kind.Record = codes "record"
+
+-- what is wrong with a sector
+abbrev pub reason_text : Reason → List Byte
+reason_text reason.Unreadable = codes "unreadable"
+reason_text reason.BeyondLimits = codes "beyond the limits"
+reason_text reason.OutOfPlace = codes "out of place"
+reason_text reason.Refused = codes "command refused"
 
 -- the line of a whole side
 abbrev pub whole_line : Side → Figures → List Byte
 whole_line side figures = codes "side " ++ side_text side
     ++ codes " epoch " ++ decimal figures.epoch ++ codes " count " ++ decimal figures.count ++ codes " gate " ++ decimal figures.gate ++ codes "\n"
 
--- the line of a side
-abbrev pub side_line : Layout → Side → SideState → List Byte
-side_line layout side state.Unused = codes "side " ++ side_text side ++ codes " unused\n"
-side_line layout side (state.Whole figures) = whole_line side figures
-side_line layout side (state.Damaged epoch at) = codes "side " ++ side_text side
-    ++ codes " damaged sector " ++ decimal at ++ codes ": " ++ part_text (part_at layout at) ++ codes "\n"
+-- the line of a damaged sector
+unfoldable pub damage_line : Side → Damage → List Byte
+damage_line side damage = codes "side " ++ side_text side
+    ++ codes " damaged sector " ++ decimal damage.sector ++ codes ": " ++ kind_text damage.kind ++ codes ", " ++ reason_text damage.reason ++ codes "\n"
+
+-- the line of a side, or of each of its damaged sectors
+abbrev pub side_lines : Side → SideState → List Damage → List Byte
+side_lines side state.Unused damaged = codes "side " ++ side_text side ++ codes " unused\n"
+side_lines side (state.Whole figures) damaged = whole_line side figures
+side_lines side (state.Damaged epoch at) damaged = flat_map (damage_line side) damaged
 
 -- whether a side is damaged
 abbrev pub has_damage : Checked → Bool
@@ -51,19 +68,28 @@ abbrev pub is_well : Bool → Taken → Bool
 is_well damaged (Ok figures) = not damaged
 is_well damaged (Err at) = false
 
--- the three lines
-abbrev pub checked_text : Checked → List Byte
-checked_text checked =
-    side_line checked.layout side.A checked.a ++ side_line checked.layout side.B checked.b
-    ++ last_line (has_damage checked) (opened_by checked.a checked.b)
+-- all lines
+abbrev pub checked_text : Checked → List Damage → List Damage → List Byte
+checked_text checked a b =
+    side_lines side.A checked.a a ++ side_lines side.B checked.b b ++ last_line (has_damage checked) (opened_by checked.a checked.b)
 
--- the lines of what a check found, and whether it is well
-pub record IsReported (checked : Checked) (out : List Byte) (well : Bool) : Type 0 where
-  pub written : out ≡ checked_text checked
+-- The lines of what a check found, and whether it is well. The damage of each side begins with the sector of its state.
+pub record IsReported (checked : Checked) (a b : List Damage) (out : List Byte) (well : Bool) : Type 0 where
+  pub begins_a : IsOfState checked.a a
+  pub begins_b : IsOfState checked.b b
+  pub written : out ≡ checked_text checked a b
   pub judged : well ≡ is_well (has_damage checked) (opened_by checked.a checked.b)
+
+-- the same with the damage of a disk; if it is honest, that is the damage of its image
+pub record IsReportedOn (A : Type 0) (checked : Checked) (honest : Type 0) (image : List (List Byte)) (out : List Byte) (well : Bool) : Type 0 where
+  pub a : List Damage
+  pub b : List Damage
+  pub damage_a : honest → a ≡ damage_in A checked.layout side.A image checked.a
+  pub damage_b : honest → b ≡ damage_in A checked.layout side.B image checked.b
+  pub reported : IsReported checked a b out well
 
 -- the same of a disk; if it is honest, that is what a check of its image gives
 pub record IsReportedBy (A : Type 0) (honest : Type 0) (image : List (List Byte)) (out : List Byte) (well : Bool) : Type 0 where
   pub checked : Checked
   pub found : honest → checked_in A image ≡ Ok checked
-  pub reported : IsReported checked out well
+  pub reported : IsReportedOn A checked honest image out well

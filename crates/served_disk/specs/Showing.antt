@@ -10,7 +10,8 @@ use Rattle.console.specs.declared.line.LineFault.TheVariants.{Syntax}
 use Rattle.console.specs.declared.answer.Answer.{Answer}
 use Rattle.console.specs.declared.answer.Answer.TheVariants as answer
 use Rattle.console.specs.Answer.{text, is_trouble, IsLine}
-use Rattle.console.specs.Dialogue.{AnswersQuery}
+use Rattle.listings.specs.declared.listing.Listing.{Listing}
+use Rattle.console.specs.Dialogue.{AnswersListing, AnswersQuery}
 use Rattle.console.specs.Reading.{reading}
 use Rattle.sector_disk.specs.Numbers.{Byte}
 use Rattle.checkpoint.specs.declared.side.Side.{Side}
@@ -26,6 +27,7 @@ module _ {A : Type 0} where
   ShowsReading s (line.Bad fault) given = given ≡ answer.Bad 1 fault
   ShowsReading s (line.Apply c) given = given ≡ answer.Bad 1 Syntax
   ShowsReading s (line.Ask q) given = AnswersQuery of_register 1 s q given s
+  ShowsReading s (line.Print l) given = AnswersListing of_register 1 s l given s
 
   -- the text of an answer, and whether it reports trouble
   pub record IsWhole (given : Answer A) (out : List Byte) (troubled : Bool) : Type 0 where
@@ -41,6 +43,18 @@ module _ {A : Type 0} where
   -- the text of an answer, or out of memory in its place
   abbrev pub IsTextOf : Answer A → List Byte → Bool → Type 0
   IsTextOf given out troubled = IsWhole given out troubled ⊎ GivesWay given out troubled
+
+-- the line asks for no listing
+abbrev pub HasNoListing : (A : Type 0) → Line A → Type 0
+HasNoListing A (line.Print l) = ⊥
+HasNoListing A other = Unit {0}
+
+-- the text of the answer to a listing, and whether it reports trouble
+pub record IsListingOf (A : Type 0) (s : State) (l : Listing) (out : List Byte) (troubled : Bool) : Type 0 where
+  pub given : Answer A
+  pub answers : AnswersListing of_register 1 s l given s
+  pub written : out ≡ text given
+  pub trouble : troubled ≡ is_trouble given
 
 -- the text of the answer to a line, and whether it reports trouble
 pub record IsShown (A : Type 0) (s : State) (whole : List Byte) (out : List Byte) (troubled : Bool) : Type 0 where

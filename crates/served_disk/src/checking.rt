@@ -1,51 +1,68 @@
 //! A check of a disk, as lines.
-ghost use Rattle.std.specs.Prelude.{◌≡◌, ◌⊎◌, ◌++◌, ◌∷◌, [], IfErr, IfOk, IfSome, None, OnOk};
+ghost use Rattle.std.specs.Prelude.{◌≡◌, ◌⊎◌, ◌++◌, ◌∷◌, ◌<◌, ◌≤◌, ℕ, List, [], IfErr, IfOk, IfSome, IsErrOf, None, OnOk};
+ghost use Rattle.std.specs.List.{flat_map};
 ghost use Rattle.std.specs.Io.KnownBytes.{Appends};
 ghost use Rattle.sector_disk.specs.Disk.{HasFailed};
 ghost use Rattle.sector_disk.specs.Reading.{before_reads};
 ghost use Rattle.sector_disk.specs.declared.record.Call.TheVariants.{Sync};
 ghost use Rattle.file_disk.specs.Disk.{calls_of};
+ghost use Rattle.checkpoint.specs.Layout.{disk_size};
 ghost use Rattle.recovery.specs.declared.checking.Checked.{Checked};
-ghost use Rattle.recovery.specs.declared.checking.SideState.{SideState};
+ghost use Rattle.recovery.specs.declared.damaged.Damage.{Damage};
 ghost use Rattle.recovery.specs.declared.fault.StoreFault.TheVariants.{DiskFault};
-ghost use Rattle.recovery.specs.Checking.{IsOfCheck, checked_in, opened_by};
+ghost use Rattle.recovery.specs.Checking.{IsDamagedAt, IsOfCheck, checked_in, opened_by};
+ghost use Rattle.recovery.specs.Damage.{IsOfDamage, IsOfState};
 ghost use Rattle.recovery.specs.Opening.{Fails};
 ghost use Rattle.served_disk.specs.Calls.{IsOnlyRead, IsReadAtMost};
-ghost use Rattle.served_disk.specs.Checking.{IsReported, IsReportedBy, checked_text, has_damage, is_well, last_line, opening_word};
-ghost use Rattle.served_disk.specs.Checking.{part_text, side_line, whole_line};
+ghost use Rattle.served_disk.specs.Checking.{IsReported, IsReportedBy, IsReportedOn, checked_text, damage_line, has_damage, is_well, kind_text};
+ghost use Rattle.served_disk.specs.Checking.{last_line, opening_word, reason_text, side_lines, whole_line};
 ghost use Rattle.served_disk.specs.Making.{IsOfMaking, IsOfOpening};
 
-use crate::Refused;
 use crate::opening::adopt_disk;
 use crate::printing::{LinePart, print};
 use crate::showing::ROOM;
 use crate::showing_figures::{print_figures, side_text};
+use crate::{CountedDisk, Refused, Tally};
 use checkpoint::Side;
 use file_disk::{FileDisk, HostFile};
-use recovery::{Checked, Figures, Part, SideState, StoreFault, check};
+use recovery::{Checked, Damage, Figures, Kind, Reason, SideState, StoreFault, check, damage_of};
 use sector_disk::Disk;
 use std::alloc::{AllocError, Allocator, Global};
 use std::fs::{File, Files};
 use std::io;
 use std::io::Write;
+use std::rt::Clock;
 
 /// What a check of a disk reports.
 #[derive(Drop)]
 pub struct CheckReport<A: Allocator> {
-    /// A line for each side, and one for the whole disk.
+    /// A line for each side, or for each damaged sector of it, and one for the whole disk.
     pub text: Vec<u8, A>,
     /// Whether the disk opens and no side is damaged.
     pub well: bool,
 }
 
-fn part_text(part: Part) -> &'static str
-    ensures { result.now ≡ part_text part }
+fn kind_text(kind: Kind) -> &'static str
+    ensures { result.now ≡ kind_text kind }
 {
-    match part {
-        Part::Root => "root",
-        Part::Header => "header",
-        Part::Row => "row",
-        Part::Record => "record",
+    match kind {
+        Kind::Header => "header",
+        Kind::Rule => "row of a rule",
+        Kind::Radio => "row of a radio",
+        Kind::Item => "row of an item",
+        Kind::Station => "row of a station",
+        Kind::Record => "record",
+    }
+}
+
+fn reason_text(reason: Reason) -> &'static str
+    ensures { result.now ≡ reason_text reason }
+{
+    match reason {
+        Reason::Unreadable => "unreadable",
+        Reason::BeyondLimits => "beyond the limits",
+        Reason::OutOfPlace => "out of place",
+        Reason::Refused => "command refused",
     }
 }
 
@@ -67,14 +84,43 @@ fn print_whole<W: Write>(out: &mut W, side: Side, figures: &Figures) -> io::Resu
     print(out, &parts)
 }
 
-/// Writes the line of a side in this state.
+/// Writes the line of a damaged sector.
+#[tactic(auto, unfolding(crate::specs::Checking::damage_line))]
+fn print_damage<W: Write>(out: &mut W, side: Side, damage: &Damage) -> io::Result<()>
+    ensures { OnOk result (Appends (W.contents out.old) (W.contents out.new) (damage_line side damage.now)) }
+{
+    let parts = [
+        LinePart::Text("side "),
+        LinePart::Text(side_text(side)),
+        LinePart::Text(" damaged sector "),
+        LinePart::Number(damage.sector),
+        LinePart::Text(": "),
+        LinePart::Text(kind_text(damage.kind)),
+        LinePart::Text(", "),
+        LinePart::Text(reason_text(damage.reason)),
+        LinePart::Text("\n"),
+    ];
+    print(out, &parts)
+}
+
+/// Writes a line for each of these damaged sectors.
+fn print_damaged<W: Write>(out: &mut W, side: Side, damaged: &[Damage]) -> io::Result<()>
+    ensures { OnOk result (Appends (W.contents out.old) (W.contents out.new) (flat_map (damage_line side) damaged.now)) }
+{
+    for damage in damaged {
+        print_damage(out, side, damage)?;
+    }
+    Ok(())
+}
+
+/// Writes the line of a side in this state, or of each of its damaged sectors.
 fn print_side<W: Write>(
     out: &mut W,
-    checked: &Checked,
     side: Side,
     state: &SideState,
+    damaged: &[Damage],
 ) -> io::Result<()>
-    ensures { OnOk result (Appends (W.contents out.old) (W.contents out.new) (side_line checked.now.layout side state.now)) }
+    ensures { OnOk result (Appends (W.contents out.old) (W.contents out.new) (side_lines side state.now damaged.now)) }
 {
     match state {
         SideState::Unused => {
@@ -86,18 +132,7 @@ fn print_side<W: Write>(
             print(out, &parts)
         }
         SideState::Whole(figures) => print_whole(out, side, figures),
-        SideState::Damaged { sector, .. } => {
-            let parts = [
-                LinePart::Text("side "),
-                LinePart::Text(side_text(side)),
-                LinePart::Text(" damaged sector "),
-                LinePart::Number(*sector),
-                LinePart::Text(": "),
-                LinePart::Text(part_text(checked.part(*sector))),
-                LinePart::Text("\n"),
-            ];
-            print(out, &parts)
-        }
+        SideState::Damaged { .. } => print_damaged(out, side, damaged),
     }
 }
 
@@ -126,13 +161,18 @@ fn print_last<W: Write>(out: &mut W, checked: &Checked) -> io::Result<()>
     }
 }
 
-/// Writes what a check found on a disk: a line for each side, and one for the whole disk.
+/// Writes what a check found on a disk, with the damaged sectors of each side, and a line for the whole disk.
 #[tactic(auto, using(std::proofs::Common::append_assoc))]
-pub fn print_checked<W: Write>(out: &mut W, checked: &Checked) -> io::Result<()>
-    ensures { OnOk result (Appends (W.contents out.old) (W.contents out.new) (checked_text checked.now)) }
+pub fn print_checked<W: Write>(
+    out: &mut W,
+    checked: &Checked,
+    a: &[Damage],
+    b: &[Damage],
+) -> io::Result<()>
+    ensures { OnOk result (Appends (W.contents out.old) (W.contents out.new) (checked_text checked.now a.now b.now)) }
 {
-    print_side(out, checked, Side::A, &checked.a)?;
-    print_side(out, checked, Side::B, &checked.b)?;
+    print_side(out, Side::A, &checked.a, a)?;
+    print_side(out, Side::B, &checked.b, b)?;
     print_last(out, checked)
 }
 
@@ -147,16 +187,44 @@ fn is_well(checked: &Checked) -> bool
 }
 
 /// Makes the report of what a check found.
-fn report<A: Allocator + Drop>(alloc: A, checked: &Checked) -> Result<CheckReport<A>, AllocError>
-    ensures { IfOk result (λ report. IsReported checked.now report.text.items report.well) }
+fn report<A: Allocator + Drop>(
+    alloc: A,
+    checked: &Checked,
+    a: &[Damage],
+    b: &[Damage],
+) -> Result<CheckReport<A>, AllocError>
+    requires a { IsOfState checked.now.a a.now }
+    requires b { IsOfState checked.now.b b.now }
+    ensures { IfOk result (λ report. IsReported checked.now a.now b.now report.text.items report.well) }
 {
     let mut text = Vec::with_capacity(alloc, ROOM)?;
-    match print_checked(&mut text, checked) {
+    match print_checked(&mut text, checked, a, b) {
         Ok(()) => Ok(CheckReport {
             text,
             well: is_well(checked),
         }),
         Err(_) => Err(AllocError),
+    }
+}
+
+/// Makes the report of a disk that was checked. Its damaged sectors are read again.
+fn report_on<A: Allocator + Copy + Drop, D: Disk>(
+    alloc: A,
+    disk: &mut D,
+    checked: &Checked,
+) -> Result<CheckReport<A>, StoreFault>
+    requires room { disk_size checked.now.layout ≤ (D.view disk.old).sectors }
+    requires on_disk { (at : ℕ) → IsDamagedAt at checked.now.a ⊎ IsDamagedAt at checked.now.b → at < (D.view disk.old).sectors }
+    ensures reported { IfOk result (λ report. IsReportedOn A checked.now (D.view disk.old).honest (D.view disk.old).reads report.text.items report.well) }
+    ensures kinds { IfErr result IsOfDamage }
+    ensures only_reads { before_reads (D.view disk.new).calls ≡ before_reads (D.view disk.old).calls }
+    ensures fault { IsErrOf result DiskFault → HasFailed (D.view disk.old) (D.view disk.new) }
+{
+    let a = damage_of(alloc, disk, &checked.layout, Side::A, &checked.a)?;
+    let b = damage_of(alloc, disk, &checked.layout, Side::B, &checked.b)?;
+    match report(alloc, checked, &a, &b) {
+        Ok(report) => Ok(report),
+        Err(_) => Err(StoreFault::NoMemory),
     }
 }
 
@@ -181,30 +249,32 @@ pub fn check_on<A: Allocator + Copy + Drop, D: Disk>(
         Ok(checked) => checked,
         Err(fault) => return Err((fault, disk)),
     };
-    match report(alloc, &checked) {
+    match report_on(alloc, &mut disk, &checked) {
         Ok(report) => Ok((report, disk)),
-        Err(_) => Err((StoreFault::NoMemory, disk)),
+        Err(fault) => Err((fault, disk)),
     }
 }
 
-/// Checks both sides of the disk in the file of this name. The disk is synced once, and then only read. It is returned.
+/// Checks both sides of the disk in the file of this name. The disk is synced once, and then only read. It is returned. `tally`
+/// counts the sectors that are read.
 ///
 /// # Errors
 /// Those of `open_disk` but `Damaged`. `Memory` also comes if there is none for a text of 1,024 bytes.
-pub fn check_disk<'a, R: Files<File = File>>(
+pub fn check_disk<'a, R: Files<File = File> + Clock + Eprint>(
     rt: &R,
     alloc: Global,
     name: &'a str,
+    tally: &Tally<'_, R>,
 ) -> Result<(CheckReport<Global>, FileDisk<HostFile>), Refused<'a>>
-    ensures reported { IfOk result (λ r. (checked : Checked) × IsReported checked r.0.text.items r.0.well) }
+    ensures reported { IfOk result (λ r. (checked : Checked) × (a : List Damage) × (b : List Damage) × IsReported checked a b r.0.text.items r.0.well) }
     ensures calls { IfOk result (λ r. IsOnlyRead (calls_of r.1)) }
     ensures some_calls { IfErr result (λ e. IfSome e.disk (λ disk. IsReadAtMost e.fault (calls_of disk))) }
     ensures kinds { IfErr result (λ e. IsOfOpening name.now e.fault) }
     ensures none { IfErr result (λ e. e.disk ≡ None → IsOfMaking name.now e.fault) }
 {
-    let disk = adopt_disk(rt, name)?;
+    let disk = CountedDisk::new(adopt_disk(rt, name)?, tally);
     match check_on(alloc, disk) {
-        Ok(checked) => Ok(checked),
-        Err((fault, disk)) => Err(Refused::of_store(fault, disk)),
+        Ok((report, disk)) => Ok((report, disk.into_inner())),
+        Err((fault, disk)) => Err(Refused::of_store(fault, disk.into_inner())),
     }
 }

@@ -4,6 +4,7 @@
 #![tactic(auto)]
 
 mod checking;
+mod counted;
 mod doorbell;
 mod dumping;
 mod fault;
@@ -11,6 +12,7 @@ mod files;
 mod loading;
 mod making;
 mod opening;
+mod pace;
 mod pairs;
 mod port_names;
 mod printing;
@@ -22,9 +24,11 @@ mod serving;
 mod showing;
 mod showing_disk;
 mod showing_figures;
+mod tally;
 mod watched;
 
 pub use checking::{CheckReport, check_disk, check_on, print_checked};
+pub use counted::{CountedDisk, CountedReader, CountedWriter};
 pub use dumping::{DiskDumpFault, dump_disk, dump_on};
 pub use fault::Fault;
 pub use files::{FilePort, check_names, check_stations, file_names, not_read, open_files};
@@ -43,4 +47,5 @@ pub use service_watch::ServiceWatch;
 pub use serving::{Run, Served, TURNS, outcome, print_stations, service_outcome};
 pub use showing::{Shown, show};
 pub use showing_disk::{show_disk, show_on};
+pub use tally::Tally;
 pub use watched::{WatchedDesk, WatchedReader};

@@ -1,6 +1,7 @@
 //! How far a run has come, reported while it goes on.
 
 use crate::doorbell::Doorbell;
+use crate::pace::Pace;
 use console::{Ran, RunFault};
 use flusher::Gate;
 use registration::Station;
@@ -10,7 +11,7 @@ use std::io;
 use std::rt::Clock;
 use std::sync::Wait;
 use std::sync::atomic::{AtomicU64, Ordering};
-use std::time::{Duration, Instant};
+use std::time::Duration;
 
 /// How far a run has come. Once a second it is reported on standard error, over the last report, as
 /// `12000 lines, 11998 accepted`: the lines of all stations that were served, and the commands among them that were accepted.
@@ -21,12 +22,9 @@ use std::time::{Duration, Instant};
 #[derive(Drop)]
 pub struct Progress<'r, R> {
     rt: &'r R,
-    /// When the run began. `None` if nobody watches, or there is no clock.
-    began: Option<Instant>,
+    pace: Pace<'r, R>,
     /// Whether no flusher makes rounds. Then it is reported when a line is counted.
     is_alone: bool,
-    /// The second of the run in which it was last reported; 0 before the first report.
-    reported: AtomicU64,
     /// For each station in order, how many of its lines are known to be served.
     lines: Vec<AtomicU64>,
     /// How many commands were accepted.
@@ -49,18 +47,17 @@ fn no_lines(alloc: Global, stations: usize) -> Result<Vec<AtomicU64>, AllocError
 impl<'r, R: Clock + Eprint> Progress<'r, R> {
     /// Nothing is served yet. It is never reported if it is not watched or there is no clock.
     fn new(rt: &'r R, watched: bool, is_alone: bool, lines: Vec<AtomicU64>) -> Self {
-        let began = match Instant::now(rt) {
-            Ok(now) if watched => Some(now),
-            _ => None,
-        };
+        let pace = Pace::new(rt, watched);
+        let rest = pace
+            .is_watched()
+            .then_some(Duration::from_secs(BETWEEN_REPORTS));
         Progress {
             rt,
-            began,
+            pace,
             is_alone,
-            reported: AtomicU64::new(0),
             lines,
             accepted: AtomicU64::new(0),
-            doorbell: Doorbell::new(began.map(|_| Duration::from_secs(BETWEEN_REPORTS))),
+            doorbell: Doorbell::new(rest),
         }
     }
 
@@ -120,15 +117,7 @@ impl<'r, R: Clock + Eprint> Progress<'r, R> {
 
     /// Reports the figures, at most once in each second of the run.
     fn report_each_second(&self) {
-        let Some(began) = self.began else {
-            return;
-        };
-        let Ok(passed) = began.elapsed(self.rt) else {
-            return;
-        };
-        let second = passed.as_secs();
-        if self.reported.load(Ordering::SeqCst) < second {
-            self.reported.store(second, Ordering::SeqCst);
+        if self.pace.is_due() {
             let _ = self.report("");
         }
     }
@@ -149,7 +138,7 @@ impl<'r, R: Clock + Eprint> Progress<'r, R> {
 
     /// All runs have ended. If there was a report before, it reports the last figures and ends the line.
     pub fn finish(&self) {
-        if self.reported.load(Ordering::SeqCst) > 0 {
+        if self.pace.was_due() {
             let _ = self.report("\n");
         }
     }

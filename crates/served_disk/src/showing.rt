@@ -1,17 +1,19 @@
-//! One query of a register, answered without a station.
-ghost use Rattle.std.specs.Prelude.{◌≡◌, ◌≤◌, [], IfOk, vec_capacity};
+//! One query or listing of a register, answered without a station.
+ghost use Rattle.std.specs.Prelude.{◌≡◌, ◌≤◌, [], IfOk, MatchResult, vec_capacity};
 ghost use Rattle.desk.specs.OfRegister.{of_register};
-ghost use Rattle.console.specs.Answer.{answer_room};
+ghost use Rattle.listings.specs.Parts.{answer_room};
+ghost use Rattle.console.specs.declared.line.Line.TheVariants.{Print};
 ghost use Rattle.console.specs.Dialogue.{AnswersQuery};
 ghost use Rattle.console.specs.Reading.{reading};
-ghost use Rattle.served_disk.specs.Showing.{IsShown, IsTextOf, ShowsReading};
+ghost use Rattle.served_disk.specs.Showing.{HasNoListing, IsListingOf, IsShown, IsTextOf, ShowsReading};
 
 use centre_core::{Query, Register};
 use console::{Answer, Line, LineFault, Outage, parse_line, print_answer};
+use listings::{Listing, print_listing};
 use registration::Station;
 use std::alloc::{AllocError, Allocator};
 
-/// What is shown for a query.
+/// What is shown for a query or a listing.
 #[derive(Drop)]
 pub struct Shown<A: Allocator> {
     /// The text of its answer.
@@ -34,20 +36,22 @@ fn answer_query<A: Allocator + Copy, B: Allocator + Clone>(
     }
 }
 
-/// The answer to the only line. A command is no query, and so a bad line.
+/// The answer to the only line, or the listing that it asks for. A command is no query, and so a bad line.
 fn answer<A: Allocator + Copy, B: Allocator + Clone>(
     alloc: A,
     register: &Register<B>,
     line: &[u8],
-) -> Answer<A>
-    ensures shows { ShowsReading register.now (reading 1 line.now) result }
+) -> Result<Answer<A>, Listing>
+    ensures { MatchResult result (λ answer. ShowsReading register.now (reading 1 line.now) answer × HasNoListing A (reading 1 line.now))
+        (λ listing. reading {A = A} 1 line.now ≡ Print listing) }
 {
     let said = parse_line(alloc, Station::new(1), line);
     match &said {
-        Ok(Line::Silent) => Answer::Quiet,
-        Ok(Line::Bad(fault)) => Answer::Bad(1, *fault),
-        Ok(Line::Ask(query)) => answer_query(alloc, register, query),
-        Ok(Line::Apply(_)) | Err(_) => Answer::Bad(1, LineFault::Syntax),
+        Ok(Line::Silent) => Ok(Answer::Quiet),
+        Ok(Line::Bad(fault)) => Ok(Answer::Bad(1, *fault)),
+        Ok(Line::Ask(query)) => Ok(answer_query(alloc, register, query)),
+        Ok(Line::Print(listing)) => Err(*listing),
+        Ok(Line::Apply(_)) | Err(_) => Ok(Answer::Bad(1, LineFault::Syntax)),
     }
 }
 
@@ -68,6 +72,40 @@ fn write_text<A: Allocator, B: Allocator>(text: &mut Vec<u8, A>, answer: &Answer
     true
 }
 
+/// The same of a listing.
+fn write_listing<A: Allocator, B: Allocator + Clone>(
+    text: &mut Vec<u8, A>,
+    register: &Register<B>,
+    listing: &Listing,
+) -> bool
+    requires empty { text.old.items ≡ [] }
+    requires room { answer_room ≤ vec_capacity text.old }
+    ensures { IsListingOf A register.now listing.now text.new.items result }
+{
+    if print_listing(text, register, listing).is_ok() {
+        return false;
+    }
+    print_answer(text, &Answer::<A>::QueryOutage(1, Outage::Memory)).unwrap();
+    true
+}
+
+/// Makes the text of the answer to the only line, and returns whether it reports trouble.
+fn write_shown<A: Allocator + Copy + Drop, B: Allocator + Clone>(
+    text: &mut Vec<u8, A>,
+    alloc: A,
+    register: &Register<B>,
+    line: &[u8],
+) -> bool
+    requires empty { text.old.items ≡ [] }
+    requires room { answer_room ≤ vec_capacity text.old }
+    ensures { IsShown A register.now line.now text.new.items result }
+{
+    match answer(alloc, register, line) {
+        Ok(answer) => write_text(text, &answer),
+        Err(listing) => write_listing(text, register, &listing),
+    }
+}
+
 /// Answers a line that is to be a query, as the only line of a station; the register is only read. A command is a bad line.
 ///
 /// # Errors
@@ -80,8 +118,6 @@ pub fn show<A: Allocator + Copy + Drop, B: Allocator + Clone>(
     ensures shown { IfOk result (λ shown. IsShown A register.now line.now shown.text.items shown.troubled) }
 {
     let mut text = Vec::with_capacity(alloc, ROOM)?;
-    let answer = answer(alloc, register, line);
-    let troubled = write_text(&mut text, &answer);
-    drop(answer);
+    let troubled = write_shown(&mut text, alloc, register, line);
     Ok(Shown { text, troubled })
 }

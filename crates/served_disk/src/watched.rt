@@ -4,6 +4,7 @@ ghost use Rattle.std.specs.Prelude.{◌≡◌};
 use crate::Progress;
 use centre_core::{Command, Query, QueryAnswer, Reply};
 use console::{Desk, Outage};
+use listings::Listing;
 use registration::Station;
 use std::alloc::Allocator;
 use std::io;
@@ -35,7 +36,7 @@ impl<'p, 'r, R: Read, C: Clock + Eprint> WatchedReader<'p, 'r, R, C> {
 }
 
 /// How many lines end in a piece.
-fn ends_in(piece: &[u8]) -> u64 {
+pub(crate) fn ends_in(piece: &[u8]) -> u64 {
     piece.iter().filter(|byte| **byte == b'\n').count() as u64
 }
 
@@ -91,5 +92,11 @@ impl<'p, 'r, A: Allocator, D: Desk<A>, C: Clock + Eprint> Desk<A> for WatchedDes
         let answer = self.desk.query(alloc, query);
         self.progress.count(self.station, false);
         answer
+    }
+
+    fn list(&mut self, listing: &Listing, out: &mut Vec<u8, A>) -> Result<(), Outage> {
+        let listed = self.desk.list(listing, out);
+        self.progress.count(self.station, false);
+        listed
     }
 }

@@ -1,8 +1,10 @@
 //! A reader of the published copy.
-ghost use Rattle.std.specs.Prelude.{◌≡◌, ◌⊎◌, ◌<◌, MatchBool, length, IfSome, IfOk, IfNone, OnErr, IsErrOf, MatchResult};
+ghost use Rattle.std.specs.Prelude.{◌≡◌, ◌⊎◌, ◌<◌, ◌≤◌, ◌++◌, MatchBool, length, IfSome, IfOk, IfNone, OnErr, OnOk, IsErrOf, MatchResult};
+ghost use Rattle.std.specs.Prelude.{vec_capacity, vec_len};
 ghost use mathlib.Core.List.{IsPrefix};
 ghost use Rattle.centre_core.specs.History.{after};
 ghost use Rattle.centre_core.specs.Queries.{AsksForList, answer_to};
+ghost use Rattle.listings.specs.Texts.{LacksRoom, listing_text};
 ghost use Rattle.snapshots.specs.declared.viewer.ReadFault.TheVariants.{Closed, NoMemory};
 
 use crate::log::Centre;
@@ -10,7 +12,8 @@ use crate::published::Published;
 use crate::rule::SnapshotReader;
 use crate::visit::{Visit, entered};
 use centre_core::{Query, QueryAnswer};
-use core::mem::replace_with;
+use core::mem::{replace, replace_with};
+use listings::Listing;
 use std::alloc::{AllocError, Allocator};
 use std::marker::Model;
 
@@ -79,6 +82,48 @@ fn answer_in_place<J: Centre, C: Allocator + Copy>(
     replace_with(viewer, asked, |viewer, asked| answered(viewer, asked))
 }
 
+// The text with the listing of the published copy, or without it and why; and the viewer, which has left the copy.
+fn listed<J: Centre, C: Allocator + Copy>(
+    viewer: Viewer<J>,
+    asked: (&Listing, Vec<u8, C>),
+) -> (Viewer<J>, (Vec<u8, C>, Result<(), ReadFault>))
+    ensures later { IsPrefix viewer result.0 }
+    ensures listed { OnOk result.1.1 (result.1.0.items ≡ asked.entry.1.items ++ listing_text (after J.base result.0) asked.entry.0.now) }
+    ensures memory { IsErrOf result.1.1 NoMemory → LacksRoom (vec_len asked.entry.1) (vec_capacity asked.entry.1) (after J.base result.0) asked.entry.0.now }
+    ensures closed { IsErrOf result.1.1 Closed → result.0 ≡ viewer }
+    ensures same { OnErr result.1.1 (result.1.0.items ≡ asked.entry.1.items) }
+    ensures capacity { vec_capacity asked.entry.1 ≤ vec_capacity result.1.0 }
+{
+    let (listing, mut text) = asked;
+    match entered(viewer) {
+        Ok(visit) => {
+            let done = visit.list(listing, &mut text);
+            (visit.leave(), (text, done.or(Err(ReadFault::NoMemory))))
+        }
+        Err(viewer) => (viewer, (text, Err(ReadFault::Closed))),
+    }
+}
+
+// The same in place.
+fn list_in_place<J: Centre, C: Allocator + Copy>(
+    viewer: &mut Viewer<J>,
+    text: Vec<u8, C>,
+    listing: &Listing,
+) -> (Vec<u8, C>, Result<(), ReadFault>)
+    ensures later { IsPrefix viewer.old viewer.new }
+    ensures listed { OnOk result.1 (result.0.items ≡ text.items ++ listing_text (after J.base viewer.new) listing.now) }
+    ensures memory { IsErrOf result.1 NoMemory → LacksRoom (vec_len text) (vec_capacity text) (after J.base viewer.new) listing.now }
+    ensures closed { IsErrOf result.1 Closed → viewer.new ≡ viewer.old }
+    ensures same { OnErr result.1 (result.0.items ≡ text.items) }
+    ensures capacity { vec_capacity text ≤ vec_capacity result.0 }
+{
+    replace_with(
+        viewer,
+        (listing, text),
+        |viewer, asked| listed(viewer, asked),
+    )
+}
+
 impl<J: Centre> Viewer<J> {
     /// The answer to a query after a list of commands, kept under `alloc`, with the length of that list. The list begins
     /// with all that the viewer has seen or learnt. It never waits. `NoMemory` comes only where the answer is a list; the
@@ -100,6 +145,27 @@ impl<J: Centre> Viewer<J> {
             Ok(answer) => Ok((answer, count)),
             Err(_) => Err(ReadFault::NoMemory),
         }
+    }
+
+    /// Adds the text of a listing after a list of commands to `out`. The list begins with all that the viewer has seen or
+    /// learnt. It never waits. If it fails, `out` is unchanged. `NoMemory` comes only where the text has no room; the viewer may
+    /// then have seen more. After `Closed` nothing has changed.
+    pub fn list<C: Allocator + Copy>(
+        &mut self,
+        listing: &Listing,
+        out: &mut Vec<u8, C>,
+    ) -> Result<(), ReadFault>
+        ensures later { IsPrefix self.old self.new }
+        ensures listed { OnOk result (out.new.items ≡ out.old.items ++ listing_text (after J.base self.new) listing.now) }
+        ensures memory { IsErrOf result NoMemory → LacksRoom (vec_len out.old) (vec_capacity out.old) (after J.base self.new) listing.now }
+        ensures closed { IsErrOf result Closed → self.new ≡ self.old }
+        ensures unlisted { OnErr result (out.new.items ≡ out.old.items) }
+        ensures capacity { vec_capacity out.old ≤ vec_capacity out.new }
+    {
+        let alloc = *out.allocator();
+        let (text, done) = list_in_place(self, replace(out, Vec::new(alloc)), listing);
+        *out = text;
+        done
     }
 
     /// Enters the copy that is published now, whose list begins with all that the viewer has seen or learnt. It never

@@ -1,8 +1,9 @@
 //! A viewer inside the published copy.
-ghost use Rattle.std.specs.Prelude.{◌≡◌, length, IfOk, OnErr, MatchResult};
+ghost use Rattle.std.specs.Prelude.{◌≡◌, ◌≤◌, ◌++◌, length, IfOk, OnErr, OnOk, MatchResult, vec_capacity, vec_len};
 ghost use mathlib.Core.List.{IsPrefix};
 ghost use Rattle.centre_core.specs.History.{after};
 ghost use Rattle.centre_core.specs.Queries.{AsksForList, answer_to};
+ghost use Rattle.listings.specs.Texts.{LacksRoom, listing_text};
 ghost use Rattle.snapshots.specs.Views.{IsSnapshot};
 
 use crate::log::Centre;
@@ -10,6 +11,7 @@ use crate::published::Published;
 use crate::rule::{Inside, Sees};
 use crate::viewer::Viewer;
 use centre_core::{Query, QueryAnswer};
+use listings::{Listing, print_listing};
 use std::alloc::{AllocError, Allocator};
 use std::marker::{Model, PhantomData};
 
@@ -46,6 +48,20 @@ impl<J: Centre> Visit<J> {
         ensures memory { OnErr result (AsksForList query.now) }
     {
         self.inside.get().register.query(alloc, query)
+    }
+
+    /// Adds the text of a listing. When memory runs out, `out` is unchanged.
+    pub fn list<C: Allocator>(
+        &self,
+        listing: &Listing,
+        out: &mut Vec<u8, C>,
+    ) -> Result<(), AllocError>
+        ensures listed { OnOk result (out.new.items ≡ out.old.items ++ listing_text (after J.base self.now) listing.now) }
+        ensures full { OnErr result (LacksRoom (vec_len out.old) (vec_capacity out.old) (after J.base self.now) listing.now) }
+        ensures same { OnErr result (out.new.items ≡ out.old.items) }
+        ensures capacity { vec_capacity out.old ≤ vec_capacity out.new }
+    {
+        print_listing(out, &self.inside.get().register, listing)
     }
 
     /// How many commands made the copy.

@@ -68,13 +68,23 @@ IsOfAnother s c result t = (c.station ≡ s.station → ⊥) × (result ≡ Err 
 
 -- The result of a query. It is what the register answers after all that is seen now, which begins with all that was seen before. Or
 -- memory ran out for a list. Or the published copy could not be entered, and no more is seen.
-abbrev pub Reads : State → List (Asked Global) → Query → Result (QueryAnswer Global) Outage → List (Asked Global) → Type 0
-Reads base old q (Ok query_answer) new = (query_answer ≡ answer_to (after base new) q) × IsPrefix old new
-Reads base old q (Err Memory) new = AsksForList q × IsPrefix old new
-Reads base old q (Err Closed) new = new ≡ old
-Reads base old q (Err Device) new = ⊥
-Reads base old q (Err Broken) new = ⊥
-Reads base old q (Err Epochs) new = ⊥
+abbrev pub AnswersAfter : State → List (Asked Global) → Query → Result (QueryAnswer Global) Outage → List (Asked Global) → Type 0
+AnswersAfter base old q (Ok query_answer) new = (query_answer ≡ answer_to (after base new) q) × IsPrefix old new
+AnswersAfter base old q (Err Memory) new = AsksForList q × IsPrefix old new
+AnswersAfter base old q (Err Closed) new = new ≡ old
+AnswersAfter base old q (Err Device) new = ⊥
+AnswersAfter base old q (Err Broken) new = ⊥
+AnswersAfter base old q (Err Epochs) new = ⊥
+
+-- The register that is read for a listing. It is the one after all that is seen now, which begins with all that was seen before. Or the
+-- published copy could not be entered, and no more is seen. It has no other outage word.
+abbrev pub ReadsAfter : State → List (Asked Global) → Result State Outage → List (Asked Global) → Type 0
+ReadsAfter base old (Ok r) new = (r ≡ after base new) × IsPrefix old new
+ReadsAfter base old (Err Closed) new = new ≡ old
+ReadsAfter base old (Err Memory) new = ⊥
+ReadsAfter base old (Err Device) new = ⊥
+ReadsAfter base old (Err Broken) new = ⊥
+ReadsAfter base old (Err Epochs) new = ⊥
 
 module _ (J : Type 0) (base : State) where
   -- a command of the session's station is submitted
@@ -84,8 +94,13 @@ module _ (J : Type 0) (base : State) where
   -- a query is answered; nothing is sent or received
   abbrev pub Answers : AtSession → Query → Result (QueryAnswer Global) Outage → AtSession → Type 0
   Answers s q result t =
-      (t.station ≡ s.station) × (t.view.sent ≡ s.view.sent) × (t.view.received ≡ s.view.received) × Reads base s.view.seen q result t.view.seen
+      (t.station ≡ s.station) × (t.view.sent ≡ s.view.sent) × (t.view.received ≡ s.view.received) × AnswersAfter base s.view.seen q result t.view.seen
+
+  -- a register is read for a listing; nothing is sent or received
+  abbrev pub Reads : AtSession → Result State Outage → AtSession → Type 0
+  Reads s result t =
+      (t.station ≡ s.station) × (t.view.sent ≡ s.view.sent) × (t.view.received ≡ s.view.received) × ReadsAfter base s.view.seen result t.view.seen
 
   -- the rules of a session with a centre that was opened over this register
   abbrev pub of_session : Rules Global AtSession
-  of_session = record { applies = Applies; answers = Answers }
+  of_session = record { applies = Applies; answers = Answers; reads = Reads }

@@ -3,6 +3,7 @@
 #![tactic(auto)]
 
 mod job;
+mod listing;
 mod many_stations;
 mod one_station;
 mod port;

@@ -1,14 +1,17 @@
 //! A station's session as a desk.
-ghost use Rattle.std.specs.Prelude.{◌≡◌, IfOk};
+ghost use Rattle.std.specs.Prelude.{◌≡◌, ◌≤◌, IfErr, IfOk, OnErr, OnOk, vec_capacity, vec_len};
 ghost use mathlib.Core.List.{IsPrefix};
+ghost use Rattle.desk.specs.Listed.{IsListed, IsUnlisted};
 ghost use Rattle.desk.specs.Replies.{HasShortPdu};
 ghost use Rattle.flusher.specs.Sessions.{IsSameSession};
 ghost use Rattle.stations.specs.OfSession.{AtSession, Applies, Answers, at_session, of_session, result_of, word_of};
 
+use crate::listing::list;
 use crate::watch::Watch;
 use centre_core::{Command, Query, QueryAnswer, Reply};
 use desk::{Desk, Outage};
 use flusher::{Answer, Session};
+use listings::Listing;
 use recovery::StoreFault;
 use snapshots::{Centre, ReadFault};
 use std::alloc::Global;
@@ -166,5 +169,11 @@ impl<'r, 'w, K: Began, J: Centre, R: Wait, V: Watch> Desk<Global>
         let query_answer = read(&mut self.session, alloc, query);
         self.watch.answered(self.session.station(), false);
         query_answer
+    }
+
+    fn list(&mut self, listing: &Listing, out: &mut Vec<u8, Global>) -> Result<(), Outage> {
+        let listed = list(&mut self.session, listing, out);
+        self.watch.answered(self.session.station(), false);
+        listed
     }
 }

@@ -16,7 +16,7 @@ pub trait Watch: Gate {
     /// The entry was put into the queue, and answered if it is a command.
     fn after_entry(&self, station: Station);
 
-    /// A command or query of this station was answered. `is_accepted`: the answer accepted a command.
+    /// A command, query or listing of this station was answered. `is_accepted`: the answer accepted a command.
     fn answered(&self, station: Station, is_accepted: bool);
 
     /// The run of this station has ended with this result. Its session ends next.

@@ -13,11 +13,11 @@ use recovery::Store;
 use registration::{Limits, Station};
 use sector_disk::Disk;
 use served_disk::{
-    Fault, PortNames, Progress, Served, ServiceWatch, TURNS, WatchedDesk, WatchedReader,
-    check_disk, check_names, check_stations, dump_disk, file_names, format_disk, inputs_of,
-    layout_of, load_register, make_disk_with, name_ended, names_of, not_read, open_disk,
-    open_files, outcome, pairs_of, ports_of, print_formatted, print_loaded, print_stations,
-    serve_stations, service_outcome, show_disk,
+    CountedReader, CountedWriter, Fault, PortNames, Progress, Served, ServiceWatch, TURNS, Tally,
+    WatchedDesk, WatchedReader, check_disk, check_names, check_stations, dump_disk, file_names,
+    format_disk, inputs_of, layout_of, load_register, make_disk_with, name_ended, names_of,
+    not_read, open_disk, open_files, outcome, pairs_of, ports_of, print_formatted, print_loaded,
+    print_stations, serve_stations, service_outcome, show_disk,
 };
 use snapshots::NewLog;
 use stations::{ManyTerms, Port, Watch};
@@ -182,21 +182,34 @@ fn read_dump<'a>(
 ) -> Result<Register<Global>, Fault<'a>>
     ensures under { IfOk result (λ register. register.registered.limits ≡ limits) }
 {
-    match File::open(rt, dump) {
-        Ok(mut file) => load_register(rt.alloc(), limits, &mut file, dump),
-        Err(error) => Err(not_read(error.kind(), dump)),
-    }
+    let file = match File::open(rt, dump) {
+        Ok(file) => file,
+        Err(error) => return Err(not_read(error.kind(), dump)),
+    };
+    let tally = Tally::of_lines(rt, rt.stderr().is_terminal());
+    let mut reader = CountedReader::new(file, &tally);
+    let loaded = load_register(rt.alloc(), limits, &mut reader, dump);
+    tally.finish();
+    loaded
 }
 
 /// Prints the register on a disk as text.
 fn dump_register<'a>(rt: &HostRuntime, disk: &'a str) -> Result<bool, Fault<'a>> {
-    let _disk = dump_disk(rt, rt.alloc(), disk, &mut io::writer(rt))?;
+    let watched = rt.stderr().is_terminal() && !rt.stdout().is_terminal();
+    let tally = Tally::of_lines(rt, watched);
+    let mut out = CountedWriter::new(io::writer(rt), &tally);
+    let dumped = dump_disk(rt, rt.alloc(), disk, &mut out);
+    tally.finish();
+    let _disk = dumped?;
     Ok(false)
 }
 
 /// Prints what a check of a disk finds. `Ok` has the exit status: 5 if a side is damaged or the disk does not open.
 fn check_sides<'a>(rt: &HostRuntime, disk: &'a str) -> Result<u8, Fault<'a>> {
-    let (report, _disk) = check_disk(rt, rt.alloc(), disk)?;
+    let tally = Tally::of_sectors(rt, rt.stderr().is_terminal());
+    let checked = check_disk(rt, rt.alloc(), disk, &tally);
+    tally.finish();
+    let (report, _disk) = checked?;
     let well = printed(io::writer(rt).write_all(&report.text), report.well)?;
     Ok(if well { 0 } else { 5 })
 }

@@ -6,6 +6,8 @@ mod growing;
 #[cfg(test)]
 mod inside;
 #[cfg(test)]
+mod listing;
+#[cfg(test)]
 mod publishing;
 #[cfg(test)]
 mod staying;

@@ -1,4 +1,4 @@
-use Rattle.console.proofs.Taken.{all_commands, all_queries}
+use Rattle.console.proofs.Taken.{all_commands, all_queries, all_listings}
 use Rattle.console.proofs.laws.all_that_is_spelled.Goals as goal
 
 pub returns-clause-commands : goal.returns-clause-commands
@@ -6,3 +6,6 @@ returns-clause-commands g c = all_commands
 
 pub returns-clause-queries : goal.returns-clause-queries
 returns-clause-queries g c = all_queries
+
+pub returns-clause-listings : goal.returns-clause-listings
+returns-clause-listings g c = all_listings

@@ -1,4 +1,4 @@
-use Rattle.console.proofs.Spelled.{only_commands, only_queries}
+use Rattle.console.proofs.Spelled.{only_commands, only_queries, only_listings}
 use Rattle.console.proofs.laws.only_what_is_spelled.Goals as goal
 
 pub returns-clause-commands : goal.returns-clause-commands
@@ -6,3 +6,6 @@ returns-clause-commands g c = only_commands
 
 pub returns-clause-queries : goal.returns-clause-queries
 returns-clause-queries g c = only_queries
+
+pub returns-clause-listings : goal.returns-clause-listings
+returns-clause-listings g c = only_listings

@@ -2,7 +2,7 @@ use Rattle.std.proofs.Common.{arith, sym, ◌∙◌, ap, ◌≡◌, ◌+◌, ◌
 use Rattle.console.specs.Reading.{words}
 use Rattle.std.proofs.lemmas.Grind.{common_steps}
 use Rattle.std.proofs.lemmas.List.{take_all}
-use Rattle.console.proofs.Lines.{words_none, words_some}
+use Rattle.console.proofs.Splits.{words_none, words_some}
 use Rattle.console.proofs.line.cut.Goals as goal
 
 pub returns-in-None : goal.returns-in-None

@@ -1,6 +1,6 @@
 use Rattle.std.proofs.Common.{map, take, arith}
 use Rattle.std.proofs.lemmas.Grind.{common_steps}
-use Rattle.console.proofs.Lines.{more_words}
+use Rattle.console.proofs.Splits.{more_words}
 use Rattle.console.proofs.line.split.Goals as goal
 
 pub returns-clause-words : goal.returns-clause-words

@@ -1,6 +1,6 @@
 use Rattle.mailbox.proofs.Results.{known_err}
 use Rattle.console.specs.Answer.{item_text}
-use Rattle.console.proofs.Listed.{no_room, prefix_with_more}
+use Rattle.listings.proofs.Listed.{no_room, prefix_with_more}
 use Rattle.console.proofs.lists.put_items.Goals as goal
 
 pub returns-in_err-put_item-clause-full : goal.returns-in_err-put_item-clause-full

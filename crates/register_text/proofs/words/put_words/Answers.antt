@@ -1,5 +1,5 @@
 use Rattle.mailbox.proofs.Results.{known_err}
-use Rattle.console.proofs.Listed.{prefix_with_more}
+use Rattle.listings.proofs.Listed.{prefix_with_more}
 use Rattle.register_text.proofs.words.put_words.Goals as goal
 
 pub returns-in_err-put_word-clause-err : goal.returns-in_err-put_word-clause-err

@@ -1,0 +1,29 @@
+-- What is given for a line, before its text is written. A is the allocator of its bits; nothing depends on it.
+use Rattle.std.specs.Prelude.{◌≡◌, ℕ, Bool, List}
+use Rattle.identity.specs.Numbers.{Byte}
+use Rattle.console.specs.declared.answer.Answer.{Answer}
+use Rattle.console.specs.declared.answer.Answer.TheVariants as answer
+use Rattle.console.specs.declared.progress.Given.{Given}
+use Rattle.console.specs.declared.progress.Given.TheVariants as given
+use Rattle.console.specs.Answer.{text, is_trouble, HasNoLongPdu}
+use Rattle.console.specs.Inside.Current.{IsGivenFor}
+
+module _ {A : Type 0} where
+  -- the answer that is given; the lines of a listing are in the text already
+  abbrev pub answer_of : List Byte → Given A → Answer A
+  answer_of bytes (given.Answered answer) = answer
+  answer_of bytes given.Listed = answer.Listed bytes
+
+  -- no listing, and a PDU in it has at most 2,048 bits
+  abbrev pub IsPrintable : Answer A → Type 0
+  IsPrintable (answer.Listed lines) = ⊥
+  IsPrintable other = HasNoLongPdu other
+
+  -- an answer that is given can be printed
+  abbrev pub MayBePrinted : Given A → Type 0
+  MayBePrinted (given.Answered answer) = IsPrintable answer
+  MayBePrinted given.Listed = Unit {0}
+
+  -- the bytes are the text of what is given for this answer to the line of this number, and troubled is whether that is trouble
+  abbrev pub IsTextFor : ℕ → Answer A → List Byte → Bool → Type 0
+  IsTextFor n answer bytes troubled = (held : Answer A) × IsGivenFor n answer held × (bytes ≡ text held) × (troubled ≡ is_trouble held)

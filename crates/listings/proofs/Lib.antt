@@ -1,0 +1,7 @@
+pub mod Listed
+mod Fullest
+mod Used
+mod RuleLine
+mod Walks
+mod Under
+mod Turns

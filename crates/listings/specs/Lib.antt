@@ -1,0 +1,7 @@
+pub mod Parts
+pub mod Words
+pub mod Lines
+pub mod Entries
+pub mod Fullest
+pub mod Texts
+pub mod Inside

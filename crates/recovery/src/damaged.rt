@@ -1,0 +1,403 @@
+//! The damaged sectors of a side: the one at which opening stops, and those after it.
+ghost use Rattle.std.specs.Prelude.{◌≡◌, ◌++◌, ◌∷◌, ◌+◌, ◌-◌, ◌<◌, ◌≤◌, ◌^◌, [], ℕ, IfErr, IfOk, IfSome, IsErrOf, OnOk, option_map, true};
+ghost use Rattle.sector_disk.specs.Disk.{HasFailed, sector};
+ghost use Rattle.sector_disk.specs.Reading.{before_reads};
+ghost use Rattle.sector_disk.specs.Run.{HasOnlyRead};
+ghost use Rattle.centre_core.specs.State.{last_number};
+ghost use Rattle.image_rows.specs.Rows.{row_count};
+ghost use Rattle.image_rows.specs.RowReading.{row_in};
+ghost use Rattle.image_rows.specs.Loading.{header_may};
+ghost use Rattle.checkpoint.specs.Layout.{disk_size, slot_at};
+ghost use Rattle.checkpoint.specs.OnSide.{ReadsForm, slot_form};
+ghost use Rattle.recovery.specs.declared.fault.StoreFault.TheVariants.{DiskFault};
+ghost use Rattle.recovery.specs.Checking.{IsDamagedAt};
+ghost use Rattle.recovery.specs.Damage.{Begins, IsOfDamage, IsOfState, KeepsFirst, after_header, after_row, bad_record_in, damage, damage_from, damage_in};
+ghost use Rattle.recovery.specs.Damage.{fault_at, fault_of_first, header_of, kind_at, named, record_damage, record_fault, row_damage, rows_damage};
+
+use crate::row_faults::{fault_at, fault_of_first, header_of, kind_at};
+use crate::{SideState, StoreFault};
+use centre_core::LAST_NUMBER;
+use checkpoint::{Layout, Side, stated_form};
+use gated_journal::{Form, Journal, JournalError};
+use image_rows::Header;
+use registration::Limits;
+use sector_disk::Disk;
+use std::alloc::Allocator;
+
+/// What a sector is to hold.
+#[derive(Clone, Copy, Debug, PartialEq, Eq, Drop)]
+pub enum Kind {
+    /// The header of an image.
+    Header,
+    /// A row of a rule.
+    Rule,
+    /// A row of a radio.
+    Radio,
+    /// A row of a waiting item.
+    Item,
+    /// A row of a station.
+    Station,
+    /// A record, or the gate before one.
+    Record,
+}
+
+/// What is wrong with a sector.
+#[derive(Clone, Copy, Debug, PartialEq, Eq, Drop)]
+pub enum Reason {
+    /// Its bytes are no header, no row, or no record that follows those before it.
+    Unreadable,
+    /// It is a header of more rows or commands than the disk may have.
+    BeyondLimits,
+    /// It is a row, but not one that may come there.
+    OutOfPlace,
+    /// It is a record, and a command of it is refused.
+    Refused,
+}
+
+/// A damaged sector.
+#[derive(Clone, Copy, Debug, PartialEq, Eq, Drop)]
+pub struct Damage {
+    /// The sector.
+    pub sector: u64,
+    /// What it is to hold.
+    pub kind: Kind,
+    /// What is wrong with it.
+    pub reason: Reason,
+}
+
+// What the header of a side states, and the form of the records after it.
+#[derive(Clone, Copy, Drop)]
+struct Stated {
+    header: Header,
+    form: Form,
+}
+
+// The header of a side.
+#[tactic(auto, using(sector_disk::proofs::Reading::one_read))]
+fn read_header<D: Disk>(
+    disk: &mut D,
+    layout: &Layout,
+    side: Side,
+) -> Result<Option<Stated>, StoreFault>
+    requires room { disk_size layout.now ≤ (D.view disk.old).sectors }
+    ensures exact { IfOk result (λ found. (D.view disk.old).honest
+        → option_map (λ stated. stated.header) found ≡ header_of (row_in (sector (D.view disk.old).reads (slot_at layout.now side)))) }
+    ensures form { IfOk result (λ found. (D.view disk.old).honest → IfSome found (λ stated. stated.form ≡ slot_form layout.now side (D.view disk.old).reads)) }
+    ensures kinds { IfErr result IsOfDamage }
+    ensures only_read { (D.view disk.old).honest → HasOnlyRead (D.view disk.old) (D.view disk.new) }
+    ensures only_reads { before_reads (D.view disk.new).calls ≡ before_reads (D.view disk.old).calls }
+    ensures fault { IsErrOf result DiskFault → HasFailed (D.view disk.old) (D.view disk.new) }
+    ensures sectors { (D.view disk.new).sectors ≡ (D.view disk.old).sectors }
+    ensures later { (D.view disk.old).failures ≤ (D.view disk.new).failures }
+{
+    let mut bytes = [0; 512];
+    disk.read(layout.slot(side), &mut bytes)?;
+    match header_of(&bytes) {
+        Some(header) => Ok(Some(Stated {
+            header,
+            form: stated_form(&bytes),
+        })),
+        None => Ok(None),
+    }
+}
+
+// Whether the header states no more rows than the limits allow, and no more commands than there are numbers.
+fn header_may(limits: &Limits, header: &Header) -> bool
+    ensures { result ≡ header_may limits.now header.now }
+{
+    header.count <= LAST_NUMBER
+        && header.rules <= limits.rules
+        && header.radios <= limits.radios
+        && header.mail <= limits.mail
+        && header.served <= limits.stations
+}
+
+// Adds a sector with which something is wrong.
+#[tactic(auto, using(crate::proofs::FirstDamage::keeps_first))]
+fn add_named<A: Allocator>(
+    found: &mut Vec<Damage, A>,
+    sector: u64,
+    kind: Kind,
+    reason: Option<Reason>,
+) -> Result<(), StoreFault>
+    ensures added { OnOk result (found.new.items ≡ found.old.items ++ named sector kind reason) }
+    ensures first { OnOk result (KeepsFirst found.old.items found.new.items) }
+    ensures kinds { IfErr result IsOfDamage }
+    ensures device { IsErrOf result DiskFault → ⊥ }
+{
+    let Some(reason) = reason else {
+        return Ok(());
+    };
+    let damage = Damage {
+        sector,
+        kind,
+        reason,
+    };
+    match found.push(damage) {
+        Ok(()) => Ok(()),
+        Err(_) => Err(StoreFault::NoMemory),
+    }
+}
+
+// Adds the row at a place of the slot, if something is wrong with it by itself.
+#[tactic(auto, using(sector_disk::proofs::Reading::one_read))]
+fn add_row<A: Allocator, D: Disk>(
+    disk: &mut D,
+    slot: u64,
+    header: &Header,
+    place: u64,
+    found: &mut Vec<Damage, A>,
+) -> Result<(), StoreFault>
+    requires inside { slot + place < (D.view disk.old).sectors }
+    requires fits { slot + place < 2 ^ 64 }
+    ensures added { OnOk result ((D.view disk.old).honest → found.new.items ≡ found.old.items ++ row_damage (D.view disk.old).reads slot header.now place) }
+    ensures first { OnOk result (KeepsFirst found.old.items found.new.items) }
+    ensures kinds { IfErr result IsOfDamage }
+    ensures only_read { (D.view disk.old).honest → HasOnlyRead (D.view disk.old) (D.view disk.new) }
+    ensures only_reads { before_reads (D.view disk.new).calls ≡ before_reads (D.view disk.old).calls }
+    ensures fault { IsErrOf result DiskFault → HasFailed (D.view disk.old) (D.view disk.new) }
+    ensures sectors { (D.view disk.new).sectors ≡ (D.view disk.old).sectors }
+    ensures later { (D.view disk.old).failures ≤ (D.view disk.new).failures }
+{
+    let mut bytes = [0; 512];
+    disk.read(slot + place, &mut bytes)?;
+    let kind = kind_at(header, place);
+    add_named(found, slot + place, kind, fault_at(header, place, &bytes))
+}
+
+// Adds the rows from a place on with which something is wrong by themselves.
+#[tactic(auto, unfolding(crate::specs::Damage::rows_damage))]
+fn add_rows<A: Allocator, D: Disk>(
+    disk: &mut D,
+    slot: u64,
+    header: &Header,
+    from: u64,
+    found: &mut Vec<Damage, A>,
+) -> Result<(), StoreFault>
+    requires inside { slot + row_count header.now ≤ (D.view disk.old).sectors }
+    requires fits { slot + row_count header.now < 2 ^ 64 }
+    ensures added { OnOk result ((D.view disk.old).honest → found.new.items
+        ≡ found.old.items ++ rows_damage (D.view disk.old).reads slot header.now from (row_count header.now - from)) }
+    ensures first { OnOk result (KeepsFirst found.old.items found.new.items) }
+    ensures kinds { IfErr result IsOfDamage }
+    ensures only_read { (D.view disk.old).honest → HasOnlyRead (D.view disk.old) (D.view disk.new) }
+    ensures only_reads { before_reads (D.view disk.new).calls ≡ before_reads (D.view disk.old).calls }
+    ensures fault { IsErrOf result DiskFault → HasFailed (D.view disk.old) (D.view disk.new) }
+    ensures sectors { (D.view disk.new).sectors ≡ (D.view disk.old).sectors }
+    ensures later { (D.view disk.old).failures ≤ (D.view disk.new).failures }
+{
+    let rows = 1
+        + u64::from(header.rules)
+        + u64::from(header.radios)
+        + u64::from(header.mail)
+        + u64::from(header.served);
+    for k in 0..rows.saturating_sub(from) {
+        add_row(disk, slot, header, from + k, found)?;
+    }
+    Ok(())
+}
+
+// The first record of a side that can't be read.
+fn bad_record<A: Allocator + Copy, D: Disk>(
+    alloc: A,
+    disk: &mut D,
+    layout: &Layout,
+    side: Side,
+    stated: Stated,
+) -> Result<Option<u64>, StoreFault>
+    requires room { disk_size layout.now ≤ (D.view disk.old).sectors }
+    requires counts { stated.header.count ≤ last_number }
+    ensures exact { IfOk result (λ bad. (D.view disk.old).honest → ReadsForm layout.now side stated.form (D.view disk.old)
+        → bad ≡ bad_record_in A layout.now side stated.header (D.view disk.old).reads) }
+    ensures kinds { IfErr result IsOfDamage }
+    ensures only_read { (D.view disk.old).honest → HasOnlyRead (D.view disk.old) (D.view disk.new) }
+    ensures only_reads { before_reads (D.view disk.new).calls ≡ before_reads (D.view disk.old).calls }
+    ensures fault { IsErrOf result DiskFault → HasFailed (D.view disk.old) (D.view disk.new) }
+    ensures sectors { (D.view disk.new).sectors ≡ (D.view disk.old).sectors }
+    ensures later { (D.view disk.old).failures ≤ (D.view disk.new).failures }
+{
+    let mut journal = Journal::start(
+        alloc,
+        layout.half(side),
+        u64::from(layout.journal()),
+        stated.form,
+        stated.header.count,
+    )?;
+    match journal.judge_rest(disk) {
+        Ok(()) => Ok(None),
+        Err(JournalError::Damaged(at)) => Ok(Some(at)),
+        Err(error) => Err(StoreFault::from(error)),
+    }
+}
+
+// A damaged sector alone.
+fn alone<A: Allocator>(
+    alloc: A,
+    sector: u64,
+    kind: Kind,
+    reason: Reason,
+) -> Result<Vec<Damage, A>, StoreFault>
+    ensures exact { IfOk result (λ found. found.items ≡ damage sector kind reason ∷ []) }
+    ensures kinds { IfErr result IsOfDamage }
+    ensures device { IsErrOf result DiskFault → ⊥ }
+{
+    let mut found = Vec::new(alloc);
+    add_named(&mut found, sector, kind, Some(reason))?;
+    Ok(found)
+}
+
+// What is wrong with the record at which opening stops.
+fn record_fault(bad: Option<u64>) -> Reason
+    ensures { result ≡ record_fault bad }
+{
+    match bad {
+        None => Reason::Refused,
+        Some(_) => Reason::Unreadable,
+    }
+}
+
+// Adds the record that can't be read.
+fn add_record<A: Allocator>(found: &mut Vec<Damage, A>, bad: Option<u64>) -> Result<(), StoreFault>
+    ensures added { OnOk result (found.new.items ≡ found.old.items ++ record_damage bad) }
+    ensures first { OnOk result (KeepsFirst found.old.items found.new.items) }
+    ensures kinds { IfErr result IsOfDamage }
+    ensures device { IsErrOf result DiskFault → ⊥ }
+{
+    match bad {
+        None => Ok(()),
+        Some(at) => add_named(found, at, Kind::Record, Some(Reason::Unreadable)),
+    }
+}
+
+// Where opening stops on a side with this header, and the first of its records that can't be read.
+#[derive(Clone, Copy, Drop)]
+struct Stop {
+    header: Header,
+    first: u64,
+    bad: Option<u64>,
+}
+
+// The damaged sectors from the row on at which opening stops.
+#[tactic(auto, using(sector_disk::proofs::Reading::one_read))]
+fn after_row<A: Allocator, D: Disk>(
+    alloc: A,
+    disk: &mut D,
+    slot: u64,
+    stop: &Stop,
+) -> Result<Vec<Damage, A>, StoreFault>
+    requires inside { slot + row_count stop.now.header ≤ (D.view disk.old).sectors }
+    requires fits { slot + row_count stop.now.header < 2 ^ 64 }
+    requires first { stop.now.first < (D.view disk.old).sectors }
+    requires next { stop.now.first + 1 < 2 ^ 64 }
+    ensures exact { IfOk result (λ found. (D.view disk.old).honest
+        → found.items ≡ after_row (D.view disk.old).reads slot stop.now.header stop.now.first stop.now.bad) }
+    ensures begins { IfOk result (λ found. Begins stop.now.first found.items) }
+    ensures kinds { IfErr result IsOfDamage }
+    ensures only_read { (D.view disk.old).honest → HasOnlyRead (D.view disk.old) (D.view disk.new) }
+    ensures only_reads { before_reads (D.view disk.new).calls ≡ before_reads (D.view disk.old).calls }
+    ensures fault { IsErrOf result DiskFault → HasFailed (D.view disk.old) (D.view disk.new) }
+    ensures sectors { (D.view disk.new).sectors ≡ (D.view disk.old).sectors }
+    ensures later { (D.view disk.old).failures ≤ (D.view disk.new).failures }
+{
+    let mut bytes = [0; 512];
+    disk.read(stop.first, &mut bytes)?;
+    let place = stop.first.saturating_sub(slot);
+    let kind = kind_at(&stop.header, place);
+    let mut found = alone(alloc, stop.first, kind, fault_of_first(&bytes))?;
+    add_rows(disk, slot, &stop.header, place + 1, &mut found)?;
+    add_record(&mut found, stop.bad)?;
+    Ok(found)
+}
+
+// The damaged sectors of a side with a good header.
+fn after_header<A: Allocator, D: Disk>(
+    alloc: A,
+    disk: &mut D,
+    layout: &Layout,
+    side: Side,
+    stop: &Stop,
+) -> Result<Vec<Damage, A>, StoreFault>
+    requires room { disk_size layout.now ≤ (D.view disk.old).sectors }
+    requires may { header_may layout.now.limits stop.now.header ≡ true }
+    requires first { stop.now.first < (D.view disk.old).sectors }
+    ensures exact { IfOk result (λ found. (D.view disk.old).honest
+        → found.items ≡ after_header layout.now side (D.view disk.old).reads stop.now.first stop.now.header stop.now.bad) }
+    ensures begins { IfOk result (λ found. Begins stop.now.first found.items) }
+    ensures kinds { IfErr result IsOfDamage }
+    ensures only_read { (D.view disk.old).honest → HasOnlyRead (D.view disk.old) (D.view disk.new) }
+    ensures only_reads { before_reads (D.view disk.new).calls ≡ before_reads (D.view disk.old).calls }
+    ensures fault { IsErrOf result DiskFault → HasFailed (D.view disk.old) (D.view disk.new) }
+    ensures sectors { (D.view disk.new).sectors ≡ (D.view disk.old).sectors }
+    ensures later { (D.view disk.old).failures ≤ (D.view disk.new).failures }
+{
+    if stop.first < layout.half(Side::A) {
+        after_row(alloc, disk, layout.slot(side), stop)
+    } else {
+        alone(alloc, stop.first, Kind::Record, record_fault(stop.bad))
+    }
+}
+
+// The damaged sectors of a side at whose sector `first` opening stops.
+#[tactic(auto, unfolding(crate::specs::Damage::damage_from))]
+fn damage_from<A: Allocator + Copy, D: Disk>(
+    alloc: A,
+    disk: &mut D,
+    layout: &Layout,
+    side: Side,
+    first: u64,
+) -> Result<Vec<Damage, A>, StoreFault>
+    requires room { disk_size layout.now ≤ (D.view disk.old).sectors }
+    requires first { first < (D.view disk.old).sectors }
+    ensures exact { IfOk result (λ found. (D.view disk.old).honest → found.items ≡ damage_from A layout.now side (D.view disk.old).reads first) }
+    ensures begins { IfOk result (λ found. Begins first found.items) }
+    ensures kinds { IfErr result IsOfDamage }
+    ensures only_read { (D.view disk.old).honest → HasOnlyRead (D.view disk.old) (D.view disk.new) }
+    ensures only_reads { before_reads (D.view disk.new).calls ≡ before_reads (D.view disk.old).calls }
+    ensures fault { IsErrOf result DiskFault → HasFailed (D.view disk.old) (D.view disk.new) }
+    ensures sectors { (D.view disk.new).sectors ≡ (D.view disk.old).sectors }
+    ensures later { (D.view disk.old).failures ≤ (D.view disk.new).failures }
+{
+    let Some(stated) = read_header(disk, layout, side)? else {
+        return alone(alloc, first, Kind::Header, Reason::Unreadable);
+    };
+    let header = stated.header;
+    if !header_may(&layout.limits(), &header) {
+        return alone(alloc, first, Kind::Header, Reason::BeyondLimits);
+    }
+    let bad = bad_record(alloc, disk, layout, side, stated)?;
+    let stop = Stop { header, first, bad };
+    after_header(alloc, disk, layout, side, &stop)
+}
+
+/// The damaged sectors of a side in this state, as `check` returns it: none if the side is not damaged. The first one is that
+/// of the state. After a row come the later rows that are wrong by themselves, whatever precedes them, and the first record
+/// that can't be read. After a header or a record nothing can be judged. The disk is only read.
+pub fn damage_of<A: Allocator + Copy, D: Disk>(
+    alloc: A,
+    disk: &mut D,
+    layout: &Layout,
+    side: Side,
+    state: &SideState,
+) -> Result<Vec<Damage, A>, StoreFault>
+    requires room { disk_size layout.now ≤ (D.view disk.old).sectors }
+    requires on_disk { (at : ℕ) → IsDamagedAt at state.now → at < (D.view disk.old).sectors }
+
+    // The damage is that of the disk as it reads. Even if the disk is not honest, it begins with the sector of the state.
+    ensures exact { IfOk result (λ found. (D.view disk.old).honest → found.items ≡ damage_in A layout.now side (D.view disk.old).reads state.now) }
+    ensures begins { IfOk result (λ found. IsOfState state.now found.items) }
+
+    // It only reads.
+    ensures only_read { (D.view disk.old).honest → HasOnlyRead (D.view disk.old) (D.view disk.new) }
+    ensures only_reads { before_reads (D.view disk.new).calls ≡ before_reads (D.view disk.old).calls }
+
+    // It fails only for a device that failed, or out of memory.
+    ensures kinds { IfErr result IsOfDamage }
+    ensures fault { IsErrOf result DiskFault → HasFailed (D.view disk.old) (D.view disk.new) }
+    ensures sectors { (D.view disk.new).sectors ≡ (D.view disk.old).sectors }
+    ensures later { (D.view disk.old).failures ≤ (D.view disk.new).failures }
+{
+    match state {
+        SideState::Damaged { sector, .. } => damage_from(alloc, disk, layout, side, *sector),
+        _ => Ok(Vec::new(alloc)),
+    }
+}

@@ -1,0 +1,123 @@
+//! A reader, a writer and a disk that pass each call on, and count what went through.
+ghost use Rattle.std.specs.Prelude.{◌≡◌};
+
+use crate::Tally;
+use crate::watched::ends_in;
+use sector_disk::{Disk, DiskError};
+use std::io;
+use std::io::{Read, Write};
+use std::rt::Clock;
+
+/// A reader whose lines are counted as they are read.
+#[derive(Drop)]
+pub struct CountedReader<'t, 'r, R, C> {
+    reader: R,
+    tally: &'t Tally<'r, C>,
+}
+
+impl<'t, 'r, R: Read, C: Clock + Eprint> CountedReader<'t, 'r, R, C> {
+    /// This reader. `tally` counts its lines.
+    pub fn new(reader: R, tally: &'t Tally<'r, C>) -> Self
+        ensures { result.reader ≡ reader }
+    {
+        CountedReader { reader, tally }
+    }
+}
+
+impl<'t, 'r, R: Read, C: Clock + Eprint> Read for CountedReader<'t, 'r, R, C> {
+    ghost remaining = { λ counted. R.remaining counted.reader };
+
+    fn read(&mut self, buffer: &mut [u8]) -> io::Result<usize> {
+        let given = self.reader.read(buffer);
+        if let Ok(n) = &given {
+            self.tally.add(ends_in(&buffer[..*n]));
+        }
+        given
+    }
+}
+
+/// A writer whose lines are counted as they are written.
+#[derive(Drop)]
+pub struct CountedWriter<'t, 'r, W, C> {
+    writer: W,
+    tally: &'t Tally<'r, C>,
+}
+
+impl<'t, 'r, W: Write, C: Clock + Eprint> CountedWriter<'t, 'r, W, C> {
+    /// This writer. `tally` counts its lines.
+    pub fn new(writer: W, tally: &'t Tally<'r, C>) -> Self
+        ensures { result.writer ≡ writer }
+    {
+        CountedWriter { writer, tally }
+    }
+}
+
+impl<'t, 'r, W: Write, C: Clock + Eprint> Write for CountedWriter<'t, 'r, W, C> {
+    ghost contents = { λ counted. W.contents counted.writer };
+
+    fn write(&mut self, bytes: &[u8]) -> io::Result<usize> {
+        let written = self.writer.write(bytes);
+        if let Ok(n) = &written {
+            self.tally.add(ends_in(&bytes[..*n]));
+        }
+        written
+    }
+
+    fn flush(&mut self) -> io::Result<()> {
+        self.writer.flush()
+    }
+}
+
+/// A disk whose sectors are counted as they are read.
+#[derive(Drop)]
+pub struct CountedDisk<'t, 'r, D, C> {
+    disk: D,
+    tally: &'t Tally<'r, C>,
+}
+
+impl<'t, 'r, D: Disk, C: Clock + Eprint> CountedDisk<'t, 'r, D, C> {
+    /// This disk. `tally` counts the sectors that are read.
+    pub fn new(disk: D, tally: &'t Tally<'r, C>) -> Self
+        ensures { result.disk ≡ disk }
+    {
+        CountedDisk { disk, tally }
+    }
+
+    /// The disk within, as the calls left it.
+    pub fn into_inner(self) -> D
+        ensures { result ≡ self.entry.disk }
+    {
+        let CountedDisk { disk, tally: _ } = self;
+        disk
+    }
+}
+
+impl<'t, 'r, D: Disk, C: Clock + Eprint> Disk for CountedDisk<'t, 'r, D, C> {
+    ghost view = { λ counted. D.view counted.disk };
+
+    ghost sound = { λ counted honest. D.sound counted.disk honest };
+
+    fn sectors(&self) -> u64 {
+        self.disk.sectors()
+    }
+
+    fn read(&mut self, at: u64, bytes: &mut [u8; 512]) -> Result<(), DiskError> {
+        let read = self.disk.read(at, bytes);
+        if read.is_ok() {
+            self.tally.add(1);
+        }
+        read
+    }
+
+    fn write(&mut self, at: u64, bytes: &[u8; 512]) -> Result<(), DiskError> {
+        self.disk.write(at, bytes)
+    }
+
+    fn sync(&mut self) -> Result<(), DiskError> {
+        self.disk.sync()
+    }
+
+    fn failures(&self) -> u64 {
+        self.disk.failures()
+    }
+}
