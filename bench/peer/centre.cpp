@@ -3,7 +3,6 @@
 namespace {
 
 constexpr std::uint64_t last_number = std::uint64_t{1} << 62;
-constexpr std::size_t most_items = 128;
 
 enum Update { roaming, migrating, periodic, itsi_attach, service_roaming, service_migrating, demanded, disabled };
 
@@ -40,8 +39,7 @@ std::uint8_t cause_of(Refusal refusal)
 Answer Centre::apply(std::uint16_t station, const Command &command)
 {
     Answer answer;
-    const auto found = served.find(station);
-    const Served *last = found == served.end() ? nullptr : &found->second;
+    const Served *last = last_of(station);
     if (station == 0 || station > limits.stations) {
         answer.refusal = Refusal::unknown_station;
     } else if (last && command.sequence < last->sequence) {

@@ -12,6 +12,8 @@
 #include "refusals.h"
 #include "rules.h"
 
+constexpr std::size_t most_items = 128;
+
 struct Limits {
     std::size_t rules, radios, mail;
     std::uint16_t stations;
@@ -44,6 +46,16 @@ public:
     Answer apply(std::uint16_t station, const Command &command);
 
     std::uint64_t count() const { return accepted; }
+    const Limits &all_limits() const { return limits; }
+    std::size_t served_stations() const { return served.size(); }
+
+    // The last accepted command of a station, or null.
+    const Served *last_of(std::uint16_t station) const
+    {
+        const auto found = served.find(station);
+        return found == served.end() ? nullptr : &found->second;
+    }
+
     const Rules &all_rules() const { return rules; }
     const Radios &all_radios() const { return radios; }
     const Mail &all_mail() const { return mail; }

@@ -3,10 +3,12 @@
 #include <algorithm>
 #include <array>
 
+#include "listings.h"
+
 namespace {
 
 constexpr std::size_t longest_line = 1024;
-constexpr std::uint32_t most_32 = 0xFFFFFFFF, most_area = 16383, most_life = 3, most_reference = 255;
+constexpr std::uint32_t most_32 = 0xFFFFFFFF, most_area = 16383, most_life = 3, most_reference = 255, most_station = 65535;
 
 // The longest form has eight words. Of longer lines only the number of words counts.
 struct Words {
@@ -128,7 +130,7 @@ void print_where(Text &text, const Centre &centre, Identity itsi)
 {
     const Radio *radio = centre.all_radios().find(itsi);
     if (radio)
-        text << " station " << radio->station << " la " << radio->area << (radio->is_present ? " present\n" : " absent\n");
+        print_whereabouts(text, *radio);
     else
         text << " unknown\n";
 }
@@ -136,12 +138,10 @@ void print_where(Text &text, const Centre &centre, Identity itsi)
 void print_look(Text &text, const Centre &centre, Identity identity)
 {
     const RuleEntry *found = centre.all_rules().find(identity);
-    if (!found) {
+    if (found)
+        print_rule(text, *found);
+    else
         text << " none\n";
-        return;
-    }
-    const Rule &rule = found->second;
-    text << ' ' << found->first << ' ' << rule.low << ' ' << rule.high << ' ' << rule.life << ' ' << rule.keep << '\n';
 }
 
 void print_groups(Text &text, const Centre &centre, Identity itsi)
@@ -166,14 +166,8 @@ void print_mail(Text &text, const Centre &centre, Identity itsi)
 {
     const Mail::Inbox &inbox = centre.all_mail().inbox(itsi);
     text << ' ' << inbox.size() << '\n';
-    for (const Mail::Entry *entry : inbox) {
-        const Key &key = entry->first;
-        const Item &item = entry->second.item;
-        text << "item " << item.number << ' ' << key.kind << ' ' << key.source << ' ' << key.reference << ' ' << item.deadline << ' ' << item.pdu;
-        if (item.group)
-            text << ' ' << *item.group;
-        text << '\n';
-    }
+    for (const Mail::Entry *entry : inbox)
+        print_item(text, *entry, false);
 }
 
 struct QueryForm {
@@ -184,6 +178,92 @@ struct QueryForm {
 constexpr QueryForm queries[] = {
     {"where", print_where}, {"look", print_look}, {"groups", print_groups}, {"members", print_members}, {"mail", print_mail},
 };
+
+// Queries of the whole register. Each gets the words after the keyword, and prints what follows all of them. Answers whether they have
+// their forms and ranges; else nothing is printed.
+
+bool answer_count(Text &text, const Centre &centre, Word)
+{
+    text << "count " << centre.count() << '\n';
+    return true;
+}
+
+bool answer_rules(Text &text, const Centre &centre, Word)
+{
+    text << "rules";
+    print_rules(text, centre);
+    return true;
+}
+
+bool answer_radios(Text &text, const Centre &centre, Word)
+{
+    text << "radios";
+    print_radios(text, centre, Prefix{0, 0});
+    return true;
+}
+
+bool answer_radios_under(Text &text, const Centre &centre, Word words)
+{
+    Prefix under;
+    if (!read_prefix(words[0], under))
+        return false;
+    text << "radios " << under;
+    print_radios(text, centre, under);
+    return true;
+}
+
+bool answer_items(Text &text, const Centre &centre, Word)
+{
+    text << "items";
+    print_items(text, centre, std::nullopt);
+    return true;
+}
+
+bool answer_due(Text &text, const Centre &centre, Word words)
+{
+    std::uint32_t moment;
+    if (!read_number(words[0], 0, most_32, moment))
+        return false;
+    text << "due " << moment;
+    print_items(text, centre, moment);
+    return true;
+}
+
+bool answer_last(Text &text, const Centre &centre, Word words)
+{
+    std::uint16_t station;
+    if (!read_number(words[0], 0, most_station, station))
+        return false;
+    text << "last " << station;
+    print_last(text, centre, station);
+    return true;
+}
+
+bool answer_room(Text &text, const Centre &centre, Word)
+{
+    text << "room";
+    print_room(text, centre);
+    return true;
+}
+
+struct ListingForm {
+    std::string_view keyword;
+    std::size_t words;
+    bool (*answer)(Text &, const Centre &, Word);
+};
+
+constexpr ListingForm listings[] = {
+    {"count", 0, answer_count}, {"rules", 0, answer_rules}, {"radios", 0, answer_radios}, {"radios", 1, answer_radios_under},
+    {"items", 0, answer_items}, {"due", 1, answer_due}, {"last", 1, answer_last}, {"room", 0, answer_room},
+};
+
+const ListingForm *listing_form(const Words &words)
+{
+    for (const ListingForm &form : listings)
+        if (words.count == form.words + 1 && words.at[0] == form.keyword)
+            return &form;
+    return nullptr;
+}
 
 const CommandForm *command_form(const Words &words)
 {
@@ -233,10 +313,9 @@ std::string_view answer_line(Text &text, Centre &centre, std::uint16_t station, 
         return answer_command(text, centre, station, *form, words);
     if (const QueryForm *form = query_form(words))
         return answer_query(text, centre, *form, words);
-    if (words.count != 1 || words.at[0] != "count")
-        return "syntax";
-    text << "count " << centre.count() << '\n';
-    return {};
+    if (const ListingForm *form = listing_form(words))
+        return form->answer(text, centre, words.at.data() + 1) ? std::string_view{} : "value";
+    return "syntax";
 }
 
 }

@@ -49,8 +49,12 @@ class Mail {
 public:
     using Entry = std::pair<const Key, Slot>;
     using Inbox = std::vector<const Entry *>;
+    using Inboxes = std::unordered_map<Identity, Inbox>;
+    using Slots = std::unordered_map<Key, Slot, KeyHash>;
 
     std::size_t size() const { return slots.size(); }
+    const Slots &all() const { return slots; }
+    const Inboxes &all_inboxes() const { return inboxes; }
 
     // The item, or null.
     const Item *find(const Key &key) const
@@ -95,7 +99,7 @@ public:
     }
 
 private:
-    std::unordered_map<Key, Slot, KeyHash> slots;
-    std::unordered_map<Identity, Inbox> inboxes;
+    Slots slots;
+    Inboxes inboxes;
     std::multimap<std::uint64_t, Key> deadlines;
 };

@@ -32,7 +32,10 @@ inline std::vector<Attachment>::iterator place_of(std::vector<Attachment> &group
 
 class Radios {
 public:
+    using Table = std::unordered_map<Identity, Radio>;
+
     std::size_t size() const { return radios.size(); }
+    const Table &all() const { return radios; }
 
     // The radio, or null.
     const Radio *find(Identity itsi) const
@@ -97,7 +100,7 @@ private:
             members.erase(found);
     }
 
-    std::unordered_map<Identity, Radio> radios;
+    Table radios;
     // The class of usage of each radio that is attached to a group.
     std::unordered_map<Identity, std::unordered_map<Identity, std::uint8_t>> members;
 };

@@ -23,7 +23,10 @@ using RuleEntry = std::pair<const Prefix, Rule>;
 
 class Rules {
 public:
+    using Table = std::unordered_map<Prefix, Rule, PrefixHash>;
+
     std::size_t size() const { return rules.size(); }
+    const Table &all() const { return rules; }
     bool has(Prefix prefix) const { return rules.count(prefix) > 0; }
 
     void set(Prefix prefix, const Rule &rule)
@@ -48,7 +51,7 @@ public:
     }
 
 private:
-    std::unordered_map<Prefix, Rule, PrefixHash> rules;
+    Table rules;
     // How many prefixes of each length have a rule.
     std::array<std::size_t, identity_bits + 1> of_length{};
 };

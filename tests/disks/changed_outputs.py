@@ -147,6 +147,15 @@ def a_count_after_a_later_command(dice, stations, order):
     return printed(said), kept_of(order)
 
 
+def an_entry_listed_twice(dice, stations, order):
+    """The first entry of a listing in place of its last."""
+    said = said_by(stations)
+    lists = places(stations, lambda line: line.split(' ')[0] in ('rules', 'radios', 'items') and not line.endswith((' 0', ' 1')))
+    k, at = dice.choice(lists)
+    said[k][at + int(said[k][at].split(' ')[-1])] = said[k][at + 1]
+    return printed(said), kept_of(order)
+
+
 def a_resend_carried_out(dice, stations, order):
     """Answered as a new command that comes last."""
     said = said_by(stations)
@@ -167,5 +176,5 @@ CHANGES = [
     two_numbers_of_a_station_swapped, the_last_numbers_of_two_stations_swapped, a_number_twice, a_gap_in_the_numbers, an_answer_left_out,
     an_answer_twice, an_answer_of_another_station, all_answers_of_two_stations_swapped, an_accepted_command_missing_on_the_disk,
     one_more_command_on_the_disk, another_pdu, another_refusal, a_count_before_its_own_command, a_count_after_a_later_command,
-    a_resend_carried_out, titles_swapped,
+    an_entry_listed_twice, a_resend_carried_out, titles_swapped,
 ]

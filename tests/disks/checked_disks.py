@@ -12,6 +12,7 @@ JUNK, RULE, ONE_RULE = b'\xa5' * SECTOR, rule_row('01', (1, 2, 0, 0)), (1, 0, 0,
 A, B = 'side A epoch 5 count 8 gate 591', 'side B epoch 6 count 10 gate 632'
 BY_A, BY_B = 'side A epoch 5 left 4611686018427387899 gate 591 free 37 count 8', 'side B epoch 6 left 4611686018427387898 gate 632 free 35 count 10'
 NO_A, NO_B = 'side A unused', 'side B unused'
+JUNK_RULE_A, JUNK_RULE_B = (f'side {side} damaged sector {sector}: row of a rule, unreadable' for side, sector in (('A', 4), ('B', 297)))
 
 
 def sound():
@@ -41,34 +42,38 @@ def at(first, sectors):
     return {first + place: sector for place, sector in sectors.items()}
 
 
-# Damage to a slot or a half: the sectors that differ, the place of the damaged one, and what that is
+# Damage to a slot or a half: the sectors that differ, the place of the damaged one, what it has to hold, and what is wrong with it
 
 def no_headers(form):
-    yield from (({0: sector}, 0, 'header') for sector in (JUNK, RULE, bytes(SECTOR), header_row(0, 7, ONE_RULE, form)))
+    yield from (({0: sector}, 0, 'header, unreadable') for sector in (JUNK, RULE, bytes(SECTOR), header_row(0, 7, ONE_RULE, form)))
 
 
-def bad_rows(epoch, form):
-    yield from (({1: sector}, 1, 'row') for sector in (JUNK, bytes(SECTOR), header_row(epoch, 7, ONE_RULE, form)))
+def bad_rows(epoch, count, form):
+    for sector, reason in (JUNK, 'unreadable'), (bytes(SECTOR), 'unreadable'), (header_row(epoch, count, ONE_RULE, form), 'out of place'):
+        yield {1: sector}, 1, f'row of a rule, {reason}'
     # A header that can't be one of this disk, or that other rows must follow
-    for count, rows, place, what in ((2 ** 62 + 1, ONE_RULE, 0, 'header'), (7, (17, 0, 0, 0), 0, 'header'), (7, (1, 0, 0, 5), 0, 'header'),
-                                     (7, (0, 1, 0, 0), 1, 'row'), (7, (1, 1, 0, 0), 2, 'row')):
-        yield {0: header_row(epoch, count, rows, form)}, place, what
-    yield {0: header_row(epoch, 7, (2, 0, 0, 0), form), 2: RULE}, 2, 'row'
+    for number, rows, place, what in ((2 ** 62 + 1, ONE_RULE, 0, 'header, beyond the limits'), (count, (17, 0, 0, 0), 0, 'header, beyond the limits'),
+                                      (count, (1, 0, 0, 5), 0, 'header, beyond the limits'), (count, (0, 1, 0, 0), 1, 'row of a radio, out of place'),
+                                      (count, (1, 1, 0, 0), 2, 'row of a radio, unreadable')):
+        yield {0: header_row(epoch, number, rows, form)}, place, what
+    yield {0: header_row(epoch, count, (2, 0, 0, 0), form), 2: RULE}, 2, 'row of a rule, out of place'
 
 
 def bad_records(before, form):
     """After so many commands. The first command here has the sequence 9."""
     texts = {name: text_of(form, commands, before + 1) for name, commands in
              {'good': [expire(9)], 'refused': [expire(9, station=5)], 'twice': [expire(9)] * 2, 'none': [expire(9, tag=9)]}.items()}
-    for data in (JUNK, bytes(SECTOR), texts['good'] + b'\1', texts['none'], texts['refused'], texts['twice'],
-                 text_of(form, [expire(9)], before + 1, size=500)):
-        yield record(0, data), 1, 'record'
-    for first, second in (('good', JUNK), ('refused', JUNK), ('good', text_of(form, [expire(9)], before + 2))):
-        yield {**record(0, texts[first]), **record(2, second)}, 3, 'record'
+    for data in JUNK, bytes(SECTOR), texts['good'] + b'\1', texts['none'], text_of(form, [expire(9)], before + 1, size=500):
+        yield record(0, data), 1, 'record, unreadable'
+    for data in texts['refused'], texts['twice']:
+        yield record(0, data), 1, 'record, command refused'
+    for first, second, reason in (('good', JUNK, 'unreadable'), ('refused', JUNK, 'unreadable'),
+                                  ('good', text_of(form, [expire(9)], before + 2), 'command refused')):
+        yield {**record(0, texts[first]), **record(2, second)}, 3, f'record, {reason}'
     many, gate = records(0, form, map(expire, range(9, 28)), before)
-    yield {**many, gate: OPEN}, gate, 'record'
+    yield {**many, gate: OPEN}, gate, 'record, unreadable'
     if form == NUMBERED:
-        yield from ((record(0, text_of(form, [expire(9)], first)), 1, 'record') for first in (0, before, before + 2, 2 ** 64 - 1))
+        yield from ((record(0, text_of(form, [expire(9)], first)), 1, 'record, unreadable') for first in (0, before, before + 2, 2 ** 64 - 1))
 
 
 # Disks with damage
@@ -77,25 +82,66 @@ def damage_to_a(number, form):
     """Where slot A has no header, the disk does not open; it does in each other case."""
     for sectors, place, what in no_headers(form):
         yield at(SLOT, sectors), f'side A damaged sector {SLOT + place}: {what}', B, 'lost sector 3'
-    slots, halves = ((first, part) for first, part in ((SLOT, bad_rows(5, form)), (GATE, bad_records(7, form))))
+    slots, halves = ((first, part) for first, part in ((SLOT, bad_rows(5, 7, form)), (GATE, bad_records(7, form))))
     for first, part in (slots, halves):
         for sectors, place, what in part:
             yield at(first, sectors), f'side A damaged sector {first + place}: {what}', B, f'kept layout {number} {BY_B}'
 
 
 def damage_to_b(number, form):
-    for first, part in ((OTHER_SLOT, no_headers(form)), (OTHER_SLOT, bad_rows(6, form)), (OTHER_GATE, bad_records(8, form))):
+    for first, part in ((OTHER_SLOT, no_headers(form)), (OTHER_SLOT, bad_rows(6, 8, form)), (OTHER_GATE, bad_records(8, form))):
         for sectors, place, what in part:
             yield at(first, sectors), A, f'side B damaged sector {first + place}: {what}', f'lost sector {first + place}'
 
 
 def damage_to_both(number, form):
-    yield {SLOT: JUNK, OTHER_SLOT: JUNK}, 'side A damaged sector 3: header', 'side B damaged sector 296: header', 'lost sector 3'
-    yield {SLOT + 1: JUNK, OTHER_SLOT + 1: JUNK}, 'side A damaged sector 4: row', 'side B damaged sector 297: row', 'lost sector 297'
-    yield {GATE + 1: JUNK, OTHER_GATE + 1: JUNK}, 'side A damaged sector 590: record', 'side B damaged sector 629: record', 'lost sector 629'
-    yield {SLOT + 1: JUNK, OTHER_GATE + 3: JUNK}, 'side A damaged sector 4: row', 'side B damaged sector 631: record', 'lost sector 631'
-    yield {1: CLOSED, OTHER_SLOT: JUNK}, NO_A, 'side B damaged sector 296: header', 'lost sector 296'
-    yield {2: CLOSED, SLOT + 1: JUNK}, 'side A damaged sector 4: row', NO_B, 'lost sector 4'
+    yield ({SLOT: JUNK, OTHER_SLOT: JUNK}, 'side A damaged sector 3: header, unreadable', 'side B damaged sector 296: header, unreadable',
+           'lost sector 3')
+    yield {SLOT + 1: JUNK, OTHER_SLOT + 1: JUNK}, JUNK_RULE_A, JUNK_RULE_B, 'lost sector 297'
+    yield ({GATE + 1: JUNK, OTHER_GATE + 1: JUNK}, 'side A damaged sector 590: record, unreadable', 'side B damaged sector 629: record, unreadable',
+           'lost sector 629')
+    yield {SLOT + 1: JUNK, OTHER_GATE + 3: JUNK}, JUNK_RULE_A, 'side B damaged sector 631: record, unreadable', 'lost sector 631'
+    yield {1: CLOSED, OTHER_SLOT: JUNK}, NO_A, 'side B damaged sector 296: header, unreadable', 'lost sector 296'
+    yield {2: CLOSED, SLOT + 1: JUNK}, JUNK_RULE_A, NO_B, 'lost sector 4'
+
+
+# The kinds of rows after a header of two rules, a radio, an item and a station; and of these the damaged ones, in the slot from there on
+ROWS = 2, 1, 1, 1
+
+
+def of_each_kind(side, first):
+    yield f'side {side} damaged sector {first}: row of a rule, unreadable'
+    yield f'side {side} damaged sector {first + 2}: row of a radio, out of place'
+    yield f'side {side} damaged sector {first + 3}: row of an item, unreadable'
+    yield f'side {side} damaged sector {first + 4}: row of a station, out of place'
+
+
+def each_kind(first):
+    return at(first, {0: JUNK, 1: RULE, 2: RULE, 3: bytes(SECTOR), 4: RULE})
+
+
+def more_damage(number, form):
+    """More than one damaged sector on a side."""
+    kept, bad_a, bad_b = f'kept layout {number} {BY_B}', 'side A damaged sector 590: record, unreadable', 'side B damaged sector 631: record, unreadable'
+    rows_a = {SLOT: header_row(5, 7, ROWS, form), **each_kind(SLOT + 1)}
+    rows_b = {OTHER_SLOT: header_row(6, 8, ROWS, form), **each_kind(OTHER_SLOT + 1)}
+    yield rows_a, *of_each_kind('A', 4), B, kept
+    yield {**rows_a, GATE + 1: JUNK}, *of_each_kind('A', 4), bad_a, B, kept
+    yield rows_b, A, *of_each_kind('B', 297), 'lost sector 297'
+    yield {**rows_a, **rows_b, OTHER_GATE + 3: JUNK}, *of_each_kind('A', 4), *of_each_kind('B', 297), bad_b, 'lost sector 297'
+    yield {SLOT + 1: JUNK, GATE + 1: JUNK}, JUNK_RULE_A, bad_a, B, kept
+    yield {SLOT + 1: JUNK, GATE + 1: JUNK, OTHER_SLOT + 1: JUNK, OTHER_GATE + 3: JUNK}, JUNK_RULE_A, bad_a, JUNK_RULE_B, bad_b, 'lost sector 297'
+    # Rows after the first damaged one are judged by themselves: equal rules are not named again
+    yield ({SLOT: header_row(5, 7, (4, 0, 0, 0), form), **at(SLOT + 2, {0: RULE, 1: RULE, 2: JUNK})},
+           'side A damaged sector 5: row of a rule, out of place', 'side A damaged sector 7: row of a rule, unreadable', B, kept)
+    # Another count: numbered records do not follow it
+    yield ({SLOT: header_row(5, 6, (2, 0, 0, 0), form)}, 'side A damaged sector 5: row of a rule, unreadable',
+           *([bad_a] if form == NUMBERED else []), B, kept)
+    # Nothing is named after a header or a record, nor a refused command after a row
+    yield {SLOT: JUNK, SLOT + 1: JUNK, GATE + 1: JUNK}, 'side A damaged sector 3: header, unreadable', B, 'lost sector 3'
+    yield ({SLOT: header_row(5, 7, (17, 0, 0, 0), form), SLOT + 1: JUNK, GATE + 1: JUNK}, 'side A damaged sector 3: header, beyond the limits', B, kept)
+    yield {OTHER_GATE + 1: JUNK, OTHER_GATE + 3: JUNK}, A, 'side B damaged sector 629: record, unreadable', 'lost sector 629'
+    yield {SLOT + 1: JUNK, GATE + 1: text_of(form, [expire(9, station=5)], 8).ljust(SECTOR, b'\0')}, JUNK_RULE_A, B, kept
 
 
 def other_roots(number, form):
@@ -110,21 +156,21 @@ def other_roots(number, form):
     yield {OTHER_GATE + 2: CLOSED}, A, 'side B epoch 6 count 9 gate 630', gate
     same, older = ({OTHER_SLOT: header_row(epoch, 8, ONE_RULE, form)} for epoch in (5, 4))
     yield same, A, 'side B epoch 5 count 10 gate 632', 'lost sector 2'
-    yield {**same, SLOT + 1: JUNK}, 'side A damaged sector 4: row', 'side B epoch 5 count 10 gate 632', 'lost sector 2'
-    yield {**same, OTHER_GATE + 3: JUNK}, A, 'side B damaged sector 631: record', 'lost sector 2'
+    yield {**same, SLOT + 1: JUNK}, JUNK_RULE_A, 'side B epoch 5 count 10 gate 632', 'lost sector 2'
+    yield {**same, OTHER_GATE + 3: JUNK}, A, 'side B damaged sector 631: record, unreadable', 'lost sector 2'
     yield older, A, 'side B epoch 4 count 10 gate 632', f'ok layout {number} {BY_A}'
-    yield {**older, OTHER_SLOT + 1: JUNK}, A, 'side B damaged sector 297: row', f'kept layout {number} {BY_A}'
-    yield {**older, SLOT + 1: JUNK}, 'side A damaged sector 4: row', 'side B epoch 4 count 10 gate 632', 'lost sector 4'
+    yield {**older, OTHER_SLOT + 1: JUNK}, A, JUNK_RULE_B, f'kept layout {number} {BY_A}'
+    yield {**older, SLOT + 1: JUNK}, JUNK_RULE_A, 'side B epoch 4 count 10 gate 632', 'lost sector 4'
 
 
 def changed():
     for number, form in LAYOUTS.items():
         yield f'layout {number}, two sides', two_sides(form), A, B, f'ok layout {number} {BY_B}'
-        for part in damage_to_a, damage_to_b, damage_to_both, other_roots:
+        for part in damage_to_a, damage_to_b, damage_to_both, more_damage, other_roots:
             for k, (changes, *lines) in enumerate(part(number, form)):
                 yield (f'layout {number}, {part.__name__}, case {k}', two_sides(form, changes), *lines)
 
 
 def cases():
-    """The name of each, its image, and the three lines."""
+    """The name of each, its image, and the lines."""
     return ((name, image, lines) for name, image, *lines in itertools.chain(sound(), changed()))

@@ -95,6 +95,11 @@ def settings(**others):
     return ''.join(f'{key} = {value}\n' for key, value in {**SETTINGS, **others}.items())
 
 
+def pieces_of_zeros(sectors):
+    """How many sectors each call fills that writes zeros into so many: 128, and the rest one after another."""
+    return [128] * (sectors // 128) + [1] * (sectors % 128)
+
+
 def text(lines):
     return ''.join(line + '\n' for line in lines).encode()
 
@@ -121,13 +126,25 @@ def register_of(image):
 
 
 def queries(register):
-    """Each query that shows something of a register: of every radio, group, item and rule."""
+    """Each query that shows something of a register: of every radio, group, item and rule, and each listing."""
     radios = {*register.radios, *(key[0] for key in register.mail)}
     groups = {group for _, group in register.groups}
     ruled = {under.ljust(48, '0') for under in register.rules}
     yield 'count'
     for words, bits in (('where', radios), ('groups', radios), ('mail', radios), ('members', groups), ('look', radios | groups | ruled)):
         yield from (f'{words} {reading.print_identity(one)}' for one in sorted(bits))
+    yield from listings(register)
+
+
+def listings(register):
+    """Each listing: of the radios under the prefix of each rule, the items due at the least and the greatest deadline and before, and
+    every station and the next."""
+    yield from ('rules', 'radios', 'items', 'room')
+    yield from (f'radios {reading.print_identity(under.ljust(48, "0"))}/{len(under)}' for under in sorted(register.rules))
+    deadlines = {item.deadline for item in register.mail.values()} or {0}
+    edges = {max(deadline + change, 0) for deadline in (min(deadlines), max(deadlines)) for change in (-1, 0)}
+    yield from (f'due {moment}' for moment in sorted(edges) if moment < 2 ** 32)
+    yield from (f'last {station}' for station in range(register.limits['stations'] + 2))
 
 
 def shows_all(place, register, name=DISK):

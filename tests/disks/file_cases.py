@@ -304,13 +304,14 @@ def with_holes(place, image, name):
 
 def a_run_past_a_limit(place, form):
     ready(place, form)
-    given = [RULE, 'count', ATTACH, 'count', '# a remark', '3 20 expire', 'where 234-14-2001', 'no such']
-    told = ['1 ok 1 -', 'count 1', '2 no device', 'count 1', '3 no broken', 'where 234-14-2001 unknown', 'line 8 bad syntax']
+    given = [RULE, 'count', ATTACH, 'count', '# a remark', '3 20 expire', 'where 234-14-2001', 'no such', 'radios', 'last 1']
+    told = ['1 ok 1 -', 'count 1', '2 no device', 'count 1', '3 no broken', 'where 234-14-2001 unknown', 'line 8 bad syntax', 'radios 0', 'last 1 1 1 -']
     place.write(LINES, text(given))
     place.gives(RUN, 5, HEAD + text(told), DEVICE, **at_most((GATE + 3) * SECTOR + 100))
     compare('the commands on the disk', register_of(place.image()).count, 1)
     place.gives(COUNT, 0, b'count 1\n')
-    again = ['1 kept 1 -', 'count 1', ATTACHED, 'count 2', '3 ok 3 -', 'where 234-14-2001 station 1 la 7 present', 'line 8 bad syntax']
+    again = ['1 kept 1 -', 'count 1', ATTACHED, 'count 2', '3 ok 3 -', 'where 234-14-2001 station 1 la 7 present', 'line 8 bad syntax',
+             'radios 1', 'radio 234-14-2001 station 1 la 7 present', 'last 1 3 3 -']
     place.gives(RUN, 1, HEAD + text(again))
 
 

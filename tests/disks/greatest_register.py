@@ -5,6 +5,7 @@ of the journal is so small that it fills several times meanwhile, and each time 
 disk. Every answer is compared with what this script computes. The disk is a sparse file in a folder of its own, which goes at the end.
 Prints a line for each part, and last 'N passed, M failed'.
 Usage: tests/run greatest_register PROGRAM"""
+import collections
 import functools
 import mmap
 import subprocess
@@ -97,15 +98,15 @@ def destinations():
 # Lines and their answers
 
 class Script:
-    """The lines of a run, the answers to them, and how many commands were accepted since the disk was made."""
-    accepted, sequence = 0, 0
+    """The lines of a run, the answers to them, how many commands were accepted since the disk was made, and the last PDU."""
+    accepted, sequence, pdu = 0, 0, '-'
 
     def __init__(self):
         self.lines, self.answers = [], []
 
     def command(self, words, pdu='-', moment=MOMENT):
         """A command that is accepted."""
-        Script.accepted, Script.sequence = Script.accepted + 1, Script.sequence + 1
+        Script.accepted, Script.sequence, Script.pdu = Script.accepted + 1, Script.sequence + 1, pdu
         self.lines.append(f'{Script.sequence} {moment} {words}')
         self.answers.append(f'{Script.sequence} ok {Script.accepted} {pdu}')
 
@@ -209,6 +210,50 @@ def list_letters(script, first, is_left=lambda destination, reference: True):
 
 def count(script):
     script.query('count', f'count {script.accepted}')
+    script.query('last 1', f'last 1 {script.sequence} {script.accepted} {script.pdu}')
+    script.query('last 64', 'last 64 none')
+
+
+# Listings
+
+def list_all_rules(script):
+    script.query('rules', f'rules {RULES}', *(' '.join(['rule', prefix(k), *map(str, rule_of(k * 4096))]) for k in range(RULES)))
+
+
+def list_all_radios(script, word='present'):
+    lines = [f'radio {radio(k)} station 1 la {area(k)} {word}' for k in range(RADIOS)]
+    for under, some in (named(0) + '/24', lines), (prefix(5), lines[80:96]), (radio(81) + '/48', lines[81:82]), (named(16) + '/48', []):
+        script.query(f'radios {under}', f'radios {under} {len(some)}', *some)
+    script.query('radios', f'radios {RADIOS}', *lines)
+
+
+def items(copies, first, is_left=lambda destination, reference: True):
+    """What waits, the oldest first: destination, deadline and line, of the copies with this number, if it is given, and of the messages
+    that are left."""
+    for k in range(1, MEMBERS) if copies else ():
+        yield k, deadline(GROUP), f'item {copies} {radio(k)} m {radio(SENDER)} 7 {deadline(GROUP)} {message(7, 1)} {named(GROUP)}'
+    for destination, reference, k in letters():
+        if is_left(destination, reference):
+            ends = deadline(destination // 16 * 4096)
+            yield destination, ends, f'item {first + k} {radio(destination)} m {radio(SOURCE)} {reference} {ends} {message(reference, k)}'
+
+
+def list_items(script, waiting):
+    """All of them, those that are due at the middle of the deadlines and just before, and how full the register is."""
+    waiting = list(waiting)
+    script.query('items', f'items {len(waiting)}', *(line for _, _, line in waiting))
+    deadlines = sorted(ends for _, ends, _ in waiting)
+    for moment in [deadlines[len(deadlines) // 2] - 1, deadlines[len(deadlines) // 2]] if waiting else [2 ** 32 - 1]:
+        due = [line for _, ends, line in waiting if ends <= moment]
+        script.query(f'due {moment}', f'due {moment} {len(due)}', *due)
+    return collections.Counter(destination for destination, _, _ in waiting)
+
+
+def list_room(script, boxes, rules):
+    """Of so many items for each destination, the first of which has the oldest."""
+    box = max(boxes, key=boxes.get, default=None)
+    told = 'none' if box is None else f'{radio(box)} {boxes[box]}/{MOST_FOR_ONE}'
+    script.query('room', f'room rules {rules}/{RULES} radios {RADIOS}/{RADIOS} items {sum(boxes.values())}/{ITEMS} stations 1/{STATIONS} fullest {told}')
 
 
 def list_all(script, copies, first):
@@ -218,6 +263,9 @@ def list_all(script, copies, first):
     list_groups(script, own_groups())
     list_copies(script, copies)
     list_letters(script, first)
+    list_all_rules(script)
+    list_all_radios(script)
+    list_room(script, list_items(script, items(copies, first)), RULES)
     count(script)
 
 
@@ -232,7 +280,9 @@ def drain(script, copies, first):
         script.command(f'sent {radio(k)} {radio(SENDER)} 7 m')
     middle = deadline(destinations()[len(destinations()) // 2] // 16 * 4096)
     script.command('expire', moment=middle)
-    list_letters(script, first, lambda destination, reference: reference % 4 != 3 and deadline(destination // 16 * 4096) > middle)
+    is_left = lambda destination, reference: reference % 4 != 3 and deadline(destination // 16 * 4096) > middle
+    list_letters(script, first, is_left)
+    list_room(script, list_items(script, items(None, first, is_left)), RULES)
     script.command('expire', moment=2 ** 32 - 1)
     list_letters(script, first, lambda destination, reference: False)
     for k in range(0, MEMBERS, 2):
@@ -253,6 +303,9 @@ def list_nothing(script, first):
     list_radios(script, 'absent')
     list_members(script, [])
     list_letters(script, first, lambda destination, reference: False)
+    script.query('rules', 'rules 0')
+    list_all_radios(script, 'absent')
+    list_room(script, list_items(script, []), 0)
     count(script)
 
 

@@ -17,7 +17,7 @@ import faulty_disks
 import made_disks
 import reading
 import refusing
-from disk_files import DISK, EXISTS, LINES, MEMORY, SECTORS, SETTINGS, fault_line, file_fault, place, settings
+from disk_files import DISK, EXISTS, LINES, MEMORY, SECTORS, SETTINGS, fault_line, file_fault, pieces_of_zeros, place, settings
 from images import fault_of
 from made_disks import FORMS
 from pending import Disk, choices
@@ -33,8 +33,9 @@ ON_DEVICE, ON_MEMORY = b'fault: device\n', b'fault: memory\n'
 LAYOUT, ZEROS = Layout(tuple(SETTINGS[name] for name in MOST), SETTINGS['journal']), bytes(SECTOR)
 # The header of an empty register of epoch 1, of layout 2
 HEADER = bytes.fromhex('16 0000000000000001') + bytes(24)
+PIECES_OF_ZEROS = pieces_of_zeros(SECTORS)
 # The length and its sync, the zeros and theirs, the folder; then the five sectors of the sides, and the label
-KINDS = f'ta{"w" * SECTORS}sdwwwwwsws'
+KINDS = f'ta{"w" * len(PIECES_OF_ZEROS)}sdwwwwwsws'
 PARTS = len('wwwwwsws')
 DRAWS, SOME_ZEROS, PIECES = 20, 4, 4500
 
@@ -49,23 +50,24 @@ def kinds(record):
 
 # A disk made
 
-def places(record):
-    """The sectors that are written whole, in order."""
-    written = [done for done in record if done.kind == 'w']
-    compare('writes of whole sectors', [done for done in written if done.number % SECTOR or len(done.bytes) != SECTOR], [])
-    return [done.number // SECTOR for done in written]
+def sectors_of(written):
+    """The place and the bytes of each sector of these calls, which write whole ones, in order."""
+    compare('writes of whole sectors', [done for done in written if done.number % SECTOR or len(done.bytes) % SECTOR], [])
+    return [(done.number // SECTOR + k, done.bytes[k * SECTOR:][:SECTOR]) for done in written for k in range(len(done.bytes) // SECTOR)]
 
 
 def is_made(record):
     """The calls of a disk that is made, by their kinds and places."""
     compare('the calls', kinds(record), KINDS)
     compare('the length', record[0].number, SECTORS * SECTOR)
-    at, zeros = places(record), [done.bytes for done in record if done.kind == 'w'][:SECTORS]
-    compare('the sectors of zeros', (at[:SECTORS], set(zeros)), (list(range(SECTORS)), {ZEROS}))
+    written = [done for done in record if done.kind == 'w']
+    compare('the calls that write zeros', [len(done.bytes) // SECTOR for done in written[:len(PIECES_OF_ZEROS)]], PIECES_OF_ZEROS)
+    sectors = sectors_of(written)
+    compare('the sectors of zeros', sectors[:SECTORS], [(at, ZEROS) for at in range(SECTORS)])
+    at, parts = [at for at, _ in sectors[SECTORS:]], dict(sectors[SECTORS:])
     sides = [1, 2, LAYOUT.slot(0), LAYOUT.half(0), LAYOUT.half(1)]
-    compare('the sectors of the sides, and the label', (sorted(at[SECTORS:-1]), at[-1]), (sides, 0))
-    header = [done.bytes for done in record if done.kind == 'w'][SECTORS + at[SECTORS:].index(LAYOUT.slot(0))]
-    compare('the header', header, HEADER.ljust(SECTOR, b'\0'))
+    compare('the sectors of the sides, and the label', (sorted(at[:-1]), at[-1]), (sides, 0))
+    compare('the header', parts[LAYOUT.slot(0)], HEADER.ljust(SECTOR, b'\0'))
 
 
 def making(made, disk=DISK):
@@ -110,7 +112,7 @@ def stops(record, dice):
 
 def numbers(dice):
     """The calls that fail, from 1: all but the zeros, and some of these."""
-    zeros = [KINDS.index('w') + 1 + k for k in range(SECTORS)]
+    zeros = [KINDS.index('w') + 1 + k for k in range(len(PIECES_OF_ZEROS))]
     others = [k + 1 for k in range(len(KINDS)) if k + 1 not in zeros]
     return sorted([*others, zeros[0], zeros[-1], *dice.sample(zeros[1:-1], SOME_ZEROS)])
 

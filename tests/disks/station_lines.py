@@ -6,7 +6,8 @@ from disk_files import LINES, text
 from reading_disks import copied
 from streams import RULE_BODY, demand, groups
 
-OTHERS = ['count', 'where 234-14-2001', 'mail 234-14-2002', '# a remark', '', 'no such', 'where 1-2', '0 0 expire']
+OTHERS = ['count', 'where 234-14-2001', 'mail 234-14-2002', 'rules', 'radios', 'radios 234-14-2000/46', 'items', 'due 300', 'last 1', 'last 3', 'room',
+          '# a remark', '', 'no such', 'where 1-2', '0 0 expire']
 
 
 def bodies(dice):

@@ -28,7 +28,8 @@ FIRST, SECOND = text([P, ATTACH]), text(['1 20 mm 234-14-2001 8 10:200', 'where 
 SHOWN = 'where 234-14-2001 station 2 la 8 present'
 ONCE = text(['station 1 a.txt', '1 ok 1 -', '2 ok 2 8:56', 'station 2 b.txt', '1 ok 3 8:50', SHOWN, 'count 3'])
 AGAIN = text(['station 1 a.txt', '1 no old-sequence 2', '2 kept 2 8:56', 'station 2 b.txt', '1 kept 3 8:50', SHOWN, 'count 3'])
-WATCHER = [b'count', b'# a remark', b'where 234-14-2001', b'mail 234-14-2002', b'groups 234-14-2001', b'members 234-14-1000', b'count']
+WATCHER = [b'count', b'# a remark', b'where 234-14-2001', b'mail 234-14-2002', b'groups 234-14-2001', b'members 234-14-1000', b'rules', b'radios',
+           b'items', b'due 3600', b'last 1', b'room', b'count']
 
 
 # Worked cases

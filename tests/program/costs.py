@@ -2,9 +2,9 @@
 """Counts what a line costs on a small register and on a full one: its allocations in a run of the program on a disk (count.c, preloaded),
 and its instructions, where valgrind is installed. Threads of a run that wait would count too, so these are counted of LINES, which answers
 lines of standard input by one thread over a register in memory (crates/benchmarks). No line's cost may grow with the whole of a table, so a
-full table may cost a line a few times as much and not hundreds of times. A checkpoint may make a few allocations for each entry of the
-register, for its copy. Every figure is the difference of two runs, so that starting and opening the disk cost nothing. Prints the figures,
-the cases that fail, and last 'N passed, M failed'.
+full table may cost a line a few times as much and not hundreds of times. A listing of a full register may make a few allocations in all,
+as its text grows. A checkpoint may make a few for each entry of the register, for its copy. Every figure is the difference of two runs,
+so that starting and opening the disk cost nothing. Prints the figures, the cases that fail, and last 'N passed, M failed'.
 Usage: tests/run costs PROGRAM LINES (the programs themselves, not a script that starts them)"""
 import pathlib
 import re
@@ -21,6 +21,7 @@ COUNTER = pathlib.Path(__file__).resolve().parent / 'count.c'
 SMALL, FULL, HALF = 16, 4096, 60_000
 # A copy of the register takes some five allocations for each radio.
 MOST_TIMES, MOST_PER_CHECKPOINT, LINES_EACH = 4, 64 + 6 * FULL, 512
+LISTINGS, MOST_PER_LISTING = ('rules', 'radios', 'radios 234-14-0/24', 'items', 'due 4294967295', 'last 1', 'room'), 40
 RADIO, ATTACH = '234-14-{}', '10:260'
 
 
@@ -94,6 +95,14 @@ class Costs:
         return int(self.there.path('allocations').read_text())
 
 
+    def asked(self, query, count):
+        """Allocations of a run that asks the full register so many times."""
+        self.there.copy('full.img', DISK)
+        self.there.write(LINES, f'{query}\n'.encode() * count)
+        self.run(['run', DISK, LINES])
+        return int(self.there.path('allocations').read_text())
+
+
 class Instructions:
     """Lines over a register of one size in memory, whose instructions are counted."""
 
@@ -124,6 +133,13 @@ def a_line_over_full_tables(small, full, kind, what):
         raise Differs(f'a line costs {costs[1]:,.1f} {what} on a full register, {costs[0]:,.1f} on a small one')
 
 
+def a_listing(full, query):
+    each = (full.asked(query, 12) - full.asked(query, 4)) / 8
+    print(f'{query}: {each:,.1f} allocations', flush=True)
+    if each > MOST_PER_LISTING:
+        raise Differs(f'a listing makes {each:,.1f} allocations')
+
+
 def a_checkpoint(there, made, full):
     """Lines on a full register, with a half that is full after each 18 of them, and with one that has room for all. In the small half
     a checkpoint begins with a copy of the register, and has no time to end; a whole one then makes room."""
@@ -145,6 +161,8 @@ def main():
         for what, few, many in measured:
             for kind in (rules, attaches, messages, expiries):
                 count.case(f'{kind.__name__}, {what}', a_line_over_full_tables, few, many, kind, what)
+        for query in LISTINGS:
+            count.case(query, a_listing, full, query)
         count.case('a checkpoint', a_checkpoint, one, made, full)
     count.end()
 

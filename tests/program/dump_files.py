@@ -10,7 +10,7 @@ import layouts
 import refusing
 import registers
 from changed_texts import TEXT
-from disk_files import DISK, EXISTS, HELD, MISSING, NOT_A_FILE, NOT_ALLOWED, fault_line, file_fault, place, settings, untouched
+from disk_files import DISK, EXISTS, HELD, MISSING, NOT_A_FILE, NOT_ALLOWED, fault_line, file_fault, pieces_of_zeros, place, settings, untouched
 from file_cases import STREAMS, as_nobody, at_most, without
 from images import fault_of
 from loaded import DUMP, LIMITS, LOAD, TOML, dump_fault, dumps, image_of, layout_of, loaded_line, ready
@@ -26,8 +26,9 @@ REGISTER, LOADED = register_in(TEXT, LIMITS), loaded_line(LIMITS)
 SECTORS = layout_of(LIMITS).sectors()
 MEMORY, DEVICE, UNFORMATTED, BAD_GEOMETRY, BAD_SETTINGS = (
     f'fault: {words}\n'.encode() for words in ('memory', 'device', 'unformatted', 'bad geometry', 'settings'))
+PIECES_OF_ZEROS = pieces_of_zeros(SECTORS)
 # The length and its sync, the zeros and theirs, the folder; the sides of an empty register; the rows, and at last the label
-KINDS = f'ta{"w" * SECTORS}sdwwwwws{"w" * len(list(rows_of(REGISTER)))}sws'
+KINDS = f'ta{"w" * len(PIECES_OF_ZEROS)}sdwwwwws{"w" * len(list(rows_of(REGISTER)))}sws'
 DRAWS, SOME_ZEROS = 10, 3
 
 
@@ -293,7 +294,7 @@ def stops(record, dice):
 def some_calls(dice):
     """Calls, from 1: all but the zeros, and some of these."""
     first = KINDS.index('w') + 1
-    zeros = range(first, first + SECTORS)
+    zeros = range(first, first + len(PIECES_OF_ZEROS))
     return [number for number in range(1, len(KINDS) + 1) if number not in zeros or number in (first, *dice.sample(zeros, SOME_ZEROS))]
 
 
@@ -331,8 +332,9 @@ def calls_of_a_load(place):
     with recorder(place) as made:
         record = made.does(LOAD, 0, LOADED)
         compare('the calls', in_short(''.join(done.kind for done in record)), in_short(KINDS))
-        compare('the zeros', [(done.number, any(done.bytes)) for done in record if done.kind == 'w'][:SECTORS],
-                [(at * SECTOR, False) for at in range(SECTORS)])
+        zeros = [done for done in record if done.kind == 'w'][:len(PIECES_OF_ZEROS)]
+        compare('the zeros', [(done.number, done.bytes) for done in zeros],
+                [(SECTOR * sum(PIECES_OF_ZEROS[:k]), bytes(SECTOR * count)) for k, count in enumerate(PIECES_OF_ZEROS)])
         stops(record, dice)
         for number in some_calls(dice):
             a_call_fails(made, record, number)

@@ -14,6 +14,7 @@ import sys
 
 import reading
 import refusing
+from reading_queries import LISTS, QUERIES
 
 HERE = pathlib.Path(__file__).resolve().parent
 DATA = (HERE / 'growths.txt').read_bytes()
@@ -39,8 +40,14 @@ def wanting(at):
     return before + told + after[len(before):]
 
 
+def may_want(line):
+    """Whether a line may be out of memory: of the queries the lists alone."""
+    word, *others = line.split(b' ')
+    return bool(line) and not line.startswith(b'#') and ((word, len(others)) not in QUERIES or word in LISTS)
+
+
 FULL = answers(LINES)
-CHANGED = {wanting(at): at for at, line in enumerate(LINES) if line and not line.startswith(b'#')}
+CHANGED = {wanting(at): at for at, line in enumerate(LINES) if may_want(line)}
 
 
 def judged(text, status):

@@ -8,9 +8,9 @@ import subprocess
 import sys
 
 import reading
-from streams import group_messages, groups, lines, locations, messages
+from streams import group_messages, groups, lines, listings, locations, messages
 
-KINDS = lines.KINDS + locations.KINDS + groups.KINDS + messages.KINDS + group_messages.KINDS
+KINDS = lines.KINDS + locations.KINDS + groups.KINDS + messages.KINDS + group_messages.KINDS + listings.KINDS
 
 
 def differs(command, data):

@@ -1,9 +1,11 @@
 #!/usr/bin/env python3
-"""What the built program prints on a terminal while it serves. Standard error is a pseudo terminal, and the lines come over a pipe,
-with a second between them. Prints the cases that fail, and last 'N passed, M failed'.
+"""What the built program prints on a terminal while it serves, dumps, loads and checks. Standard error is a pseudo terminal. The lines
+come over a pipe, with a second between them; a read of the disk takes more than a second (slow.c, compiled and preloaded). Prints the
+cases that fail, and last 'N passed, M failed'.
 Usage: tests/run progress PROGRAM (the program itself, not a script that starts it)"""
 import contextlib
 import os
+import pathlib
 import pty
 import re
 import subprocess
@@ -11,7 +13,12 @@ import termios
 import threading
 import time
 
-from disk_files import file_fault, run_cases
+import preloading
+from changed_texts import TEXT
+from disk_files import DISK, file_fault, run_cases
+from loaded import DUMP, LIMITS, LOAD, image_of, loaded_line, ready
+from reading_texts import register_in, text_of
+from recorder import recorder
 from running import SECONDS, Differs, compare
 
 # A second, and what a timer may be late
@@ -22,7 +29,10 @@ FIRST_SAID = b'1 ok 1 -\n2 ok 2 8:56\n'
 REST = b'count\n\n#\nx\n2 10 mm 234-14-2001 7 10:260'
 REST_SAID = b'count 2\nline 6 bad syntax\n2 kept 2 8:56\n'
 ALL_LINES, ALL_ACCEPTED = 7, 2
-TOLD = re.compile(rb'\r(\d+) lines, (\d+) accepted')
+SERVED, LINES, SECTORS = b'\r%d lines, %d accepted', b'\r%d lines', b'\r%d sectors'
+SLOW = pathlib.Path(__file__).resolve().parent / 'slow.c'
+# The read that takes more than a second
+SLOW_READ = 5
 
 
 class Terminal:
@@ -50,24 +60,24 @@ class Terminal:
         return self.text
 
 
-def judged(text, lines, accepted, err=b''):
+def judged(text, form, last, err=b''):
     """The figures never go down, the last ones are these, and their line ends; then comes a fault."""
     err = err.replace(b'\n', b'\r\n')
     if not text.endswith(b'\r\n' + err):
         raise Differs(f'the terminal {text!r}, wanted an end of the line, and {err!r}')
     told = text[:len(text) - len(err) - 2]
-    figures = [tuple(map(int, one)) for one in TOLD.findall(told)]
-    compare('the terminal', told, b''.join(b'\r%d lines, %d accepted' % one for one in figures))
+    figures = [tuple(map(int, one.groups())) for one in re.finditer(re.escape(form).replace(b'%d', rb'(\d+)'), told)]
+    compare('the terminal', told, b''.join(form % one for one in figures))
     compare('figures', figures, sorted(figures))
-    compare('the last figures', figures[-1:], [(lines, accepted)])
+    compare('the last figures', figures[-1:], [last])
     if len(figures) < 2:
         raise Differs(f'the figures were told at the end alone: {text!r}')
 
 
-def serving(place, words, pieces, stdin=subprocess.DEVNULL, **how):
+def serving(place, words, pieces, stdin=subprocess.DEVNULL, name='a.txt', **how):
     """Starts the program, and sends it the pieces with a second between; gives the output and the status."""
     with subprocess.Popen([*place.command, *words], cwd=place.folder, stdin=stdin, stdout=subprocess.PIPE, **how) as program:
-        lines = program.stdin or open(place.path('a.txt'), 'wb', buffering=0)
+        lines = program.stdin or open(place.path(name), 'wb', buffering=0)
         with contextlib.suppress(BrokenPipeError), lines:
             for piece in pieces:
                 lines.write(piece)
@@ -89,7 +99,7 @@ def over_a_disk(place):
     ended = serving(place, ['run', 'd.img', 'a.txt'], [FIRST, REST], stderr=terminal.slave)
     text = terminal.ends()
     compare('output and status', ended, (b'station 1 a.txt\n' + FIRST_SAID + REST_SAID, None, 1))
-    judged(text, ALL_LINES, ALL_ACCEPTED)
+    judged(text, SERVED, (ALL_LINES, ALL_ACCEPTED))
 
 
 def over_two_stations(place):
@@ -100,7 +110,7 @@ def over_two_stations(place):
     out, _, status = serving(place, ['run', 'd.img', 'a.txt', 'b.txt'], [FIRST, REST], stderr=terminal.slave)
     text = terminal.ends()
     compare('lines and status', (len(out.splitlines()), status), (9, 1))
-    judged(text, ALL_LINES + 3, ALL_ACCEPTED + 1)
+    judged(text, SERVED, (ALL_LINES + 3, ALL_ACCEPTED + 1))
 
 
 def over_standard_input(place):
@@ -108,7 +118,7 @@ def over_standard_input(place):
     ended = serving(place, [], [FIRST, REST], stdin=subprocess.PIPE, stderr=terminal.slave)
     text = terminal.ends()
     compare('output and status', ended, (FIRST_SAID + REST_SAID, None, 1))
-    judged(text, ALL_LINES, ALL_ACCEPTED)
+    judged(text, SERVED, (ALL_LINES, ALL_ACCEPTED))
 
 
 def no_terminal(place):
@@ -177,11 +187,67 @@ def a_fault_behind_it(place):
                 lines.write(piece)
                 time.sleep(PAUSE)
         compare('status', program.wait(SECONDS), 4)
-    judged(terminal.ends(), ALL_LINES, ALL_ACCEPTED, file_fault('-'))
+    judged(terminal.ends(), SERVED, (ALL_LINES, ALL_ACCEPTED), file_fault('-'))
+
+
+# Dumps, loadings and checks
+
+def slowly(place, words, **how):
+    """What the program prints, its status, and what it prints on a terminal as standard error, when a read of the disk is slow."""
+    terminal = Terminal()
+    with preloading.library(SLOW) as slow:
+        program = subprocess.run([*place.command, *words], cwd=place.folder, stdin=subprocess.DEVNULL, timeout=SECONDS,
+                                 env=preloading.environment(slow, AT=SLOW_READ), **{'stdout': subprocess.PIPE, 'stderr': terminal.slave, **how})
+    return program.stdout, program.returncode, terminal.ends()
+
+
+def a_dump(place):
+    """Once to a pipe; and once to the terminal, which gets no figures."""
+    register = register_in(TEXT, LIMITS)
+    place.put(image_of(register))
+    out, status, text = slowly(place, ['dump', DISK])
+    compare('output and status', (out, status), (text_of(register), 0))
+    judged(text, LINES, (out.count(b'\n'),))
+    terminal = Terminal()
+    compare('standard error', slowly(place, ['dump', DISK], stdout=terminal.slave)[1:], (0, b''))
+    compare('the terminal', terminal.ends(), out.replace(b'\n', b'\r\n'))
+
+
+def a_loading(place):
+    ready(place, TEXT)
+    os.remove(place.path(DUMP))
+    os.mkfifo(place.path(DUMP))
+    terminal = Terminal()
+    ended = serving(place, LOAD, [TEXT[:len(TEXT) // 2], TEXT[len(TEXT) // 2:]], name=DUMP, stderr=terminal.slave)
+    text = terminal.ends()
+    compare('output and status', ended, (loaded_line(LIMITS), None, 0))
+    judged(text, LINES, (TEXT.count(b'\n'),))
+
+
+def a_check(place):
+    """As many sectors as the file had reads."""
+    place.format()
+    with recorder(place) as made:
+        subprocess.run([*place.command, 'check', DISK], cwd=place.folder, env=made.environment(), stdin=subprocess.DEVNULL,
+                       stdout=subprocess.PIPE, timeout=SECONDS, check=True)
+        sectors = sum(done.kind == 'p' for done in made.record())
+    _, status, text = slowly(place, ['check', DISK])
+    compare('status', status, 0)
+    judged(text, SECTORS, (sectors,))
+
+
+def slow_without_a_terminal(place):
+    place.put(image_of(register_in(TEXT, LIMITS)))
+    for words in ['dump', DISK], ['check', DISK]:
+        with preloading.library(SLOW) as slow:
+            program = subprocess.run([*place.command, *words], cwd=place.folder, stdin=subprocess.DEVNULL, capture_output=True,
+                                     timeout=SECONDS, env=preloading.environment(slow, AT=SLOW_READ))
+        compare('standard error and status', (program.stderr, program.returncode), (b'', 0))
 
 
 CASES = [
     over_a_disk, over_two_stations, over_standard_input, no_terminal, less_than_a_second, a_dialogue, a_terminal_that_goes, a_fault_behind_it,
+    a_dump, a_loading, a_check, slow_without_a_terminal,
 ]
 
 

@@ -4,13 +4,13 @@ another road than the program: texts by regular expressions, bits as strings of 
 as dictionaries. It answers command lines as `tetra-switch` has to.
 Usage: tests/run reading [STATION] < lines > answers (exit status 1 where an answer was troubled)"""
 import collections
-import re
 import sys
 
 from reading_pdus import Message, Refused, Report, accept, acknowledgement, read_sds, read_up, reject
+from reading_queries import QUERIES
+from reading_words import BadLine, bad_value, bit_string, identity, number, prefix, print_bits, print_identity
 
 LAST_NUMBER = 2 ** 62
-NUMBER = re.compile(rb'(?:0|[1-9][0-9]*)\Z')
 LIMITS = {'rules': 16, 'radios': 16, 'mail': 256, 'stations': 4}
 CAUSES = {'unknown-identity': 1, 'la-not-allowed': 3, 'congestion': 6, 'migration': 12}
 MOST_GROUPS, MOST_ITEMS = 32, 128
@@ -21,67 +21,11 @@ ENDED = {0: (3,), 2: (), 3: (1, 2, 3), 4: (3,), 6: (3,)}
 Item = collections.namedtuple('Item', 'number deadline pdu group', defaults=[None])
 
 
-class BadLine(Exception):
-    """A line's fault."""
-
-
-def bad_value():
-    raise BadLine('value')
-
-
-# Words
-
-def number(word, least, most):
-    if not NUMBER.match(word) or not least <= int(word[:40]) <= most or len(word) > 40:
-        bad_value()
-    return int(word)
-
-
-def identity(word):
-    parts = word.split(b'-')
-    if len(parts) != 3:
-        bad_value()
-    mcc, mnc, ssi = (number(p, 0, 2 ** w - 1) for p, w in zip(parts, (10, 14, 24)))
-    return format(mcc, '010b') + format(mnc, '014b') + format(ssi, '024b')
-
-
-def prefix(word):
-    parts = word.split(b'/')
-    if len(parts) != 2:
-        bad_value()
-    bits, length = identity(parts[0]), number(parts[1], 0, 48)
-    if '1' in bits[length:]:
-        bad_value()
-    return bits[:length]
-
-
-def bit_string(word):
-    parts = word.split(b':')
-    if len(parts) != 2:
-        bad_value()
-    length, digits = number(parts[0], 0, 2048), parts[1]
-    if not re.match(rb'[0-9A-Fa-f]*\Z', digits) or len(digits) != (length + 3) // 4:
-        bad_value()
-    bits = ''.join(format(int(chr(d), 16), '04b') for d in digits)
-    if '1' in bits[length:]:
-        bad_value()
-    return bits[:length]
-
-
-def print_identity(bits):
-    return '-'.join(str(int(field, 2)) for field in (bits[:10], bits[10:24], bits[24:]))
-
-
-def print_bits(bits):
-    if bits is None:
-        return '-'
-    filled = bits + '0' * (-len(bits) % 4)
-    return f'{len(bits)}:' + ''.join(format(int(filled[k:k + 4], 2), 'X') for k in range(0, len(filled), 4))
-
-
 # The register
 
 class Register:
+    most_items = MOST_ITEMS
+
     def __init__(self, limits=None):
         self.limits = dict(LIMITS, **(limits or {}))
         self.rules, self.radios, self.served, self.count = {}, {}, {}, 0
@@ -213,7 +157,7 @@ class Register:
             raise Refused('no-members')
         if any(key in self.mail for key in keys):
             raise Refused('reference-busy')
-        if any(sum(other[0] == key[0] for other in self.mail) >= MOST_ITEMS for key in keys):
+        if any(sum(other[0] == key[0] for other in self.mail) >= self.most_items for key in keys):
             raise Refused('mailbox-full')
         if len(self.mail) + len(keys) > self.limits['mail']:
             raise Refused('centre-full')
@@ -236,7 +180,7 @@ class Register:
 
     def keep_with(self, others, key, deadline, value):
         """These other items and a new one, where there is room."""
-        if sum(other[0] == key[0] for other in others) >= MOST_ITEMS:
+        if sum(other[0] == key[0] for other in others) >= self.most_items:
             raise Refused('mailbox-full')
         if len(others) >= self.limits['mail']:
             raise Refused('centre-full')
@@ -314,50 +258,6 @@ def delete_body(words):
 
 COMMANDS = {(b'rule', 5): rule_body, (b'unrule', 1): unrule_body, (b'mm', 3): mobility_body, (b'sds', 3): short_data_body,
             (b'gsds', 3): group_short_data_body, (b'sent', 4): sent_body, (b'expire', 0): expire_body, (b'delete', 4): delete_body}
-
-
-def where(register, words):
-    itsi, name = identity(words[0]), words[0].decode()
-    if itsi not in register.radios:
-        return [f'where {name} unknown']
-    station, area, present = register.radios[itsi]
-    return [f'where {name} station {station} la {area} {"present" if present else "absent"}']
-
-
-def look(register, words):
-    found, name = register.look(identity(words[0])), words[0].decode()
-    if found is None:
-        return [f'look {name} none']
-    under, (low, high, life, keep) = found
-    return [f'look {name} {print_identity(under.ljust(48, "0"))}/{len(under)} {low} {high} {life} {keep}']
-
-
-def groups(register, words):
-    attached = sorted(register.groups_of(identity(words[0])).items())
-    return [f'groups {words[0].decode()} {len(attached)}'] + [
-        f'group {print_identity(group)} {usage} {life}' for group, (usage, life) in attached]
-
-
-def members(register, words):
-    attached = sorted(register.members_of(identity(words[0])).items())
-    present = [f'member {print_identity(radio)} {usage}' for radio, (usage, _) in attached if register.present(radio)]
-    return [f'members {words[0].decode()} {len(present)}'] + present
-
-
-def mail(register, words):
-    itsi = identity(words[0])
-    waiting = [(item.number, key, item) for key, item in register.mail.items() if key[0] == itsi]
-    return [f'mail {words[0].decode()} {len(waiting)}'] + [
-        f'item {number} {kind.decode()} {print_identity(source)} {reference} {item.deadline} {print_bits(item.pdu.kept)}'
-        + (f' {print_identity(item.group)}' if item.group else '')
-        for number, (_, source, reference, kind), item in sorted(waiting)]
-
-
-def total(register, words):
-    return [f'count {register.count}']
-
-
-QUERIES = {(b'where', 1): where, (b'look', 1): look, (b'groups', 1): groups, (b'members', 1): members, (b'mail', 1): mail, (b'count', 0): total}
 
 
 def command(register, station, words):

@@ -11,6 +11,7 @@ import collections
 
 import reading
 from reading_disks import copied
+from reading_queries import LISTS, QUERIES
 
 # A line of a station with the lines that answer it; these are None where nothing is known of its answer
 Answered = collections.namedtuple('Answered', 'line told')
@@ -23,13 +24,13 @@ class NoOrder(Exception):
 # Output
 
 def is_query(words):
-    return (words[0], len(words) - 1) in reading.QUERIES
+    return (words[0], len(words) - 1) in QUERIES
 
 
 def lines_told(line, first):
     """How many lines answer this one, by the first of them."""
     words = line.split(b' ')
-    is_list = is_query(words) and words[0] in (b'groups', b'members', b'mail')
+    is_list = is_query(words) and words[0] in LISTS
     return 1 + int(first.rsplit(' ', 1)[1]) if is_list and first.startswith(words[0].decode()) else 1
 
 

@@ -19,8 +19,8 @@ CODE = {path: path.read_text(errors='replace') for path in FILES if path not in 
 # What defines a name: an item, a field or a variant.
 DEFINES = re.compile(r'''\b(?:fn|struct|enum|trait|mod|const|type)\s+(\w+) | ^\s*(?:pub(?:\(crate\))?\s+)?(\w+)\s*:
                        | ^\s+(\w+)\s*(?:,|\{|\(.*\),)\s*(?://.*)?$ | \b(?:abbrev|unfoldable|record)\ pub\ (\w+)''', re.M | re.X)
-# Words that no file here has: of the kit and what it makes, of the system, and the form of a prefix.
-OUTSIDE = re.compile(r'rattle-kit-\w+|out/.*|/.*|man|mcc-mnc-ssi/len')
+# Words that no file here has: of the kit and what it makes, of the system, and the forms of a prefix and of what is used of a limit.
+OUTSIDE = re.compile(r'rattle-kit-\w+|out/.*|/.*|man|mcc-mnc-ssi/len|U/L|N/128')
 # How a remark begins.
 REMARK = {'.rt': '//.*', '.antt': r'(?m:^| )--\s.*', '.py': '#.*|(?s:""".*?""")'}
 
