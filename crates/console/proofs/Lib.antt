@@ -1,4 +1,9 @@
 pub mod Splits
+pub mod Fits
+pub mod Digits
+pub mod Items
+pub mod Marks
+pub mod Left
 pub mod Forms
 pub mod Writing
 pub mod Talk

@@ -1,3 +1,5 @@
 pub mod Feed
 pub mod Current
 pub mod Given
+pub mod Marks
+pub mod Left

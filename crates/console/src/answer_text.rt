@@ -14,10 +14,11 @@ ghost use Rattle.console.specs.Answer.{IsOneLine, IsLine};
 
 use crate::answer::Answer;
 use crate::lists::{put_count, put_groups, put_items, put_members};
+use crate::numbers::put_number;
 use crate::words::{group_word, line_word, mail_word, mm_word, registration_word, sds_word};
 use centre_core::{QueryAnswer, Refusal, Reply, Sequence};
-use identity::{Bits, Itsi, Prefix};
-use listings::{Part, pdu_part, presence_word, put_parts};
+use identity::{Bits, Itsi, Prefix, print_bits, print_itsi};
+use listings::{Part, presence_word, put_parts};
 use registration::{Radio, Rule};
 use std::alloc::{AllocError, Allocator};
 
@@ -90,13 +91,14 @@ fn put_reply<A: Allocator, B: Allocator>(
 }
 
 /// `SEQ ok NUMBER PDU` or `SEQ kept NUMBER PDU`
-#[tactic(auto, using(std::proofs::Common::append_assoc))]
-fn put_done<'a, A: Allocator, B: Allocator>(
+#[inline(always)]
+#[tactic(auto, using(crate::proofs::Fits::done_fits))]
+fn put_done<A: Allocator, B: Allocator>(
     out: &mut Vec<u8, A>,
     sequence: Sequence,
-    word: &'a str,
+    word: &str,
     number: u64,
-    pdu: &'a Option<Bits<B>>,
+    pdu: &Option<Bits<B>>,
 ) -> Result<(), AllocError>
     requires { length word.now ≤ 6 }
     ensures ok { OnOk result (out.new.items ≡ out.old.items
@@ -107,21 +109,54 @@ fn put_done<'a, A: Allocator, B: Allocator>(
     ensures capacity { vec_capacity out.old ≤ vec_capacity out.new }
     ensures line { IsShort pdu.now → OnErr result (vec_capacity out.old < vec_len out.old + answer_room) }
 {
-    put_parts(
-        out,
-        &[
-            Part::Number(u64::from(sequence.number())),
-            Part::Text(word),
-            Part::Number(number),
-            Part::Text(" "),
-            pdu_part(pdu),
-            Part::Text("\n"),
-        ],
-    )
+    let sequence = u64::from(sequence.number());
+    put_done_text(out, sequence, word, number, pdu)
+}
+
+/// The text of `put_done`.
+#[inline(always)]
+#[tactic(auto, using(identity::proofs::Printed::printed))]
+fn put_done_text<A: Allocator, B: Allocator>(
+    out: &mut Vec<u8, A>,
+    sequence: u64,
+    word: &str,
+    number: u64,
+    pdu: &Option<Bits<B>>,
+) -> Result<(), AllocError>
+    ensures ok { OnOk result (out.new.items ≡ out.old.items
+        ++ decimal sequence ++ (word.now ++ decimal number ++ codes " " ++ pdu_text pdu.now) ++ codes "\n") }
+    ensures err { OnErr result (IsPrefixOf out.old.items out.new.items) }
+    ensures full { OnErr result (vec_capacity out.old < vec_len out.old
+        + length (decimal sequence ++ (word.now ++ decimal number ++ codes " " ++ pdu_text pdu.now) ++ codes "\n")) }
+    ensures capacity { vec_capacity out.old ≤ vec_capacity out.new }
+{
+    put_number(out, sequence)?;
+    out.extend_from_slice(word.as_bytes())?;
+    put_number(out, number)?;
+    out.extend_from_slice(b" ")?;
+    put_pdu(out, pdu)?;
+    out.extend_from_slice(b"\n")
+}
+
+/// The PDU for the radio, or `-`.
+#[inline(always)]
+fn put_pdu<A: Allocator, B: Allocator>(
+    out: &mut Vec<u8, A>,
+    pdu: &Option<Bits<B>>,
+) -> Result<(), AllocError>
+    ensures ok { OnOk result (out.new.items ≡ out.old.items ++ pdu_text pdu.now) }
+    ensures err { OnErr result (out.new.items ≡ out.old.items) }
+    ensures full { OnErr result (vec_capacity out.old < vec_len out.old + length (pdu_text pdu.now)) }
+    ensures capacity { vec_capacity out.old ≤ vec_capacity out.new }
+{
+    match pdu {
+        None => out.extend_from_slice(b"-"),
+        Some(bits) => print_bits(out, bits),
+    }
 }
 
 /// `SEQ no WORD`
-#[tactic(auto, using(std::proofs::Common::append_assoc))]
+#[tactic(auto, using(crate::proofs::Fits::refused_fits))]
 fn put_refused<A: Allocator>(
     out: &mut Vec<u8, A>,
     sequence: Sequence,
@@ -134,13 +169,27 @@ fn put_refused<A: Allocator>(
     ensures capacity { vec_capacity out.old ≤ vec_capacity out.new }
     ensures line { OnErr result (vec_capacity out.old < vec_len out.old + answer_room) }
 {
-    let line: [Part; 4] = [
-        Part::Number(u64::from(sequence.number())),
-        Part::Text(" no "),
-        Part::Text(word),
-        Part::Text("\n"),
-    ];
-    put_parts(out, &line)
+    let sequence = u64::from(sequence.number());
+    put_refused_text(out, sequence, word)
+}
+
+/// The text of `put_refused`.
+#[inline(always)]
+#[tactic(auto, using(identity::proofs::Printed::printed))]
+fn put_refused_text<A: Allocator>(
+    out: &mut Vec<u8, A>,
+    sequence: u64,
+    word: &str,
+) -> Result<(), AllocError>
+    ensures ok { OnOk result (out.new.items ≡ out.old.items ++ decimal sequence ++ (codes " no " ++ word.now) ++ codes "\n") }
+    ensures err { OnErr result (IsPrefixOf out.old.items out.new.items) }
+    ensures full { OnErr result (vec_capacity out.old < vec_len out.old + length (decimal sequence ++ (codes " no " ++ word.now) ++ codes "\n")) }
+    ensures capacity { vec_capacity out.old ≤ vec_capacity out.new }
+{
+    put_number(out, sequence)?;
+    out.extend_from_slice(b" no ")?;
+    out.extend_from_slice(word.as_bytes())?;
+    out.extend_from_slice(b"\n")
 }
 
 #[tactic(auto, using(std::proofs::Common::append_assoc))]
@@ -244,7 +293,7 @@ fn put_query_answer<A: Allocator, B: Allocator>(
     }
 }
 
-#[tactic(auto, using(std::proofs::Common::append_assoc))]
+#[tactic(auto, using(crate::proofs::Fits::unknown_fits, crate::proofs::Fits::known_fits))]
 fn put_whereabouts<A: Allocator>(
     out: &mut Vec<u8, A>,
     itsi: Itsi,
@@ -257,25 +306,53 @@ fn put_whereabouts<A: Allocator>(
     ensures capacity { vec_capacity out.old ≤ vec_capacity out.new }
     ensures line { OnErr result (vec_capacity out.old < vec_len out.old + answer_room) }
 {
-    let Some(radio) = radio else {
-        let line: [Part; 3] = [
-            Part::Text("where "),
-            Part::Radio(itsi),
-            Part::Text(" unknown\n"),
-        ];
-        return put_parts(out, &line);
-    };
-    let line: [Part; 8] = [
-        Part::Text("where "),
-        Part::Radio(itsi),
-        Part::Text(" station "),
-        Part::Number(u64::from(radio.station.number())),
-        Part::Text(" la "),
-        Part::Number(u64::from(radio.area.number())),
-        Part::Text(presence_word(radio.present)),
-        Part::Text("\n"),
-    ];
-    put_parts(out, &line)
+    // Calls of `number` show the prover the ranges, which bound the length of the text.
+    let _itsi = itsi.number();
+    match radio {
+        None => put_unknown(out, itsi),
+        Some(radio) => {
+            let _place = (radio.station.number(), radio.area.number());
+            put_known(out, itsi, radio)
+        }
+    }
+}
+
+/// `where ITSI unknown`
+#[inline(always)]
+#[tactic(auto, using(identity::proofs::Printed::printed))]
+fn put_unknown<A: Allocator>(out: &mut Vec<u8, A>, itsi: Itsi) -> Result<(), AllocError>
+    ensures ok { OnOk result (out.new.items ≡ out.old.items ++ codes "where " ++ identity_text itsi ++ codes " unknown\n") }
+    ensures err { OnErr result (IsPrefixOf out.old.items out.new.items) }
+    ensures full { OnErr result (vec_capacity out.old < vec_len out.old + length (codes "where " ++ identity_text itsi ++ codes " unknown\n")) }
+    ensures capacity { vec_capacity out.old ≤ vec_capacity out.new }
+{
+    out.extend_from_slice(b"where ")?;
+    print_itsi(out, itsi)?;
+    out.extend_from_slice(b" unknown\n")
+}
+
+/// `where ITSI station STATION la AREA present`, or `absent`
+#[inline(always)]
+#[tactic(auto, using(identity::proofs::Printed::printed))]
+fn put_known<A: Allocator>(
+    out: &mut Vec<u8, A>,
+    itsi: Itsi,
+    radio: &Radio,
+) -> Result<(), AllocError>
+    ensures ok { OnOk result (out.new.items ≡ out.old.items ++ codes "where " ++ identity_text itsi ++ codes " " ++ radio_words radio.now ++ codes "\n") }
+    ensures err { OnErr result (IsPrefixOf out.old.items out.new.items) }
+    ensures full { OnErr result (vec_capacity out.old < vec_len out.old
+        + length (codes "where " ++ identity_text itsi ++ codes " " ++ radio_words radio.now ++ codes "\n")) }
+    ensures capacity { vec_capacity out.old ≤ vec_capacity out.new }
+{
+    out.extend_from_slice(b"where ")?;
+    print_itsi(out, itsi)?;
+    out.extend_from_slice(b" station ")?;
+    put_number(out, u64::from(radio.station.number()))?;
+    out.extend_from_slice(b" la ")?;
+    put_number(out, u64::from(radio.area.number()))?;
+    out.extend_from_slice(presence_word(radio.present).as_bytes())?;
+    out.extend_from_slice(b"\n")
 }
 
 #[tactic(auto, using(std::proofs::Common::append_assoc))]

@@ -12,10 +12,13 @@ mod input;
 pub mod laws;
 mod line;
 mod lists;
+mod marked;
+mod numbers;
 mod output;
 mod progress;
 mod running;
 mod serving;
+mod spaces;
 mod words;
 
 pub use answer::{Answer, Lines, print_answer};

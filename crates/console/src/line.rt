@@ -3,6 +3,8 @@ ghost use Rattle.centre_core.specs.Ranges.{IsShort, pdu_of};
 ghost use Rattle.console.specs.Reading.{reading, sequence_of, Lacks, words, words_after, of_words, of_word, of_two, body_in, command_line, ask, print};
 
 use crate::body::{Head, body_in, head_in, listing_in, query_in};
+use crate::marked::read_marked;
+use crate::spaces::whole;
 use centre_core::{Body, Command, Query, Sequence};
 use listings::{Listing, Table};
 use memchr::memchr;
@@ -128,8 +130,19 @@ fn split(line: &[u8]) -> Option<Words<'_>>
     None
 }
 
-#[tactic(auto, using(crate::proofs::Forms::many_words))]
 fn read_text<A: Allocator>(alloc: A, station: Station, line: &[u8]) -> Result<Line<A>, Unread>
+    ensures ok { IfOk result (λ said. said ≡ of_words station (words line.now)) }
+    ensures err { IfErr result (λ unread. sequence_of (of_words {A = A} station (words line.now)) ≡ Some unread.sequence) }
+{
+    match whole(line) {
+        Some(rest) => read_marked(alloc, station, rest),
+        None => read_split(alloc, station, line),
+    }
+}
+
+/// As `read_text`, for a line of any length.
+#[tactic(auto, using(crate::proofs::Forms::many_words))]
+fn read_split<A: Allocator>(alloc: A, station: Station, line: &[u8]) -> Result<Line<A>, Unread>
     ensures ok { IfOk result (λ said. said ≡ of_words station (words line.now)) }
     ensures err { IfErr result (λ unread. sequence_of (of_words {A = A} station (words line.now)) ≡ Some unread.sequence) }
 {
@@ -154,7 +167,7 @@ fn read_words<A: Allocator>(alloc: A, station: Station, words: &[&[u8]]) -> Resu
     }
 }
 
-fn read_one<A: Allocator>(name: &[u8]) -> Line<A>
+pub(crate) fn read_one<A: Allocator>(name: &[u8]) -> Line<A>
     ensures { result ≡ of_word name.now }
 {
     if name == b"count".as_slice() {
@@ -172,7 +185,7 @@ fn read_one<A: Allocator>(name: &[u8]) -> Line<A>
     }
 }
 
-fn read_two<A: Allocator>(name: &[u8], word: &[u8]) -> Line<A>
+pub(crate) fn read_two<A: Allocator>(name: &[u8], word: &[u8]) -> Line<A>
     ensures { result ≡ of_two name.now word.now }
 {
     match listing_in(name, word) {
@@ -199,6 +212,7 @@ fn ask<A: Allocator>(query: Result<Query, LineFault>) -> Line<A>
     }
 }
 
+#[inline(always)]
 fn command_line<A: Allocator>(
     station: Station,
     head: Option<Head>,
@@ -221,7 +235,7 @@ fn command_line<A: Allocator>(
 
 #[inline(always)]
 #[tactic(auto, using(crate::proofs::Forms::unread, crate::proofs::Forms::headless, crate::proofs::Forms::body_short))]
-fn read_command<A: Allocator>(
+pub(crate) fn read_command<A: Allocator>(
     alloc: A,
     station: Station,
     head: Option<Head>,

@@ -5,10 +5,15 @@ ghost use Rattle.identity.specs.NumberText.{IsPrefixOf};
 ghost use Rattle.identity.specs.IdentityText.{identity_text};
 ghost use Rattle.listings.specs.Parts.{part_text, part_room, pdu_room};
 ghost use Rattle.console.specs.Answer.{group_text, member_text, item_text};
+ghost use Rattle.identity.specs.BitsText.{bits_text};
+ghost use Rattle.listings.specs.Lines.{item_end, key_text};
+ghost use Rattle.listings.specs.Words.{kind_word};
 
+use crate::numbers::put_number;
 use group_attach::Attachment;
-use listings::{Part, put_item_end, put_key, put_parts};
-use mailbox::Item;
+use identity::{Bits, Gtsi, print_bits, print_itsi};
+use listings::{Part, put_item_end, put_parts};
+use mailbox::{Item, Key, Kind};
 use std::alloc::{AllocError, Allocator};
 
 /// How many lines of a list follow.
@@ -108,6 +113,7 @@ pub(crate) fn put_items<A: Allocator, B: Allocator>(
     Ok(())
 }
 
+/// `item NUMBER KIND SOURCE REFERENCE DEADLINE PDU`, and the group of a copy.
 #[tactic(auto, using(identity::proofs::Printed::printed))]
 fn put_item<A: Allocator, B: Allocator>(
     out: &mut Vec<u8, A>,
@@ -118,21 +124,72 @@ fn put_item<A: Allocator, B: Allocator>(
     ensures full { OnErr result (vec_capacity out.old < vec_len out.old + length (item_text item.now)) }
     ensures capacity { vec_capacity out.old ≤ vec_capacity out.new }
 {
-    let number: [Part; 3] = [
-        Part::Text("item "),
-        Part::Number(item.number()),
-        Part::Text(" "),
-    ];
-    put_parts(out, &number)?;
-    put_key(out, item.key())?;
-    put_parts(
-        out,
-        &[
-            Part::Text(" "),
-            Part::Number(item.deadline()),
-            Part::Text(" "),
-            Part::Pdu(item.pdu()),
-        ],
-    )?;
-    put_item_end(out, item.group())
+    put_named_item(out, item.number(), item.key())?;
+    put_content(out, item.deadline(), item.pdu())?;
+    put_end(out, item.group())
+}
+
+/// `item NUMBER KIND SOURCE REFERENCE`
+#[inline(always)]
+#[tactic(auto, using(identity::proofs::Printed::printed))]
+fn put_named_item<A: Allocator>(
+    out: &mut Vec<u8, A>,
+    number: u64,
+    key: Key,
+) -> Result<(), AllocError>
+    ensures ok { OnOk result (out.new.items ≡ out.old.items ++ codes "item " ++ decimal number ++ codes " " ++ key_text key) }
+    ensures err { OnErr result (IsPrefixOf out.old.items out.new.items) }
+    ensures full { OnErr result (vec_capacity out.old < vec_len out.old + length (codes "item " ++ decimal number ++ codes " " ++ key_text key)) }
+    ensures capacity { vec_capacity out.old ≤ vec_capacity out.new }
+{
+    out.extend_from_slice(b"item ")?;
+    put_number(out, number)?;
+    out.extend_from_slice(kind_between(key.kind))?;
+    print_itsi(out, key.source)?;
+    out.extend_from_slice(b" ")?;
+    put_number(out, u64::from(key.reference.number()))
+}
+
+/// The deadline and the PDU of an item, with a space before each.
+#[inline(always)]
+#[tactic(auto, using(identity::proofs::Printed::printed))]
+fn put_content<A: Allocator, B: Allocator>(
+    out: &mut Vec<u8, A>,
+    deadline: u64,
+    pdu: &Bits<B>,
+) -> Result<(), AllocError>
+    ensures ok { OnOk result (out.new.items ≡ out.old.items ++ codes " " ++ decimal deadline ++ codes " " ++ bits_text pdu.now) }
+    ensures err { OnErr result (IsPrefixOf out.old.items out.new.items) }
+    ensures full { OnErr result (vec_capacity out.old < vec_len out.old + length (codes " " ++ decimal deadline ++ codes " " ++ bits_text pdu.now)) }
+    ensures capacity { vec_capacity out.old ≤ vec_capacity out.new }
+{
+    out.extend_from_slice(b" ")?;
+    put_number(out, deadline)?;
+    out.extend_from_slice(b" ")?;
+    print_bits(out, pdu)
+}
+
+/// The end of an item's line. Few items are copies for a group.
+#[inline(always)]
+fn put_end<A: Allocator>(out: &mut Vec<u8, A>, group: Option<Gtsi>) -> Result<(), AllocError>
+    ensures ok { OnOk result (out.new.items ≡ out.old.items ++ item_end group) }
+    ensures err { OnErr result (IsPrefixOf out.old.items out.new.items) }
+    ensures full { OnErr result (vec_capacity out.old < vec_len out.old + length (item_end group)) }
+    ensures capacity { vec_capacity out.old ≤ vec_capacity out.new }
+{
+    match group {
+        None => out.extend_from_slice(b"\n"),
+        Some(_) => put_item_end(out, group),
+    }
+}
+
+/// The word for a message or a report, between two spaces.
+#[inline(always)]
+fn kind_between(kind: Kind) -> &'static [u8]
+    ensures { result.now ≡ codes " " ++ kind_word kind ++ codes " " }
+{
+    match kind {
+        Kind::Message => b" m ",
+        Kind::Report => b" r ",
+    }
 }

@@ -2,11 +2,10 @@
 ghost use Rattle.std.specs.Prelude.{◌≡◌, ◌⊎◌, ◌++◌, ◌≤◌, [], List, ℕ, Err, IfErr, MatchBool, OnOk, option_map, length, ◌<◌, false, vec_capacity};
 ghost use Rattle.console.specs.declared.progress.TheConstants.{ANSWER, ROOM};
 ghost use Rattle.desk.specs.Listed.{IsListed};
-ghost use Rattle.console.specs.Answer.{text};
 ghost use Rattle.console.specs.Dialogue.{LacksLines};
 ghost use Rattle.console.specs.Inside.Given.{IsPrintable, IsTextFor, MayBePrinted, answer_of};
 ghost use Rattle.std.specs.Str.Lines.{strip_carriage_return};
-ghost use Rattle.console.specs.Inside.Current.{Holds, HoldsWith, line_at_end, KeepsLine, IsGivenFor};
+ghost use Rattle.console.specs.Inside.Current.{Holds, HoldsWith, line_at_end, KeepsLine};
 
 use crate::answer::{Answer, print_answer};
 use crate::line::LONGEST;
@@ -145,31 +144,30 @@ impl<A: Allocator> AnswerText<A> {
         })
     }
 
-    /// Makes the text of the answer to the line of this number, and returns that answer. When memory runs out for the
-    /// text of a list, the answer is `memory` instead.
+    /// Makes the text of the answer to the line of this number, and returns whether it reports trouble. When memory runs
+    /// out for the text of a list, the answer is `memory` instead.
     #[inline(always)]
-    fn print<B: Allocator + Drop>(&mut self, number: u64, answer: Answer<B>) -> Answer<B>
-        requires { IsPrintable answer }
-        ensures held { IsGivenFor number answer result }
-        ensures text { self.new.bytes.items ≡ text result }
+    fn print<B: Allocator + Drop>(&mut self, number: u64, answer: &Answer<B>) -> bool
+        requires { IsPrintable answer.now }
+        ensures { IsTextFor number answer.now self.new.bytes.items result }
     {
         self.bytes.clear();
-        if print_answer(&mut self.bytes, &answer).is_ok() {
-            return answer;
+        if print_answer(&mut self.bytes, answer).is_ok() {
+            return answer.is_trouble();
         }
-        let query_outage = Answer::QueryOutage(number, Outage::Memory);
+        let query_outage = Answer::<B>::QueryOutage(number, Outage::Memory);
         print_answer(&mut self.bytes, &query_outage).unwrap();
-        query_outage
+        true
     }
 
     /// Makes the text of what is given for the line of this number, and returns whether it reports trouble.
     #[inline(always)]
-    pub(crate) fn hold<B: Allocator + Drop>(&mut self, number: u64, given: Given<B>) -> bool
-        requires { MayBePrinted given }
-        ensures { IsTextFor number (answer_of self.old.bytes.items given) self.new.bytes.items result }
+    pub(crate) fn hold<B: Allocator + Drop>(&mut self, number: u64, given: &Given<B>) -> bool
+        requires { MayBePrinted given.now }
+        ensures { IsTextFor number (answer_of self.old.bytes.items given.now) self.new.bytes.items result }
     {
         match given {
-            Given::Answered(answer) => self.print(number, answer).is_trouble(),
+            Given::Answered(answer) => self.print(number, answer),
             Given::Listed => false,
         }
     }

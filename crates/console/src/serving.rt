@@ -69,14 +69,14 @@ fn answer_line<A: Allocator + Copy, D: Desk<A>>(
 #[inline(always)]
 fn send_answer<A: Allocator + Copy + Drop, W: Write, G: Ledger>(
     progress: &mut Progress<A>,
-    given: Given<A>,
+    given: &Given<A>,
     output: &mut Output<W, G>,
 ) -> Result<(), RunFault>
     requires room { progress.old.lines + 1 < 2 ^ 64 }
-    requires printable { MayBePrinted given }
-    ensures ok { OnOk result (Sends progress.old (W.contents output.old.writer.now) (answer_of progress.old.out.bytes.items given)
+    requires printable { MayBePrinted given.now }
+    ensures ok { OnOk result (Sends progress.old (W.contents output.old.writer.now) (answer_of progress.old.out.bytes.items given.now)
         progress.new (W.contents output.new.writer.now)) }
-    ensures err { OnErr result (SendsPrefix progress.old.lines (W.contents output.old.writer.now) (answer_of progress.old.out.bytes.items given)
+    ensures err { OnErr result (SendsPrefix progress.old.lines (W.contents output.old.writer.now) (answer_of progress.old.out.bytes.items given.now)
         (W.contents output.new.writer.now)) }
     ensures lines { progress.new.lines ≤ progress.old.lines + 1 }
     ensures stops { IfErr result (λ e. e ≡ RunFault.Write) }
@@ -155,7 +155,7 @@ impl<'t, 'p, 'o, 'd, 'w, 'f, A: Allocator + Copy + Drop, W: Write, G: Ledger, D:
             line: progress.current.ended(run),
         };
         let given = answer_line(self.terms, asked, self.desk, &mut progress.out);
-        send_answer(progress, given, self.output)
+        send_answer(progress, &given, self.output)
     }
 
     /// Takes a piece of the text, and answers each line that it ends.
@@ -194,7 +194,7 @@ impl<'t, 'p, 'o, 'd, 'w, 'f, A: Allocator + Copy + Drop, W: Write, G: Ledger, D:
             line: progress.current.line(false),
         };
         let given = answer_line(self.terms, asked, self.desk, &mut progress.out);
-        send_answer(progress, given, self.output)?;
+        send_answer(progress, &given, self.output)?;
         Ok(progress.ran())
     }
 
