@@ -12,7 +12,24 @@ JUNK, RULE, ONE_RULE = b'\xa5' * SECTOR, rule_row('01', (1, 2, 0, 0)), (1, 0, 0,
 A, B = 'side A epoch 5 count 8 gate 591', 'side B epoch 6 count 10 gate 632'
 BY_A, BY_B = 'side A epoch 5 left 4611686018427387899 gate 591 free 37 count 8', 'side B epoch 6 left 4611686018427387898 gate 632 free 35 count 10'
 NO_A, NO_B = 'side A unused', 'side B unused'
-JUNK_RULE_A, JUNK_RULE_B = (f'side {side} damaged sector {sector}: row of a rule, unreadable' for side, sector in (('A', 4), ('B', 297)))
+# The commands that sectors of junk state
+JUNK_RECORD = 'record of 42405 commands, unreadable'
+NO_ROWS = 'rules 0 radios 0 items 0 stations 0'
+LOST_ROWS = {'rule': 'rules 1 radios 0 items 0 stations 0', 'radio': 'rules 0 radios 1 items 0 stations 0'}
+
+
+def one(side, sector, what):
+    """The lines of a side with this damaged sector alone."""
+    yield f'side {side} damaged sector {sector}: {what}'
+    if what.startswith('header'):
+        yield f'side {side} loses all'
+    elif what.startswith('row of a '):
+        yield f"side {side} loses {LOST_ROWS[what.split(',')[0].split()[-1]]} records none"
+    else:
+        yield f'side {side} loses {NO_ROWS} records from {sector}'
+
+
+JUNK_RULE_A, JUNK_RULE_B = (list(one(side, sector, 'row of a rule, unreadable')) for side, sector in (('A', 4), ('B', 297)))
 
 
 def sound():
@@ -63,17 +80,18 @@ def bad_records(before, form):
     """After so many commands. The first command here has the sequence 9."""
     texts = {name: text_of(form, commands, before + 1) for name, commands in
              {'good': [expire(9)], 'refused': [expire(9, station=5)], 'twice': [expire(9)] * 2, 'none': [expire(9, tag=9)]}.items()}
-    for data in JUNK, bytes(SECTOR), texts['good'] + b'\1', texts['none'], text_of(form, [expire(9)], before + 1, size=500):
-        yield record(0, data), 1, 'record, unreadable'
-    for data in texts['refused'], texts['twice']:
-        yield record(0, data), 1, 'record, command refused'
-    for first, second, reason in (('good', JUNK, 'unreadable'), ('refused', JUNK, 'unreadable'),
-                                  ('good', text_of(form, [expire(9)], before + 2), 'command refused')):
-        yield {**record(0, texts[first]), **record(2, second)}, 3, f'record, {reason}'
+    for data, commands in ((JUNK, 42405), (bytes(SECTOR), 0), (texts['good'] + b'\1', 1), (texts['none'], 1),
+                           (text_of(form, [expire(9)], before + 1, size=500), 1)):
+        yield record(0, data), 1, f'record of {commands} commands, unreadable'
+    for data, commands in (texts['refused'], 1), (texts['twice'], 2):
+        yield record(0, data), 1, f'record of {commands} commands, command refused'
+    for first, second, what in (('good', JUNK, JUNK_RECORD), ('refused', JUNK, JUNK_RECORD),
+                                ('good', text_of(form, [expire(9)], before + 2), 'record of 1 commands, command refused')):
+        yield {**record(0, texts[first]), **record(2, second)}, 3, what
     many, gate = records(0, form, map(expire, range(9, 28)), before)
-    yield {**many, gate: OPEN}, gate, 'record, unreadable'
+    yield {**many, gate: OPEN}, gate, 'last gate, unreadable'
     if form == NUMBERED:
-        yield from ((record(0, text_of(form, [expire(9)], first)), 1, 'record, unreadable') for first in (0, before, before + 2, 2 ** 64 - 1))
+        yield from ((record(0, text_of(form, [expire(9)], first)), 1, 'record of 1 commands, unreadable') for first in (0, before, before + 2, 2 ** 64 - 1))
 
 
 # Disks with damage
@@ -81,67 +99,83 @@ def bad_records(before, form):
 def damage_to_a(number, form):
     """Where slot A has no header, the disk does not open; it does in each other case."""
     for sectors, place, what in no_headers(form):
-        yield at(SLOT, sectors), f'side A damaged sector {SLOT + place}: {what}', B, 'lost sector 3'
+        yield at(SLOT, sectors), *one('A', SLOT + place, what), B, 'lost sector 3'
     slots, halves = ((first, part) for first, part in ((SLOT, bad_rows(5, 7, form)), (GATE, bad_records(7, form))))
     for first, part in (slots, halves):
         for sectors, place, what in part:
-            yield at(first, sectors), f'side A damaged sector {first + place}: {what}', B, f'kept layout {number} {BY_B}'
+            yield at(first, sectors), *one('A', first + place, what), B, f'kept layout {number} {BY_B}'
 
 
 def damage_to_b(number, form):
     for first, part in ((OTHER_SLOT, no_headers(form)), (OTHER_SLOT, bad_rows(6, 8, form)), (OTHER_GATE, bad_records(8, form))):
         for sectors, place, what in part:
-            yield at(first, sectors), A, f'side B damaged sector {first + place}: {what}', f'lost sector {first + place}'
+            yield at(first, sectors), A, *one('B', first + place, what), f'lost sector {first + place}'
 
 
 def damage_to_both(number, form):
-    yield ({SLOT: JUNK, OTHER_SLOT: JUNK}, 'side A damaged sector 3: header, unreadable', 'side B damaged sector 296: header, unreadable',
-           'lost sector 3')
-    yield {SLOT + 1: JUNK, OTHER_SLOT + 1: JUNK}, JUNK_RULE_A, JUNK_RULE_B, 'lost sector 297'
-    yield ({GATE + 1: JUNK, OTHER_GATE + 1: JUNK}, 'side A damaged sector 590: record, unreadable', 'side B damaged sector 629: record, unreadable',
-           'lost sector 629')
-    yield {SLOT + 1: JUNK, OTHER_GATE + 3: JUNK}, JUNK_RULE_A, 'side B damaged sector 631: record, unreadable', 'lost sector 631'
-    yield {1: CLOSED, OTHER_SLOT: JUNK}, NO_A, 'side B damaged sector 296: header, unreadable', 'lost sector 296'
-    yield {2: CLOSED, SLOT + 1: JUNK}, JUNK_RULE_A, NO_B, 'lost sector 4'
+    yield ({SLOT: JUNK, OTHER_SLOT: JUNK}, *one('A', 3, 'header, unreadable'), *one('B', 296, 'header, unreadable'), 'lost sector 3')
+    yield {SLOT + 1: JUNK, OTHER_SLOT + 1: JUNK}, *JUNK_RULE_A, *JUNK_RULE_B, 'lost sector 297'
+    yield {GATE + 1: JUNK, OTHER_GATE + 1: JUNK}, *one('A', 590, JUNK_RECORD), *one('B', 629, JUNK_RECORD), 'lost sector 629'
+    yield {SLOT + 1: JUNK, OTHER_GATE + 3: JUNK}, *JUNK_RULE_A, *one('B', 631, JUNK_RECORD), 'lost sector 631'
+    yield {1: CLOSED, OTHER_SLOT: JUNK}, NO_A, *one('B', 296, 'header, unreadable'), 'lost sector 296'
+    yield {2: CLOSED, SLOT + 1: JUNK}, *JUNK_RULE_A, NO_B, 'lost sector 4'
 
 
 # The kinds of rows after a header of two rules, a radio, an item and a station; and of these the damaged ones, in the slot from there on
 ROWS = 2, 1, 1, 1
 
 
-def of_each_kind(side, first):
+def of_each_kind(side, first, record=None):
+    """With a damaged record in this sector, if any."""
     yield f'side {side} damaged sector {first}: row of a rule, unreadable'
     yield f'side {side} damaged sector {first + 2}: row of a radio, out of place'
     yield f'side {side} damaged sector {first + 3}: row of an item, unreadable'
     yield f'side {side} damaged sector {first + 4}: row of a station, out of place'
+    if record:
+        yield f'side {side} damaged sector {record}: {JUNK_RECORD}'
+    yield f"side {side} loses rules 1 radios 1 items 1 stations 1 records {f'from {record}' if record else 'none'}"
 
 
 def each_kind(first):
     return at(first, {0: JUNK, 1: RULE, 2: RULE, 3: bytes(SECTOR), 4: RULE})
 
 
+def rule_and_record(side, rule, record):
+    """The lines of a side with a damaged rule and a damaged record."""
+    yield f'side {side} damaged sector {rule}: row of a rule, unreadable'
+    yield f'side {side} damaged sector {record}: {JUNK_RECORD}'
+    yield f'side {side} loses rules 1 radios 0 items 0 stations 0 records from {record}'
+
+
 def more_damage(number, form):
     """More than one damaged sector on a side."""
-    kept, bad_a, bad_b = f'kept layout {number} {BY_B}', 'side A damaged sector 590: record, unreadable', 'side B damaged sector 631: record, unreadable'
+    kept = f'kept layout {number} {BY_B}'
     rows_a = {SLOT: header_row(5, 7, ROWS, form), **each_kind(SLOT + 1)}
     rows_b = {OTHER_SLOT: header_row(6, 8, ROWS, form), **each_kind(OTHER_SLOT + 1)}
     yield rows_a, *of_each_kind('A', 4), B, kept
-    yield {**rows_a, GATE + 1: JUNK}, *of_each_kind('A', 4), bad_a, B, kept
+    yield {**rows_a, GATE + 1: JUNK}, *of_each_kind('A', 4, 590), B, kept
     yield rows_b, A, *of_each_kind('B', 297), 'lost sector 297'
-    yield {**rows_a, **rows_b, OTHER_GATE + 3: JUNK}, *of_each_kind('A', 4), *of_each_kind('B', 297), bad_b, 'lost sector 297'
-    yield {SLOT + 1: JUNK, GATE + 1: JUNK}, JUNK_RULE_A, bad_a, B, kept
-    yield {SLOT + 1: JUNK, GATE + 1: JUNK, OTHER_SLOT + 1: JUNK, OTHER_GATE + 3: JUNK}, JUNK_RULE_A, bad_a, JUNK_RULE_B, bad_b, 'lost sector 297'
+    yield {**rows_a, **rows_b, OTHER_GATE + 3: JUNK}, *of_each_kind('A', 4), *of_each_kind('B', 297, 631), 'lost sector 297'
+    yield {SLOT + 1: JUNK, GATE + 1: JUNK}, *rule_and_record('A', 4, 590), B, kept
+    yield ({SLOT + 1: JUNK, GATE + 1: JUNK, OTHER_SLOT + 1: JUNK, OTHER_GATE + 3: JUNK},
+           *rule_and_record('A', 4, 590), *rule_and_record('B', 297, 631), 'lost sector 297')
     # Rows after the first damaged one are judged by themselves: equal rules are not named again
     yield ({SLOT: header_row(5, 7, (4, 0, 0, 0), form), **at(SLOT + 2, {0: RULE, 1: RULE, 2: JUNK})},
-           'side A damaged sector 5: row of a rule, out of place', 'side A damaged sector 7: row of a rule, unreadable', B, kept)
+           'side A damaged sector 5: row of a rule, out of place', 'side A damaged sector 7: row of a rule, unreadable',
+           'side A loses rules 2 radios 0 items 0 stations 0 records none', B, kept)
     # Another count: numbered records do not follow it
     yield ({SLOT: header_row(5, 6, (2, 0, 0, 0), form)}, 'side A damaged sector 5: row of a rule, unreadable',
-           *([bad_a] if form == NUMBERED else []), B, kept)
+           *(['side A damaged sector 590: record of 1 commands, unreadable', 'side A loses rules 1 radios 0 items 0 stations 0 records from 590']
+             if form == NUMBERED else ['side A loses rules 1 radios 0 items 0 stations 0 records none']), B, kept)
+    # An open gate in the last sector of a half, which holds no record
+    many, gate = records(GATE, form, map(expire, range(9, 28)), 7)
+    yield ({SLOT + 1: JUNK, **many, gate: OPEN}, 'side A damaged sector 4: row of a rule, unreadable', 'side A damaged sector 627: last gate, unreadable',
+           'side A loses rules 1 radios 0 items 0 stations 0 records from 627', B, kept)
     # Nothing is named after a header or a record, nor a refused command after a row
-    yield {SLOT: JUNK, SLOT + 1: JUNK, GATE + 1: JUNK}, 'side A damaged sector 3: header, unreadable', B, 'lost sector 3'
-    yield ({SLOT: header_row(5, 7, (17, 0, 0, 0), form), SLOT + 1: JUNK, GATE + 1: JUNK}, 'side A damaged sector 3: header, beyond the limits', B, kept)
-    yield {OTHER_GATE + 1: JUNK, OTHER_GATE + 3: JUNK}, A, 'side B damaged sector 629: record, unreadable', 'lost sector 629'
-    yield {SLOT + 1: JUNK, GATE + 1: text_of(form, [expire(9, station=5)], 8).ljust(SECTOR, b'\0')}, JUNK_RULE_A, B, kept
+    yield {SLOT: JUNK, SLOT + 1: JUNK, GATE + 1: JUNK}, *one('A', 3, 'header, unreadable'), B, 'lost sector 3'
+    yield {SLOT: header_row(5, 7, (17, 0, 0, 0), form), SLOT + 1: JUNK, GATE + 1: JUNK}, *one('A', 3, 'header, beyond the limits'), B, kept
+    yield {OTHER_GATE + 1: JUNK, OTHER_GATE + 3: JUNK}, A, *one('B', 629, JUNK_RECORD), 'lost sector 629'
+    yield {SLOT + 1: JUNK, GATE + 1: text_of(form, [expire(9, station=5)], 8).ljust(SECTOR, b'\0')}, *JUNK_RULE_A, B, kept
 
 
 def other_roots(number, form):
@@ -156,11 +190,11 @@ def other_roots(number, form):
     yield {OTHER_GATE + 2: CLOSED}, A, 'side B epoch 6 count 9 gate 630', gate
     same, older = ({OTHER_SLOT: header_row(epoch, 8, ONE_RULE, form)} for epoch in (5, 4))
     yield same, A, 'side B epoch 5 count 10 gate 632', 'lost sector 2'
-    yield {**same, SLOT + 1: JUNK}, JUNK_RULE_A, 'side B epoch 5 count 10 gate 632', 'lost sector 2'
-    yield {**same, OTHER_GATE + 3: JUNK}, A, 'side B damaged sector 631: record, unreadable', 'lost sector 2'
+    yield {**same, SLOT + 1: JUNK}, *JUNK_RULE_A, 'side B epoch 5 count 10 gate 632', 'lost sector 2'
+    yield {**same, OTHER_GATE + 3: JUNK}, A, *one('B', 631, JUNK_RECORD), 'lost sector 2'
     yield older, A, 'side B epoch 4 count 10 gate 632', f'ok layout {number} {BY_A}'
-    yield {**older, OTHER_SLOT + 1: JUNK}, A, JUNK_RULE_B, f'kept layout {number} {BY_A}'
-    yield {**older, SLOT + 1: JUNK}, JUNK_RULE_A, 'side B epoch 4 count 10 gate 632', 'lost sector 4'
+    yield {**older, OTHER_SLOT + 1: JUNK}, A, *JUNK_RULE_B, f'kept layout {number} {BY_A}'
+    yield {**older, SLOT + 1: JUNK}, *JUNK_RULE_A, 'side B epoch 4 count 10 gate 632', 'lost sector 4'
 
 
 def changed():

@@ -1,5 +1,7 @@
 -- The damaged sectors of a side: what each is to hold, and what is wrong with it.
-use Rattle.std.specs.Prelude.{◌≡◌, ℕ, zero, suc, ◌+◌, ◌-◌, ◌&&◌, Bool, false, List, [], ◌∷◌, ◌++◌, Option, Some, None, Ok, Err, nat_le, nat_lt, if◌then◌else◌}
+use Rattle.std.specs.Prelude.{◌≡◌, ℕ, zero, suc, ◌+◌, ◌-◌, ◌==◌, ◌&&◌, Bool, false, List, [], ◌∷◌, ◌++◌, Option, Some, None, Ok, Err, nat_le, nat_lt}
+use Rattle.std.specs.Prelude.{if◌then◌else◌}
+use Rattle.byteorder.specs.Endian.{big_from}
 use Rattle.identity.specs.Numbers.{Byte}
 use Rattle.sector_disk.specs.Numbers.{Sector, Sectors}
 use Rattle.sector_disk.specs.Disk.{sector}
@@ -84,10 +86,15 @@ abbrev pub bad_record : {A : Type 0} → Half A → Option Sector
 bad_record (Ok held) = None
 bad_record (Err at) = Some at
 
+-- What the sector is to hold at which a record is at fault: in the half's last sector a gate that no record follows, and
+-- before it a record of as many commands as the sector states.
+abbrev pub record_kind : Layout → Side → List (List Byte) → Sector → Kind
+record_kind layout side image at = if at == half_end layout side - 1 then kind.Gate else kind.Record (big_from 0 2 (sector image at))
+
 -- that record, by its sector
-abbrev pub record_damage : Option Sector → List Damage
-record_damage None = []
-record_damage (Some at) = damage at kind.Record reason.Unreadable ∷ []
+abbrev pub record_damage : Layout → Side → List (List Byte) → Option Sector → List Damage
+record_damage layout side image None = []
+record_damage layout side image (Some at) = damage at (record_kind layout side image at) reason.Unreadable ∷ []
 
 -- what is wrong with the record at which opening stops: if all can be read, a command of it is refused
 abbrev pub record_fault : Option Sector → Reason
@@ -102,16 +109,17 @@ bad_record_in A layout side h image = bad_record (half_of {A = A} (slot_form lay
 
 -- The damaged sectors from the row on at which opening stops: that one, each row after it with which something is wrong by
 -- itself, and the first record that can't be read.
-abbrev pub after_row : List (List Byte) → Sector → Header → Sector → Option Sector → List Damage
-after_row image slot h first bad =
-    damage first (kind_at h (first - slot)) (fault_of_first (row_in (sector image first)))
-    ∷ rows_damage image slot h (first - slot + 1) (row_count h - (first - slot + 1)) ++ record_damage bad
+abbrev pub after_row : Layout → Side → List (List Byte) → Header → Sector → Option Sector → List Damage
+after_row layout side image h first bad =
+    let place = first - slot_at layout side in
+    damage first (kind_at h place) (fault_of_first (row_in (sector image first)))
+    ∷ rows_damage image (slot_at layout side) h (place + 1) (row_count h - (place + 1)) ++ record_damage layout side image bad
 
 -- the damaged sectors of a side with this header, which opening stops at this sector
 abbrev pub after_header : Layout → Side → List (List Byte) → Sector → Header → Option Sector → List Damage
 after_header layout s image first h bad =
-    if nat_lt first (half_at layout side.A) then after_row image (slot_at layout s) h first bad
-    else damage first kind.Record (record_fault bad) ∷ []
+    if nat_lt first (half_at layout side.A) then after_row layout s image h first bad
+    else damage first (record_kind layout s image first) (record_fault bad) ∷ []
 
 module _ (A : Type 0) where
   -- The damaged sectors of a side at whose sector `first` opening stops. If the header is damaged, nothing else can be judged.

@@ -1,26 +1,21 @@
 //! The damaged sectors of a side: the one at which opening stops, and those after it.
-ghost use Rattle.std.specs.Prelude.{◌≡◌, ◌++◌, ◌∷◌, ◌+◌, ◌-◌, ◌<◌, ◌≤◌, ◌^◌, [], ℕ, IfErr, IfOk, IfSome, IsErrOf, OnOk, option_map, true};
-ghost use Rattle.sector_disk.specs.Disk.{HasFailed, sector};
+ghost use Rattle.std.specs.Prelude.{◌≡◌, ◌++◌, ◌∷◌, ◌+◌, ◌-◌, ◌<◌, ◌≤◌, ◌^◌, [], ℕ, IfErr, IfOk, IfSome, IsErrOf, OnOk, true};
+ghost use Rattle.sector_disk.specs.Disk.{HasFailed};
 ghost use Rattle.sector_disk.specs.Reading.{before_reads};
 ghost use Rattle.sector_disk.specs.Run.{HasOnlyRead};
-ghost use Rattle.centre_core.specs.State.{last_number};
 ghost use Rattle.image_rows.specs.Rows.{row_count};
-ghost use Rattle.image_rows.specs.RowReading.{row_in};
 ghost use Rattle.image_rows.specs.Loading.{header_may};
-ghost use Rattle.checkpoint.specs.Layout.{disk_size, slot_at};
-ghost use Rattle.checkpoint.specs.OnSide.{ReadsForm, slot_form};
+ghost use Rattle.checkpoint.specs.Layout.{disk_size};
 ghost use Rattle.recovery.specs.declared.fault.StoreFault.TheVariants.{DiskFault};
 ghost use Rattle.recovery.specs.Checking.{IsDamagedAt};
-ghost use Rattle.recovery.specs.Damage.{Begins, IsOfDamage, IsOfState, KeepsFirst, after_header, after_row, bad_record_in, damage, damage_from, damage_in};
-ghost use Rattle.recovery.specs.Damage.{fault_at, fault_of_first, header_of, kind_at, named, record_damage, record_fault, row_damage, rows_damage};
+ghost use Rattle.recovery.specs.Damage.{Begins, IsOfDamage, IsOfState, KeepsFirst, after_header, after_row, damage, damage_from, damage_in};
+ghost use Rattle.recovery.specs.Damage.{named, record_damage, row_damage, rows_damage};
 
-use crate::row_faults::{fault_at, fault_of_first, header_of, kind_at};
+use crate::row_faults::{fault_at, fault_of_first, kind_at};
+use crate::stated::{bad_record, header_may, read_header, read_record_kind, record_fault};
 use crate::{SideState, StoreFault};
-use centre_core::LAST_NUMBER;
-use checkpoint::{Layout, Side, stated_form};
-use gated_journal::{Form, Journal, JournalError};
+use checkpoint::{Layout, Side};
 use image_rows::Header;
-use registration::Limits;
 use sector_disk::Disk;
 use std::alloc::Allocator;
 
@@ -37,8 +32,10 @@ pub enum Kind {
     Item,
     /// A row of a station.
     Station,
-    /// A record, or the gate before one.
-    Record,
+    /// A record of so many commands, as its first sector states.
+    Record(u16),
+    /// The gate in the last sector of a half, which no record follows.
+    Gate,
 }
 
 /// What is wrong with a sector.
@@ -63,53 +60,6 @@ pub struct Damage {
     pub kind: Kind,
     /// What is wrong with it.
     pub reason: Reason,
-}
-
-// What the header of a side states, and the form of the records after it.
-#[derive(Clone, Copy, Drop)]
-struct Stated {
-    header: Header,
-    form: Form,
-}
-
-// The header of a side.
-#[tactic(auto, using(sector_disk::proofs::Reading::one_read))]
-fn read_header<D: Disk>(
-    disk: &mut D,
-    layout: &Layout,
-    side: Side,
-) -> Result<Option<Stated>, StoreFault>
-    requires room { disk_size layout.now ≤ (D.view disk.old).sectors }
-    ensures exact { IfOk result (λ found. (D.view disk.old).honest
-        → option_map (λ stated. stated.header) found ≡ header_of (row_in (sector (D.view disk.old).reads (slot_at layout.now side)))) }
-    ensures form { IfOk result (λ found. (D.view disk.old).honest → IfSome found (λ stated. stated.form ≡ slot_form layout.now side (D.view disk.old).reads)) }
-    ensures kinds { IfErr result IsOfDamage }
-    ensures only_read { (D.view disk.old).honest → HasOnlyRead (D.view disk.old) (D.view disk.new) }
-    ensures only_reads { before_reads (D.view disk.new).calls ≡ before_reads (D.view disk.old).calls }
-    ensures fault { IsErrOf result DiskFault → HasFailed (D.view disk.old) (D.view disk.new) }
-    ensures sectors { (D.view disk.new).sectors ≡ (D.view disk.old).sectors }
-    ensures later { (D.view disk.old).failures ≤ (D.view disk.new).failures }
-{
-    let mut bytes = [0; 512];
-    disk.read(layout.slot(side), &mut bytes)?;
-    match header_of(&bytes) {
-        Some(header) => Ok(Some(Stated {
-            header,
-            form: stated_form(&bytes),
-        })),
-        None => Ok(None),
-    }
-}
-
-// Whether the header states no more rows than the limits allow, and no more commands than there are numbers.
-fn header_may(limits: &Limits, header: &Header) -> bool
-    ensures { result ≡ header_may limits.now header.now }
-{
-    header.count <= LAST_NUMBER
-        && header.rules <= limits.rules
-        && header.radios <= limits.radios
-        && header.mail <= limits.mail
-        && header.served <= limits.stations
 }
 
 // Adds a sector with which something is wrong.
@@ -197,39 +147,6 @@ fn add_rows<A: Allocator, D: Disk>(
     Ok(())
 }
 
-// The first record of a side that can't be read.
-fn bad_record<A: Allocator + Copy, D: Disk>(
-    alloc: A,
-    disk: &mut D,
-    layout: &Layout,
-    side: Side,
-    stated: Stated,
-) -> Result<Option<u64>, StoreFault>
-    requires room { disk_size layout.now ≤ (D.view disk.old).sectors }
-    requires counts { stated.header.count ≤ last_number }
-    ensures exact { IfOk result (λ bad. (D.view disk.old).honest → ReadsForm layout.now side stated.form (D.view disk.old)
-        → bad ≡ bad_record_in A layout.now side stated.header (D.view disk.old).reads) }
-    ensures kinds { IfErr result IsOfDamage }
-    ensures only_read { (D.view disk.old).honest → HasOnlyRead (D.view disk.old) (D.view disk.new) }
-    ensures only_reads { before_reads (D.view disk.new).calls ≡ before_reads (D.view disk.old).calls }
-    ensures fault { IsErrOf result DiskFault → HasFailed (D.view disk.old) (D.view disk.new) }
-    ensures sectors { (D.view disk.new).sectors ≡ (D.view disk.old).sectors }
-    ensures later { (D.view disk.old).failures ≤ (D.view disk.new).failures }
-{
-    let mut journal = Journal::start(
-        alloc,
-        layout.half(side),
-        u64::from(layout.journal()),
-        stated.form,
-        stated.header.count,
-    )?;
-    match journal.judge_rest(disk) {
-        Ok(()) => Ok(None),
-        Err(JournalError::Damaged(at)) => Ok(Some(at)),
-        Err(error) => Err(StoreFault::from(error)),
-    }
-}
-
 // A damaged sector alone.
 fn alone<A: Allocator>(
     alloc: A,
@@ -246,27 +163,29 @@ fn alone<A: Allocator>(
     Ok(found)
 }
 
-// What is wrong with the record at which opening stops.
-fn record_fault(bad: Option<u64>) -> Reason
-    ensures { result ≡ record_fault bad }
-{
-    match bad {
-        None => Reason::Refused,
-        Some(_) => Reason::Unreadable,
-    }
-}
-
 // Adds the record that can't be read.
-fn add_record<A: Allocator>(found: &mut Vec<Damage, A>, bad: Option<u64>) -> Result<(), StoreFault>
-    ensures added { OnOk result (found.new.items ≡ found.old.items ++ record_damage bad) }
+fn add_record<A: Allocator, D: Disk>(
+    disk: &mut D,
+    layout: &Layout,
+    side: Side,
+    bad: Option<u64>,
+    found: &mut Vec<Damage, A>,
+) -> Result<(), StoreFault>
+    requires inside { IfSome bad (λ at. at < (D.view disk.old).sectors) }
+    ensures added { OnOk result ((D.view disk.old).honest → found.new.items ≡ found.old.items ++ record_damage layout.now side (D.view disk.old).reads bad) }
     ensures first { OnOk result (KeepsFirst found.old.items found.new.items) }
     ensures kinds { IfErr result IsOfDamage }
-    ensures device { IsErrOf result DiskFault → ⊥ }
+    ensures only_read { (D.view disk.old).honest → HasOnlyRead (D.view disk.old) (D.view disk.new) }
+    ensures only_reads { before_reads (D.view disk.new).calls ≡ before_reads (D.view disk.old).calls }
+    ensures fault { IsErrOf result DiskFault → HasFailed (D.view disk.old) (D.view disk.new) }
+    ensures sectors { (D.view disk.new).sectors ≡ (D.view disk.old).sectors }
+    ensures later { (D.view disk.old).failures ≤ (D.view disk.new).failures }
 {
-    match bad {
-        None => Ok(()),
-        Some(at) => add_named(found, at, Kind::Record, Some(Reason::Unreadable)),
-    }
+    let Some(at) = bad else {
+        return Ok(());
+    };
+    let kind = read_record_kind(disk, layout, side, at)?;
+    add_named(found, at, kind, Some(Reason::Unreadable))
 }
 
 // Where opening stops on a side with this header, and the first of its records that can't be read.
@@ -282,15 +201,17 @@ struct Stop {
 fn after_row<A: Allocator, D: Disk>(
     alloc: A,
     disk: &mut D,
-    slot: u64,
+    layout: &Layout,
+    side: Side,
     stop: &Stop,
 ) -> Result<Vec<Damage, A>, StoreFault>
-    requires inside { slot + row_count stop.now.header ≤ (D.view disk.old).sectors }
-    requires fits { slot + row_count stop.now.header < 2 ^ 64 }
+    requires room { disk_size layout.now ≤ (D.view disk.old).sectors }
+    requires may { header_may layout.now.limits stop.now.header ≡ true }
     requires first { stop.now.first < (D.view disk.old).sectors }
     requires next { stop.now.first + 1 < 2 ^ 64 }
+    requires bad { IfSome stop.now.bad (λ at. at < (D.view disk.old).sectors) }
     ensures exact { IfOk result (λ found. (D.view disk.old).honest
-        → found.items ≡ after_row (D.view disk.old).reads slot stop.now.header stop.now.first stop.now.bad) }
+        → found.items ≡ after_row layout.now side (D.view disk.old).reads stop.now.header stop.now.first stop.now.bad) }
     ensures begins { IfOk result (λ found. Begins stop.now.first found.items) }
     ensures kinds { IfErr result IsOfDamage }
     ensures only_read { (D.view disk.old).honest → HasOnlyRead (D.view disk.old) (D.view disk.new) }
@@ -301,11 +222,12 @@ fn after_row<A: Allocator, D: Disk>(
 {
     let mut bytes = [0; 512];
     disk.read(stop.first, &mut bytes)?;
+    let slot = layout.slot(side);
     let place = stop.first.saturating_sub(slot);
     let kind = kind_at(&stop.header, place);
     let mut found = alone(alloc, stop.first, kind, fault_of_first(&bytes))?;
     add_rows(disk, slot, &stop.header, place + 1, &mut found)?;
-    add_record(&mut found, stop.bad)?;
+    add_record(disk, layout, side, stop.bad, &mut found)?;
     Ok(found)
 }
 
@@ -320,6 +242,7 @@ fn after_header<A: Allocator, D: Disk>(
     requires room { disk_size layout.now ≤ (D.view disk.old).sectors }
     requires may { header_may layout.now.limits stop.now.header ≡ true }
     requires first { stop.now.first < (D.view disk.old).sectors }
+    requires bad { IfSome stop.now.bad (λ at. at < (D.view disk.old).sectors) }
     ensures exact { IfOk result (λ found. (D.view disk.old).honest
         → found.items ≡ after_header layout.now side (D.view disk.old).reads stop.now.first stop.now.header stop.now.bad) }
     ensures begins { IfOk result (λ found. Begins stop.now.first found.items) }
@@ -331,10 +254,10 @@ fn after_header<A: Allocator, D: Disk>(
     ensures later { (D.view disk.old).failures ≤ (D.view disk.new).failures }
 {
     if stop.first < layout.half(Side::A) {
-        after_row(alloc, disk, layout.slot(side), stop)
-    } else {
-        alone(alloc, stop.first, Kind::Record, record_fault(stop.bad))
+        return after_row(alloc, disk, layout, side, stop);
     }
+    let kind = read_record_kind(disk, layout, side, stop.first)?;
+    alone(alloc, stop.first, kind, record_fault(stop.bad))
 }
 
 // The damaged sectors of a side at whose sector `first` opening stops.

@@ -24,6 +24,7 @@ mod row_faults;
 mod serving;
 mod sides;
 mod single;
+mod stated;
 mod store;
 
 pub use checking::{Checked, SideState, check};

@@ -1,7 +1,7 @@
--- What `check` prints of a disk: a line for each side, or for each damaged sector of it, and one for the whole.
+-- What `check` prints of a disk: a line for each side, or for each damaged sector of it and for what it loses, and one for the whole.
 use Rattle.std.specs.Prelude.{◌≡◌, ◌||◌, Bool, true, false, not, List, [], ◌∷◌, ◌++◌, Ok, Err, codes, decimal}
 use Rattle.std.specs.List.{flat_map}
-use Rattle.sector_disk.specs.Numbers.{Byte}
+use Rattle.sector_disk.specs.Numbers.{Byte, Sector}
 use Rattle.checkpoint.specs.declared.side.Side.{Side}
 use Rattle.checkpoint.specs.declared.side.Side.TheVariants as side
 use Rattle.recovery.specs.declared.checking.Checked.{Checked}
@@ -15,6 +15,7 @@ use Rattle.recovery.specs.declared.damaged.Reason.TheVariants as reason
 use Rattle.recovery.specs.declared.figures.Figures.{Figures}
 use Rattle.recovery.specs.Checking.{Taken, checked_in, is_damaged, opened_by}
 use Rattle.recovery.specs.Damage.{IsOfState, damage_in}
+use Rattle.served_disk.specs.Losses.{loss_line}
 use Rattle.served_disk.specs.Showing.{figures_line, side_text}
 
 -- what a sector is to hold
@@ -24,7 +25,8 @@ kind_text kind.Rule = codes "row of a rule"
 kind_text kind.Radio = codes "row of a radio"
 kind_text kind.Item = codes "row of an item"
 kind_text kind.Station = codes "row of a station"
-kind_text kind.Record = codes "record"
+kind_text (kind.Record commands) = codes "record of " ++ decimal commands ++ codes " commands"
+kind_text kind.Gate = codes "last gate"
 
 -- what is wrong with a sector
 abbrev pub reason_text : Reason → List Byte
@@ -38,16 +40,23 @@ abbrev pub whole_line : Side → Figures → List Byte
 whole_line side figures = codes "side " ++ side_text side
     ++ codes " epoch " ++ decimal figures.epoch ++ codes " count " ++ decimal figures.count ++ codes " gate " ++ decimal figures.gate ++ codes "\n"
 
+-- the beginning of a damaged sector's line
+unfoldable pub sector_text : Side → Sector → List Byte
+sector_text side at = codes "side " ++ side_text side ++ codes " damaged sector " ++ decimal at ++ codes ": "
+
+-- its end
+unfoldable pub reason_end : Reason → List Byte
+reason_end reason = codes ", " ++ reason_text reason ++ codes "\n"
+
 -- the line of a damaged sector
 unfoldable pub damage_line : Side → Damage → List Byte
-damage_line side damage = codes "side " ++ side_text side
-    ++ codes " damaged sector " ++ decimal damage.sector ++ codes ": " ++ kind_text damage.kind ++ codes ", " ++ reason_text damage.reason ++ codes "\n"
+damage_line side damage = sector_text side damage.sector ++ kind_text damage.kind ++ reason_end damage.reason
 
--- the line of a side, or of each of its damaged sectors
+-- the line of a side, or of each of its damaged sectors and of what it loses
 abbrev pub side_lines : Side → SideState → List Damage → List Byte
 side_lines side state.Unused damaged = codes "side " ++ side_text side ++ codes " unused\n"
 side_lines side (state.Whole figures) damaged = whole_line side figures
-side_lines side (state.Damaged epoch at) damaged = flat_map (damage_line side) damaged
+side_lines side (state.Damaged epoch at) damaged = flat_map (damage_line side) damaged ++ loss_line side damaged
 
 -- whether a side is damaged
 abbrev pub has_damage : Checked → Bool

@@ -6,5 +6,6 @@ pub mod Loading
 pub mod Making
 pub mod Showing
 pub mod Checking
+pub mod Losses
 pub mod Stations
 pub mod Printing

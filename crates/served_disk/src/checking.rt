@@ -15,9 +15,10 @@ ghost use Rattle.recovery.specs.Damage.{IsOfDamage, IsOfState};
 ghost use Rattle.recovery.specs.Opening.{Fails};
 ghost use Rattle.served_disk.specs.Calls.{IsOnlyRead, IsReadAtMost};
 ghost use Rattle.served_disk.specs.Checking.{IsReported, IsReportedBy, IsReportedOn, checked_text, damage_line, has_damage, is_well, kind_text};
-ghost use Rattle.served_disk.specs.Checking.{last_line, opening_word, reason_text, side_lines, whole_line};
+ghost use Rattle.served_disk.specs.Checking.{last_line, opening_word, reason_end, reason_text, sector_text, side_lines, whole_line};
 ghost use Rattle.served_disk.specs.Making.{IsOfMaking, IsOfOpening};
 
+use crate::losses::print_losses;
 use crate::opening::adopt_disk;
 use crate::printing::{LinePart, print};
 use crate::showing::ROOM;
@@ -36,22 +37,31 @@ use std::rt::Clock;
 /// What a check of a disk reports.
 #[derive(Drop)]
 pub struct CheckReport<A: Allocator> {
-    /// A line for each side, or for each damaged sector of it, and one for the whole disk.
+    /// A line for each side, or for each damaged sector of it and for what it loses, and one for the whole disk.
     pub text: Vec<u8, A>,
     /// Whether the disk opens and no side is damaged.
     pub well: bool,
 }
 
-fn kind_text(kind: Kind) -> &'static str
-    ensures { result.now ≡ kind_text kind }
+/// Writes what a sector is to hold.
+fn print_kind<W: Write>(out: &mut W, kind: Kind) -> io::Result<()>
+    ensures { OnOk result (Appends (W.contents out.old) (W.contents out.new) (kind_text kind)) }
 {
     match kind {
-        Kind::Header => "header",
-        Kind::Rule => "row of a rule",
-        Kind::Radio => "row of a radio",
-        Kind::Item => "row of an item",
-        Kind::Station => "row of a station",
-        Kind::Record => "record",
+        Kind::Header => out.write_all(b"header"),
+        Kind::Rule => out.write_all(b"row of a rule"),
+        Kind::Radio => out.write_all(b"row of a radio"),
+        Kind::Item => out.write_all(b"row of an item"),
+        Kind::Station => out.write_all(b"row of a station"),
+        Kind::Record(commands) => {
+            let parts = [
+                LinePart::Text("record of "),
+                LinePart::Number(u64::from(commands)),
+                LinePart::Text(" commands"),
+            ];
+            print(out, &parts)
+        }
+        Kind::Gate => out.write_all(b"last gate"),
     }
 }
 
@@ -84,23 +94,42 @@ fn print_whole<W: Write>(out: &mut W, side: Side, figures: &Figures) -> io::Resu
     print(out, &parts)
 }
 
-/// Writes the line of a damaged sector.
-#[tactic(auto, unfolding(crate::specs::Checking::damage_line))]
-fn print_damage<W: Write>(out: &mut W, side: Side, damage: &Damage) -> io::Result<()>
-    ensures { OnOk result (Appends (W.contents out.old) (W.contents out.new) (damage_line side damage.now)) }
+/// Writes the beginning of a damaged sector's line.
+#[tactic(auto, unfolding(crate::specs::Checking::sector_text))]
+fn print_sector<W: Write>(out: &mut W, side: Side, sector: u64) -> io::Result<()>
+    ensures { OnOk result (Appends (W.contents out.old) (W.contents out.new) (sector_text side sector)) }
 {
     let parts = [
         LinePart::Text("side "),
         LinePart::Text(side_text(side)),
         LinePart::Text(" damaged sector "),
-        LinePart::Number(damage.sector),
+        LinePart::Number(sector),
         LinePart::Text(": "),
-        LinePart::Text(kind_text(damage.kind)),
+    ];
+    print(out, &parts)
+}
+
+/// Writes the end of a damaged sector's line.
+#[tactic(auto, unfolding(crate::specs::Checking::reason_end))]
+fn print_reason<W: Write>(out: &mut W, reason: Reason) -> io::Result<()>
+    ensures { OnOk result (Appends (W.contents out.old) (W.contents out.new) (reason_end reason)) }
+{
+    let parts = [
         LinePart::Text(", "),
-        LinePart::Text(reason_text(damage.reason)),
+        LinePart::Text(reason_text(reason)),
         LinePart::Text("\n"),
     ];
     print(out, &parts)
+}
+
+/// Writes the line of a damaged sector.
+#[tactic(auto, unfolding(crate::specs::Checking::damage_line), using(std::proofs::Common::append_assoc))]
+fn print_damage<W: Write>(out: &mut W, side: Side, damage: &Damage) -> io::Result<()>
+    ensures { OnOk result (Appends (W.contents out.old) (W.contents out.new) (damage_line side damage.now)) }
+{
+    print_sector(out, side, damage.sector)?;
+    print_kind(out, damage.kind)?;
+    print_reason(out, damage.reason)
 }
 
 /// Writes a line for each of these damaged sectors.
@@ -113,7 +142,7 @@ fn print_damaged<W: Write>(out: &mut W, side: Side, damaged: &[Damage]) -> io::R
     Ok(())
 }
 
-/// Writes the line of a side in this state, or of each of its damaged sectors.
+/// Writes the line of a side in this state, or of each of its damaged sectors and of what it loses.
 fn print_side<W: Write>(
     out: &mut W,
     side: Side,
@@ -132,7 +161,10 @@ fn print_side<W: Write>(
             print(out, &parts)
         }
         SideState::Whole(figures) => print_whole(out, side, figures),
-        SideState::Damaged { .. } => print_damaged(out, side, damaged),
+        SideState::Damaged { .. } => {
+            print_damaged(out, side, damaged)?;
+            print_losses(out, side, damaged)
+        }
     }
 }
 

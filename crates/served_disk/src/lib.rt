@@ -10,6 +10,7 @@ mod dumping;
 mod fault;
 mod files;
 mod loading;
+mod losses;
 mod making;
 mod opening;
 mod pace;

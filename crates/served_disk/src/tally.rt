@@ -37,8 +37,11 @@ impl<'r, R: Clock + Eprint> Tally<'r, R> {
         Tally::new(rt, watched, "sectors")
     }
 
-    /// So many more are done.
+    /// So many more are done. If nobody watches, none are counted.
     pub(crate) fn add(&self, more: u64) {
+        if !self.pace.is_watched() {
+            return;
+        }
         self.done.fetch_add(more, Ordering::SeqCst);
         if self.pace.is_due() {
             let _ = self.report("");

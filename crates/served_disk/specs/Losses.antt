@@ -1,0 +1,58 @@
+-- What a side with damaged sectors loses, in one line.
+use Rattle.std.specs.Prelude.{ℕ, Bool, true, false, List, ◌++◌, length, filter, find, option_map, Option, Some, None, codes, decimal}
+use Rattle.std.specs.List.{list_any}
+use Rattle.sector_disk.specs.Numbers.{Byte, Sector}
+use Rattle.checkpoint.specs.declared.side.Side.{Side}
+use Rattle.recovery.specs.declared.damaged.Damage.{Damage}
+use Rattle.recovery.specs.declared.damaged.Kind.{Kind}
+use Rattle.recovery.specs.declared.damaged.Kind.TheVariants as kind
+use Rattle.served_disk.specs.Showing.{side_text}
+
+-- both are rows of the same kind
+abbrev pub is_row_of : Kind → Kind → Bool
+is_row_of kind.Rule kind.Rule = true
+is_row_of kind.Radio kind.Radio = true
+is_row_of kind.Item kind.Item = true
+is_row_of kind.Station kind.Station = true
+is_row_of _ _ = false
+
+abbrev pub is_header : Kind → Bool
+is_header kind.Header = true
+is_header _ = false
+
+-- it is a record, or a gate that no record follows
+abbrev pub is_of_records : Kind → Bool
+is_of_records (kind.Record commands) = true
+is_of_records kind.Gate = true
+is_of_records _ = false
+
+-- how many rows of a kind are damaged
+abbrev pub rows_in : Kind → List Damage → ℕ
+rows_in row damaged = length (filter (λ it. is_row_of row it.kind) damaged)
+
+-- the first damaged sector of the records: from there on nothing can be read
+abbrev pub records_from : List Damage → Option Sector
+records_from damaged = option_map (λ it. it.sector) (find (λ it. is_of_records it.kind) damaged)
+
+-- whether the header is damaged, without which nothing can be read
+abbrev pub loses_all : List Damage → Bool
+loses_all damaged = list_any (λ it. is_header it.kind) damaged
+
+-- the entries of the damaged rows
+unfoldable pub rows_text : List Damage → List Byte
+rows_text damaged = codes " loses rules " ++ decimal (rows_in kind.Rule damaged) ++ codes " radios " ++ decimal (rows_in kind.Radio damaged)
+    ++ codes " items " ++ decimal (rows_in kind.Item damaged) ++ codes " stations " ++ decimal (rows_in kind.Station damaged)
+
+-- the records, by the first that is lost
+abbrev pub records_text : Option Sector → List Byte
+records_text None = codes " records none\n"
+records_text (Some at) = codes " records from " ++ decimal at ++ codes "\n"
+
+-- what a side loses: all, or the entries of damaged rows and the records
+abbrev pub loss_by : Bool → List Damage → List Byte
+loss_by true damaged = codes " loses all\n"
+loss_by false damaged = rows_text damaged ++ records_text (records_from damaged)
+
+-- the same with the side's name before it
+abbrev pub loss_line : Side → List Damage → List Byte
+loss_line side damaged = codes "side " ++ side_text side ++ loss_by (loses_all damaged) damaged
