@@ -4,7 +4,6 @@ use centre_core::Command;
 use console::{Desk, Line, parse_line, run};
 use registration::Station;
 use std::alloc::{Allocator, Global};
-use std::test::Fail;
 
 /// The answers of a desk to these lines, in a run with memory from `own`; nothing if the run failed.
 pub fn answers<B: Allocator + Copy + Drop, D: Desk<B>>(
@@ -36,9 +35,9 @@ pub fn are_answered<B: Allocator + Copy + Drop, D: Desk<B>>(
 }
 
 /// The command that a station's line spells.
-pub fn command(alloc: Global, station: u16, line: &str) -> Result<Command<Global>, Fail> {
+pub fn command(alloc: Global, station: u16, line: &str) -> Option<Command<Global>> {
     match parse_line(alloc, Station::new(station), line.as_bytes()) {
-        Ok(Line::Apply(command)) => Ok(command),
-        _ => Err(Fail::from("no command")),
+        Ok(Line::Apply(command)) => Some(command),
+        _ => None,
     }
 }

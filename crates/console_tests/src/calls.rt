@@ -5,7 +5,6 @@ use centre_core::{Body, Command, Query, QueryAnswer};
 use console::{Answer, Line, LineFault, Outage, laws, parse_line, print_answer};
 use registration::Station;
 use std::alloc::Global;
-use std::test::Fail;
 
 fn is_attach(command: &Command<Global>) -> bool {
     let Body::Mm { itsi, area, pdu } = &command.body else {
@@ -16,30 +15,53 @@ fn is_attach(command: &Command<Global>) -> bool {
         && (itsi.ssi(), area.number(), pdu.len()) == (2001, 7, 10)
 }
 
-#[test]
-fn lines_are_read(rt: HostRuntime) -> Result<(), Fail> {
-    assert!(rt; is_attach(&command(rt.alloc(), 3, "2 10 mm 234-14-2001 7 10:260")?));
-    let query = parse_line(rt.alloc(), Station::new(3), b"where 234-14-2001");
-    assert!(rt; matches!(query, Ok(Line::Ask(Query::Whereabouts(_)))));
-    let bad = parse_line(rt.alloc(), Station::new(3), b"x");
-    assert!(rt; matches!(bad, Ok(Line::Bad(LineFault::Syntax))));
-    Ok(())
+fn is_attach_read(alloc: Global) -> bool {
+    match command(alloc, 3, "2 10 mm 234-14-2001 7 10:260") {
+        Some(command) => is_attach(&command),
+        None => false,
+    }
 }
 
-/// The text of an answer, and whether it is trouble.
-fn printed(alloc: Global, answer: &Answer<Global>) -> Result<(Vec<u8>, bool), Fail> {
+fn is_query_read(alloc: Global) -> bool {
+    matches!(
+        parse_line(alloc, Station::new(3), b"where 234-14-2001"),
+        Ok(Line::Ask(Query::Whereabouts(_)))
+    )
+}
+
+fn is_refused(alloc: Global) -> bool {
+    matches!(
+        parse_line(alloc, Station::new(3), b"x"),
+        Ok(Line::Bad(LineFault::Syntax))
+    )
+}
+
+#[test]
+fn lines_are_read(rt: HostRuntime) {
+    let alloc = rt.alloc();
+    assert!(rt; is_attach_read(alloc) && is_query_read(alloc) && is_refused(alloc));
+}
+
+/// Whether an answer has this text, and is trouble or not.
+fn is_printed(alloc: Global, answer: &Answer<Global>, text: &str, is_trouble: bool) -> bool {
     let mut out = Vec::new(alloc);
-    print_answer(&mut out, answer)?;
-    Ok((out, answer.is_trouble()))
+    let is_printed = print_answer(&mut out, answer).is_ok();
+    is_printed && out.as_slice() == text.as_bytes() && answer.is_trouble() == is_trouble
+}
+
+fn is_total_printed(alloc: Global) -> bool {
+    let answer = Answer::Queried(QueryAnswer::Total(7));
+    is_printed(alloc, &answer, "count 7\n", false)
+}
+
+fn is_outage_printed(alloc: Global) -> bool {
+    let answer = Answer::QueryOutage(9, Outage::Memory);
+    is_printed(alloc, &answer, "line 9 no memory\n", true)
 }
 
 #[test]
-fn answers_are_printed(rt: HostRuntime) -> Result<(), Fail> {
-    let (text, trouble) = printed(rt.alloc(), &Answer::Queried(QueryAnswer::Total(7)))?;
-    assert!(rt; text.as_slice() == b"count 7\n".as_slice() && !trouble);
-    let (text, trouble) = printed(rt.alloc(), &Answer::QueryOutage(9, Outage::Memory))?;
-    assert!(rt; text.as_slice() == b"line 9 no memory\n".as_slice() && trouble);
-    Ok(())
+fn answers_are_printed(rt: HostRuntime) {
+    assert!(rt; is_total_printed(rt.alloc()) && is_outage_printed(rt.alloc()));
 }
 
 #[test]

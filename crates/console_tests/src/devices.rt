@@ -9,30 +9,37 @@ use std::alloc::Global;
 use std::cell::Cell;
 use std::io;
 use std::io::{ErrorKind, Read, Write};
-use std::test::Fail;
 
-/// How a run over a new register ends, with so many turns, and how many commands were accepted.
+/// How a run over a new register ends, with so many turns, and how many commands were accepted; `None` if there is no register.
 fn over<R: Read, W: Write>(
     alloc: Global,
     turns: u32,
     reader: &mut R,
     writer: &mut W,
-) -> Result<(Result<Ran, RunFault>, u64), Fail> {
+) -> Option<(Result<Ran, RunFault>, u64)> {
     let limits = usual()?;
-    let mut desk = Register::new(alloc, limits)?;
+    let mut desk = Register::new(alloc, limits).ok()?;
     let ran = run(alloc, reader, writer, Station::new(1), turns, &mut desk);
-    Ok((ran, desk.count()))
+    let count = desk.count();
+    drop(desk);
+    Some((ran, count))
 }
 
-/// Whether a line of so many bytes, with this text after it, gets these answers.
-fn is_answered(alloc: Global, length: usize, end: &str, answer: &str) -> Result<bool, Fail> {
+/// A line of so many bytes, with this text after it.
+fn line_of(alloc: Global, length: usize, end: &str) -> Option<Vec<u8>> {
     let mut lines = Vec::new(alloc);
-    lines.resize(length, b'#')?;
-    lines.extend_from_slice(end.as_bytes())?;
+    let is_long = lines.resize(length, b'#').is_ok()
+        && lines.extend_from_slice(end.as_bytes()).is_ok();
+    is_long.then_some(lines)
+}
+
+/// Whether such lines get these answers.
+fn is_answered(alloc: Global, length: usize, end: &str, answer: &str) -> Option<bool> {
+    let lines = line_of(alloc, length, end)?;
     let mut reader = lines.as_slice();
     let mut out = Vec::new(alloc);
-    let (ran, _) = over(alloc, 9, &mut reader, &mut out)?;
-    Ok(ran.is_ok() && out.as_slice() == answer.as_bytes())
+    let ran = over(alloc, 9, &mut reader, &mut out);
+    Some(matches!(ran, Some((Ok(_), _))) && out.as_slice() == answer.as_bytes())
 }
 
 const LENGTHS: [(usize, &str, &str); 7] = [
@@ -46,11 +53,13 @@ const LENGTHS: [(usize, &str, &str); 7] = [
 ];
 
 #[test]
-fn lines_have_at_most_1024_bytes(rt: HostRuntime) -> Result<(), Fail> {
+fn lines_have_at_most_1024_bytes(rt: HostRuntime) {
     for (length, end, answer) in LENGTHS {
-        assert!(rt; is_answered(rt.alloc(), length, end, answer)?, "{length}");
+        assert!(rt;
+            is_answered(rt.alloc(), length, end, answer) == Some(true),
+            "{length}"
+        );
     }
-    Ok(())
 }
 
 /// A reader that gives one byte a call. It may be interrupted at every second call.
@@ -116,15 +125,18 @@ fn over_a_slow_reader(
     alloc: Global,
     turns: u32,
     interrupts: bool,
-) -> Result<(Result<Ran, RunFault>, usize), Fail> {
+) -> Option<(Result<Ran, RunFault>, usize)> {
     let mut reader = Slow {
         rest: b"count\n",
         interrupts,
         due: false,
     };
     let mut out = Vec::new(alloc);
-    let (ran, _) = over(alloc, turns, &mut reader, &mut out)?;
-    Ok((ran, out.len()))
+    let ran = over(alloc, turns, &mut reader, &mut out);
+    match ran {
+        Some((ran, _)) => Some((ran, out.len())),
+        None => None,
+    }
 }
 
 const ONE_LINE: Result<Ran, RunFault> = Ok(Ran {
@@ -141,13 +153,18 @@ const TURNS: [(u32, bool, Result<Ran, RunFault>); 5] = [
     (14, true, ONE_LINE),
 ];
 
-#[test]
-fn turns_bound_the_calls(rt: HostRuntime) -> Result<(), Fail> {
-    for (turns, interrupts, want) in TURNS {
-        let (ran, written) = over_a_slow_reader(rt.alloc(), turns, interrupts)?;
-        assert!(rt; ran == want && (written == 0) == (turns < 6), "{turns}");
+fn is_bound(alloc: Global, turns: u32, interrupts: bool, want: Result<Ran, RunFault>) -> bool {
+    match over_a_slow_reader(alloc, turns, interrupts) {
+        Some((ran, written)) => ran == want && (written == 0) == (turns < 6),
+        None => false,
     }
-    Ok(())
+}
+
+#[test]
+fn turns_bound_the_calls(rt: HostRuntime) {
+    for (turns, interrupts, want) in TURNS {
+        assert!(rt; is_bound(rt.alloc(), turns, interrupts, want), "{turns}");
+    }
 }
 
 const LINES: &str = "1 0 rule 234-14-0/24 1 99 1 3600\n1 0 expire\nx\ncount\n";
@@ -164,33 +181,33 @@ fn over_a_sparing_writer(
     alloc: Global,
     room: usize,
     interrupts: bool,
-) -> Result<Option<Result<Ran, RunFault>>, Fail> {
+) -> Option<Result<Ran, RunFault>> {
     let mut reader = LINES.as_bytes();
     let mut writer = Sparing {
         due: &ANSWERS.as_bytes()[..room.min(ANSWERS.len())],
         interrupts,
         turn: false,
     };
-    let (ran, _) = over(alloc, 9, &mut reader, &mut writer)?;
-    Ok(writer.due.is_empty().then_some(ran))
+    match over(alloc, 9, &mut reader, &mut writer) {
+        Some((ran, _)) if writer.due.is_empty() => Some(ran),
+        _ => None,
+    }
 }
 
 #[test]
-fn a_writer_fails(rt: HostRuntime) -> Result<(), Fail> {
+fn a_writer_fails(rt: HostRuntime) {
     for room in 0..46usize {
-        let ran = over_a_sparing_writer(rt.alloc(), room, false)?;
+        let ran = over_a_sparing_writer(rt.alloc(), room, false);
         assert!(rt; ran == Some(Err(RunFault::Write)), "{room}");
     }
-    Ok(())
 }
 
 #[test]
-fn a_writer_takes_a_byte_a_call(rt: HostRuntime) -> Result<(), Fail> {
+fn a_writer_takes_a_byte_a_call(rt: HostRuntime) {
     for interrupts in [false, true] {
-        let ran = over_a_sparing_writer(rt.alloc(), 46, interrupts)?;
+        let ran = over_a_sparing_writer(rt.alloc(), 46, interrupts);
         assert!(rt; ran == Some(FOUR_LINES), "{interrupts}");
     }
-    Ok(())
 }
 
 /// A reader that gives one line a call, if the line before is answered, and then the end. It knows whether it was called
@@ -245,7 +262,7 @@ impl<'a> Write for Counting<'a> {
 }
 
 /// How a run over five lines ends, and whether its reader was called after its end.
-fn over_five_lines(alloc: Global) -> Result<(Result<Ran, RunFault>, bool), Fail> {
+fn over_five_lines(alloc: Global) -> Option<(Result<Ran, RunFault>, bool)> {
     let answered = Cell::new(0);
     let asked_late = Cell::new(false);
     let mut reader = Asking {
@@ -258,19 +275,20 @@ fn over_five_lines(alloc: Global) -> Result<(Result<Ran, RunFault>, bool), Fail>
         lines: 0,
         answered: &answered,
     };
-    let (ran, _) = over(alloc, 99, &mut reader, &mut writer)?;
-    Ok((ran, asked_late.get()))
+    match over(alloc, 99, &mut reader, &mut writer) {
+        Some((ran, _)) => Some((ran, asked_late.get())),
+        None => None,
+    }
 }
 
+const FIVE_LINES: Result<Ran, RunFault> = Ok(Ran {
+    lines: 5,
+    troubled: false,
+});
+
 #[test]
-fn a_line_is_answered_before_the_next(rt: HostRuntime) -> Result<(), Fail> {
-    let five = Ran {
-        lines: 5,
-        troubled: false,
-    };
-    let (ran, asked_late) = over_five_lines(rt.alloc())?;
-    assert!(rt; ran == Ok(five) && !asked_late);
-    Ok(())
+fn a_line_is_answered_before_the_next(rt: HostRuntime) {
+    assert!(rt; over_five_lines(rt.alloc()) == Some((FIVE_LINES, false)));
 }
 
 /// A reader that gives these pieces, and then fails.
@@ -294,7 +312,7 @@ impl<'a> Read for Broken<'a> {
 }
 
 /// Whether the lines that were read are answered, and their commands accepted.
-fn fails_when_broken(alloc: Global) -> Result<bool, Fail> {
+fn fails_when_broken(alloc: Global) -> bool {
     let mut reader = Broken {
         parts: &[
             "1 0 rule 234-14-0/24 1 99 1 3600\n2 0 expire\n",
@@ -302,13 +320,12 @@ fn fails_when_broken(alloc: Global) -> Result<bool, Fail> {
         ],
     };
     let mut out = Vec::new(alloc);
-    let (ran, count) = over(alloc, 9, &mut reader, &mut out)?;
+    let ran = over(alloc, 9, &mut reader, &mut out);
     let answers = b"1 ok 1 -\n2 ok 2 -\ncount 2\n".as_slice();
-    Ok(ran == Err(RunFault::Read) && out.as_slice() == answers && count == 2)
+    ran == Some((Err(RunFault::Read), 2)) && out.as_slice() == answers
 }
 
 #[test]
-fn a_reader_fails(rt: HostRuntime) -> Result<(), Fail> {
-    assert!(rt; fails_when_broken(rt.alloc())?);
-    Ok(())
+fn a_reader_fails(rt: HostRuntime) {
+    assert!(rt; fails_when_broken(rt.alloc()));
 }

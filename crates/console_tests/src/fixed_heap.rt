@@ -8,7 +8,6 @@ use centre_core::Register;
 use identity::print_number;
 use linked_list_allocator::LocalHeap;
 use std::alloc::Global;
-use std::test::Fail;
 
 /// The commands of a round, without their sequences, and the answers, without their numbers. A rule is set and cleared. A
 /// radio is attached and detached, joins a group and leaves all. Messages end by a report that is acknowledged, by their
@@ -38,63 +37,76 @@ struct Talk {
     answers: Vec<u8>,
 }
 
+/// Adds a number, with a text before it and after it; whether there was memory.
+fn put(out: &mut Vec<u8>, before: &str, number: u64, after: &str) -> bool {
+    out.extend_from_slice(before.as_bytes()).is_ok()
+        && print_number(out, number).is_ok()
+        && out.extend_from_slice(after.as_bytes()).is_ok()
+}
+
 /// Adds the command of this sequence, which is accepted under the same number.
-fn add(talk: &mut Talk, number: u64, line: &str, answer: &str) -> Result<(), Fail> {
-    print_number(&mut talk.lines, number)?;
-    talk.lines.extend_from_slice(line.as_bytes())?;
-    print_number(&mut talk.answers, number)?;
-    talk.answers.extend_from_slice(b" ok ")?;
-    print_number(&mut talk.answers, number)?;
-    talk.answers.extend_from_slice(answer.as_bytes())?;
-    Ok(())
+fn add(talk: &mut Talk, number: u64, line: &str, answer: &str) -> bool {
+    put(&mut talk.lines, "", number, line)
+        && put(&mut talk.answers, "", number, "")
+        && put(&mut talk.answers, " ok ", number, answer)
 }
 
 /// Adds so many rounds, after so many commands.
-fn add_rounds(talk: &mut Talk, before: u64, rounds: u32) -> Result<(), Fail> {
+fn add_rounds(talk: &mut Talk, before: u64, rounds: u32) -> bool {
     let mut number = before;
     for _ in 0..rounds {
         for (line, answer) in ROUND {
             number = number.saturating_add(1);
-            add(talk, number, line, answer)?;
+            if !add(talk, number, line, answer) {
+                return false;
+            }
         }
     }
-    Ok(())
+    true
 }
 
-fn rounds_after(alloc: Global, before: u64, rounds: u32) -> Result<Talk, Fail> {
+fn rounds_after(alloc: Global, before: u64, rounds: u32) -> Option<Talk> {
     let mut talk = Talk {
         lines: Vec::new(alloc),
         answers: Vec::new(alloc),
     };
-    add_rounds(&mut talk, before, rounds)?;
-    Ok(talk)
+    let are_added = add_rounds(&mut talk, before, rounds);
+    are_added.then_some(talk)
 }
 
 /// Whether the answers are these, and the second talk leaves the heap as the first one did.
-fn is_even(alloc: Global, heap: &LocalHeap, first: &Talk, second: &Talk) -> Result<bool, Fail> {
-    let mut desk = Register::new(heap, usual()?)?;
-    let once = are_answered(alloc, heap, &mut desk, &first.lines, &first.answers);
+fn are_even<'a>(
+    alloc: Global,
+    heap: &'a LocalHeap,
+    desk: &mut Register<&'a LocalHeap>,
+    first: &Talk,
+    second: &Talk,
+) -> bool {
+    let once = are_answered(alloc, heap, desk, &first.lines, &first.answers);
     let used = heap.used();
-    Ok(
-        once && are_answered(alloc, heap, &mut desk, &second.lines, &second.answers)
-            && heap.used() == used,
-    )
+    once && are_answered(alloc, heap, desk, &second.lines, &second.answers) && heap.used() == used
 }
 
-fn is_free_again(alloc: Global, heap: &LocalHeap) -> Result<bool, Fail> {
+/// The same at a new desk in the heap.
+fn is_even(alloc: Global, heap: &LocalHeap, first: &Talk, second: &Talk) -> Option<bool> {
+    let limits = usual()?;
+    let mut desk = Register::new(heap, limits).ok()?;
+    let even = are_even(alloc, heap, &mut desk, first, second);
+    drop(desk);
+    Some(even)
+}
+
+/// The same where the heap is then as free as it was.
+fn is_free_again(alloc: Global, size: usize) -> Option<bool> {
+    let first = rounds_after(alloc, 0, 1)?;
+    let second = rounds_after(alloc, 12, 900)?;
+    let heap = LocalHeap::new(alloc, size).ok()?;
     let empty = heap.used();
-    let even = is_even(
-        alloc,
-        heap,
-        &rounds_after(alloc, 0, 1)?,
-        &rounds_after(alloc, 12, 900)?,
-    )?;
-    Ok(even && heap.used() == empty)
+    let even = is_even(alloc, &heap, &first, &second);
+    Some(even == Some(true) && heap.used() == empty)
 }
 
 #[test]
-fn ten_thousand_commands_leave_no_trace(rt: HostRuntime) -> Result<(), Fail> {
-    let heap = LocalHeap::new(rt.alloc(), 1 << 16)?;
-    assert!(rt; is_free_again(rt.alloc(), &heap)?);
-    Ok(())
+fn ten_thousand_commands_leave_no_trace(rt: HostRuntime) {
+    assert!(rt; is_free_again(rt.alloc(), 1 << 16) == Some(true));
 }

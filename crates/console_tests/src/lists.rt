@@ -7,7 +7,6 @@ use centre_core::Register;
 use linked_list_allocator::LocalHeap;
 use registration::Limits;
 use std::alloc::Global;
-use std::test::Fail;
 
 /// Radios attach, two join a group, and each of the two gets a copy of a message.
 const COME: &str = "1 0 rule 234-14-0/24 1 99 1 3600\n\
@@ -162,18 +161,19 @@ fn are_even<'a>(alloc: Global, heaps: Heaps<'a>, rounds: u32) -> bool {
     true
 }
 
-#[test]
-fn lists_are_freed(rt: HostRuntime) -> Result<(), Fail> {
-    let (ample, little, narrow) = (
-        LocalHeap::new(rt.alloc(), 1 << 14)?,
-        LocalHeap::new(rt.alloc(), 2080)?,
-        LocalHeap::new(rt.alloc(), 5632)?,
-    );
+fn are_freed(alloc: Global) -> Option<bool> {
+    let ample = LocalHeap::new(alloc, 1 << 14).ok()?;
+    let little = LocalHeap::new(alloc, 2080).ok()?;
+    let narrow = LocalHeap::new(alloc, 5632).ok()?;
     let heaps = Heaps {
         ample: &ample,
         little: &little,
         narrow: &narrow,
     };
-    assert!(rt; are_even(rt.alloc(), heaps, 300));
-    Ok(())
+    Some(are_even(alloc, heaps, 300))
+}
+
+#[test]
+fn lists_are_freed(rt: HostRuntime) {
+    assert!(rt; are_freed(rt.alloc()) == Some(true));
 }

@@ -10,7 +10,6 @@ use registration::Station;
 use std::alloc::Global;
 use std::io;
 use std::io::Read;
-use std::test::Fail;
 
 /// Lines, and their answers.
 #[derive(Drop)]
@@ -29,11 +28,10 @@ fn silence(alloc: Global) -> Talk {
     }
 }
 
-/// Adds lines and their answers as they are.
-fn add(talk: &mut Talk, lines: &str, answers: &str) -> Result<(), Fail> {
-    talk.lines.extend_from_slice(lines.as_bytes())?;
-    talk.answers.extend_from_slice(answers.as_bytes())?;
-    Ok(())
+/// Adds lines and their answers as they are; whether there was memory.
+fn add(talk: &mut Talk, lines: &str, answers: &str) -> bool {
+    talk.lines.extend_from_slice(lines.as_bytes()).is_ok()
+        && talk.answers.extend_from_slice(answers.as_bytes()).is_ok()
 }
 
 const COMMANDS: &str = "1 0 rule 234-14-0/24 1 99 1 3600\n\
@@ -51,15 +49,23 @@ const LISTS: &str = "groups 234-14-2001 1\ngroup 234-14-1000 4 1\n\
      mail 234-14-2001 1\nitem 4 m 234-14-2001 5 3700 48:820405014849\n\
      where 234-14-2001 station 1 la 7 present\n";
 
-/// Commands, 2,000 queries, and then lists.
-fn queries_before_lists(alloc: Global) -> Result<Talk, Fail> {
-    let mut talk = silence(alloc);
-    add(&mut talk, COMMANDS, REPLIES)?;
-    for _ in 0..2000u32 {
-        add(&mut talk, "count\n", "count 4\n")?;
+/// Adds so many queries.
+fn add_queries(talk: &mut Talk, queries: u32) -> bool {
+    for _ in 0..queries {
+        if !add(talk, "count\n", "count 4\n") {
+            return false;
+        }
     }
-    add(&mut talk, QUESTIONS, LISTS)?;
-    Ok(talk)
+    true
+}
+
+/// Commands, 2,000 queries, and then lists.
+fn queries_before_lists(alloc: Global) -> Option<Talk> {
+    let mut talk = silence(alloc);
+    let are_added = add(&mut talk, COMMANDS, REPLIES)
+        && add_queries(&mut talk, 2000)
+        && add(&mut talk, QUESTIONS, LISTS);
+    are_added.then_some(talk)
 }
 
 /// A reader that gives one byte a call.
@@ -82,11 +88,11 @@ impl<'a> Read for ByteByByte<'a> {
 }
 
 /// Whether lines that come in more than 12,000 pieces get these answers.
-fn are_answered_by_the_byte(alloc: Global) -> Result<bool, Fail> {
-    let talk = queries_before_lists(alloc)?;
+fn are_answered_by_the_byte(alloc: Global) -> Option<bool> {
+    let (talk, limits) = (queries_before_lists(alloc)?, usual()?);
+    let mut desk = Register::new(alloc, limits).ok()?;
     let mut reader = ByteByByte { rest: &talk.lines };
     let mut out = Vec::new(alloc);
-    let mut desk = Register::new(alloc, usual()?)?;
     let ran = run(
         alloc,
         &mut reader,
@@ -96,33 +102,28 @@ fn are_answered_by_the_byte(alloc: Global) -> Result<bool, Fail> {
         &mut desk,
     );
     drop(desk);
-    Ok(ran.is_ok() && out.as_slice() == talk.answers.as_slice())
+    Some(ran.is_ok() && out.as_slice() == talk.answers.as_slice())
 }
 
 #[test]
-fn lists_come_after_twelve_thousand_pieces(rt: HostRuntime) -> Result<(), Fail> {
-    assert!(rt; are_answered_by_the_byte(rt.alloc())?);
-    Ok(())
+fn lists_come_after_twelve_thousand_pieces(rt: HostRuntime) {
+    assert!(rt; are_answered_by_the_byte(rt.alloc()) == Some(true));
+}
+
+/// Adds a number, with a text before it and after it; whether there was memory.
+fn put(out: &mut Vec<u8>, before: &str, number: u64, after: &str) -> bool {
+    out.extend_from_slice(before.as_bytes()).is_ok()
+        && print_number(out, number).is_ok()
+        && out.extend_from_slice(after.as_bytes()).is_ok()
 }
 
 /// Adds the next command, which names the radio of this number and is accepted with this PDU.
-fn add_command(
-    talk: &mut Talk,
-    before: &str,
-    radio: u64,
-    after: &str,
-    pdu: &str,
-) -> Result<(), Fail> {
+fn add_command(talk: &mut Talk, before: &str, radio: u64, after: &str, pdu: &str) -> bool {
     talk.number = talk.number.saturating_add(1);
-    print_number(&mut talk.lines, talk.number)?;
-    talk.lines.extend_from_slice(before.as_bytes())?;
-    print_number(&mut talk.lines, radio)?;
-    talk.lines.extend_from_slice(after.as_bytes())?;
-    print_number(&mut talk.answers, talk.number)?;
-    talk.answers.extend_from_slice(b" ok ")?;
-    print_number(&mut talk.answers, talk.number)?;
-    talk.answers.extend_from_slice(pdu.as_bytes())?;
-    Ok(())
+    put(&mut talk.lines, "", talk.number, before)
+        && put(&mut talk.lines, "", radio, after)
+        && put(&mut talk.answers, "", talk.number, "")
+        && put(&mut talk.answers, " ok ", talk.number, pdu)
 }
 
 /// A rule, a location update and a group PDU for each radio: the text before its number and after it, and the PDU of the reply.
@@ -136,33 +137,39 @@ const FOR_EACH: [(&str, &str, &str); 3] = [
     ),
 ];
 
-/// After a rule for all, radios 2001 to 3001 each get a rule of their own, attach and join group 1000; then the first sends a
-/// message to the group.
-fn add_a_thousand(talk: &mut Talk) -> Result<(), Fail> {
-    add_command(talk, " 0 rule 234-14-", 0, "/24 1 99 1 3600\n", " -\n")?;
+/// Radios 2001 to 3001 each get a rule of their own, attach and join group 1000.
+fn add_each(talk: &mut Talk) -> bool {
     for radio in 2001..3002u64 {
         for (before, after, pdu) in FOR_EACH {
-            add_command(talk, before, radio, after, pdu)?;
+            if !add_command(talk, before, radio, after, pdu) {
+                return false;
+            }
         }
     }
-    add_command(
-        talk,
-        " 100 gsds 234-14-",
-        2001,
-        " 234-14-1000 48:820405014849\n",
-        " -\n",
-    )
+    true
+}
+
+/// The text after the first radio of a message to the group.
+const MESSAGE: &str = " 234-14-1000 48:820405014849\n";
+
+/// A rule for all comes before them; then the first sends a message to the group.
+fn add_a_thousand(talk: &mut Talk) -> bool {
+    add_command(talk, " 0 rule 234-14-", 0, "/24 1 99 1 3600\n", " -\n")
+        && add_each(talk)
+        && add_command(talk, " 100 gsds 234-14-", 2001, MESSAGE, " -\n")
 }
 
 /// Adds the query for the members of the group, and its 1,001 lines.
-fn add_members(talk: &mut Talk) -> Result<(), Fail> {
-    add(talk, "members 234-14-1000\n", "members 234-14-1000 1001\n")?;
-    for radio in 2001..3002u64 {
-        talk.answers.extend_from_slice(b"member 234-14-")?;
-        print_number(&mut talk.answers, radio)?;
-        talk.answers.extend_from_slice(b" 4\n")?;
+fn add_members(talk: &mut Talk) -> bool {
+    if !add(talk, "members 234-14-1000\n", "members 234-14-1000 1001\n") {
+        return false;
     }
-    Ok(())
+    for radio in 2001..3002u64 {
+        if !put(&mut talk.answers, "member 234-14-", radio, " 4\n") {
+            return false;
+        }
+    }
+    true
 }
 
 /// The last radio, its rule, its group and its copy of the message; the first radio has none.
@@ -174,24 +181,23 @@ const LAST: (&str, &str) = (
      mail 234-14-2001 0\ncount 3005\n",
 );
 
-fn a_thousand(alloc: Global) -> Result<Talk, Fail> {
+fn a_thousand(alloc: Global) -> Option<Talk> {
     let mut talk = silence(alloc);
-    add_a_thousand(&mut talk)?;
-    add_members(&mut talk)?;
-    add(&mut talk, LAST.0, LAST.1)?;
-    Ok(talk)
+    let are_added = add_a_thousand(&mut talk)
+        && add_members(&mut talk)
+        && add(&mut talk, LAST.0, LAST.1);
+    are_added.then_some(talk)
 }
 
-fn are_a_thousand_answered(alloc: Global) -> Result<bool, Fail> {
-    let talk = a_thousand(alloc)?;
-    let mut desk = Register::new(alloc, limits(1002, 1001, 1001)?)?;
+fn are_a_thousand_answered(alloc: Global) -> Option<bool> {
+    let (talk, limits) = (a_thousand(alloc)?, limits(1002, 1001, 1001)?);
+    let mut desk = Register::new(alloc, limits).ok()?;
     let answered = are_answered(alloc, alloc, &mut desk, &talk.lines, &talk.answers);
     drop(desk);
-    Ok(answered)
+    Some(answered)
 }
 
 #[test]
-fn the_last_of_a_thousand_is_found(rt: HostRuntime) -> Result<(), Fail> {
-    assert!(rt; are_a_thousand_answered(rt.alloc())?);
-    Ok(())
+fn the_last_of_a_thousand_is_found(rt: HostRuntime) {
+    assert!(rt; are_a_thousand_answered(rt.alloc()) == Some(true));
 }

@@ -2,7 +2,6 @@
 
 use crate::answered::command;
 use std::alloc::Global;
-use std::test::Fail;
 
 /// Commands, each of which differs in one part from another one.
 const COMMANDS: &str = "7 100 expire
@@ -41,64 +40,65 @@ const COMMANDS: &str = "7 100 expire
 7 100 delete 234-14-2001 234-14-2002 5 r";
 
 /// Whether the two lines of these stations spell the same command.
-fn is_same(alloc: Global, (one, of): (&str, u16), (other, by): (&str, u16)) -> Result<bool, Fail> {
-    let one = command(alloc, of, one)?;
-    let other = command(alloc, by, other)?;
-    Ok(one.same(&other))
+fn is_same(alloc: Global, (one, of): (&str, u16), (other, by): (&str, u16)) -> Option<bool> {
+    match (command(alloc, of, one), command(alloc, by, other)) {
+        (Some(one), Some(other)) => Some(one.same(&other)),
+        _ => None,
+    }
 }
 
 /// Whether the bodies of the two lines are the same.
-fn asks_same(alloc: Global, one: &str, other: &str) -> Result<bool, Fail> {
-    let one = command(alloc, 4, one)?;
-    let other = command(alloc, 5, other)?;
-    Ok(one.body.same(&other.body))
+fn asks_same(alloc: Global, one: &str, other: &str) -> Option<bool> {
+    match (command(alloc, 4, one), command(alloc, 5, other)) {
+        (Some(one), Some(other)) => Some(one.body.same(&other.body)),
+        _ => None,
+    }
 }
 
 /// Whether the line spells the command at its place in the list, and no other one.
-fn is_one(alloc: Global, place: usize, line: &str) -> Result<bool, Fail> {
+fn is_one(alloc: Global, place: usize, line: &str) -> bool {
     for (at, other) in COMMANDS.lines().enumerate() {
-        if is_same(alloc, (line, 4), (other, 4))? != (at == place) {
-            return Ok(false);
+        if is_same(alloc, (line, 4), (other, 4)) != Some(at == place) {
+            return false;
         }
     }
-    Ok(true)
+    true
 }
 
 /// Whether each command of the list is the same as itself, and as no other one.
-fn are_apart(alloc: Global) -> Result<bool, Fail> {
+fn are_apart(alloc: Global) -> bool {
     for (place, line) in COMMANDS.lines().enumerate() {
-        if !is_one(alloc, place, line)? {
-            return Ok(false);
+        if !is_one(alloc, place, line) {
+            return false;
         }
     }
-    Ok(true)
+    true
 }
 
 #[test]
-fn a_command_is_the_same_as_itself_alone(rt: HostRuntime) -> Result<(), Fail> {
-    let alloc = rt.alloc();
-    assert!(rt; are_apart(alloc)?);
-    assert!(rt; !is_same(alloc, ("7 100 expire", 4), ("7 100 expire", 5))?);
-    Ok(())
+fn a_command_is_the_same_as_itself_alone(rt: HostRuntime) {
+    assert!(rt; are_apart(rt.alloc()));
+    assert!(rt; is_same(rt.alloc(), ("7 100 expire", 4), ("7 100 expire", 5)) == Some(false));
 }
 
+/// Two lines, and whether their bodies are the same.
+const BODIES: [(&str, &str, bool); 3] = [
+    ("7 100 expire", "8 101 expire", true),
+    (
+        "7 100 mm 234-14-2001 7 10:260",
+        "8 101 mm 234-14-2001 7 10:260",
+        true,
+    ),
+    (
+        "7 100 mm 234-14-2001 7 10:260",
+        "7 100 mm 234-14-2001 7 10:264",
+        false,
+    ),
+];
+
 #[test]
-fn a_body_is_the_same_under_another_head(rt: HostRuntime) -> Result<(), Fail> {
-    let alloc = rt.alloc();
-    assert!(rt; asks_same(alloc, "7 100 expire", "8 101 expire")?);
-    assert!(rt;
-        asks_same(
-            alloc,
-            "7 100 mm 234-14-2001 7 10:260",
-            "8 101 mm 234-14-2001 7 10:260"
-        )?
-    );
-    assert!(rt;
-        !asks_same(
-            alloc,
-            "7 100 mm 234-14-2001 7 10:260",
-            "7 100 mm 234-14-2001 7 10:264"
-        )?
-    );
-    Ok(())
+fn a_body_is_the_same_under_another_head(rt: HostRuntime) {
+    for (one, other, want) in BODIES {
+        assert!(rt; asks_same(rt.alloc(), one, other) == Some(want));
+    }
 }

@@ -1,12 +1,12 @@
 //! Which calls of a disk an opening, a commit and a format make, in order.
 
-use crate::made;
-use crate::runs::{commit, run};
-use centre_core::Command;
-use recovery::{Store, StoreFault, format};
+use crate::commits;
+use crate::made::{self, ATTACH};
+use crate::opens::opened;
+use crate::runs::run;
+use recovery::{StoreFault, format};
 use sector_disk::{Disk, DiskError, MemoryDisk};
 use std::alloc::Global;
-use std::test::Fail;
 
 /// A call of a disk.
 #[derive(Clone, Copy, Debug, PartialEq, Eq, Drop)]
@@ -94,24 +94,21 @@ const FORMAT: [Call; 8] = [
     Call::Sync,
 ];
 
-fn is_format_noted(alloc: Global) -> Result<bool, Fail> {
-    let layout = made::layout().ok_or("a layout")?;
-    let mut disk = NotingDisk::new(alloc, MemoryDisk::new(alloc, 667, 99)?);
+fn is_format_noted(alloc: Global) -> Option<bool> {
+    let layout = made::layout()?;
+    let mut disk = NotingDisk::new(alloc, MemoryDisk::new(alloc, 667, 99).ok()?);
     let ready = format::<Global, NotingDisk>(&mut disk, &layout) == Ok(());
-    Ok(ready && disk.got(&FORMAT))
+    Some(ready && disk.got(&FORMAT))
 }
 
 #[test]
-fn a_format_writes_the_label_between_two_syncs(rt: HostRuntime) -> Result<(), Fail> {
-    assert!(rt; is_format_noted(rt.alloc())?);
-    Ok(())
+fn a_format_writes_the_label_between_two_syncs(rt: HostRuntime) {
+    assert!(rt; is_format_noted(rt.alloc()) == Some(true));
 }
 
 /// A disk on which a rule is kept.
-fn with_rule(alloc: Global) -> Result<NotingDisk, Fail> {
-    let rule = made::rule().ok_or("a rule")?;
-    let (_, disk) = run(alloc, made::formatted(alloc)?, &[&rule]);
-    Ok(NotingDisk::new(alloc, disk))
+fn with_rule(alloc: Global) -> Option<NotingDisk> {
+    Some(NotingDisk::new(alloc, commits::with_rule(alloc)?))
 }
 
 /// A sync, the label, root A, its header, root B, the header again as a row, a gate, a data sector and the next gate.
@@ -127,30 +124,24 @@ const OPENING: [Call; 9] = [
     Call::Read(591),
 ];
 
-fn opened(alloc: Global, disk: NotingDisk) -> (Result<(), StoreFault>, NotingDisk) {
-    match Store::open(alloc, disk) {
-        Ok(store) => (Ok(()), store.into_disk()),
-        Err((fault, disk)) => (Err(fault), disk),
-    }
-}
-
-fn is_opening_noted(alloc: Global) -> Result<bool, Fail> {
+fn is_opening_noted(alloc: Global) -> Option<bool> {
     let (answer, disk) = opened(alloc, with_rule(alloc)?);
-    Ok(answer == Ok(()) && disk.got(&OPENING))
+    Some(answer == Ok(1) && disk.got(&OPENING))
 }
 
 /// An opening that is refused begins so too.
-fn is_refusal_noted(alloc: Global) -> Result<bool, Fail> {
-    let disk = NotingDisk::new(alloc, MemoryDisk::new(alloc, 667, 99)?);
+fn is_refusal_noted(alloc: Global) -> Option<bool> {
+    let disk = NotingDisk::new(alloc, MemoryDisk::new(alloc, 667, 99).ok()?);
     let (answer, disk) = opened(alloc, disk);
-    Ok(answer == Err(StoreFault::Unformatted) && disk.got(&[Call::Sync, Call::Read(0)]))
+    Some(answer == Err(StoreFault::Unformatted) && disk.got(&REFUSAL))
 }
 
+const REFUSAL: [Call; 2] = [Call::Sync, Call::Read(0)];
+
 #[test]
-fn an_opening_syncs_first_and_then_reads(rt: HostRuntime) -> Result<(), Fail> {
-    assert!(rt; is_opening_noted(rt.alloc())?);
-    assert!(rt; is_refusal_noted(rt.alloc())?);
-    Ok(())
+fn an_opening_syncs_first_and_then_reads(rt: HostRuntime) {
+    assert!(rt; is_opening_noted(rt.alloc()) == Some(true));
+    assert!(rt; is_refusal_noted(rt.alloc()) == Some(true));
 }
 
 /// The record after the rule's and the next gate, closed; and, once they are safe, the record's gate.
@@ -162,25 +153,13 @@ const COMMIT: [Call; 5] = [
     Call::Sync,
 ];
 
-/// The calls after those of the opening, once a command is answered.
-fn committed(alloc: Global, disk: NotingDisk, command: &Command<Global>) -> bool {
-    match Store::open(alloc, disk) {
-        Ok(mut store) => {
-            let answered = commit(alloc, &mut store, &[command]) == Ok(true);
-            let disk = store.into_disk();
-            answered && disk.calls.get(9..) == Some(COMMIT.as_slice())
-        }
-        Err((_, _)) => false,
-    }
-}
-
-fn is_commit_noted(alloc: Global) -> Result<bool, Fail> {
-    let attach = made::attach(alloc).ok_or("an attach")?;
-    Ok(committed(alloc, with_rule(alloc)?, &attach))
+/// The nine calls of the opening come before them.
+fn is_commit_noted(alloc: Global) -> Option<bool> {
+    let (answered, disk) = run(alloc, with_rule(alloc)?, &[ATTACH]);
+    Some(answered == 1 && disk.calls.len() == 14 && disk.got_last(&COMMIT))
 }
 
 #[test]
-fn a_commit_opens_its_gate_between_two_syncs(rt: HostRuntime) -> Result<(), Fail> {
-    assert!(rt; is_commit_noted(rt.alloc())?);
-    Ok(())
+fn a_commit_opens_its_gate_between_two_syncs(rt: HostRuntime) {
+    assert!(rt; is_commit_noted(rt.alloc()) == Some(true));
 }

@@ -8,7 +8,6 @@ use checkpoint::Side;
 use recovery::{Figures, Store};
 use sector_disk::{Disk, Failing, FailingDisk};
 use std::alloc::Global;
-use std::test::Fail;
 
 /// Those of the worked disk, made ready: side A has its half from 589 to 627.
 const NEW: Figures = Figures {
@@ -32,21 +31,18 @@ const MOVED: Figures = Figures {
     count: 0,
 };
 
-/// The figures of what a disk opens to.
-fn at_opening<D: Disk + Drop>(alloc: Global, disk: D) -> Option<Figures> {
-    match Store::open(alloc, disk) {
-        Ok(store) => store.figures(),
-        Err(_) => None,
-    }
+/// What is done before the figures are read: a rule and expiries, so many in all, are committed one by one; then a checkpoint is
+/// made at once, or not.
+#[derive(Clone, Copy)]
+struct Done {
+    last: u32,
+    at_once: bool,
 }
 
-/// The same after a rule and expiries, so many in all, which are committed one by one. Then a checkpoint is made at once, or not.
-fn after<D: Disk + Drop>(alloc: Global, disk: D, last: u32, at_once: bool) -> Option<Figures> {
-    let Ok(mut store) = Store::open(alloc, disk) else {
-        return None;
-    };
-    let committed = commit_from(alloc, &mut store, 1, last) == last;
-    let made = !at_once || store.checkpoint() == Ok(());
+/// The figures of a store once this is done.
+fn after<D: Disk>(alloc: Global, store: &mut Store<Global, D>, done: Done) -> Option<Figures> {
+    let committed = commit_from(alloc, store, 1, done.last) == done.last;
+    let made = !done.at_once || store.checkpoint() == Ok(());
     if committed && made {
         store.figures()
     } else {
@@ -54,61 +50,76 @@ fn after<D: Disk + Drop>(alloc: Global, disk: D, last: u32, at_once: bool) -> Op
     }
 }
 
+/// The same of what a disk opens to.
+fn opened_and<D: Disk + Drop>(alloc: Global, disk: D, done: Done) -> Option<Figures> {
+    match Store::open(alloc, disk) {
+        Ok(mut store) => {
+            let figures = after(alloc, &mut store, done);
+            drop(store.into_disk());
+            figures
+        }
+        Err((_, disk)) => {
+            drop(disk);
+            None
+        }
+    }
+}
+
 /// The same of the worked disk.
-fn with(alloc: Global, last: u32, at_once: bool) -> Result<Option<Figures>, Fail> {
-    Ok(after(alloc, made::formatted(alloc)?, last, at_once))
+fn with(alloc: Global, last: u32, at_once: bool) -> Option<Figures> {
+    opened_and(alloc, made::formatted(alloc)?, Done { last, at_once })
 }
 
 #[test]
-fn a_new_disk_has_a_free_half(rt: HostRuntime) -> Result<(), Fail> {
-    let alloc = rt.alloc();
-    assert_eq!(rt; at_opening(alloc, made::formatted(alloc)?), Some(NEW));
-    Ok(())
+fn a_new_disk_has_a_free_half(rt: HostRuntime) {
+    assert!(rt; with(rt.alloc(), 0, false) == Some(NEW));
 }
 
-#[test]
-fn a_record_takes_its_gate_and_its_data(rt: HostRuntime) -> Result<(), Fail> {
-    let one = Figures {
-        gate: 591,
-        free: 37,
-        count: 1,
+/// Those of side A with this gate, so many free sectors, and so many commands.
+fn on_a(gate: u64, free: u64, count: u64) -> Option<Figures> {
+    Some(Figures {
+        gate,
+        free,
+        count,
         ..NEW
-    };
-    assert_eq!(rt; with(rt.alloc(), 1, false)?, Some(one));
-    Ok(())
+    })
+}
+
+/// The same of side B.
+fn on_b(gate: u64, free: u64, count: u64) -> Option<Figures> {
+    Some(Figures {
+        gate,
+        free,
+        count,
+        ..MOVED
+    })
+}
+
+#[test]
+fn a_record_takes_its_gate_and_its_data(rt: HostRuntime) {
+    assert!(rt; with(rt.alloc(), 1, false) == on_a(591, 37, 1));
 }
 
 /// It begins with the tenth command, and ends with the eleventh, whose record is in both halves.
 #[test]
-fn a_checkpoint_under_way_changes_none(rt: HostRuntime) -> Result<(), Fail> {
-    let ten = Figures {
-        gate: 609,
-        free: 19,
-        count: 10,
-        ..NEW
-    };
-    let eleven = Figures {
-        gate: 630,
-        free: 37,
-        count: 11,
-        ..MOVED
-    };
-    assert_eq!(rt; with(rt.alloc(), 10, false)?, Some(ten));
-    assert_eq!(rt; with(rt.alloc(), 11, false)?, Some(eleven));
-    Ok(())
+fn a_checkpoint_under_way_changes_none(rt: HostRuntime) {
+    assert!(rt; with(rt.alloc(), 10, false) == on_a(609, 19, 10));
+    assert!(rt; with(rt.alloc(), 11, false) == on_b(630, 37, 11));
 }
 
 #[test]
-fn a_checkpoint_at_once_moves_them(rt: HostRuntime) -> Result<(), Fail> {
-    let moved = Figures { count: 3, ..MOVED };
-    assert_eq!(rt; with(rt.alloc(), 3, true)?, Some(moved));
-    Ok(())
+fn a_checkpoint_at_once_moves_them(rt: HostRuntime) {
+    assert!(rt; with(rt.alloc(), 3, true) == on_b(628, 39, 3));
 }
+
+/// Nothing is done.
+const NOTHING: Done = Done {
+    last: 0,
+    at_once: false,
+};
 
 /// A disk of layout 1 with a rule.
-#[test]
-fn a_disk_of_layout_1_has_that_layout(rt: HostRuntime) -> Result<(), Fail> {
-    let alloc = rt.alloc();
+fn is_of_layout_1(alloc: Global) -> Option<bool> {
     let one = Figures {
         layout: 1,
         gate: 591,
@@ -116,35 +127,52 @@ fn a_disk_of_layout_1_has_that_layout(rt: HostRuntime) -> Result<(), Fail> {
         count: 1,
         ..NEW
     };
-    assert_eq!(rt; at_opening(alloc, old(alloc)?), Some(one));
-    Ok(())
+    Some(opened_and(alloc, old(alloc)?, NOTHING) == Some(one))
 }
 
 #[test]
-fn none_is_left_after_the_last_epoch(rt: HostRuntime) -> Result<(), Fail> {
-    let alloc = rt.alloc();
+fn a_disk_of_layout_1_has_that_layout(rt: HostRuntime) {
+    assert!(rt; is_of_layout_1(rt.alloc()) == Some(true));
+}
+
+fn is_none_left(alloc: Global) -> Option<bool> {
     let last = Figures {
         epoch: 4_611_686_018_427_387_904,
         epochs_left: 0,
         ..NEW
     };
-    assert_eq!(rt; at_opening(alloc, headed(alloc, &LAST_EPOCH)?), Some(last));
-    Ok(())
-}
-
-/// Whether a store has figures after a checkpoint whose first call fails; `None` if it did not fail. The opening makes seven calls.
-fn has_figures_when_broken(alloc: Global) -> Result<Option<bool>, Fail> {
-    let disk = FailingDisk::new(made::formatted(alloc)?, 8, Failing::Always);
-    let Ok(mut store) = Store::open(alloc, disk) else {
-        return Ok(None);
-    };
-    let before = store.figures() == Some(NEW);
-    let failed = store.checkpoint().is_err();
-    Ok((before && failed).then_some(store.figures().is_some()))
+    Some(opened_and(alloc, headed(alloc, &LAST_EPOCH)?, NOTHING) == Some(last))
 }
 
 #[test]
-fn a_broken_store_has_none(rt: HostRuntime) -> Result<(), Fail> {
-    assert_eq!(rt; has_figures_when_broken(rt.alloc())?, Some(false));
-    Ok(())
+fn none_is_left_after_the_last_epoch(rt: HostRuntime) {
+    assert!(rt; is_none_left(rt.alloc()) == Some(true));
+}
+
+/// Whether a store has its figures, and none after a checkpoint that fails.
+fn loses_them<D: Disk>(store: &mut Store<Global, D>) -> bool {
+    let before = store.figures() == Some(NEW);
+    let failed = store.checkpoint().is_err();
+    before && failed && store.figures().is_none()
+}
+
+/// The first call of the checkpoint fails. The opening makes seven calls.
+fn has_none_when_broken(alloc: Global) -> Option<bool> {
+    let disk = FailingDisk::new(made::formatted(alloc)?, 8, Failing::Always);
+    match Store::open(alloc, disk) {
+        Ok(mut store) => {
+            let lost = loses_them(&mut store);
+            drop(store.into_disk());
+            Some(lost)
+        }
+        Err((_, disk)) => {
+            drop(disk);
+            None
+        }
+    }
+}
+
+#[test]
+fn a_broken_store_has_none(rt: HostRuntime) {
+    assert!(rt; has_none_when_broken(rt.alloc()) == Some(true));
 }

@@ -1,11 +1,10 @@
 //! Formatting disks.
 
-use checkpoint::Layout;
+use crate::made::layout;
+use crate::runs::is_pending;
 use recovery::{StoreFault, format};
-use registration::Limits;
 use sector_disk::{Disk, DiskError, Failing, FailingDisk, MemoryDisk};
-use std::alloc::{AllocError, Global};
-use std::test::Fail;
+use std::alloc::Global;
 
 /// TETRALOC, layout 1, 16 rules, 16 radios, 256 items, 4 stations, 39 sectors a half.
 const LABEL: [u8; 30] = [
@@ -33,15 +32,16 @@ const NINES: [u8; 512] = [9; 512];
 /// Sectors that a format leaves.
 const LEFT: [(u64, &[u8]); 3] = [(4, &NINES), (588, &NINES), (666, &NINES)];
 
-fn layout() -> Option<Layout> {
-    Layout::new(Limits::new(16, 16, 256, 4)?, 39)
+fn has_667_sectors() -> bool {
+    match layout() {
+        Some(layout) => layout.sectors() == 667,
+        None => false,
+    }
 }
 
 #[test]
-fn the_disk_has_667_sectors(rt: HostRuntime) -> Result<(), Fail> {
-    let layout = layout().ok_or("a layout")?;
-    assert_eq!(rt; layout.sectors(), 667);
-    Ok(())
+fn the_disk_has_667_sectors(rt: HostRuntime) {
+    assert!(rt; has_667_sectors());
 }
 
 /// Whether the sector begins so, and has zeros after.
@@ -65,121 +65,129 @@ fn first_wrong<D: Disk>(disk: &mut D, written: &[(u64, &[u8])]) -> Option<u64> {
     None
 }
 
-/// A disk whose sectors all hold bytes that no format writes, as far as it takes them.
-fn used(alloc: Global, sectors: usize) -> Result<MemoryDisk<Global>, AllocError> {
-    let mut disk = MemoryDisk::new(alloc, sectors, 999)?;
-    for at in 0..sectors as u64 {
+/// Writes bytes that no format writes to so many sectors; whether the disk took them.
+fn use_all<D: Disk>(disk: &mut D, sectors: u64) -> bool {
+    for at in 0..sectors {
         if disk.write(at, &NINES).is_err() {
-            return Err(AllocError);
+            return false;
         }
     }
-    Ok(disk)
+    true
 }
 
-fn made_ready<D: Disk>(disk: &mut D, layout: &Layout) -> Result<(), StoreFault> {
-    format::<Global, D>(disk, layout)
+/// A disk whose sectors all hold such bytes.
+fn used(alloc: Global, sectors: usize) -> Option<MemoryDisk<Global>> {
+    let mut disk = MemoryDisk::new(alloc, sectors, 999).ok()?;
+    let used = use_all(&mut disk, sectors as u64);
+    if used { Some(disk) } else { None }
+}
+
+/// What a format of the disk for an empty register answers.
+fn made_ready<D: Disk>(disk: &mut D) -> Option<Result<(), StoreFault>> {
+    let layout = layout()?;
+    Some(format::<Global, D>(disk, &layout))
 }
 
 /// The other sectors stay as they were.
-fn is_written(alloc: Global, layout: &Layout) -> Result<bool, AllocError> {
+fn is_written(alloc: Global) -> Option<bool> {
     let mut disk = used(alloc, 667)?;
-    let ready = made_ready(&mut disk, layout) == Ok(());
+    let ready = made_ready(&mut disk) == Some(Ok(()));
     let written = first_wrong(&mut disk, &WRITTEN).is_none();
-    Ok(
-        ready
-            && written
-            && first_wrong(&mut disk, &LEFT).is_none()
-            && disk.pending(alloc)?.is_empty(),
-    )
+    let left = first_wrong(&mut disk, &LEFT).is_none();
+    let pending = disk.pending(alloc).ok()?;
+    Some(ready && written && left && pending.is_empty())
 }
 
 #[test]
-fn a_format_writes_six_sectors(rt: HostRuntime) -> Result<(), Fail> {
-    let layout = layout().ok_or("a layout")?;
-    assert!(rt; is_written(rt.alloc(), &layout)?);
-    Ok(())
+fn a_format_writes_six_sectors(rt: HostRuntime) {
+    assert!(rt; is_written(rt.alloc()) == Some(true));
 }
 
 /// No call of the disk is made: it would fail.
-fn is_too_small(alloc: Global, layout: &Layout) -> Result<bool, AllocError> {
+fn is_too_small(alloc: Global) -> Option<bool> {
     let mut disk = FailingDisk::new(used(alloc, 666)?, 0, Failing::Always);
-    let refused = made_ready(&mut disk, layout) == Err(StoreFault::BadGeometry);
+    let refused = made_ready(&mut disk) == Some(Err(StoreFault::BadGeometry));
     let mut disk = disk.into_inner();
-    Ok(refused && disk.failures() == 0 && first_wrong(&mut disk, &[(0, &NINES)]).is_none())
+    let is_left = first_wrong(&mut disk, &[(0, &NINES)]).is_none();
+    Some(refused && disk.failures() == 0 && is_left)
 }
 
 #[test]
-fn a_disk_of_666_sectors_is_too_small(rt: HostRuntime) -> Result<(), Fail> {
-    let layout = layout().ok_or("a layout")?;
-    assert!(rt; is_too_small(rt.alloc(), &layout)?);
-    Ok(())
+fn a_disk_of_666_sectors_is_too_small(rt: HostRuntime) {
+    assert!(rt; is_too_small(rt.alloc()) == Some(true));
 }
 
-/// A format whose call of this number fails, then a stop that leaves these bytes in each pending sector that a format
-/// writes, then a format that does not fail.
-fn is_mended(alloc: Global, layout: &Layout, call: u64, byte: u8) -> Result<bool, AllocError> {
-    let mut disk = FailingDisk::new(used(alloc, 667)?, call, Failing::Once);
-    let failed = made_ready(&mut disk, layout) == Err(StoreFault::DiskFault);
+/// What a stop leaves that puts this byte into each sector that a format writes and that is pending.
+fn stopped(disk: MemoryDisk<Global>, byte: u8) -> MemoryDisk<Global> {
     let bytes = [byte; 512];
-    let fill = [
+    disk.crash(&[
         (0, bytes),
         (1, bytes),
         (2, bytes),
         (3, bytes),
         (589, bytes),
         (628, bytes),
-    ];
-    let mut disk = disk.into_inner().crash(&fill);
-    let ready = made_ready(&mut disk, layout) == Ok(());
-    Ok(failed && ready && first_wrong(&mut disk, &WRITTEN).is_none())
+    ])
 }
 
-fn are_mended(alloc: Global, layout: &Layout, byte: u8) -> Result<bool, AllocError> {
+/// Whether a format does not fail, and the disk is then ready.
+fn is_ready(disk: MemoryDisk<Global>) -> bool {
+    let mut disk = disk;
+    made_ready(&mut disk) == Some(Ok(())) && first_wrong(&mut disk, &WRITTEN).is_none()
+}
+
+/// A format whose call of this number fails, then a stop that leaves these bytes in each pending sector that a format
+/// writes, then a format that does not fail.
+fn is_mended(alloc: Global, call: u64, byte: u8) -> Option<bool> {
+    let mut disk = FailingDisk::new(used(alloc, 667)?, call, Failing::Once);
+    let failed = made_ready(&mut disk) == Some(Err(StoreFault::DiskFault));
+    let ready = is_ready(stopped(disk.into_inner(), byte));
+    Some(failed && ready)
+}
+
+fn are_mended(alloc: Global, byte: u8) -> bool {
     for call in 1..=8 {
-        if !is_mended(alloc, layout, call, byte)? {
-            return Ok(false);
+        if is_mended(alloc, call, byte) != Some(true) {
+            return false;
         }
     }
-    Ok(true)
+    true
 }
 
 #[test]
-fn each_of_the_eight_calls_may_fail(rt: HostRuntime) -> Result<(), Fail> {
-    let layout = layout().ok_or("a layout")?;
-    assert!(rt; are_mended(rt.alloc(), &layout, 0)?);
-    assert!(rt; are_mended(rt.alloc(), &layout, 1)?);
-    assert!(rt; are_mended(rt.alloc(), &layout, 77)?);
-    Ok(())
+fn each_of_the_eight_calls_may_fail(rt: HostRuntime) {
+    for byte in [0, 1, 77] {
+        assert!(rt; are_mended(rt.alloc(), byte));
+    }
 }
 
 /// The ninth call would fail: there is none.
-fn is_the_last(alloc: Global, layout: &Layout) -> Result<bool, AllocError> {
+fn is_the_last(alloc: Global) -> Option<bool> {
     let mut disk = FailingDisk::new(used(alloc, 667)?, 9, Failing::Once);
-    let ready = made_ready(&mut disk, layout) == Ok(());
+    let ready = made_ready(&mut disk) == Some(Ok(()));
     let mut disk = disk.into_inner().crash(&[]);
-    Ok(ready && first_wrong(&mut disk, &WRITTEN).is_none())
+    Some(ready && first_wrong(&mut disk, &WRITTEN).is_none())
 }
 
 #[test]
-fn a_format_makes_eight_calls(rt: HostRuntime) -> Result<(), Fail> {
-    let layout = layout().ok_or("a layout")?;
-    assert!(rt; is_the_last(rt.alloc(), &layout)?);
-    Ok(())
+fn a_format_makes_eight_calls(rt: HostRuntime) {
+    assert!(rt; is_the_last(rt.alloc()) == Some(true));
 }
+
+/// The disk without its label, and with what else a format writes first.
+const UNLABELLED: [(u64, &[u8]); 3] = [(0, &[0]), (1, &[1]), (3, &HEADER)];
 
 /// Between the two syncs only the label is pending: a stop leaves the disk without its label, or with it.
-fn is_labelled_last(alloc: Global, layout: &Layout) -> Result<bool, AllocError> {
+fn is_labelled_last(alloc: Global) -> Option<bool> {
     let mut disk = FailingDisk::new(used(alloc, 667)?, 8, Failing::Once);
-    let failed = made_ready(&mut disk, layout) == Err(StoreFault::DiskFault);
+    let failed = made_ready(&mut disk) == Some(Err(StoreFault::DiskFault));
     let disk = disk.into_inner();
-    let label = disk.pending(alloc)?.as_slice() == [0].as_slice();
+    let label = is_pending(alloc, &disk, 0)?;
     let mut disk = disk.crash(&[(0, [0; 512])]);
-    Ok(failed && label && first_wrong(&mut disk, &[(0, &[0]), (1, &[1]), (3, &HEADER)]).is_none())
+    Some(failed && label && first_wrong(&mut disk, &UNLABELLED).is_none())
 }
 
 #[test]
-fn the_label_is_written_last(rt: HostRuntime) -> Result<(), Fail> {
-    let layout = layout().ok_or("a layout")?;
-    assert!(rt; is_labelled_last(rt.alloc(), &layout)?);
-    Ok(())
+fn the_label_is_written_last(rt: HostRuntime) {
+    assert!(rt; is_labelled_last(rt.alloc()) == Some(true));
 }

@@ -1,13 +1,11 @@
 //! The greatest record: 64 messages of 2,047 bits in one commit.
-ghost use Rattle.std.specs.Prelude.{◌≤◌, length};
 
-use crate::made;
-use crate::runs::{begin, commit, opens_to, serve};
+use crate::made::{self, ATTACH, Given, SECOND_ATTACH};
+use crate::runs::{begin, commit_all, commit_batch, opens_to, serve};
 use centre_core::Command;
 use recovery::{Store, StoreFault};
 use sector_disk::{Disk, MemoryDisk};
 use std::alloc::Global;
-use std::test::Fail;
 
 /// A header of epoch 2: 3 commands, a rule, two radios, nothing that waits, one station.
 const SECOND: [u8; 33] = [
@@ -42,107 +40,86 @@ const THIRD: [u8; 33] = [
 /// The record of an expiry, number 68.
 const EXPIRY_ALONE: [u8; 14] = [0, 1, 0, 0, 0, 0, 0, 0, 0, 68, 0, 0, 0, 0x0b];
 
-/// A rule and two attaches in one record, so that the half has room for 35 data sectors more.
-fn begin_three<D: Disk>(alloc: Global, store: &mut Store<Global, D>) -> Option<bool> {
-    let rule = made::rule()?;
-    let (first, second) = (made::attach(alloc)?, made::second_attach(alloc)?);
-    Some(commit(alloc, store, &[&rule, &first, &second]) == Ok(true))
-}
+/// In one record, so that the half has room for 35 data sectors more.
+const THREE: [Given; 3] = [Given::Rule, ATTACH, SECOND_ATTACH];
 
-fn messages(alloc: Global) -> Result<Vec<Command<Global>>, Fail> {
-    let mut messages = Vec::new(alloc);
+/// Makes the 64 messages; whether there was memory for them.
+fn make_messages(alloc: Global, messages: &mut Vec<Command<Global>>) -> bool {
     for k in 0..64u8 {
         let sequence = u32::from(k).saturating_add(4);
-        messages.push(made::message(alloc, sequence, k, 42).ok_or("a message")?)?;
+        let Some(message) = made::message(alloc, sequence, k, 42) else {
+            return false;
+        };
+        if messages.push(message).is_err() {
+            return false;
+        }
     }
-    Ok(messages)
-}
-
-/// Commits commands at once; returns whether all of them were accepted.
-fn commit_all<D: Disk>(
-    alloc: Global,
-    store: &mut Store<Global, D>,
-    commands: &[Command<Global>],
-) -> Result<bool, Fail> {
-    let mut batch = Vec::new(alloc);
-    for command in commands {
-        batch.push(command)?;
-    }
-    Ok(batch.len() == 64 && is_kept_after_a_checkpoint(alloc, store, &batch))
+    messages.len() == 64
 }
 
 /// A record that does not fit waits for a checkpoint.
 fn is_kept_after_a_checkpoint<D: Disk>(
     alloc: Global,
     store: &mut Store<Global, D>,
-    commands: &[&Command<Global>],
-) -> bool
-    requires { length commands.now ≤ 64 }
-{
-    commit(alloc, store, commands) == Err(StoreFault::Unready)
+    messages: &[Command<Global>],
+) -> bool {
+    commit_all(alloc, store, messages) == Err(StoreFault::Unready)
         && store.checkpoint() == Ok(())
-        && commit(alloc, store, commands) == Ok(true)
+        && commit_all(alloc, store, messages) == Ok(true)
 }
 
 /// Three commands, and then the 64 messages.
-fn commit_greatest<D: Disk>(alloc: Global, store: &mut Store<Global, D>) -> Result<bool, Fail> {
-    let three = begin_three(alloc, store) == Some(true);
-    let messages = messages(alloc)?;
-    Ok(three && commit_all(alloc, store, &messages)?)
+fn commit_greatest<D: Disk>(alloc: Global, store: &mut Store<Global, D>) -> bool {
+    let mut messages = Vec::new(alloc);
+    make_messages(alloc, &mut messages)
+        && commit_batch(alloc, store, &THREE) == Ok(true)
+        && is_kept_after_a_checkpoint(alloc, store, &messages)
 }
 
-/// The disk after these commits.
-fn greatest(alloc: Global) -> Result<MemoryDisk<Global>, Fail> {
-    let Ok(mut store) = Store::open(alloc, made::formatted(alloc)?) else {
-        return Err("a disk".into());
-    };
-    let all = commit_greatest(alloc, &mut store)?;
-    let disk = store.into_disk();
-    if all {
-        Ok(disk)
-    } else {
-        Err("67 commands".into())
+/// The disk after these commits, and whether all were answered.
+fn greatest<D: Disk>(alloc: Global, disk: D) -> (bool, D) {
+    match Store::open(alloc, disk) {
+        Ok(mut store) => {
+            let all = commit_greatest(alloc, &mut store);
+            (all, store.into_disk())
+        }
+        Err((_, disk)) => (false, disk),
     }
 }
 
-/// The record needs 36 data sectors: it waits for a checkpoint, and is the first one of half B, which it fills.
+/// Sectors of half B.
 fn is_in_half_b<D: Disk>(disk: &mut D) -> bool {
     let last = last_sector();
-    let written = [
-        (2, [1].as_slice()),
-        (296, SECOND.as_slice()),
-        (628, [1].as_slice()),
-        (629, HEAD.as_slice()),
-        (664, last.as_slice()),
-        (665, [0; 512].as_slice()),
-    ];
-    begin(disk, &written)
+    begin(disk, &FIRST_OF_B) && begin(disk, &[(664, &last), (665, &[0; 512])])
+}
+
+/// The record needs 36 data sectors: it waits for a checkpoint, and is the first one of half B, which it fills.
+const FIRST_OF_B: [(u64, &[u8]); 4] = [(2, &[1]), (296, &SECOND), (628, &[1]), (629, &HEAD)];
+
+fn fills_a_half(alloc: Global) -> Option<bool> {
+    let (all, disk) = greatest(alloc, made::formatted(alloc)?);
+    let mut disk = disk;
+    Some(all && is_in_half_b(&mut disk))
 }
 
 #[test]
-fn the_greatest_record_fills_a_half(rt: HostRuntime) -> Result<(), Fail> {
-    let mut disk = greatest(rt.alloc())?;
-    assert!(rt; is_in_half_b(&mut disk));
-    Ok(())
+fn the_greatest_record_fills_a_half(rt: HostRuntime) {
+    assert!(rt; fills_a_half(rt.alloc()) == Some(true));
 }
+
+const FIRST_OF_A: [(u64, &[u8]); 4] = [(3, &THIRD), (589, &[1]), (590, &EXPIRY_ALONE), (591, &[0])];
 
 /// No room is left after it: a desk makes a checkpoint for the next command, and its record is the first one of half A.
-fn is_followed(alloc: Global) -> Result<bool, Fail> {
-    let next = made::expiry(1).ok_or("an expiry")?;
-    let (before, disk) = opens_to(alloc, greatest(alloc)?);
-    let (answered, disk) = serve(alloc, disk, &next, 68);
+fn is_followed(alloc: Global) -> Option<bool> {
+    let (all, disk) = greatest(alloc, made::formatted(alloc)?);
+    let (before, disk) = opens_to(alloc, disk);
+    let (answered, disk) = serve(alloc, disk, Given::Expiry(1), 68);
     let (after, mut disk) = opens_to(alloc, disk);
-    let written = [
-        (3, THIRD.as_slice()),
-        (589, [1].as_slice()),
-        (590, EXPIRY_ALONE.as_slice()),
-        (591, [0].as_slice()),
-    ];
-    Ok(before == Some(67) && answered && after == Some(68) && begin(&mut disk, &written))
+    let kept = before == Some(67) && answered && after == Some(68);
+    Some(all && kept && begin(&mut disk, &FIRST_OF_A))
 }
 
 #[test]
-fn a_checkpoint_comes_after_the_greatest_record(rt: HostRuntime) -> Result<(), Fail> {
-    assert!(rt; is_followed(rt.alloc())?);
-    Ok(())
+fn a_checkpoint_comes_after_the_greatest_record(rt: HostRuntime) {
+    assert!(rt; is_followed(rt.alloc()) == Some(true));
 }

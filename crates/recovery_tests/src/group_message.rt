@@ -1,57 +1,50 @@
 //! A message to a group that a stop comes to while its gate is opened, with a checkpoint after it.
 
-use crate::made;
-use crate::runs::{run, stop};
-use centre_core::{Command, Query, QueryAnswer, Register};
+use crate::made::{self, ATTACH, Given, OUTSIDER, RECEIVER, SENDER};
+use crate::runs::{is_pending, run, stop};
+use centre_core::{Query, QueryAnswer, Register};
 use identity::Itsi;
 use mailbox::{Item, Kind};
 use recovery::Store;
-use sector_disk::{Failing, FailingDisk, MemoryDisk};
+use sector_disk::{Disk, Failing, FailingDisk, MemoryDisk};
 use std::alloc::Global;
-use std::test::Fail;
 
 /// The message: 48 bits.
 const TEXT: [u8; 6] = [0x82, 0x04, 0x06, 0x01, 0x48, 0x49];
 
-/// Commits one command to a disk.
-fn with(
-    alloc: Global,
-    disk: MemoryDisk<Global>,
-    command: Option<Command<Global>>,
-) -> Result<MemoryDisk<Global>, Fail> {
-    let Some(command) = command else {
-        return Err("a command".into());
-    };
-    let (answered, disk) = run(alloc, disk, &[&command]);
-    if answered == 1 {
-        Ok(disk)
-    } else {
-        Err("a command that is accepted".into())
-    }
-}
+/// A rule, 2001 and 2002 attached, and each of them to the group, and 2003 attached.
+const MEMBERS: [Given; 6] = [
+    Given::Rule,
+    ATTACH,
+    Given::AttachToGroup(3, SENDER),
+    Given::Attach(4, RECEIVER),
+    Given::AttachToGroup(5, RECEIVER),
+    Given::Attach(6, OUTSIDER),
+];
 
-/// A disk with six commands: a rule, 2001 and 2002 attached, and each of them to the group, and 2003 attached.
-fn with_members(alloc: Global) -> Result<MemoryDisk<Global>, Fail> {
-    let (first, second, other) = (made::sender(), made::receiver(), made::outsider());
-    let disk = with(alloc, made::formatted(alloc)?, made::rule())?;
-    let disk = with(alloc, disk, made::attach(alloc))?;
-    let disk = with(alloc, disk, made::attach_to_group(alloc, 3, first))?;
-    let disk = with(alloc, disk, made::attach_of(alloc, 4, second))?;
-    let disk = with(alloc, disk, made::attach_to_group(alloc, 5, second))?;
-    with(alloc, disk, made::attach_of(alloc, 6, other))
+/// Commits these commands, each on the disk opened anew. Returns how many were answered.
+fn with_members(alloc: Global, disk: MemoryDisk<Global>) -> (u64, MemoryDisk<Global>) {
+    let (mut disk, mut kept) = (disk, 0u64);
+    for given in MEMBERS {
+        let (answered, next) = run(alloc, disk, &[given]);
+        kept = kept.saturating_add(answered);
+        disk = next;
+    }
+    (kept, disk)
 }
 
 /// The message is committed while the call that makes its gate last fails: the opening makes 19 calls, the commit five. A
 /// stop leaves this byte in the gate, which is the one sector that is pending.
-fn stopped(alloc: Global, byte: u8) -> Result<MemoryDisk<Global>, Fail> {
-    let disk = FailingDisk::new(with_members(alloc)?, 24, Failing::Always);
-    let message = made::group_message(alloc, 7).ok_or("a message")?;
-    let (answered, disk) = run(alloc, disk, &[&message]);
+fn stopped(alloc: Global, byte: u8) -> Option<MemoryDisk<Global>> {
+    let (kept, disk) = with_members(alloc, made::formatted(alloc)?);
+    let disk = FailingDisk::new(disk, 24, Failing::Always);
+    let (answered, disk) = run(alloc, disk, &[Given::GroupMessage(7)]);
     let disk = disk.into_inner();
-    if answered == 0 && disk.pending(alloc)?.as_slice() == [601].as_slice() {
+    let gate = is_pending(alloc, &disk, 601)?;
+    if kept == 6 && answered == 0 && gate {
         stop(alloc, disk, [byte; 512])
     } else {
-        Err("a pending gate".into())
+        None
     }
 }
 
@@ -59,7 +52,7 @@ fn stopped(alloc: Global, byte: u8) -> Result<MemoryDisk<Global>, Fail> {
 fn is_copy(item: &Item<Global>, itsi: Itsi) -> bool {
     let key = item.key();
     key.destination == itsi
-        && Some(key.source) == made::outsider()
+        && key.source.number() == OUTSIDER
         && key.reference.number() == 6
         && key.kind == Kind::Message
         && item.number() == 7
@@ -82,18 +75,15 @@ fn copies(alloc: Global, register: &Register<Global>, itsi: Itsi) -> Option<usiz
 }
 
 /// How many commands were accepted, and how many copies wait for each of the two members.
-fn seen(alloc: Global, store: &Store<Global, MemoryDisk<Global>>) -> Option<(u64, usize, usize)> {
+fn seen<D: Disk>(alloc: Global, store: &Store<Global, D>) -> Option<(u64, usize, usize)> {
     let register = store.register()?;
-    let first = copies(alloc, register, made::sender()?)?;
-    let second = copies(alloc, register, made::receiver()?)?;
+    let first = copies(alloc, register, Itsi::from_number(SENDER)?)?;
+    let second = copies(alloc, register, Itsi::from_number(RECEIVER)?)?;
     Some((register.count(), first, second))
 }
 
 /// The same of a disk that is opened; and the disk, after a checkpoint.
-fn checkpointed(
-    alloc: Global,
-    disk: MemoryDisk<Global>,
-) -> (Option<(u64, usize, usize)>, MemoryDisk<Global>) {
+fn checkpointed<D: Disk>(alloc: Global, disk: D) -> (Option<(u64, usize, usize)>, D) {
     match Store::open(alloc, disk) {
         Ok(mut store) => {
             let before = seen(alloc, &store);
@@ -104,23 +94,38 @@ fn checkpointed(
     }
 }
 
-/// What is seen when the disk is opened, if the same is seen after a checkpoint and a stop, and after another of both.
-fn opened_again(alloc: Global, byte: u8) -> Result<Option<(u64, usize, usize)>, Fail> {
-    let (first, disk) = checkpointed(alloc, stopped(alloc, byte)?);
-    let (second, disk) = checkpointed(alloc, stop(alloc, disk, [byte; 512])?);
-    let (third, _) = checkpointed(alloc, stop(alloc, disk, [byte; 512])?);
-    Ok(if first == second && second == third {
-        first
+/// The disk after a checkpoint and a stop, if this is seen when it is opened.
+fn seen_so(
+    alloc: Global,
+    disk: MemoryDisk<Global>,
+    byte: u8,
+    wanted: (u64, usize, usize),
+) -> Option<MemoryDisk<Global>> {
+    let (seen, disk) = checkpointed(alloc, disk);
+    if seen == Some(wanted) {
+        stop(alloc, disk, [byte; 512])
     } else {
         None
-    })
+    }
+}
+
+/// Whether this is seen when the disk is opened, and again after a checkpoint and a stop, and after another of both.
+fn is_seen(alloc: Global, byte: u8, wanted: (u64, usize, usize)) -> Option<bool> {
+    let disk = stopped(alloc, byte)?;
+    let disk = seen_so(alloc, disk, byte, wanted)?;
+    let disk = seen_so(alloc, disk, byte, wanted)?;
+    let disk = seen_so(alloc, disk, byte, wanted)?;
+    drop(disk);
+    Some(true)
+}
+
+fn are_all_or_none(alloc: Global) -> bool {
+    is_seen(alloc, 0, (6, 0, 0)) == Some(true)
+        && is_seen(alloc, 1, (7, 1, 1)) == Some(true)
+        && is_seen(alloc, 77, (6, 0, 0)) == Some(true)
 }
 
 #[test]
-fn a_group_message_has_all_its_copies_or_none(rt: HostRuntime) -> Result<(), Fail> {
-    let alloc = rt.alloc();
-    assert_eq!(rt; opened_again(alloc, 0)?, Some((6, 0, 0)));
-    assert_eq!(rt; opened_again(alloc, 1)?, Some((7, 1, 1)));
-    assert_eq!(rt; opened_again(alloc, 77)?, Some((6, 0, 0)));
-    Ok(())
+fn a_group_message_has_all_its_copies_or_none(rt: HostRuntime) {
+    assert!(rt; are_all_or_none(rt.alloc()));
 }

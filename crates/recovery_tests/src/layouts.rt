@@ -2,13 +2,15 @@
 //! form, or for one of another number.
 
 use crate::commits::is_checkpointed;
-use crate::made;
-use crate::opens::{OPEN, PLAIN_FIRST, SET_RULE, disk, expiry, opened, put, put_expiries, with};
-use crate::runs::{begin, commit_each, opens_to, run, stop};
+use crate::made::Given;
+use crate::ongoing::run_from;
+use crate::opens::{
+    OPEN, PLAIN_FIRST, Row, SET_RULE, after, disk, expiry, first_wrong, opened, put,
+};
+use crate::runs::{begin, opens_to, run, stop};
 use recovery::{Store, StoreFault};
 use sector_disk::{Disk, Failing, FailingDisk, MemoryDisk};
 use std::alloc::Global;
-use std::test::Fail;
 
 /// The record of a rule in layout 1, sequence 1 of station 1.
 const PLAIN_RULE: [u8; 33] = [
@@ -22,7 +24,7 @@ const PLAIN_EXPIRY: [u8; 6] = [0, 1, 0, 0, 0, 0x0b];
 // ---- layout 1
 
 /// A disk of layout 1, with a rule.
-pub fn old(alloc: Global) -> Result<MemoryDisk<Global>, Fail> {
+pub fn old(alloc: Global) -> Option<MemoryDisk<Global>> {
     disk(
         alloc,
         &[(3, &PLAIN_FIRST), (589, &OPEN), (590, &PLAIN_RULE)],
@@ -47,84 +49,83 @@ fn put_plain_expiries<D: Disk>(disk: &mut D) -> bool {
 }
 
 /// The same with 18 expiries after the rule, which fill its half.
-fn old_filled(alloc: Global) -> Result<MemoryDisk<Global>, Fail> {
+fn old_filled(alloc: Global) -> Option<MemoryDisk<Global>> {
     let mut disk = old(alloc)?;
-    if put_plain_expiries(&mut disk) {
-        Ok(disk)
-    } else {
-        Err("a disk of 4,000 calls".into())
-    }
+    let is_put = put_plain_expiries(&mut disk);
+    if is_put { Some(disk) } else { None }
 }
 
-/// Commits those expiries, each on the disk opened anew, so that no checkpoint ends between them.
-fn run_expiries(alloc: Global) -> Result<MemoryDisk<Global>, Fail> {
-    let mut disk = old(alloc)?;
+/// Commits those expiries, each on the disk opened anew, so that no checkpoint ends between them. Returns how many were kept.
+fn run_expiries(alloc: Global, disk: MemoryDisk<Global>) -> (u64, MemoryDisk<Global>) {
+    let (mut disk, mut kept) = (disk, 0u64);
     for sequence in 2..=19 {
-        let expiry = made::own_expiry(sequence).ok_or("an expiry")?;
-        let (answered, given) = run(alloc, disk, &[&expiry]);
-        if answered != 1 {
-            return Err("an expiry that is kept".into());
-        }
+        let (answered, given) = run(alloc, disk, &[Given::OwnExpiry(sequence)]);
+        kept = kept.saturating_add(answered);
         disk = given;
     }
-    Ok(disk)
+    (kept, disk)
 }
+
+/// How many commands a disk of layout 1 opens to.
+fn old_count(alloc: Global) -> Option<Result<u64, StoreFault>> {
+    let (first, disk) = opened(alloc, old(alloc)?);
+    drop(disk);
+    Some(first)
+}
+
+const IN_ITS_FORM: [(u64, &[u8]); 7] = [
+    (2, &[0]),
+    (3, &PLAIN_FIRST),
+    (591, &[1]),
+    (592, &PLAIN_EXPIRY),
+    (625, &[1]),
+    (626, &PLAIN_EXPIRY),
+    (627, &[0]),
+];
 
 /// Its records stay plain, and so does its header.
-fn goes_on(alloc: Global) -> Result<bool, Fail> {
-    let (first, _) = opened(alloc, old(alloc)?);
-    let (count, mut disk) = opens_to(alloc, run_expiries(alloc)?);
-    let written = [
-        (2, [0].as_slice()),
-        (3, PLAIN_FIRST.as_slice()),
-        (591, [1].as_slice()),
-        (592, PLAIN_EXPIRY.as_slice()),
-        (625, [1].as_slice()),
-        (626, PLAIN_EXPIRY.as_slice()),
-        (627, [0].as_slice()),
-    ];
-    Ok(first == Ok(1) && count == Some(19) && begin(&mut disk, &written))
+fn goes_on(alloc: Global) -> Option<bool> {
+    let (kept, disk) = run_expiries(alloc, old(alloc)?);
+    let (count, mut disk) = opens_to(alloc, disk);
+    let written = begin(&mut disk, &IN_ITS_FORM);
+    Some(kept == 18 && count == Some(19) && written)
 }
 
 #[test]
-fn a_disk_of_layout_1_goes_on_in_its_form(rt: HostRuntime) -> Result<(), Fail> {
-    assert!(rt; goes_on(rt.alloc())?);
-    Ok(())
+fn a_disk_of_layout_1_goes_on_in_its_form(rt: HostRuntime) {
+    assert!(rt; old_count(rt.alloc()) == Some(Ok(1)));
+    assert!(rt; goes_on(rt.alloc()) == Some(true));
+}
+
+fn is_moved(alloc: Global) -> Option<bool> {
+    Some(is_checkpointed(alloc, old_filled(alloc)?))
 }
 
 #[test]
-fn its_first_checkpoint_moves_it(rt: HostRuntime) -> Result<(), Fail> {
-    let alloc = rt.alloc();
-    assert!(rt; is_checkpointed(alloc, old_filled(alloc)?)?);
-    Ok(())
+fn its_first_checkpoint_moves_it(rt: HostRuntime) {
+    assert!(rt; is_moved(rt.alloc()) == Some(true));
 }
+
+const MOVED_BESIDE: [(u64, &[u8]); 6] = [
+    (2, &[1]),
+    (3, &PLAIN_FIRST),
+    (296, &[22]),
+    (610, &PLAIN_EXPIRY),
+    (628, &[1]),
+    (629, &[0, 1, 0, 0, 0, 0, 0, 0, 0, 11]),
+];
 
 /// In one run a checkpoint begins with the tenth command, and ends with the eleventh: its side is of layout 2.
-fn moves_beside(alloc: Global) -> Result<bool, Fail> {
-    let Ok(mut store) = Store::open(alloc, old(alloc)?) else {
-        return Ok(false);
-    };
-    let mut answered = 0;
-    for sequence in 2..=11 {
-        let expiry = made::own_expiry(sequence).ok_or("an expiry")?;
-        answered = commit_each(alloc, &mut store, &[&expiry]).saturating_add(answered);
-    }
-    let (count, mut disk) = opens_to(alloc, store.into_disk());
-    let written = [
-        (2, [1].as_slice()),
-        (3, PLAIN_FIRST.as_slice()),
-        (296, [22].as_slice()),
-        (610, PLAIN_EXPIRY.as_slice()),
-        (628, [1].as_slice()),
-        (629, [0, 1, 0, 0, 0, 0, 0, 0, 0, 11].as_slice()),
-    ];
-    Ok(answered == 10 && count == Some(11) && begin(&mut disk, &written))
+fn moves_beside(alloc: Global) -> Option<bool> {
+    let (answered, disk) = run_from(alloc, old(alloc)?, 2, 11);
+    let (count, mut disk) = opens_to(alloc, disk);
+    let written = begin(&mut disk, &MOVED_BESIDE);
+    Some(answered == 10 && count == Some(11) && written)
 }
 
 #[test]
-fn a_checkpoint_beside_its_commits_moves_it(rt: HostRuntime) -> Result<(), Fail> {
-    assert!(rt; moves_beside(rt.alloc())?);
-    Ok(())
+fn a_checkpoint_beside_its_commits_moves_it(rt: HostRuntime) {
+    assert!(rt; moves_beside(rt.alloc()) == Some(true));
 }
 
 /// Whether a checkpoint of the disk is answered; and the disk.
@@ -140,72 +141,63 @@ pub fn checkpoint<D: Disk>(alloc: Global, disk: D) -> (bool, D) {
 
 /// The first checkpoint of such a disk while this call fails, and a stop after it: whether it was answered, and whether
 /// the disk opens to 19 commands.
-fn is_move_stopped(alloc: Global, call: u64, byte: u8) -> Result<(bool, bool), Fail> {
+fn is_move_stopped(alloc: Global, call: u64, byte: u8) -> Option<(bool, bool)> {
     let disk = FailingDisk::new(old_filled(alloc)?, call, Failing::Always);
     let (made, disk) = checkpoint(alloc, disk);
-    let (count, _) = opens_to(alloc, stop(alloc, disk.into_inner(), [byte; 512])?);
-    Ok((made, count == Some(19)))
+    let (count, disk) = opens_to(alloc, stop(alloc, disk.into_inner(), [byte; 512])?);
+    drop(disk);
+    Some((made, count == Some(19)))
 }
 
 /// How many calls failed, from the first one on, until the checkpoint was made; `None` if a stop left something else.
-fn move_stops(alloc: Global, byte: u8) -> Result<Option<u64>, Fail> {
+fn move_stops(alloc: Global, byte: u8) -> Option<u64> {
     for call in 1..200 {
-        let (made, well) = is_move_stopped(alloc, call, byte)?;
-        if !well {
-            return Ok(None);
-        }
-        if made {
-            return Ok(Some(call - 1));
+        match is_move_stopped(alloc, call, byte) {
+            Some((true, true)) => return Some(call - 1),
+            Some((false, true)) => {}
+            _ => return None,
         }
     }
-    Ok(None)
+    None
 }
 
 #[test]
-fn a_stop_in_it_leaves_19_commands(rt: HostRuntime) -> Result<(), Fail> {
+fn a_stop_in_it_leaves_19_commands(rt: HostRuntime) {
     for byte in [0, 1, 77] {
-        assert!(rt; move_stops(rt.alloc(), byte)?.is_some_and(|calls| calls > 50));
+        assert!(rt; move_stops(rt.alloc(), byte).is_some_and(|calls| calls > 50));
     }
-    Ok(())
 }
 
 // ---- forms and numbers
 
-#[test]
-fn a_record_is_of_the_form_that_the_slot_states(rt: HostRuntime) -> Result<(), Fail> {
-    let alloc = rt.alloc();
-    assert_eq!(rt;
-        with(alloc, &[(589, &OPEN), (590, &PLAIN_RULE)])?,
-        Err(StoreFault::Damaged(590))
-    );
-    assert_eq!(rt;
-        with(alloc, &[(3, &PLAIN_FIRST), (589, &OPEN), (590, &SET_RULE)])?,
-        Err(StoreFault::Damaged(590))
-    );
-    Ok(())
-}
-
-/// What a half opens to that has a rule, nine expiries and then this record.
-fn after_ten(alloc: Global, record: &[u8]) -> Result<Result<u64, StoreFault>, Fail> {
-    let mut disk = disk(alloc, &[(589, &OPEN), (590, &SET_RULE)])?;
-    if !put_expiries(&mut disk, 9) || !put(&mut disk, &[(609, &OPEN), (610, record)]) {
-        return Err("a disk of 4,000 calls".into());
-    }
-    let (answer, _) = opened(alloc, disk);
-    Ok(answer)
-}
+const FORMS: [Row; 2] = [
+    (
+        &[(589, &OPEN), (590, &PLAIN_RULE)],
+        Err(StoreFault::Damaged(590)),
+    ),
+    (
+        &[(3, &PLAIN_FIRST), (589, &OPEN), (590, &SET_RULE)],
+        Err(StoreFault::Damaged(590)),
+    ),
+];
 
 #[test]
-fn a_record_states_the_next_number(rt: HostRuntime) -> Result<(), Fail> {
-    let alloc = rt.alloc();
-    assert_eq!(rt; after_ten(alloc, &expiry(11))?, Ok(11));
-    assert_eq!(rt;
-        after_ten(alloc, &expiry(12))?,
-        Err(StoreFault::Damaged(610))
-    );
-    assert_eq!(rt;
-        after_ten(alloc, &expiry(10))?,
-        Err(StoreFault::Damaged(610))
-    );
-    Ok(())
+fn a_record_is_of_the_form_that_the_slot_states(rt: HostRuntime) {
+    assert!(rt; first_wrong(rt.alloc(), &FORMS).is_none());
+}
+
+/// What a half opens to that has a rule, nine expiries and then the record of an expiry with this sequence and number.
+fn after_ten(alloc: Global, sequence: u8) -> Option<Result<u64, StoreFault>> {
+    after(alloc, 9, &[(609, &OPEN), (610, &expiry(sequence))])
+}
+
+fn are_numbered(alloc: Global) -> bool {
+    after_ten(alloc, 11) == Some(Ok(11))
+        && after_ten(alloc, 12) == Some(Err(StoreFault::Damaged(610)))
+        && after_ten(alloc, 10) == Some(Err(StoreFault::Damaged(610)))
+}
+
+#[test]
+fn a_record_states_the_next_number(rt: HostRuntime) {
+    assert!(rt; are_numbered(rt.alloc()));
 }

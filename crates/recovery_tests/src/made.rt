@@ -2,14 +2,13 @@
 
 use centre_core::{Body, Command, Sequence};
 use checkpoint::Layout;
-use identity::{BitWriter, Bits, Gtsi, Itsi, Prefix};
+use identity::{BitWriter, Bits, Gtsi, Itsi, Prefix, parse_bits};
 use mailbox::Moment;
 use mm_pdus::Lifetime;
 use recovery::format;
 use registration::{Limits, LocationArea, Rule, Station};
 use sector_disk::MemoryDisk;
 use std::alloc::Global;
-use std::test::Fail;
 
 /// The layout of the worked disk: 667 sectors, the halves from 589 and from 628 on.
 pub fn layout() -> Option<Layout> {
@@ -17,12 +16,60 @@ pub fn layout() -> Option<Layout> {
 }
 
 /// The worked disk, ready for an empty register.
-pub fn formatted(alloc: Global) -> Result<MemoryDisk<Global>, Fail> {
-    let layout = layout().ok_or("a layout")?;
-    let mut disk = MemoryDisk::new(alloc, 667, 4_000)?;
+pub fn formatted(alloc: Global) -> Option<MemoryDisk<Global>> {
+    let layout = layout()?;
+    let mut disk = MemoryDisk::new(alloc, 667, 4_000).ok()?;
     match format::<Global, MemoryDisk<Global>>(&mut disk, &layout) {
-        Ok(()) => Ok(disk),
-        Err(_) => Err("a disk of 4,000 calls".into()),
+        Ok(()) => Some(disk),
+        Err(_) => None,
+    }
+}
+
+/// A command of the tests. A number is a sequence of its station.
+#[derive(Clone, Copy)]
+pub enum Given {
+    /// A rule for the radios of a network, sequence 1 of station 1: 27 bytes.
+    Rule,
+    /// A rule for the radio of this number alone, of station 1.
+    RuleFor(u32),
+    /// The ITSI attach of a radio, of station 1: 23 bytes.
+    Attach(u32, u64),
+    /// The attachment of a radio to the group, of station 1: the PDU `60:7380480A00007D0`.
+    AttachToGroup(u32, u64),
+    /// A message from 234-14-2001 to 234-14-2002, of 199 bits of user data and reference 0, of station 1.
+    Message(u32),
+    /// The message `48:820406014849` from 234-14-2003 to the group at moment 120, of station 1.
+    GroupMessage(u32),
+    /// An expiry of station 1: 11 bytes.
+    OwnExpiry(u32),
+    /// An expiry of station 2: 11 bytes.
+    Expiry(u32),
+}
+
+/// The ITSI attach of 234-14-2001, sequence 2 of station 1.
+pub const ATTACH: Given = Given::Attach(2, SENDER);
+
+/// The ITSI attach of 234-14-2002, sequence 3 of station 1.
+pub const SECOND_ATTACH: Given = Given::Attach(3, RECEIVER);
+
+/// The radios 234-14-2001, 2002 and 2003.
+pub const SENDER: u64 = 0x3a80_0e00_07d1;
+
+pub const RECEIVER: u64 = 0x3a80_0e00_07d2;
+
+pub const OUTSIDER: u64 = 0x3a80_0e00_07d3;
+
+/// The command itself.
+pub fn command(alloc: Global, given: Given) -> Option<Command<Global>> {
+    match given {
+        Given::Rule => rule(),
+        Given::RuleFor(sequence) => rule_for(sequence),
+        Given::Attach(sequence, number) => attach_of(alloc, sequence, number),
+        Given::AttachToGroup(sequence, number) => attach_to_group(alloc, sequence, number),
+        Given::Message(sequence) => message(alloc, sequence, 0, 4),
+        Given::GroupMessage(sequence) => group_message(alloc, sequence),
+        Given::OwnExpiry(sequence) => made(1, sequence, Moment::new(0), Body::Expire),
+        Given::Expiry(sequence) => made(2, sequence, Moment::new(11), Body::Expire),
     }
 }
 
@@ -41,8 +88,7 @@ fn made(
     )
 }
 
-/// A rule for the radios of a network, sequence 1 of station 1: 27 bytes.
-pub fn rule() -> Option<Command<Global>> {
+fn rule() -> Option<Command<Global>> {
     let prefix = Prefix::new(0x3a80_0e00_0000, 24)?;
     let low = LocationArea::new(1)?;
     let high = LocationArea::new(99)?;
@@ -50,19 +96,30 @@ pub fn rule() -> Option<Command<Global>> {
     made(1, 1, Moment::new(0), Body::RuleSet { prefix, rule })
 }
 
-/// The radio 234-14-2001.
-pub fn sender() -> Option<Itsi> {
-    Itsi::from_number(0x3a80_0e00_07d1)
+fn rule_for(sequence: u32) -> Option<Command<Global>> {
+    let prefix = Prefix::new(0x3a80_0e00_0000 + u64::from(sequence), 48)?;
+    let low = LocationArea::new(1)?;
+    let rule = Rule::new(low, low, Lifetime::NextItsiAttach, 3_600)?;
+    made(1, sequence, Moment::new(0), Body::RuleSet { prefix, rule })
 }
 
-/// The radio 234-14-2002.
-pub fn receiver() -> Option<Itsi> {
-    Itsi::from_number(0x3a80_0e00_07d2)
+/// The bits of a PDU.
+fn bits(alloc: Global, text: &str) -> Option<Bits<Global>> {
+    parse_bits(alloc, text.as_bytes()).ok()
 }
 
-/// The radio 234-14-2003.
-pub fn outsider() -> Option<Itsi> {
-    Itsi::from_number(0x3a80_0e00_07d3)
+fn attach_of(alloc: Global, sequence: u32, number: u64) -> Option<Command<Global>> {
+    let itsi = Itsi::from_number(number)?;
+    let area = LocationArea::new(7)?;
+    let pdu = bits(alloc, "10:260")?;
+    made(1, sequence, Moment::new(10), Body::Mm { itsi, area, pdu })
+}
+
+fn attach_to_group(alloc: Global, sequence: u32, number: u64) -> Option<Command<Global>> {
+    let itsi = Itsi::from_number(number)?;
+    let area = LocationArea::new(7)?;
+    let pdu = bits(alloc, "60:7380480A00007D0")?;
+    made(1, sequence, Moment::new(20), Body::Mm { itsi, area, pdu })
 }
 
 /// The group 234-14-1000.
@@ -70,33 +127,18 @@ pub fn group() -> Option<Gtsi> {
     Gtsi::from_number(0x3a80_0e00_03e8)
 }
 
-/// The ITSI attach of a radio, with this sequence of station 1: 23 bytes.
-pub fn attach_of(alloc: Global, sequence: u32, itsi: Option<Itsi>) -> Option<Command<Global>> {
-    let itsi = itsi?;
-    let area = LocationArea::new(7)?;
-    let mut writer = BitWriter::new(alloc);
-    writer.put(0x98, 10).ok()?;
-    let pdu = writer.finish();
-    made(1, sequence, Moment::new(10), Body::Mm { itsi, area, pdu })
-}
-
-/// The ITSI attach of 234-14-2001, sequence 2 of station 1: 23 bytes.
-pub fn attach(alloc: Global) -> Option<Command<Global>> {
-    attach_of(alloc, 2, sender())
-}
-
-/// The ITSI attach of 234-14-2002, sequence 3 of station 1: 23 bytes.
-pub fn second_attach(alloc: Global) -> Option<Command<Global>> {
-    attach_of(alloc, 3, receiver())
+fn group_message(alloc: Global, sequence: u32) -> Option<Command<Global>> {
+    let (source, group) = (Itsi::from_number(OUTSIDER)?, group()?);
+    let pdu = bits(alloc, "48:820406014849")?;
+    let body = Body::GroupSds { source, group, pdu };
+    made(1, sequence, Moment::new(120), body)
 }
 
 /// An SDS-TRANSFER of text messaging that asks for no report, with this reference: its user data are so many times 48
 /// bits, and seven more, all 1. With 42 times these are 2,047 bits.
 fn transfer(alloc: Global, reference: u8, times: u32) -> Option<Bits<Global>> {
     let mut writer = BitWriter::new(alloc);
-    writer.put(0x82, 8).ok()?;
-    writer.put(0, 8).ok()?;
-    writer.put(u64::from(reference), 8).ok()?;
+    writer.put(0x82_0000 + u64::from(reference), 24).ok()?;
     for _ in 0..times {
         writer.put(0xffff_ffff_ffff, 48).ok()?;
     }
@@ -106,57 +148,15 @@ fn transfer(alloc: Global, reference: u8, times: u32) -> Option<Bits<Global>> {
 
 /// That message from 234-14-2001 to 234-14-2002, with this sequence of station 1.
 pub fn message(alloc: Global, sequence: u32, reference: u8, times: u32) -> Option<Command<Global>> {
+    let source = Itsi::from_number(SENDER)?;
+    let destination = Itsi::from_number(RECEIVER)?;
     let pdu = transfer(alloc, reference, times)?;
-    let (source, destination) = (sender()?, receiver()?);
     let body = Body::Sds {
         source,
         destination,
         pdu,
     };
     made(1, sequence, Moment::new(20), body)
-}
-
-/// The attachment of a radio to that group, with this sequence of station 1: the PDU `60:7380480A00007D0`.
-pub fn attach_to_group(
-    alloc: Global,
-    sequence: u32,
-    itsi: Option<Itsi>,
-) -> Option<Command<Global>> {
-    let itsi = itsi?;
-    let area = LocationArea::new(7)?;
-    let mut writer = BitWriter::new(alloc);
-    writer.put(0x73_8048, 24).ok()?;
-    writer.put(0x0_a000_07d0, 36).ok()?;
-    let pdu = writer.finish();
-    made(1, sequence, Moment::new(20), Body::Mm { itsi, area, pdu })
-}
-
-/// The message `48:820406014849` from 234-14-2003 to that group at moment 120, with this sequence of station 1.
-pub fn group_message(alloc: Global, sequence: u32) -> Option<Command<Global>> {
-    let (source, group) = (outsider()?, group()?);
-    let mut writer = BitWriter::new(alloc);
-    writer.put(0x8204_0601_4849, 48).ok()?;
-    let pdu = writer.finish();
-    let body = Body::GroupSds { source, group, pdu };
-    made(1, sequence, Moment::new(120), body)
-}
-
-/// An expiry of station 2 with this sequence: 11 bytes.
-pub fn expiry(sequence: u32) -> Option<Command<Global>> {
-    made(2, sequence, Moment::new(11), Body::Expire)
-}
-
-/// An expiry of station 1 with this sequence: 11 bytes.
-pub fn own_expiry(sequence: u32) -> Option<Command<Global>> {
-    made(1, sequence, Moment::new(0), Body::Expire)
-}
-
-/// A rule for a radio alone, the one of this number, with this sequence of station 1.
-pub fn rule_for(sequence: u32) -> Option<Command<Global>> {
-    let prefix = Prefix::new(0x3a80_0e00_0000 + u64::from(sequence), 48)?;
-    let low = LocationArea::new(1)?;
-    let rule = Rule::new(low, low, Lifetime::NextItsiAttach, 3_600)?;
-    made(1, sequence, Moment::new(0), Body::RuleSet { prefix, rule })
 }
 
 /// A sector that begins with these bytes, with zeros after them.

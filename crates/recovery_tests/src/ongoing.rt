@@ -1,25 +1,23 @@
 //! A checkpoint that is written between commits.
 
 use crate::calls::{Call, NotingDisk};
-use crate::made;
+use crate::made::{self, Given};
 use crate::opens::{expiry, opened};
-use crate::runs::{begin, commit, count, is_served, opens_to, stop};
-use centre_core::Command;
+use crate::runs::{begin, commit_one, count, is_served, opens_to, stop};
 use linked_list_allocator::LocalHeap;
 use recovery::{Store, StoreFault};
 use sector_disk::{Disk, Failing, FailingDisk, MemoryDisk};
 use std::alloc::{Allocator, Global};
-use std::test::Fail;
 
 /// What a stop puts into sectors that are pending.
 const BYTES: [u8; 3] = [0, 1, 255];
 
-/// Of the rule first, and then an expiry: all of station 1.
-fn command(sequence: u32) -> Option<Command<Global>> {
+/// The rule first, and then an expiry: all of station 1.
+fn given(sequence: u32) -> Given {
     if sequence == 1 {
-        made::rule()
+        Given::Rule
     } else {
-        made::own_expiry(sequence)
+        Given::OwnExpiry(sequence)
     }
 }
 
@@ -31,10 +29,7 @@ pub fn commit_from<D: Disk>(
     last: u32,
 ) -> u32 {
     for sequence in first..=last {
-        let Some(command) = command(sequence) else {
-            return 0;
-        };
-        if commit(alloc, store, &[&command]) != Ok(true) {
+        if commit_one(alloc, store, given(sequence)) != Ok(true) {
             return sequence.saturating_sub(first);
         }
     }
@@ -42,7 +37,7 @@ pub fn commit_from<D: Disk>(
 }
 
 /// The same on a disk that is opened; and the disk.
-fn run_from<D: Disk>(alloc: Global, disk: D, first: u32, last: u32) -> (u32, D) {
+pub fn run_from<D: Disk>(alloc: Global, disk: D, first: u32, last: u32) -> (u32, D) {
     match Store::open(alloc, disk) {
         Ok(mut store) => {
             let answered = commit_from(alloc, &mut store, first, last);
@@ -53,13 +48,17 @@ fn run_from<D: Disk>(alloc: Global, disk: D, first: u32, last: u32) -> (u32, D) 
 }
 
 /// The disk after so many commands, whose calls it has noted.
-fn noted(alloc: Global, last: u32) -> Result<NotingDisk, Fail> {
+fn noted(alloc: Global, last: u32) -> Option<NotingDisk> {
     let disk = NotingDisk::new(alloc, made::formatted(alloc)?);
     let (answered, disk) = run_from(alloc, disk, 1, last);
-    if answered == last {
-        Ok(disk)
-    } else {
-        Err("commands that are kept".into())
+    if answered == last { Some(disk) } else { None }
+}
+
+/// Whether these are the last calls of so many commands.
+fn ends_with(alloc: Global, last: u32, calls: &[Call]) -> bool {
+    match noted(alloc, last) {
+        Some(disk) => disk.got_last(calls),
+        None => false,
     }
 }
 
@@ -114,17 +113,15 @@ const TWELFTH: [Call; 5] = [
 ];
 
 #[test]
-fn it_begins_where_half_of_the_sectors_are_used(rt: HostRuntime) -> Result<(), Fail> {
-    assert!(rt; noted(rt.alloc(), 9)?.got_last(&NINTH));
-    assert!(rt; noted(rt.alloc(), 10)?.got_last(&TENTH));
-    Ok(())
+fn it_begins_where_half_of_the_sectors_are_used(rt: HostRuntime) {
+    assert!(rt; ends_with(rt.alloc(), 9, &NINTH));
+    assert!(rt; ends_with(rt.alloc(), 10, &TENTH));
 }
 
 #[test]
-fn it_ends_with_the_last_row(rt: HostRuntime) -> Result<(), Fail> {
-    assert!(rt; noted(rt.alloc(), 11)?.got_last(&ELEVENTH));
-    assert!(rt; noted(rt.alloc(), 12)?.got_last(&TWELFTH));
-    Ok(())
+fn it_ends_with_the_last_row(rt: HostRuntime) {
+    assert!(rt; ends_with(rt.alloc(), 11, &ELEVENTH));
+    assert!(rt; ends_with(rt.alloc(), 12, &TWELFTH));
 }
 
 // ---- what it writes
@@ -142,124 +139,123 @@ const RULE: [u8; 17] = [
 /// Station 1: sequence 10, number 10.
 const SERVED: [u8; 15] = [0x14, 0, 1, 0, 0, 0, 10, 0, 0, 0, 0, 0, 0, 0, 10];
 
-/// Whether both halves have the record of the 11th command, and slot B has the image of the ten before it.
-fn are_both_written<D: Disk>(disk: &mut D) -> bool {
-    let record = expiry(11);
-    let written = [
-        (1, [1].as_slice()),
-        (2, [1].as_slice()),
-        (296, SECOND.as_slice()),
-        (297, RULE.as_slice()),
-        (298, SERVED.as_slice()),
-        (609, [1].as_slice()),
-        (610, record.as_slice()),
-        (628, [1].as_slice()),
-        (629, record.as_slice()),
-        (630, [0].as_slice()),
-    ];
-    begin(disk, &written)
+/// The record of the 11th command.
+const ELEVEN: [u8; 25] = [
+    0, 1, 0, 0, 0, 0, 0, 0, 0, 11, 0, 0, 0, 0x0b, 0, 1, 0, 0, 0, 11, 0, 0, 0, 0, 6,
+];
+
+/// Both halves have it, and slot B has the image of the ten before it.
+const WRITTEN: [(u64, &[u8]); 10] = [
+    (1, &[1]),
+    (2, &[1]),
+    (296, &SECOND),
+    (297, &RULE),
+    (298, &SERVED),
+    (609, &[1]),
+    (610, &ELEVEN),
+    (628, &[1]),
+    (629, &ELEVEN),
+    (630, &[0]),
+];
+
+/// The disk after eleven commands.
+fn after_eleven(alloc: Global) -> Option<MemoryDisk<Global>> {
+    Some(noted(alloc, 11)?.into_inner())
 }
 
-fn is_switched(alloc: Global) -> Result<bool, Fail> {
-    let (count, mut disk) = opens_to(alloc, noted(alloc, 11)?.into_inner());
-    Ok(count == Some(11) && are_both_written(&mut disk))
+fn is_switched(alloc: Global) -> Option<bool> {
+    let (count, mut disk) = opens_to(alloc, after_eleven(alloc)?);
+    Some(count == Some(11) && begin(&mut disk, &WRITTEN))
 }
 
 #[test]
-fn both_halves_have_the_record(rt: HostRuntime) -> Result<(), Fail> {
-    assert!(rt; is_switched(rt.alloc())?);
-    Ok(())
+fn both_halves_have_the_record(rt: HostRuntime) {
+    assert!(rt; is_switched(rt.alloc()) == Some(true));
 }
 
 /// What the disk opens to where that record states the number 12 in half B.
-fn misnumbered(alloc: Global) -> Result<Result<u64, StoreFault>, Fail> {
-    let mut disk = noted(alloc, 11)?.into_inner();
+fn misnumbered(alloc: Global) -> Option<Result<u64, StoreFault>> {
+    let mut disk = after_eleven(alloc)?;
     let mut record = expiry(11);
     record[9] = 12;
-    if disk.write(629, &made::sector(&record)).is_err() {
-        return Err("a disk of 4,000 calls".into());
-    }
-    let (answer, _) = opened(alloc, disk);
-    Ok(answer)
+    let is_put = disk.write(629, &made::sector(&record)).is_ok();
+    let (answer, disk) = opened(alloc, disk);
+    drop(disk);
+    is_put.then_some(answer)
 }
 
 #[test]
-fn its_records_follow_its_image(rt: HostRuntime) -> Result<(), Fail> {
-    assert_eq!(rt; misnumbered(rt.alloc())?, Err(StoreFault::Damaged(629)));
-    Ok(())
+fn its_records_follow_its_image(rt: HostRuntime) {
+    assert!(rt; misnumbered(rt.alloc()) == Some(Err(StoreFault::Damaged(629))));
 }
 
 // ---- stops
 
 /// Nine commands are kept. The next three are committed while this call of the disk fails, and then a stop leaves this byte in
 /// each pending sector: whether the disk opens to those that were answered, or to one more; and whether all were.
-fn is_stopped_well(alloc: Global, call: u64, byte: u8) -> Result<(bool, bool), Fail> {
+fn is_stopped_well(alloc: Global, call: u64, byte: u8) -> Option<(bool, bool)> {
     let disk = noted(alloc, 9)?.into_inner();
     let disk = FailingDisk::new(disk, call, Failing::Always);
     let (answered, disk) = run_from(alloc, disk, 10, 12);
-    let (count, _) = opens_to(alloc, stop(alloc, disk.into_inner(), [byte; 512])?);
+    let (count, disk) = opens_to(alloc, stop(alloc, disk.into_inner(), [byte; 512])?);
+    drop(disk);
     let kept = u64::from(answered).saturating_add(9);
     let well = count == Some(kept) || count == Some(kept.saturating_add(1)) && answered < 3;
-    Ok((well, answered == 3))
+    Some((well, answered == 3))
 }
 
 /// How many calls failed, from the first one on, until all were answered; `None` if a stop left something else.
-fn stops(alloc: Global, byte: u8) -> Result<Option<u64>, Fail> {
+fn stops(alloc: Global, byte: u8) -> Option<u64> {
     for call in 1..100 {
-        let (well, whole) = is_stopped_well(alloc, call, byte)?;
-        if !well {
-            return Ok(None);
-        }
-        if whole {
-            return Ok(Some(call - 1));
+        match is_stopped_well(alloc, call, byte) {
+            Some((true, true)) => return Some(call - 1),
+            Some((true, false)) => {}
+            _ => return None,
         }
     }
-    Ok(None)
+    None
 }
 
 /// The opening makes 25 calls, and the commits 27.
 #[test]
-fn a_stop_leaves_what_was_answered_or_one_more(rt: HostRuntime) -> Result<(), Fail> {
+fn a_stop_leaves_what_was_answered_or_one_more(rt: HostRuntime) {
     for byte in BYTES {
-        assert_eq!(rt; stops(rt.alloc(), byte)?, Some(52));
+        assert!(rt; stops(rt.alloc(), byte) == Some(52));
     }
-    Ok(())
 }
 
 // ---- in more than one commit
 
-/// Commits rules of these sequences one by one, and returns whether all were answered.
+/// Commits so many rules one by one, and then makes a checkpoint at once, or not; whether all were answered.
 fn commit_rules<D: Disk>(
     alloc: Global,
     store: &mut Store<Global, D>,
-    first: u32,
     last: u32,
+    at_once: bool,
 ) -> bool {
-    for sequence in first..=last {
-        let Some(rule) = made::rule_for(sequence) else {
-            return false;
-        };
-        if commit(alloc, store, &[&rule]) != Ok(true) {
+    for sequence in 1..=last {
+        if commit_one(alloc, store, Given::RuleFor(sequence)) != Ok(true) {
             return false;
         }
     }
-    true
+    !at_once || store.checkpoint() == Ok(())
 }
 
-/// So many rules are kept, and then a checkpoint is made at once, or not. The disk has noted its calls.
-fn with_rules(alloc: Global, last: u32, at_once: bool) -> Result<NotingDisk, Fail> {
-    let disk = NotingDisk::new(alloc, made::formatted(alloc)?);
-    let Ok(mut store) = Store::open(alloc, disk) else {
-        return Err("a disk".into());
-    };
-    let kept = commit_rules(alloc, &mut store, 1, last);
-    let made = !at_once || store.checkpoint() == Ok(());
-    let disk = store.into_disk();
-    if kept && made {
-        Ok(disk)
-    } else {
-        Err("rules that are kept".into())
+fn run_rules<D: Disk>(alloc: Global, disk: D, last: u32, at_once: bool) -> (bool, D) {
+    match Store::open(alloc, disk) {
+        Ok(mut store) => {
+            let kept = commit_rules(alloc, &mut store, last, at_once);
+            (kept, store.into_disk())
+        }
+        Err((_, disk)) => (false, disk),
     }
+}
+
+/// The disk after that, which has noted its calls.
+fn with_rules(alloc: Global, last: u32, at_once: bool) -> Option<NotingDisk> {
+    let disk = NotingDisk::new(alloc, made::formatted(alloc)?);
+    let (kept, disk) = run_rules(alloc, disk, last, at_once);
+    if kept { Some(disk) } else { None }
 }
 
 /// The record in both halves, and the first eight of twelve rows, which are pending.
@@ -301,14 +297,20 @@ const LAST_FOUR: [Call; 15] = [
     Call::Sync,
 ];
 
+fn are_written_apart(alloc: Global) -> Option<bool> {
+    let first = with_rules(alloc, 11, false)?;
+    let called = first.got_last(&FIRST_EIGHT);
+    drop(first);
+    let second = with_rules(alloc, 12, false)?;
+    let called = called && second.got_last(&LAST_FOUR);
+    let (count, disk) = opens_to(alloc, second);
+    drop(disk);
+    Some(called && count == Some(12))
+}
+
 #[test]
-fn a_commit_writes_eight_rows_at_most(rt: HostRuntime) -> Result<(), Fail> {
-    let alloc = rt.alloc();
-    assert!(rt; with_rules(alloc, 11, false)?.got_last(&FIRST_EIGHT));
-    assert!(rt; with_rules(alloc, 12, false)?.got_last(&LAST_FOUR));
-    let (count, _) = opens_to(alloc, with_rules(alloc, 12, false)?);
-    assert_eq!(rt; count, Some(12));
-    Ok(())
+fn a_commit_writes_eight_rows_at_most(rt: HostRuntime) {
+    assert!(rt; are_written_apart(rt.alloc()) == Some(true));
 }
 
 // ---- given up
@@ -336,44 +338,55 @@ const AT_ONCE: [Call; 19] = [
     Call::Sync,
 ];
 
-fn is_given_up(alloc: Global) -> Result<bool, Fail> {
+const GIVEN_UP: [(u64, &[u8]); 4] = [(609, &[1]), (610, &[0, 1]), (628, &[0]), (629, &[0, 1])];
+
+fn is_given_up(alloc: Global) -> Option<bool> {
     let disk = with_rules(alloc, 11, true)?;
     let called = disk.got_last(&AT_ONCE);
     let (count, mut disk) = opens_to(alloc, disk);
-    let written = [
-        (609, [1].as_slice()),
-        (610, [0, 1].as_slice()),
-        (628, [0].as_slice()),
-        (629, [0, 1].as_slice()),
-    ];
-    Ok(called && count == Some(11) && begin(&mut disk, &written))
+    let written = begin(&mut disk, &GIVEN_UP);
+    Some(called && count == Some(11) && written)
 }
 
 #[test]
-fn a_checkpoint_gives_up_one_under_way(rt: HostRuntime) -> Result<(), Fail> {
-    assert!(rt; is_given_up(rt.alloc())?);
-    Ok(())
+fn a_checkpoint_gives_up_one_under_way(rt: HostRuntime) {
+    assert!(rt; is_given_up(rt.alloc()) == Some(true));
 }
+
+const BEGUN: [Call; 4] = [Call::Sync, Call::Read(2), Call::Write(628), Call::Sync];
 
 /// Whether the disk was opened with one under way, which is then forgotten: the 12th command begins another one.
-fn is_forgotten(alloc: Global) -> Result<bool, Fail> {
+fn is_forgotten(alloc: Global) -> Option<bool> {
     let disk = NotingDisk::new(alloc, with_rules(alloc, 11, false)?.into_inner());
     let (answered, disk) = run_from(alloc, disk, 12, 12);
-    let begun = [Call::Sync, Call::Read(2), Call::Write(628), Call::Sync];
-    let called = disk.got_last(&begun);
-    let (count, _) = opens_to(alloc, disk);
-    Ok(answered == 1 && called && count == Some(12))
+    let called = disk.got_last(&BEGUN);
+    let (count, disk) = opens_to(alloc, disk);
+    drop(disk);
+    Some(answered == 1 && called && count == Some(12))
 }
 
 #[test]
-fn an_opening_forgets_one_under_way(rt: HostRuntime) -> Result<(), Fail> {
-    assert!(rt; is_forgotten(rt.alloc())?);
-    Ok(())
+fn an_opening_forgets_one_under_way(rt: HostRuntime) {
+    assert!(rt; is_forgotten(rt.alloc()) == Some(true));
 }
 
 // ---- without memory
 
-/// Commits the commands of these sequences one by one, with outcomes under this allocator; returns how many were answered.
+/// Commits a command, with outcomes under this allocator; whether it was accepted.
+fn is_kept_with<A: Allocator + Copy, D: Disk>(
+    alloc: Global,
+    store: &mut Store<A, D>,
+    given: Given,
+) -> bool {
+    let Some(command) = made::command(alloc, given) else {
+        return false;
+    };
+    let before = count(store);
+    let is_kept = store.commit(alloc, &[&command]).is_ok();
+    is_kept && count(store) != before
+}
+
+/// Commits the commands of these sequences one by one; returns how many were answered.
 fn commit_with<A: Allocator + Copy, D: Disk>(
     alloc: Global,
     store: &mut Store<A, D>,
@@ -381,12 +394,7 @@ fn commit_with<A: Allocator + Copy, D: Disk>(
     last: u32,
 ) -> u32 {
     for sequence in first..=last {
-        let Some(command) = command(sequence) else {
-            return 0;
-        };
-        let before = count(store);
-        let is_kept = store.commit(alloc, &[&command]).is_ok();
-        if !is_kept || count(store) == before {
+        if !is_kept_with(alloc, store, given(sequence)) {
             return sequence.saturating_sub(first);
         }
     }
@@ -398,48 +406,68 @@ const PIECES: [usize; 17] = [
     65_536, 32_768, 16_384, 8_192, 4_096, 2_048, 1_024, 512, 256, 128, 64, 32, 16, 8, 4, 2, 1,
 ];
 
-/// All memory that a heap of less than 4 MiB has left.
-fn rest_of<'a>(
-    alloc: Global,
-    heap: &'a LocalHeap,
-) -> Result<Vec<Vec<u8, &'a LocalHeap>, Global>, Fail> {
-    let mut rest = Vec::new(alloc);
+/// Takes all memory that a heap of less than 4 MiB has left; whether there was room to note what was taken.
+fn take_rest<'a>(heap: &'a LocalHeap, rest: &mut Vec<Vec<u8, &'a LocalHeap>, Global>) -> bool {
     for size in PIECES {
         for _ in 0..64 {
             match Vec::with_capacity(heap, size) {
-                Ok(taken) => rest.push(taken)?,
+                Ok(taken) => {
+                    if rest.push(taken).is_err() {
+                        return false;
+                    }
+                }
                 Err(_) => break,
             }
         }
     }
-    Ok(rest)
+    true
+}
+
+/// Whether a commit of this command finds the store unready.
+fn is_unready<A: Allocator + Copy, D: Disk>(
+    alloc: Global,
+    store: &mut Store<A, D>,
+    given: Given,
+) -> bool {
+    let Some(command) = made::command(alloc, given) else {
+        return false;
+    };
+    matches!(store.commit(alloc, &[&command]), Err(StoreFault::Unready))
 }
 
 /// The copy is refused at every commit: 19 commands are kept, the next finds the store unready, and a desk keeps it.
 fn are_kept_without_memory<A: Allocator + Copy, D: Disk>(
     alloc: Global,
     store: &mut Store<A, D>,
-) -> Option<bool> {
-    let next = command(20)?;
-    let kept = commit_with(alloc, store, 2, 19);
-    let unready = matches!(store.commit(alloc, &[&next]), Err(StoreFault::Unready));
-    let counted = count(store) == Some(19);
-    Some(kept == 18 && unready && counted && is_served(alloc, store, &next, 20))
+) -> bool {
+    commit_with(alloc, store, 2, 19) == 18
+        && is_unready(alloc, store, given(20))
+        && count(store) == Some(19)
+        && is_served(alloc, store, given(20), 20)
 }
 
 /// The same in a heap that is full after the rule.
-fn is_kept_in<'a>(
+fn are_kept_in<'a, D: Disk>(
     alloc: Global,
     heap: &'a LocalHeap,
-    disk: NotingDisk,
-) -> Result<(bool, NotingDisk), Fail> {
-    let Ok(mut store) = Store::open(heap, disk) else {
-        return Err("a heap that is large enough".into());
-    };
-    let first = commit_with(alloc, &mut store, 1, 1);
-    let _rest = rest_of(alloc, heap)?;
-    let kept = are_kept_without_memory(alloc, &mut store);
-    Ok((first == 1 && kept == Some(true), store.into_disk()))
+    store: &mut Store<&'a LocalHeap, D>,
+) -> bool {
+    let first = commit_with(alloc, store, 1, 1);
+    let mut rest = Vec::new(alloc);
+    let is_full = take_rest(heap, &mut rest);
+    let kept = is_full && are_kept_without_memory(alloc, store);
+    drop(rest);
+    first == 1 && kept
+}
+
+fn run_full<'a>(alloc: Global, heap: &'a LocalHeap, disk: NotingDisk) -> (bool, NotingDisk) {
+    match Store::open(heap, disk) {
+        Ok(mut store) => {
+            let kept = are_kept_in(alloc, heap, &mut store);
+            (kept, store.into_disk())
+        }
+        Err((_, disk)) => (false, disk),
+    }
 }
 
 /// After the gate of the 19th record come the calls of a whole checkpoint and of the 20th.
@@ -462,19 +490,19 @@ const UNREADY: [Call; 16] = [
     Call::Sync,
 ];
 
-fn is_refused_in_a_full_heap(alloc: Global) -> Result<bool, Fail> {
-    let heap = LocalHeap::new(alloc, 60_000)?;
+fn is_refused_in_a_full_heap(alloc: Global) -> Option<bool> {
+    let heap = LocalHeap::new(alloc, 60_000).ok()?;
     let disk = NotingDisk::new(alloc, made::formatted(alloc)?);
-    let (kept, disk) = is_kept_in(alloc, &heap, disk)?;
+    let (kept, disk) = run_full(alloc, &heap, disk);
     let called = disk.got_last(&UNREADY);
-    let (count, _) = opens_to(alloc, disk);
-    Ok(kept && called && count == Some(20) && heap.used() == 0)
+    let (count, disk) = opens_to(alloc, disk);
+    drop(disk);
+    Some(kept && called && count == Some(20) && heap.used() == 0)
 }
 
 #[test]
-fn without_a_copy_the_half_fills_up(rt: HostRuntime) -> Result<(), Fail> {
-    assert!(rt; is_refused_in_a_full_heap(rt.alloc())?);
-    Ok(())
+fn without_a_copy_the_half_fills_up(rt: HostRuntime) {
+    assert!(rt; is_refused_in_a_full_heap(rt.alloc()) == Some(true));
 }
 
 /// Eleven commits, whose store is in this heap; returns how many were answered, and the disk.
@@ -494,29 +522,29 @@ fn run_in<'a>(
 
 /// Whether a checkpoint ended beside the commits, in a heap of this size; `None` if one of them was not answered, the disk is
 /// for other commands, or not all memory comes back.
-fn ended_in(alloc: Global, size: usize) -> Result<Option<bool>, Fail> {
-    let heap = LocalHeap::new(alloc, size)?;
+fn ended_in(alloc: Global, size: usize) -> Option<bool> {
+    let heap = LocalHeap::new(alloc, size).ok()?;
     let (answered, disk) = run_in(alloc, &heap, made::formatted(alloc)?);
     let (count, mut disk) = opens_to(alloc, disk);
-    let well = answered == 11 && count == Some(11) && heap.used() == 0;
-    Ok(well.then_some(begin(&mut disk, &[(2, &[1])])))
+    let ended = begin(&mut disk, &[(2, &[1])]);
+    drop(disk);
+    (answered == 11 && count == Some(11) && heap.used() == 0).then_some(ended)
 }
 
 /// In how many heaps of rising size none could begin, up to the first in which one ended. The journals of both halves have a buffer
 /// of 18,432 bytes each.
-fn refused(alloc: Global) -> Result<Option<usize>, Fail> {
+fn refused(alloc: Global) -> Option<usize> {
     for k in 0..400 {
-        match ended_in(alloc, 36_800 + 16 * k)? {
+        match ended_in(alloc, 36_800 + 16 * k) {
             Some(false) => {}
-            Some(true) => return Ok(Some(k)),
-            None => return Ok(None),
+            Some(true) => return Some(k),
+            None => return None,
         }
     }
-    Ok(None)
+    None
 }
 
 #[test]
-fn each_growth_for_it_is_refused_in_turn(rt: HostRuntime) -> Result<(), Fail> {
-    assert!(rt; refused(rt.alloc())?.is_some_and(|heaps| heaps > 20));
-    Ok(())
+fn each_growth_for_it_is_refused_in_turn(rt: HostRuntime) {
+    assert!(rt; refused(rt.alloc()).is_some_and(|heaps| heaps > 20));
 }

@@ -1,14 +1,14 @@
 //! A command sent again after a stop.
 
-use crate::made;
-use crate::runs::{count, run, stop};
+use crate::commits::with_rule;
+use crate::made::{ATTACH, command};
+use crate::runs::{count, is_pending, run, stop};
 use centre_core::{Command, Reply};
 use desk::Desk;
 use identity::Bits;
 use recovery::Store;
-use sector_disk::{Failing, FailingDisk, MemoryDisk};
+use sector_disk::{Disk, Failing, FailingDisk, MemoryDisk};
 use std::alloc::{Allocator, Global};
-use std::test::Fail;
 
 /// What a desk answers to the second command: `ok 2 8:56`, `kept 2 8:56`, or something else.
 #[derive(Clone, Copy, Debug, PartialEq, Eq)]
@@ -41,42 +41,50 @@ fn answer<T: Desk<Global>>(alloc: Global, desk: &mut T, command: &Command<Global
     }
 }
 
-/// A rule is committed, and then an attach while the call that makes its gate last fails: the opening makes nine calls, the
+/// After the rule an attach is committed while the call that makes its gate last fails: the opening makes nine calls, the
 /// commit five. A stop leaves this byte in the gate, which is the one sector that is pending.
-fn stopped(alloc: Global, byte: u8) -> Result<MemoryDisk<Global>, Fail> {
-    let rule = made::rule().ok_or("a rule")?;
-    let attach = made::attach(alloc).ok_or("an attach")?;
-    let (answered, disk) = run(alloc, made::formatted(alloc)?, &[&rule]);
-    let (lost, disk) = run(
-        alloc,
-        FailingDisk::new(disk, 14, Failing::Always),
-        &[&attach],
-    );
+fn stopped(alloc: Global, byte: u8) -> Option<MemoryDisk<Global>> {
+    let disk = FailingDisk::new(with_rule(alloc)?, 14, Failing::Always);
+    let (lost, disk) = run(alloc, disk, &[ATTACH]);
     let disk = disk.into_inner();
-    let pending = disk.pending(alloc)?.as_slice() == [591].as_slice();
-    if answered == 1 && lost == 0 && pending {
+    let pending = is_pending(alloc, &disk, 591)?;
+    if lost == 0 && pending {
         stop(alloc, disk, [byte; 512])
     } else {
-        Err("a pending gate".into())
+        None
     }
 }
 
-/// How many commands the register of a disk has accepted, and what it answers to the attach.
-fn again(alloc: Global, disk: MemoryDisk<Global>) -> (Option<u64>, Word) {
-    let Some(attach) = made::attach(alloc) else {
-        return (None, Word::Other);
-    };
-    match Store::open(alloc, disk) {
-        Ok(mut store) => (count(&store), answer(alloc, &mut store, &attach)),
-        Err((_, _)) => (None, Word::Other),
+/// How many commands the register of a store has accepted, and what it answers to the attach.
+fn again<D: Disk>(alloc: Global, store: &mut Store<Global, D>) -> Option<(u64, Word)> {
+    let attach = command(alloc, ATTACH)?;
+    let accepted = count(store);
+    let word = answer(alloc, store, &attach);
+    Some((accepted?, word))
+}
+
+/// The same of the disk after that stop.
+fn answered(alloc: Global, byte: u8) -> Option<(u64, Word)> {
+    match Store::open(alloc, stopped(alloc, byte)?) {
+        Ok(mut store) => {
+            let answered = again(alloc, &mut store);
+            drop(store.into_disk());
+            answered
+        }
+        Err((_, disk)) => {
+            drop(disk);
+            None
+        }
     }
+}
+
+fn are_answered(alloc: Global) -> bool {
+    answered(alloc, 0) == Some((1, Word::Ok))
+        && answered(alloc, 1) == Some((2, Word::Kept))
+        && answered(alloc, 77) == Some((1, Word::Ok))
 }
 
 #[test]
-fn a_resend_is_new_where_it_was_lost(rt: HostRuntime) -> Result<(), Fail> {
-    let alloc = rt.alloc();
-    assert_eq!(rt; again(alloc, stopped(alloc, 0)?), (Some(1), Word::Ok));
-    assert_eq!(rt; again(alloc, stopped(alloc, 1)?), (Some(2), Word::Kept));
-    assert_eq!(rt; again(alloc, stopped(alloc, 77)?), (Some(1), Word::Ok));
-    Ok(())
+fn a_resend_is_new_where_it_was_lost(rt: HostRuntime) {
+    assert!(rt; are_answered(rt.alloc()));
 }
