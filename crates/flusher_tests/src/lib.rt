@@ -6,6 +6,8 @@ mod answered;
 #[cfg(test)]
 mod centres;
 #[cfg(test)]
+mod closing;
+#[cfg(test)]
 mod empty;
 #[cfg(test)]
 mod failing;
