@@ -16,6 +16,7 @@ is_row_of kind.Item kind.Item = true
 is_row_of kind.Station kind.Station = true
 is_row_of _ _ = false
 
+-- it is the header of an image
 abbrev pub is_header : Kind → Bool
 is_header kind.Header = true
 is_header _ = false
