@@ -1,7 +1,7 @@
 #!/usr/bin/env python3
 """Checks that what must be believed is separate from what only helps. No definition of a crate's specs/ cites one of its
 own or another crate's specs/Inside/, except from within specs/Inside/. No clause of a public function or of a trait
-cites one either. Each definition of specs/ has a comment line above it, which says it in words. There are cases for
+cites one either; a function of a private module that lib.rt does not export is not public. Each definition of specs/ has a comment line above it, which says it in words. There are cases for
 each crate with definitions. Prints the cases that fail, and last 'N passed, M failed'.
 Usage: tests/run inside"""
 import pathlib
@@ -30,11 +30,19 @@ def helpers(text):
     return found
 
 
-def clauses(text):
+def kept_in(crate, path):
+    """Whether a free function of this source can't be reached from other crates, by its name."""
+    text = (crate / 'src/lib.rt').read_text() if (crate / 'src/lib.rt').is_file() else ''
+    is_private = re.search(rf'^mod {path.relative_to(crate / "src").parts[0].removesuffix(".rt")};', text, re.M)
+    exported = {name for one in re.findall(r'^pub use ([^;]*);', text, re.M) for name in NAME.findall(one)}
+    return lambda name: bool(is_private) and name not in exported
+
+
+def clauses(text, is_kept):
     """The clauses of the public functions and traits of a source."""
     for one in PUBLIC.finditer(text):
-        at = re.search(r'\b(?:requires|ensures)\b', one[0])
-        if at:
+        at, free = re.search(r'\b(?:requires|ensures)\b', one[0]), re.match(r'pub fn (\w+)', one[0])
+        if at and not (free and is_kept(free[1])):
             yield one[0][at.start():]
 
 
@@ -44,7 +52,7 @@ def judge(crate):
             raise Differs(f'{path.relative_to(CRATES)} cites {sorted(helpers(path.read_text()))}')
     for path in sorted((crate / 'src').rglob('*.rt')):
         text = path.read_text()
-        for clause in clauses(text):
+        for clause in clauses(text, kept_in(crate, path)):
             cited = helpers(text) & set(NAME.findall(clause))
             if cited:
                 raise Differs(f'{path.relative_to(CRATES)}: a public clause cites {sorted(cited)}')

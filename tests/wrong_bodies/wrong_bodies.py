@@ -9,7 +9,9 @@ function. Here many edits, each in the body of another function, are planted in 
 'only: NAME' names the function whose proof has to refuse an edit that is in no function's body.
 
 A verdict is kept: tests/refused_edits.txt has a line for each crate whose edits were all refused, with a sum over what these verdicts
-depend on: the crate's own text and edits, the definitions, lemmas and contracts of the crates below it, the kit's logic, and this script.
+depend on: the crate's own text and edits, what it sees of the crates below it, the kit's logic, and this script. It sees their public
+interface, their definitions (of specs/Inside/ those that these need), and the statements of the lemmas that any crate above names; it sees no
+body, private function or constant, no import, and no proof of a lemma. So a private change below leaves a verdict as it is.
 A crate whose sum is there is not tried again; --all tries every crate, and so does naming them. The script writes the file.
 
 --proved says that `rt ci` has just proved these crates, unchanged. Without it each is proved first, for the edited functions.
@@ -84,20 +86,136 @@ def definitions(text):
     return "\n".join(line.rstrip() for line in text.split("\n") if not line.lstrip().startswith("--"))
 
 
-def contracts(crate):
-    """Returns what the crates above see: definitions, lemmas, and its sources without comments, tests and bodies of functions."""
-    source, seen = source_of(crate), []
-    for file in sorted(source.data):
-        bodies_of = [(f.opens, f.end) for f in source.functions if f.file == file and f.has_body and not is_constant(source, f)]
-        rows, _ = source.tokens(file)
-        words = [text for _, start, _, kind, text in rows if kind in ("Code", "Literal", "Head", "Antt") and not text.startswith("//") and not any(a < start < b for a, b in bodies_of)]
-        seen.append(f"{file} {' '.join(words)}")
-    for part in ("specs", "proofs"):
-        for at, folders, files in sorted(os.walk(f"{crate.folder}/{part}")):
-            # (a crate above may cite lemmas, and no answer of a function's proof)
-            names = [it for it in sorted(files) if it.endswith(".antt") and (part == "specs" or at == f"{crate.folder}/proofs")]
-            seen += [f"{os.path.relpath(at, crate.folder)}/{it} {definitions(rtlib.text_of(f'{at}/{it}'))}" for it in names]
-    return "\n".join(seen)
+def hidden_in(source, file):
+    """Returns the places of a source that no crate above sees: bodies, attributes, and functions that are neither public nor a trait's."""
+    hidden = []
+    for f in source.functions:
+        if f.file == file and f.has_body and not is_constant(source, f):
+            head = source.data[file].find(b"pub", f.first, f.start)
+            hidden += [(f.first - 1, f.start if head < 0 else head), (f.opens, f.end)] if f.is_pub or f.in_trait else [(f.first - 1, f.end)]
+    return hidden
+
+
+def end_of(rows, at):
+    """Returns the place of the `;` that ends the item from this place on."""
+    depth = 0
+    while rows[at][4] != ";" or depth:
+        depth += (rows[at][4] in ("(", "[", "{")) - (rows[at][4] in (")", "]", "}"))
+        at += 1
+    return at
+
+
+def items_of(rows):
+    """Yields the items `use`, `ghost use` and private constants, and the rest token by token: a kind, and texts. Private `mod` is left out."""
+    at = 0
+    while at < len(rows):
+        text, kind = rows[at][4], rows[at][3]
+        if (text, kind) == ("mod", "Code") and rows[at + 2][4] == ";" and (not at or rows[at - 1][4] != "pub"):
+            at += 3
+            continue
+        is_public = at and rows[at - 1][4] == "pub"
+        is_ghost = text == "ghost" and at + 1 < len(rows) and rows[at + 1][4] == "use"
+        is_constant = (text, kind) in (("const", "Code"), ("static", "Code")) and rows[at + 2][4] == ":" and not is_public
+        if not is_ghost and not is_constant and (text, kind) != ("use", "Code"):
+            yield "token", [text]
+            at += 1
+            continue
+        end = end_of(rows, at)
+        yield "ghost" if is_ghost else "constant" if is_constant else "token" if is_public else "import", [row[4] for row in rows[at : end + 1]]
+        at = end + 1
+
+
+def used_names(words, rest):
+    """Returns the module and the names of a `ghost use`, those alone that the rest of the source has."""
+    text = "".join(f" {it} " if it == "as" else it for it in words[2:-1])
+    module, _, names = text.partition(".{")
+    there = lambda name: all(part in rest for part in name.split(" as ")[-1].split("◌"))
+    kept = [it for it in names.rstrip("}").split(",") if there(it)] if names else [""] * there(module.split(".")[-1])
+    return f"{module} {' '.join(kept)}" if any(kept) or not names and kept else ""
+
+
+def seen_source(source, file):
+    """Returns what the crates above see of a source: no comments, tests, bodies, private functions, imports of code and unused names."""
+    hidden, (rows, _) = hidden_in(source, file), source.tokens(file)
+    shown = [row for row in rows if row[3] in ("Code", "Literal", "Head", "Antt") and not row[4].startswith("//") and not any(a < row[1] < b for a, b in hidden)]
+    items = [*items_of(shown)]
+    rest = " ".join(text for kind, texts in items if kind == "token" for text in texts)
+    ghosts = [it for kind, texts in items if kind == "ghost" for it in [used_names(texts, rest)] if it]
+    constants = [" ".join(texts) for kind, texts in items if kind == "constant" and texts[1] in " ".join([*ghosts, rest])]
+    return "\n".join([*ghosts, *constants, rest])
+
+
+def modules_named(name, text):
+    """Returns the files of a crate's specs/ that a text names, as paths without an ending."""
+    return {it.strip(".").replace(".", "/") for it in re.findall(rf"\bRattle\.{name}\.specs\.([\w.]+)", text)}
+
+
+@functools.lru_cache(None)
+def texts_of(folder):
+    """Returns all text of a crate, and the texts of its specs/ and its lemmas by their paths without an ending."""
+    texts = {os.path.relpath(it, folder): rtlib.text_of(it) for it in rtlib.files_of(folder)}
+    parts = [{it.removeprefix(f"{part}/").removesuffix(".antt"): definitions(text) for it, text in texts.items() if it.startswith(f"{part}/")} for part in ("specs", "proofs")]
+    return "\n".join(texts.values()), *parts
+
+
+def reached(files, first, leads):
+    """Returns those of the files that the first ones lead to, in order; a name may end in that of a definition."""
+    found, left = set(), [*first]
+    while left:
+        name = left.pop()
+        name = next((it for it in (name, os.path.dirname(name)) if it in files), None)
+        if name and name not in found:
+            found.add(name)
+            left += leads(files[name])
+    return sorted(found)
+
+
+def lemmas_named(name, text):
+    """Returns the lemmas of a crate that a text names, each as its file and its own name."""
+    lists = re.findall(rf"\bRattle\.{name}\.proofs\.([\w.]+)\.\{{([^}}]*)\}}", text)
+    paths = re.findall(rf"\b{name}::proofs::(\w+)::(\w+)", text)
+    return {(file, it.split(" as ")[0].strip()) for file, names in lists for it in names.split(",")} | {*paths}
+
+
+def declared(text):
+    """Returns what a file of lemmas says of each name: a lemma's statement, and all of what is no lemma. Under "" is what is in no such form."""
+    found, kinds = collections.defaultdict(list), {}
+    for block in re.split(r"\n(?=\S)", text):
+        head = re.match(r"((?:(?:pub|abbrev|unfoldable|mutual|record|data|ruleset) )*)([^\s:=]+)", block)
+        kind, name = (head[1], head[2]) if head else ("", "")
+        if name in ("use", "unfolding"):
+            continue
+        name = "" if name in ("module", "infixl", "infixr", "infix") else name
+        kinds[name] = kinds.get(name, "") + kind.replace("pub ", "")
+        is_statement = re.match(r"(?:pub )?\S+ :\s", block)
+        found[name] += [block] * bool(is_statement or kinds[name] or not name)
+    return {name: "\n".join(blocks) for name, blocks in found.items()}
+
+
+def statements(crate, others):
+    """Returns the statements of the lemmas that `others` name, and of what these name in turn."""
+    lemmas = {it: text for it, text in texts_of(crate.folder)[2].items() if "/" not in it}
+    known = {it: declared(text) for it, text in lemmas.items()}
+    imports = {it: {name: file for file, name in lemmas_named(crate.name, text)} for it, text in lemmas.items()}
+    found, left = {}, [*lemmas_named(crate.name, others)]
+    while left:
+        file, name = left.pop()
+        if (file, name) in found or file not in known:
+            continue
+        found[file, name] = text = known[file].get(name) or lemmas[file]
+        words = {*re.findall(r"[^\s(){},;.]+", text)}
+        left += [(file, it) for it in words & {*known[file]} - {name}] + [(imports[file][it], it) for it in words & {*imports[file]}]
+    return [f"{file} {name} {text}" for (file, name), text in sorted(found.items())]
+
+
+def contracts(crate, others=""):
+    """Returns what the crates above see of this one: its public interface, its definitions, and the statements of the lemmas that `others` name."""
+    source, (_, specs, _) = source_of(crate), texts_of(crate.folder)
+    seen = [f"{file} {text}" for file in sorted(source.data) for text in [seen_source(source, file)] if text.strip()]
+    outside = {it: text for it, text in specs.items() if not it.startswith("Inside")}
+    named = modules_named(crate.name, "\n".join([*seen, *outside.values()]))
+    inside = reached(specs, {it for it in named if it.startswith("Inside/")}, lambda text: modules_named(crate.name, text))
+    return "\n".join([*seen, *(f"{it} {specs[it]}" for it in sorted({*outside, *inside})), *statements(crate, others)])
 
 
 def sum_of(crate, seen):
@@ -114,7 +232,8 @@ def sum_of(crate, seen):
                 made.update(f"{inside}/{it}\n{rtlib.text_of(f'{at}/{it}')}\n".encode(errors="replace"))
     for low in sorted(crate.below(), key=lambda it: it.name):
         if low.name not in seen:
-            seen[low.name] = contracts(low)
+            above = (it for it in rtlib.crates_below(os.getcwd()) if low.name in [dep.name for dep in it.below()])
+            seen[low.name] = contracts(low, "\n".join(texts_of(it.folder)[0] for it in above))
         made.update(f"{low.name}\n{seen[low.name]}\n".encode(errors="replace"))
     return made.hexdigest()
 

@@ -1,17 +1,15 @@
 -- Bits in bytes: the prefix of some bytes, what fills the last one, and bytes as one number.
-use Rattle.std.proofs.Common.{◌≡◌, ℕ, zero, suc, ◌+◌, ◌-◌, ◌*◌, ◌/◌, ◌%◌, ◌^◌, ◌<◌, ◌≤◌, min, Bool, true, false, List, [], ◌∷◌, ◌++◌, length, slice_index, take, drop, replicate, Some, None, refl, sym, ap, subst, ◌∙◌, arith, append_assoc, inl, inr}
-use Rattle.std.specs.Prelude.{not, ◌==◌}
+use Rattle.std.proofs.Common.{◌≡◌, ℕ, zero, suc, ◌+◌, ◌-◌, ◌*◌, ◌/◌, ◌%◌, ◌^◌, ◌<◌, ◌≤◌, Bool, true, false, List, [], ◌∷◌, ◌++◌, length, slice_index, take, drop, replicate, Some, None, refl, sym, ap, subst, ◌∙◌, arith, inl, inr}
+use mathlib.Core.Bool.{false≢true}
+use Rattle.std.specs.Prelude.{not, slice_index_or, ◌==◌}
 use Rattle.std.specs.List.{list_all, flat_map}
 use Rattle.std.specs.Int.{byte_at}
 use Rattle.std.proofs.lemmas.Bool.{cases_eq, eq-eqb, ne_eqb, le-ltb, lt-ltb}
-use Rattle.std.proofs.lemmas.List.{append-nil, take_all, take_at, drop-take, take-take, length-take, take-append-drop}
-use Rattle.std.proofs.lemmas.List.Concat.{flat_map-append}
-use Rattle.std.proofs.lemmas.Nat.{shr_below}
+use Rattle.std.proofs.lemmas.List.{append-nil, take_at, drop-take, take-take, length-take}
 use Rattle.byteorder.specs.Endian.{big_number}
-use Rattle.byteorder.specs.Numbers.{big_from-lt}
 use Rattle.identity.specs.Number.{num, number}
-use Rattle.identity.specs.Inside.NumberLaws.{length-num, num-append, num-mod, take-num, drop-num, zeros_if, zeros_then, num-number}
-use Rattle.identity.specs.Packed.{AreBytes, bits_of}
+use Rattle.identity.specs.Inside.NumberLaws.{length-num, num-append, num-mod, drop-num, zeros_if, zeros_then, num-number}
+use Rattle.identity.specs.Packed.{AreBytes, IsPacked, bits_of}
 use Rattle.identity.proofs.Bytes.{length-bits_of}
 use Rattle.identity.proofs.SameBytes.{bytes_from_bits}
 use Rattle.command_bytes.specs.Fields.{◌>>=◌, big, left, unpadded, number_at, left_at}
@@ -45,70 +43,10 @@ is_left w bytes bits are long le is =
     let back : num (8 * w) (number filled) ≡ filled = subst (λ (n : ℕ). num n (number filled) ≡ filled) len (num-number filled) in
     bytes_from_bits bytes (big w (number filled)) are (are-big w (number filled)) (is ∙ sym back ∙ sym (bits_of-big w (number filled)))
 
--- ---- the first bits of bytes, as a number
-
-pub prefix_bytes : (bytes : List ℕ) (left width value v : ℕ) → AreBytes bytes → value ≡ big_number (length bytes) bytes → width ≡ min left (8 * length bytes) → v ≡ value / 2 ^ (8 * length bytes - width)
-    → (num width v ≡ take left (bits_of bytes)) × (v < 2 ^ width)
-prefix_bytes bytes left width value v are is_value is_width is_v = (
-  rw is_v (sym (take-num width (8 * length bytes) value (omega (arith, is_width)))) ∙ ap (take width) bits ∙ same,
-  rw is_v (shr_below value width (8 * length bytes - width) (subst (λ (n : ℕ). value < 2 ^ n) whole small)),
-)
-  where
-    bits : num (8 * length bytes) value ≡ bits_of bytes
-    bits = ap (num (8 * length bytes)) is_value ∙ number_bits (length bytes) bytes are (omega arith) ∙ ap bits_of (take_all (length bytes) bytes (omega arith))
-
-    small : value < 2 ^ (8 * length bytes)
-    small = rw is_value (rw (pow_256 (length bytes)) at (big_from-lt 0 (length bytes) bytes are))
-
-    whole : 8 * length bytes ≡ width + (8 * length bytes - width)
-    whole = omega (arith, is_width)
-
-    same : take width (bits_of bytes) ≡ take left (bits_of bytes)
-    same = elim (cases_eq width left) [
-      | inl e ↦ ap (λ (n : ℕ). take n (bits_of bytes)) e
-      | inr other ↦ take_all width (bits_of bytes) (omega (arith, length-bits_of bytes, is_width, other)) ∙ sym (take_all left (bits_of bytes) (omega (arith, length-bits_of bytes, is_width, other)))
-    ]
-
--- ---- the first bits of bytes, some bytes after others
-
-take_as : (n m : ℕ) (bits : List Bool) → n ≡ m → take n bits ≡ take m bits
-take_as n m bits e = ap (λ (k : ℕ). take k bits) e
+-- ---- what fills the last byte
 
 drop_as : (n m : ℕ) (bits : List Bool) → n ≡ m → drop n bits ≡ drop m bits
 drop_as n m bits e = ap (λ (k : ℕ). drop k bits) e
-
-take_after : (n : ℕ) (ahead following : List Bool) → take n (ahead ++ following) ≡ take n ahead ++ take (n - length ahead) following
-take_after zero [] following = take_as 0 (0 - 0) following (omega arith)
-take_after (suc n) [] following = take_as (suc n) (suc n - 0) following (omega arith)
-take_after zero (b ∷ ahead) following = take_as 0 (0 - suc (length ahead)) following (omega arith)
-take_after (suc n) (b ∷ ahead) following = ap (λ (l : List Bool). b ∷ l) (take_after n ahead following ∙ ap (λ (l : List Bool). take n ahead ++ l) (take_as (n - length ahead) (suc n - suc (length ahead)) following (omega arith)))
-
--- what was put of the first bytes, and what is still to be put of those after them
-pub next_bits : (out now : List Bool) (bytes prefix following : List ℕ) (k n m : ℕ) → prefix ≡ take k bytes → following ≡ drop k bytes → m ≡ n - 8 * length prefix → now ≡ out ++ take n (bits_of prefix)
-    → now ++ take m (bits_of following) ≡ out ++ take n (bits_of bytes)
-unfolding bits_of
-next_bits out now bytes prefix following k n m prefix_is after_is is put =
-    let parts : prefix ++ following ≡ bytes = ap (λ (l : List ℕ). l ++ following) prefix_is ∙ ap (λ (l : List ℕ). take k bytes ++ l) after_is ∙ take-append-drop k bytes in
-    let all : bits_of bytes ≡ bits_of prefix ++ bits_of following = ap (flat_map (num 8)) (sym parts) ∙ flat_map-append (num 8) prefix following in
-    let rest = take m (bits_of following) in
-    let part : take n (bits_of prefix ++ bits_of following) ≡ take n (bits_of prefix) ++ rest =
-    take_after n (bits_of prefix) (bits_of following) ∙ ap (λ (l : List Bool). take n (bits_of prefix) ++ l) (take_as (n - length (bits_of prefix)) m (bits_of following) (omega (arith, length-bits_of prefix, is))) in
-    ap (λ (l : List Bool). l ++ rest) put ∙ append_assoc out (take n (bits_of prefix)) rest ∙ ap (λ (l : List Bool). out ++ l) (sym part ∙ ap (take n) (sym all))
-
-no_bits : List Bool
-no_bits = []
-
-take_none : (n : ℕ) → take n no_bits ≡ []
-unfolding no_bits
-take_none zero = refl
-take_none (suc n) = refl
-
-pub done_bits : (out : List Bool) (bytes : List ℕ) (n : ℕ) → length bytes ≡ 0 → out ++ take n (bits_of bytes) ≡ out
-unfolding bits_of no_bits
-done_bits out [] n none = ap (λ (l : List Bool). out ++ l) (take_none n) ∙ append-nil out
-done_bits out (b ∷ bytes) n none = absurd (omega (arith, none))
-
--- ---- what fills the last byte
 
 test : (k v : ℕ) → (v % 2 ^ k == 0) ≡ list_all not (num k v)
 test k v =
@@ -153,6 +91,23 @@ unfolding bits_of
 no_fill [] zero e = refl
 no_fill [] (suc len) e = refl
 no_fill (b ∷ bytes) len e = absurd (omega arith)
+
+-- no bit after these is 1
+none_set : (bits : List Bool) (i : ℕ) → list_all not bits ≡ true → slice_index_or bits i false ≡ false
+none_set [] i zeros = refl
+none_set (true ∷ bits) i zeros = absurd (false≢true zeros)
+none_set (false ∷ bits) zero zeros = refl
+none_set (false ∷ bits) (suc i) zeros = none_set bits i zeros
+
+filled : (len : ℕ) (bits : List Bool) (i : ℕ) → list_all not (drop len bits) ≡ true → len ≤ i → slice_index_or bits i false ≡ false
+filled zero [] i zeros le = refl
+filled zero (b ∷ bits) i zeros le = none_set (b ∷ bits) i zeros
+filled (suc len) [] i zeros le = refl
+filled (suc len) (b ∷ bits) zero zeros le = absurd (omega (arith, le))
+filled (suc len) (b ∷ bits) (suc i) zeros le = filled len bits i zeros (omega (arith, le))
+
+pub are_packed : (bytes : List ℕ) (len : ℕ) → len ≤ 8 * length bytes → 8 * length bytes < len + 8 → list_all not (drop len (bits_of bytes)) ≡ true → IsPacked bytes len
+are_packed bytes len room tight zeros = record { room = room; tight = tight; fill = λ i le. filled len (bits_of bytes) i zeros le }
 
 -- ---- bits that are read
 

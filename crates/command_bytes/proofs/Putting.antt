@@ -1,6 +1,7 @@
 -- Fields as they are written.
-use Rattle.std.proofs.Common.{◌≡◌, ℕ, zero, suc, get_or, ◌+◌, ◌-◌, ◌*◌, ◌≤◌, Bool, false, List, ◌++◌, length, take, drop, replicate, refl, sym, ap, subst, ◌∙◌, arith}
+use Rattle.std.proofs.Common.{◌≡◌, ℕ, zero, suc, get_or, ◌+◌, ◌-◌, ◌*◌, ◌<◌, ◌≤◌, Bool, false, List, [], ◌∷◌, ◌++◌, length, take, drop, replicate, refl, sym, ap, subst, ◌∙◌, arith}
 use Rattle.std.specs.Int.{bytes_high_first}
+use Rattle.std.proofs.Math.Nat.{mod-eq_of_lt}
 use Rattle.std.proofs.lemmas.List.{take_all, take-append-drop, length-drop, ext_get_or, get_or-drop, length-replicate}
 use Rattle.identity.specs.Packed.{AreBytes, IsPacked, bits_of}
 use Rattle.identity.specs.Path.{left_aligned}
@@ -39,3 +40,14 @@ number_bytes w n le =
     let e : (8 - w) + w ≡ 8 = omega arith in
     let last : drop (8 - w) (bytes_high_first 8 n) ≡ big w n = subst (λ (m : ℕ). drop (8 - w) (big m n) ≡ big w n) e (drop-big (8 - w) w n) in
     ap (take (8 - (8 - w))) last ∙ take_all (8 - (8 - w)) (big w n) (omega (arith, length-big w n))
+
+-- what comes before a command's body, byte by byte
+pub head_bytes : (a b c t : ℕ) → t < 256
+    → get_or (bytes_high_first 2 a) 0 0 ∷ get_or (bytes_high_first 2 a) 1 0 ∷ get_or (bytes_high_first 4 b) 0 0 ∷ get_or (bytes_high_first 4 b) 1 0
+    ∷ get_or (bytes_high_first 4 b) 2 0 ∷ get_or (bytes_high_first 4 b) 3 0 ∷ get_or (bytes_high_first 4 c) 0 0 ∷ get_or (bytes_high_first 4 c) 1 0
+    ∷ get_or (bytes_high_first 4 c) 2 0 ∷ get_or (bytes_high_first 4 c) 3 0 ∷ t ∷ [] ≡ big 2 a ++ big 4 b ++ big 4 c ++ big 1 t
+unfolding big
+head_bytes a b c t small = ap (λ (l : List ℕ). big 2 a ++ big 4 b ++ big 4 c ++ l) (last t small)
+  where
+    last : (t : ℕ) → t < 256 → t ∷ [] ≡ big 1 t
+    last t small = ap (λ (n : ℕ). n ∷ []) (sym (mod-eq_of_lt small))

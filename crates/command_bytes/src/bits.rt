@@ -1,5 +1,5 @@
 // Strings of bits that are still in the bytes they are read from.
-ghost use Rattle.std.specs.Prelude.{◌≡◌, ◌≤◌, ◌<◌, ◌+◌, ◌-◌, ◌*◌, ◌^◌, ◌++◌, IfOk, OnOk, length, drop, not, option_map, take};
+ghost use Rattle.std.specs.Prelude.{◌≡◌, ◌≤◌, ◌<◌, ◌+◌, ◌*◌, IfOk, length, drop, not, option_map, take};
 ghost use Rattle.std.specs.List.{list_all};
 ghost use Rattle.identity.specs.Number.{num};
 ghost use Rattle.identity.specs.Packed.{bits_of};
@@ -8,8 +8,7 @@ ghost use Rattle.command_bytes.specs.Fields.{bytes_for, left_at};
 ghost use Rattle.command_bytes.specs.Reading.{bits_at};
 
 use crate::fields::number;
-use byteorder::{BigEndian, ByteOrder};
-use identity::{BitWriter, Bits, MOST_BITS};
+use identity::{Bits, MOST_BITS};
 use std::alloc::{AllocError, Allocator};
 use std::marker::Model;
 
@@ -21,59 +20,15 @@ pub struct PackedBits<'a> {
 }
 
 impl<'a> Model for PackedBits<'a> {
-    ghost use Rattle.std.specs.Prelude.{List, Bool, length, take, ◌≤◌, ◌*◌};
-    ghost use Rattle.identity.specs.Packed.{bits_of};
+    ghost use Rattle.std.specs.Prelude.{List, Bool, take, ◌≤◌};
+    ghost use Rattle.identity.specs.Packed.{bits_of, IsPacked};
     ghost use Rattle.identity.specs.BitsText.{most_bits};
 
     ghost Value = { List Bool };
 
     ghost view = { λ p. take p.len (bits_of p.bytes.now) };
 
-    ghost invariant = { λ p. (p.len ≤ most_bits) × (p.len ≤ 8 * length p.bytes.now) };
-}
-
-// Appends a number in `width` bits.
-fn put<A: Allocator>(writer: &mut BitWriter<A>, value: u64, width: u32) -> Result<(), AllocError>
-    requires width { width ≤ 48 }
-    requires fits { value < 2 ^ width }
-    ensures { OnOk result (writer.new ≡ writer.old ++ num width value) }
-{
-    writer.put(value, width).or(Err(AllocError))
-}
-
-// Appends the first `left` bits of one to six bytes, or all their bits if they have fewer.
-fn put_chunk<A: Allocator>(
-    writer: &mut BitWriter<A>,
-    bytes: &[u8],
-    left: usize,
-) -> Result<(), AllocError>
-    requires some { 1 ≤ length bytes.now }
-    requires few { length bytes.now ≤ 6 }
-    ensures { OnOk result (writer.new ≡ writer.old ++ take left (bits_of bytes.now)) }
-{
-    let bits = 8 * bytes.len();
-    let width = left.min(bits);
-    let value = BigEndian::read_uint(bytes, bytes.len()) >> (bits - width);
-    put(writer, value, width as u32)
-}
-
-// Appends the first `len` bits of these bytes, six bytes at a time.
-fn put_bits<A: Allocator>(
-    writer: &mut BitWriter<A>,
-    bytes: &[u8],
-    len: usize,
-) -> Result<(), AllocError>
-    ensures { OnOk result (writer.new ≡ writer.old ++ take len (bits_of bytes.now)) }
-{
-    let mut rest = bytes;
-    let mut left = len;
-    while !rest.is_empty() {
-        let (chunk, following) = rest.split_at(rest.len().min(6));
-        put_chunk(writer, chunk, left)?;
-        left = left.saturating_sub(8 * chunk.len());
-        rest = following;
-    }
-    Ok(())
+    ghost invariant = { λ p. (p.len ≤ most_bits) × IsPacked p.bytes.now p.len };
 }
 
 impl<'a> PackedBits<'a> {
@@ -97,9 +52,7 @@ impl<'a> PackedBits<'a> {
         ensures bits { IfOk result (λ bits. bits ≡ self.now) }
         ensures short { length self.now ≤ most_bits }
     {
-        let mut writer = BitWriter::new(alloc);
-        put_bits(&mut writer, self.bytes, self.len)?;
-        Ok(writer.finish())
+        Bits::from_packed(alloc, self.bytes, self.len).or(Err(AllocError))
     }
 }
 

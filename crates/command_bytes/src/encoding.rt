@@ -2,7 +2,7 @@
 ghost use Rattle.std.specs.Prelude.{◌≡◌, ◌≤◌, ◌+◌, ◌++◌, IfOk, length};
 ghost use Rattle.identity.specs.BitsText.{most_bits};
 ghost use Rattle.centre_core.specs.Ranges.{BodyInRange};
-ghost use Rattle.command_bytes.specs.Fields.{bytes_for};
+ghost use Rattle.command_bytes.specs.Fields.{big, bytes_for};
 ghost use Rattle.command_bytes.specs.Inside.Sizes.{body_size};
 ghost use Rattle.command_bytes.specs.Text.{IsCommand, Spells, body_text, command_text, longest, tag_of};
 
@@ -11,7 +11,7 @@ use crate::put::{put_bits, put_key, put_number, put_prefix, put_rule};
 use centre_core::{Body, Command};
 use std::alloc::{AllocError, Allocator};
 
-fn tag<A: Allocator>(body: &Body<A>) -> u64
+fn tag<A: Allocator>(body: &Body<A>) -> u8
     ensures { result ≡ tag_of body.now }
 {
     match body {
@@ -103,6 +103,28 @@ fn hold_ranges<A: Allocator>(command: &Command<A>)
     let _station = command.station.number();
 }
 
+// What comes before a command's body: station, sequence, moment and tag.
+fn head_of<A: Allocator>(command: &Command<A>) -> [u8; 11]
+    ensures { result ≡ big 2 command.now.station ++ big 4 command.now.sequence ++ big 4 command.now.moment ++ big 1 (tag_of command.now.body) }
+{
+    let station = command.station.number().to_be_bytes();
+    let sequence = command.sequence.number().to_be_bytes();
+    let moment = command.moment.number().to_be_bytes();
+    [
+        station[0],
+        station[1],
+        sequence[0],
+        sequence[1],
+        sequence[2],
+        sequence[3],
+        moment[0],
+        moment[1],
+        moment[2],
+        moment[3],
+        tag(&command.body),
+    ]
+}
+
 /// Appends the command's text to what has room for it. It never allocates.
 #[tactic(auto, unfolding(crate::specs::Text::command_text), using(std::proofs::Common::append_assoc, crate::proofs::Sizes::command_size))]
 pub fn append<R: Room, B: Allocator>(out: &mut R, command: &Command<B>)
@@ -112,10 +134,7 @@ pub fn append<R: Room, B: Allocator>(out: &mut R, command: &Command<B>)
     ensures is_command { IsCommand command.now }
 {
     hold_ranges(command);
-    put_number(out, 2, u64::from(command.station.number()));
-    put_number(out, 4, u64::from(command.sequence.number()));
-    put_number(out, 4, u64::from(command.moment.number()));
-    put_number(out, 1, tag(&command.body));
+    out.put(&head_of(command));
     put_body(out, &command.body);
 }
 

@@ -5,8 +5,8 @@ use linked_list_allocator::LocalHeap;
 use std::alloc::Global;
 use std::test::Fail;
 
-/// A command with a short message.
-const LINE: &str = "3 0 sds 234-14-2001 234-14-2002 48:820405014849";
+/// A command with a message of more bits than are kept in place.
+const LINE: &str = "3 0 sds 234-14-2001 234-14-2002 96:820405014849484948494849";
 
 /// Nothing if memory runs out in this heap; else whether the bytes are read, and written as the same bytes.
 fn is_done<'a>(heap: &'a LocalHeap, bytes: &[u8]) -> Option<bool> {

@@ -1,5 +1,5 @@
 -- What words say.
-use Rattle.std.proofs.Common.{◌≡◌, ℕ, ◌<◌, Bool, true, false, List, [], ◌∷◌, length, take, Option, Some, None, Result, Ok, Err, refl, arith}
+use Rattle.std.proofs.Common.{◌≡◌, ℕ, ◌<◌, Bool, true, false, List, [], ◌∷◌, length, take, Option, Some, None, Result, Ok, Err, refl, sym, subst, arith}
 use Rattle.std.specs.Prelude.{IfOk, codes, nat_le, if◌then◌else◌}
 use Rattle.std.specs.Result.{result_ok}
 use Rattle.std.specs.Str.{bytes_eq}
@@ -96,6 +96,14 @@ module _ (A : Type 0) where
   body_short name (a ∷ b ∷ c ∷ d ∷ e ∷ []) =
       either_short (bytes_eq name (codes "rule")) (rule_body (result_ok (reading_prefix a)) (rule_in b c d e)) (Err Syntax) (rule_short (result_ok (reading_prefix a)) (rule_in b c d e)) tt
   body_short name (a ∷ b ∷ c ∷ d ∷ e ∷ f ∷ ws) = tt
+
+  -- a body that three words say
+  pub three_short : (name a b c : List ℕ) (body : Result (Body A) LineFault) → body ≡ body_in name (a ∷ b ∷ c ∷ []) → HasShortPdu body
+  three_short name a b c body same = subst HasShortPdu (sym same) (body_short name (a ∷ b ∷ c ∷ []))
+
+  -- a body that four words say
+  pub four_short : (name a b c d : List ℕ) (body : Result (Body A) LineFault) → body ≡ body_in name (a ∷ b ∷ c ∷ d ∷ []) → HasShortPdu body
+  four_short name a b c d body same = subst HasShortPdu (sym same) (body_short name (a ∷ b ∷ c ∷ d ∷ []))
 
 -- a body with a PDU, after a head and without one
 pub unread : {A : Type 0} (station : ℕ) (head : Head) (body : Result (Body A) LineFault) → GivesPdu body → sequence_of (command_line station (Some head) body) ≡ Some head.sequence

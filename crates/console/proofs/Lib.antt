@@ -1,8 +1,8 @@
 pub mod Splits
 pub mod Fits
-pub mod Digits
 pub mod Items
 pub mod Marks
+pub mod Lowest
 pub mod Left
 pub mod Forms
 pub mod Writing

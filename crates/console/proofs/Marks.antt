@@ -13,25 +13,25 @@ told : (b : Bool) → cond {A = ℕ} b 1 0 ≡ 1 → b ≡ true
 told true one = refl
 told false one = absurd (omega (arith, one))
 
--- a bit of the mask of n bytes that are compared with a space
-pub marked_chunk : (line : List ℕ) (at n : ℕ) → at + n ≤ length line → n ≤ 64 → (k : ℕ) →
-    (bit_at (mask_l (map (top 7) (zip2 (λ a b. cond (eqb a b) 255 0) (take n (drop at line)) (replicate n 32))) % 2 ^ 64) k ≡ 1) ↔ ((k < n) × (get_or line (at + k) 0 ≡ 32))
-marked_chunk line at n within few k =
+-- a bit of the mask of n bytes that are compared with a mark
+pub marked_chunk : (mark : ℕ) (line : List ℕ) (at n : ℕ) → at + n ≤ length line → n ≤ 64 → (k : ℕ) →
+    (bit_at (mask_l (map (top 7) (zip2 (λ a b. cond (eqb a b) 255 0) (take n (drop at line)) (replicate n mark))) % 2 ^ 64) k ≡ 1) ↔ ((k < n) × (get_or line (at + k) 0 ≡ mark))
+marked_chunk mark line at n within few k =
     let bytes = take n (drop at line) in
-    let tests = zip2 eqb bytes (replicate n 32) in
+    let tests = zip2 eqb bytes (replicate n mark) in
     let size : length bytes ≡ n = length-chunk at n line within in
-    let long : length tests ≡ n = length-zip2 eqb bytes (replicate n 32) (size ∙ sym (length-replicate {A = ℕ} n 32)) ∙ size in
-    let whole : mask_l (map (top 7) (zip2 (λ a b. cond (eqb a b) 255 0) bytes (replicate n 32))) % 2 ^ 64 ≡ mask_l tests =
-    ap (λ ms. mask_l ms % 2 ^ 64) (tops_compared w8 eqb bytes (replicate n 32)) ∙ mask_l-mod tests 64 (omega (arith, long)) in
+    let long : length tests ≡ n = length-zip2 eqb bytes (replicate n mark) (size ∙ sym (length-replicate {A = ℕ} n mark)) ∙ size in
+    let whole : mask_l (map (top 7) (zip2 (λ a b. cond (eqb a b) 255 0) bytes (replicate n mark))) % 2 ^ 64 ≡ mask_l tests =
+    ap (λ ms. mask_l ms % 2 ^ 64) (tops_compared w8 eqb bytes (replicate n mark)) ∙ mask_l-mod tests 64 (omega (arith, long)) in
     let bit : bit_at (mask_l tests) k ≡ cond (get_or tests k false) 1 0 = bit_mask_l tests k in
-    let one : k < n → get_or tests k false ≡ eqb (get_or line (at + k) 0) 32 = λ inside.
-    get_or-zip2 eqb bytes (replicate n 32) k 0 0 false (omega (arith, size, inside)) (omega (arith, length-replicate {A = ℕ} n 32, inside))
-    ∙ ap (λ b. eqb b (get_or (replicate n 32) k 0)) (get_or-chunk at n line k 0 inside)
-    ∙ ap (λ b. eqb (get_or line (at + k) 0) b) (get_or-replicate n k 32 0 inside) in (
+    let one : k < n → get_or tests k false ≡ eqb (get_or line (at + k) 0) mark = λ inside.
+    get_or-zip2 eqb bytes (replicate n mark) k 0 0 false (omega (arith, size, inside)) (omega (arith, length-replicate {A = ℕ} n mark, inside))
+    ∙ ap (λ b. eqb b (get_or (replicate n mark) k 0)) (get_or-chunk at n line k 0 inside)
+    ∙ ap (λ b. eqb (get_or line (at + k) 0) b) (get_or-replicate n k mark 0 inside) in (
       λ set. let here = told (get_or tests k false) (sym bit ∙ ap (λ m. bit_at m k) (sym whole) ∙ set) in
           let inside : k < n = inside_of k n tests long here in
-          (inside, eqb-true (get_or line (at + k) 0) 32 (sym (one inside) ∙ here)),
-      λ space. ap (λ m. bit_at m k) whole ∙ bit ∙ ap (λ b. cond b 1 0) (one space.0 ∙ eq-eqb (get_or line (at + k) 0) 32 space.1),
+          (inside, eqb-true (get_or line (at + k) 0) mark (sym (one inside) ∙ here)),
+      λ space. ap (λ m. bit_at m k) whole ∙ bit ∙ ap (λ b. cond b 1 0) (one space.0 ∙ eq-eqb (get_or line (at + k) 0) mark space.1),
     )
   where
     by_cases : (k n : ℕ) (tests : List Bool) → length tests ≡ n → get_or tests k false ≡ true → n ≤ k → ⊥

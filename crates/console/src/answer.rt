@@ -61,6 +61,7 @@ pub enum Answer<B: Allocator> {
 
 impl<B: Allocator> Answer<B> {
     /// Whether it reports a bad line, or is an outage word.
+    #[inline(always)]
     pub fn is_trouble(&self) -> bool
         ensures { result ≡ is_trouble self.now }
     {
@@ -86,5 +87,8 @@ pub fn print_answer<A: Allocator, B: Allocator>(
 {
     let before = out.len();
     let put = put_answer(out, answer);
+    if put.is_ok() {
+        return Ok(());
+    }
     put_whole(out, before, put)
 }

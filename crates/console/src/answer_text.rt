@@ -14,11 +14,10 @@ ghost use Rattle.console.specs.Answer.{IsOneLine, IsLine};
 
 use crate::answer::Answer;
 use crate::lists::{put_count, put_groups, put_items, put_members};
-use crate::numbers::put_number;
 use crate::words::{group_word, line_word, mail_word, mm_word, registration_word, sds_word};
 use centre_core::{QueryAnswer, Refusal, Reply, Sequence};
-use identity::{Bits, Itsi, Prefix, print_bits, print_itsi};
-use listings::{Part, presence_word, put_parts};
+use identity::{Bits, Itsi, Prefix, print_bits, print_itsi, print_number};
+use listings::{Part, put_parts};
 use registration::{Radio, Rule};
 use std::alloc::{AllocError, Allocator};
 
@@ -130,29 +129,31 @@ fn put_done_text<A: Allocator, B: Allocator>(
         + length (decimal sequence ++ (word.now ++ decimal number ++ codes " " ++ pdu_text pdu.now) ++ codes "\n")) }
     ensures capacity { vec_capacity out.old ≤ vec_capacity out.new }
 {
-    put_number(out, sequence)?;
+    print_number(out, sequence)?;
     out.extend_from_slice(word.as_bytes())?;
-    put_number(out, number)?;
-    out.extend_from_slice(b" ")?;
-    put_pdu(out, pdu)?;
-    out.extend_from_slice(b"\n")
+    print_number(out, number)?;
+    put_pdu(out, pdu)
 }
 
-/// The PDU for the radio, or `-`.
+/// The PDU for the radio, or `-`: the last word of a line.
 #[inline(always)]
+#[tactic(auto, using(identity::proofs::Printed::printed))]
 fn put_pdu<A: Allocator, B: Allocator>(
     out: &mut Vec<u8, A>,
     pdu: &Option<Bits<B>>,
 ) -> Result<(), AllocError>
-    ensures ok { OnOk result (out.new.items ≡ out.old.items ++ pdu_text pdu.now) }
-    ensures err { OnErr result (out.new.items ≡ out.old.items) }
-    ensures full { OnErr result (vec_capacity out.old < vec_len out.old + length (pdu_text pdu.now)) }
+    ensures ok { OnOk result (out.new.items ≡ out.old.items ++ (codes " " ++ pdu_text pdu.now ++ codes "\n")) }
+    ensures err { OnErr result (IsPrefixOf out.old.items out.new.items) }
+    ensures full { OnErr result (vec_capacity out.old < vec_len out.old + length (codes " " ++ pdu_text pdu.now ++ codes "\n")) }
     ensures capacity { vec_capacity out.old ≤ vec_capacity out.new }
 {
-    match pdu {
-        None => out.extend_from_slice(b"-"),
-        Some(bits) => print_bits(out, bits),
-    }
+    let Some(bits) = pdu else {
+        return out.extend_from_slice(b" -\n");
+    };
+    out.push(b' ')?;
+    print_bits(out, bits)?;
+    out.push(b'\n')?;
+    Ok(())
 }
 
 /// `SEQ no WORD`
@@ -186,10 +187,11 @@ fn put_refused_text<A: Allocator>(
     ensures full { OnErr result (vec_capacity out.old < vec_len out.old + length (decimal sequence ++ (codes " no " ++ word.now) ++ codes "\n")) }
     ensures capacity { vec_capacity out.old ≤ vec_capacity out.new }
 {
-    put_number(out, sequence)?;
+    print_number(out, sequence)?;
     out.extend_from_slice(b" no ")?;
     out.extend_from_slice(word.as_bytes())?;
-    out.extend_from_slice(b"\n")
+    out.push(b'\n')?;
+    Ok(())
 }
 
 #[tactic(auto, using(std::proofs::Common::append_assoc))]
@@ -348,11 +350,24 @@ fn put_known<A: Allocator>(
     out.extend_from_slice(b"where ")?;
     print_itsi(out, itsi)?;
     out.extend_from_slice(b" station ")?;
-    put_number(out, u64::from(radio.station.number()))?;
+    print_number(out, u64::from(radio.station.number()))?;
     out.extend_from_slice(b" la ")?;
-    put_number(out, u64::from(radio.area.number()))?;
-    out.extend_from_slice(presence_word(radio.present).as_bytes())?;
-    out.extend_from_slice(b"\n")
+    print_number(out, u64::from(radio.area.number()))?;
+    put_presence(out, radio.present)
+}
+
+/// Whether a radio is present: the last word of a line.
+#[inline(always)]
+fn put_presence<A: Allocator>(out: &mut Vec<u8, A>, present: bool) -> Result<(), AllocError>
+    ensures ok { OnOk result (out.new.items ≡ out.old.items ++ (presence_text present ++ codes "\n")) }
+    ensures err { OnErr result (out.new.items ≡ out.old.items) }
+    ensures full { OnErr result (vec_capacity out.old < vec_len out.old + length (presence_text present ++ codes "\n")) }
+    ensures capacity { vec_capacity out.old ≤ vec_capacity out.new }
+{
+    if present {
+        return out.extend_from_slice(b" present\n");
+    }
+    out.extend_from_slice(b" absent\n")
 }
 
 #[tactic(auto, using(std::proofs::Common::append_assoc))]

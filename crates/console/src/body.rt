@@ -1,5 +1,5 @@
 //! The words of a command or a query: those before the word that names its form, and those after it.
-ghost use Rattle.std.specs.Prelude.{◌≡◌, ◌∷◌, [], IfOk, OnErr, IsSome, map};
+ghost use Rattle.std.specs.Prelude.{◌≡◌, ◌≢◌, ◌∷◌, [], IfOk, OnErr, IsSome, length, map};
 ghost use Rattle.std.specs.Result.{result_ok};
 ghost use Rattle.identity.specs.IdentityText.{reading_identity, reading_prefix};
 ghost use Rattle.identity.specs.BitsText.{reading_bits};
@@ -73,51 +73,34 @@ pub(crate) fn query_in(name: &[u8], identity: &[u8]) -> Result<Query, LineFault>
     query.or(Err(LineFault::Value))
 }
 
-/// The body of a command, after the word that names its form.
-#[inline(always)]
-pub(crate) fn body_in<A: Allocator>(
-    alloc: A,
-    name: &[u8],
-    words: &[&[u8]],
-) -> Result<Result<Body<A>, LineFault>, AllocError>
-    ensures ok { IfOk result (λ said. said ≡ body_in name.now (map (λ w. w.now) words.now)) }
-    ensures err { OnErr result (GivesPdu (body_in {A = A} name.now (map (λ w. w.now) words.now))) }
+/// The body of a command without a PDU, after the word that names its form. No form has three words there.
+pub(crate) fn plain_body<A: Allocator>(name: &[u8], words: &[&[u8]]) -> Result<Body<A>, LineFault>
+    requires { length words.now ≢ 3 }
+    ensures { result ≡ body_in name.now (map (λ w. w.now) words.now) }
 {
     match words {
         [] => {
             if name == b"expire".as_slice() {
-                return Ok(Ok(Body::Expire));
+                return Ok(Body::Expire);
             }
-            Ok(Err(LineFault::Syntax))
+            Err(LineFault::Syntax)
         }
         [prefix] => {
             if name == b"unrule".as_slice() {
-                return Ok(unrule_body(prefix));
+                return unrule_body(prefix);
             }
-            Ok(Err(LineFault::Syntax))
-        }
-        [first, second, pdu] => {
-            if name == b"mm".as_slice() {
-                return mm_body(alloc, first, second, pdu);
-            }
-            if name == b"sds".as_slice() {
-                return sds_body(alloc, first, second, pdu);
-            }
-            if name == b"gsds".as_slice() {
-                return group_sds_body(alloc, first, second, pdu);
-            }
-            Ok(Err(LineFault::Syntax))
+            Err(LineFault::Syntax)
         }
         [destination, source, reference, kind] => {
-            Ok(key_body(name, destination, source, reference, kind))
+            key_body(name, destination, source, reference, kind)
         }
         [prefix, low, high, lifetime, keep] => {
             if name == b"rule".as_slice() {
-                return Ok(rule_body(prefix, low, high, lifetime, keep));
+                return rule_body(prefix, low, high, lifetime, keep);
             }
-            Ok(Err(LineFault::Syntax))
+            Err(LineFault::Syntax)
         }
-        _ => Ok(Err(LineFault::Syntax)),
+        _ => Err(LineFault::Syntax),
     }
 }
 
@@ -156,6 +139,7 @@ fn mm_body<A: Allocator>(
 }
 
 /// `sds SOURCE DEST PDU`
+#[inline(always)]
 fn sds_body<A: Allocator>(
     alloc: A,
     source: &[u8],
@@ -201,6 +185,30 @@ fn group_sds_body<A: Allocator>(
     Ok(Ok(Body::GroupSds { source, group, pdu }))
 }
 
+/// The body of a command with three words after its name: two of its parts, and its PDU.
+#[inline(always)]
+pub(crate) fn three_body<A: Allocator>(
+    alloc: A,
+    name: &[u8],
+    first: &[u8],
+    second: &[u8],
+    pdu: &[u8],
+) -> Result<Result<Body<A>, LineFault>, AllocError>
+    ensures ok { IfOk result (λ said. said ≡ body_in name.now (first.now ∷ second.now ∷ pdu.now ∷ [])) }
+    ensures err { OnErr result (GivesPdu (body_in {A = A} name.now (first.now ∷ second.now ∷ pdu.now ∷ []))) }
+{
+    if name == b"mm".as_slice() {
+        return mm_body(alloc, first, second, pdu);
+    }
+    if name == b"sds".as_slice() {
+        return sds_body(alloc, first, second, pdu);
+    }
+    if name == b"gsds".as_slice() {
+        return group_sds_body(alloc, first, second, pdu);
+    }
+    Ok(Err(LineFault::Syntax))
+}
+
 /// `rule PREFIX LOW HIGH LIFE KEEP`
 fn rule_body<A: Allocator>(
     prefix: &[u8],
@@ -228,7 +236,8 @@ fn unrule_body<A: Allocator>(prefix: &[u8]) -> Result<Body<A>, LineFault>
 }
 
 /// `sent DEST SOURCE REF KIND` or `delete DEST SOURCE REF KIND`
-fn key_body<A: Allocator>(
+#[inline(always)]
+pub(crate) fn key_body<A: Allocator>(
     name: &[u8],
     destination: &[u8],
     source: &[u8],
@@ -249,6 +258,7 @@ fn key_body<A: Allocator>(
 }
 
 // A moment, or a keep time in seconds.
+#[inline(always)]
 #[tactic(auto, unfolding(identity::specs::NumberText::reading_number))]
 fn seconds_in(word: &[u8]) -> Option<u32>
     ensures { result ≡ seconds_in word.now }

@@ -8,12 +8,12 @@
 mod answer;
 mod answer_text;
 mod body;
+mod ends;
 mod input;
 pub mod laws;
 mod line;
 mod lists;
 mod marked;
-mod numbers;
 mod output;
 mod progress;
 mod running;

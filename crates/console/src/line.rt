@@ -1,8 +1,8 @@
-ghost use Rattle.std.specs.Prelude.{◌≡◌, ◌∷◌, [], Some, IfOk, IfErr, OnErr, IsSome, option_map, MatchOption, ◌<◌, ◌≤◌, length, map, take, slice_get};
+ghost use Rattle.std.specs.Prelude.{◌≡◌, ◌∷◌, [], Some, Ok, IfOk, IfErr, OnErr, IsSome, option_map, MatchOption, ◌<◌, ◌≤◌, length, map, take, slice_get};
 ghost use Rattle.centre_core.specs.Ranges.{IsShort, pdu_of};
 ghost use Rattle.console.specs.Reading.{reading, sequence_of, Lacks, words, words_after, of_words, of_word, of_two, body_in, command_line, ask, print};
 
-use crate::body::{Head, body_in, head_in, listing_in, query_in};
+use crate::body::{Head, head_in, key_body, listing_in, plain_body, query_in, three_body};
 use crate::marked::read_marked;
 use crate::spaces::whole;
 use centre_core::{Body, Command, Query, Sequence};
@@ -212,29 +212,100 @@ fn ask<A: Allocator>(query: Result<Query, LineFault>) -> Line<A>
     }
 }
 
+/// A command with this body, if its head is good.
+#[inline(always)]
+fn command_of<A: Allocator>(station: Station, head: Option<Head>, body: Body<A>) -> Line<A>
+    requires { IsShort (pdu_of body) }
+    ensures { result ≡ command_line station head (Ok body) }
+{
+    let Some(Head { sequence, moment }) = head else {
+        return Line::Bad(LineFault::Value);
+    };
+    match Command::new(station, sequence, moment, body) {
+        Some(command) => Line::Apply(command),
+        None => Line::Bad(LineFault::Value),
+    }
+}
+
+/// A command with this body, or a bad line.
 #[inline(always)]
 fn command_line<A: Allocator>(
     station: Station,
     head: Option<Head>,
     body: Result<Body<A>, LineFault>,
 ) -> Line<A>
-    requires short { IfOk body (λ body. IsShort (pdu_of body)) }
+    requires { IfOk body (λ body. IsShort (pdu_of body)) }
     ensures { result ≡ command_line station head body }
 {
-    match (head, body) {
-        (_, Err(fault)) => Line::Bad(fault),
-        (None, Ok(_)) => Line::Bad(LineFault::Value),
-        (Some(Head { sequence, moment }), Ok(body)) => {
-            match Command::new(station, sequence, moment, body) {
-                Some(command) => Line::Apply(command),
-                None => Line::Bad(LineFault::Value),
-            }
-        }
+    match body {
+        Ok(body) => command_of(station, head, body),
+        Err(fault) => Line::Bad(fault),
     }
 }
 
+/// The three words after the name of a command that a radio sends: two of its parts, and its PDU.
+#[derive(Clone, Copy)]
+pub(crate) struct Three<'a> {
+    pub(crate) first: &'a [u8],
+    pub(crate) second: &'a [u8],
+    pub(crate) pdu: &'a [u8],
+}
+
+/// Reads a command with three words after its name.
 #[inline(always)]
-#[tactic(auto, using(crate::proofs::Forms::unread, crate::proofs::Forms::headless, crate::proofs::Forms::body_short))]
+#[tactic(auto, using(crate::proofs::Forms::unread, crate::proofs::Forms::headless))]
+pub(crate) fn read_three<A: Allocator>(
+    alloc: A,
+    station: Station,
+    head: Option<Head>,
+    name: &[u8],
+    words: Three<'_>,
+) -> Result<Line<A>, Unread>
+    ensures ok { IfOk result (λ said. said ≡ command_line station head (body_in name.now (words.entry.first.now ∷ words.entry.second.now ∷ words.entry.pdu.now ∷ []))) }
+    ensures err { IfErr result (λ unread.
+        sequence_of (command_line {A = A} station head (body_in name.now (words.entry.first.now ∷ words.entry.second.now ∷ words.entry.pdu.now ∷ []))) ≡ Some unread.sequence) }
+{
+    match (
+        head,
+        three_body(alloc, name, words.first, words.second, words.pdu),
+    ) {
+        (head, Ok(body)) => Ok(command_line(station, head, body)),
+        (None, Err(AllocError)) => Ok(Line::Bad(LineFault::Value)),
+        (Some(Head { sequence, .. }), Err(AllocError)) => Err(Unread { sequence }),
+    }
+}
+
+/// The four words after the name of a command for a message that is kept: those of its key.
+#[derive(Clone, Copy)]
+pub(crate) struct Four<'a> {
+    pub(crate) destination: &'a [u8],
+    pub(crate) source: &'a [u8],
+    pub(crate) reference: &'a [u8],
+    pub(crate) kind: &'a [u8],
+}
+
+/// Reads a command with four words after its name.
+pub(crate) fn read_four<A: Allocator>(
+    station: Station,
+    head: Option<Head>,
+    name: &[u8],
+    words: Four<'_>,
+) -> Line<A>
+    ensures { result ≡ command_line station head
+        (body_in name.now (words.entry.destination.now ∷ words.entry.source.now ∷ words.entry.reference.now ∷ words.entry.kind.now ∷ [])) }
+{
+    let body = key_body(
+        name,
+        words.destination,
+        words.source,
+        words.reference,
+        words.kind,
+    );
+    command_line(station, head, body)
+}
+
+/// Reads a command from the word on that names its form.
+#[tactic(auto, using(crate::proofs::Forms::body_short))]
 pub(crate) fn read_command<A: Allocator>(
     alloc: A,
     station: Station,
@@ -246,9 +317,11 @@ pub(crate) fn read_command<A: Allocator>(
     ensures err { IfErr result (λ unread.
         sequence_of (command_line {A = A} station head (body_in name.now (map (λ w. w.now) words.now))) ≡ Some unread.sequence) }
 {
-    match (head, body_in(alloc, name, words)) {
-        (head, Ok(body)) => Ok(command_line(station, head, body)),
-        (None, Err(AllocError)) => Ok(Line::Bad(LineFault::Value)),
-        (Some(Head { sequence, .. }), Err(AllocError)) => Err(Unread { sequence }),
+    match words {
+        [first, second, pdu] => {
+            let words = Three { first, second, pdu };
+            read_three(alloc, station, head, name, words)
+        }
+        _ => Ok(command_line(station, head, plain_body(name, words))),
     }
 }

@@ -9,9 +9,8 @@ ghost use Rattle.identity.specs.BitsText.{bits_text};
 ghost use Rattle.listings.specs.Lines.{item_end, key_text};
 ghost use Rattle.listings.specs.Words.{kind_word};
 
-use crate::numbers::put_number;
 use group_attach::Attachment;
-use identity::{Bits, Gtsi, print_bits, print_itsi};
+use identity::{Bits, Gtsi, print_bits, print_itsi, print_number};
 use listings::{Part, put_item_end, put_parts};
 use mailbox::{Item, Key, Kind};
 use std::alloc::{AllocError, Allocator};
@@ -143,11 +142,11 @@ fn put_named_item<A: Allocator>(
     ensures capacity { vec_capacity out.old ≤ vec_capacity out.new }
 {
     out.extend_from_slice(b"item ")?;
-    put_number(out, number)?;
+    print_number(out, number)?;
     out.extend_from_slice(kind_between(key.kind))?;
     print_itsi(out, key.source)?;
-    out.extend_from_slice(b" ")?;
-    put_number(out, u64::from(key.reference.number()))
+    out.push(b' ')?;
+    print_number(out, u64::from(key.reference.number()))
 }
 
 /// The deadline and the PDU of an item, with a space before each.
@@ -163,9 +162,9 @@ fn put_content<A: Allocator, B: Allocator>(
     ensures full { OnErr result (vec_capacity out.old < vec_len out.old + length (codes " " ++ decimal deadline ++ codes " " ++ bits_text pdu.now)) }
     ensures capacity { vec_capacity out.old ≤ vec_capacity out.new }
 {
-    out.extend_from_slice(b" ")?;
-    put_number(out, deadline)?;
-    out.extend_from_slice(b" ")?;
+    out.push(b' ')?;
+    print_number(out, deadline)?;
+    out.push(b' ')?;
     print_bits(out, pdu)
 }
 
@@ -177,10 +176,11 @@ fn put_end<A: Allocator>(out: &mut Vec<u8, A>, group: Option<Gtsi>) -> Result<()
     ensures full { OnErr result (vec_capacity out.old < vec_len out.old + length (item_end group)) }
     ensures capacity { vec_capacity out.old ≤ vec_capacity out.new }
 {
-    match group {
-        None => out.extend_from_slice(b"\n"),
-        Some(_) => put_item_end(out, group),
+    if group.is_some() {
+        return put_item_end(out, group);
     }
+    out.push(b'\n')?;
+    Ok(())
 }
 
 /// The word for a message or a report, between two spaces.

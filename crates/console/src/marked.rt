@@ -4,8 +4,10 @@ ghost use Rattle.console.specs.Reading.{body_in, command_line, of_words, sequenc
 ghost use Rattle.console.specs.Inside.Left.{bytes_left, of_named, words_left};
 
 use crate::body::{Head, head_in};
-use crate::line::{Line, LineFault, Unread, read_command, read_one, read_two};
-use crate::spaces::{Rest, first_of, without};
+use crate::line::{
+    Four, Line, LineFault, Three, Unread, read_command, read_four, read_one, read_three, read_two,
+};
+use crate::spaces::{Rest, take_first};
 use registration::Station;
 use std::alloc::Allocator;
 
@@ -17,12 +19,12 @@ fn next_word(rest: Rest<'_>) -> (&[u8], Option<Rest<'_>>)
     if rest.marks == 0 {
         return (&rest.line[rest.start..], None);
     }
-    let at = first_of(rest.marks);
+    let (at, marks) = take_first(rest.marks);
     let word = &rest.line[rest.start..at];
     let left = Rest {
         line: rest.line,
         start: at + 1,
-        marks: without(rest.marks, at),
+        marks,
     };
     (word, Some(left))
 }
@@ -88,11 +90,22 @@ fn read_body<A: Allocator>(
     };
     let (third, rest) = next_word(rest);
     let Some(rest) = rest else {
-        return read_command(alloc, station, head, name, &[first, second, third]);
+        let words = Three {
+            first,
+            second,
+            pdu: third,
+        };
+        return read_three(alloc, station, head, name, words);
     };
     let (fourth, rest) = next_word(rest);
     let Some(rest) = rest else {
-        return read_command(alloc, station, head, name, &[first, second, third, fourth]);
+        let words = Four {
+            destination: first,
+            source: second,
+            reference: third,
+            kind: fourth,
+        };
+        return Ok(read_four(station, head, name, words));
     };
     let (fifth, rest) = next_word(rest);
     match rest {

@@ -10,13 +10,13 @@ ghost use Rattle.console.specs.Dialogue.{Answers};
 ghost use Rattle.console.specs.declared.answer.Answer.{Answer};
 
 use crate::answer::Answer;
+use crate::ends::next_end;
 use crate::input::Input;
 use crate::line::{Line, LineFault, read_line};
 use crate::output::Output;
 use crate::progress::{AnswerText, Given, Progress};
 use crate::running::{Piece, Ran, RunFault, Terms};
 use desk::{Desk, Outage};
-use memchr::memchr;
 use std::alloc::Allocator;
 use std::io::{Read, Write};
 use std::sync::ledger::Ledger;
@@ -46,18 +46,19 @@ fn answer_line<A: Allocator + Copy, D: Desk<A>>(
     let Some(line) = asked.line else {
         return Given::Answered(Answer::Bad(asked.number, LineFault::TooLong));
     };
-    match read_line(terms.alloc, terms.station, line) {
+    let said = read_line(terms.alloc, terms.station, line);
+    match &said {
         Ok(Line::Silent) => Given::Answered(Answer::Quiet),
-        Ok(Line::Bad(fault)) => Given::Answered(Answer::Bad(asked.number, fault)),
-        Ok(Line::Apply(command)) => match desk.apply(terms.alloc, &command) {
+        Ok(Line::Bad(fault)) => Given::Answered(Answer::Bad(asked.number, *fault)),
+        Ok(Line::Apply(command)) => match desk.apply(terms.alloc, command) {
             Ok(reply) => Given::Answered(Answer::Replied(command.sequence, reply)),
             Err(word) => Given::Answered(Answer::CommandOutage(command.sequence, word)),
         },
-        Ok(Line::Ask(query)) => match desk.query(terms.alloc, &query) {
+        Ok(Line::Ask(query)) => match desk.query(terms.alloc, query) {
             Ok(query_answer) => Given::Answered(Answer::Queried(query_answer)),
             Err(word) => Given::Answered(Answer::QueryOutage(asked.number, word)),
         },
-        Ok(Line::Print(listing)) => match text.list(desk, &listing) {
+        Ok(Line::Print(listing)) => match text.list(desk, listing) {
             Ok(()) => Given::Listed,
             Err(word) => Given::Answered(Answer::QueryOutage(asked.number, word)),
         },
@@ -91,16 +92,6 @@ fn send_answer<A: Allocator + Copy + Drop, W: Write, G: Ledger>(
     progress.troubled = progress.troubled | troubled;
     progress.current.clear();
     Ok(())
-}
-
-/// The place of the next line feed, from `at` on.
-fn next_end(piece: &[u8], at: usize) -> Option<usize>
-    requires { at ≤ length piece.now }
-    ensures { MatchOption result (HasNoEnd (drop at piece.now))
-        (λ end. (at ≤ end) × (end < length piece.now) × HasNoEnd (take (end - at) (drop at piece.now)) × (slice_get piece.now end ≡ Some 10)) }
-{
-    let length = memchr(b'\n', &piece[at..])?;
-    Some(at + length)
 }
 
 /// A run: its terms, how far it has come, the writer of its answers, and the desk that it asks.

@@ -1,5 +1,5 @@
 //! The spaces of a line, as the bits of a number: bit 0 is the first byte.
-ghost use Rattle.std.specs.Prelude.{◌≡◌, ◌↔◌, ◌≢◌, ◌≤◌, ◌<◌, ◌+◌, ℕ, MatchOption, length, slice_index};
+ghost use Rattle.std.specs.Prelude.{◌≡◌, ◌⊎◌, ◌↔◌, ◌≢◌, ◌≤◌, ◌<◌, ◌+◌, ℕ, MatchOption, length, slice_index};
 ghost use Rattle.std.specs.Int.{bit_at};
 ghost use Rattle.console.specs.Inside.Marks.{AreSpaces};
 
@@ -53,15 +53,18 @@ pub(crate) fn first_of(marks: u64) -> usize
     marks.trailing_zeros() as usize
 }
 
-/// The marks without that of this place.
+/// The place of the first mark, and the other marks.
 #[inline(always)]
-pub(crate) fn without(marks: u64, at: usize) -> u64
-    requires { at < 64 }
-    ensures kept { (k : ℕ) → k < 64 → k ≢ at → bit_at result k ≡ bit_at marks k }
-    ensures gone { bit_at result at ≡ 0 }
-    ensures no_more { (k : ℕ) → bit_at result k ≡ 1 → bit_at marks k ≡ 1 }
+pub(crate) fn take_first(marks: u64) -> (usize, u64)
+    requires { marks ≢ 0 }
+    ensures bound { result.0 < 64 }
+    ensures set { bit_at marks result.0 ≡ 1 }
+    ensures below { (k : ℕ) → k < result.0 → bit_at marks k ≡ 0 }
+    ensures kept { (k : ℕ) → k ≢ result.0 → bit_at result.1 k ≡ bit_at marks k }
+    ensures gone { bit_at result.1 result.0 ≡ 0 }
+    ensures no_more { (k : ℕ) → bit_at result.1 k ≡ 1 → bit_at marks k ≡ 1 }
 {
-    marks & !(1 << at)
+    (first_of(marks), marks & (marks - 1))
 }
 
 /// What is left of a line: its bytes from `start` on, with the marks of their spaces.
@@ -75,10 +78,10 @@ pub(crate) struct Rest<'a> {
     ghost marked: { AreSpaces line.now start (length line.now) marks },
 }
 
-/// A whole line, if it has 16 to 64 bytes.
+/// A whole line, if it has 16 to 64 bytes; else none.
 #[inline(always)]
 pub(crate) fn whole(line: &[u8]) -> Option<Rest<'_>>
-    ensures { MatchOption result Unit (λ rest. (rest.line.now ≡ line.now) × (rest.start ≡ 0)) }
+    ensures { MatchOption result ((length line.now < 16) ⊎ (64 < length line.now)) (λ rest. (rest.line.now ≡ line.now) × (rest.start ≡ 0)) }
 {
     if line.len() < 16 || line.len() > 64 {
         return None;

@@ -10,30 +10,33 @@ const LINES: &str = "1 0 rule 234-14-0/24 1 99 1 3600\n\
      2 10 mm 234-14-2001 7 10:260\n\
      3 20 mm 234-14-2001 7 60:7380480A00007D0\n\
      4 30 sds 234-14-2001 234-14-2002 48:820405014849\n\
+     5 40 sds 234-14-2001 234-14-2002 88:8204060148494A4B4C4D4E\n\
      groups 234-14-2001\n\
      mail 234-14-2002\n";
 
 /// How the answers begin if memory runs out for the first line, for the second and so on, and for none.
-const PREFIXES: [&str; 7] = [
+const PREFIXES: [&str; 8] = [
     "1 no memory\n",
     "1 ok 1 -\n2 no memory\n",
     "1 ok 1 -\n2 ok 2 8:56\n3 no memory\n",
     "1 ok 1 -\n2 ok 2 8:56\n3 ok 3 62:B3704C0980001F40\n4 no memory\n",
-    "1 ok 1 -\n2 ok 2 8:56\n3 ok 3 62:B3704C0980001F40\n4 ok 4 -\nline 5 no memory\n",
-    "1 ok 1 -\n2 ok 2 8:56\n3 ok 3 62:B3704C0980001F40\n4 ok 4 -\ngroups 234-14-2001 1\ngroup 234-14-1000 4 1\n\
-     line 6 no memory\n",
-    "1 ok 1 -\n2 ok 2 8:56\n3 ok 3 62:B3704C0980001F40\n4 ok 4 -\ngroups 234-14-2001 1\ngroup 234-14-1000 4 1\n\
-     mail 234-14-2002 1\nitem 4 m 234-14-2001 5 3630 48:820405014849\n",
+    "1 ok 1 -\n2 ok 2 8:56\n3 ok 3 62:B3704C0980001F40\n4 ok 4 -\n5 no memory\n",
+    "1 ok 1 -\n2 ok 2 8:56\n3 ok 3 62:B3704C0980001F40\n4 ok 4 -\n5 ok 5 -\nline 6 no memory\n",
+    "1 ok 1 -\n2 ok 2 8:56\n3 ok 3 62:B3704C0980001F40\n4 ok 4 -\n5 ok 5 -\ngroups 234-14-2001 1\ngroup 234-14-1000 4 1\n\
+     line 7 no memory\n",
+    "1 ok 1 -\n2 ok 2 8:56\n3 ok 3 62:B3704C0980001F40\n4 ok 4 -\n5 ok 5 -\ngroups 234-14-2001 1\ngroup 234-14-1000 4 1\n\
+     mail 234-14-2002 2\nitem 4 m 234-14-2001 5 3630 48:820405014849\n\
+     item 5 m 234-14-2001 6 3640 88:8204060148494A4B4C4D4E\n",
 ];
 
-/// Which of the prefixes this text begins with; 8 if it is none.
+/// Which of the prefixes this text begins with; 9 if it is none.
 fn prefix_of(text: &[u8]) -> usize {
     for (at, prefix) in PREFIXES.iter().enumerate() {
         if text.starts_with(prefix.as_bytes()) {
             return at.saturating_add(1);
         }
     }
-    8
+    9
 }
 
 /// How the answers begin with these heaps of the run and of the register; 0 if one of the two can't be made.
@@ -58,39 +61,39 @@ fn reached(alloc: Global, own: usize, other: usize) -> Option<usize> {
 }
 
 /// Where runs end if the register has a heap of rising size.
-fn ends_of_registers(alloc: Global) -> Option<[bool; 9]> {
-    let mut ends = [false; 9];
+fn ends_of_registers(alloc: Global) -> Option<[bool; 10]> {
+    let mut ends = [false; 10];
     for step in 0..512usize {
-        ends[reached(alloc, 1 << 16, 64 * step)?.min(8)] = true;
+        ends[reached(alloc, 1 << 16, 64 * step)?.min(9)] = true;
     }
     Some(ends)
 }
 
 /// Where runs end if their own heap has a rising size.
-fn ends_of_runs(alloc: Global) -> Option<[bool; 9]> {
-    let mut ends = [false; 9];
+fn ends_of_runs(alloc: Global) -> Option<[bool; 10]> {
+    let mut ends = [false; 10];
     for step in 0..512usize {
-        ends[reached(alloc, 8 * step, 1 << 16)?.min(8)] = true;
+        ends[reached(alloc, 8 * step, 1 << 16)?.min(9)] = true;
     }
     Some(ends)
 }
 
 /// Whether runs end in each of these ways, and in no other way.
-fn are_seen(ends: Option<[bool; 9]>, ways: &[usize]) -> bool {
+fn are_seen(ends: Option<[bool; 10]>, ways: &[usize]) -> bool {
     match ends {
-        Some(ends) => !ends[8] && ways.iter().all(|way| ends.get(*way) == Some(&true)),
+        Some(ends) => !ends[9] && ways.iter().all(|way| ends.get(*way) == Some(&true)),
         None => false,
     }
 }
 
-/// A rule, a radio, its groups and a message take memory of the register.
+/// A rule, a radio, its groups and each message take memory of the register.
 #[test]
 fn a_little_register_goes_on(rt: HostRuntime) {
-    assert!(rt; are_seen(ends_of_registers(rt.alloc()), &[0, 1, 2, 3, 4, 7]));
+    assert!(rt; are_seen(ends_of_registers(rt.alloc()), &[0, 1, 2, 3, 4, 5, 8]));
 }
 
-/// A PDU, a longer one with its answer, and a list with an item take memory of the run.
+/// The groups of a PDU and a list of items take memory of the run. A PDU of up to 64 bits takes none.
 #[test]
 fn little_memory_is_reported(rt: HostRuntime) {
-    assert!(rt; are_seen(ends_of_runs(rt.alloc()), &[0, 2, 3, 6, 7]));
+    assert!(rt; are_seen(ends_of_runs(rt.alloc()), &[0, 3, 7, 8]));
 }

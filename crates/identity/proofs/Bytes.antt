@@ -39,7 +39,8 @@ past bytes p le = get_or_past (bits_of bytes) p false (omega (arith, length-bits
 
 -- ---- more bytes
 
-zeros : (k p : ℕ) → get_or (bits_of (replicate k 0)) p false ≡ false
+-- zeros show nothing
+pub zeros : (k p : ℕ) → get_or (bits_of (replicate k 0)) p false ≡ false
 unfolding bits_of num
 zeros zero p = refl
 zeros (suc k) zero = refl
@@ -75,11 +76,6 @@ shows_filled bytes len fill i =
       | inr le ↦ fill i le ∙ sym (get_or_past (take len (bits_of bytes)) i false (omega (arith, length-take len (bits_of bytes))))
     ]
 
--- no bits need no bytes
-pub none_packed : IsPacked [] 0
-unfolding bits_of
-none_packed = record { room = omega arith; tight = omega arith; fill = λ i le. refl }
-
 pub length_packed : (bytes : List ℕ) (len : ℕ) → IsPacked bytes len → length (take len (bits_of bytes)) ≡ len
 length_packed bytes len packed = let room = packed.room in omega (arith, length-take len (bits_of bytes), length-bits_of bytes)
 
@@ -96,11 +92,10 @@ grown_prefix bytes k len room =
 pub packed_from : (bytes : List ℕ) (bits : List Bool) (len : ℕ) → Shows bytes bits → length bits ≡ len → len ≤ 8 * length bytes → 8 * length bytes < len + 8 → IsPacked bytes len
 packed_from bytes bits len shows is_len room tight = record { room = room; tight = tight; fill = λ i le. shows i ∙ get_or_past bits i false (omega arith) }
 
-module _ (old big : List ℕ) (len w n : ℕ) (packed : IsPacked old len) (is_big : big ≡ take n old ++ replicate (n - length old) 0) (is_n : n ≡ (len + w) / 8 + min 1 ((len + w) % 8)) where
+module _ (old big : List ℕ) (len w n : ℕ) (holds : len ≤ 8 * length old) (few : 8 * length old < len + w + 8) (clear : (i : ℕ) → len ≤ i → get_or (bits_of old) i false ≡ false) (is_big : big ≡ take n old ++ replicate (n - length old) 0) (is_n : n ≡ (len + w) / 8 + min 1 ((len + w) % 8)) where
   enough : (len + w ≤ 8 * n) × (8 * n < (len + w) + 8) × (length old ≤ n)
   enough =
       let h = div_ceil_times (len + w) 8 (omega arith) in
-      let tight = packed.tight in
       (omega arith, omega arith, omega arith)
 
   big_is : big ≡ old ++ replicate (n - length old) 0
@@ -110,10 +105,10 @@ module _ (old big : List ℕ) (len w n : ℕ) (packed : IsPacked old len) (is_bi
   big_len = let h = enough in let p = h.2 in let z : ℕ = 0 in ap length big_is ∙ length-append old (replicate (n - length old) z) ∙ rw (length-replicate (n - length old) z) (omega arith)
 
   pub big_fill : (i : ℕ) → len ≤ i → get_or (bits_of big) i false ≡ false
-  big_fill i le = rw big_is (grown_fill old (n - length old) len packed.fill i le)
+  big_fill i le = rw big_is (grown_fill old (n - length old) len clear i le)
 
   big_prefix : take len (bits_of big) ≡ take len (bits_of old)
-  big_prefix = rw big_is (grown_prefix old (n - length old) len packed.room)
+  big_prefix = rw big_is (grown_prefix old (n - length old) len holds)
 
   length_whole : (v : ℕ) → length (take len (bits_of big) ++ num w v) ≡ len + w
   length_whole v =

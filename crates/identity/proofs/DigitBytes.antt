@@ -2,11 +2,13 @@
 use Rattle.std.proofs.Common.{◌≡◌, ℕ, zero, suc, ◌+◌, ◌-◌, ◌*◌, ◌/◌, ◌%◌, ◌^◌, ◌<◌, ◌≤◌, Bool, true, false, ◌&&◌, List, [], ◌∷◌, ◌++◌, length, take, drop, get_or, replicate, nat_le, refl, sym, ap, ◌∙◌, inl, inr, arith}
 use Rattle.std.specs.Prelude.{◌==◌, nat_lt}
 use Rattle.std.specs.Char.{digit_value}
+use Rattle.std.proofs.lemmas.Nat.{shl-shr}
+use Rattle.std.proofs.Math.Nat.{mul-mod_left}
 use Rattle.std.proofs.lemmas.Bool.{cases_lt}
 use Rattle.std.proofs.lemmas.Bool.Decides.{nat_tests}
 use Rattle.std.proofs.lemmas.List.{append-nil, append_assoc, take_all, take-append-le, get_or_append_left, get_or-append_right, get_or-drop, length-append, length-replicate}
 use Rattle.identity.specs.Number.{num, number}
-use Rattle.identity.specs.Inside.NumberLaws.{num-number, num-zero, num-append, num-mod}
+use Rattle.identity.specs.Inside.NumberLaws.{num-number, num-zero, num-append, num-mod, zeros_if}
 use Rattle.identity.specs.Packed.{bits_of, IsPacked}
 use Rattle.identity.specs.BitsText.{digit_bits, is_filled}
 use Rattle.identity.proofs.NumberText.{and_left, and_right}
@@ -77,8 +79,8 @@ zeros_get (suc n) (suc i) = zeros_get n i
 no_number : (bits : List Bool) (i : ℕ) → number bits ≡ 0 → get_or bits i false ≡ false
 no_number bits i none = ap (λ (l : List Bool). get_or l i false) (sym (num-number bits) ∙ ap (num (length bits)) none ∙ num-zero (length bits)) ∙ zeros_get (length bits) i
 
-module _ (digits bytes : List ℕ) (len k : ℕ) (fill : k < 8) (even : (4 * length digits + k) % 8 ≡ 0) (is : bits_of bytes ≡ digit_bits digits ++ replicate k false) (filled : is_filled len digits ≡ true) where
-  parts : (len ≤ 4 * length digits) × (4 * length digits < len + 4) × (number (drop len (digit_bits digits)) ≡ 0)
+module _ (digits bytes : List ℕ) (len k : ℕ) (is : bits_of bytes ≡ digit_bits digits ++ replicate k false) (filled : is_filled len digits ≡ true) where
+  pub parts : (len ≤ 4 * length digits) × (4 * length digits < len + 4) × (number (drop len (digit_bits digits)) ≡ 0)
   unfolding is_filled
   parts =
       let room = nat_le len (4 * length digits) in
@@ -90,11 +92,8 @@ module _ (digits bytes : List ℕ) (len k : ℕ) (fill : k < 8) (even : (4 * len
       let two : tight ≡ true = and_right room tight both in
       (grind (arith, nat_tests, one), grind (arith, nat_tests, two), grind (arith, nat_tests, last))
 
-  whole : 8 * length bytes ≡ 4 * length digits + k
-  whole = omega (arith, length-bits_of bytes, ap length is, length-append (digit_bits digits) (replicate k false), length-replicate k false, length-digit_bits digits)
-
-  rest : (i : ℕ) → len ≤ i → get_or (bits_of bytes) i false ≡ false
-  rest i le = ap (λ (l : List Bool). get_or l i false) is ∙ elim (cases_lt i (length (digit_bits digits))) [
+  pub clear : (i : ℕ) → len ≤ i → get_or (bits_of bytes) i false ≡ false
+  clear i le = ap (λ (l : List Bool). get_or l i false) is ∙ elim (cases_lt i (length (digit_bits digits))) [
     | inl lt ↦
         let at : i ≡ len + (i - len) = omega arith in
         get_or_append_left (digit_bits digits) (replicate k false) false i lt
@@ -104,8 +103,23 @@ module _ (digits bytes : List ℕ) (len k : ℕ) (fill : k < 8) (even : (4 * len
     | inr past ↦ get_or-append_right (digit_bits digits) (replicate k false) (length (digit_bits digits)) i false refl past ∙ zeros_get k (i - length (digit_bits digits))
   ]
 
-  pub packed : IsPacked bytes len
-  packed = let p = parts in let w = whole in record { room = omega (arith, p.0); tight = omega (arith, p.0, p.1, even); fill = rest }
-
   pub prefix : take len (bits_of bytes) ≡ take len (digit_bits digits)
   prefix = ap (take len) is ∙ take-append-le len (digit_bits digits) (replicate k false) (omega (arith, length-digit_bits digits, parts.0))
+
+  whole : 8 * length bytes ≡ 4 * length digits + k
+  whole = omega (arith, length-bits_of bytes, ap length is, length-append (digit_bits digits) (replicate k false), length-replicate k false, length-digit_bits digits)
+
+  pub packed : k < 8 → (4 * length digits + k) % 8 ≡ 0 → IsPacked bytes len
+  packed fill even = let p = parts in let w = whole in record { room = omega (arith, p.0); tight = omega (arith, p.0, p.1, even); fill = clear }
+
+-- ---- a few digits in eight bytes
+
+-- a number of k bits and zeros after it
+pub shifted_bits : (w k value : ℕ) → num (w + k) (value * 2 ^ k) ≡ num w value ++ replicate k false
+shifted_bits w k value =
+    num-append w k (value * 2 ^ k) ∙ ap (λ (n : ℕ). num w n ++ num k (value * 2 ^ k)) (shl-shr value k)
+    ∙ ap (λ (l : List Bool). num w value ++ l) (zeros_if k (value * 2 ^ k) (mul-mod_left value (2 ^ k)))
+
+-- the digits are the bits of their number
+pub digits_back : (digits : List ℕ) → num (4 * length digits) (number (digit_bits digits)) ≡ digit_bits digits
+digits_back digits = ap (λ (w : ℕ). num w (number (digit_bits digits))) (sym (length-digit_bits digits)) ∙ num-number (digit_bits digits)

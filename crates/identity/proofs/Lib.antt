@@ -1,4 +1,6 @@
 pub mod Numbers
+pub mod Words
+pub mod Kept
 pub mod Bytes
 pub mod Pieces
 pub mod SameBytes
@@ -9,8 +11,15 @@ pub mod NumberText
 pub mod BitsText
 pub mod DigitBytes
 pub mod HexSteps
+pub mod ShortForms
+pub mod FewBits
+pub mod HexPairs
+pub mod HexTables
 pub mod Texts
 pub mod IdentityTexts
 pub mod BitsTexts
 pub mod Printed
 pub mod Lengths
+pub mod ShortTexts
+pub mod ShortNumbers
+pub mod Pairs

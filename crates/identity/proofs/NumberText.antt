@@ -20,7 +20,7 @@ and_true : (b : Bool) → (b && true) ≡ b
 and_true true = refl
 and_true false = refl
 
-and_false : (b : Bool) → (b && false) ≡ false
+pub and_false : (b : Bool) → (b && false) ≡ false
 and_false true = refl
 and_false false = refl
 
@@ -56,7 +56,7 @@ number_form (c ∷ []) some head = sym (and_true (is_ascii_digit c))
 number_form (c ∷ d ∷ text) some head = let other : (c == 48) ≡ false = grind (arith, head) in rw other refl
 
 -- each byte of a number is a digit
-digit_in : (text : List ℕ) (i : ℕ) → list_all is_ascii_digit text ≡ true → i < length text → IsInRange 48 57 (get_or text i 0)
+pub digit_in : (text : List ℕ) (i : ℕ) → list_all is_ascii_digit text ≡ true → i < length text → IsInRange 48 57 (get_or text i 0)
 digit_in [] i all inside = absurd (omega (arith, inside))
 digit_in (c ∷ text) zero all inside = grind (arith, all)
 digit_in (c ∷ text) (suc i) all inside = digit_in text i (and_right (is_ascii_digit c) (list_all is_ascii_digit text) all) (omega (arith, inside))
@@ -146,7 +146,7 @@ value_small text i most v all is small =
     rw under (ap Some whole)
 
 -- the parts of a text
-absent : (mark : ℕ) (text : List ℕ) → ((k : ℕ) → k < length text → (get_or text k 0 == mark) ≡ false) → cut mark text ≡ None
+pub absent : (mark : ℕ) (text : List ℕ) → ((k : ℕ) → k < length text → (get_or text k 0 == mark) ≡ false) → cut mark text ≡ None
 unfolding cut
 absent mark [] none = refl
 absent mark (b ∷ text) none =

@@ -3,7 +3,6 @@ use Rattle.std.proofs.Common.{◌≡◌, ℕ, ◌+◌, ◌-◌, ◌*◌, ◌/◌
 use Rattle.std.proofs.lemmas.Nat.{pow-add}
 use Rattle.std.proofs.lemmas.List.{append-nil, get_or-drop, take_more, take_at, drop_at, drop-drop, take-append-drop, length-take, length-drop}
 use Rattle.std.proofs.lemmas.List.Concat.{flat_map-append}
-use Rattle.std.proofs.Math.Pow.{pow_mono}
 use Rattle.identity.specs.Number.{num, number}
 use Rattle.identity.specs.Inside.NumberLaws.{number-num, number-num_mod, num-number, num-append, num-mod, number-lt, take-num, drop-num}
 use Rattle.identity.specs.Packed.{bits_of}
@@ -38,15 +37,8 @@ byte_more bytes i value byte is inside at small =
     ap bits_of (take_more bytes i 0 inside) ∙ bits_of-append (take i bytes) (get_or bytes i 0 ∷ []) ∙ ap (λ (l : List Bool). bits_of (take i bytes) ++ l) (one_byte (get_or bytes i 0) ∙ ap (num 8) (sym at)) in
     ap (λ (n : ℕ). 256 * n + byte) is ∙ sym (ap number whole ∙ number_byte (bits_of (take i bytes)) byte small)
 
-pub bytes_small : (bytes : List ℕ) (i value : ℕ) → value ≡ number (bits_of (take i bytes)) → i ≤ 6 → value < 2 ^ 48
-bytes_small bytes i value is few =
-    let a = number-lt (bits_of (take i bytes)) in
-    let b : length (bits_of (take i bytes)) ≤ 48 = omega (arith, length-bits_of (take i bytes), length-take i bytes) in
-    let c : 2 ^ length (bits_of (take i bytes)) ≤ 2 ^ 48 = pow_mono b in
-    omega arith
-
 -- a part of bits as a part of their number
-number_part : (bits : List Bool) (r w : ℕ) → r + w ≤ length bits → number (take w (drop r bits)) ≡ number bits / 2 ^ (length bits - (r + w)) % 2 ^ w
+pub number_part : (bits : List Bool) (r w : ℕ) → r + w ≤ length bits → number (take w (drop r bits)) ≡ number bits / 2 ^ (length bits - (r + w)) % 2 ^ w
 number_part bits r w room =
     let n = length bits in
     let v = number bits in
@@ -59,13 +51,13 @@ bits_dropped s bytes within =
     ap (λ (l : List ℕ). drop (8 * s) (bits_of l)) (sym (take-append-drop s bytes)) ∙ ap (drop (8 * s)) (bits_of-append (take s bytes) (drop s bytes))
     ∙ drop_at (bits_of (take s bytes)) (bits_of (drop s bytes)) (8 * s) (omega (arith, length-bits_of (take s bytes), length-take s bytes))
 
-bits_taken : (m : ℕ) (bytes : List ℕ) → m ≤ length bytes → take (8 * m) (bits_of bytes) ≡ bits_of (take m bytes)
+pub bits_taken : (m : ℕ) (bytes : List ℕ) → m ≤ length bytes → take (8 * m) (bits_of bytes) ≡ bits_of (take m bytes)
 bits_taken m bytes within =
     ap (λ (l : List ℕ). take (8 * m) (bits_of l)) (sym (take-append-drop m bytes)) ∙ ap (take (8 * m)) (bits_of-append (take m bytes) (drop m bytes))
     ∙ take_at (bits_of (take m bytes)) (bits_of (drop m bytes)) (8 * m) (omega (arith, length-bits_of (take m bytes), length-take m bytes))
 
 -- bits that lie in some of the bytes
-within_bytes : (bytes : List ℕ) (at w s m : ℕ) → 8 * s ≤ at → at + w ≤ 8 * (s + m) → s + m ≤ length bytes
+pub within_bytes : (bytes : List ℕ) (at w s m : ℕ) → 8 * s ≤ at → at + w ≤ 8 * (s + m) → s + m ≤ length bytes
     → take w (drop at (bits_of bytes)) ≡ take w (drop (at - 8 * s) (bits_of (take m (drop s bytes))))
 within_bytes bytes at w s m low high room =
     let r = at - 8 * s in

@@ -10,7 +10,7 @@ use Rattle.std.proofs.Math.Seq.{take-append_seam, drop-append_seam}
 use Rattle.identity.specs.Number.{num, number}
 use Rattle.identity.specs.Inside.NumberLaws.{length-num, number-num}
 use Rattle.identity.specs.Packed.{bits_of, IsPacked, AreBytes}
-use Rattle.identity.proofs.Bytes.{length-bits_of, length_packed}
+use Rattle.identity.proofs.Bytes.{length-bits_of}
 
 prefix : (w : ℕ) (x y : List Bool) → length x ≡ w → take w (x ++ y) ≡ x
 prefix w x y e = ap (λ (n : ℕ). take n (x ++ y)) (sym e) ∙ take-append_seam x y
@@ -52,11 +52,9 @@ module _ (a b : List ℕ) (m n : ℕ) (x y : List Bool) (one : IsPacked a m) (ot
       let is_long : take m (bits_of b) ≡ y = ap (λ (k : ℕ). take k (bits_of b)) lens ∙ is_other in
       Decides-like r (λ e. sym is_one ∙ ap (take m) e ∙ is_long) (λ e. whole_same a b m one as_long (is_one ∙ e ∙ sym is_long)) says
 
-  pub by_lengths : (m ≡ n → ⊥) → Decides (m == n) (x ≡ y)
-  by_lengths other_len =
-      let short : length x ≡ m = ap length (sym is_one) ∙ length_packed a m one in
-      let long : length y ≡ n = ap length (sym is_other) ∙ length_packed b n other in
-      Decides-like (m == n) (λ e. absurd (other_len e)) (λ e. sym short ∙ ap length e ∙ long) (Decides-eqb m n)
+-- strings of different lengths are not the same
+pub by_lengths : (m n : ℕ) (x y : List Bool) → m ≡ length x → n ≡ length y → (m ≡ n → ⊥) → Decides (m == n) (x ≡ y)
+by_lengths m n x y short long other_len = Decides-like (m == n) (λ e. absurd (other_len e)) (λ e. short ∙ ap length e ∙ sym long) (Decides-eqb m n)
 
 -- bits are packed in one way
 pub packed_once : (a b : List ℕ) (len : ℕ) → AreBytes a → AreBytes b → IsPacked a len → IsPacked b len → take len (bits_of a) ≡ take len (bits_of b) → a ≡ b

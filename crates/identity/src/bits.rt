@@ -1,23 +1,28 @@
 //! Strings of bits, packed in bytes.
 
-ghost use Rattle.std.specs.Prelude.{◌≡◌, ◌==◌, ◌<◌, ◌≤◌, ◌++◌, ◌*◌, ◌↔◌, Bool, List, [], length, take, IfOk, IfErr, OnOk, IsTrue, slice_get, Some};
+ghost use Rattle.std.specs.Prelude.{◌≡◌, ◌==◌, ◌<◌, ◌≤◌, ◌^◌, ◌++◌, ◌+◌, ◌*◌, ◌↔◌, Bool, List, [], length, take, IfOk, IfErr, OnOk, IsTrue, slice_get, Some};
 ghost use Rattle.std.specs.Ordering.{eq_by_cmp};
 ghost use Rattle.identity.specs.Number.{num};
 ghost use Rattle.identity.specs.Packed.{bits_of, IsPacked};
+ghost use Rattle.identity.specs.Inside.Kept.{kept, AreKept, IsClear};
 ghost use Rattle.identity.specs.Path.{path_cmp};
 ghost use Rattle.identity.specs.BitsText.{bits_text};
 ghost use Rattle.identity.specs.declared.fault.Fault.TheVariants.{NoMemory};
 
 use crate::display::write_hex;
-use crate::packed::{append_bits, bit_in, same_bytes};
+use crate::packed::{append_bits, bit_in, first_eight, same_bytes, spill, with_number};
 use crate::{BitReader, Fault};
 use std::alloc::{Allocator, Global};
 use std::fmt;
 use std::marker::Model;
 
-/// A string of bits.
+/// How many bits are kept in place.
+const IN_PLACE: usize = 64;
+
+/// A string of bits. Up to 64 of them are kept in place, and take no memory from the allocator.
 #[derive(Drop)]
 pub struct Bits<A: Allocator = Global> {
+    short: [u8; 8],
     bytes: Vec<u8, A>,
     len: usize,
 }
@@ -25,9 +30,9 @@ pub struct Bits<A: Allocator = Global> {
 impl<A: Allocator> Model for Bits<A> {
     ghost Value = { List Bool };
 
-    ghost view = { λ b. take b.len (bits_of b.bytes.items) };
+    ghost view = { λ b. take b.len (bits_of (kept b.len b.short b.bytes.items)) };
 
-    ghost invariant = { λ b. IsPacked b.bytes.items b.len };
+    ghost invariant = { λ b. AreKept b.len b.short b.bytes.items };
 }
 
 impl<A: Allocator> Bits<A> {
@@ -50,7 +55,7 @@ impl<A: Allocator> Bits<A> {
         requires { at < length self.now }
         ensures { slice_get self.now at ≡ Some result }
     {
-        bit_in(&self.bytes, at)
+        bit_in(self.held(), at)
     }
 
     /// A copy under the given allocator; `Fault::NoMemory` where that is out of memory.
@@ -58,10 +63,11 @@ impl<A: Allocator> Bits<A> {
         ensures ok { IfOk result (λ copy. copy ≡ self.now) }
         ensures err { IfErr result (λ e. e ≡ NoMemory) }
     {
-        Ok(Bits {
-            bytes: Vec::from_slice(alloc, &self.bytes)?,
-            len: self.len,
-        })
+        if self.len <= IN_PLACE {
+            return Ok(Bits::short(alloc, self.short, self.len));
+        }
+        let bytes = Vec::from_slice(alloc, &self.bytes)?;
+        Ok(Bits::packed(bytes, self.len))
     }
 
     /// Its bits packed in as few bytes as they need: eight to a byte, the first of them the greatest. What fills
@@ -70,7 +76,35 @@ impl<A: Allocator> Bits<A> {
         ensures packed { IsPacked result.now (length self.now) }
         ensures bits { take (length self.now) (bits_of result.now) ≡ self.now }
     {
-        self.bytes.as_slice()
+        if self.len <= IN_PLACE {
+            &self.short[..self.len.div_ceil(8)]
+        } else {
+            &self.bytes
+        }
+    }
+
+    /// The bytes that its bits are the first of: eight, or more.
+    #[inline(always)]
+    pub(crate) fn held(&self) -> &[u8]
+        ensures eight { 8 ≤ length result.now }
+        ensures room { length self.now ≤ 8 * length result.now }
+        ensures bits { take (length self.now) (bits_of result.now) ≡ self.now }
+    {
+        if self.len <= IN_PLACE {
+            &self.short
+        } else {
+            &self.bytes
+        }
+    }
+
+    /// The eight bytes that up to 64 bits are the first of. What fills them is 0.
+    #[inline(always)]
+    pub(crate) fn in_place(&self) -> [u8; 8]
+        requires few { length self.now ≤ 64 }
+        ensures clear { IsClear result (length self.now) }
+        ensures bits { take (length self.now) (bits_of result) ≡ self.now }
+    {
+        self.short
     }
 
     /// Whether the two are the same bits. Their allocators may differ.
@@ -78,37 +112,97 @@ impl<A: Allocator> Bits<A> {
         ensures equal { IsTrue result ↔ (self.now ≡ other.now) }
         ensures test { result ≡ eq_by_cmp path_cmp self.now other.now }
     {
-        self.len == other.len && same_bytes(&self.bytes, &other.bytes)
+        self.len == other.len && same_bytes(self.as_bytes(), other.as_bytes())
     }
 
     pub(crate) fn new(alloc: A) -> Bits<A>
         ensures { result ≡ [] }
     {
         Bits {
+            short: [0; 8],
             bytes: Vec::new(alloc),
             len: 0,
         }
     }
 
-    /// The first `len` bits of bytes.
+    /// The first `len` bits of eight bytes.
+    pub(crate) fn short(alloc: A, bytes: [u8; 8], len: usize) -> Bits<A>
+        requires few { len ≤ 64 }
+        requires clear { IsClear bytes len }
+        ensures { result ≡ take len (bits_of bytes) }
+    {
+        Bits {
+            short: bytes,
+            bytes: Vec::new(alloc),
+            len,
+        }
+    }
+
+    /// The first `len` bits of bytes, where these are more than have room in place.
     pub(crate) fn packed(bytes: Vec<u8, A>, len: usize) -> Bits<A>
-        requires { IsPacked bytes.items len }
+        requires long { 64 < len }
+        requires packed { IsPacked bytes.items len }
         ensures { result ≡ take len (bits_of bytes.items) }
     {
-        Bits { bytes, len }
+        Bits {
+            short: [0; 8],
+            bytes,
+            len,
+        }
+    }
+
+    /// A copy of the first `len` bits of bytes, under the given allocator; `Fault::NoMemory` where that is out of memory.
+    pub fn from_packed(alloc: A, bytes: &[u8], len: usize) -> Result<Bits<A>, Fault>
+        requires { IsPacked bytes.now len }
+        ensures ok { IfOk result (λ bits. bits ≡ take len (bits_of bytes.now)) }
+        ensures err { IfErr result (λ e. e ≡ NoMemory) }
+    {
+        if len <= IN_PLACE {
+            return Ok(Bits::short(alloc, first_eight(bytes), len));
+        }
+        let bytes = Vec::from_slice(alloc, bytes)?;
+        Ok(Bits::packed(bytes, len))
     }
 
     /// Appends the low `width` bits of `value`, the greatest first.
     #[inline(always)]
     pub(crate) fn append(&mut self, value: u64, width: u32) -> Result<(), Fault>
-        requires { width ≤ 64 }
+        requires width { width ≤ 48 }
+        requires fits { value < 2 ^ width }
+        ensures ok { OnOk result (self.new ≡ self.old ++ num width value) }
+        ensures err { IfErr result (λ e. (e ≡ NoMemory) × (self.new ≡ self.old)) }
+    {
+        if self.len <= IN_PLACE - width as usize {
+            self.short = with_number(self.short, self.len, value, width);
+            self.len += width as usize;
+            Ok(())
+        } else {
+            self.append_long(value, width)
+        }
+    }
+
+    /// Appends the low `width` bits of `value`, where all are more than have room in place.
+    #[inline(never)]
+    fn append_long(&mut self, value: u64, width: u32) -> Result<(), Fault>
+        requires width { width ≤ 48 }
+        requires long { 64 < length self.old + width }
         ensures ok { OnOk result (self.new ≡ self.old ++ num width value) }
         ensures err { IfErr result (λ e. (e ≡ NoMemory) × (self.new ≡ self.old)) }
     {
         let Some(len) = self.len.checked_add(width as usize) else {
             return Err(Fault::NoMemory);
         };
-        append_bits(&mut self.bytes, self.len, value, width as usize)?;
+        if self.len <= IN_PLACE {
+            spill(
+                &mut self.bytes,
+                &self.short,
+                self.len,
+                value,
+                width as usize,
+            )?;
+        } else {
+            append_bits(&mut self.bytes, self.len, value, width as usize)?;
+        }
         self.len = len;
         Ok(())
     }

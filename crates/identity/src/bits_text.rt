@@ -1,7 +1,8 @@
 //! Strings of bits as text.
 
 ghost use Rattle.std.specs.Prelude.{◌≡◌, ◌<◌, ◌≤◌, ◌^◌, ◌*◌, ◌+◌, ◌-◌, ◌/◌, ◌%◌, ◌++◌, ◌∷◌, ◌⊎◌, true, false, replicate, OnOk, OnErr};
-ghost use Rattle.std.specs.Prelude.{IfOk, IfErr, IfSome, Ok, Err, IsTrue, IsOk, length, take, drop, vec_len, vec_capacity, ◌==◌};
+ghost use Rattle.std.specs.Prelude.{IfOk, IfErr, IfSome, Ok, Err, IsTrue, IsOk, option_map, length, take, drop, vec_len, vec_capacity, ◌==◌};
+ghost use Rattle.std.specs.Prelude.{decimal, []};
 ghost use Rattle.std.specs.Char.{digit_value, is_ascii_hexdigit};
 ghost use Rattle.std.specs.Fmt.{digit_glyph};
 ghost use Rattle.std.specs.List.{list_all};
@@ -9,32 +10,25 @@ ghost use Rattle.identity.specs.Number.{num, number};
 ghost use Rattle.identity.specs.Packed.{bits_of as packed_bits};
 ghost use Rattle.identity.specs.NumberText.{is_number, value, IsPrefixOf};
 ghost use Rattle.identity.specs.BitsText.{hex_of, bits_text, digit_bits, bits_len, is_filled, reading_bits};
+ghost use Rattle.identity.specs.Inside.ReadDigits.{reading_digits};
 ghost use Rattle.identity.specs.declared.fault.Fault.TheVariants.{NoMemory};
 
-use crate::number_text::{cut, is_number, print_number, put_whole, value_of};
+use crate::hex_digits::{digit_of, is_digit, number_of, pair_of};
+use crate::number_text::{
+    cut, is_number, ones, parse_number, print_number, put_whole, tens, value_of,
+};
 use crate::{BitReader, Bits, Fault};
 use std::alloc::{AllocError, Allocator};
 
 /// The most bits of a PDU, and of a string of bits that is read as text.
 pub const MOST_BITS: usize = 2048;
 
+/// Whether all bytes are hexadecimal digits.
+#[inline(never)]
 fn all_hexadecimal(text: &[u8]) -> bool
     ensures { result ≡ list_all is_ascii_hexdigit text.now }
 {
-    text.iter().all(|byte| byte.is_ascii_hexdigit())
-}
-
-/// The value of a hexadecimal digit.
-fn digit_of(byte: u8) -> u64
-    requires { IsTrue (is_ascii_hexdigit byte) }
-    ensures value { result ≡ digit_value byte }
-    ensures small { result < 16 }
-{
-    match byte {
-        b'0'..=b'9' => u64::from(byte - b'0'),
-        b'A'..=b'F' => u64::from(byte - b'A') + 10,
-        _ => u64::from(byte - b'a') + 10,
-    }
+    text.iter().all(|byte| is_digit(*byte))
 }
 
 /// Whether the last `fill` bits of hexadecimal digits are 0.
@@ -98,9 +92,10 @@ fn bytes_of<A: Allocator>(alloc: A, digits: &[u8]) -> Result<Vec<u8, A>, AllocEr
     Ok(bytes)
 }
 
-/// The first `len` bits of hexadecimal digits.
+/// The first `len` bits of more hexadecimal digits than have room in place.
 #[inline(always)]
 fn bits_of<A: Allocator>(alloc: A, digits: &[u8], len: usize) -> Result<Bits<A>, Fault>
+    requires many { 16 < length digits.now }
     requires hexadecimal { IsTrue (list_all is_ascii_hexdigit digits.now) }
     requires filled { IsTrue (is_filled len digits.now) }
     ensures ok { IfOk result (λ bits. bits ≡ take len (digit_bits digits.now)) }
@@ -109,17 +104,13 @@ fn bits_of<A: Allocator>(alloc: A, digits: &[u8], len: usize) -> Result<Bits<A>,
     Ok(Bits::packed(bytes_of(alloc, digits)?, len))
 }
 
-/// The bits of a text `bits:HEX`, at most [`MOST_BITS`] of them. `Fault::BadText` where the text has not that form,
-/// else `Fault::OutOfRange` where the bits are more. `Fault::NoMemory` is reported only for a good text.
-#[inline(always)]
-#[tactic(auto, unfolding(crate::specs::BitsText::reading_bits, crate::specs::BitsText::bits_form))]
-pub fn parse_bits<A: Allocator>(alloc: A, text: &[u8]) -> Result<Bits<A>, Fault>
-    ensures ok { IfOk result (λ bits. reading_bits text.now ≡ Ok bits) }
-    ensures err { IfErr result (λ e. (reading_bits text.now ≡ Err e) ⊎ ((e ≡ NoMemory) × IsOk (reading_bits text.now))) }
+/// The bits of a count and more digits than have room in place.
+#[tactic(auto, unfolding(crate::specs::Inside::ReadDigits::reading_digits))]
+fn long_bits<A: Allocator>(alloc: A, count: &[u8], digits: &[u8]) -> Result<Bits<A>, Fault>
+    requires many { 16 < length digits.now }
+    ensures ok { IfOk result (λ bits. reading_digits count.now digits.now ≡ Ok bits) }
+    ensures err { IfErr result (λ e. (reading_digits count.now digits.now ≡ Err e) ⊎ ((e ≡ NoMemory) × IsOk (reading_digits count.now digits.now))) }
 {
-    let Some((count, digits)) = cut(text, b':') else {
-        return Err(Fault::BadText);
-    };
     let Some(len) = bits_len(count, digits) else {
         return Err(Fault::BadText);
     };
@@ -127,6 +118,83 @@ pub fn parse_bits<A: Allocator>(alloc: A, text: &[u8]) -> Result<Bits<A>, Fault>
         return Err(Fault::OutOfRange);
     }
     bits_of(alloc, digits, len as usize)
+}
+
+/// The most digits whose bits are kept without memory.
+const FEW_DIGITS: usize = 16;
+
+/// Whether so many bits need a few digits, whose number is `value`, and what fills the last one is 0.
+#[inline(always)]
+fn fills(len: u64, digits: &[u8], value: u64) -> bool
+    requires few { length digits.now ≤ 16 }
+    requires room { len ≤ 4 * length digits.now }
+    requires number { value ≡ number (digit_bits digits.now) }
+    ensures { result ≡ is_filled len digits.now }
+{
+    let fill = 4 * digits.len() as u64 - len;
+    fill < 4 && value % (1 << fill) == 0
+}
+
+/// How many bits a text of a few digits has, and the number of the digits; `None` where its form is not good.
+#[inline(always)]
+fn short_form(count: &[u8], digits: &[u8]) -> Option<(u64, u64)>
+    requires few { length digits.now ≤ 16 }
+    ensures len { option_map (λ form. form.0) result ≡ bits_len count.now digits.now }
+    ensures filled { IfSome result (λ form. IsTrue (is_filled form.0 digits.now)) }
+    ensures number { IfSome result (λ form. form.1 ≡ number (digit_bits digits.now)) }
+{
+    let Some(value) = number_of(digits) else {
+        return None;
+    };
+    let Ok(len) = parse_number(count, 4 * digits.len() as u64) else {
+        return None;
+    };
+    if fills(len, digits, value) {
+        Some((len, value))
+    } else {
+        None
+    }
+}
+
+/// The bits of a few digits, by their number, and zeros after them.
+#[inline(always)]
+fn eight_bytes(value: u64, digits: usize) -> [u8; 8]
+    requires few { digits ≤ 16 }
+    requires fits { value < 2 ^ (4 * digits) }
+    ensures { packed_bits result ≡ num (4 * digits) value ++ replicate (64 - 4 * digits) false }
+{
+    (value << ((64 - 4 * digits) % 64)).to_be_bytes()
+}
+
+/// The bits of a count and a few digits. This takes no memory.
+#[inline(always)]
+#[tactic(auto, unfolding(crate::specs::Inside::ReadDigits::reading_digits))]
+fn short_bits<A: Allocator>(alloc: A, count: &[u8], digits: &[u8]) -> Result<Bits<A>, Fault>
+    requires few { length digits.now ≤ 16 }
+    ensures ok { IfOk result (λ bits. reading_digits count.now digits.now ≡ Ok bits) }
+    ensures err { IfErr result (λ e. reading_digits count.now digits.now ≡ Err e) }
+{
+    let Some((len, value)) = short_form(count, digits) else {
+        return Err(Fault::BadText);
+    };
+    Ok(Bits::short(alloc, eight_bytes(value, digits.len()), len as usize))
+}
+
+/// The bits of a text `bits:HEX`, at most [`MOST_BITS`] of them. `Fault::BadText` where the text has not that form,
+/// else `Fault::OutOfRange` where the bits are more. `Fault::NoMemory` is reported only for a good text.
+#[inline(always)]
+#[tactic(auto, unfolding(crate::specs::BitsText::reading_bits, crate::specs::BitsText::bits_form, crate::specs::Inside::ReadDigits::reading_digits))]
+pub fn parse_bits<A: Allocator>(alloc: A, text: &[u8]) -> Result<Bits<A>, Fault>
+    ensures ok { IfOk result (λ bits. reading_bits text.now ≡ Ok bits) }
+    ensures err { IfErr result (λ e. (reading_bits text.now ≡ Err e) ⊎ ((e ≡ NoMemory) × IsOk (reading_bits text.now))) }
+{
+    let Some((count, digits)) = cut(text, b':') else {
+        return Err(Fault::BadText);
+    };
+    if digits.len() <= FEW_DIGITS {
+        return short_bits(alloc, count, digits);
+    }
+    long_bits(alloc, count, digits)
 }
 
 /// The capital digit of a value.
@@ -170,68 +238,78 @@ pub(crate) fn next_digit(reader: &mut BitReader<'_>) -> u8
     glyph(filled(value, width))
 }
 
-/// The digit of the four bits from place `4 * i` on, which are half of a byte.
-fn half_digit(bytes: &[u8], i: usize) -> u8
-    requires { i / 2 < length bytes.now }
-    ensures { result ≡ digit_glyph true (number (take 4 (drop (4 * i) (packed_bits bytes.now)))) }
+/// Writes the digits of bytes, as many as there is room for.
+fn write_pairs(digits: &mut [u8], bytes: &[u8])
+    requires { length digits.old ≤ 2 * length bytes.now }
+    ensures { digits.new ≡ take (length digits.old) (hex_of (packed_bits bytes.now)) }
 {
-    let byte = u64::from(bytes[i / 2]);
-    let value = if i % 2 == 0 { byte >> 4 } else { byte % 16 };
-    glyph(value)
-}
-
-/// The digit of the four bits from place `4 * i` on.
-fn digit_at<B: Allocator>(bits: &Bits<B>, i: usize) -> u8
-    requires { 4 * i + 4 ≤ length bits.now }
-    ensures { hex_of (drop (4 * i) bits.now) ≡ result ∷ hex_of (drop (4 * i + 4) bits.now) }
-{
-    half_digit(bits.as_bytes(), i)
-}
-
-/// Appends the two digits of each whole byte.
-fn put_whole_digits<A: Allocator, B: Allocator>(
-    out: &mut Vec<u8, A>,
-    bits: &Bits<B>,
-) -> Result<(), AllocError>
-    ensures ok { OnOk result (out.new.items ++ hex_of (drop (8 * (length bits.now / 8)) bits.now) ≡ out.old.items ++ hex_of bits.now) }
-    ensures prefix { IsPrefixOf out.old.items out.new.items }
-    ensures full { OnErr result (vec_capacity out.old < vec_len out.old + length (hex_of bits.now)) }
-    ensures capacity { vec_capacity out.old ≤ vec_capacity out.new }
-{
-    for i in 0..bits.len() / 8 {
-        out.extend_from_slice(&[digit_at(bits, 2 * i), digit_at(bits, 2 * i + 1)])?;
+    let whole = digits.len() / 2;
+    for i in 0..whole {
+        digits[2 * i..2 * i + 2].copy_from_slice(&pair_of(bytes[i]));
     }
-    Ok(())
-}
-
-fn put_digits<A: Allocator>(
-    out: &mut Vec<u8, A>,
-    reader: &mut BitReader<'_>,
-) -> Result<(), AllocError>
-    ensures ok { OnOk result (out.new.items ≡ out.old.items ++ hex_of reader.old) }
-    ensures err { OnErr result (IsPrefixOf out.old.items out.new.items) }
-    ensures full { OnErr result (vec_capacity out.old < vec_len out.old + length (hex_of reader.old)) }
-    ensures capacity { vec_capacity out.old ≤ vec_capacity out.new }
-{
-    while reader.left() > 0 {
-        out.push(next_digit(reader))?;
+    if digits.len() % 2 == 1 {
+        digits[2 * whole] = pair_of(bytes[whole])[0];
     }
-    Ok(())
 }
 
-#[tactic(auto, using(crate::proofs::HexSteps::prefix_of_prefix))]
+/// Appends the digits of bits.
 fn put_hex<A: Allocator, B: Allocator>(
     out: &mut Vec<u8, A>,
     bits: &Bits<B>,
 ) -> Result<(), AllocError>
     ensures ok { OnOk result (out.new.items ≡ out.old.items ++ hex_of bits.now) }
-    ensures err { OnErr result (IsPrefixOf out.old.items out.new.items) }
+    ensures err { OnErr result (out.new.items ≡ out.old.items) }
     ensures full { OnErr result (vec_capacity out.old < vec_len out.old + length (hex_of bits.now)) }
     ensures capacity { vec_capacity out.old ≤ vec_capacity out.new }
 {
-    put_whole_digits(out, bits)?;
-    put_digits(out, &mut BitReader::from_place(bits, 8 * (bits.len() / 8)))?;
+    let before = out.len();
+    out.resize(before + bits.len().div_ceil(4), 0)?;
+    write_pairs(&mut out[before..], bits.as_bytes());
     Ok(())
+}
+
+/// Three bytes, and the digits of eight after them.
+#[inline(always)]
+fn text_of(head: [u8; 3], bytes: [u8; 8]) -> [u8; 19]
+    ensures { result ≡ head ++ hex_of (packed_bits bytes) }
+{
+    let (first, second) = (pair_of(bytes[0]), pair_of(bytes[1]));
+    let (third, fourth) = (pair_of(bytes[2]), pair_of(bytes[3]));
+    let (fifth, sixth) = (pair_of(bytes[4]), pair_of(bytes[5]));
+    let (seventh, eighth) = (pair_of(bytes[6]), pair_of(bytes[7]));
+    [
+        head[0], head[1], head[2], first[0], first[1], second[0], second[1], third[0], third[1],
+        fourth[0], fourth[1], fifth[0], fifth[1], sixth[0], sixth[1], seventh[0], seventh[1],
+        eighth[0], eighth[1],
+    ]
+}
+
+/// How many of the two digits of a number below 100 are not shown.
+#[inline(always)]
+#[tactic(auto, using(crate::proofs::ShortNumbers::few_digits))]
+fn not_shown(number: u32) -> usize
+    requires { number < 100 }
+    ensures few { result ≤ 1 }
+    ensures text { decimal number ≡ drop result ((48 + number / 10) ∷ (48 + number % 10) ∷ []) }
+{
+    if number < 10 { 1 } else { 0 }
+}
+
+/// Appends the text of bits that are kept in place, at once.
+#[inline(always)]
+fn put_few_bits<A: Allocator, B: Allocator>(
+    out: &mut Vec<u8, A>,
+    bits: &Bits<B>,
+) -> Result<(), AllocError>
+    requires few { length bits.now ≤ 64 }
+    ensures ok { OnOk result (out.new.items ≡ out.old.items ++ bits_text bits.now) }
+    ensures err { OnErr result (out.new.items ≡ out.old.items) }
+    ensures full { OnErr result (vec_capacity out.old < vec_len out.old + length (bits_text bits.now)) }
+    ensures capacity { vec_capacity out.old ≤ vec_capacity out.new }
+{
+    let len = bits.len() as u32;
+    let text = text_of([tens(len), ones(len), b':'], bits.in_place());
+    out.extend_from_slice(&text[not_shown(len)..3 + bits.len().div_ceil(4)])
 }
 
 #[tactic(auto, unfolding(crate::specs::BitsText::bits_text), using(crate::proofs::Printed::printed))]
@@ -260,6 +338,9 @@ pub fn print_bits<A: Allocator, B: Allocator>(
     ensures full { OnErr result (vec_capacity out.old < vec_len out.old + length (bits_text bits.now)) }
     ensures capacity { vec_capacity out.old ≤ vec_capacity out.new }
 {
+    if bits.len() <= 64 {
+        return put_few_bits(out, bits);
+    }
     let before = out.len();
     let put = put_bits(out, bits);
     put_whole(out, before, put)

@@ -39,7 +39,7 @@ pub fn mcc(number: u64) -> u32
     ensures value { result ≡ mcc_of number }
     ensures below { result < 2 ^ 10 }
 {
-    (number >> 38) as u32
+    ((number >> 38) % (1 << 10)) as u32
 }
 
 pub fn mnc(number: u64) -> u32

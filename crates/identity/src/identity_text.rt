@@ -1,19 +1,23 @@
 //! Identities and prefixes as text.
 
 ghost use Rattle.std.specs.Prelude.{◌≡◌, ◌<◌, ◌≤◌, ◌^◌, ◌+◌, ◌++◌, OnOk, OnErr, IfOk, IfSome, IsTrue, length, vec_len, vec_capacity};
+ghost use Rattle.std.specs.Result.{result_ok};
 ghost use Rattle.identity.specs.NumberText.{IsPrefixOf};
 ghost use Rattle.identity.specs.IdentityText.{identity_text, prefix_text, reading_identity, prefix_of, reading_prefix};
 
-use crate::number_text::{cut, parse_number, print_number, put_whole};
+use crate::number_text::{
+    cut, number_before_dash, parse_number, print_number, put_before, put_code_before, put_whole,
+    short_number,
+};
 use crate::{Fault, Gtsi, Itsi, Prefix, fields};
 use std::alloc::{AllocError, Allocator};
 
-/// The number of the identity that a text names, in one pass over its bytes.
-#[inline(always)]
+/// As [`reading_identity`], for a text of any length and form.
+#[inline(never)]
 #[tactic(auto, unfolding(crate::specs::IdentityText::reading_identity, crate::specs::IdentityText::three_numbers,
 // and its numbers
 crate::specs::IdentityText::identity_of, crate::specs::NumberText::reading_number))]
-fn reading_identity(text: &[u8]) -> Result<u64, Fault>
+fn any_identity(text: &[u8]) -> Result<u64, Fault>
     ensures value { result ≡ reading_identity text.now }
     ensures below { IfOk result (λ n. n < 2 ^ 48) }
 {
@@ -33,6 +37,47 @@ fn reading_identity(text: &[u8]) -> Result<u64, Fault>
         (_, _, Err(Fault::BadText)) => Err(Fault::BadText),
         _ => Err(Fault::OutOfRange),
     }
+}
+
+/// How many bytes the longest text of an identity has.
+const MOST_BYTES: usize = 19;
+
+/// The number of the identity that a short text names, in one pass over its bytes.
+#[inline(always)]
+#[tactic(auto, using(crate::proofs::ShortTexts::short_readings))]
+fn short_identity(text: &[u8]) -> Option<u64>
+    requires few { length text.now ≤ 19 }
+    ensures value { result ≡ result_ok (reading_identity text.now) }
+    ensures below { IfSome result (λ n. n < 2 ^ 48) }
+{
+    let Some((mcc, rest)) = number_before_dash(text) else {
+        return None;
+    };
+    let Some((mnc, rest)) = number_before_dash(rest) else {
+        return None;
+    };
+    let ssi = short_number(rest)?;
+    if mcc > u64::from(fields::MOST_MCC)
+        || mnc > u64::from(fields::MOST_MNC)
+        || ssi > u64::from(fields::MOST_SSI)
+    {
+        return None;
+    }
+    Some(fields::number_of(mcc as u32, mnc as u32, ssi as u32))
+}
+
+/// The number of the identity that a text names.
+#[inline(always)]
+fn reading_identity(text: &[u8]) -> Result<u64, Fault>
+    ensures value { result ≡ reading_identity text.now }
+    ensures below { IfOk result (λ n. n < 2 ^ 48) }
+{
+    if text.len() <= MOST_BYTES {
+        if let Some(number) = short_identity(text) {
+            return Ok(number);
+        }
+    }
+    any_identity(text)
 }
 
 /// The radio that a text `mcc-mnc-ssi` names. `Fault::BadText` where the text has not that form, else
@@ -89,22 +134,8 @@ pub fn parse_prefix(text: &[u8]) -> Result<Prefix, Fault>
     }
 }
 
+/// Appends the text of an identity's number: it is put together from its end.
 #[tactic(auto, unfolding(crate::specs::IdentityText::identity_text), using(crate::proofs::Printed::printed))]
-fn put_identity<A: Allocator>(out: &mut Vec<u8, A>, number: u64) -> Result<(), AllocError>
-    requires { number < 2 ^ 48 }
-    ensures ok { OnOk result (out.new.items ≡ out.old.items ++ identity_text number) }
-    ensures err { OnErr result (IsPrefixOf out.old.items out.new.items) }
-    ensures full { OnErr result (vec_capacity out.old < vec_len out.old + length (identity_text number)) }
-    ensures capacity { vec_capacity out.old ≤ vec_capacity out.new }
-{
-    print_number(out, u64::from(fields::mcc(number)))?;
-    out.push(b'-')?;
-    print_number(out, u64::from(fields::mnc(number)))?;
-    out.push(b'-')?;
-    print_number(out, u64::from(fields::ssi(number)))
-}
-
-/// Appends the text of an identity's number.
 fn print_identity<A: Allocator>(out: &mut Vec<u8, A>, number: u64) -> Result<(), AllocError>
     requires { number < 2 ^ 48 }
     ensures ok { OnOk result (out.new.items ≡ out.old.items ++ identity_text number) }
@@ -112,9 +143,11 @@ fn print_identity<A: Allocator>(out: &mut Vec<u8, A>, number: u64) -> Result<(),
     ensures full { OnErr result (vec_capacity out.old < vec_len out.old + length (identity_text number)) }
     ensures capacity { vec_capacity out.old ≤ vec_capacity out.new }
 {
-    let before = out.len();
-    let put = put_identity(out, number);
-    put_whole(out, before, put)
+    let mut text = [0; 24];
+    let ssi = put_before(&mut text, 24, fields::ssi(number));
+    let mnc = put_code_before(&mut text, ssi, fields::mnc(number));
+    let mcc = put_code_before(&mut text, mnc, fields::mcc(number));
+    out.extend_from_slice(&text[mcc..])
 }
 
 /// Appends the text `mcc-mnc-ssi` of a radio's identity.

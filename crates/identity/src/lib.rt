@@ -8,6 +8,7 @@ mod display;
 mod fault;
 mod fields;
 mod gtsi;
+mod hex_digits;
 mod identity_text;
 mod itsi;
 pub mod laws;

@@ -2,7 +2,7 @@
 
 ghost use Rattle.std.specs.Prelude.{◌≡◌, ◌≤◌, ◌<◌, ◌+◌, ◌*◌, ◌^◌, Bool, List, length, take, drop, nat_lt, if◌then◌else◌, Ok, Err, IfOk};
 ghost use Rattle.identity.specs.Packed.{bits_of};
-ghost use Rattle.identity.specs.Number.{number};
+ghost use Rattle.identity.specs.Number.{num, number};
 ghost use Rattle.identity.specs.declared.fault.Fault.TheVariants.{Short};
 
 use crate::{Bits, Fault};
@@ -22,33 +22,39 @@ impl<'a> Model for BitReader<'a> {
 
     ghost view = { λ r. drop r.at (take r.end (bits_of r.bytes.now)) };
 
-    ghost invariant = { λ r. (r.at ≤ r.end) × (r.end ≤ length (bits_of r.bytes.now)) };
+    ghost invariant = { λ r. (r.at ≤ r.end) × (r.end ≤ length (bits_of r.bytes.now)) × (8 ≤ length r.bytes.now) };
 }
 
-/// All the bits of a few bytes as one number.
-fn number_of_bytes(bytes: &[u8]) -> u64
-    requires few { length bytes.now ≤ 7 }
-    ensures { result ≡ number (bits_of bytes.now) }
+/// The number of the eight bytes from place `start` on.
+#[inline(always)]
+fn word_at(bytes: &[u8], start: usize) -> u64
+    requires { start + 8 ≤ length bytes.now }
+    ensures { bits_of (take 8 (drop start bytes.now)) ≡ num 64 result }
 {
-    let mut value = 0;
-    for byte in bytes {
-        value = 256 * value + u64::from(*byte);
-    }
-    value
+    u64::from_be_bytes([
+        bytes[start],
+        bytes[start + 1],
+        bytes[start + 2],
+        bytes[start + 3],
+        bytes[start + 4],
+        bytes[start + 5],
+        bytes[start + 6],
+        bytes[start + 7],
+    ])
 }
 
-/// The `width` bits from place `at` on as a number.
+/// The `width` bits from place `at` on as a number: part of the eight bytes from there on, or of the last eight.
+#[inline(always)]
 fn number_at(bytes: &[u8], at: usize, width: u32) -> u64
     requires width { width ≤ 48 }
+    requires eight { 8 ≤ length bytes.now }
     requires room { at + width ≤ 8 * length bytes.now }
-    requires total { at + width < 2 ^ 64 }
     ensures value { result ≡ number (take width (drop at (bits_of bytes.now))) }
     ensures small { result < 2 ^ width }
 {
-    let end = at + width as usize;
-    let whole = number_of_bytes(&bytes[at / 8..end.div_ceil(8)]);
-    let trailing = (8 - end % 8) % 8;
-    (whole >> trailing) % (1 << width)
+    let start = (at / 8).min(bytes.len() - 8);
+    let following = 64 - (at - 8 * start) - width as usize;
+    (word_at(bytes, start) >> (following % 64)) % (1 << width)
 }
 
 impl<'a> BitReader<'a> {
@@ -65,7 +71,7 @@ impl<'a> BitReader<'a> {
         ensures { result ≡ drop at bits.now }
     {
         BitReader {
-            bytes: bits.as_bytes(),
+            bytes: bits.held(),
             at,
             end: bits.len(),
         }

@@ -1,7 +1,7 @@
 -- Groups that are read one after the other.
-use Rattle.std.proofs.Common.{◌≡◌, ℕ, zero, suc, ◌+◌, ◌-◌, ◌<◌, List, [], ◌∷◌, drop, Option, Some, None, refl, sym, ap, ◌∙◌, arith}
+use Rattle.std.proofs.Common.{◌≡◌, ℕ, zero, suc, ◌+◌, ◌-◌, ◌<◌, length, List, [], ◌∷◌, drop, Option, Some, None, refl, sym, ap, ◌∙◌, arith}
 use Rattle.std.proofs.lemmas.Bool.{false≢true}
-use Rattle.std.specs.Prelude.{option_map, IsSome, slice_get}
+use Rattle.std.specs.Prelude.{◌==◌, option_map, IsSome, slice_get}
 use Rattle.command_bytes.specs.Fields.{◌>>=◌}
 use Rattle.command_bytes.specs.Reading.{Read}
 use Rattle.image_rows.specs.Rows.{Group}
@@ -100,3 +100,18 @@ pub first_there : (count : ℕ) (bytes : List ℕ) → IsSome (groups_at count b
 unfolding next
 first_there zero bytes some there e = there refl
 first_there (suc n) bytes some there e = false≢true (rw (← e) at some)
+
+-- there are as many groups as stated
+count_of : (count : ℕ) (bytes : List ℕ) → IsSome (groups_at count bytes) → length (groups_from count bytes) ≡ count
+unfolding groups_from
+count_of zero bytes some = refl
+count_of (suc n) bytes some =
+    elim (group_at bytes) as (λ r. group_at bytes ≡ r → length (groups_from (suc n) bytes) ≡ suc n) [
+      | None ↦ λ e. absurd (first_there (suc n) bytes some (λ none. omega (arith, none)) (sym e))
+      | Some x ↦ λ e.
+          let first = first_is n bytes x.0 x.1 e some in
+          ap length first.list ∙ ap suc (count_of n x.1 first.there)
+    ] refl
+
+pub is_none : (count : ℕ) (bytes : List ℕ) (list : List Group) → groups_from count bytes ≡ list → IsSome (groups_at count bytes) → (count == 0) ≡ (length list == 0)
+is_none count bytes list is some = ap (λ n. n == 0) (sym (count_of count bytes some) ∙ ap length is)

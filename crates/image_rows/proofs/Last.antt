@@ -1,10 +1,12 @@
--- That a key comes after all others, as the table states it: nothing is after it, and it is not there itself.
-use Rattle.std.proofs.Common.{◌≡◌, ℕ, ◌-◌, ◌<◌, ◌++◌, Bool, true, false, cond, List, [], ◌∷◌, length, take, replicate, Option, Some, None, refl, sym, ap, subst, ◌∙◌, arith}
+-- That a key comes after all others, as the table states it: nothing is after it, and it is not there itself, or it
+-- comes after the last.
+use Rattle.std.proofs.Common.{◌≡◌, ℕ, ◌-◌, ◌<◌, ◌^◌, ◌++◌, Bool, true, false, cond, List, [], ◌∷◌, length, take, replicate, Option, Some, None, refl, sym, ap, subst, ◌∙◌, arith}
+use lib.Dec.{T}
 use mathlib.Core.Bool.{false≢true}
-use Rattle.std.specs.Prelude.{◌&&◌, not, nat_lt, option_map}
-use Rattle.std.specs.List.{list_all}
+use Rattle.std.specs.Prelude.{◌&&◌, not, nat_lt, map as each, unwrap_or}
+use Rattle.std.specs.List.{list_all, last_or}
 use Rattle.std.specs.Option.{is_some, is_none}
-use Rattle.std.specs.Ordering.{is_lt, eq_by_cmp, ordering_reverse}
+use Rattle.std.specs.Ordering.{is_lt, eq_by_cmp, nat_cmp, ordering_reverse}
 use Rattle.std.specs.declared.cmp.Ordering.{Ordering}
 use Rattle.std.specs.declared.cmp.Ordering.TheVariants.{Less, Equal, Greater}
 use Rattle.std.specs.Cmp.{IsTotalOrder}
@@ -12,11 +14,13 @@ use Rattle.std.specs.FinMap as map
 use Rattle.std.specs.FinMap.Entries as entries
 use Rattle.identity.specs.Path.{Path, path_cmp, begins, id_path}
 use Rattle.std.proofs.lemmas.Bool.{ltb-true, ltb-false}
-use Rattle.identity.specs.Inside.PathLaws.{paths_total, tied, tie_exact, begins_then}
+use Rattle.std.proofs.lemmas.Bool.Decides.{nat_tests}
+use Rattle.identity.specs.Inside.PathLaws.{paths_total, tied, tie_exact, begins_then, length-id_path, number-id_path}
 use Rattle.prefix_tree.specs.Table.{PathMap, longest, NamesLongest}
 use Rattle.prefix_tree.specs.Next.{next_entry}
 use Rattle.prefix_tree.specs.Following.{next_of}
 use Rattle.prefix_tree.proofs.Longest.{names_longest}
+use Rattle.prefix_tree.proofs.Order.{by_number}
 use Rattle.image_rows.specs.Loading.{is_next}
 
 and_false : (b : Bool) → (b && false) ≡ false
@@ -120,15 +124,8 @@ module _ {K X : Type 0} {R : K → K → Ordering} (o : IsTotalOrder R) where
       by None = refl
       by (Some x) = refl
 
-  pub next_or_there : (m : map.FinMap R X) (k : K) (absent : Bool) → is_none (past m k) ≡ true → absent ≡ is_none (map.get m k) → absent ≡ is_next m k
-  next_or_there m k absent nothing is = is ∙ sym (none_past o m k ∙ ap (λ (b : Bool). b && is_none (map.get m k)) nothing)
-
   pub not_next : (m : map.FinMap R X) (k : K) → is_none (past m k) ≡ false → false ≡ is_next m k
   not_next m k some = sym (none_past o m k ∙ ap (λ (b : Bool). b && is_none (map.get m k)) some)
-
-pub none_mapped : {X Y : Type 0} (f : X → Y) (r : Option X) (s : Option Y) → option_map f r ≡ s → is_none r ≡ is_none s
-none_mapped f None s e = ap is_none e
-none_mapped f (Some x) s e = ap is_none e
 
 pub none_if : {X : Type 0} (o : Option X) (r : Bool) → is_some o ≡ not r → is_none o ≡ r
 none_if o r e = ap not e ∙ twice r
@@ -136,3 +133,72 @@ none_if o r e = ap not e ∙ twice r
     twice : (b : Bool) → not (not b) ≡ b
     twice true = refl
     twice false = refl
+
+-- ---- by the last of the keys
+
+and_first : (a b : Bool) → T (a && b) → T a
+and_first true b p = tt
+and_first false b p = p
+
+and_second : (a b : Bool) → T (a && b) → T b
+and_second true b p = p
+and_second false b p = absurd p
+
+and_true : (b : Bool) → b ≡ (b && true)
+and_true true = refl
+and_true false = refl
+
+less_if : (r : Ordering) → T (is_lt r) → r ≡ Less
+less_if Less p = refl
+less_if Equal p = absurd p
+less_if Greater p = absurd p
+
+some_last : {K : Type 0} (k : K) (ks : List K) → last_or (Some k) ks ≡ None → ⊥
+some_last k [] none = absurd cc
+some_last k (l ∷ ks) none = some_last l ks none
+
+module _ {K X : Type 0} {R : K → K → Ordering} (o : IsTotalOrder R) where
+  abbrev last_key : List (K × X) → Option K
+  last_key es = last_or None (each (λ e. e.0) es)
+
+  -- what comes before all of these comes before the last of them
+  before_last : (k : K) (es : List (K × X)) (l : K) → T (entries.below_all R k es) → last_key es ≡ Some l → R k l ≡ Less
+  before_last k [] l below is = absurd cc
+  before_last k (e ∷ []) l below is = subst (λ p. R k (unwrap_or p l) ≡ Less) is (less_if _ (and_first _ _ below))
+  before_last k (e ∷ f ∷ es) l below is = before_last k (f ∷ es) l (and_second _ _ below) is
+
+  -- what comes after the last of entries in order comes after all of them
+  after_last : (es : List (K × X)) (k l : K) → T (map.is_sorted R es) → last_key es ≡ Some l → is_lt (R l k) ≡ list_all (λ e. is_lt (R e.0 k)) es
+  after_last [] k l order is = absurd cc
+  after_last (e ∷ []) k l order is = ap (λ p. is_lt (R (unwrap_or p l) k)) (sym is) ∙ and_true (is_lt (R e.0 k))
+  after_last (e ∷ f ∷ es) k l order is =
+      let rest : is_lt (R l k) ≡ list_all (λ e. is_lt (R e.0 k)) (f ∷ es) = after_last (f ∷ es) k l (and_second _ _ order) is in
+      elim (is_lt (R l k)) as (λ b. is_lt (R l k) ≡ b → is_lt (R l k) ≡ (is_lt (R e.0 k) && list_all (λ e. is_lt (R e.0 k)) (f ∷ es))) [
+        | true ↦ λ after.
+            let before : R e.0 l ≡ Less = before_last e.0 (f ∷ es) l (and_first _ _ order) is in
+            let here : R e.0 k ≡ Less = o.trans e.0 l k before (less_if _ (subst T (sym after) tt)) in
+            rest ∙ ap (λ r. is_lt r && list_all (λ e. is_lt (R e.0 k)) (f ∷ es)) (sym here)
+        | false ↦ λ before. before ∙ sym (ap (λ b. is_lt (R e.0 k) && b) (sym rest ∙ before) ∙ and_false (is_lt (R e.0 k)))
+      ] refl
+
+  pub by_last : (m : map.FinMap R X) (k l : K) → Some l ≡ last_or None (map.keys m) → is_lt (R l k) ≡ is_next m k
+  unfolding is_next
+  by_last m k l is = after_last (map.entries m) k l (map.entries_sorted m) (sym is)
+
+  pub first_of_all : (m : map.FinMap R X) (k : K) → None ≡ last_or None (map.keys m) → true ≡ is_next m k
+  unfolding is_next
+  first_of_all m k is = step (map.entries m) (sym is)
+    where
+      step : (es : List (K × X)) → last_key es ≡ None → true ≡ list_all (λ e. is_lt (R e.0 k)) es
+      step [] none = refl
+      step (e ∷ es) none = absurd (some_last e.0 (each (λ (f : K × X). f.0) es) none)
+
+lt_test : (a b : ℕ) → nat_lt a b ≡ is_lt (nat_cmp a b)
+lt_test a b = grind (arith, nat_tests)
+
+-- a radio comes after all others if its number is greater than that of the last
+pub by_last_radio : {X : Type 0} (m : PathMap X) (last itsi : ℕ) → last < 2 ^ 48 → itsi < 2 ^ 48 → Some (id_path last) ≡ last_or None (map.keys m) → nat_lt last itsi ≡ is_next m (id_path itsi)
+by_last_radio m last itsi last_small small is =
+    lt_test last itsi
+    ∙ ap is_lt (sym (by_number (id_path last) (id_path itsi) (length-id_path last ∙ sym (length-id_path itsi)) ∙ (λ i. nat_cmp (number-id_path last last_small i) (number-id_path itsi small i))))
+    ∙ by_last paths_total m (id_path itsi) (id_path last) is

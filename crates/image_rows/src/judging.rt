@@ -91,7 +91,10 @@ fn is_next_rule<A: Allocator + Clone>(registry: &Registry<A>, prefix: &Prefix) -
 fn is_next_radio<A: Allocator + Clone>(registry: &Registry<A>, itsi: Itsi) -> bool
     ensures { result ≡ is_next registry.now.radios (id_path itsi) }
 {
-    registry.next_radio(Some(itsi)).is_none() && registry.where_is(itsi).is_none()
+    match registry.last_radio() {
+        Some(last) => last.number() < itsi.number(),
+        None => true,
+    }
 }
 
 /// Whether a rule under this prefix may come.

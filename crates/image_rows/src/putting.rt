@@ -1,5 +1,5 @@
 // Puts rows into the parts of a register, one after another. Each row is first checked, without memory, and then put.
-ghost use Rattle.std.specs.Prelude.{◌≡◌, ◌<◌, ◌≤◌, ◌-◌, IfOk, IsSome, IsTrue, None, OnErr, OnOk, Some, length, slice_set, vec_len};
+ghost use Rattle.std.specs.Prelude.{◌≡◌, ◌<◌, ◌≤◌, ◌-◌, IfOk, IsSome, IsTrue, None, OnErr, OnOk, Some, [], length, slice_set, vec_len};
 ghost use Rattle.std.specs.List.{All};
 ghost use Rattle.std.specs.Option.{is_some};
 ghost use Rattle.group_attach.specs.Applied.{most_of_radio, restored};
@@ -8,7 +8,7 @@ ghost use Rattle.registration.specs.Registered.{radio_of, with_radio};
 ghost use Rattle.std.specs.FinMap as map;
 ghost use Rattle.image_rows.specs.Rows.{RuleRow, RadioRow, MailRow, ServedRow};
 ghost use Rattle.image_rows.specs.RowViews.{row_view};
-ghost use Rattle.image_rows.specs.Loading.{begin, put, row_taken};
+ghost use Rattle.image_rows.specs.Loading.{begin, put, row_taken, taken_radio};
 ghost use Rattle.image_rows.specs.Held.{IsOutcome, IsHeld, IsLoaded, IsPlace, loading, needs_memory, with_groups};
 
 use crate::attached::own_groups;
@@ -99,6 +99,18 @@ fn add_radio<A: Allocator + Clone>(
     }
 }
 
+// Adds a radio without groups.
+fn put_alone<A: Allocator + Clone>(
+    parts: &mut Parts<A>,
+    itsi: Itsi,
+    radio: Radio,
+) -> Result<(), AllocError>
+    ensures ok { OnOk result (parts.new ≡ taken_radio parts.old itsi radio []) }
+    ensures err { OnErr result (parts.new ≡ parts.old) }
+{
+    parts.registry.restore(itsi, radio).or(Err(AllocError))
+}
+
 // An attachment that others overwrite.
 fn placeholder(itsi: Itsi) -> Attachment {
     Attachment {
@@ -120,6 +132,10 @@ fn put_groups<A: Allocator + Clone>(
     ensures err { OnErr result (parts.new ≡ parts.old) }
     ensures memory { OnErr result (IsSome (with_groups parts.old itsi radio groups.entry)) }
 {
+    if groups.is_empty() {
+        put_alone(parts, itsi, radio)?;
+        return Ok(true);
+    }
     let mut list = [placeholder(itsi); MOST_OF_RADIO];
     let Some(count) = own_groups(&mut list, itsi, groups) else {
         return Ok(false);

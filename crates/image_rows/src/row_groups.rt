@@ -1,5 +1,5 @@
 // The groups of a radio's row, as they are read.
-ghost use Rattle.std.specs.Prelude.{◌≡◌, IfSome, drop, option_map, slice_get};
+ghost use Rattle.std.specs.Prelude.{◌≡◌, ◌==◌, IfSome, drop, length, option_map, slice_get};
 ghost use Rattle.image_rows.specs.RowText.{group_in};
 ghost use Rattle.image_rows.specs.RowReading.{group_at, groups_at, usage_of};
 
@@ -83,6 +83,13 @@ pub fn groups(itsi: Itsi, count: u64, bytes: &[u8]) -> Option<PackedGroups<'_>>
 }
 
 impl<'a> PackedGroups<'a> {
+    /// Whether there are no groups.
+    pub fn is_empty(&self) -> bool
+        ensures { result ≡ (length self.now == 0) }
+    {
+        self.count == 0
+    }
+
     /// Takes the first of the groups, as an attachment of this radio.
     pub fn next(&mut self, itsi: Itsi) -> Option<Attachment>
         ensures value { option_map group_in result ≡ slice_get self.old 0 }

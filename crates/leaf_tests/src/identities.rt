@@ -53,9 +53,18 @@ fn is_same_copy(alloc: Global, bits: &Bits<Global>) -> bool {
     }
 }
 
+fn is_made_of_its_bytes(alloc: Global, bits: &Bits<Global>) -> bool {
+    match Bits::from_packed(&alloc, bits.as_bytes(), bits.len()) {
+        Ok(made) => bits.same(&made),
+        Err(_) => false,
+    }
+}
+
 fn are_packed(alloc: Global) -> Result<bool, Fault> {
     let bits = parse_bits(alloc, "10:264".as_bytes())?;
-    let packed = bits.as_bytes() == [0x26, 0x40].as_slice() && is_same_copy(alloc, &bits);
+    let packed = bits.as_bytes() == [0x26, 0x40].as_slice()
+        && is_same_copy(alloc, &bits)
+        && is_made_of_its_bytes(alloc, &bits);
     Ok(packed && OTHERS.iter().all(|text| differs(alloc, &bits, text)))
 }
 

@@ -96,14 +96,16 @@ fn radios_follow(registry: &Registry<Global>) -> Result<bool, Fail> {
         after = Some(radio(ssi)?);
     }
     let beside = next_ssi(registry, Some(radio(8)?)) == (2001, 2001);
-    Ok(right && beside && next_ssi(registry, after) == (0, 0))
+    let last = registry.last_radio() == Some(radio(2002)?);
+    Ok(right && beside && last && next_ssi(registry, after) == (0, 0))
 }
 
 fn follow(alloc: Global) -> Result<[bool; 2], Fail> {
     let limits = Limits::new(8, 8, 8, 1).ok_or("limits")?;
     let mut registry = Registry::new(alloc, limits)?;
+    let none = registry.last_radio().is_none();
     fill(&mut registry)?;
-    Ok([rules_follow(&registry)?, radios_follow(&registry)?])
+    Ok([none && rules_follow(&registry)?, radios_follow(&registry)?])
 }
 
 #[test]

@@ -1,10 +1,10 @@
 -- Radios in a list by their identities' numbers, and the map under the bits of these identities.
-use Rattle.std.proofs.Common.{◌≡◌, ℕ, ◌+◌, ◌<◌, ◌≤◌, ◌^◌, ◌==◌, Bool, true, false, cond, List, [], ◌∷◌, ◌++◌, length, Option, Some, None, refl, sym, ap, subst, ◌∙◌, arith}
+use Rattle.std.proofs.Common.{◌≡◌, ℕ, suc, ◌+◌, ◌-◌, ◌<◌, ◌≤◌, ◌^◌, ◌==◌, Bool, true, false, cond, List, [], ◌∷◌, ◌++◌, length, Option, Some, None, refl, sym, ap, subst, ◌∙◌, arith}
 use lib.Dec.{T}
-use Rattle.std.specs.Prelude.{◌&&◌}
+use Rattle.std.specs.Prelude.{◌&&◌, map as each, slice_get, unwrap_or}
 use Rattle.std.specs.declared.cmp.Ordering.TheVariants.{Less}
 use Rattle.std.specs.Option.{option_map, IsSome}
-use Rattle.std.specs.List.{All, AllByRecursion, find as find_first}
+use Rattle.std.specs.List.{All, AllByRecursion, find as find_first, last_or}
 use Rattle.std.specs.List.Sorted.{IsStrictlySortedBy}
 use Rattle.std.specs.Map.{keys_of, lookup, remove_entry}
 use Rattle.std.specs.Ordering.{nat_cmp, is_eq, is_lt, eq_by_cmp}
@@ -186,6 +186,41 @@ small_there es rest n k r order is = All-head IsSmall k (keys_of rest) (subst (�
     step : (es : List (ℕ × Radio)) → All IsSmall (keys_of es) → All IsSmall (keys_of (from n es))
     step [] all = all
     step (e ∷ es) all = by (range_contains nat_cmp (Included n) Unbounded e.0) e (from n es) (All-head IsSmall e.0 (keys_of es) all) (step es (All-tail IsSmall e.0 (keys_of es) all))
+
+-- ---- the last
+
+-- the last of two entries or more is the last of those after the first
+one_fewer : (e f : ℕ × Radio) (es : List (ℕ × Radio)) → slice_get (f ∷ es) (length (f ∷ es) - 1) ≡ slice_get (e ∷ f ∷ es) (length (e ∷ f ∷ es) - 1)
+one_fewer e f es = let less : suc (length (f ∷ es) - 1) ≡ length (e ∷ f ∷ es) - 1 = omega arith in ap (slice_get (e ∷ f ∷ es)) less
+
+last_in : (es : List (ℕ × Radio)) (k : ℕ) (r : Radio) → slice_get es (length es - 1) ≡ Some (k, r) → last_or None (each (λ (e : Path × Radio). e.0) (under_bits es)) ≡ Some (id_path k)
+last_in [] k r is = absurd cc
+last_in (e ∷ []) k r is = ap (λ o. Some (id_path (unwrap_or o e).0)) is
+last_in (e ∷ f ∷ es) k r is = last_in (f ∷ es) k r (one_fewer e f es ∙ is)
+
+-- the last entry has the last of the keys
+pub last_there : (es : List (ℕ × Radio)) (m : PathMap Radio) (k itsi : ℕ) (r : Radio) → radios_of es ≡ m → AreInOrder es → slice_get es (length es - 1) ≡ Some (k, r) → itsi ≡ k → Some (id_path itsi) ≡ last_or None (map.keys m)
+last_there es m k itsi r seen order is same =
+    ap (λ l. Some (id_path l)) same ∙ sym (last_in es k r is)
+    ∙ ap (λ l. last_or None (each (λ (e : Path × Radio). e.0) l)) (sym (entries_of es order)) ∙ ap (λ l. last_or None (map.keys l)) seen
+
+-- the last entry's number is an identity's
+pub small_last : (es : List (ℕ × Radio)) (k : ℕ) (r : Radio) → AreInOrder es → slice_get es (length es - 1) ≡ Some (k, r) → k < 2 ^ 48
+small_last es k r order is = step es order.1 is
+  where
+    step : (es : List (ℕ × Radio)) → All IsSmall (keys_of es) → slice_get es (length es - 1) ≡ Some (k, r) → IsSmall k
+    step [] all is = absurd cc
+    step (e ∷ []) all is = subst (λ o. IsSmall (unwrap_or o e).0) is (All-head IsSmall e.0 [] all)
+    step (e ∷ f ∷ es) all is = step (f ∷ es) (All-tail IsSmall e.0 (keys_of (f ∷ es)) all) (one_fewer e f es ∙ is)
+
+-- where there is no entry there is no key
+pub no_last : (es : List (ℕ × Radio)) (m : PathMap Radio) → radios_of es ≡ m → AreInOrder es → (0 < length es → ⊥) → None ≡ last_or None (map.keys m)
+no_last es m seen order none =
+    sym (step es none) ∙ ap (λ l. last_or None (each (λ (e : Path × Radio). e.0) l)) (sym (entries_of es order)) ∙ ap (λ l. last_or None (map.keys l)) seen
+  where
+    step : (es : List (ℕ × Radio)) → (0 < length es → ⊥) → last_or None (each (λ (e : Path × Radio). e.0) (under_bits es)) ≡ None
+    step [] none = refl
+    step (e ∷ es) none = absurd (none (omega arith))
 
 -- ---- what the calls of the map say
 

@@ -1,6 +1,7 @@
 //! The radios that are known, by their identities.
 
-ghost use Rattle.std.specs.Prelude.{◌≡◌, ◌<◌, ◌≤◌, ◌^◌, IfOk, IfNone, OnOk, OnErr, OnSome, IsOk, IsSome};
+ghost use Rattle.std.specs.Prelude.{◌≡◌, ◌<◌, ◌≤◌, ◌^◌, IfOk, IfNone, OnOk, OnErr, OnSome, IsOk, IsSome, None};
+ghost use Rattle.std.specs.List.{last_or};
 ghost use Rattle.std.specs.Option.{option_map};
 ghost use Rattle.std.specs.FinMap as map;
 ghost use Rattle.identity.specs.Path.{id_path};
@@ -105,6 +106,14 @@ impl<A: Allocator + Clone> Radios<A> {
     {
         let (number, radio) = self.by_number.range(first_past(after)..).next()?;
         Some((itsi_of(*number), *radio))
+    }
+
+    /// The identity of the last radio. It takes no memory.
+    pub(crate) fn last(&self) -> Option<Itsi>
+        ensures { option_map id_path result ≡ last_or None (map.keys self.now) }
+    {
+        let (number, _) = self.by_number.last_key_value()?;
+        Some(itsi_of(*number))
     }
 }
 

@@ -2,6 +2,7 @@
 
 ghost use Rattle.std.specs.Prelude.{◌≡◌, ◌↔◌, nat_lt, None, Some, OnOk, OnErr, OnSome, IfOk, IfErr, IfNone, IsOk, IsSome, unwrap_or};
 ghost use Rattle.std.specs.Option.{option_map};
+ghost use Rattle.std.specs.List.{last_or};
 ghost use Rattle.std.specs.FinMap as map;
 ghost use Rattle.identity.specs.Path.{id_path};
 ghost use Rattle.prefix_tree.specs.Next.{next_entry};
@@ -145,6 +146,13 @@ impl<A: Allocator + Clone> Registry<A> {
         ensures { option_map under_its_bits result ≡ next_entry self.now.radios (option_map id_path after) }
     {
         self.radios.next(after)
+    }
+
+    /// The identity of the last radio in the order of `radios`; `None` where there is no radio. It takes no memory.
+    pub fn last_radio(&self) -> Option<Itsi>
+        ensures { option_map id_path result ≡ last_or None (map.keys self.now.radios) }
+    {
+        self.radios.last()
     }
 
     /// Why `set_rule` would refuse a rule under this prefix, memory aside.

@@ -95,7 +95,7 @@ fn refused(alloc: Global, size: usize) -> Result<Option<(usize, bool)>, Fail> {
 /// How many events of a round ran out of memory in some heap; an error if one of them changed something.
 fn places_refused(alloc: Global) -> Result<usize, Fail> {
     let mut places = [false; 15];
-    for pieces in 0..512usize {
+    for pieces in 0..1024usize {
         if let Some((place, same)) = refused(alloc, 4096 + pieces * 64)? {
             if !same || place >= places.len() {
                 return Err(Fail::from("a refused growth changed something"));

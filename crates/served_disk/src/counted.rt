@@ -2,7 +2,6 @@
 ghost use Rattle.std.specs.Prelude.{◌≡◌};
 
 use crate::Tally;
-use crate::watched::ends_in;
 use sector_disk::{Disk, DiskError};
 use std::io;
 use std::io::{Read, Write};
@@ -30,7 +29,7 @@ impl<'t, 'r, R: Read, C: Clock + Eprint> Read for CountedReader<'t, 'r, R, C> {
     fn read(&mut self, buffer: &mut [u8]) -> io::Result<usize> {
         let given = self.reader.read(buffer);
         if let Ok(n) = &given {
-            self.tally.add(ends_in(&buffer[..*n]));
+            self.tally.add_lines(&buffer[..*n]);
         }
         given
     }
@@ -58,7 +57,7 @@ impl<'t, 'r, W: Write, C: Clock + Eprint> Write for CountedWriter<'t, 'r, W, C> 
     fn write(&mut self, bytes: &[u8]) -> io::Result<usize> {
         let written = self.writer.write(bytes);
         if let Ok(n) = &written {
-            self.tally.add(ends_in(&bytes[..*n]));
+            self.tally.add_lines(&bytes[..*n]);
         }
         written
     }

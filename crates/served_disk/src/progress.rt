@@ -84,6 +84,11 @@ impl<'r, R: Clock + Eprint> Progress<'r, R> {
         self.lines.get(place)
     }
 
+    /// Whether anybody watches. Else nothing is counted.
+    pub(crate) fn is_watched(&self) -> bool {
+        self.pace.is_watched()
+    }
+
     /// This many lines of a station are served.
     pub(crate) fn serve(&self, station: Station, lines: u64) {
         if let Some(known) = self.lines_of(station) {
@@ -94,8 +99,15 @@ impl<'r, R: Clock + Eprint> Progress<'r, R> {
         }
     }
 
-    /// The desk has answered a line of a station.
+    /// The desk has answered a line of a station. It is counted if anybody watches.
+    #[inline(always)]
     pub(crate) fn count(&self, station: Station, is_accepted: bool) {
+        if self.is_watched() {
+            self.count_answer(station, is_accepted);
+        }
+    }
+
+    fn count_answer(&self, station: Station, is_accepted: bool) {
         if let Some(known) = self.lines_of(station) {
             known.fetch_add(1, Ordering::SeqCst);
         }

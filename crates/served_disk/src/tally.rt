@@ -1,6 +1,7 @@
 //! How far a dump, a loading or a check has come, reported while it goes on.
 
 use crate::pace::Pace;
+use crate::watched::ends_in;
 use std::io;
 use std::rt::Clock;
 use std::sync::atomic::{AtomicU64, Ordering};
@@ -45,6 +46,13 @@ impl<'r, R: Clock + Eprint> Tally<'r, R> {
         self.done.fetch_add(more, Ordering::SeqCst);
         if self.pace.is_due() {
             let _ = self.report("");
+        }
+    }
+
+    /// The lines that end in a piece are done.
+    pub(crate) fn add_lines(&self, piece: &[u8]) {
+        if self.pace.is_watched() {
+            self.add(ends_in(piece));
         }
     }
 

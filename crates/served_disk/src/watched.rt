@@ -44,6 +44,9 @@ impl<'p, 'r, R: Read, C: Clock + Eprint> Read for WatchedReader<'p, 'r, R, C> {
     ghost remaining = { λ watched. R.remaining watched.reader };
 
     fn read(&mut self, buffer: &mut [u8]) -> io::Result<usize> {
+        if !self.progress.is_watched() {
+            return self.reader.read(buffer);
+        }
         self.progress.serve(self.station, self.lines);
         let given = self.reader.read(buffer);
         if let Ok(n) = &given {

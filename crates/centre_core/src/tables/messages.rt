@@ -222,7 +222,7 @@ fn copies<A: Allocator, B: Allocator + Copy>(
 ) -> Result<Vec<Item<B>, B>, AllocError>
     ensures { IfOk result (λ copies. copies.items ≡ map (λ item. item.now) items.now) }
 {
-    let mut copies = Vec::new(alloc);
+    let mut copies = Vec::with_capacity(alloc, items.len())?;
     for item in items {
         copies.push(item.copied(alloc)?)?;
     }

@@ -3,4 +3,4 @@ use Rattle.console.proofs.Marks.{marked_chunk}
 use Rattle.console.proofs.spaces.spaces_of_32.Goals as goal
 
 pub returns : goal.returns
-returns c = marked_chunk c.args.line.now c.args.at 32 c.requires (omega arith)
+returns c = marked_chunk 32 c.args.line.now c.args.at 32 c.requires (omega arith)

@@ -1,18 +1,14 @@
-use Rattle.std.proofs.Common.{◌≡◌, ◌∙◌, ap, sym, true, false, Some}
-use Rattle.std.specs.Option.{is_none}
+use Rattle.std.proofs.Common.{Some, ap, ◌∙◌}
 use Rattle.identity.specs.Path.{id_path}
 use Rattle.identity.specs.Inside.PathLaws.{paths_total}
-use Rattle.prefix_tree.specs.Next.{next_entry}
-use Rattle.registration.specs.Listed.{under_its_bits}
-use Rattle.image_rows.proofs.Last.{next_or_there, not_next, none_mapped, none_if}
+use Rattle.image_rows.specs.Loading.{is_next}
+use Rattle.image_rows.proofs.Last.{by_last_radio, first_of_all}
 use Rattle.image_rows.proofs.judging.is_next_radio.Goals as goal
 
-pub returns-then-is_none : goal.returns-then-is_none
-returns-then-is_none g c =
-    let nothing : is_none (next_entry c.args.registry.now.radios (Some (id_path c.args.itsi))) ≡ true = sym (none_mapped under_its_bits c.next_radio.result _ c.next_radio.ensures) ∙ none_if c.next_radio.result c.is_none.result c.is_none.ensures ∙ c.if-is_none.true in
-    next_or_there paths_total c.args.registry.now.radios (id_path c.args.itsi) c.is_none-then-is_none.result nothing (sym (none_if c.where_is.result c.is_none-then-is_none.result c.is_none-then-is_none.ensures) ∙ ap is_none c.where_is.ensures)
+pub returns-in-Some : goal.returns-in-Some
+returns-in-Some g c =
+    by_last_radio c.args.registry.now.radios c.number.result c.number-in-Some.result c.number.ensures.below c.number-in-Some.ensures.below (ap (λ n. Some (id_path n)) c.number.ensures.value ∙ c.in-Some.ensures)
+    ∙ ap (λ n. is_next c.args.registry.now.radios (id_path n)) c.number-in-Some.ensures.value
 
-pub returns-else-is_none : goal.returns-else-is_none
-returns-else-is_none g c =
-    let some : is_none (next_entry c.args.registry.now.radios (Some (id_path c.args.itsi))) ≡ false = sym (none_mapped under_its_bits c.next_radio.result _ c.next_radio.ensures) ∙ none_if c.next_radio.result c.is_none.result c.is_none.ensures ∙ c.if-is_none.false in
-    c.if-is_none.false ∙ not_next paths_total c.args.registry.now.radios (id_path c.args.itsi) some
+pub returns-in-None : goal.returns-in-None
+returns-in-None g c = first_of_all paths_total c.args.registry.now.radios (id_path c.args.itsi) c.in-None.ensures

@@ -1,5 +1,8 @@
-use Rattle.std.proofs.Common.{rules, inl, inr}
+use Rattle.std.proofs.Common.{rules, inl, inr, ◌≡◌, false, sym, subst}
+use Rattle.std.specs.Prelude.{OnErr}
+use Rattle.std.specs.List.{list_any}
 use Rattle.std.specs.FinMap as finite
+use Rattle.mailbox.specs.Item.{is_at}
 use Rattle.mailbox.specs.Inside.Boxes.{put_last}
 use Rattle.mailbox.proofs.Boxed.{box_or_none, none_there, by_answer, written, unwritten}
 use Rattle.mailbox.proofs.boxes.put_there.Goals as goal
@@ -26,5 +29,6 @@ pub returns-clause-memory : goal.returns-clause-memory
 returns-clause-memory g c =
     elim (box_or_none (finite.get c.args.inboxes.now c.args.path.now)) [
       | inl none ↦ absurd (none_there none c.requires)
-      | inr found ↦ by_answer (rw found.1 at c.change.ensures.2) (λ r is posted. rw (c.unwrap_or.ensures, is, found.1) (search rules))
+      | inr found ↦ by_answer (rw found.1 at c.change.ensures.2) (λ r is posted. rw (c.unwrap_or.ensures, is, found.1) (
+          subst (λ p. OnErr p.0 (list_any (is_at c.args.item.key) found.0 ≡ false)) (sym posted.said-raw.1.1.1) posted.said-raw.1.1.0.ensures.1.1))
     ]
