@@ -80,10 +80,15 @@ fn ends_of_runs(alloc: Global) -> Option<[bool; 10]> {
 
 /// Whether runs end in each of these ways, and in no other way.
 fn are_seen(ends: Option<[bool; 10]>, ways: &[usize]) -> bool {
-    match ends {
-        Some(ends) => !ends[9] && ways.iter().all(|way| ends.get(*way) == Some(&true)),
-        None => false,
+    let Some(ends) = ends else {
+        return false;
+    };
+    for (way, seen) in ends.iter().enumerate() {
+        if *seen != ways.contains(&way) {
+            return false;
+        }
     }
+    true
 }
 
 /// A rule, a radio, its groups and each message take memory of the register.
