@@ -348,7 +348,7 @@ def memory_that_ends(place, form, title, words):
                                      cwd=place.folder, env=refusing.environment(made, len(statuses) + 1))
             statuses.append(program.returncode)
             compare('standard error', program.stderr, fault('memory') if program.returncode == 5 else b'')
-            compare(f'{program.stdout!r} is a front of the answers', good.startswith(said_before(program.stdout)), True)
+            compare(f'{program.stdout!r} is a prefix of the answers', good.startswith(said_before(program.stdout)), True)
             again = subprocess.run([*place.command, 'run', 'd.img', 'a.txt'], capture_output=True, timeout=SECONDS, cwd=place.folder)
             compare('status of the next run', again.returncode, 0)
             place.gives(['show', 'd.img', 'where', '234-14-2001'], 0, WHERE)
