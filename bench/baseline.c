@@ -1,7 +1,7 @@
 /* The plain baseline of the benchmark: it reads standard input in pieces of 64 KiB, splits them at
    line ends, and writes one short line for each line with one write. It judges nothing. With a file
-   after its name it writes the answers of that file instead, each one after its length in four bytes:
-   what the writing of answers takes that are there already. */
+   after its name it writes that file's answers instead, each of which comes after its length in four
+   bytes: so much does the writing alone take. */
 #define _GNU_SOURCE
 #include <fcntl.h>
 #include <stdio.h>
