@@ -1,5 +1,5 @@
 //! The two ends of a channel.
-ghost use Rattle.std.specs.Prelude.{◌≡◌, true, false, [], ◌∷◌, ◌++◌, All, length, IfOk, MatchOption};
+ghost use Rattle.std.specs.Prelude.{◌≡◌, ◌<◌, true, false, [], ◌∷◌, ◌++◌, All, length, IfOk, MatchOption};
 ghost use mathlib.Core.List.{IsPrefix};
 ghost use Rattle.crossbeam_channel.specs.Claims.{view, IsSeatAt};
 ghost use Rattle.crossbeam_channel.specs.Ends.{sends_on, receives_on};
@@ -35,13 +35,16 @@ pub struct AnswerReceiver<T: Drop> {
     pub ghost view_is: { view pass ≡ view_of false true [] (received_of pass) },
 }
 
-/// The two ends of a channel with room for one message. Nothing was sent yet.
+/// The two ends of a channel with room for so many messages. Nothing was sent yet. With room for each command that a session
+/// has under way at a time, the sender never waits for the session.
 pub fn open_channel<T: Drop>(
     alloc: Global,
+    room: usize,
 ) -> Result<(AnswerSender<T>, AnswerReceiver<T>), AllocError>
+    requires { 0 < room }
     ensures { IfOk result (λ r. AreEnds (sends_on r.0.channel) (receives_on r.1.channel) (sent_of r.0.pass) (received_of r.1.pass) r.0.gone) }
 {
-    let (sending, receiving, mut pass) = bounded_with(alloc, 1)?;
+    let (sending, receiving, mut pass) = bounded_with(alloc, room)?;
     let other = sending.another::<Halves>(&mut pass);
     Ok((
         AnswerSender {
@@ -56,18 +59,20 @@ pub fn open_channel<T: Drop>(
     ))
 }
 
-/// As many channels as `count`.
+/// As many channels as `count`, each with room for so many messages.
 pub fn open_channels<T: Drop>(
     alloc: Global,
     count: usize,
+    room: usize,
 ) -> Result<Vec<(AnswerSender<T>, AnswerReceiver<T>)>, AllocError>
+    requires { 0 < room }
     ensures count { IfOk result (λ v. length v.items ≡ count) }
     ensures ends { IfOk result (λ v. All (λ r.
         AreEnds (sends_on r.0.channel) (receives_on r.1.channel) (sent_of r.0.pass) (received_of r.1.pass) r.0.gone) v.items) }
 {
     let mut channels = Vec::with_capacity(alloc, count)?;
     for _ in 0..count {
-        let ends = open_channel(alloc)?;
+        let ends = open_channel(alloc, room)?;
         let Ok(()) = channels.push(ends) else {
             return Err(AllocError);
         };

@@ -218,5 +218,5 @@ Exit status: 0 the disk file is made; 2 the command line is wrong; 3 the setting
 
 const AFTER_CHECK: &str = "Example: tetra-switch check centre.disk
 
-Exit status: 0 nothing is damaged; 2 the command line is wrong; 4 the disk file can't be read, or the text can't be \
+Exit status: 0 no damage was found; 2 the command line is wrong; 4 the disk file can't be read, or the text can't be \
      written; 5 a sector is damaged, the file holds no register or the disk failed, or no memory.";

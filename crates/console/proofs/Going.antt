@@ -99,7 +99,7 @@ module _ {A W : Type 0} (rules : Rules A W) (start : Start W) (before : List ℕ
       missing = [];
       all = i.split rest;
       each = subst (λ (given : List (Answer A)). Dialogue rules start.station 0 start.world i.done given now.world) (sym (append-nil i.answers)) i.each;
-      one = omega arith;
+      few = omega arith;
       prefix = refl;
       written = sym (append-nil (texts i.answers));
     },
@@ -124,7 +124,7 @@ module _ {A W : Type 0} (rules : Rules A W) (start : Start W) (before : List ℕ
       missing = missing;
       all = split ∙ sym (append_assoc i.done (line ∷ []) left);
       each = one_more taken old line a t i answers;
-      one = omega arith;
+      few = omega arith;
       prefix = append-nil (text a) ∙ prefix;
       written = refl;
     },
@@ -216,7 +216,7 @@ module _ {A W : Type 0} (rules : Rules A W) (start : Start W) (before : List ℕ
     [],
     known ∙ ap Some (sym (append-nil before)),
     tt,
-    record { done = []; left = lines input; answered = []; last = []; part = []; missing = []; all = refl; each = refl; one = omega arith; prefix = refl; written = refl },
+    record { done = []; left = lines input; answered = []; last = []; part = []; missing = []; all = refl; each = refl; few = omega arith; prefix = refl; written = refl },
   )
 
   -- the same, of a text that is put together otherwise, or of a fault that is passed on

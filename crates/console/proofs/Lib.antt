@@ -15,3 +15,4 @@ pub mod Taken
 pub mod Judged
 pub mod Runs
 pub mod Stored
+pub mod AtOnce

@@ -81,7 +81,7 @@ pub record IsDialogue (A : Type 0) {W : Type 0} (rules : Rules A W) (station : S
   pub written : out ≡ texts answers
   pub trouble : troubled ≡ list_any is_trouble answers
 
--- cut off: some lines were done, and their answers were written; of the last answer perhaps only a prefix
+-- cut off: some lines were done, and their answers were written; of the answers to the last ones, at most 64, perhaps only a prefix
 pub record IsCutOff (A : Type 0) {W : Type 0} (rules : Rules A W) (station : Station) (s : W)
     (given : List (List Byte)) (out : List Byte) (t : W) : Type 0 where
   pub done : List (List Byte)
@@ -92,7 +92,7 @@ pub record IsCutOff (A : Type 0) {W : Type 0} (rules : Rules A W) (station : Sta
   pub missing : List Byte
   pub all : given ≡ done ++ left
   pub each : Dialogue rules station 0 s done (answered ++ last) t
-  pub one : length last ≤ 1
+  pub few : length last ≤ 64
   pub prefix : texts last ≡ part ++ missing
   pub written : out ≡ texts answered ++ part
 

@@ -3,3 +3,4 @@ pub mod Current
 pub mod Given
 pub mod Marks
 pub mod Left
+pub mod Together

@@ -71,7 +71,7 @@ fn put_of_line<'a, A: Allocator>(
 
 #[inline(always)]
 #[tactic(auto, using(std::proofs::Common::append_assoc))]
-fn put_reply<A: Allocator, B: Allocator>(
+pub(crate) fn put_reply<A: Allocator, B: Allocator>(
     out: &mut Vec<u8, A>,
     sequence: Sequence,
     reply: &Reply<B>,
@@ -158,7 +158,7 @@ fn put_pdu<A: Allocator, B: Allocator>(
 
 /// `SEQ no WORD`
 #[tactic(auto, using(crate::proofs::Fits::refused_fits))]
-fn put_refused<A: Allocator>(
+pub(crate) fn put_refused<A: Allocator>(
     out: &mut Vec<u8, A>,
     sequence: Sequence,
     word: &str,

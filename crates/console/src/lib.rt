@@ -19,6 +19,7 @@ mod progress;
 mod running;
 mod serving;
 mod spaces;
+mod together;
 mod words;
 
 pub use answer::{Answer, Lines, print_answer};

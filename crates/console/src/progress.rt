@@ -10,6 +10,7 @@ ghost use Rattle.console.specs.Inside.Current.{Holds, HoldsWith, line_at_end, Ke
 use crate::answer::{Answer, print_answer};
 use crate::line::LONGEST;
 use crate::running::Ran;
+use crate::together::Together;
 use desk::{Desk, Outage};
 use listings::Listing;
 use std::alloc::{AllocError, Allocator};
@@ -108,7 +109,7 @@ impl<A: Allocator> CurrentLine<A> {
 
 /// The line without a carriage return at its end.
 #[inline(always)]
-fn without_return(line: &[u8]) -> &[u8]
+pub(crate) fn without_return(line: &[u8]) -> &[u8]
     ensures { result.now ≡ strip_carriage_return line.now }
 {
     if !line.is_empty() && line[line.len() - 1] == b'\r' {
@@ -136,7 +137,7 @@ pub(crate) struct AnswerText<A: Allocator> {
     ghost room: { ANSWER ≤ vec_capacity bytes },
 }
 
-impl<A: Allocator> AnswerText<A> {
+impl<A: Allocator + Copy> AnswerText<A> {
     /// No text yet, with memory for any answer but a list.
     fn new(alloc: A) -> Result<Self, AllocError> {
         Ok(AnswerText {
@@ -195,6 +196,8 @@ pub(crate) struct Progress<A: Allocator> {
     pub(crate) current: CurrentLine<A>,
     /// The text of the last answer.
     pub(crate) out: AnswerText<A>,
+    /// The commands of the lines that are answered together.
+    pub(crate) together: Together<A>,
     /// How many lines were answered.
     pub(crate) lines: u64,
     /// Whether there was trouble in an answer.
@@ -202,12 +205,13 @@ pub(crate) struct Progress<A: Allocator> {
 }
 
 impl<A: Allocator + Copy> Progress<A> {
-    /// Takes memory for the current line, and for the text of any answer but a list. A run takes no other memory for
-    /// them.
+    /// Takes memory for the current line, for 64 commands at hand, and for the text of any answer but a list. A run takes no
+    /// other memory for them.
     pub(crate) fn new(alloc: A) -> Result<Self, AllocError> {
         Ok(Progress {
             current: CurrentLine::new(alloc)?,
             out: AnswerText::new(alloc)?,
+            together: Together::new(alloc)?,
             lines: 0,
             troubled: false,
         })

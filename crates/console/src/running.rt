@@ -25,7 +25,7 @@ pub struct Ran {
     pub troubled: bool,
 }
 
-/// Why a run ended before the end of its text. The lines that were answered stay done, and the current line may be done.
+/// Why a run ended before the end of its text. The lines that were answered stay done, and up to 64 lines at hand may be done.
 #[derive(Clone, Copy, Debug, PartialEq, Eq, Error)]
 pub enum RunFault {
     /// The reader failed, or did not come to an end within `turns` calls.

@@ -1,10 +1,11 @@
 //! Answering lines as their bytes come.
 ghost use Rattle.std.specs.Prelude.{◌≡◌, ◌⊎◌, ◌≤◌, ◌<◌, ◌+◌, ◌-◌, ◌^◌, ◌++◌, ◌∷◌, [], List, ℕ, length, take, drop, slice_get};
-ghost use Rattle.std.specs.Prelude.{MatchOption, option_map, IfErr, IsErrOf, OnOk, OnErr, Some};
+ghost use Rattle.std.specs.Prelude.{MatchOption, option_map, IfErr, IfOk, IsErrOf, IsTrue, OnOk, OnErr, Some};
 ghost use Rattle.console.specs.Inside.Given.{MayBePrinted, answer_of};
+ghost use Rattle.console.specs.Inside.Feed.{GoesOnAtLine, GoesOnIn, StopsAtLine, StopsIn};
 ghost use Rattle.console.specs.Inside.Feed.{Sends, SendsPrefix, GoesOn, StopsWithin, EndsSo, IsSameRun, reached_by, start_at, outcome_at};
 ghost use Rattle.console.specs.Failures.{failures_reported};
-ghost use Rattle.console.specs.Inside.Current.{HasNoEnd, KeepsLine};
+ghost use Rattle.console.specs.Inside.Current.{HasNoEnd, Holds, KeepsLine};
 ghost use Rattle.console.specs.Runs.{IsRun};
 ghost use Rattle.console.specs.Dialogue.{Answers};
 ghost use Rattle.console.specs.declared.answer.Answer.{Answer};
@@ -149,6 +150,75 @@ impl<'t, 'p, 'o, 'd, 'w, 'f, A: Allocator + Copy + Drop, W: Write, G: Ledger, D:
         send_answer(progress, &given, self.output)
     }
 
+    /// Takes whole lines at the beginning of a text, as long as they ask for commands, and does and answers these together. It
+    /// returns how many bytes it took. Nothing of a line has come before.
+    fn take_together(&mut self, text: &[u8]) -> Result<usize, RunFault>
+        requires room { self.old.progress.now.lines + length text.now < 2 ^ 64 }
+        ensures within { IfOk result (λ n. n ≤ length text.now) }
+        ensures ok { IfOk result (λ n. GoesOnAtLine D.rules (reached_by D.world W.contents self.old) (take n text.now) (reached_by D.world W.contents self.new)) }
+        ensures err { IfErr result (λ e. StopsAtLine D.rules (reached_by D.world W.contents self.old) text.now e (reached_by D.world W.contents self.new)) }
+        ensures lines { IfOk result (λ n. self.new.progress.now.lines ≤ self.old.progress.now.lines + n) }
+        ensures most { self.new.progress.now.lines ≤ self.old.progress.now.lines + length text.now }
+        ensures stops { IfErr result (λ e. e ≡ RunFault.Write) }
+        ensures same { IsSameRun self.old self.new }
+        ensures ledger { self.new.output.now.failures.now ≡ self.old.output.now.failures.now + failures_reported result }
+    {
+        let most = self.desk.most_together();
+        let progress = &mut *self.progress;
+        let taken = progress
+            .together
+            .collect(self.terms.alloc, self.terms.station, text, most);
+        let count = progress.together.commands.len() as u64;
+        if count == 0 {
+            return Ok(0);
+        }
+        let troubled = progress
+            .together
+            .serve(self.terms.alloc, self.desk, self.output)?;
+        progress.lines += count;
+        progress.troubled = progress.troubled | troubled;
+        Ok(taken)
+    }
+
+    /// Whether a line begins at this place that may ask for a command.
+    fn may_ask(&self, piece: &[u8], at: usize) -> bool
+        requires { at < length piece.now }
+        ensures { IsTrue result → (line : List ℕ) → Holds self.now.progress.now.current.bytes.items self.now.progress.now.current.long line → line ≡ [] }
+    {
+        if !self.progress.current.is_empty() {
+            return false;
+        }
+        piece[at].is_ascii_digit()
+    }
+
+    /// Takes the next line of a piece, which is taken up to `at` and has a line feed at `end`; or more, if these ask for commands.
+    /// It returns up to which place the piece is taken then.
+    fn take_next(&mut self, piece: &[u8], at: usize, end: usize) -> Result<usize, RunFault>
+        requires room { self.old.progress.now.lines + length piece.now < 2 ^ 64 + at }
+        requires here { (at ≤ end) × (end < length piece.now) }
+        requires plain { HasNoEnd (take (end - at) (drop at piece.now)) }
+        requires ended { slice_get piece.now end ≡ Some 10 }
+        ensures within { IfOk result (λ next. (at < next) × (next ≤ length piece.now)) }
+        ensures ok { IfOk result (λ next. GoesOnIn D.rules (reached_by D.world W.contents self.old) piece.now at next (reached_by D.world W.contents self.new)) }
+        ensures err { IfErr result (λ e. StopsIn D.rules (reached_by D.world W.contents self.old) piece.now at e (reached_by D.world W.contents self.new)) }
+        ensures lines { IfOk result (λ next. self.new.progress.now.lines + at ≤ self.old.progress.now.lines + next) }
+        ensures most { self.new.progress.now.lines + at ≤ self.old.progress.now.lines + length piece.now }
+        ensures stops { IfErr result (λ e. e ≡ RunFault.Write) }
+        ensures same { IsSameRun self.old self.new }
+        ensures ledger { self.new.output.now.failures.now ≡ self.old.output.now.failures.now + failures_reported result }
+    {
+        if !self.may_ask(piece, at) {
+            self.take_line(&piece[at..end])?;
+            return Ok(end + 1);
+        }
+        let taken = self.take_together(&piece[at..])?;
+        if taken > 0 {
+            return Ok(at + taken);
+        }
+        self.take_line(&piece[at..end])?;
+        Ok(end + 1)
+    }
+
     /// Takes a piece of the text, and answers each line that it ends.
     fn take_piece(&mut self, piece: &[u8]) -> Result<(), RunFault>
         requires { self.old.progress.now.lines + length piece.now < 2 ^ 64 }
@@ -161,8 +231,7 @@ impl<'t, 'p, 'o, 'd, 'w, 'f, A: Allocator + Copy + Drop, W: Write, G: Ledger, D:
     {
         let mut at = 0;
         while let Some(end) = next_end(piece, at) {
-            self.take_line(&piece[at..end])?;
-            at = end + 1;
+            at = self.take_next(piece, at, end)?;
         }
         self.progress.current.add(&piece[at..]);
         Ok(())

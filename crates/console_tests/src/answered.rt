@@ -2,8 +2,16 @@
 
 use centre_core::Command;
 use console::{Desk, Line, parse_line, run};
+use identity::print_number;
 use registration::Station;
 use std::alloc::{Allocator, Global};
+
+/// Adds a number between two texts.
+pub fn put(out: &mut Vec<u8>, before: &str, number: u64, after: &str) -> Option<()> {
+    out.extend_from_slice(before.as_bytes()).ok()?;
+    print_number(out, number).ok()?;
+    out.extend_from_slice(after.as_bytes()).ok()
+}
 
 /// The answers of a desk to these lines, in a run with memory from `own`; nothing if the run failed.
 pub fn answers<B: Allocator + Copy + Drop, D: Desk<B>>(

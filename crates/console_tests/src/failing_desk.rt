@@ -28,6 +28,12 @@ impl<A: Allocator + Copy, B: Allocator + Clone> Desk<A> for FailingDesk<B> {
 
     ghost rules = { of_store };
 
+    ghost most = { λ desk. 64 };
+
+    fn most_together(&self) -> usize {
+        64
+    }
+
     fn apply(&mut self, alloc: A, command: &Command<A>) -> Result<Reply<A>, Outage> {
         if self.broken {
             return Err(Outage::Broken);

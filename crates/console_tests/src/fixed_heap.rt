@@ -2,10 +2,9 @@
 //! the state where it began, and takes no more memory than the first round. When the register is dropped, every byte is free
 //! again.
 
-use crate::answered::are_answered;
+use crate::answered::{are_answered, put};
 use crate::limits::usual;
 use centre_core::Register;
-use identity::print_number;
 use linked_list_allocator::LocalHeap;
 use std::alloc::Global;
 
@@ -37,18 +36,11 @@ struct Talk {
     answers: Vec<u8>,
 }
 
-/// Adds a number, with a text before it and after it; whether there was memory.
-fn put(out: &mut Vec<u8>, before: &str, number: u64, after: &str) -> bool {
-    out.extend_from_slice(before.as_bytes()).is_ok()
-        && print_number(out, number).is_ok()
-        && out.extend_from_slice(after.as_bytes()).is_ok()
-}
-
 /// Adds the command of this sequence, which is accepted under the same number.
 fn add(talk: &mut Talk, number: u64, line: &str, answer: &str) -> bool {
-    put(&mut talk.lines, "", number, line)
-        && put(&mut talk.answers, "", number, "")
-        && put(&mut talk.answers, " ok ", number, answer)
+    put(&mut talk.lines, "", number, line).is_some()
+        && put(&mut talk.answers, "", number, "").is_some()
+        && put(&mut talk.answers, " ok ", number, answer).is_some()
 }
 
 /// Adds so many rounds, after so many commands.

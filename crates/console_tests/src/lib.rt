@@ -18,6 +18,8 @@ mod fixed_heap;
 #[cfg(test)]
 mod group_copies;
 #[cfg(test)]
+mod least_heap;
+#[cfg(test)]
 mod limits;
 #[cfg(test)]
 mod listed;
@@ -31,3 +33,5 @@ mod parts;
 mod same;
 #[cfg(test)]
 mod small_heaps;
+#[cfg(test)]
+mod together;

@@ -1,9 +1,10 @@
 //! Listings of a small register, in heaps of rising size, and in runs. `docs/formats/lines.md` has their lines.
 
-use crate::answered::answers;
+use crate::answered::{answers, put};
+use crate::least_heap::least_heap;
 use centre_core::Register;
 use console::{Answer, Lines, print_answer};
-use identity::{Itsi, Prefix, print_number};
+use identity::{Itsi, Prefix};
 use linked_list_allocator::LocalHeap;
 use listings::{Listing, Table, print_listing};
 use mailbox::Moment;
@@ -170,13 +171,6 @@ struct Radios {
     listing: Vec<u8>,
 }
 
-/// Adds a number between two texts.
-fn put(out: &mut Vec<u8>, before: &str, number: u64, after: &str) -> Option<()> {
-    out.extend_from_slice(before.as_bytes()).ok()?;
-    print_number(out, number).ok()?;
-    out.extend_from_slice(after.as_bytes()).ok()
-}
-
 fn add_radios(radios: &mut Radios) -> Option<()> {
     for turn in 2..42u64 {
         put(&mut radios.commands, "", turn, " 10 mm 234-14-")?;
@@ -226,7 +220,7 @@ fn each_growth_is_refused_in_turn(rt: HostRuntime) {
 fn goes_on(alloc: Global) -> Option<bool> {
     let (limits, mut radios) = (Limits::new(16, 64, 16, 4)?, forty_radios(alloc)?);
     radios.commands.extend_from_slice(b"radios\nroom\n").ok()?;
-    let heap = LocalHeap::new(alloc, 2304).ok()?;
+    let heap = LocalHeap::new(alloc, least_heap(alloc)?.saturating_add(192)).ok()?;
     let mut register = Register::new(alloc, limits).ok()?;
     let replies = answers(alloc, &heap, &mut register, &radios.commands);
     drop(register);

@@ -3,6 +3,7 @@
 //! list a round were kept, it would fill them.
 
 use crate::answered::are_answered;
+use crate::least_heap::least_heap;
 use centre_core::Register;
 use linked_list_allocator::LocalHeap;
 use registration::Limits;
@@ -162,9 +163,10 @@ fn are_even<'a>(alloc: Global, heaps: Heaps<'a>, rounds: u32) -> bool {
 }
 
 fn are_freed(alloc: Global) -> Option<bool> {
-    let ample = LocalHeap::new(alloc, 1 << 14).ok()?;
-    let little = LocalHeap::new(alloc, 2080).ok()?;
-    let narrow = LocalHeap::new(alloc, 5632).ok()?;
+    let least = least_heap(alloc)?;
+    let ample = LocalHeap::new(alloc, least.saturating_add(1 << 14)).ok()?;
+    let little = LocalHeap::new(alloc, least.saturating_add(16)).ok()?;
+    let narrow = LocalHeap::new(alloc, least.saturating_add(2304)).ok()?;
     let heaps = Heaps {
         ample: &ample,
         little: &little,

@@ -1,6 +1,7 @@
 //! A run in heaps of rising size, its own or its register's. Each allocation is refused in turn, and the answer reports it.
 
 use crate::answered::answers;
+use crate::least_heap::least_heap;
 use crate::limits::usual;
 use centre_core::Register;
 use linked_list_allocator::LocalHeap;
@@ -69,11 +70,13 @@ fn ends_of_registers(alloc: Global) -> Option<[bool; 10]> {
     Some(ends)
 }
 
-/// Where runs end if their own heap has a rising size.
+/// Where runs end if their own heap has a rising size, from less than they reserve.
 fn ends_of_runs(alloc: Global) -> Option<[bool; 10]> {
+    let first = least_heap(alloc)?.saturating_sub(1 << 10);
     let mut ends = [false; 10];
     for step in 0..512usize {
-        ends[reached(alloc, 8 * step, 1 << 16)?.min(9)] = true;
+        let own = first.saturating_add(8 * step);
+        ends[reached(alloc, own, 1 << 16)?.min(9)] = true;
     }
     Some(ends)
 }

@@ -1,1 +1,2 @@
 pub mod ShortReplies
+pub mod InTurn

@@ -9,5 +9,5 @@ mod desk;
 mod outage;
 mod register;
 
-pub use desk::Desk;
+pub use desk::{Desk, MOST_TOGETHER};
 pub use outage::Outage;

@@ -2,7 +2,7 @@
 ghost use Rattle.centre_core.specs.State.{State};
 ghost use Rattle.desk.specs.OfRegister.{of_register};
 
-use crate::desk::Desk;
+use crate::desk::{Desk, MOST_TOGETHER};
 use crate::outage::Outage;
 use centre_core::laws::registers;
 use centre_core::{Command, Query, QueryAnswer, Register, Reply};
@@ -15,6 +15,12 @@ impl<A: Allocator + Copy, B: Allocator + Clone> Desk<A> for Register<B> {
     ghost world = { λ register. register };
 
     ghost rules = { of_register };
+
+    ghost most = { λ register. 64 };
+
+    fn most_together(&self) -> usize {
+        MOST_TOGETHER
+    }
 
     fn apply(&mut self, alloc: A, command: &Command<A>) -> Result<Reply<A>, Outage> {
         registers(self);

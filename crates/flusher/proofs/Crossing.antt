@@ -35,7 +35,7 @@ pub session_send : (T : RattleType) (g : centre.Ghosts T.Denot) → IsSend T →
 session_send T g s =
     let receives = receiver_crosses.the_send (response.the_row T g) (response_send T g s) in
     let reads = viewer_send T g s in
-    declared_send (session.the_type T g) (sender_crosses.the_send, (receives, (reads, (search (sendable, view_send) depth 20, (send, tt)))))
+    declared_send (session.the_type T g) (sender_crosses.the_send, (receives, (reads, (search (sendable, view_send) depth 20, (search (sendable, view_send) depth 20, (send, tt))))))
 
 pub ended_send : (T : RattleType) (g : centre.Ghosts T.Denot) → IsSend T → IsSend (ended.the_row T g)
 ended_send T g s =

@@ -10,6 +10,7 @@ pub mod Served
 pub mod Ready
 pub mod Bearing
 pub mod Submitting
+pub mod Together
 pub mod Beginning
 pub mod Endings
 pub mod Runs
@@ -20,3 +21,5 @@ pub mod Borne
 pub mod Ordered
 pub mod ByItself
 pub mod Between
+pub mod Lasting
+pub mod Since

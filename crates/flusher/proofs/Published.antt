@@ -1,7 +1,7 @@
 -- What was committed and then published, or not.
 use Rattle.std.specs.Prelude.{MatchBool}
 use Rattle.std.specs.declared.alloc.Global.{Global}
-use Rattle.std.proofs.Common.{◌≡◌, ◌<◌, Bool, true, false, true≢false, cond, List, ◌++◌, length, take, refl, ap, sym, ◌∙◌, subst, arith, length-append}
+use Rattle.std.proofs.Common.{◌≡◌, ◌<◌, ◌⊎◌, inl, inr, Bool, true, false, true≢false, cond, List, ◌++◌, length, take, refl, ap, sym, ◌∙◌, subst, arith, length-append}
 use mathlib.Core.List.{IsPrefix}
 use Rattle.centre_core.specs.Asked.{Asked}
 use Rattle.centre_core.specs.State.{State}
@@ -23,6 +23,10 @@ when false X Y h e = absurd (true≢false (sym e))
 pub unless : (b : Bool) (X Y : Type 0) → MatchBool b X Y → b ≡ false → Y
 unless true X Y h e = absurd (true≢false e)
 unless false X Y h e = h
+
+pub either : (b : Bool) (X Y : Type 0) → MatchBool b X Y → X ⊎ Y
+either true X Y h = inl h
+either false X Y h = inr h
 
 -- what became durable after a list is published, or nothing of it
 pub record Shows (all : Bool) (before kept published durable : List G) : Type 0 where

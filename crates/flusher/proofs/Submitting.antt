@@ -1,9 +1,12 @@
 -- What a session puts into the queue: commands, and its end as the last.
-use Rattle.std.proofs.Common.{◌≡◌, true, List, [], ◌∷◌, ◌++◌, refl, sym, true≢false}
+use Rattle.std.proofs.Common.{◌≡◌, true, List, [], ◌∷◌, ◌++◌, refl, subst, sym, true≢false}
+use Rattle.std.specs.declared.alloc.Global.{Global}
 use Rattle.registration.specs.Numbers.{Station}
+use Rattle.centre_core.specs.Asked.{Asked}
 use Rattle.station_queue.specs.declared.entry.Entry.{Entry}
 use Rattle.station_queue.specs.declared.entry.Entry.TheVariants.{Submitted, Ended}
 use Rattle.station_queue.specs.declared.entry.Request.{Request}
+use Rattle.flusher.specs.Heard.{ArePut}
 use Rattle.flusher.specs.Submitted.{are_submitted, is_ended}
 
 -- one command more
@@ -11,6 +14,12 @@ pub one_more_submitted : (xs : List Entry) (r : Request) → are_submitted xs �
 one_more_submitted [] r h = refl
 one_more_submitted (Submitted x ∷ xs) r h = one_more_submitted xs r h
 one_more_submitted (Ended s ∷ xs) r h = absurd (true≢false (sym h))
+
+-- several commands more
+pub more_submitted : (cs : List (Asked Global)) (old new : List Entry) → ArePut cs old new → are_submitted old ≡ true → are_submitted new ≡ true
+more_submitted [] old new p h = subst (λ l. are_submitted l ≡ true) (sym p) h
+more_submitted (c ∷ cs) old new p h =
+    more_submitted cs p.0 new p.2 (subst (λ l. are_submitted l ≡ true) (sym p.1.2) (one_more_submitted old p.1.0 h))
 
 -- the end after the commands
 pub then_ended : (xs : List Entry) (s : Station) → are_submitted xs ≡ true → is_ended (xs ++ Ended s ∷ []) ≡ true

@@ -1,7 +1,9 @@
 -- How a centre is closed.
-use Rattle.std.specs.Prelude.{◌≡◌, ◌⊎◌, ℕ, ◌+◌, ◌<◌, List, length, slice_get, Some, Any}
+use Rattle.std.specs.Prelude.{◌≡◌, ◌⊎◌, ℕ, ◌+◌, ◌<◌, List, length, slice_get, Some}
 use mathlib.Core.List.{IsPrefix, Sublist}
+use Rattle.std.specs.declared.alloc.Global.{Global}
 use Rattle.crossbeam_channel.specs.Ends.{sends_on, receives_on}
+use Rattle.centre_core.specs.Asked.{Asked}
 use Rattle.centre_core.specs.State.{State}
 use Rattle.station_queue.specs.Entries.{entries_of}
 use Rattle.answers.specs.Views.{sent_of, received_of}
@@ -20,6 +22,11 @@ pub record HasFinished {J : Type 0} (session : Session J) (end : Ended J) : Type
   pub queue : end.sender.queue ≡ session.sender.queue
   pub station : end.sender.station ≡ session.sender.station
   pub channel : receives_on end.receiver.channel ≡ receives_on session.receiver.channel
+
+-- What a session has seen is a prefix of the durable commands. Or it has seen more commands than are published: no
+-- contract of the published copies says that the publisher alone adds to them.
+abbrev pub HasSeenOf : List (Asked Global) → List (Asked Global) → List (Asked Global) → Type 0
+HasSeenOf published durable seen = IsPrefix seen durable ⊎ (length published < length seen)
 
 module _ {J D : Type 0} where
   -- this holds of each session, with its place and the sender of answers at that place
@@ -54,8 +61,8 @@ module _ {J D : Type 0} where
     pub taken : entries_of end.sender.station f.taker.taken ≡ end.sender.sent
     -- the answers that it received are a prefix of those that were sent to it
     pub received : IsPrefix (received_of end.receiver.pass) (sent_of sender.pass)
-    -- the commands that it has seen are a prefix of the durable ones
-    pub seen : IsPrefix end.viewer f.durable
+    -- the commands that it has seen are a prefix of the durable ones; only this has a way out
+    pub seen : HasSeenOf f.published f.durable end.viewer
     -- each answer that it received is borne out by a prefix of the durable commands, and no prefix is shorter than the one before it
     pub borne_out : AreBorneOut base f.durable 0 (received_of end.receiver.pass)
     -- the durable commands of its station are some of those that it sent, in the same order
@@ -65,6 +72,6 @@ module _ {J D : Type 0} where
   pub record IsClosed (base : State) (f : FlusherView D) (ended : List (Ended J)) : Type 0 where
     pub each : IsTrueOfEach f ended (λ k. IsClosedSession base f)
 
-  -- why a centre was not closed: the end of a session was not taken, or a session has seen more commands than are published
-  abbrev pub IsNotClosed : FlusherView D → List (Ended J) → Type 0
-  IsNotClosed f ended = (HasTakenEnds f → ⊥) ⊎ Any (λ (end : Ended J). length f.published < length end.viewer) ended
+-- why a centre was not closed: the end of a session was not taken
+abbrev pub IsNotClosed : {D : Type 0} → FlusherView D → Type 0
+IsNotClosed f = HasTakenEnds f → ⊥

@@ -9,10 +9,13 @@ pub mod Served
 pub mod Rounds
 pub mod Stored
 pub mod Submitted
+pub mod Heard
 pub mod Sessions
 pub mod Opened
 pub mod Endings
 pub mod Runs
+pub mod Lasting
+pub mod Since
 pub mod Closed
 pub mod Borne
 pub mod Order

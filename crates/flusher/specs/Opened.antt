@@ -1,10 +1,11 @@
 -- A centre as it is opened.
-use Rattle.std.specs.Prelude.{◌≡◌, ◌+◌, ◌&&◌, ℕ, Bool, false, List, [], length, replicate, slice_get, Some, nat_lt, nat_le}
+use Rattle.std.specs.Prelude.{◌≡◌, ◌+◌, ◌&&◌, ℕ, Bool, false, All, List, [], length, replicate, slice_get, Some, nat_lt, nat_le}
 use Rattle.std.specs.declared.alloc.Global.{Global}
 use Rattle.atomic_table.specs.Seated.{TableId}
 use Rattle.crossbeam_channel.specs.Ends.{sends_on, receives_on}
 use Rattle.registration.specs.Numbers.{Station}
 use Rattle.station_queue.specs.Ends.{Taking, sending, taking}
+use Rattle.station_queue.specs.Entries.{share_of}
 use Rattle.answers.specs.declared.channel.AnswerSender.{AnswerSender}
 use Rattle.answers.specs.Sent.{AreEnds}
 use Rattle.answers.specs.Views.{sent_of, received_of}
@@ -35,6 +36,7 @@ module _ {J : Type 0} where
     pub queue : taker ≡ taking taker.queue stations [] [] taker.empty
     pub count : length senders ≡ stations
     pub each : AreNewSessions taker.queue senders sessions
+    pub shares : All (λ (s : Session J). s.share ≡ share_of stations) sessions
 
 -- a flusher of the opened store and of this many stations, before its first round
 pub record IsNewFlusher {D : Type 0} (stations : ℕ) (opened : StoreView Global D) (f : FlusherView D) : Type 0 where

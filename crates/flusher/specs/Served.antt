@@ -47,7 +47,7 @@ decision_by (Damaged at) = decision.Fault (Damaged at)
 -- From one view to another, with these commands and their answers.
 module _ {D : Type 0} (base : State) (f g : Progress D) (commands : List (Asked Global)) (answers : List Sent) where
   -- The commands were committed, and each is answered by its outcome: its reply in its turn, and out of memory from the first one on
-  -- that needed memory. What is accepted is published; if memory ran out for that, an accepted command is answered as kept. A checkpoint
+  -- that needed memory. What is accepted is published; if it is not, an accepted command is answered as kept. A checkpoint
   -- was made only if a record of all the commands would not fit.
   pub record AreCommitted : Type 0 where
     pub outcomes : List (Outcome Global)

@@ -1,14 +1,14 @@
 -- What a session is modelled as.
-use Rattle.std.specs.Prelude.{◌≡◌}
+use Rattle.std.specs.Prelude.{◌≡◌, length}
 use Rattle.crossbeam_channel.specs.Ends.{receives_on}
 use Rattle.answers.specs.Views.{received_of}
 use Rattle.flusher.specs.declared.session.Session.{Session}
 use Rattle.flusher.specs.Submitted.{SessionView}
 
 module _ {J : Type 0} where
-  -- what it put into the queue, what it received, and the list that it has seen
+  -- what it put into the queue, what it received, and the list that it has seen; it has reached all of that
   abbrev pub view_of : Session J → SessionView
-  view_of s = record { sent = s.sender.sent; received = received_of s.receiver.pass; seen = s.viewer }
+  view_of s = record { sent = s.sender.sent; received = received_of s.receiver.pass; seen = s.viewer; reached = length s.viewer }
 
   -- it is of the same station, on the same queue and channel
   abbrev pub IsSameSession : Session J → Session J → Type 0

@@ -29,6 +29,9 @@ pub(crate) const MOST: usize = 64;
 // How often the flusher lets other threads run while no further command comes, before it commits a round's commands.
 const TURNS: u32 = 4;
 
+// The same while a session is about to send another command, so that commands submitted together are committed together.
+const LONGER: u32 = 64;
+
 /// The commands of a round, each with its copy. There is room for 64.
 #[derive(Drop)]
 pub struct Room {
@@ -50,7 +53,11 @@ fn put(entry: Entry, room: &mut Room, ended: &mut Vec<bool>)
 {
     match entry {
         Entry::Submitted(request) => {
-            let Request { command, copy } = request;
+            let Request {
+                command,
+                copy,
+                more: _,
+            } = request;
             room.batch.push_back_reserved(command);
             room.copies.push_back_reserved(copy);
         }
@@ -58,10 +65,26 @@ fn put(entry: Entry, room: &mut Room, ended: &mut Vec<bool>)
     }
 }
 
-// How often the flusher lets other threads run before it stops waiting for the round's next command. A station has one
-// command at a time, so no more come once there is one of each.
-fn turns_before(commands: usize, stations: usize) -> u32 {
-    if commands == 0 || commands >= stations {
+// Whether the sender of this entry is about to send another command.
+fn has_more(entry: &Entry) -> bool {
+    match entry {
+        Entry::Submitted(request) => request.more,
+        Entry::Ended(_) => false,
+    }
+}
+
+// How many stations have sent all that they send before they are answered, after one more entry.
+fn done_after(done: usize, more: bool) -> usize {
+    if more { done } else { done.saturating_add(1) }
+}
+
+// How often the flusher lets other threads run before it stops waiting for the round's next entry. It never waits for the first.
+// No more come once each station has sent all that it sends before it is answered.
+fn turns_before(more: bool, done: usize, stations: usize) -> u32 {
+    if more {
+        return LONGER;
+    }
+    if done == 0 || done >= stations {
         0
     } else {
         TURNS
@@ -94,11 +117,15 @@ pub(crate) fn take_batch<R: Wait>(rt: &R, taker: &mut Taker, room: &mut Room, en
         × (ended.new.items ≡ ended_by popped ended.old.items) }
     ensures stations { AreWithin taker.old.made (commands_in room.new.batch.items) }
 {
+    let mut more = false;
+    let mut done = 0;
     for _ in 0..MOST {
-        let turns = turns_before(room.batch.len(), ended.len());
+        let turns = turns_before(more, done, ended.len());
         let Some(entry) = take_within(rt, taker, turns) else {
             return;
         };
+        more = has_more(&entry);
+        done = done_after(done, more);
         put(entry, room, ended);
     }
 }

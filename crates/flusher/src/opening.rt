@@ -2,6 +2,7 @@
 ghost use Rattle.std.specs.Prelude.{◌≡◌, ◌<◌, ◌≤◌, ◌+◌, ℕ, [], true, false, cond, All, IfErr, IfOk, Some, length, replicate, slice_get};
 ghost use Rattle.std.specs.VecDeque.{deque_capacity};
 ghost use Rattle.station_queue.specs.Ends.{sending, taking};
+ghost use Rattle.station_queue.specs.Entries.{share_of};
 ghost use Rattle.recovery.specs.Lives.{view_of as store_of};
 ghost use Rattle.flusher.specs.declared.opening.CentreFault.TheVariants.{NoMemory, NoPlace};
 ghost use Rattle.flusher.specs.Opened.{AreNewSessions, AreOpened, IsNewFlusher, IsNewSession, has_place};
@@ -20,7 +21,7 @@ use prefix_tree::TryCopy;
 use recovery::Store;
 use sector_disk::Disk;
 use snapshots::{Centre, NewLog, Publisher, Viewer, make};
-use station_queue::{Sender, SharedCommand, Taker, open_queue};
+use station_queue::{Sender, SharedCommand, Taker, open_queue, share_of};
 use std::alloc::{AllocError, Global};
 use std::collections::VecDeque;
 use std::marker::PhantomData;
@@ -61,19 +62,23 @@ pub fn has_place(register: &Register<Global>, sessions: usize) -> bool
     0 < sessions && sessions <= register.limits().stations as usize
 }
 
-// A session on a new channel, and the sender of its answers.
+// A session with this share on a new channel, and the sender of its answers. The channel has room for an answer to each command
+// that the session has under way at a time.
 fn open_session<J: Centre>(
     alloc: Global,
     base: u64,
+    share: usize,
     sender: Sender,
     viewer: Viewer<J>,
 ) -> Result<(AnswerSender<Response<J>>, Session<J>), AllocError>
     requires base { base ≡ J.base.count }
+    requires few { (1 ≤ share) × (share ≤ 64) }
     requires none_sent { sender.sent ≡ [] }
     requires none_seen { viewer ≡ [] }
-    ensures { IfOk result (λ r. IsNewSession sender.queue sender.station r.0 r.1) }
+    ensures new { IfOk result (λ r. IsNewSession sender.queue sender.station r.0 r.1) }
+    ensures share { IfOk result (λ r. r.1.share ≡ share) }
 {
-    let (answers, receiver) = open_channel(alloc)?;
+    let (answers, receiver) = open_channel(alloc, share)?;
     let base = Base {
         count: base,
         of: PhantomData,
@@ -83,6 +88,7 @@ fn open_session<J: Centre>(
         receiver,
         viewer,
         base,
+        share,
         alloc,
     };
     Ok((answers, session))
@@ -97,6 +103,7 @@ fn open_sessions<J: Centre>(
     mut viewers: Vec<Viewer<J>>,
 ) -> Result<Ends<J>, AllocError>
     requires base { base ≡ J.base.count }
+    requires few { (1 ≤ length stations.items) × (length stations.items ≤ 64) }
     requires queue { taker ≡ taking taker.queue (length stations.items) [] [] taker.empty }
     requires stations { (k : ℕ) → k < length stations.items → slice_get stations.items k ≡ Some (sending taker.queue (k + 1) []) }
     requires viewers { length viewers.items ≡ length stations.items }
@@ -104,13 +111,14 @@ fn open_sessions<J: Centre>(
     ensures { IfOk result (λ ends. AreOpened (length stations.items) ends.taker ends.senders.items ends.sessions.items) }
 {
     let count = stations.len();
+    let share = share_of(count);
     let mut senders = Vec::with_capacity(alloc, count)?;
     let mut sessions = Vec::with_capacity(alloc, count)?;
     for sender in stations {
         let Some(viewer) = viewers.pop() else {
             unreachable!()
         };
-        let (answers, session) = open_session(alloc, base, sender, viewer)?;
+        let (answers, session) = open_session(alloc, base, share, sender, viewer)?;
         senders.push_reserved(answers);
         sessions.push_reserved(session);
     }
@@ -128,7 +136,7 @@ fn open_stations<J: Centre>(
     viewers: Vec<Viewer<J>>,
 ) -> Result<Ends<J>, AllocError>
     requires base { base ≡ J.base.count }
-    requires few { length viewers.items ≤ 64 }
+    requires few { (1 ≤ length viewers.items) × (length viewers.items ≤ 64) }
     requires none_seen { All (λ v. v ≡ []) viewers.items }
     ensures { IfOk result (λ ends. AreOpened (length viewers.items) ends.taker ends.senders.items ends.sessions.items) }
 {
@@ -200,6 +208,9 @@ pub fn open_centre<J: Centre, D: Disk, R: Wait>(
     ensures settled { IfOk result (λ r. IsSettled J.base (view_of r.0)) }
     ensures uncounted { IfOk result (λ r. r.0.rounds ≡ 0) }
     ensures sessions { IfOk result (λ r. AreNewSessions (view_of r.0).taker.queue (view_of r.0).senders r.1.items) }
+
+    // Each has the same share of the queue's places.
+    ensures shares { IfOk result (λ r. All (λ s. s.share ≡ share_of sessions) r.1.items) }
 
     // Which fault comes, and that the store comes back as it was.
     ensures place { IfOk result (λ _. has_place store.register.registered.limits.stations sessions ≡ true) }

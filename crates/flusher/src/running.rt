@@ -5,6 +5,7 @@ ghost use Rattle.sector_disk.specs.Run.{LeavesOnly};
 ghost use Rattle.flusher.specs.View.{view_of};
 ghost use Rattle.flusher.specs.Served.{IsSettled};
 ghost use Rattle.flusher.specs.Stored.{IsStoredFor, OpensBetween};
+ghost use Rattle.flusher.specs.Lasting.{AreLasting};
 ghost use Rattle.flusher.specs.Runs.{AreRounds, HasSameEnds, HasTakenEnds};
 
 use crate::flusher::{Flusher, Gate};
@@ -27,11 +28,13 @@ impl<J: Centre, D: Disk> Flusher<J, D> {
         ensures rounds { AreRounds J.base (view_of self.old) (view_of self.new) }
 
         // Each image of the disk opens to what is durable. After a stop at any moment of the run it opens to what was durable
-        // at some moment of the run. Only a failure of the disk breaks the store.
+        // at some moment of the run, and to no less than was durable at the end of the round before. Only a failure of the disk
+        // breaks the store.
         ensures stored { IsStoredFor D.view J.base (view_of self.old) → IsStoredFor D.view J.base (view_of self.new) }
         ensures any_moment { IsStoredFor D.view J.base (view_of self.old) → self.old.committer.store.broken ≡ false
             → LeavesOnly (D.view self.old.committer.store.disk) (D.view self.new.committer.store.disk)
             (OpensBetween J.base (view_of self.old) (view_of self.new)) }
+        ensures lasting { IsStoredFor D.view J.base (view_of self.old) → AreLasting D.view J.base (view_of self.old) (view_of self.new) }
         ensures later { (D.view self.old.committer.store.disk).failures ≤ (D.view self.new.committer.store.disk).failures }
         ensures failed { self.old.committer.store.broken ≡ false → self.new.committer.store.broken ≡ true
             → HasFailed (D.view self.old.committer.store.disk) (D.view self.new.committer.store.disk) }

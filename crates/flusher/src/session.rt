@@ -1,21 +1,20 @@
 //! A station's session with a centre.
-ghost use Rattle.std.specs.Prelude.{◌≡◌, ◌↔◌, true, IsTrue, IfSome};
-ghost use Rattle.std.specs.Arc.{arc_value};
-ghost use mathlib.Core.List.{IsPrefix};
-ghost use Rattle.flusher.specs.Submitted.{BearsOutAnswer, Fits, HasShortAnswer, IsAlreadySeen, answer_by, are_submitted, is_ended};
+ghost use Rattle.std.specs.Prelude.{◌≡◌, ◌≤◌, true};
+ghost use Rattle.flusher.specs.Submitted.{are_submitted, is_ended};
 
 use crate::answer::Answer;
-use crate::decision::Decision;
+use crate::hearing::{hear, hear_all, refuse_all};
+use crate::putting::{put_all, request_for};
 use crate::response::Response;
 use answers::AnswerReceiver;
-use centre_core::{Command, Query, QueryAnswer, Reply};
+use centre_core::{Command, Query, QueryAnswer};
 use listings::Listing;
 use registration::Station;
 use snapshots::{Centre, Published, ReadFault, Viewer};
-use station_queue::{Entry, Request, Sender, SharedCommand};
+use station_queue::{Entry, Sender};
 use std::alloc::{Allocator, Global};
 use std::marker::{Model, PhantomData};
-use std::sync::{Arc, Wait};
+use std::sync::Wait;
 
 /// A station's session with a centre: it submits commands of that station, and reads the register. End it by `finish`.
 #[derive(Drop)]
@@ -24,8 +23,11 @@ pub struct Session<J: Centre> {
     pub(crate) receiver: AnswerReceiver<Response<J>>,
     pub(crate) viewer: Viewer<J>,
     pub(crate) base: Base<J>,
+    /// How many commands it may have under way at a time.
+    pub(crate) share: usize,
     pub(crate) alloc: Global,
     pub ghost submitted: { are_submitted sender.sent ≡ true },
+    pub ghost few: { (1 ≤ share) × (share ≤ 64) },
 }
 
 /// A session that has ended. `close` takes it back.
@@ -62,18 +64,8 @@ impl<J: Centre> Base<J> {
     }
 }
 
-// The command for the queue, and one more owner of it, to compare the answer with. `None` if memory runs out.
-fn request_for(alloc: Global, command: Command<Global>) -> Option<(Request, SharedCommand)>
-    ensures { IfSome result (λ r. (arc_value r.0.command ≡ command) × (arc_value r.1 ≡ command)) }
-{
-    let own = Arc::new(alloc, command).ok()?;
-    let command = Arc::try_clone(&own).ok()?;
-    let copy = Arc::try_clone(&own).ok()?;
-    Some((Request { command, copy }, own))
-}
-
 impl<J: Centre> Session<J> {
-    ghost use Rattle.std.specs.Prelude.{◌≡◌, ◌≤◌, ◌⊎◌, ◌∷◌, ◌++◌, [], IfOk, IsErrOf, OnErr, OnOk, length, vec_capacity, vec_len};
+    ghost use Rattle.std.specs.Prelude.{◌≡◌, ◌≤◌, ◌⊎◌, ◌∷◌, ◌++◌, [], All, IfOk, IsErrOf, OnErr, OnOk, length, vec_capacity, vec_len};
     ghost use mathlib.Core.List.{IsPrefix};
     ghost use Rattle.centre_core.specs.History.{after};
     ghost use Rattle.centre_core.specs.Queries.{AsksForList, answer_to};
@@ -82,7 +74,7 @@ impl<J: Centre> Session<J> {
     ghost use Rattle.station_queue.specs.Ends.{sending};
     ghost use Rattle.station_queue.specs.declared.entry.Entry.TheVariants as entry;
     ghost use Rattle.flusher.specs.Closed.{HasFinished};
-    ghost use Rattle.flusher.specs.Submitted.{BearsOutAnswer, HasPut, HasReceived, HasShortAnswer};
+    ghost use Rattle.flusher.specs.Submitted.{AreSubmissions, HasShortAnswer, IsSubmission};
     ghost use Rattle.flusher.specs.Sessions.{IsSameSession, view_of};
 
     /// Its station.
@@ -92,18 +84,23 @@ impl<J: Centre> Session<J> {
         self.sender.station()
     }
 
+    /// How many commands it may submit together. The shares of all sessions of a centre fit into its queue.
+    pub fn share(&self) -> usize
+        ensures share { result ≡ self.now.share }
+        ensures some { 1 ≤ result }
+        ensures few { result ≤ 64 }
+    {
+        self.share
+    }
+
     /// Submits a command of its station, and waits for the answer. It returns `NoMemory` also if memory runs out before the
     /// command is put into the queue. It returns `Closed` only if the flusher is gone, or if what was received does not fit:
     /// it is for another command, lacks commands that the session has seen, or accepts under a number that was seen.
     pub fn submit<R: Wait>(&mut self, rt: &R, command: Command<Global>) -> Answer<J>
         requires station { command.station ≡ self.old.sender.station }
 
-        // The command is put into the queue, and one answer is received. If memory runs out before, nothing has changed.
-        ensures put { HasPut command (view_of self.old) (view_of self.new) result }
-        ensures received { HasReceived J.base command (view_of self.old) (view_of self.new) result }
-
-        // What the answer says. What was seen stays seen.
-        ensures borne_out { BearsOutAnswer J.base command self.old.viewer self.new.viewer result }
+        // What is put into the queue, what is received, and what the answer says. What was seen stays seen.
+        ensures submitted { IsSubmission J.base command (view_of self.old) (view_of self.new) result }
         ensures seen { IsPrefix self.old.viewer self.new.viewer }
 
         // The PDU that it gives has at most 2,048 bits.
@@ -116,10 +113,52 @@ impl<J: Centre> Session<J> {
             return Answer::NoMemory;
         };
         self.sender.send(rt, Entry::Submitted(request));
-        match self.receiver.receive(rt) {
-            Some(response) => take_in(&mut self.viewer, self.base.count(), &own, response),
-            None => Answer::Closed,
-        }
+        let mut reached = self.viewer.count();
+        let base = self.base.count();
+        hear(
+            rt,
+            &mut self.receiver,
+            &mut self.viewer,
+            base,
+            &mut reached,
+            &own,
+        )
+    }
+
+    /// Submits commands of its station, at most its share, and then waits for the answer to each, in order. So one commit can take
+    /// them all. Each is answered as by [`Session::submit`]. Once memory has run out for one, that one and all after it are answered
+    /// so, and not put into the queue. `answers` gets the answers alone, and no more memory.
+    pub fn submit_all<R: Wait>(
+        &mut self,
+        rt: &R,
+        commands: &[Command<Global>],
+        answers: &mut Vec<Answer<J>>,
+    )
+        requires station { All (λ c. c.station ≡ self.old.sender.station) commands.now }
+        requires few { length commands.now ≤ self.old.share }
+        requires room { length commands.now ≤ vec_capacity answers.old }
+
+        // Each is submitted and answered after the one before it.
+        ensures submitted { AreSubmissions J.base commands.now (view_of self.old) (view_of self.new) answers.new.items }
+        ensures seen { IsPrefix self.old.viewer self.new.viewer }
+        ensures short { All HasShortAnswer answers.new.items }
+        ensures room { vec_capacity answers.new ≡ vec_capacity answers.old }
+
+        // It stays the session of its station.
+        ensures same { IsSameSession self.old self.new }
+    {
+        answers.clear();
+        let put = put_all(rt, self.alloc, &mut self.sender, commands);
+        let base = self.base.count();
+        hear_all(
+            rt,
+            &mut self.receiver,
+            &mut self.viewer,
+            base,
+            &commands[..put],
+            answers,
+        );
+        refuse_all(answers, commands.len() - put);
     }
 
     /// The answer to a query after a list of commands, kept under `alloc`, with the length of that list. The list begins
@@ -185,6 +224,7 @@ impl<J: Centre> Session<J> {
             receiver,
             viewer,
             base: _,
+            share: _,
             alloc: _,
         } = self;
         let station = sender.station();
@@ -194,63 +234,5 @@ impl<J: Centre> Session<J> {
             receiver,
             viewer,
         }
-    }
-}
-
-// The answer from what was received, if that fits this command and lacks nothing that was seen. Then its list is seen.
-fn take_in<J: Centre>(
-    viewer: &mut Viewer<J>,
-    base: u64,
-    command: &Command<Global>,
-    response: Response<J>,
-) -> Answer<J>
-    requires { base ≡ J.base.count }
-    ensures borne_out { BearsOutAnswer J.base command.now viewer.old viewer.new result }
-    ensures seen { IsPrefix viewer.old viewer.new }
-    ensures fits { Fits J.base command.now viewer.old response viewer.new result }
-    ensures short { HasShortAnswer result }
-{
-    let Response {
-        command: theirs,
-        published,
-        decision,
-    } = response;
-    if !theirs.same(command) {
-        return Answer::Closed;
-    }
-    if !viewer.is_within(&published) {
-        return Answer::Closed;
-    }
-    if is_already_seen(&decision, base, viewer.count()) {
-        return Answer::Closed;
-    }
-    viewer.follow(&published);
-    answer_by(published, decision)
-}
-
-// Whether it accepts a command under a number that was seen.
-fn is_already_seen(decision: &Decision, base: u64, seen: u64) -> bool
-    ensures { IsTrue result ↔ IsAlreadySeen base seen decision.now }
-{
-    match decision {
-        Decision::Replied(Reply::Accepted { number, .. }) => number.saturating_sub(base) <= seen,
-        _ => false,
-    }
-}
-
-// The answer for a decision.
-fn answer_by<J: Centre>(published: Published<J>, decision: Decision) -> Answer<J>
-    ensures { result ≡ answer_by published decision }
-{
-    match decision {
-        Decision::Replied(Reply::Accepted { number, pdu }) => Answer::Accepted {
-            number,
-            pdu,
-            published,
-        },
-        Decision::Replied(Reply::Kept { number, pdu }) => Answer::Kept { number, pdu },
-        Decision::Replied(Reply::Refused(refusal)) => Answer::Refused(refusal),
-        Decision::NoMemory => Answer::NoMemory,
-        Decision::Fault(fault) => Answer::Fault(fault),
     }
 }

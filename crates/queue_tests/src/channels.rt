@@ -54,7 +54,7 @@ fn is_answered<R: Wait>(rt: &R, receiver: &mut AnswerReceiver<Doubled>) -> bool 
 
 // One thread answers, another receives.
 fn is_relayed<R: Threads + Wait + Sync>(rt: &R, alloc: Global) -> Option<bool> {
-    let (mut sender, mut receiver) = open_channel(alloc).ok()?;
+    let (mut sender, mut receiver) = open_channel(alloc, 2).ok()?;
     let (_, received) = thread::join(
         rt,
         || answer_all(rt, &mut sender),
@@ -71,7 +71,7 @@ fn answers_come_in_order(rt: HostRuntime) {
 
 // Whether both answers to a session that is gone are dropped, and no send waits.
 fn is_dropped<R: Wait>(rt: &R, alloc: Global) -> Option<bool> {
-    let (mut sender, receiver) = open_channel::<u32>(alloc).ok()?;
+    let (mut sender, receiver) = open_channel::<u32>(alloc, 1).ok()?;
     sender.send(rt, 1);
     let was_there = !sender.is_gone();
     drop(receiver);
@@ -88,7 +88,7 @@ fn an_answer_to_a_session_that_is_gone_is_dropped(rt: HostRuntime) {
 
 // Whether what was sent before the sender was dropped is still received, and nothing after it.
 fn is_ended<R: Wait>(rt: &R, alloc: Global) -> Option<bool> {
-    let (mut sender, mut receiver) = open_channel::<u32>(alloc).ok()?;
+    let (mut sender, mut receiver) = open_channel::<u32>(alloc, 1).ok()?;
     sender.send(rt, 7);
     drop(sender);
     let last = receiver.receive(rt);
@@ -102,7 +102,7 @@ fn a_session_whose_flusher_is_gone_is_answered(rt: HostRuntime) {
 
 // A receiver waits in another thread while the sender is dropped.
 fn is_woken<R: Threads + Wait + Sync>(rt: &R, alloc: Global) -> Option<bool> {
-    let (sender, mut receiver) = open_channel::<u32>(alloc).ok()?;
+    let (sender, mut receiver) = open_channel::<u32>(alloc, 1).ok()?;
     let (_, woken) = thread::join(rt, move || drop(sender), || receiver.receive(rt).is_none());
     Some(woken)
 }
@@ -114,7 +114,7 @@ fn a_session_that_waits_is_answered(rt: HostRuntime) {
 
 // Each receiver gets what its own sender sent.
 fn are_apart<R: Wait>(rt: &R, alloc: Global) -> Option<bool> {
-    let mut channels = open_channels::<u64>(alloc, 64).ok()?;
+    let mut channels = open_channels::<u64>(alloc, 64, 1).ok()?;
     let mut number: u64 = 0;
     for ends in channels.iter_mut() {
         ends.0.send(rt, number);

@@ -27,7 +27,11 @@ fn request(alloc: Global, station: Station, number: u32) -> Option<Request>
     let command = Command::new(station, sequence, Moment::new(0), Body::Expire)?;
     let command = Arc::new(alloc, command).ok()?;
     let copy = Arc::try_clone(&command).ok()?;
-    Some(Request { command, copy })
+    Some(Request {
+        command,
+        copy,
+        more: false,
+    })
 }
 
 // Sends the command of this number; whether there was memory for it.

@@ -14,7 +14,7 @@ ghost use Rattle.recovery.specs.declared.outcome.Outcome.TheVariants.{Replied};
 use crate::{Store, StoreFault};
 use centre_core::laws::registers;
 use centre_core::{Command, Query, QueryAnswer, Reply};
-use desk::{Desk, Outage};
+use desk::{Desk, MOST_TOGETHER, Outage};
 use listings::{Listing, print_listing};
 use sector_disk::Disk;
 use std::alloc::Allocator;
@@ -25,6 +25,12 @@ impl<A: Allocator + Copy, B: Allocator + Copy, D: Disk> Desk<A> for Store<B, D> 
     ghost world = { λ store. stored_of (D.view store.disk).failures store.epoch store.broken store.before.value store.register };
 
     ghost rules = { of_store };
+
+    ghost most = { λ store. 64 };
+
+    fn most_together(&self) -> usize {
+        MOST_TOGETHER
+    }
 
     fn apply(&mut self, alloc: A, command: &Command<A>) -> Result<Reply<A>, Outage>
         ensures applies { of_store.applies

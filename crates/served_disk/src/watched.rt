@@ -77,12 +77,19 @@ impl<'p, 'r, D, C: Clock + Eprint> WatchedDesk<'p, 'r, D, C> {
     }
 }
 
-impl<'p, 'r, A: Allocator, D: Desk<A>, C: Clock + Eprint> Desk<A> for WatchedDesk<'p, 'r, D, C> {
+impl<'p, 'r, A: Allocator + Copy, D: Desk<A>, C: Clock + Eprint> Desk<A>
+    for WatchedDesk<'p, 'r, D, C> {
     ghost World = { D.World };
 
     ghost world = { λ watched. D.world watched.desk };
 
     ghost rules = { D.rules };
+
+    ghost most = { λ watched. D.most watched.desk };
+
+    fn most_together(&self) -> usize {
+        self.desk.most_together()
+    }
 
     fn apply(&mut self, alloc: A, command: &Command<A>) -> Result<Reply<A>, Outage> {
         let replied = self.desk.apply(alloc, command);

@@ -3,6 +3,7 @@
 #![tactic(auto)]
 
 mod timed;
+mod together;
 
 use std::env;
 use std::process::ExitCode;

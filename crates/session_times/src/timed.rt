@@ -3,11 +3,10 @@ ghost use Rattle.std.specs.Prelude.{◌≡◌, ◌≤◌, false, length, IfSome}
 ghost use Rattle.flusher.specs.Served.{IsSettled};
 ghost use Rattle.flusher.specs.View.{view_of};
 
+use crate::together::{TOGETHER, accepted_together, update};
 use centre_core::Command;
 use flusher::{Answer, Flusher, Gate, Session, open_centre};
-use live_centre::{
-    Task, WatchedDisk, attach, end_all, opened, serve_beside, with_rule, worked_disk,
-};
+use live_centre::{Task, WatchedDisk, end_all, opened, serve_beside, with_rule, worked_disk};
 use recovery::{Outcome, Store, StoreFault};
 use registration::Station;
 use snapshots::{Centre, NewLog};
@@ -22,8 +21,10 @@ use std::time::{Duration, Instant};
 // How often all is measured.
 const ROUNDS: u32 = 5;
 
-// How many commands each of 64 sessions submits, and how many a single session.
+// How many commands each of 64 sessions submits, how many each of 8, and how many a single session.
 const EACH: u32 = 500;
+
+const EACH_OF_EIGHT: u32 = 4_000;
 
 const ALONE: u32 = 5_000;
 
@@ -34,19 +35,46 @@ const CALLS: usize = 60_000;
 
 type Kept = Store<Global, WatchedDisk>;
 
-// How many commands each session submits, and how many were accepted.
+// How many sessions there are, how many commands each submits, and whether one at a time.
+#[derive(Clone, Copy)]
+struct Work {
+    sessions: usize,
+    each: u32,
+    singly: bool,
+}
+
+// What sessions do, and how many commands were accepted.
 #[derive(Drop)]
 struct Load {
     alloc: Global,
-    each: u32,
+    work: Work,
     accepted: AtomicU64,
 }
 
-// The attach of this station's radio.
-fn update(alloc: Global, station: Station, sequence: u32) -> Option<Command<Global>>
-    ensures { IfSome result (λ command. command.station ≡ station) }
-{
-    attach(alloc, station, sequence, u32::from(station.number()) % 16)
+impl Load {
+    fn count(&self, accepted: u64) {
+        self.accepted.fetch_add(accepted, Ordering::SeqCst);
+    }
+
+    // Submits the commands of a session one at a time.
+    fn submit_singly<J: Centre, R: Wait>(&self, rt: &R, session: &mut Session<J>) {
+        for k in 0..self.work.each {
+            if is_accepted(rt, self.alloc, session, k.saturating_add(2)) {
+                self.count(1);
+            }
+        }
+    }
+
+    // Submits them several at a time.
+    fn submit_together<J: Centre, R: Wait>(&self, rt: &R, session: &mut Session<J>) {
+        for k in 0..self.work.each / TOGETHER {
+            let first = k.saturating_mul(TOGETHER).saturating_add(2);
+            match accepted_together(rt, self.alloc, session, first) {
+                Some(accepted) => self.count(accepted),
+                None => return,
+            }
+        }
+    }
 }
 
 fn is_accepted<J: Centre, R: Wait>(
@@ -69,10 +97,10 @@ impl<J: Centre> Task<J> for Load {
     fn before_round(&self) {}
 
     fn act<R: Wait>(&self, rt: &R, session: &mut Session<J>) {
-        for k in 0..self.each {
-            if is_accepted(rt, self.alloc, session, k.saturating_add(2)) {
-                self.accepted.fetch_add(1, Ordering::SeqCst);
-            }
+        if self.work.singly {
+            self.submit_singly(rt, session);
+        } else {
+            self.submit_together(rt, session);
         }
     }
 }
@@ -106,19 +134,18 @@ fn centre<J: Centre, R: Wait>(
     }
 }
 
-// How long it takes this many sessions until all their commands are answered.
+// How long it takes the sessions until all their commands are answered.
 fn served<J: Centre + Send + Sync, R: Threads + Wait + Clock + Sync>(
     rt: &R,
     log: NewLog,
     store: Kept,
-    sessions: usize,
     load: &Load,
 ) -> Option<Duration>
     requires sound { store.broken ≡ false }
     requires centre { (log.seen.book ≡ J.book) × (store.register ≡ J.base) }
 {
-    let Some((mut flusher, mut sessions)) = centre::<J, R>(rt, load.alloc, log, store, sessions)
-    else {
+    let count = load.work.sessions;
+    let Some((mut flusher, mut sessions)) = centre::<J, R>(rt, load.alloc, log, store, count) else {
         return None;
     };
     let start = Instant::now(rt);
@@ -135,16 +162,16 @@ fn served<J: Centre + Send + Sync, R: Threads + Wait + Clock + Sync>(
 fn served_once<R: Threads + Wait + Clock + Sync>(
     rt: &R,
     alloc: Global,
-    sessions: usize,
-    each: u32,
+    work: Work,
 ) -> Option<Duration> {
     let load = Load {
         alloc,
-        each,
+        work,
         accepted: AtomicU64::new(0),
     };
-    let took = served::<Brand, R>(rt, NewLog::new(), ruled(alloc)?, sessions, &load)?;
-    if load.accepted.load(Ordering::SeqCst) == (sessions as u64).saturating_mul(u64::from(each)) {
+    let took = served::<Brand, R>(rt, NewLog::new(), ruled(alloc)?, &load)?;
+    let all = (work.sessions as u64).saturating_mul(u64::from(work.each));
+    if load.accepted.load(Ordering::SeqCst) == all {
         Some(took)
     } else {
         None
@@ -244,16 +271,39 @@ fn is_reported<R: Print>(rt: &R, what: &str, commands: u32, took: Option<Duratio
     }
 }
 
-// Prints a line for 64 sessions, for batches of 64, for a single session and for single commits; whether all were measured.
+// Sessions that submit their commands one at a time.
+fn singly(sessions: usize, each: u32) -> Work {
+    Work {
+        sessions,
+        each,
+        singly: true,
+    }
+}
+
+// Prints a line for 64 sessions, for 8 that submit 8 at a time, for batches of 64, for a single session and for single commits;
+// whether all were measured.
 fn is_measured<R: Threads + Wait + Clock + Print + Sync>(rt: &R, alloc: Global) -> bool {
-    is_reported(rt, "sessions", 64 * EACH, served_once(rt, alloc, 64, EACH))
-        && is_reported(
-            rt,
-            "batches",
-            64 * EACH,
-            committed_once(rt, alloc, 64, EACH),
-        )
-        && is_reported(rt, "alone", ALONE, served_once(rt, alloc, 1, ALONE))
+    let eight = Work {
+        sessions: 8,
+        each: EACH_OF_EIGHT,
+        singly: false,
+    };
+    is_reported(
+        rt,
+        "sessions",
+        64 * EACH,
+        served_once(rt, alloc, singly(64, EACH)),
+    ) && is_reported(
+        rt,
+        "eight",
+        8 * EACH_OF_EIGHT,
+        served_once(rt, alloc, eight),
+    ) && is_reported(
+        rt,
+        "batches",
+        64 * EACH,
+        committed_once(rt, alloc, 64, EACH),
+    ) && is_reported(rt, "alone", ALONE, served_once(rt, alloc, singly(1, ALONE)))
         && is_reported(rt, "singly", ALONE, committed_once(rt, alloc, 1, ALONE))
 }
 

@@ -1,5 +1,5 @@
 -- Each step keeps the rule of the queue.
-use Rattle.std.proofs.Common.{◌≡◌, ◌≢◌, ◌⊎◌, inl, inr, ℕ, zero, suc, ◌+◌, ◌<◌, ◌≤◌, ◌==◌, Bool, true, false, cond, true≢false, List, [], ◌∷◌, ◌++◌, length, set, sym, refl, ap, ◌∙◌, subst, ⊎_elim, append_assoc, arith}
+use Rattle.std.proofs.Common.{◌≡◌, ◌≢◌, ◌⊎◌, inl, inr, ℕ, zero, suc, ◌+◌, ◌-◌, ◌<◌, ◌≤◌, ◌==◌, Bool, true, false, cond, true≢false, List, [], ◌∷◌, ◌++◌, length, set, sym, refl, ap, ◌∙◌, subst, ⊎_elim, append_assoc, length-append, arith}
 use Rattle.std.specs.Prelude.{Option, Some, None, slice_get, All, ⊤}
 use Rattle.atomic_table.specs.Seated.{TableId}
 use Rattle.station_queue.specs.Ends.{Sending, sending}
@@ -13,7 +13,7 @@ use Rattle.crossbeam_queue.proofs.Lists.{at_set}
 use Rattle.station_queue.specs.declared.entry.Entry.{Entry}
 use Rattle.station_queue.specs.declared.rule.View.{View}
 use Rattle.station_queue.specs.Entries.{station_of, entries_of}
-use Rattle.station_queue.specs.Order.{taker, sender, settled, nobody, Fits, FitsSettled, IsInOrder, AreAllSent}
+use Rattle.station_queue.specs.Order.{taker, sender, settled, nobody, place, places_of, HaveRoom, Fits, FitsSettled, IsInOrder, IsSameTaker, AreAllSent}
 
 same_test : (a b : ℕ) → a ≡ b → (a == b) ≡ true
 same_test a b e = grind (arith, nat_tests)
@@ -52,6 +52,20 @@ each_set : (F : ℕ → View → Type 0) (views : List View) (port : ℕ) (w : V
 each_set F views port w mine others j u e = ⊎_elim (λ (x : (j ≡ port) × (w ≡ u)). subst (λ (y : ℕ × View). F y.0 y.1) (λ i. (sym x.0 i, x.1 i)) mine)
     (λ (x : (j ≢ port) × (get_elem? views j ≡ some u)). others j u x.0 x.1) (at_set views port j w u e)
 
+-- the places of all, where the view at one place is another one
+places_set : (views : List View) (pass : ℕ) (v w : View) → get_elem? views pass ≡ some v → places_of (set views pass w) + v.places ≡ places_of views + w.places
+places_set [] pass v w e = absurd (some-ne-none v (sym e))
+places_set (x ∷ xs) zero v w e = let same = ap (λ (u : View). u.places) (some-injective x v e) in omega (arith, same)
+places_set (x ∷ xs) (suc k) v w e = let rest = places_set xs k v w e in omega (arith, rest)
+
+places_append : (views : List View) (w : View) → places_of (views ++ w ∷ []) ≡ places_of views + w.places
+places_append [] w = omega arith
+places_append (x ∷ xs) w = let rest = places_append xs w in omega (arith, rest)
+
+-- a pass has no more places than there are
+places_at : (views : List View) (pass : ℕ) (v : View) → get_elem? views pass ≡ some v → v.places ≤ places_of views
+places_at views pass v e = let one = places_set views pass v nobody e in omega (arith, one)
+
 no : {A : Type 0} → false ≡ true → A
 no e = absurd (true≢false (sym e))
 
@@ -61,27 +75,29 @@ some_is a b e = cc
 not_none : (a : ℕ) → Some a ≡ None → ⊥
 not_none a e = cc
 
-pub begins : IsInOrder [] (taker 0 [] [] ∷ [])
+pub begins : IsInOrder [] (taker 0 [] [] 64 ∷ [])
 begins = (
   0,
   (λ _. None),
   0,
   [],
   (λ s _. refl),
-  each_set (Fits 0 (λ _. None) 0 [] []) (taker 0 [] [] ∷ []) 0 (taker 0 [] []) ((λ _. (refl, refl, refl)), All-nil (FitsSettled 0 (λ _. None) 0 [] []), (λ e. no e)) (λ j u other e. absurd (only j u other e)),
+  each_set (Fits 0 (λ _. None) 0 [] []) (taker 0 [] [] 64 ∷ []) 0 (taker 0 [] [] 64) ((λ _. (refl, refl, refl)), All-nil (FitsSettled 0 (λ _. None) 0 [] []), (λ e. no e)) (λ j u other e. absurd (only j u other e)),
+  omega arith,
 )
   where
-    only : (j : ℕ) (u : View) → j ≢ 0 → get_elem? (taker 0 [] [] ∷ []) j ≡ some u → ⊥
+    only : (j : ℕ) (u : View) → j ≢ 0 → get_elem? (taker 0 [] [] 64 ∷ []) j ≡ some u → ⊥
     only zero u other e = other refl
     only (suc j) u other e = some-ne-none u (sym e)
 
 within_not : (s made n m : ℕ) → (made < s) ⊎ (s ≡ 0) → n ≡ m → m ≤ made → 0 < m → n ≡ s → ⊥
 within_not s made n m late is le pos e = ⊎_elim (λ (h : made < s). let b : ⊥ = omega (arith, is, le, pos, e, h) in b) (λ (h : s ≡ 0). let b : ⊥ = omega (arith, is, le, pos, e, h) in b) late
 
-pub puts : (n pass : ℕ) (v : View) (x : Entry) → v.sends ≡ true → station_of x ≡ v.station → Pushes IsInOrder n pass v x (λ w. w ≡ sender v.station (v.sent ++ x ∷ []))
-puts n pass v x may is items views _ h at =
+pub puts : (n pass : ℕ) (v : View) (x : Entry) → v.sends ≡ true → station_of x ≡ v.station → 0 < v.places → Pushes IsInOrder n pass v x (λ w. w ≡ sender v.station (v.sent ++ x ∷ []) (v.places - 1))
+puts n pass v x may is has items views _ h at =
     let reader = h.0 in let seat = h.1 in let made = h.2 in let taken = h.3 in
-    let w = sender v.station (v.sent ++ x ∷ []) in
+    let w = sender v.station (v.sent ++ x ∷ []) (v.places - 1) in
+    let room : HaveRoom (items ++ x ∷ []) (set views pass w) = let one = places_set views pass v w at in let was = h.6 in omega (arith, length-append items (x ∷ []), one, was, has) in
     let mine = (h.5 pass v at).2 may in
     let all = taken ++ (items ++ x ∷ []) in (
       w,
@@ -100,6 +116,7 @@ puts n pass v x may is items views _ h at =
                   (λ k f. (f.0, f.1, of_other k.station taken items x (λ s. not_none pass (sym mine.0 ∙ (ap seat (sym is ∙ s) ∙ f.0))) ∙ f.2)) u.settled was.1,
               (λ k. let f = was.2 k in (f.0, f.1, of_other u.station taken items x (λ s. other (some_is j pass (sym f.0 ∙ (ap seat (sym s ∙ is) ∙ mine.0)))) ∙ f.2, f.3)),
             )),
+        room,
       ),
       refl,
     )
@@ -126,10 +143,11 @@ of_one made taken items x none = (above (station_of x) refl, below)
     below : station_of x ≤ made
     below = ⊎_elim (λ (h : made < station_of x). absurd (some_of taken items x (none (station_of x) (inl h)))) (λ (h : station_of x ≤ made). h) split
 
-pub takes : (pass : ℕ) (v : View) → v.takes ≡ true → Pops IsInOrder pass v (λ x w. (w ≡ taker v.made (v.taken ++ x ∷ []) v.settled) × (0 < station_of x) × (station_of x ≤ v.made))
+pub takes : (pass : ℕ) (v : View) → v.takes ≡ true → Pops IsInOrder pass v (λ x w. (w ≡ taker v.made (v.taken ++ x ∷ []) v.settled (v.places + 1)) × (0 < station_of x) × (station_of x ≤ v.made))
 takes pass v may x items views h at =
     let reader = h.0 in let seat = h.1 in let made = h.2 in let taken = h.3 in
-    let w = taker v.made (v.taken ++ x ∷ []) v.settled in
+    let w = taker v.made (v.taken ++ x ∷ []) v.settled (v.places + 1) in
+    let room : HaveRoom items (set views pass w) = let one = places_set views pass v w at in let was = h.6 in omega (arith, one, was) in
     let this = h.5 pass v at in
     let mine = this.0 may in
     let now = taken ++ x ∷ [] in
@@ -152,6 +170,7 @@ takes pass v may x items views h at =
               settled_still u was.1,
               (λ k. let f = was.2 k in (f.0, f.1, ap (entries_of u.station) (sym same) ∙ f.2, f.3)),
             )),
+        room,
       ),
       (refl, (of_one made taken items x h.4).0, subst (λ m. station_of x ≤ m) (sym mine.2) (of_one made taken items x h.4).1),
     )
@@ -165,14 +184,15 @@ seat_here s o seat = ap (λ b. cond b o (seat s)) (same_test s s refl)
 seat_else : (s : ℕ) (o : Option ℕ) (seat : ℕ → Option ℕ) (k : ℕ) → k ≢ s → put_seat s o seat k ≡ seat k
 seat_else s o seat k n = ap (λ b. cond b o (seat k)) (other_test k s n)
 
-pub forks : (pass : ℕ) (v : View) → v.takes ≡ true → Forks IsInOrder pass v (taker (v.made + 1) v.taken v.settled) (sender (v.made + 1) [])
+pub forks : (pass : ℕ) (v : View) → v.takes ≡ true → Forks IsInOrder pass v (taker (v.made + 1) v.taken v.settled v.places) (sender (v.made + 1) [] 0)
 forks pass v may items views h at =
     let reader = h.0 in let seat = h.1 in let made = h.2 in let taken = h.3 in
     let this = h.5 pass v at in
     let mine = this.0 may in
-    let left = taker (v.made + 1) v.taken v.settled in
-    let right = sender (v.made + 1) [] in
+    let left = taker (v.made + 1) v.taken v.settled v.places in
+    let right = sender (v.made + 1) [] 0 in
     let vs : List View = set views pass left in
+    let room : HaveRoom items (vs ++ right ∷ []) = let one = places_set views pass v left at in let more = places_append vs right in let was = h.6 in omega (arith, one, more, was) in
     let new = put_seat (v.made + 1) (Some (length vs)) seat in
     let all = taken ++ items in
     let F : ℕ → View → Type 0 = Fits reader new (made + 1) taken all in
@@ -198,6 +218,7 @@ forks pass v may items views h at =
       taken,
       (λ s late. h.4 s (⊎_elim (λ (q : made + 1 < s). inl (let r : made < s = omega (arith, q) in r)) (λ (q : s ≡ 0). inr q) late)),
       (λ j u e. ⊎_elim (λ (x : get_elem? vs j ≡ some u). old j u x) (λ (x : (j ≡ length vs) × (right ≡ u)). subst (λ (y : ℕ × View). F y.0 y.1) (λ i. (sym x.0 i, x.1 i)) here) (at_end vs right u j e)),
+      room,
     )
 
 none_still : (s : ℕ) (seat : ℕ → Option ℕ) (k : ℕ) → seat k ≡ None → put_seat s None seat k ≡ None
@@ -207,12 +228,13 @@ none_still s seat k e = go (k == s)
     go true = refl
     go false = e
 
-pub merges : (pass : ℕ) (v : View) (other : ℕ) (w : View) → v.takes ≡ true → w.sends ≡ true → Merges IsInOrder pass v other w (taker v.made v.taken (v.settled ++ settled w.station w.sent ∷ [])) nobody
+pub merges : (pass : ℕ) (v : View) (other : ℕ) (w : View) → v.takes ≡ true → w.sends ≡ true → Merges IsInOrder pass v other w (taker v.made v.taken (v.settled ++ settled w.station w.sent ∷ []) v.places) nobody
 merges pass v other w may came items views h at apart there =
     let reader = h.0 in let seat = h.1 in let made = h.2 in let taken = h.3 in
     let this = h.5 pass v at in
     let mine = this.0 may in
-    let both = taker v.made v.taken (v.settled ++ settled w.station w.sent ∷ []) in
+    let both = taker v.made v.taken (v.settled ++ settled w.station w.sent ∷ []) v.places in
+    let room : HaveRoom items (set (set views pass both) other nobody) = let one = places_set views pass v both at in let two = places_set (set views pass both) other w nobody there in let was = h.6 in omega (arith, one, two, was) in
     let was : get_elem? views other ≡ some w = ⊎_elim (λ (x : (other ≡ pass) × (both ≡ w)). absurd (apart x.0)) (λ (x : (other ≢ pass) × (get_elem? views other ≡ some w)). x.1) (at_set views pass other both w there) in
     let theirs = (h.5 other w was).2 came in
     let new = put_seat w.station None seat in
@@ -235,7 +257,53 @@ merges pass v other w may came items views h at apart there =
       taken,
       h.4,
       each_set (Fits reader new made taken all) (set views pass both) other nobody ((λ e. no e), All-nil (FitsSettled reader new made taken all), (λ e. no e)) (λ j y apart' e. now j y e apart'),
+      room,
     )
+
+-- the taker gives one of its places away
+pub gives : (pass : ℕ) (v : View) → v.takes ≡ true → 0 < v.places → Forks IsInOrder pass v (taker v.made v.taken v.settled (v.places - 1)) place
+gives pass v may has items views h at =
+    let reader = h.0 in let seat = h.1 in let made = h.2 in let taken = h.3 in
+    let this = h.5 pass v at in
+    let left = taker v.made v.taken v.settled (v.places - 1) in
+    let vs : List View = set views pass left in
+    let F : ℕ → View → Type 0 = Fits reader seat made taken (taken ++ items) in
+    let old : EachView F vs = each_set F views pass left ((λ _. this.0 may), this.1, (λ e. no e)) (λ j u _ e. h.5 j u e) in
+    let here : F (length vs) place = ((λ e. no e), All-nil (FitsSettled reader seat made taken (taken ++ items)), (λ e. no e)) in
+    let room : HaveRoom items (vs ++ place ∷ []) = let one = places_set views pass v left at in let more = places_append vs place in let was = h.6 in omega (arith, one, more, was, has) in (
+      reader,
+      seat,
+      made,
+      taken,
+      h.4,
+      (λ j u e. ⊎_elim (λ (x : get_elem? vs j ≡ some u). old j u x) (λ (x : (j ≡ length vs) × (place ≡ u)). subst (λ (y : ℕ × View). F y.0 y.1) (λ i. (sym x.0 i, x.1 i)) here) (at_end vs place u j e)),
+      room,
+    )
+
+-- a sender gets the places of another pass
+pub gets_back : (pass : ℕ) (v : View) (other : ℕ) (w : View) → v.sends ≡ true → Merges IsInOrder pass v other w (sender v.station v.sent (v.places + w.places)) nobody
+gets_back pass v other w may items views h at apart there =
+    let reader = h.0 in let seat = h.1 in let made = h.2 in let taken = h.3 in
+    let mine = (h.5 pass v at).2 may in
+    let both = sender v.station v.sent (v.places + w.places) in
+    let F : ℕ → View → Type 0 = Fits reader seat made taken (taken ++ items) in
+    let old : EachView F (set views pass both) = each_set F views pass both ((λ e. no e), All-nil (FitsSettled reader seat made taken (taken ++ items)), (λ _. mine)) (λ j u _ e. h.5 j u e) in
+    let room : HaveRoom items (set (set views pass both) other nobody) = let one = places_set views pass v both at in let two = places_set (set views pass both) other w nobody there in let was = h.6 in omega (arith, one, two, was) in (
+      reader,
+      seat,
+      made,
+      taken,
+      h.4,
+      each_set F (set views pass both) other nobody ((λ e. no e), All-nil (FitsSettled reader seat made taken (taken ++ items)), (λ e. no e)) (λ j u _ e. old j u e),
+      room,
+    )
+
+-- there is room for the places of a pass beside what the queue holds
+pub has_room : (pass : ℕ) (v : View) → Learns IsInOrder pass v (λ items. length items + v.places ≤ 64)
+has_room pass v items views h at = let few = places_at views pass v at in let was = h.6 in omega (arith, few, was)
+
+pub same_taker : (v w : View) (places : ℕ) → w ≡ taker v.made v.taken v.settled places → IsSameTaker v w
+same_taker v w places is = (ap (λ (u : View). u.takes) is, ap (λ (u : View). u.made) is, ap (λ (u : View). u.taken) is, ap (λ (u : View). u.settled) is)
 
 pub totals : (pass : ℕ) (v : View) → v.takes ≡ true → Learns IsInOrder pass v (λ items. AreAllSent v.taken items v.settled)
 totals pass v may items views h at =

@@ -1,5 +1,5 @@
 -- What the queue holds.
-use Rattle.std.specs.Prelude.{◌==◌, cond, List, [], ◌∷◌}
+use Rattle.std.specs.Prelude.{◌==◌, ◌/◌, cond, ℕ, List, [], ◌∷◌}
 use Rattle.std.specs.Arc.{arc_value}
 use Rattle.registration.specs.Numbers.{Station}
 use Rattle.station_queue.specs.declared.entry.Entry.{Entry}
@@ -14,3 +14,7 @@ station_of (Ended station) = station
 abbrev pub entries_of : Station → List Entry → List Entry
 entries_of s [] = []
 entries_of s (x ∷ xs) = cond (station_of x == s) (x ∷ entries_of s xs) (entries_of s xs)
+
+-- how many entries each of so many stations may have in the queue of 64 at a time
+abbrev pub share_of : ℕ → ℕ
+share_of stations = 64 / stations

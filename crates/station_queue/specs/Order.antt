@@ -1,5 +1,5 @@
 -- The rule of the queue.
-use Rattle.std.specs.Prelude.{◌≡◌, ◌⊎◌, ℕ, ◌<◌, ◌≤◌, true, false, List, [], ◌++◌, Option, Some, None, All}
+use Rattle.std.specs.Prelude.{◌≡◌, ◌⊎◌, ℕ, ◌+◌, ◌<◌, ◌≤◌, true, false, List, [], ◌∷◌, ◌++◌, length, Option, Some, None, All}
 use mathlib.Core.Option.{some}
 use lib.ListN.{get_elem?}
 use Rattle.registration.specs.Numbers.{Station}
@@ -13,16 +13,38 @@ abbrev pub settled : Station → List Entry → Settled
 settled station sent = record { station = station; sent = sent }
 
 -- what the taker knows
-abbrev pub taker : ℕ → List Entry → List Settled → View
-taker made taken settled = record { takes = true; made = made; taken = taken; settled = settled; sends = false; station = 0; sent = [] }
+abbrev pub taker : ℕ → List Entry → List Settled → ℕ → View
+taker made taken settled places = record { takes = true; made = made; taken = taken; settled = settled; sends = false; station = 0; sent = []; places = places }
+
+-- the taker still knows the same, but for its places
+abbrev pub IsSameTaker : View → View → Type 0
+IsSameTaker v w = (w.takes ≡ true) × (w.made ≡ v.made) × (w.taken ≡ v.taken) × (w.settled ≡ v.settled)
 
 -- what a sender knows
-abbrev pub sender : Station → List Entry → View
-sender station sent = record { takes = false; made = 0; taken = []; settled = []; sends = true; station = station; sent = sent }
+abbrev pub sender : Station → List Entry → ℕ → View
+sender station sent places = record { takes = false; made = 0; taken = []; settled = []; sends = true; station = station; sent = sent; places = places }
 
--- the pass of a sender that came back: it may do nothing more
+-- a pass that has this many places of the queue, and may neither take nor send
+abbrev pub holder : ℕ → View
+holder places = record { takes = false; made = 0; taken = []; settled = []; sends = false; station = 0; sent = []; places = places }
+
+-- a pass that came back to another one: it may do nothing more
 abbrev pub nobody : View
-nobody = record { takes = false; made = 0; taken = []; settled = []; sends = false; station = 0; sent = [] }
+nobody = holder 0
+
+-- one place of the queue
+abbrev pub place : View
+place = holder 1
+
+-- how many places of the queue these have
+abbrev pub places_of : List View → ℕ
+places_of [] = 0
+places_of (v ∷ views) = v.places + places_of views
+
+-- Each entry in the queue has a place there. With the places of all passes these are no more than the queue has. So a pass that has a place never
+-- finds the queue full.
+abbrev pub HaveRoom : List Entry → List View → Type 0
+HaveRoom items views = length items + places_of views ≤ 64
 
 -- of each of these stations, what was taken, followed by what the queue holds, is what it sent
 abbrev pub AreAllSent : List Entry → List Entry → List Settled → Type 0
@@ -47,9 +69,11 @@ module _ (reader : ℕ) (seat : Station → Option ℕ) (made : ℕ) (taken all 
   abbrev pub Fits : ℕ → View → Type 0
   Fits pass v = FitsTaker pass v × All FitsSettled v.settled × FitsSender pass v
 
--- what was taken of a station, followed by what the queue holds of it, is what the station's pass has as sent; a station without a sender sent nothing
+-- What was taken of a station, followed by what the queue holds of it, is what the station's pass has as sent. A station without a sender sent nothing.
+-- There is a place for each entry.
 abbrev pub IsInOrder : List Entry → List View → Type 0
 IsInOrder items views =
     (reader : ℕ) × (seat : Station → Option ℕ) × (made : ℕ) × (taken : List Entry)
     × ((s : Station) → (made < s) ⊎ (s ≡ 0) → entries_of s (taken ++ items) ≡ [])
     × ((pass : ℕ) (v : View) → get_elem? views pass ≡ some v → Fits reader seat made taken (taken ++ items) pass v)
+    × HaveRoom items views

@@ -15,6 +15,8 @@ pub type SharedCommand = Arc<Command<Global>, Global>;
 pub struct Request {
     pub command: Arc<Command<Global>, Global>,
     pub copy: Arc<Command<Global>, Global>,
+    /// Whether its sender is about to send another command.
+    pub more: bool,
     pub ghost same: { arc_value copy ≡ arc_value command },
 }
 

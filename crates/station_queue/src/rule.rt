@@ -21,9 +21,11 @@ pub struct View {
     pub sends: bool,
     pub station: u64,
     pub sent: LinkedList<Entry>,
+    /// How many places of the queue it has: the right to have as many entries there.
+    pub places: u64,
 }
 
-/// Each station's entries are taken in the order in which it sent them, each once.
+/// Each station's entries are taken in the order in which it sent them, each once. Each entry in the queue has a place there.
 pub struct InOrder;
 
 impl Protocol<Entry, View> for InOrder {
@@ -32,7 +34,7 @@ impl Protocol<Entry, View> for InOrder {
 
     ghost holds = { IsInOrder };
 
-    ghost first = { taker 0 [] [] };
+    ghost first = { taker 0 [] [] 64 };
 }
 
 /// The taker makes a sender for the next station.
@@ -42,9 +44,9 @@ impl Split<View> for NewSender {
     ghost use Rattle.std.specs.Prelude.{[], ◌+◌};
     ghost use Rattle.station_queue.specs.Order.{taker, sender};
 
-    ghost left = { λ v. taker (v.made + 1) v.taken v.settled };
+    ghost left = { λ v. taker (v.made + 1) v.taken v.settled v.places };
 
-    ghost right = { λ v. sender (v.made + 1) [] };
+    ghost right = { λ v. sender (v.made + 1) [] 0 };
 }
 
 /// The taker takes a sender back.
@@ -54,30 +56,61 @@ impl Join<View> for SenderBack {
     ghost use Rattle.std.specs.Prelude.{[], ◌∷◌, ◌++◌};
     ghost use Rattle.station_queue.specs.Order.{taker, settled, nobody};
 
-    ghost both = { λ v w. taker v.made v.taken (v.settled ++ settled w.station w.sent ∷ []) };
+    ghost both = { λ v w. taker v.made v.taken (v.settled ++ settled w.station w.sent ∷ []) v.places };
 
     ghost spent = { nobody };
 }
 
-/// One push.
+/// The taker gives one of its places away.
+pub struct OnePlace;
+
+impl Split<View> for OnePlace {
+    ghost use Rattle.std.specs.Prelude.{◌-◌};
+    ghost use Rattle.station_queue.specs.Order.{taker, place};
+
+    ghost left = { λ v. taker v.made v.taken v.settled (v.places - 1) };
+
+    ghost right = { λ v. place };
+}
+
+/// A sender gets the places of another pass.
+pub struct PlaceBack;
+
+impl Join<View> for PlaceBack {
+    ghost use Rattle.std.specs.Prelude.{◌+◌};
+    ghost use Rattle.station_queue.specs.Order.{sender, nobody};
+
+    ghost both = { λ v w. sender v.station v.sent (v.places + w.places) };
+
+    ghost spent = { nobody };
+}
+
+/// One push. It takes one of the sender's places.
 pub struct Puts;
 
 impl Outcome<Entry, View> for Puts {
-    ghost use Rattle.std.specs.Prelude.{◌≡◌, [], ◌∷◌, ◌++◌};
+    ghost use Rattle.std.specs.Prelude.{◌≡◌, ◌-◌, [], ◌∷◌, ◌++◌};
     ghost use Rattle.station_queue.specs.Order.{sender};
 
-    ghost then = { λ v x w. w ≡ sender v.station (v.sent ++ x ∷ []) };
+    ghost then = { λ v x w. w ≡ sender v.station (v.sent ++ x ∷ []) (v.places - 1) };
 }
 
-/// One pop.
+// What it would learn of a queue that is full: there is room for its places beside what the queue holds.
+impl Lesson<Entry, View> for Puts {
+    ghost use Rattle.std.specs.Prelude.{◌+◌, ◌≤◌, length};
+
+    ghost fact = { λ v items. length items + v.places ≤ 64 };
+}
+
+/// One pop. The taker gets the entry's place.
 pub struct Takes;
 
 impl Outcome<Entry, View> for Takes {
-    ghost use Rattle.std.specs.Prelude.{◌≡◌, ◌<◌, ◌≤◌, [], ◌∷◌, ◌++◌};
+    ghost use Rattle.std.specs.Prelude.{◌≡◌, ◌+◌, ◌<◌, ◌≤◌, [], ◌∷◌, ◌++◌};
     ghost use Rattle.station_queue.specs.Entries.{station_of};
     ghost use Rattle.station_queue.specs.Order.{taker};
 
-    ghost then = { λ v x w. (w ≡ taker v.made (v.taken ++ x ∷ []) v.settled) × (0 < station_of x) × (station_of x ≤ v.made) };
+    ghost then = { λ v x w. (w ≡ taker v.made (v.taken ++ x ∷ []) v.settled (v.places + 1)) × (0 < station_of x) × (station_of x ≤ v.made) };
 }
 
 impl Lesson<Entry, View> for Takes {

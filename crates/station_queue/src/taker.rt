@@ -1,10 +1,12 @@
-ghost use Rattle.std.specs.Prelude.{◌≡◌, [], ◌∷◌, ◌++◌, ◌+◌, ◌<◌, ◌≤◌, true, false, List, MatchOption, IfOk, IfSome, OnOk};
+ghost use Rattle.std.specs.Prelude.{◌≡◌, [], ◌∷◌, ◌++◌, ◌+◌, ◌-◌, ◌<◌, ◌≤◌, true, false, List, MatchOption, IfOk, IfSome, OnOk};
 ghost use Rattle.station_queue.specs.Entries.{station_of};
-ghost use Rattle.station_queue.specs.Order.{AreAllSent, settled};
+ghost use Rattle.crossbeam_queue.specs.Passes.{view as known, IsPassOf};
+ghost use Rattle.station_queue.specs.Order.{AreAllSent, IsSameTaker, settled, taker};
 ghost use Rattle.station_queue.specs.Ends.{sending, taking, with_settled};
 
 use crate::entry::Entry;
-use crate::rule::{NewSender, Queue, QueuePass, SenderBack, Takes, Total};
+use crate::places::{Place, Return, open_returns};
+use crate::rule::{NewSender, OnePlace, Queue, QueuePass, SenderBack, Takes, Total};
 use crate::sender::Sender;
 use registration::Station;
 use std::alloc::{AllocError, Global};
@@ -17,38 +19,61 @@ pub struct Taker {
     pub(crate) queue: Arc<Queue, Global>,
     pub(crate) pass: QueuePass,
     pub(crate) empty: bool,
+    /// By which the places of each station go back to it, in order of station.
+    pub(crate) returns: Vec<Return>,
+    /// How many places no station has.
+    pub(crate) left: usize,
 }
 
 impl Model for Taker {
-    ghost use Rattle.std.specs.Prelude.{◌≡◌, true};
+    ghost use Rattle.std.specs.Prelude.{◌≡◌, ◌≤◌, [], ◌∷◌, true, All, length};
     ghost use Rattle.std.specs.Arc.{arc_value};
-    ghost use Rattle.crossbeam_queue.specs.Passes.{view as known, IsPassOf};
+    ghost use Rattle.crossbeam_queue.specs.Passes.{view as known, IsPassOf, ruled_capacity};
     ghost use Rattle.station_queue.specs.Ends.{Taking, taking};
 
     ghost Value = { Taking };
 
     ghost view = { λ t. taking t.pass.table_id (known t.pass).made (known t.pass).taken (known t.pass).settled t.empty };
 
-    ghost invariant = { λ t. IsPassOf (arc_value t.queue) t.pass × ((known t.pass).takes ≡ true) };
+    ghost invariant = { λ t. IsPassOf (arc_value t.queue) t.pass × ((known t.pass).takes ≡ true) × (ruled_capacity (arc_value t.queue) ≡ 64)
+        × ((known t.pass).made ≡ length t.returns.items) × All (λ r. r ≡ t.pass.table_id ∷ []) t.returns.items × (t.left ≤ (known t.pass).places) };
 }
 
 impl Taker {
-    // A sender of the next station.
-    pub(crate) fn sender(&mut self, station: Station) -> Result<Sender, AllocError>
-        requires { station ≡ self.old.made + 1 }
+    // A sender of the next station, with so many places.
+    pub(crate) fn sender(
+        &mut self,
+        alloc: Global,
+        station: Station,
+        share: usize,
+    ) -> Result<Sender, AllocError>
+        requires station { station ≡ self.old.made + 1 }
+        requires share { 0 < share }
         ensures sender { IfOk result (λ s. s ≡ sending self.old.queue station []) }
         ensures made { OnOk result (self.new ≡ taking self.old.queue (self.old.made + 1) self.old.taken self.old.settled self.old.empty) }
     {
         let queue = Arc::try_clone(&self.queue)?;
+        let (mut returns, back) = open_returns(alloc, share, &queue)?;
+        fill(
+            &self.queue,
+            &mut self.pass,
+            &mut self.left,
+            &mut returns,
+            share,
+        );
+        let Ok(()) = self.returns.push(returns) else {
+            return Err(AllocError);
+        };
         let pass = self.queue.another::<NewSender>(&mut self.pass);
         Ok(Sender {
             queue,
             pass,
             station,
+            back,
         })
     }
 
-    /// Takes the oldest entry. `None` only where the queue was empty at one moment of the call.
+    /// Takes the oldest entry, and gives its place back to its station. `None` only where the queue was empty at one moment of the call.
     pub fn take<R: Wait>(&mut self, rt: &R) -> Option<Entry>
         ensures same { (self.new.queue ≡ self.old.queue) × (self.new.made ≡ self.old.made) × (self.new.settled ≡ self.old.settled) }
         ensures taken { MatchOption result ((self.new.taken ≡ self.old.taken) × (self.new.empty ≡ true))
@@ -57,7 +82,10 @@ impl Taker {
     {
         let found = self.queue.pop_as::<Takes, R>(rt, &mut self.pass);
         self.empty = found.is_none();
-        found
+        let entry = found?;
+        let station = usize::from(station_of(&entry).number());
+        give_one(&self.queue, &mut self.pass, &mut self.returns[station - 1]);
+        Some(entry)
     }
 
     /// Takes a sender of this queue back.
@@ -69,6 +97,7 @@ impl Taker {
             queue: _,
             pass,
             station: _,
+            back: _,
         } = sender;
         self.queue.absorb::<SenderBack>(&mut self.pass, pass);
     }
@@ -80,5 +109,49 @@ impl Taker {
         ensures total { (items : List Entry) × AreAllSent self.old.taken items self.old.settled }
     {
         self.queue.learn_as::<Total>(&mut self.pass);
+    }
+}
+
+// The station whose entry it is.
+fn station_of(entry: &Entry) -> Station
+    ensures { result ≡ station_of entry.now }
+{
+    match entry {
+        Entry::Submitted(request) => request.command.station,
+        Entry::Ended(station) => *station,
+    }
+}
+
+// Gives one of the taker's places away.
+fn give_one(queue: &Queue, pass: &mut QueuePass, returns: &mut Return)
+    requires pass { IsPassOf queue.now pass.old }
+    requires takes { (known pass.old).takes ≡ true }
+    requires some { 0 < (known pass.old).places }
+    requires returns { returns.old ≡ pass.old.table_id ∷ [] }
+    ensures pass { IsPassOf queue.now pass.new × (pass.new.table_id ≡ pass.old.table_id) }
+    ensures view { known pass.new ≡ taker (known pass.old).made (known pass.old).taken (known pass.old).settled ((known pass.old).places - 1) }
+    ensures returns { returns.new ≡ returns.old }
+{
+    let pass = queue.another::<OnePlace>(pass);
+    returns.give(Place { pass });
+}
+
+// Gives a station so many of the places that are left, or all of them.
+fn fill(queue: &Queue, pass: &mut QueuePass, left: &mut usize, returns: &mut Return, places: usize)
+    requires pass { IsPassOf queue.now pass.old }
+    requires takes { (known pass.old).takes ≡ true }
+    requires left { left.old ≤ (known pass.old).places }
+    requires returns { returns.old ≡ pass.old.table_id ∷ [] }
+    ensures pass { IsPassOf queue.now pass.new × (pass.new.table_id ≡ pass.old.table_id) }
+    ensures view { IsSameTaker (known pass.old) (known pass.new) }
+    ensures left { left.new ≤ (known pass.new).places }
+    ensures returns { returns.new ≡ returns.old }
+{
+    for _ in 0..places {
+        if *left == 0 {
+            return;
+        }
+        *left -= 1;
+        give_one(queue, pass, returns);
     }
 }

@@ -1,10 +1,10 @@
 -- What is known of a run of many stations, from what its parts say.
-use Rattle.std.proofs.Common.{◌≡◌, ◌⊎◌, inl, inr, ℕ, zero, suc, ◌+◌, ◌<◌, ◌≤◌, List, [], ◌∷◌, ◌++◌, length, refl, sym, ap, ◌∙◌, subst}
-use Rattle.std.specs.Prelude.{Any, Option, Some, map, slice_get, false, true}
+use Rattle.std.proofs.Common.{◌≡◌, ℕ, zero, suc, ◌+◌, ◌≤◌, List, [], ◌∷◌, ◌++◌, length, refl, sym, ap, ◌∙◌, subst}
+use Rattle.std.specs.Prelude.{Option, Some, map, slice_get, false, true}
 use Rattle.std.specs.declared.alloc.Global.{Global}
 use Rattle.std.specs.List.{AllZip}
 use Rattle.std.proofs.lemmas.List.{append-nil}
-use mathlib.Core.List.{IsPrefix, Sublist}
+use mathlib.Core.List.{Sublist}
 use Rattle.identity.specs.Numbers.{Byte}
 use Rattle.registration.specs.Numbers.{Station}
 use Rattle.sector_disk.specs.Disk.{HasFailed, View}
@@ -15,7 +15,7 @@ use Rattle.recovery.specs.Lives.{StoreView, IsStoredIn}
 use Rattle.station_queue.specs.Ends.{Sending}
 use Rattle.station_queue.specs.declared.entry.Entry.{Entry}
 use Rattle.station_queue.specs.declared.entry.Entry.TheVariants as entry
-use Rattle.flusher.specs.Closed.{AreSessionsOf, HasFinished, IsClosed}
+use Rattle.flusher.specs.Closed.{AreSessionsOf, HasFinished, HasSeenOf, IsClosed}
 use Rattle.flusher.specs.Borne.{AreBorneOut}
 use Rattle.flusher.specs.Opened.{AreNewSessions, IsNewFlusher}
 use Rattle.flusher.specs.Order.{of_station}
@@ -36,7 +36,8 @@ use Rattle.stations.specs.declared.port.Port.{Port}
 use Rattle.stations.specs.Done.{EndsAs, IsDone, IsRunOf}
 use Rattle.stations.specs.Flushed.{HasFlushed}
 use Rattle.stations.specs.Served.{Run, HasServed, IsBorneOut, new_view}
-use Rattle.stations.proofs.Places.{at_index, beside, map_length, mapped, one_only, zip_length, zip_mapped}
+use Rattle.stations.proofs.Lines.{lines_borne}
+use Rattle.stations.proofs.Places.{beside, map_length, mapped, one_only, zip_length, zip_mapped}
 
 -- its end is none of the commands that a session sent
 commands_before_end : (sent : List Entry) (station : Station) → commands_among (sent ++ entry.Ended station ∷ []) ≡ commands_among sent
@@ -53,11 +54,6 @@ stored_first {D} disk base opened n f whole new honest kept = record {
   where
     no : true ≡ false → ⊥
     no e = cc
-
--- what is left where the ends were taken
-pub where_taken : {A T C : Type 0} → T → ((T → ⊥) ⊎ C) → A ⊎ C
-where_taken taken (inl untaken) = absurd (untaken taken)
-where_taken taken (inr more) = inr more
 
 -- a new flusher has the store that it was opened with
 pub new_of_its_own : {D : Type 0} (n : ℕ) (opened : StoreView Global D) (f : FlusherView D) → IsNewFlusher n opened f → IsNewFlusher n f.store f
@@ -114,7 +110,7 @@ module _ {J I O : Type 0} (base : State) (unread : I → Option (List Byte)) (wr
         let a = beside first.senders sessions k j.session new.count here in
         let n = new.each k a.0 j.session a.1 here in (
           ap (λ (s : Sending). s.station) n.sender,
-          (λ i. record { sent = (ap (λ (s : Sending). s.sent) n.sender) i; received = n.channel.2 i; seen = n.viewer i }),
+          (λ i. record { sent = (ap (λ (s : Sending). s.sent) n.sender) i; received = n.channel.2 i; seen = n.viewer i; reached = length (n.viewer i) }),
         )
 
     -- what each run gave
@@ -134,7 +130,7 @@ module _ {J I O : Type 0} (base : State) (unread : I → Option (List Byte)) (wr
 
     -- what is known of each session, by what is known of its end
     pub each_borne : IsClosed base last (map (λ (d : Done J O). d.ended) done) → AreSessionsOf last (map (λ (d : Done J O). d.ended) done) →
-        (k : ℕ) (view : SessionView) → slice_get (views_of jobs done all) k ≡ Some view → IsBorneOut base last.durable (k + 1) view
+        (k : ℕ) (view : SessionView) → slice_get (views_of jobs done all) k ≡ Some view → IsBorneOut J base last.published last.durable (k + 1) view
     each_borne closed are k view at_view =
         let j = beside jobs (views_of jobs done all) k view (views_length jobs done all) at_view in
         let d = beside done jobs k j.0 (sym (zip_length IsOf jobs done all)) j.1 in
@@ -144,31 +140,19 @@ module _ {J I O : Type 0} (base : State) (unread : I → Option (List Byte)) (wr
         let a = beside last.senders (map (λ (x : Done J O). x.ended) done) k d.0.ended are.count there in
         let c = closed.each k a.0 d.0.ended a.1 there in
         let station = ap (λ (s : Sending). s.station) e.sender ∙ n.0 in
+        let answers = subst (λ (l : List Sent). AreBorneOut base last.durable 0 l) e.received c.borne_out in
         let sent = ap (λ (s : Sending). commands_among s.sent) e.sender ∙ commands_before_end view.sent j.0.session.sender.station in
         record {
-          seen = subst (λ l. IsPrefix l last.durable) e.seen c.seen;
-          answers = subst (λ (l : List Sent). AreBorneOut base last.durable 0 l) e.received c.borne_out;
+          answers = answers;
+          lines = λ texts given by. lines_borne J base last.durable (k + 1) view texts given by answers;
           order = subst (λ (q : Station × List (Asked Global)). Sublist (of_station q.0 last.durable) q.1) (λ i. (station i, sent i)) c.order;
+          seen = subst (λ l. HasSeenOf last.published last.durable l) e.seen c.seen;
         }
-
-    -- a session that has seen more
-    pub more_seen : Any (λ (e : Ended J). length last.published < length e.viewer) (map (λ (d : Done J O). d.ended) done) →
-        (k : ℕ) × (view : SessionView) × (slice_get (views_of jobs done all) k ≡ Some view) × (length last.published < length view.seen)
-    more_seen any =
-        let k = any.0 in
-        let there = at_index (map (λ (x : Done J O). x.ended) done) k any.1 any.2 any.3 in
-        let d = beside done (map (λ (x : Done J O). x.ended) done) k any.1 (map_length (λ (x : Done J O). x.ended) done) there in
-        let same = one_only (map (λ (x : Done J O). x.ended) done) k any.1 d.0.ended there (mapped (λ (x : Done J O). x.ended) done k d.0 d.1) in
-        let v = beside (views_of jobs done all) done k d.0 (zip_length IsOf jobs done all ∙ sym (views_length jobs done all)) d.1 in
-        let j = beside jobs done k d.0 (zip_length IsOf jobs done all) d.1 in
-        let e = ends_at jobs done all k j.0 v.0 d.0 j.1 v.1 d.1 in
-        (k, v.0, v.1, subst (λ n. length last.published < n) (ap (λ (x : Ended J). length x.viewer) same ∙ ap length e.seen) any.4)
 
     -- all of it
     pub has_served : (disk : D → View) (opened store : StoreView Global D) (n : ℕ) → opened.broken ≡ false → n ≡ length ports → IsNewFlusher n opened first → HasFlushed disk base first last → store ≡ last.store →
         (ended : List (Ended J)) (runs : List (Run O)) → ended ≡ map (λ (d : Done J O). d.ended) done → runs ≡ map given_of done →
-        (IsClosed base last ended ⊎ Any (λ (e : Ended J). length last.published < length e.viewer) ended) →
-        HasServed disk J base unread written opened ports store runs
+        IsClosed base last ended → HasServed disk J base unread written opened ports store runs
     has_served disk opened store n whole count begun flushed store_is ended runs is_ended is_runs closed =
         let jobs_length : length jobs ≡ length ports = sym (map_length (λ (x : Job J I O). x.port) jobs) ∙ ap length with_ports in
         let sound_first : first.store.broken ≡ false = ap (λ (s : StoreView Global D). s.broken) begun.store ∙ whole in
@@ -184,20 +168,15 @@ module _ {J I O : Type 0} (base : State) (unread : I → Option (List Byte)) (wr
           stored = λ honest kept. flushed.stored (stored_first disk base opened n first whole begun honest kept);
           any_moment = λ honest kept. at_ends (λ s t. LeavesOnly (disk s.disk) (disk t.disk) (OpensBetween base first last))
               (flushed.any_moment (stored_first disk base opened n first whole begun honest kept) sound_first);
+          lasting = λ honest kept. flushed.lasting (stored_first disk base opened n first whole begun honest kept);
           later = at_ends (λ s t. (disk s.disk).failures ≤ (disk t.disk).failures) flushed.later;
           failed = λ broken. at_ends (λ s t. HasFailed (disk s.disk) (disk t.disk)) (flushed.failed sound_first (sym (ap (λ (s : StoreView Global D). s.broken) store_is) ∙ broken));
           views = views_of jobs done all;
           count = (runs_length, views_length jobs done all ∙ jobs_length);
           each = λ k port run view at_port at_run at_view. each_run k port run view at_port (subst (λ (l : List (Run O)). slice_get l k ≡ Some run) is_runs at_run) at_view;
-          closed = either ended is_ended closed;
+          closed = each_borne (subst (λ l. IsClosed base last l) is_ended closed) (sessions_ended flushed.same);
         }
       where
         -- what is known of the stores of the first and the last flusher is known of these two
         at_ends : (P : StoreView Global D → StoreView Global D → Type 0) → P first.store last.store → P opened store
         at_ends P h = subst (λ t. P opened t) (sym store_is) (subst (λ s. P s last.store) begun.store h)
-
-        either : (ended : List (Ended J)) → ended ≡ map (λ (d : Done J O). d.ended) done → (IsClosed base last ended ⊎ Any (λ (e : Ended J). length last.published < length e.viewer) ended) →
-            ((k : ℕ) (view : SessionView) → slice_get (views_of jobs done all) k ≡ Some view → IsBorneOut base last.durable (k + 1) view)
-            ⊎ ((k : ℕ) × (view : SessionView) × (slice_get (views_of jobs done all) k ≡ Some view) × (length last.published < length view.seen))
-        either ended is (inl closed) = inl (each_borne (subst (λ l. IsClosed base last l) is closed) (sessions_ended flushed.same))
-        either ended is (inr any) = inr (more_seen (subst (λ l. Any (λ (e : Ended J). length last.published < length e.viewer) l) is any))

@@ -3,6 +3,7 @@ use Rattle.std.specs.Prelude.{◌≡◌, ◌≤◌, true, false}
 use Rattle.sector_disk.specs.Disk.{HasFailed, View}
 use Rattle.sector_disk.specs.Run.{LeavesOnly}
 use Rattle.centre_core.specs.State.{State}
+use Rattle.flusher.specs.Lasting.{AreLasting}
 use Rattle.flusher.specs.Runs.{AreRounds, HasSameEnds, HasTakenEnds}
 use Rattle.flusher.specs.Served.{IsSettled}
 use Rattle.flusher.specs.Stored.{IsStoredFor, OpensBetween}
@@ -19,6 +20,8 @@ pub record HasFlushed {D : Type 0} (disk : D → View) (base : State) (first las
   pub stored : IsStoredFor disk base first → IsStoredFor disk base last
   pub any_moment : IsStoredFor disk base first → first.store.broken ≡ false
       → LeavesOnly (disk first.store.disk) (disk last.store.disk) (OpensBetween base first last)
+  -- after the end of a round it opens to no less than was durable then
+  pub lasting : IsStoredFor disk base first → AreLasting disk base first last
   -- only a failure of the disk breaks the store
   pub later : (disk first.store.disk).failures ≤ (disk last.store.disk).failures
   pub failed : first.store.broken ≡ false → last.store.broken ≡ true → HasFailed (disk first.store.disk) (disk last.store.disk)

@@ -3,4 +3,5 @@ pub mod GoesOn
 pub mod OneRun
 pub mod Done
 pub mod Flushed
+pub mod Lines
 pub mod Served

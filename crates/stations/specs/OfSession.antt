@@ -1,5 +1,5 @@
 -- A session as a desk.
-use Rattle.std.specs.Prelude.{◌≡◌, ◌⊎◌, List, Result, Ok, Err}
+use Rattle.std.specs.Prelude.{◌≡◌, ◌⊎◌, List, Result, Ok, Err, length}
 use Rattle.std.specs.declared.alloc.Global.{Global}
 use mathlib.Core.List.{IsPrefix}
 use Rattle.registration.specs.Numbers.{Station}
@@ -19,10 +19,10 @@ use Rattle.desk.specs.Rules.{Rules}
 use Rattle.flusher.specs.declared.answer.Answer.{Answer}
 use Rattle.flusher.specs.declared.answer.Answer.TheVariants as answer
 use Rattle.flusher.specs.declared.session.Session.{Session}
-use Rattle.flusher.specs.Submitted.{SessionView, HasPut, HasReceived, BearsOutAnswer}
+use Rattle.flusher.specs.Submitted.{SessionView, IsSubmission}
 use Rattle.flusher.specs.Sessions.{view_of}
 
--- what a session as a desk is modelled as: its station, and what it sent, received and has seen
+-- what a session as a desk is modelled as: its station, and what it sent, received, has seen and has reached
 pub record AtSession : Type 0 where
   pub station : Station
   pub view : SessionView
@@ -52,15 +52,11 @@ module _ {J : Type 0} where
   result_of (answer.Fault f) = Err (word_of f)
   result_of answer.Closed = Err Closed
 
--- The command was submitted, and its answer gives this result. It is said what was put into the queue, what was received, and what the
--- answer says of the lists that were seen before and are seen now. What was seen stays seen.
+-- the command was submitted, and its answer gives this result
 pub record IsSubmitted (J : Type 0) (base : State) (s : AtSession) (c : Asked Global) (result : Result (Reply Global) Outage) (t : AtSession) : Type 0 where
   pub answer : Answer J
   pub result_is : result ≡ result_of answer
-  pub put : HasPut c s.view t.view answer
-  pub received : HasReceived base c s.view t.view answer
-  pub borne_out : BearsOutAnswer base c s.view.seen t.view.seen answer
-  pub seen : IsPrefix s.view.seen t.view.seen
+  pub submission : IsSubmission base c s.view t.view answer
 
 -- a command of another station: it is not submitted, and nothing changes
 abbrev pub IsOfAnother : AtSession → Asked Global → Result (Reply Global) Outage → AtSession → Type 0
@@ -91,15 +87,18 @@ module _ (J : Type 0) (base : State) where
   abbrev pub Applies : AtSession → Asked Global → Result (Reply Global) Outage → AtSession → Type 0
   Applies s c result t = (t.station ≡ s.station) × (((c.station ≡ s.station) × IsSubmitted J base s c result t) ⊎ IsOfAnother s c result t)
 
-  -- a query is answered; nothing is sent or received
-  abbrev pub Answers : AtSession → Query → Result (QueryAnswer Global) Outage → AtSession → Type 0
-  Answers s q result t =
-      (t.station ≡ s.station) × (t.view.sent ≡ s.view.sent) × (t.view.received ≡ s.view.received) × AnswersAfter base s.view.seen q result t.view.seen
+  -- nothing is sent or received, and all that is seen is reached
+  abbrev pub OnlyReads : AtSession → AtSession → Type 0
+  OnlyReads s t =
+      (t.station ≡ s.station) × (t.view.sent ≡ s.view.sent) × (t.view.received ≡ s.view.received) × (t.view.reached ≡ length t.view.seen)
 
-  -- a register is read for a listing; nothing is sent or received
+  -- a query is answered
+  abbrev pub Answers : AtSession → Query → Result (QueryAnswer Global) Outage → AtSession → Type 0
+  Answers s q result t = OnlyReads s t × AnswersAfter base s.view.seen q result t.view.seen
+
+  -- a register is read for a listing
   abbrev pub Reads : AtSession → Result State Outage → AtSession → Type 0
-  Reads s result t =
-      (t.station ≡ s.station) × (t.view.sent ≡ s.view.sent) × (t.view.received ≡ s.view.received) × ReadsAfter base s.view.seen result t.view.seen
+  Reads s result t = OnlyReads s t × ReadsAfter base s.view.seen result t.view.seen
 
   -- the rules of a session with a centre that was opened over this register
   abbrev pub of_session : Rules Global AtSession

@@ -1,7 +1,7 @@
 -- What a run of many stations does.
-use Rattle.std.specs.Prelude.{◌≡◌, ◌⊎◌, ◌+◌, ◌<◌, ◌≤◌, ℕ, List, [], length, Option, Result, slice_get, Some, true}
+use Rattle.std.specs.Prelude.{◌≡◌, ◌+◌, ◌≤◌, ℕ, List, [], length, Option, Result, slice_get, Some, true}
 use Rattle.std.specs.declared.alloc.Global.{Global}
-use mathlib.Core.List.{IsPrefix, Sublist}
+use mathlib.Core.List.{Sublist}
 use Rattle.identity.specs.Numbers.{Byte}
 use Rattle.registration.specs.Numbers.{Station}
 use Rattle.sector_disk.specs.Disk.{HasFailed, View}
@@ -9,11 +9,15 @@ use Rattle.sector_disk.specs.Run.{LeavesOnly}
 use Rattle.centre_core.specs.Asked.{Asked}
 use Rattle.centre_core.specs.State.{State}
 use Rattle.recovery.specs.Lives.{StoreView, IsStoredIn}
+use Rattle.console.specs.Dialogue.{Dialogue}
+use Rattle.console.specs.declared.answer.Answer.{Answer}
 use Rattle.console.specs.declared.running.Ran.{Ran}
 use Rattle.console.specs.declared.running.RunFault.{RunFault}
 use Rattle.flusher.specs.Borne.{AreBorneOut}
+use Rattle.flusher.specs.Closed.{HasSeenOf}
 use Rattle.flusher.specs.Opened.{IsNewFlusher}
 use Rattle.flusher.specs.Order.{of_station}
+use Rattle.flusher.specs.Lasting.{AreLasting}
 use Rattle.flusher.specs.Runs.{AreRounds, HasTakenEnds}
 use Rattle.flusher.specs.Served.{IsSettled}
 use Rattle.flusher.specs.Shared.{commands_among}
@@ -21,23 +25,29 @@ use Rattle.flusher.specs.Stored.{IsStoredFor, OpensBetween}
 use Rattle.flusher.specs.Submitted.{SessionView}
 use Rattle.flusher.specs.View.{FlusherView}
 use Rattle.stations.specs.Done.{IsRunOf}
+use Rattle.stations.specs.Lines.{AreLinesBorneOut}
+use Rattle.stations.specs.OfSession.{of_session}
 use Rattle.stations.specs.declared.port.Port.{Port}
 
 -- what the run of a station gives: the writer of its port, and how it ended
 abbrev pub Run : Type 0 → Type 0
 Run O = O × Result Ran RunFault
 
--- a session that has sent, received and seen nothing
+-- a session that has sent, received, seen and reached nothing
 abbrev pub new_view : SessionView
-new_view = record { sent = []; received = []; seen = [] }
+new_view = record { sent = []; received = []; seen = []; reached = 0 }
 
--- What the session of a station has to do with the commands that are durable in the end. What it has seen is a prefix of them. Each
--- answer that it received is borne out by a prefix of them, and no such prefix is shorter than the one before it. Those of its own
--- station are some of those that it sent, in the same order.
-pub record IsBorneOut (base : State) (durable : List (Asked Global)) (station : Station) (view : SessionView) : Type 0 where
-  pub seen : IsPrefix view.seen durable
+-- What the session of a station has to do with the commands that are durable in the end. Each answer that it received is borne out by a
+-- prefix of them, and no such prefix is shorter than the one before it. So is the answer to each command in its lines, however they were
+-- answered to come to this session. Those of its own station are some of those that it sent, in the same order. What it has seen is a
+-- prefix of them; only this has a way out.
+pub record IsBorneOut (J : Type 0) (base : State) (published durable : List (Asked Global)) (station : Station) (view : SessionView) : Type 0 where
   pub answers : AreBorneOut base durable 0 view.received
+  pub lines : (texts : List (List Byte)) (given : List (Answer Global))
+      → Dialogue (of_session J base) station 0 (record { station = station; view = new_view }) texts given (record { station = station; view = view })
+      → AreLinesBorneOut base durable station 0 texts given
   pub order : Sublist (of_station station durable) (commands_among view.sent)
+  pub seen : HasSeenOf published durable view.seen
 
 -- Stations 1, 2 and so on were served over a store that was opened, each with its port. This store and these runs came of it.
 pub record HasServed {D I O : Type 0} (disk : D → View) (J : Type 0) (base : State) (unread : I → Option (List Byte)) (written : O → Option (List Byte))
@@ -57,6 +67,8 @@ pub record HasServed {D I O : Type 0} (disk : D → View) (J : Type 0) (base : S
   -- after a stop at any moment of the run the disk opens to what was durable at some moment of it
   pub any_moment : (disk opened.disk).honest → IsStoredIn Global disk opened
       → LeavesOnly (disk opened.disk) (disk store.disk) (OpensBetween base first last)
+  -- after the end of a round it opens to no less than was durable then: so it has all that was answered `ok` or `kept` before
+  pub lasting : (disk opened.disk).honest → IsStoredIn Global disk opened → AreLasting disk base first last
   -- only a failure of the disk breaks the store
   pub later : (disk opened.disk).failures ≤ (disk store.disk).failures
   pub failed : store.broken ≡ true → HasFailed (disk opened.disk) (disk store.disk)
@@ -66,6 +78,5 @@ pub record HasServed {D I O : Type 0} (disk : D → View) (J : Type 0) (base : S
   pub each : (k : ℕ) (port : Port I O) (run : Run O) (view : SessionView)
       → slice_get ports k ≡ Some port → slice_get runs k ≡ Some run → slice_get views k ≡ Some view
       → IsRunOf J base (k + 1) (unread port.reader) (written port.writer) new_view view (written run.0) run.1
-  -- each session is borne out by what is durable; or one has seen more commands than are published, which never happens
-  pub closed : ((k : ℕ) (view : SessionView) → slice_get views k ≡ Some view → IsBorneOut base last.durable (k + 1) view)
-      ⊎ ((k : ℕ) × (view : SessionView) × (slice_get views k ≡ Some view) × (length last.published < length view.seen))
+  -- each session is borne out by what is durable
+  pub closed : (k : ℕ) (view : SessionView) → slice_get views k ≡ Some view → IsBorneOut J base last.published last.durable (k + 1) view

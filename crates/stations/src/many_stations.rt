@@ -1,5 +1,5 @@
 //! Many stations over one store.
-ghost use Rattle.std.specs.Prelude.{◌≡◌, ◌⊎◌, ◌<◌, ◌≤◌, [], true, false, cond, Any, IfErr, IfOk, length, map, vec_capacity, vec_len};
+ghost use Rattle.std.specs.Prelude.{◌≡◌, ◌≤◌, [], true, false, cond, IfErr, IfOk, length, map, vec_capacity, vec_len};
 ghost use Rattle.recovery.specs.Lives.{view_of as store_view};
 ghost use Rattle.flusher.specs.declared.opening.CentreFault.TheVariants.{NoMemory, NoPlace};
 ghost use Rattle.flusher.specs.Closed.{AreSessionsOf, IsClosed};
@@ -141,8 +141,7 @@ fn split_done<J: Centre, O: Drop>(
     (ended, runs)
 }
 
-// Closes the centre of a flusher that has taken the end of each session, and returns its store. If that is refused, because a session
-// has seen more commands than are published, the flusher is abandoned.
+// Closes the centre of a flusher that has taken the end of each session, and returns its store.
 fn store_of<J: Centre, D: Disk, R: Wait>(
     rt: &R,
     flusher: Flusher<J, D>,
@@ -152,7 +151,7 @@ fn store_of<J: Centre, D: Disk, R: Wait>(
     requires sessions { AreSessionsOf (view_of flusher) ended.items }
     requires ended { HasTakenEnds (view_of flusher) }
     ensures store { store_view result ≡ (view_of flusher).store }
-    ensures closed { IsClosed J.base (view_of flusher) ended.items ⊎ Any (λ end. length (view_of flusher).published < length end.viewer) ended.items }
+    ensures closed { IsClosed J.base (view_of flusher) ended.items }
 {
     match close(rt, flusher, ended) {
         Ok(store) => store,

@@ -30,8 +30,8 @@ pub struct Serving<'r, 'w, R, V> {
     pub turns: u32,
 }
 
-/// Answers the lines of a station by its session, as [`run_counted`] does: each line before the next is read. The session comes
-/// back, of the same station, on the same queue and channel.
+/// Answers the lines of a station by its session, as [`run_counted`] does. The session comes back, of the same station, on the same
+/// queue and channel.
 pub fn run_session<
     J: Centre,
     R: Wait,

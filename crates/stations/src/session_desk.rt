@@ -1,9 +1,11 @@
 //! A station's session as a desk.
-ghost use Rattle.std.specs.Prelude.{◌≡◌, ◌≤◌, IfErr, IfOk, OnErr, OnOk, vec_capacity, vec_len};
+ghost use Rattle.std.specs.Prelude.{◌≡◌, ◌≤◌, ◌+◌, ◌++◌, [], All, IfErr, IfOk, IfSome, IsTrue, OnErr, OnOk, length, map, vec_capacity, vec_len};
 ghost use mathlib.Core.List.{IsPrefix};
 ghost use Rattle.desk.specs.Listed.{IsListed, IsUnlisted};
 ghost use Rattle.desk.specs.Replies.{HasShortPdu};
+ghost use Rattle.desk.specs.Rules.{AreApplied};
 ghost use Rattle.flusher.specs.Sessions.{IsSameSession};
+ghost use Rattle.flusher.specs.Submitted.{HasShortAnswer};
 ghost use Rattle.stations.specs.OfSession.{AtSession, Applies, Answers, at_session, of_session, result_of, word_of};
 
 use crate::listing::list;
@@ -13,6 +15,7 @@ use desk::{Desk, Outage};
 use flusher::{Answer, Session};
 use listings::Listing;
 use recovery::StoreFault;
+use registration::Station;
 use snapshots::{Centre, ReadFault};
 use std::alloc::Global;
 use std::marker::{Brand, Model, PhantomData};
@@ -130,6 +133,99 @@ fn submit<J: Centre, R: Wait>(
     }
 }
 
+// Whether all of these commands are of this station.
+fn are_of(station: Station, commands: &[Command<Global>]) -> bool
+    ensures { IsTrue result → All (λ c. c.station ≡ station) commands.now }
+{
+    for k in 0..commands.len() {
+        let command: &Command<Global> = &commands[k];
+        if command.station != station {
+            return false;
+        }
+    }
+    true
+}
+
+// Room for the answers to commands of this station. `None` if memory runs out, or one is of another station.
+fn room_for<J: Centre>(
+    alloc: Global,
+    station: Station,
+    commands: &[Command<Global>],
+) -> Option<Vec<Answer<J>>>
+    ensures station { IfSome result (λ answers. All (λ c. c.station ≡ station) commands.now) }
+    ensures room { IfSome result (λ answers. length commands.now ≤ vec_capacity answers) }
+{
+    if !are_of(station, commands) {
+        return None;
+    }
+    match Vec::with_capacity(alloc, commands.len()) {
+        Ok(answers) => Some(answers),
+        Err(_) => None,
+    }
+}
+
+// The replies in these answers, or the outage words in their place.
+fn put_results<J: Centre>(answers: Vec<Answer<J>>, replies: &mut Vec<Result<Reply<Global>, Outage>>)
+    requires none { replies.old.items ≡ [] }
+    requires room { length answers.items ≤ vec_capacity replies.old }
+    requires short { All HasShortAnswer answers.items }
+    ensures added { replies.new.items ≡ map result_of answers.items }
+    ensures short { All (λ reply. IfOk reply HasShortPdu) replies.new.items }
+    ensures room { vec_capacity replies.new ≡ vec_capacity replies.old }
+{
+    for answer in answers {
+        replies.push_reserved(result_of(answer));
+    }
+}
+
+// Submits copies of commands one at a time.
+fn submit_each<J: Centre, R: Wait>(
+    rt: &R,
+    session: &mut Session<J>,
+    alloc: Global,
+    commands: &[Command<Global>],
+    replies: &mut Vec<Result<Reply<Global>, Outage>>,
+)
+    requires none { replies.old.items ≡ [] }
+    requires room { length commands.now ≤ vec_capacity replies.old }
+    ensures applies { AreApplied (of_session J J.base) (at_session session.old) commands.now replies.new.items (at_session session.new) }
+    ensures short { All (λ reply. IfOk reply HasShortPdu) replies.new.items }
+    ensures room { vec_capacity replies.new ≡ vec_capacity replies.old }
+    ensures same { IsSameSession session.old session.new }
+    ensures seen { IsPrefix session.old.viewer session.new.viewer }
+{
+    for k in 0..commands.len() {
+        let reply = submit(rt, session, alloc, &commands[k]);
+        replies.push_reserved(reply);
+    }
+}
+
+// Submits copies of commands together. If there is no memory for all answers, or one command is of another station, they are
+// submitted one at a time.
+fn submit_all<J: Centre, R: Wait>(
+    rt: &R,
+    session: &mut Session<J>,
+    alloc: Global,
+    commands: &[Command<Global>],
+    replies: &mut Vec<Result<Reply<Global>, Outage>>,
+)
+    requires few { length commands.now ≤ session.old.share }
+    requires room { length commands.now ≤ vec_capacity replies.old }
+    ensures applies { AreApplied (of_session J J.base) (at_session session.old) commands.now replies.new.items (at_session session.new) }
+    ensures short { All (λ reply. IfOk reply HasShortPdu) replies.new.items }
+    ensures room { vec_capacity replies.new ≡ vec_capacity replies.old }
+    ensures same { IsSameSession session.old session.new }
+    ensures seen { IsPrefix session.old.viewer session.new.viewer }
+{
+    replies.clear();
+    let Some(mut answers) = room_for(alloc, session.station(), commands) else {
+        submit_each(rt, session, alloc, commands, replies);
+        return;
+    };
+    session.submit_all(rt, commands, &mut answers);
+    put_results(answers, replies);
+}
+
 // Reads what the register answers.
 fn read<J: Centre>(
     session: &mut Session<J>,
@@ -155,6 +251,12 @@ impl<'r, 'w, K: Began, J: Centre, R: Wait, V: Watch> Desk<Global>
 
     ghost rules = { of_session J J.base };
 
+    ghost most = { λ session. session.share };
+
+    fn most_together(&self) -> usize {
+        self.session.share()
+    }
+
     fn apply(&mut self, alloc: Global, command: &Command<Global>) -> Result<Reply<Global>, Outage> {
         let station = self.session.station();
         self.watch.before_entry(station);
@@ -163,6 +265,22 @@ impl<'r, 'w, K: Began, J: Centre, R: Wait, V: Watch> Desk<Global>
         let accepted = matches!(&replied, Ok(reply) if reply.is_acceptance());
         self.watch.answered(station, accepted);
         replied
+    }
+
+    fn apply_all(
+        &mut self,
+        alloc: Global,
+        commands: &[Command<Global>],
+        replies: &mut Vec<Result<Reply<Global>, Outage>>,
+    ) {
+        let station = self.session.station();
+        self.watch.before_entry(station);
+        submit_all(self.rt, &mut self.session, alloc, commands, replies);
+        self.watch.after_entry(station);
+        for k in 0..replies.len() {
+            let accepted = matches!(&replies[k], Ok(reply) if reply.is_acceptance());
+            self.watch.answered(station, accepted);
+        }
     }
 
     fn query(&mut self, alloc: Global, query: &Query) -> Result<QueryAnswer<Global>, Outage> {

@@ -59,7 +59,7 @@ impl<'r, R: Wait, J: Centre, D: Disk + Drop> Held<'r, R, J, D> {
 }
 
 // Begins a station in a thread of its own. If none can be made, its session is ended here, before its first line. That never
-// waits for a place in the queue, which has a place for each session, and at most one entry of each.
+// waits: the session still has all its places in the queue.
 fn begin<
     's,
     E,

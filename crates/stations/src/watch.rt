@@ -9,11 +9,11 @@ use registration::Station;
 /// Each call is made in the station's thread. If no thread could be made for the station, `ended` and the calls for the end of its
 /// session are made in the thread of the run, before its first round.
 pub trait Watch: Gate {
-    /// An entry of this station is about to be put into the queue: a command, or the end of its session. A command that is out of
-    /// memory is not put.
+    /// Entries of this station are about to be put into the queue: commands that came together, or the end of its session. A command
+    /// that is out of memory is not put.
     fn before_entry(&self, station: Station);
 
-    /// The entry was put into the queue, and answered if it is a command.
+    /// The entries were put into the queue, and all commands among them are answered.
     fn after_entry(&self, station: Station);
 
     /// A command, query or listing of this station was answered. `is_accepted`: the answer accepted a command.

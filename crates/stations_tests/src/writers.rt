@@ -1,5 +1,6 @@
-//! Two stations with writers of their own. The first one's writer fails at its second answer.
-ghost use Rattle.std.specs.Prelude.{◌≡◌, false};
+//! Two stations with writers of their own. The first one's writer fails at its second answer, or at the answers to lines that came
+//! together.
+ghost use Rattle.std.specs.Prelude.{◌≡◌, ◌≤◌, false, length};
 
 use crate::stores::new_store;
 use console::{Ran, RunFault};
@@ -11,17 +12,51 @@ use snapshots::{Centre, NewLog};
 use stations::{Many, ManyTerms, Port, Watch, run_many};
 use std::alloc::Global;
 use std::io;
-use std::io::{ErrorKind, Write};
+use std::io::{ErrorKind, Read, Write};
 use std::marker::Brand;
 use std::sync::Wait;
 use std::sync::atomic::{AtomicU64, Ordering};
 use std::test::*;
 use std::thread::Threads;
 
-// Station 1 has the sequence 1 already. Its third command isn't read.
+// Station 1 has the sequence 1 already.
 const FIRST: &[u8] = b"2 10 expire\n3 10 expire\n4 10 expire\n";
 
 const SECOND: &[u8] = b"1 10 expire\n2 10 expire\n";
+
+// Gives its lines one a call, or all at once.
+#[derive(Drop)]
+struct Lines<'a> {
+    rest: &'a [u8],
+    are_apart: bool,
+}
+
+// How many bytes the next call gives.
+fn next_of(text: &[u8], are_apart: bool) -> usize
+    ensures { result ≤ length text.now }
+{
+    if !are_apart {
+        return text.len();
+    }
+    match text.iter().position(|byte| *byte == b'\n') {
+        Some(end) if end < text.len() => end + 1,
+        _ => text.len(),
+    }
+}
+
+impl<'a> Read for Lines<'a> {
+    fn read(&mut self, buf: &mut [u8]) -> io::Result<usize> {
+        let text = self.rest;
+        let count = next_of(text, self.are_apart);
+        if buf.len() < count {
+            return Ok(0);
+        }
+        let (given, rest) = text.split_at(count);
+        buf[..count].copy_from_slice(given);
+        self.rest = rest;
+        Ok(count)
+    }
+}
 
 // Keeps what is written, and fails once it has taken this many writes.
 #[derive(Drop)]
@@ -101,11 +136,19 @@ impl Watch for Shown {
     }
 }
 
-// The runs of two stations. The first one's writer takes one write.
+// How the first station is served: whether its lines come apart, and how many writes its writer takes.
+#[derive(Clone, Copy)]
+struct First {
+    are_apart: bool,
+    writes: u32,
+}
+
+// The runs of two stations. All lines of the second come together.
 fn both<J: Centre + Send + Sync, R: Threads + Wait + Sync>(
     rt: &R,
     terms: ManyTerms,
     store: Store<Global, WatchedDisk>,
+    first: First,
     shown: &Shown,
 ) -> Option<Many<WatchedDisk, Failing>>
     requires sound { store.broken ≡ false }
@@ -114,14 +157,20 @@ fn both<J: Centre + Send + Sync, R: Threads + Wait + Sync>(
     let alloc = terms.alloc;
     let ports = vec![in alloc;
         Port {
-            reader: FIRST,
+            reader: Lines {
+                rest: FIRST,
+                are_apart: first.are_apart
+            },
             writer: Failing {
                 text: Vec::new(alloc),
-                left: 1
+                left: first.writes
             },
         },
         Port {
-            reader: SECOND,
+            reader: Lines {
+                rest: SECOND,
+                are_apart: false
+            },
             writer: Failing {
                 text: Vec::new(alloc),
                 left: 9
@@ -129,7 +178,7 @@ fn both<J: Centre + Send + Sync, R: Threads + Wait + Sync>(
         },
     ]
     .ok()?;
-    match run_many::<J, WatchedDisk, R, &[u8], Failing, Shown>(rt, terms, store, ports, shown) {
+    match run_many::<J, WatchedDisk, R, Lines, Failing, Shown>(rt, terms, store, ports, shown) {
         Ok(many) => Some(many),
         Err(fault) => {
             drop(fault);
@@ -142,6 +191,7 @@ fn both<J: Centre + Send + Sync, R: Threads + Wait + Sync>(
 fn served<R: Threads + Wait + Sync>(
     rt: &R,
     alloc: Global,
+    first: First,
     shown: &Shown,
 ) -> Option<Many<WatchedDisk, Failing>> {
     let store = new_store(alloc)?;
@@ -150,7 +200,7 @@ fn served<R: Threads + Wait + Sync>(
         turns: 1_000,
         log: NewLog::new(),
     };
-    both::<Brand, R>(rt, terms, store, shown)
+    both::<Brand, R>(rt, terms, store, first, shown)
 }
 
 // Whether a run ended with this result, after answers of this many bytes with this beginning.
@@ -168,8 +218,9 @@ fn is_run(
     }
 }
 
-// How many commands the register of both has accepted. The numbers in their answers depend on which of them was first.
-fn accepted(many: &Many<WatchedDisk, Failing>) -> Option<u64> {
+// How many commands the register of both has accepted, if the first one's answers have this many bytes with this beginning. The
+// numbers in their answers depend on which of them was first.
+fn accepted(many: &Many<WatchedDisk, Failing>, answered: (&[u8], usize)) -> Option<u64> {
     let register = many.store.register()?;
     let runs = many.runs.as_slice();
     let whole = Ok(Ran {
@@ -177,12 +228,18 @@ fn accepted(many: &Many<WatchedDisk, Failing>) -> Option<u64> {
         troubled: false,
     });
     let good = runs.len() == 2
-        && is_run(runs.first(), (b"2 ok ", 9), Err(RunFault::Write))
+        && is_run(runs.first(), answered, Err(RunFault::Write))
         && is_run(runs.get(1), (b"1 ok ", 18), whole);
     if good { Some(register.count()) } else { None }
 }
 
-fn written_apart<R: Threads + Wait + Sync>(rt: &R, alloc: Global) -> Option<(u64, u64, u64)> {
+// How many commands were accepted, and the calls of both stations.
+fn written<R: Threads + Wait + Sync>(
+    rt: &R,
+    alloc: Global,
+    first: First,
+    answered: (&[u8], usize),
+) -> Option<(u64, u64, u64)> {
     let shown = Shown {
         first: Calls {
             digits: AtomicU64::new(0),
@@ -191,19 +248,36 @@ fn written_apart<R: Threads + Wait + Sync>(rt: &R, alloc: Global) -> Option<(u64
             digits: AtomicU64::new(0),
         },
     };
-    let many = served(rt, alloc, &shown)?;
-    let count = accepted(&many);
+    let many = served(rt, alloc, first, &shown)?;
+    let count = accepted(&many, answered);
     drop(many);
     let first = shown.first.digits.load(Ordering::SeqCst);
     let second = shown.second.digits.load(Ordering::SeqCst);
     Some((count?, first, second))
 }
 
-// The second command of station 1 is accepted, though its answer can't be written.
+// The second command of station 1 is accepted, though its answer can't be written. The third one isn't read.
 #[test]
 fn a_writer_that_fails_ends_its_station_alone(rt: HostRuntime) {
+    let first = First {
+        are_apart: true,
+        writes: 1,
+    };
     assert_eq!(rt;
-        written_apart(&rt, rt.alloc()),
-        Some((5, 123_123_412, 123_123_412))
+        written(&rt, rt.alloc(), first, (b"2 ok ", 9)),
+        Some((5, 123_123_412, 1_233_412))
+    );
+}
+
+// All commands of a call of its reader are accepted, though no answer can be written.
+#[test]
+fn a_writer_that_fails_leaves_lines_done_that_came_together(rt: HostRuntime) {
+    let first = First {
+        are_apart: false,
+        writes: 0,
+    };
+    assert_eq!(rt;
+        written(&rt, rt.alloc(), first, (b"", 0)),
+        Some((6, 12_333_412, 1_233_412))
     );
 }

@@ -1,5 +1,5 @@
-//! Prints each call that a register on a disk makes of the disk, for `tests/disks.py`. It touches only a disk in memory and
-//! the standard streams, and knows nothing of files.
+//! Prints each call that a register on a disk makes of the disk, for `tests/disks/disks.py`. It touches only a disk in memory
+//! and the standard streams, and knows nothing of files.
 //!
 //! Standard input begins with the sectors of a disk, each a line `N DIGITS`, and an empty line. Without sectors the disk is
 //! formatted. Then each line is a station, a space and a command line of that station. An empty line ends a batch of at

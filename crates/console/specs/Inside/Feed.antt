@@ -76,6 +76,28 @@ module _ {A W : Type 0} (rules : Rules A W) (old : Reached A W) where
   StopsWithin bytes fault new = (start : Start W) (before taken rest : List Byte) → IsGoing rules start before taken old →
       HasRun A rules start (outcome_at new (Err fault)) (taken ++ bytes ++ rest) before
 
+  -- the same two where nothing of the current line has come
+  abbrev pub GoesOnAtLine : List Byte → Reached A W → Type 0
+  GoesOnAtLine bytes new =
+      (start : Start W) (before taken : List Byte) (going : IsGoing rules start before taken old) → going.line ≡ [] → IsGoing rules start before (taken ++ bytes) new
+
+  -- it has ended there
+  abbrev pub StopsAtLine : List Byte → RunFault → Reached A W → Type 0
+  StopsAtLine bytes fault new =
+      (start : Start W) (before taken rest : List Byte) (going : IsGoing rules start before taken old) → going.line ≡ [] →
+      HasRun A rules start (outcome_at new (Err fault)) (taken ++ bytes ++ rest) before
+
+  -- the same two within a piece of the text: it had been taken up to one place, and is now taken up to a later one
+  abbrev pub GoesOnIn : List Byte → ℕ → ℕ → Reached A W → Type 0
+  GoesOnIn piece at next new =
+      (start : Start W) (before taken : List Byte) → IsGoing rules start before (taken ++ take at piece) old → IsGoing rules start before (taken ++ take next piece) new
+
+  -- it has ended there
+  abbrev pub StopsIn : List Byte → ℕ → RunFault → Reached A W → Type 0
+  StopsIn piece at fault new =
+      (start : Start W) (before taken rest : List Byte) → IsGoing rules start before (taken ++ take at piece) old →
+      HasRun A rules start (outcome_at new (Err fault)) (taken ++ piece ++ rest) before
+
   -- the text ends, and so does the run
   abbrev pub EndsSo : Outcome W → Type 0
   EndsSo end = (start : Start W) (before taken : List Byte) → IsGoing rules start before taken old → HasRun A rules start end taken before

@@ -1,7 +1,11 @@
 use Rattle.std.proofs.Common.{◌≡◌, ◌+◌, List, [], ◌∷◌, ◌++◌, length, ap, sym, ◌∙◌, subst, arith, append_assoc, length-append}
 use Rattle.std.specs.declared.alloc.Global.{Global}
 use Rattle.centre_core.specs.Asked.{Asked}
+use Rattle.std.specs.Prelude.{All, vec_len}
+use Rattle.std.proofs.lemmas.List.Elements.{All-nil, All-push, All-same}
 use Rattle.station_queue.specs.Ends.{Sending}
+use Rattle.station_queue.specs.Entries.{share_of}
+use Rattle.flusher.specs.declared.session.Session.{Session}
 use Rattle.flusher.specs.Opened.{IsNewSession}
 use Rattle.flusher.proofs.Beginning.{all_but_last, no_sessions, one_more_session, this_station, within}
 use Rattle.flusher.proofs.opening.open_sessions.Goals as goal
@@ -19,6 +23,7 @@ loop-sender-init g c =
       none_seen = c.requires.none_seen;
       room = omega (arith, c.in_ok-senders.ensures.exact, c.len-count.ensures, count);
       also_room = omega (arith, c.in_ok-sessions.ensures.exact, c.len-count.ensures, count);
+      shares = All-same (λ (s : Session g.row.J.Denot). s.share ≡ c.share_of-share.result) _ _ also_none (All-nil (λ (s : Session g.row.J.Denot). s.share ≡ c.share_of-share.result));
       made = no_sessions c.args.taker.queue c.in_ok-senders.senders.items c.in_ok-sessions.sessions.items none also_none;
     }
 
@@ -70,7 +75,7 @@ loop-sender-preserved g c =
     let more = c.push_reserved.ensures.items in
     let also_more = c.push_reserved-in-loop-sender.ensures.items in
     let viewers = all_but_last (λ (v : List (Asked Global)). v ≡ []) c.loop-sender.viewers.items c.pop.new.self.items c.in-Some-pop.viewer c.in-Some-pop.ensures.items i.none_seen in
-    let mine : IsNewSession q (length done + 1) answers session = subst (λ (s : Sending). IsNewSession s.queue s.station answers session) this c.in_ok-answers.ensures in
+    let mine : IsNewSession q (length done + 1) answers session = subst (λ (s : Sending). IsNewSession s.queue s.station answers session) this c.in_ok-answers.ensures.new in
     let new : IsNewSession q (length senders + 1) answers session = subst (λ n. IsNewSession q (n + 1) answers session) (sym i.count) mine in
     record {
       in_turn = append_assoc done (sender ∷ []) rest ∙ split;
@@ -80,14 +85,17 @@ loop-sender-preserved g c =
       none_seen = viewers.0;
       room = c.push_reserved.ensures.capacity ∙ i.room;
       also_room = c.push_reserved-in-loop-sender.ensures.capacity ∙ i.also_room;
+      shares = All-same (λ (s : Session g.row.J.Denot). s.share ≡ c.share_of-share.result) _ _ also_more (All-push (λ (s : Session g.row.J.Denot). s.share ≡ c.share_of-share.result) sessions session i.shares c.in_ok-answers.ensures.share);
       made = one_more_session q senders c.push_reserved.new.self.items sessions c.push_reserved-in-loop-sender.new.self.items answers session more also_more i.made new;
     }
 
 pub returns : goal.returns
 returns g c =
     let i = c.loop-sender.invariant in
+    let count : vec_len c.args.stations ≡ length c.args.stations.items = omega (arith, c.args.stations.ok.0) in
     record {
       queue = c.requires.queue;
       count = omega (arith, i.count, ap length i.in_turn, length-append c.loop-sender.yielded c.loop-sender.sender-iterator.rest.items, i.rest, c.in-None.ensures.steps.0);
       each = i.made;
+      shares = subst (λ n. All (λ (s : Session g.row.J.Denot). s.share ≡ n) c.loop-sender.sessions.items) (c.share_of-share.ensures.share ∙ ap share_of (c.len-count.ensures ∙ count)) i.shares;
     }

@@ -1,5 +1,6 @@
 use Rattle.std.proofs.Common.{◌≡◌, ◌+◌, ◌++◌, [], length}
 use Rattle.std.specs.Prelude.{All, vec_capacity}
+use Rattle.flusher.specs.declared.session.Session.{Session}
 use Rattle.flusher.specs.Opened.{AreNewSessions}
 use Rattle.flusher.proofs.opening.open_sessions.Given as goal
 
@@ -12,5 +13,6 @@ invariant-loop-sender g l = record {
   none_seen : All (λ v. v ≡ []) l.viewers.items;
   room : vec_capacity l.senders ≡ length l.fn.stations.items;
   also_room : vec_capacity l.sessions ≡ length l.fn.stations.items;
+  shares : All (λ (s : Session g.row.J.Denot). s.share ≡ l.share) l.sessions.items;
   made : AreNewSessions l.fn.taker.queue l.senders.items l.sessions.items;
 }

@@ -1,9 +1,19 @@
-use Rattle.std.proofs.Common.{ap, sym, ◌∙◌}
-use Rattle.station_queue.specs.Entries.{station_of}
-use Rattle.station_queue.proofs.Steps.{puts}
+use Rattle.std.proofs.Common.{◌≡◌, ◌+◌, ◌<◌, ap, sym, ◌∙◌, arith}
+use Rattle.crossbeam_queue.specs.Passes.{view as known}
+use Rattle.station_queue.specs.declared.rule.View.{View}
+use Rattle.station_queue.proofs.Steps.{gets_back, has_room, puts}
 use Rattle.station_queue.proofs.sender.put.Goals as goal
 
-pub try_push_as-requires-clause-rule : goal.try_push_as-requires-clause-rule
-try_push_as-requires-clause-rule g c =
-    let v = c.loop.invariant.2 ∙ c.requires.view in
-    puts _ _ _ _ (ap (λ h. h.sends) v) (ap station_of c.loop.invariant.3 ∙ sym (ap (λ h. h.station) v))
+pub absorb-requires-clause-rule : goal.absorb-requires-clause-rule
+absorb-requires-clause-rule g c = gets_back _ _ _ _ (ap (λ h. h.sends) c.requires.view)
+
+pub push_as-requires-clause-rule : goal.push_as-requires-clause-rule
+push_as-requires-clause-rule g c =
+    let back = c.absorb.ensures.rule in
+    let sends = ap (λ (v : View). v.sends) back in
+    let station = ap (λ (v : View). v.station) back ∙ ap (λ (v : View). v.station) c.requires.view in
+    let places = ap (λ (v : View). v.places) back in
+    let none = ap (λ (v : View). v.places) c.requires.view in
+    let one = ap (λ (v : View). v.places) c.place.invariant.1 in
+    let has : 0 < (known c.absorb.new.pass).places = omega (arith, places, none, one) in
+    (puts _ _ _ _ sends (sym station) has, has_room _ _)

@@ -1,7 +1,9 @@
 use Rattle.std.proofs.Common.{true≢false, refl, sym, ◌∙◌, arith}
 use Rattle.flusher.specs.View.{view_of}
+use Rattle.flusher.specs.Lasting.{no_more}
 use Rattle.flusher.specs.Runs.{none}
 use Rattle.flusher.proofs.Between.{none_between, one_more_between, one_more_failed}
+use Rattle.flusher.proofs.Lasting.{one_more_lasting}
 use Rattle.flusher.proofs.Runs.{counted_on, ends_are_taken, ends_still, one_more_round, same_ends}
 use Rattle.flusher.proofs.flusher.Flusher.run.Goals as goal
 
@@ -15,6 +17,7 @@ loop-init g c =
       omega arith,
       (λ s up. none_between g.D.Disk.view g.J.Centre.base f (g.met.D.Disk.sound f.store.disk) (c.requires.settled.made up) s up),
       omega arith,
+      (λ s. no_more f),
       (λ was down. absurd (true≢false (sym down ∙ was))),
     )
 
@@ -35,7 +38,8 @@ loop-preserved g c =
       counted_on _ _ _ i.4 e.counted,
       (λ s up. one_more_between view g.J.Centre.base f m n e.round i.1 m.store.broken refl i.0.made i.0.order e.settled.made (e.any_moment (i.2 s)) (i.5 s up)),
       omega (arith, was, more),
-      (λ up. one_more_failed view g.J.Centre.base f m n e.round i.1 m.store.broken refl was e.failed (i.7 up)),
+      (λ s. one_more_lasting view g.J.Centre.base f m n e.round (i.7 s) i.0 e.settled (e.any_moment (i.2 s)) (g.met.D.Disk.sound n.store.disk) (e.stored (i.2 s))),
+      (λ up. one_more_failed view g.J.Centre.base f m n e.round i.1 m.store.broken refl was e.failed (i.8 up)),
     )
 
 pub round-requires : goal.round-requires
@@ -66,4 +70,7 @@ pub returns-then-has_ended-clause-later : goal.returns-then-has_ended-clause-lat
 returns-then-has_ended-clause-later g c = c.loop.invariant.6
 
 pub returns-then-has_ended-clause-failed : goal.returns-then-has_ended-clause-failed
-returns-then-has_ended-clause-failed g c = c.loop.invariant.7
+returns-then-has_ended-clause-failed g c = c.loop.invariant.8
+
+pub returns-then-has_ended-clause-lasting : goal.returns-then-has_ended-clause-lasting
+returns-then-has_ended-clause-lasting g c = c.loop.invariant.7

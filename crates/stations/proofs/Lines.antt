@@ -1,0 +1,136 @@
+-- What is known of the lines of a station, from what its session received.
+use Rattle.std.proofs.Common.{◌≡◌, ◌⊎◌, inl, inr, ℕ, ◌+◌, ◌≤◌, List, [], ◌∷◌, ◌++◌, length, take, refl, sym, ap, ◌∙◌, subst, arith, append_assoc}
+use Rattle.std.specs.Prelude.{Result, Ok, Err}
+use Rattle.std.specs.declared.alloc.Global.{Global}
+use Rattle.std.proofs.lemmas.List.{append-nil}
+use Rattle.identity.specs.Numbers.{Byte}
+use Rattle.registration.specs.Numbers.{Station}
+use Rattle.centre_core.specs.Asked.{Asked}
+use Rattle.centre_core.specs.State.{State}
+use Rattle.centre_core.specs.declared.reply.Reply.{Reply}
+use Rattle.centre_core.specs.declared.reply.Reply.TheVariants.{Accepted, Kept, Refused}
+use Rattle.desk.specs.declared.outage.Outage.{Outage}
+use Rattle.console.specs.Dialogue.{AnswersReading, Dialogue}
+use Rattle.console.specs.Reading.{reading}
+use Rattle.console.specs.declared.answer.Answer.{Answer}
+use Rattle.console.specs.declared.answer.Answer.TheVariants as answer
+use Rattle.console.specs.declared.line.Line.{Line}
+use Rattle.console.specs.declared.line.Line.TheVariants as line
+use Rattle.flusher.specs.Borne.{AreBorneOut, IsDecisionAfter, IsReplyAfter}
+use Rattle.flusher.specs.Stages.{Sent}
+use Rattle.flusher.specs.Submitted.{SessionView, answer_by}
+use Rattle.flusher.specs.declared.decision.Decision.{Decision}
+use Rattle.flusher.specs.declared.decision.Decision.TheVariants as decision
+use Rattle.stations.specs.Lines.{AreLinesBorneOut, IsLineAfter}
+use Rattle.stations.specs.OfSession.{Applies, AtSession, IsSubmitted, of_session, result_of}
+use Rattle.stations.specs.Served.{new_view}
+
+abbrev G : Type 0
+G = Asked Global
+
+-- what these commands bear out of a result
+abbrev IsResultAfter : State → List G → G → Result (Reply Global) Outage → Type 0
+IsResultAfter base l c (Ok r) = IsReplyAfter base l c r
+IsResultAfter base l c (Err word) = Unit {0}
+
+module _ (J : Type 0) (base : State) where
+  decided : (l published : List G) (c : G) (d : Decision) → IsDecisionAfter base l c d → IsResultAfter base l c (result_of {J = J} (answer_by published d))
+  decided l published c (decision.Replied (Accepted n p)) h = h
+  decided l published c (decision.Replied (Kept n p)) h = h
+  decided l published c (decision.Replied (Refused r)) h = h
+  decided l published c decision.NoMemory h = tt
+  decided l published c (decision.Fault f) h = tt
+
+  -- nothing was received, and what was given needs nothing; or one answer was, and what bears it out bears out what was given
+  abbrev Gives : AtSession → AtSession → (List G → Type 0) → Type 0
+  Gives s t P = ((t.view.received ≡ s.view.received) × ((l : List G) → P l))
+      ⊎ ((x : Sent) × (t.view.received ≡ s.view.received ++ x ∷ []) × ((l : List G) → IsDecisionAfter base l x.command x.decision → P l))
+
+  submitted : (s t : AtSession) (c : G) (result : Result (Reply Global) Outage) → IsSubmitted J base s c result t → Gives s t (λ l. IsResultAfter base l c result)
+  submitted s t c result is = elim is.submission.received [
+    | inl got ↦ (elim got.2 [
+      | inl fits ↦ inr (
+        got.0,
+        got.1,
+        λ l borne. subst (IsResultAfter base l c) (sym (is.result_is ∙ ap result_of fits.1))
+            (decided l got.0.published c got.0.decision (subst (λ d. IsDecisionAfter base l d got.0.decision) fits.0 borne)),
+      )
+      | inr closed ↦ inr (got.0, got.1, λ l borne. subst (IsResultAfter base l c) (sym (is.result_is ∙ ap result_of closed.1)) tt)
+    ])
+    | inr none ↦ (elim none [
+      | inl gone ↦ inl (gone.0, λ l. subst (IsResultAfter base l c) (sym (is.result_is ∙ ap result_of gone.2)) tt)
+      | inr out ↦ inl (ap (λ (v : SessionView). v.received) out.0, λ l. subst (IsResultAfter base l c) (sym (is.result_is ∙ ap result_of out.1)) tt)
+    ])
+  ]
+
+  applied : (s t : AtSession) (c : G) (result : Result (Reply Global) Outage) → Applies J base s c result t → Gives s t (λ l. IsResultAfter base l c result)
+  applied s t c result h = elim h.1 [
+    | inl own ↦ submitted s t c result own.1
+    | inr other ↦ inl (ap (λ (u : AtSession). u.view.received) other.2, λ l. subst (IsResultAfter base l c) (sym other.1) tt)
+  ]
+
+  one_line : (n : ℕ) (s t : AtSession) (said : Line Global) (given : Answer Global) → AnswersReading (of_session J base) n s said given t → Gives s t (λ l. IsLineAfter base l said given)
+  one_line n s t line.Silent given h = inl (ap (λ (u : AtSession). u.view.received) h.1, λ l. tt)
+  one_line n s t (line.Bad fault) given h = inl (ap (λ (u : AtSession). u.view.received) h.1, λ l. tt)
+  one_line n s t (line.Apply c) answer.Quiet h = absurd h
+  one_line n s t (line.Apply c) (answer.Bad number fault) h = absurd h
+  one_line n s t (line.Apply c) (answer.Replied sequence reply) h = applied s t c (Ok reply) h.1
+  one_line n s t (line.Apply c) (answer.CommandOutage sequence word) h = elim h.1 [
+    | inl done ↦ applied s t c (Err word) done
+    | inr lacks ↦ inl (ap (λ (u : AtSession). u.view.received) lacks.2, λ l. tt)
+  ]
+  one_line n s t (line.Apply c) (answer.Queried found) h = absurd h
+  one_line n s t (line.Apply c) (answer.Listed lines) h = absurd h
+  one_line n s t (line.Apply c) (answer.QueryOutage number word) h = absurd h
+  one_line n s t (line.Ask q) answer.Quiet h = absurd h
+  one_line n s t (line.Ask q) (answer.Bad number fault) h = absurd h
+  one_line n s t (line.Ask q) (answer.Replied sequence reply) h = absurd h
+  one_line n s t (line.Ask q) (answer.CommandOutage sequence word) h = absurd h
+  one_line n s t (line.Ask q) (answer.Queried found) h = inl (h.0.2, λ l. tt)
+  one_line n s t (line.Ask q) (answer.Listed lines) h = absurd h
+  one_line n s t (line.Ask q) (answer.QueryOutage number word) h = elim h.1 [
+    | inl done ↦ inl (done.0.2, λ l. tt)
+    | inr lacks ↦ inl (lacks.1.2.0.2, λ l. tt)
+  ]
+  one_line n s t (line.Print p) answer.Quiet h = absurd h
+  one_line n s t (line.Print p) (answer.Bad number fault) h = absurd h
+  one_line n s t (line.Print p) (answer.Replied sequence reply) h = absurd h
+  one_line n s t (line.Print p) (answer.CommandOutage sequence word) h = absurd h
+  one_line n s t (line.Print p) (answer.Queried found) h = absurd h
+  one_line n s t (line.Print p) (answer.Listed lines) h = inl (h.1.0.2, λ l. tt)
+  one_line n s t (line.Print p) (answer.QueryOutage number word) h = elim h.1 [
+    | inl done ↦ inl (done.0.2, λ l. tt)
+    | inr lacks ↦ inl (lacks.2.1.0.2, λ l. tt)
+  ]
+
+  module _ (durable : List G) (station : Station) where
+    -- what is received for these lines, and that what bears it out bears out their answers
+    abbrev Rest : AtSession → AtSession → List (List Byte) → List (Answer Global) → Type 0
+    Rest s t texts given = (more : List Sent) × (t.view.received ≡ s.view.received ++ more)
+        × ((low : ℕ) → low ≤ length durable → AreBorneOut base durable low more → AreLinesBorneOut base durable station low texts given)
+
+    joined : (s mid t : AtSession) (text : List Byte) (texts : List (List Byte)) (one : Answer Global) (given : List (Answer Global)) →
+        Gives s mid (λ l. IsLineAfter base l (reading station text) one) → Rest mid t texts given → Rest s t (text ∷ texts) (one ∷ given)
+    joined s mid t text texts one given step rest = elim step [
+      | inl none ↦ (rest.0, rest.1 ∙ ap (λ l. l ++ rest.0) none.0, λ low le borne. (low, omega arith, le, none.1 (take low durable), rest.2 low le borne))
+      | inr got ↦ (
+        got.0 ∷ rest.0,
+        rest.1 ∙ ap (λ l. l ++ rest.0) got.1 ∙ append_assoc s.view.received (got.0 ∷ []) rest.0,
+        λ low le borne. (borne.0, borne.1, borne.2, got.2 (take borne.0 durable) borne.3, rest.2 borne.0 borne.2 borne.4),
+      )
+    ]
+
+    from_line : (n : ℕ) (s t : AtSession) (texts : List (List Byte)) (given : List (Answer Global)) → Dialogue (of_session J base) station n s texts given t → Rest s t texts given
+    from_line n s t [] [] h = ([], ap (λ (u : AtSession). u.view.received) h ∙ sym (append-nil s.view.received), λ low le borne. tt)
+    from_line n s t [] (one ∷ given) h = absurd h
+    from_line n s t (text ∷ texts) [] h = absurd h
+    from_line n s t (text ∷ texts) (one ∷ given) h =
+        joined s h.0 t text texts one given (one_line (n + 1) s h.0 (reading station text) one h.1) (from_line (n + 1) h.0 t texts given h.2)
+
+    -- if all that the session received is borne out, so is the answer to each of its lines
+    pub lines_borne : (view : SessionView) (texts : List (List Byte)) (given : List (Answer Global)) →
+        Dialogue (of_session J base) station 0 (record { station = station; view = new_view }) texts given (record { station = station; view = view }) →
+        AreBorneOut base durable 0 view.received → AreLinesBorneOut base durable station 0 texts given
+    lines_borne view texts given h borne =
+        let rest = from_line 0 (record { station = station; view = new_view }) (record { station = station; view = view }) texts given h in
+        rest.2 0 (omega arith) (subst (λ (l : List Sent). AreBorneOut base durable 0 l) rest.1 borne)
