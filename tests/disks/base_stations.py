@@ -107,6 +107,19 @@ class Station:
             except BrokenPipeError:
                 raise Gone
 
+    def come_back(self, mark):
+        """As docs/operate.md says, with this number in the mark; the answer to `last`. It reads while it writes."""
+        data = b'?\nlook 0-0-%d\n' % mark
+        while data:
+            reads, writes, _ = select.select([self.back], [self.to], [], SECONDS)
+            compare('the program reads or writes', bool(reads or writes), True)
+            self.rest += self.piece() if reads else b''
+            data = data[os.write(self.to, data):] if writes else data
+        while not (told := self.receive()).startswith(f'look 0-0-{mark} '):
+            pass
+        self.pairs += [Answered(b'?', None), Answered(b'look 0-0-%d' % mark, [told])]
+        return self.ask(b'last %d' % self.number)[0]
+
     def receive(self, seconds=SECONDS):
         """The next line, which has to come within this time."""
         until = time.monotonic() + seconds
@@ -264,18 +277,22 @@ def go_on(place, stations, count=LAST):
 
 # The judge
 
-def judge(place, stations):
-    """The order of the commands on a disk that was empty: it gives all answers of stations 1, 2 and so on, and the disk stands for its
-    register."""
+def order_from(stations):
+    """The order of the commands on a disk that was empty: it gives all answers of stations 1, 2 and so on."""
     try:
-        order = order_that_answers(empty(STATIONS), [station.as_never_stopped() for station in stations])
+        return order_that_answers(empty(STATIONS), [station.as_never_stopped() for station in stations])
     except NoOrder as fault:
         raise Differs(f'no order of the commands: {fault}')
+
+
+def judge(place, stations):
+    """That order. The disk stands for its register."""
+    order = order_from(stations)
     stands_for(place, order.registers[-1])
     return order
 
 
 def status_of(stations):
     """That of a program which answered these lines of stations: 1 where one was bad."""
-    said = (pair.told[:1] for station in stations for pair in station.pairs[station.first:])
+    said = (['line '] if pair.told is None else pair.told[:1] for station in stations for pair in station.pairs[station.first:])
     return int(any(one.startswith('line ') for told in said for one in told))

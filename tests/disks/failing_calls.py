@@ -37,9 +37,9 @@ def call(record, number):
 def run(recorder, serving, asked, number):
     """What the program does where that call fails while it opens the disk, or serves a line; and the registers that are allowed."""
     if asked is None:
-        return recorder.run(5, b'', ON_DEVICE, number), serving.registers[:1]
+        return recorder.run(5, b'', ON_DEVICE, fails=number), serving.registers[:1]
     kept = [0, *serving.counts][asked]
-    return recorder.run(5, printed(answers(serving, asked)), ON_DEVICE, number), serving.registers[kept:kept + 2]
+    return recorder.run(5, printed(answers(serving, asked)), ON_DEVICE, fails=number), serving.registers[kept:kept + 2]
 
 
 def calls_of(record):

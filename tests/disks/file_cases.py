@@ -278,14 +278,16 @@ def formatted_in_a_full_file_system(place):
 
 
 def run_in_a_full_file_system(place):
-    """A disk with holes, where there is no room for more than the first record: then each command is `device`, or `broken`."""
+    """A disk with holes, where there is no room for the first record: the commands that came together are `device`, a later one
+    `broken`."""
     ready(place)
+    place.write(LINES, text([RULE, ATTACH, 'count', '3 20 expire']))
     image = place.image()
     with small_file_system(place) as made:
         if made:
             name = f'small/{DISK}'
             with_holes(place, image, name)
-            place.gives(['run', name, LINES], 5, text([f'station 1 {LINES}', '1 no device', '2 no broken']), DEVICE)
+            place.gives(['run', name, LINES], 5, HEAD + text(['1 no device', '2 no device', 'count 0', '3 no broken']), DEVICE)
             place.gives(['show', name, 'count'], 0, b'count 0\n')
 
 

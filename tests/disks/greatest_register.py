@@ -19,7 +19,7 @@ from reading_rows import SECTOR, row_in
 from running import compare
 from testing import Count, options
 
-RULES, RADIOS, ITEMS, STATIONS, JOURNAL = 4096, 65_536, 65_536, 64, 16_384
+RULES, RADIOS, ITEMS, STATIONS, JOURNAL = 4096, 65_536, 65_536, 64, 4096
 MEMBERS, MOST_GROUPS, MOST_FOR_ONE = 1000, 32, 128
 SECTORS = 3 + 2 * (1 + RULES + RADIOS + ITEMS + STATIONS) + 2 * JOURNAL
 SECONDS = 600

@@ -15,7 +15,7 @@ from made_disks import FORMS, as_plain
 from reading_disks import NUMBERED, PLAIN, BadGeometry, Damaged, Unformatted, opens
 from reading_rows import SECTOR
 from running import Differs, compare
-from station_lines import Serving, data_of, lines
+from station_lines import Serving, apart, data_of, lines
 from testing import Count, options
 
 READY, COMMANDS = 'ready.img', 60
@@ -86,7 +86,7 @@ def the_files(command, count):
 
 def made(place, dice):
     """A disk of each layout whose two sides are open, with a record or more after the image: that of the last command at least."""
-    serving = Serving(reading.Register(), lines(dice, COMMANDS))
+    serving = Serving(reading.Register(), apart(lines(dice, COMMANDS)))
     place.format(READY)
     place.write(LINES, data_of(serving.lines))
     place.gives(['run', READY, LINES], int(serving.troubled), serving.text())

@@ -16,6 +16,7 @@ from made_disks import (CLOSED, FORMS, GATE, NONE, OPEN, OTHER_GATE, OTHER_SLOT,
 from reading_disks import LONGEST, MOST_COMMANDS, NUMBERED, PLAIN, Damaged, data_sectors, figures, opens, records_in, told_in
 from reading_rows import SECTOR, header_row
 from running import Differs, compare
+from station_lines import Serving, apart, data_of
 from testing import Count
 
 P, P_LINE = bytes.fromhex('0001 00000001 00000000 01 18 3a800e000000 0001 0063 01 00000e10'), '1 0 rule 234-14-0/24 1 99 1 3600'
@@ -238,10 +239,11 @@ def moves(place):
 
 
 def beside_its_commits(place, form):
-    """In one run a checkpoint begins with the tenth command and ends with the eleventh, whose record is in both halves."""
+    """In one run a checkpoint begins with the record of the tenth command and ends with that of the eleventh, which is in both halves."""
     place.put(zeroed(form=form))
-    place.write(LINES, text([P_LINE, *(f'{sequence} 0 expire' for sequence in range(2, 12))]))
-    place.gives(['run', DISK, LINES], 0, text([f'station 1 {LINES}', *(f'{number} ok {number} -' for number in range(1, 12))]))
+    serving = Serving(reading.Register(), apart([P_LINE.encode(), *(b'%d 0 expire' % sequence for sequence in range(2, 12))]))
+    place.write(LINES, data_of(serving.lines))
+    place.gives(['run', DISK, LINES], 0, serving.text())
     after = place.image()
     stands_for(after, (1, NUMBERED, 2, 630, 11))
     for at, digits in MOVED.items():

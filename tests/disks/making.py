@@ -2,7 +2,7 @@
 """Writes down each call of the disk file and of its folder while the program's `format` makes a disk (record.c, compiled and
 preloaded). The file gets its length and zeros in each sector, both synced, and the folder is synced; then the sides are written and
 synced, and at last the label. Nothing is written after the last sync. A stop between two of these calls leaves a disk without a
-whole label, or one that the independent reading beside this file opens to an empty register. Each sync fails in a run of its own,
+whole label, or one that the independent reading (tests/reading/) opens to an empty register. Each sync fails in a run of its own,
 each write of the disk's parts and some of the zeros, and each allocation gets no memory.
 `show` and `run` sync a disk once and then only read it before they serve, whatever it holds; `show` writes nothing. A read of the
 station's file fails after some lines, whose answers are printed first; and a file is read in 4,500 pieces. Prints the seed, the

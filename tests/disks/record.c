@@ -2,9 +2,9 @@
    succeeded: `w`, offset and length and the bytes of each write, `p`, offset and 0 of each read, `t`, the length that the file is
    given, and 0, and for each sync `s` (fdatasync) or `a` (fsync); `d` is an fsync of the folder FOLDER. The FAILS-th of these calls,
    from 1, fails and does nothing, which is `f`; where ALWAYS is set, so does each later one. LINES names files, with a colon between
-   two. It lets a read of such a file have one line at most, and writes down, before the read, `r`, how many whole lines of the file
-   were read so far, 1, and the file's place in LINES, from 1, as a byte; where these lines are BREAKS or more, and BREAKS is not 0,
-   the read fails. ANSWERS names files in the same way: of each write to one of them it writes down, before the write, `o`, the file's
+   two. It lets a read of such a file have TOGETHER lines at most, and writes down, before the read, `r`, how many whole lines of the
+   file were read so far, 2, and two bytes: the file's place in LINES, from 1, and TOGETHER; where these lines are BREAKS or more, and
+   BREAKS is not 0, the read fails. ANSWERS names files in the same way: of each write to one of them it writes down, before the write, `o`, the file's
    place in ANSWERS, from 1, and length and the bytes. Numbers have 8 bytes, in this machine's order. Threads may do all this at once,
    each file read by one of them. */
 #define _GNU_SOURCE
@@ -119,30 +119,31 @@ int fsync(int fd)
     return synced(fd, SYS_fsync, 'a');
 }
 
-static ssize_t read_line(int fd, char place, char *bytes, size_t length)
+static ssize_t read_lines(int fd, char place, char *bytes, size_t length)
 {
     static uint64_t all_lines[MOST_FILES];
     uint64_t *lines = &all_lines[place - 1];
+    char head[] = {place, atoi(getenv("TOGETHER"))};
     size_t have = 0;
-    note('r', *lines, 1, &place, 1);
+    note('r', *lines, 2, head, 2);
     if (*lines >= (uint64_t)atol(getenv("BREAKS")) && atol(getenv("BREAKS")) > 0) {
         errno = EIO;
         return -1;
     }
-    while (have < length && (have == 0 || bytes[have - 1] != '\n')) {
+    for (int left = head[1]; have < length && left > 0; have++) {
         ssize_t got = syscall(SYS_read, fd, bytes + have, 1);
         if (got <= 0)
             return have ? (ssize_t)have : got;
-        have++;
+        left -= bytes[have] == '\n';
+        *lines += bytes[have] == '\n';
     }
-    *lines += have > 0 && bytes[have - 1] == '\n';
     return have;
 }
 
 ssize_t read(int fd, void *bytes, size_t length)
 {
     int place = length ? place_of(fd, "LINES") : 0;
-    return place ? read_line(fd, place, bytes, length) : syscall(SYS_read, fd, bytes, length);
+    return place ? read_lines(fd, place, bytes, length) : syscall(SYS_read, fd, bytes, length);
 }
 
 ssize_t write(int fd, const void *bytes, size_t length)

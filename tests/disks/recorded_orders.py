@@ -85,24 +85,25 @@ class Asked:
 
     def __init__(self, order, stations):
         """Of each station its lines with their answers."""
-        self.order, self.asked = order, [-1] * len(stations)
+        self.order, self.answered, self.asked = order, [0] * len(stations), [0] * len(stations)
         self.wanted = [(station - 1, place_in(stations[station - 1], line)) for station, line in order.commands]
         self.acknowledged = self.submitted = 0
 
     def follow(self, done):
         if done.kind == 'r':
-            self.asked[done.bytes[0] - 1] = done.number
+            station, together = done.bytes
+            self.answered[station - 1], self.asked[station - 1] = done.number, done.number + together
             self.count()
 
     def count(self):
-        """A line is answered once the next one is asked for."""
-        answered = [number for number, (k, at) in enumerate(self.wanted, 1) if at < self.asked[k]]
+        """Lines are answered once the next ones are asked for."""
+        answered = [number for number, (k, at) in enumerate(self.wanted, 1) if at < self.answered[k]]
         self.acknowledged = max(answered, default=0)
         while self.submitted < len(self.wanted) and self.is_asked(*self.wanted[self.submitted]):
             self.submitted += 1
 
     def is_asked(self, station, at):
-        return at <= self.asked[station]
+        return at < self.asked[station]
 
     def registers(self):
         """Those that a stop may leave now: they have all commands that were answered, and none that was not asked for."""

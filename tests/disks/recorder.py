@@ -16,8 +16,8 @@ RECORD = 'record'
 HEAD = struct.Struct('=cQQ')
 
 # What the program did: a write of these bytes from an offset on, a read, a sync, a length given, the folder synced, a call that
-# failed, or that it asked for a line of a file, having read so many; the byte is the file's place, from 1. Or the bytes that it is
-# about to write as answers; the number is the place of their file, from 1
+# failed, or that it asked for lines of a file, having read so many; the bytes are the file's place, from 1, and how many lines it can
+# get. Or the bytes that it is about to write as answers; the number is the place of their file, from 1
 Done = collections.namedtuple('Done', 'kind number bytes', defaults=[0, b''])
 
 
@@ -40,14 +40,14 @@ class Recorder:
     def __init__(self, place, made):
         self.place, self.made = place, made
 
-    def environment(self, fails=0, breaks=0, disk=DISK, files=(LINES,), answers=(), **others):
+    def environment(self, fails=0, breaks=0, disk=DISK, files=(LINES,), answers=(), together=1, **others):
         """That in which a program writes an empty record. The call of one number fails, from 1; and the read of a station's file
-        after so many lines. The answers go to these files."""
+        after so many lines. A read gets so many lines together. The answers go to these files."""
         self.place.write(RECORD, b'')
         names = {'RECORD': RECORD, 'DISK': disk, 'FOLDER': os.path.dirname(disk) or '.'}
         paths = {name: self.place.path(file) for name, file in names.items()}
         streams = {name: ':'.join(str(self.place.path(file)) for file in names) for name, names in (('LINES', files), ('ANSWERS', answers))}
-        return preloading.environment(self.made, FAILS=fails, BREAKS=breaks, **streams, **paths, **others)
+        return preloading.environment(self.made, FAILS=fails, BREAKS=breaks, TOGETHER=together, **streams, **paths, **others)
 
     def record(self):
         """What the program did."""
@@ -58,9 +58,9 @@ class Recorder:
         self.place.gives(words, status, out, err, env=self.environment(**how))
         return self.record()
 
-    def run(self, status, out, err=b'', fails=0):
-        """What the program does while it serves the file, once its answers are compared; the call of that number fails, from 1."""
-        return self.does(['run', DISK, LINES], status, out, err, fails=fails)
+    def run(self, status, out, err=b'', **how):
+        """What the program does while it serves the file, once its answers are compared."""
+        return self.does(['run', DISK, LINES], status, out, err, **how)
 
 
 @contextlib.contextmanager

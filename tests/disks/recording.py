@@ -8,9 +8,11 @@ anew each time. At each moment the writes since the last sync are done, left out
 - On some of the images the program serves the file again, and that run is stopped in turn.
 - Bugs planted in the record must be found.
 - Some of the calls fail (failing_calls.py).
+- In one more run lines come together, and a record has the commands of many.
 Prints the seed, what was done, and last 'N passed, M failed'.
 Usage: tests/run recording PROGRAM [--seconds N] [--lines N] [--seed N]"""
 import collections
+import functools
 import random
 import time
 
@@ -32,6 +34,8 @@ TORN = 'torn.img'
 DRAWS, CHECKPOINTS = 13, 2
 # How many of the stops are followed by a second run, and how many moments of each of these are taken
 TWICE, SECOND = 15, 20
+# How many lines a read of the station's file gives where they come together
+TOGETHER = 10
 
 # A disk between two calls, and the registers that its images may open to
 Moment = collections.namedtuple('Moment', 'disk registers')
@@ -39,20 +43,20 @@ Moment = collections.namedtuple('Moment', 'disk registers')
 
 # The moments
 
-def may_stand(serving, asked):
-    """The registers that are allowed once so many lines are answered, and while the next one is."""
-    counts = [0, *serving.counts, serving.counts[-1]]
-    return serving.registers[counts[asked]:counts[asked + 1] + 1]
+def may_stand(serving, answered, together):
+    """The registers that are allowed once so many lines are answered, and while so many after them are."""
+    counts = [0, *serving.counts]
+    return serving.registers[counts[answered]:counts[min(answered + together, len(serving.lines))] + 1]
 
 
 def moments(image, record, serving):
     """The disk at first and after each call of the file that changes what a stop may leave."""
-    disk, asked = Disk(image), 0
-    yield Moment(disk.copy(), may_stand(serving, asked))
+    disk, asked = Disk(image), (0, 0)
+    yield Moment(disk.copy(), may_stand(serving, *asked))
     for done in (done for done in record if done.kind != 'p'):
-        asked = done.number if done.kind == 'r' else asked
+        asked = (done.number, done.bytes[1]) if done.kind == 'r' else asked
         follow(disk, done)
-        yield Moment(disk.copy(), may_stand(serving, asked))
+        yield Moment(disk.copy(), may_stand(serving, *asked))
 
 
 def images(moment, dice):
@@ -159,10 +163,14 @@ def other_record_left_out(turn):
     return [done for k, done in enumerate(turn) if k not in (at[2], at[3], at[5])]
 
 
-BUGS = {
+RECORD_BUGS = {
     'records synced once': lambda turn: in_record(turn, 's', 0),
     'answers before the last sync': lambda turn: in_record(turn, 's', 1),
     'records without their data': lambda turn: in_record(turn, 'w', 0),
+}
+# A gate that stays open shows only where a checkpoint has used the half before.
+BUGS = {
+    **RECORD_BUGS,
     'a gate that is not closed': lambda turn: in_record(turn, 'w', 1),
     'roots synced with their last rows': lambda turn: ended(turn, 's', 2),
     'an image without a row': lambda turn: ended(turn, 'w', 6),
@@ -208,10 +216,10 @@ def taken_twice(made, all_moments, serving, dice, count):
     print(f'{TWICE} runs on what a stop left, {sum(images or 0 for images in told)} images')
 
 
-def the_run(made, serving, form, count):
-    """The image that a run begins with, its record, and the serving; nothing where it fails."""
+def the_run(made, serving, form, count, together=1):
+    """The image that a run begins with, its record, and the serving; nothing where it fails. So many lines come together."""
     image = count.case('a disk made ready', ready, made.place, serving, form)
-    record = image and count.case('the run', made.run, int(serving.troubled), serving.text())
+    record = image and count.case('the run', functools.partial(made.run, int(serving.troubled), serving.text(), together=together))
     return record and (image, record, serving)
 
 
@@ -230,6 +238,19 @@ def recording(made, form, dice, count, words):
     taken(made.place, all_moments, dice, count, words.seconds)
 
 
+def lines_together(made, form, dice, count, words):
+    """The same of records of many commands, in part."""
+    print(f'{TOGETHER} lines together, a disk that begins in {FORMS[form]}', flush=True)
+    whole = the_run(made, Serving(reading.Register(), lines(dice, words.lines)), form, count, TOGETHER)
+    if not whole:
+        return
+    all_moments = list(moments(*whole))
+    count.case('the end', the_end, made.place, all_moments[-1], whole[2])
+    for name, change in RECORD_BUGS.items():
+        count.case(name, bug_found, whole, change, dice)
+    taken(made.place, all_moments, dice, count, words.seconds // 4)
+
+
 def main():
     words = options(__doc__, seconds=20, lines=110)
     print(f'seed {words.seed}', flush=True)
@@ -237,6 +258,7 @@ def main():
     for form in FORMS:
         with place(words.program, MEMORY) as folder, recorder(folder) as made:
             recording(made, form, dice, count, words)
+            lines_together(made, form, dice, count, words)
     count.end()
 
 

@@ -3,23 +3,27 @@
 compiled and preloaded): that one alone, or each later one too. The disk began in either layout. Where the call opens the disk that is
 a fault. Else the commands of that round are answered `device`, and all later ones `broken`; queries go on to be answered by what was
 acknowledged. The file is left alone from there on. It has every command that was acknowledged, and of those that were answered
-`device` what a whole record has. All is judged by the independent reading beside this file, which has to refuse runs that are changed
+`device` what a whole record has. All is judged by the independent reading (tests/reading/), which has to refuse runs that are changed
 here. Prints the seed, what was found, and last 'N passed, M failed'.
 Usage: tests/run station_faults PROGRAM [--runs N] [--lines N] [--seed N]"""
 import itertools
 import random
 
-from disk_files import DISK, MEMORY, place
+from disk_files import DISK, MEMORY, place, register_of, text
 from images import fault_of
 from many_files import WHEN_BROKEN, Files, by_chance, empty, ran, runs
 from reading_disks import NUMBERED, PLAIN, copied
-from reading_orders import Answered, NoOrder, Order, answered, follows, is_command, order_of, parts
+from reading_orders import Answered, NoOrder, answered, follows, is_command, order_of, parts
+from recorded_orders import Written, order_on
 from recorder import Done, recorder
 from running import Differs, compare
 from testing import Count, options
 
 STATIONS, READY = 4, 'ready.img'
 DEVICE, BROKEN = 'device', 'broken'
+# On which disks calls fail, and how; where lines come together a read gives so many
+FAILING = ((PLAIN, 'once', {}), (NUMBERED, 'and each later one', {'ALWAYS': 1}), (NUMBERED, 'once, lines together', {'together': 8}),
+           (PLAIN, 'and each later one, lines together', {'ALWAYS': 1, 'together': 20}))
 
 
 # The answers
@@ -40,20 +44,23 @@ def acknowledged(stations):
 
 
 def asked_before(record):
-    """How many lines each station had answered when the call failed, and with that how many were asked for."""
-    asked = [-1] * STATIONS
+    """How many lines each station had answered when the call failed, and how many it had asked for."""
+    asked = [(0, 0)] * STATIONS
     for done in itertools.takewhile(lambda done: done.kind != 'f', record):
         if done.kind == 'r':
-            asked[done.bytes[0] - 1] = done.number
+            asked[done.bytes[0] - 1] = done.number, done.number + done.bytes[1]
     return asked
 
 
 def outages(stations, record):
-    """Those answered before the fault have none; those asked for after it are `broken`; the one between may be either."""
-    for station, (pairs, asked) in enumerate(zip(stations, asked_before(record)), 1):
+    """Those answered before the fault have none; those asked for after it are `broken`. Of those between, the first ones have none, the
+    next ones are `device`, and the last ones `broken`."""
+    for station, (pairs, (answered, asked)) in enumerate(zip(stations, asked_before(record)), 1):
         told = [(at, outage(pair)) for at, pair in enumerate(pairs) if is_command(pair.line) and not pair.told[0].startswith('line ')]
-        compare(f'of station {station} what was answered before the fault', [it for at, it in told if at < asked and it], [])
-        compare(f'of station {station} what was asked for after the fault', [it for at, it in told if at > asked and it != BROKEN], [])
+        compare(f'of station {station} what was answered before the fault', [it for at, it in told if at < answered and it], [])
+        compare(f'of station {station} what was asked for after the fault', [it for at, it in told if at >= asked and it != BROKEN], [])
+        between = [(None, DEVICE, BROKEN).index(it) for at, it in told if answered <= at < asked]
+        compare(f'of station {station} the answers between are in order', between, sorted(between))
 
 
 # What the disk has
@@ -63,14 +70,14 @@ def on_device(stations):
     return [(station, pair.line) for station, pairs in enumerate(stations, 1) for pair in pairs if outage(pair) == DEVICE]
 
 
-def may_have(order, tried):
-    """The registers of all orders of some of these commands after what was acknowledged."""
-    for count in range(len(tried) + 1):
-        for some in itertools.permutations(tried, count):
-            try:
-                yield Order(copied(order.registers[-1]), some).registers[-1]
-            except NoOrder:
-                continue
+def left_after(order, stations, image):
+    """The register of what was acknowledged, and then of the commands that the disk has after it. Each of these was answered
+    `device`."""
+    base, tried = order.registers[-1], on_device(stations)
+    later = {number: said for number, said in Written(image).commands.items() if number > base.count}
+    left = order_on(copied(base), [[pair.line for pair in pairs] for pairs in stations], later)
+    compare('commands on the disk that were not answered `device`', [one for one in left.commands if one not in tried], [])
+    return left.registers[-1]
 
 
 def left_alone(record):
@@ -105,7 +112,8 @@ def when_broken(stations, record, image):
     if not on_device(stations):
         raise Differs('no command was answered `device`')
     left_alone(record)
-    compare('the disk stands for', fault_of(image, list(may_have(order, on_device(stations)))), None)
+    compare('the disk opens', register_of(image).count >= order.registers[-1].count, True)
+    compare('the disk stands for', fault_of(image, [left_after(order, stations, image)]), None)
     return len(order.commands)
 
 
@@ -128,6 +136,18 @@ def beside_an_unread_file(place, made, number):
     place.write(files.names[0], b'1 0 expire\n2 0 expire\n')
     done, _, _ = failed(place, files, made, number, {})
     compare('what it did', done, (5, b'station 1 s1.txt\n1 no device\n2 no broken\nstation 2 .\n', b'fault: device\n'))
+
+
+def those_at_hand(place, made, number):
+    """The call of that number is one for the first commands of a station, which came together: all of them are `device`, and those that
+    come after them `broken`. The disk has all of them, or none."""
+    commands = [b'%d 0 expire' % sequence for sequence in range(1, 13)]
+    files = Files([commands], ['s1.txt'])
+    files.write(place)
+    done, _, image = failed(place, files, made, number, {'together': 8})
+    told = [f'{sequence} no {DEVICE if sequence <= 8 else BROKEN}' for sequence in range(1, 13)]
+    compare('what it did', done, (5, text(['station 1 s1.txt', *told]), b'fault: device\n'))
+    compare('the disk has none or all', register_of(image).count in (0, 8), True)
 
 
 # What the judge refuses
@@ -167,23 +187,23 @@ def changes_refused(place, files, made, number, count):
 
 # The whole
 
-def the_calls(place, files, made):
+def the_calls(place, files, made, together):
     """How many calls a run has while the disk is opened, and in all; each of these is a read, a write or a sync."""
     place.copy(READY, DISK)
-    runs(place, files, empty(STATIONS), env=made.environment(files=files.names))
+    runs(place, files, empty(STATIONS), env=made.environment(files=files.names, together=together))
     record = made.record()
     opening = [done.kind for done in record].index('r')
     return len(record[:opening]), sum(done.kind != 'r' for done in record)
 
 
-def numbers_of(place, files, made, dice, count, runs_of):
+def numbers_of(files, made, dice, count, runs_of, together):
     """The sync that opens the disk, the first calls of the first round, and others by chance."""
-    calls = count.case('a run without a fault', the_calls, place, files, made)
+    calls = count.case('a run without a fault', the_calls, made.place, files, made, together)
     if not calls:
         return []
     opening, every = calls
-    first = range(opening + 1, opening + 6)
-    return [1, *first, *sorted(dice.sample(range(opening + 6, every * 3 // 4), runs_of))]
+    first, later = range(opening + 1, opening + 6), range(opening + 6, every * 3 // 4)
+    return [1, *first, *sorted(dice.sample(later, min(runs_of, len(later))))]
 
 
 def main():
@@ -193,12 +213,14 @@ def main():
     files = by_chance(dice, STATIONS, words.lines)
     with place(words.program, MEMORY) as folder, recorder(folder) as made:
         files.write(folder)
-        for form, name, fails in ((PLAIN, 'once', {}), (NUMBERED, 'and each later one', {'ALWAYS': 1})):
+        for form, name, fails in FAILING:
             folder.begins(form, READY)
-            numbers = numbers_of(folder, files, made, dice, count, words.runs)
+            numbers = numbers_of(files, made, dice, count, words.runs, fails.get('together', 1))
             told = [count.case(f'call {number} fails {name}', a_fault, folder, files, made, number, fails) for number in numbers]
             count.case('faults within the runs', compare, 'faults', sum(bool(kept) for kept in told) * 2 >= words.runs, True)
             count.case('beside an unread file', beside_an_unread_file, folder, made, numbers[1])
+            for number in numbers[1:6]:
+                count.case(f'call {number} fails under one station', those_at_hand, folder, made, number)
             files.write(folder)
             changes_refused(folder, files, made, numbers[len(numbers) // 2], count)
             print(f'{name}: {len(told)} runs; commands acknowledged before the fault: {" ".join(map(str, told))}', flush=True)

@@ -35,6 +35,11 @@ def lines(dice, count):
     return [line.encode() for line in made]
 
 
+def apart(lines):
+    """These lines with a query after each, so that no two commands are done together."""
+    return [one for line in lines for one in (line, b'count')]
+
+
 def data_of(lines):
     return b''.join(line + b'\n' for line in lines)
 

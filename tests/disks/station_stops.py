@@ -5,8 +5,8 @@ beside and without.
   file. `show` must print the same.
 - The same run again must answer these commands `kept` or `old-sequence`, and the rest as they come then. It must end as a run without
   a stop can end.
-Then the test records the calls of such a run (record.c, compiled and preloaded), and takes moments between them. At each moment the
-writes since the last sync are done, left out or torn. Each image must open to a prefix of the order that contains everything answered
+Then the test records the calls of such runs (record.c, compiled and preloaded), in one of which a read gives several lines of a
+station, and takes moments between them. At each moment the writes since the last sync are done, left out or torn. Each image must open to a prefix of the order that contains everything answered
 by then. Bugs planted in the record must be found, and changed orders refused. The independent reading (tests/reading/) judges all of
 this. Prints the seed, what was found, and last 'N passed, M failed'.
 Usage: tests/run station_stops PROGRAM [--moments N] [--lines N] [--seconds N] [--seed N]"""
@@ -28,7 +28,7 @@ from recorder import follow, recorder
 from running import Differs, compare
 from testing import Count, options
 
-STATIONS, READY, SHOWN = 8, 'ready.img', 6
+STATIONS, READY, SHOWN, TOGETHER = 8, 'ready.img', 6, 8
 
 
 # The order on a disk
@@ -202,16 +202,16 @@ def moments(image, record, asked):
             yield recording.Moment(disk.copy(), asked.registers())
 
 
-def recorded(place, files, made):
-    """A run's image before, its record, its order, and its answers."""
+def recorded(place, files, made, together):
+    """A run's image before, its record, its order, and its answers. So many lines of a station come together."""
     begins(place, PLAIN, SHORTEST, DISK)
     files.write(place)
     image = place.image()
-    done = ran(place, files, env=made.environment(files=files.names))
+    done = ran(place, files, env=made.environment(files=files.names, together=together))
     compare('status and standard error', (done.status, done.err), (int(is_troubled(done.out)), b''))
     order = ordered(empty(STATIONS), files, done.out)
     stands_for(place, order.registers[-1])
-    if opens(place.image()).epoch <= 2:
+    if together == 1 and opens(place.image()).epoch <= 2:
         raise Differs(f'{opens(place.image()).epoch - 1} checkpoints')
     return image, made.record(), order, [answered(lines, said) for lines, said in zip(files.lines, parts(done.out, files.names))]
 
@@ -276,8 +276,8 @@ def bug_found(whole, change, dice):
     compare('found', recording.any_fault(moments(image, planted, Asked(order, stations)), dice), True)
 
 
-def torn(place, files, made, dice, count, seconds):
-    whole = count.case('a run recorded', recorded, place, files, made)
+def torn(files, made, dice, count, seconds, together):
+    whole = count.case('a run recorded', recorded, made.place, files, made, together)
     if not whole:
         return
     image, record, order, stations = whole
@@ -347,7 +347,9 @@ def main():
         for form in FORMS:
             told += stopped(folder, files, made, (form, SHORTEST), dice, count, words.moments // 4)
         count.case('the moments', falls_within, told)
-        torn(folder, by_chance(dice, STATIONS, words.lines // 2), made, dice, count, words.seconds)
+        for together in 1, TOGETHER:
+            print(f'lines that come together: {together}', flush=True)
+            torn(by_chance(dice, STATIONS, words.lines // 2), made, dice, count, words.seconds // 2, together)
     count.end()
 
 

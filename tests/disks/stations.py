@@ -1,8 +1,9 @@
 #!/usr/bin/env python3
 """Runs the files of many stations on one disk: the worked cases, each once and again; 8 stations of 500 lines and 64 stations, on
 disks where checkpoints go on beside and where none does; files that are named twice, too many, missing, or can't be read to their
-end. The independent reading beside this file judges what such a run prints and leaves on the disk, and has to refuse outputs and
-disks that are changed here. Prints the seed, the first cases that fail, and last 'N passed, M failed'.
+end; slow syncs, and stations without a thread. The independent reading (tests/reading/) judges what such a run prints and leaves on
+the disk, and has to refuse outputs and disks that are changed here. Prints the seed, the first cases that fail, and last
+'N passed, M failed'.
 Usage: tests/run stations PROGRAM [--lines N] [--seed N] (the program itself, not a script that starts it)"""
 import contextlib
 import os
@@ -10,13 +11,16 @@ import random
 import subprocess
 import time
 
+import preloading
 import reading
+import refusing
 import rows
 from changed_outputs import CHANGES, kept_of
 from disk_files import DISK, MEMORY, MISSING, file_fault, place, register_of, shows_all, text, untouched
 from made_disks import FORMS
 from many_files import LONG, SHORTEST, Files, by_chance, empty, formats, ordered, ran, runs, stands_for
-from reading_disks import NUMBERED, opens
+from progress import SLOW
+from reading_disks import NUMBERED, layout_on, opens, records_in, told_in
 from reading_orders import NoOrder, answered, is_troubled, judged, parts
 from recorder import recorder
 from running import SECONDS, Differs, compare
@@ -124,7 +128,7 @@ def beside_checkpoints(place, files):
 
 
 def from_layout_1(place, dice):
-    files = by_chance(dice, 4, 100)
+    files = by_chance(dice, 4, 400)
     for form in FORMS:
         place.begins(form)
         once_and_again(place, files)
@@ -236,6 +240,42 @@ def not_read_to_its_end(place, made, dice):
     stands_for(place, cut(15, files, 2, done.out).registers[-1])
 
 
+def without_a_thread(place, made, number):
+    """The station for which no thread can be made is out of memory before its first line. The others are served."""
+    files, env = Files([[b'%d 0 expire' % sequence for sequence in range(1, 6)]] * 3), refusing.environment(made, 0, thread=number)
+    outs = [f'{station}.out' for station in (1, 2, 3)]
+    served = ['serve', DISK, *(name for pair in zip(files.names, outs) for name in pair)]
+    for words in files.words, served:
+        formats(place, 3, SHORTEST)
+        files.write(place)
+        done = subprocess.run([*place.command, *words], stdin=subprocess.DEVNULL, capture_output=True, cwd=place.folder, timeout=SECONDS, env=env)
+        compare('status and standard error', (done.returncode, done.stderr), (5, b'fault: memory\n'))
+        told = parts(done.stdout, files.names) if words == files.words else [lines_in(place.path(name)) for name in outs]
+        compare('lines answered', [len(one) for one in told], [0 if station == number else 5 for station in (1, 2, 3)])
+        compare('commands on the disk', register_of(place.image()).count, 10)
+
+
+def lines_in(path):
+    """Those of a file, if it is there."""
+    return path.read_text().splitlines() if path.exists() else []
+
+
+def shared_syncs(place):
+    """While a sync is slow, the next commands of all stations come together, and are one record."""
+    stations, commands = 8, 5
+    formats(place, stations, LONG)
+    files = Files([[b'%d 0 expire' % sequence for sequence in range(1, commands + 1)]] * stations)
+    files.write(place)
+    with preloading.library(SLOW) as slow:
+        done = ran(place, files, env=preloading.environment(slow, SYNCS=3 * commands * 2))
+    compare('status and standard error', (done.status, done.err), (0, b''))
+    image = place.image()
+    layout = layout_on(image)
+    records, _ = records_in(image, layout.half(0), layout.half(1), NUMBERED, 0)
+    compare('commands', sum(len(told_in(record).commands) for record in records), stations * commands)
+    compare(f'{len(records)} records of {stations * commands} commands', 2 * len(records) <= stations * commands, True)
+
+
 # The whole
 
 def in_a_place(count, words, folder, name, call, *arguments):
@@ -250,6 +290,13 @@ def worked(count, words):
             in_a_place(count, words, MEMORY, f'{file.name}, {name}', a_worked_case, given, wanted)
 
 
+def with_slow_syncs_and_few_threads(count, words):
+    in_a_place(count, words, MEMORY, 'shared_syncs', shared_syncs)
+    with refusing.library() as made:
+        for number in 1, 2, 3:
+            in_a_place(count, words, MEMORY, f'without the thread of station {number}', without_a_thread, made, number)
+
+
 def many(count, words, dice):
     eight, most = by_chance(dice, 8, words.lines), by_chance(dice, 64, 20)
     for name, folder in (('on a device', None), ('in memory', MEMORY)):
@@ -262,7 +309,7 @@ def many(count, words, dice):
 
 
 def changed(count, words, dice):
-    files = by_chance(dice, 8, 60)
+    files = by_chance(dice, 8, 300)
     done = in_a_place(count, words, MEMORY, '8 stations whose output is changed', beside_checkpoints, files)
     if done:
         changes_refused(count, dice, files, *done)
@@ -282,6 +329,7 @@ def main():
     worked(count, words)
     changed(count, words, dice)
     faulty(count, words, dice)
+    with_slow_syncs_and_few_threads(count, words)
     many(count, words, dice)
     count.end()
 

@@ -3,8 +3,9 @@
 and its instructions, where valgrind is installed. Threads of a run that wait would count too, so these are counted of LINES, which answers
 lines of standard input by one thread over a register in memory (crates/benchmarks). No line's cost may grow with the whole of a table, so a
 full table may cost a line a few times as much and not hundreds of times. A listing of a full register may make a few allocations in all,
-as its text grows. A checkpoint may make a few for each entry of the register, for its copy. Every figure is the difference of two runs,
-so that starting and opening the disk cost nothing. Prints the figures, the cases that fail, and last 'N passed, M failed'.
+as its text grows. A checkpoint may make a few for each entry of the register, for its copy. A check, a listing, a dump and a checkpoint
+beside commits may take some sixteen times the instructions on sixteen times the size (disk_costs.py). Every figure is the difference of
+two runs, so that starting and opening the disk cost nothing. Prints the figures, the cases that fail, and last 'N passed, M failed'.
 Usage: tests/run costs PROGRAM LINES (the programs themselves, not a script that starts them)"""
 import pathlib
 import re
@@ -12,6 +13,7 @@ import shutil
 import subprocess
 
 import preloading
+from disk_costs import by_size
 from disk_files import DISK, LINES, MEMORY, place, settings
 from running import Differs, compare
 from testing import Count, options
@@ -64,10 +66,11 @@ def commands(bodies, first=1):
 
 
 class Costs:
-    """The program on disks of one size, whose instructions and allocations are counted."""
+    """The program on disks of one size, whose instructions and allocations are counted. Commands are committed alone where a query comes
+    after each."""
 
     def __init__(self, there, made, size, journal=HALF):
-        self.there, self.made, self.size = there, made, size
+        self.there, self.made, self.size, self.after_each = there, made, size, b'\n'
         there.write('s.toml', settings_of(size, journal))
         there.path(DISK).unlink(missing_ok=True)
         self.run(['format', 's.toml', DISK])
@@ -83,8 +86,9 @@ class Costs:
 
     def serve(self, bodies):
         """Serves these commands of station 1, all of which have to be accepted."""
-        self.there.write(LINES, commands(bodies, self.next_sequence()))
-        are_accepted(self.run(['run', DISK, LINES]).stdout.split('\n')[1:-1])
+        self.there.write(LINES, commands(bodies, self.next_sequence()).replace(b'\n', self.after_each))
+        told = self.run(['run', DISK, LINES]).stdout.split('\n')[1:-1]
+        are_accepted([line for line in told if not line.startswith('count ')])
 
     def next_sequence(self):
         return int(self.run(['show', DISK, 'count']).stdout.split()[1]) + 1
@@ -93,7 +97,6 @@ class Costs:
         self.there.copy('full.img', DISK)
         self.serve(kind(self.size, count))
         return int(self.there.path('allocations').read_text())
-
 
     def asked(self, query, count):
         """Allocations of a run that asks the full register so many times."""
@@ -141,9 +144,10 @@ def a_listing(full, query):
 
 
 def a_checkpoint(there, made, full):
-    """Lines on a full register, with a half that is full after each 18 of them, and with one that has room for all. In the small half
+    """Lines on a full register, with a half that is full after each 18 commits, and with one that has room for all. In the small half
     a checkpoint begins with a copy of the register, and has no time to end; a whole one then makes room."""
     small_half = Costs(there, made, FULL, 38)
+    small_half.after_each = full.after_each = b'\ncount\n'
     each = (a_line(small_half, expiries) - a_line(full, expiries)) * 18
     print(f'a checkpoint: {each:,.1f} allocations', flush=True)
     if each > MOST_PER_CHECKPOINT:
@@ -164,6 +168,8 @@ def main():
         for query in LISTINGS:
             count.case(query, a_listing, full, query)
         count.case('a checkpoint', a_checkpoint, one, made, full)
+    if shutil.which('valgrind'):
+        by_size(program, count)
     count.end()
 
 

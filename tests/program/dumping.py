@@ -32,6 +32,8 @@ from streams import group_messages, groups, lines, locations, messages
 from testing import Count
 
 SEED, BY_CHANCE, SHOWN = 20, 60, 4
+# The most bytes that the program asks of one read
+PIECE = 65_536
 STREAMS = lines.KINDS + locations.KINDS + groups.KINDS + messages.KINDS + group_messages.KINDS
 # How many streams of a kind are run; and the bytes of the longest one
 STREAMS_OF_A_KIND, LONGEST_STREAM = 2, 100_000
@@ -129,6 +131,21 @@ def all_registers():
     yield from (register for _, _, register in registers.by_chance(BY_CHANCE))
     yield from registers.longest()
     yield registers.crowded(128)
+    yield cut_by_a_read()
+
+
+def cut_by_a_read():
+    """Radios in 32 groups each, and as many rules as it takes that the first 65,536 bytes of the text end near the end of one of the longest
+    lines."""
+    register = reading.Register({'rules': 64, 'radios': 100, 'mail': 1, 'stations': 2})
+    register.count = 9
+    for k in range(100):
+        itsi = registers.identity(registers.LAST_IDENTITY - k)
+        register.radios[itsi] = 2, registers.LAST_AREA, True
+        register.groups.update({(itsi, registers.identity(registers.LAST_IDENTITY - group)): (7, 3) for group in range(reading.MOST_GROUPS)})
+    while len(text_of(register)[:PIECE].rpartition(b'\n')[2]) < 750:
+        register.rules[registers.identity(len(register.rules) << 8)[:40]] = 0, registers.LAST_AREA, 3, 60
+    return register
 
 
 def larger(limits):

@@ -2,8 +2,8 @@
 """Refuses each allocation of the program in turn (refuse.c, preloaded) over the lines of growths.txt,
 which have every form. Each run must answer as the independent reading (tests/reading/) does, except that
 at most one line is answered `no memory`. The answers after it must be as if that line had not come.
-Or the run ends before its first line with `fault: memory` and status 5. The test ends with the first
-run in which no answer changed and the two after it. Prints 'N passed, M failed' last.
+Or the run ends before its first line with `fault: memory` and status 5. Each run has to free all its
+blocks. The test ends with the first run in which no answer changed and the two after it. Prints 'N passed, M failed' last.
 Usage: tests/run growths PROGRAM (the program itself, not a script that starts it; a proved build by either
 compiler. What `rt try` builds has a heap of its own, which nothing preloaded can refuse, and is kept in no
 file: its own --fail-alloc N refuses one allocation, and compiles it anew, a minute, for each N)"""
@@ -11,6 +11,7 @@ import collections
 import pathlib
 import subprocess
 import sys
+import tempfile
 
 import reading
 import refusing
@@ -25,11 +26,11 @@ def answers(lines):
     return reading.serve(b''.join(line + b'\n' for line in lines))[0]
 
 
-def run(command, library, refused):
-    """What the program writes with that allocation refused, and its status."""
+def run(command, library, refused, held):
+    """What the program writes with that allocation refused, its status, and how many blocks it has not freed."""
     ran = subprocess.run(command, input=DATA, stdout=subprocess.PIPE, stderr=subprocess.STDOUT, timeout=60,
-                         env=refusing.environment(library, refused))
-    return ran.stdout, ran.returncode
+                         env=refusing.environment(library, refused, held=str(held)))
+    return ran.stdout, ran.returncode, refusing.held_blocks(held)[0]
 
 
 def wanting(at):
@@ -50,7 +51,9 @@ FULL = answers(LINES)
 CHANGED = {wanting(at): at for at, line in enumerate(LINES) if may_want(line)}
 
 
-def judged(text, status):
+def judged(text, status, blocks):
+    if blocks:
+        return 'WRONG'
     if text == FULL and status == 1:
         return 'no answer changed'
     if text in CHANGED and status == 1:
@@ -60,16 +63,16 @@ def judged(text, status):
     return 'WRONG'
 
 
-def sweep(command, library):
+def sweep(command, library, held):
     """How often each kind of run was seen."""
     refused, unchanged, seen = 1, 0, collections.Counter()
     while unchanged < 3:
-        text, status = run(command, library, refused)
-        kind = judged(text, status)
+        text, status, blocks = run(command, library, refused, held)
+        kind = judged(text, status, blocks)
         seen[kind.rstrip('0123456789')] += 1
         unchanged = unchanged + 1 if kind == 'no answer changed' else 0
         if kind == 'WRONG':
-            print(f'allocation {refused}: status {status}', text.decode('latin1'))
+            print(f'allocation {refused}: status {status}, {blocks} blocks not freed', text.decode('latin1'))
         refused += 1
     return seen
 
@@ -78,8 +81,8 @@ def main():
     command = sys.argv[1:]
     if not command or refusing.is_script(command):
         sys.exit(__doc__)
-    with refusing.library() as library:
-        seen = sweep(command, library)
+    with refusing.library() as library, tempfile.TemporaryDirectory() as folder:
+        seen = sweep(command, library, pathlib.Path(folder, 'held'))
     if not seen['memory for line ']:
         sys.exit('no allocation was refused: the program has a heap of its own')
     failed = seen['WRONG']

@@ -1,6 +1,6 @@
 #!/usr/bin/env python3
 """Runs a program on hostile input (the modules of streams) and compares each answer with the
-independent reading beside this file. Prints a line for each kind of input, the first difference of a
+independent reading (tests/reading/). Prints a line for each kind of input, the first difference of a
 kind that fails, and last 'N passed, M failed' (streams compared).
 Usage: tests/run hostile COMMAND..."""
 import itertools

@@ -16,21 +16,23 @@ import tempfile
 
 from disk_files import DISK, SECTORS, place
 from program import ANSWERS, EXAMPLE, TOP
-from running import SECONDS, compare
+from running import compare, said
 from testing import Count, options
 
 BUILD, TIME = 'packaging/build', 1_000_000_000
-PROGRAM, UNIT, USER = 'usr/bin/tetra-switch', 'usr/lib/systemd/system/tetra-switch.service', 'usr/lib/sysusers.d/tetra-switch.conf'
-SETTINGS, PAGE = 'usr/share/doc/tetra-switch/examples/settings.toml', 'usr/share/man/man1/tetra-switch.1.gz'
+PROGRAM, USER, PAGE = 'usr/bin/tetra-switch', 'usr/lib/sysusers.d/tetra-switch.conf', 'usr/share/man/man1/tetra-switch.1.gz'
+DESK, DOCUMENTS, UNITS = f'{PROGRAM}-desk', 'usr/share/doc/tetra-switch', 'usr/lib/systemd/system'
+SETTINGS, CHANGES, COPYRIGHT = (f'{DOCUMENTS}/{name}' for name in ('examples/settings.toml', 'changelog.gz', 'copyright'))
+# Files that are as in the repository, and packed ones
+SAME = {DESK: 'examples/desk.py', SETTINGS: 'examples/settings.toml', USER: 'packaging/sysusers.conf', COPYRIGHT: 'packaging/copyright',
+        **{f'{DOCUMENTS}/examples/{name}': f'examples/{name}' for name in ('desk.py', 'forget.py', 'backup.sh')},
+        **{f'{DOCUMENTS}/{name}': f'docs/{name}' for name in ('operate.md', 'formats/lines.md', 'formats/pdus.md')}}
+PACKED = {PAGE: 'docs/tetra-switch.1', CHANGES: 'packaging/changelog'}
+# Units, of which each names the program or the desk once
+UNIT_NAMES = [f'tetra-switch{name}' for name in ('.service', '-expire.service', '-expire.timer')]
+STARTED = dict(zip(UNIT_NAMES, [[b'/bin/tetra-switch'], [b'/bin/tetra-switch-desk'], []]))
 KINDS = {tarfile.DIRTYPE: 'folder', tarfile.REGTYPE: 'file'}
-MODES = {PROGRAM: 0o755, UNIT: 0o644, USER: 0o644, SETTINGS: 0o644, PAGE: 0o644}
-
-
-def said(status, *command, **how):
-    """What a command writes to standard output and to standard error. It must end with this status."""
-    done = subprocess.run([str(word) for word in command], stdin=subprocess.DEVNULL, capture_output=True, timeout=SECONDS, **how)
-    compare(f'status of {command} {done.stderr}', done.returncode, status)
-    return done.stdout, done.stderr
+MODES = {**{name: 0o644 for name in (*SAME, *PACKED, *(f'{UNITS}/{name}' for name in UNIT_NAMES))}, PROGRAM: 0o755, DESK: 0o755}
 
 
 def below(folder):
@@ -102,7 +104,7 @@ def refuses(package):
 def builds_the_same_again(package):
     """A copy elsewhere gives the same bytes: nobody else may read its files, its own program is built, and the time is that of a commit."""
     top = package.folder / 'copy'
-    for name in 'tetra-switch', 'docs/tetra-switch.1', 'examples/settings.toml', *(f'packaging/{one.name}' for one in (TOP / 'packaging').iterdir()):
+    for name in {'tetra-switch', *SAME.values(), *PACKED.values(), *(f'packaging/{one.name}' for one in (TOP / 'packaging').iterdir())}:
         (top / name).parent.mkdir(parents=True, exist_ok=True)
         shutil.copy(TOP / name, top / name)
         (top / name).chmod((top / name).stat().st_mode & 0o700)
@@ -134,11 +136,24 @@ def has_these_files(package):
     compare('files', package.entries('--fsys-tarfile'), {name: (kind, oct(mode), 0, 0, TIME) for name, (kind, mode) in wanted.items()})
     compare('unpacked', below(package.root), MODES)
     compare('the program', package.bytes(PROGRAM) == package.program.read_bytes(), True)
-    compare('the settings', package.bytes(SETTINGS), (TOP / 'examples/settings.toml').read_bytes())
-    compare('a name or time within the page', package.bytes(PAGE)[3:8], bytes(5))
-    compare('the page', gzip.decompress(package.bytes(PAGE)) == (TOP / 'docs/tetra-switch.1').read_bytes(), True)
-    unit = (TOP / 'packaging/tetra-switch.service').read_bytes().split(b'/usr/local/bin/tetra-switch')
-    compare('the unit', (len(unit), package.bytes(UNIT)), (2, b'/usr/bin/tetra-switch'.join(unit)))
+    for name, path in SAME.items():
+        compare(name, package.bytes(name) == (TOP / path).read_bytes(), True)
+    for name, path in PACKED.items():
+        compare(f'a name or time within {name}', package.bytes(name)[3:8], bytes(5))
+        compare(name, gzip.decompress(package.bytes(name)) == (TOP / path).read_bytes(), True)
+    for name in UNIT_NAMES:
+        unit = (TOP / 'packaging' / name).read_bytes()
+        compare(name, package.bytes(f'{UNITS}/{name}'), unit.replace(b'/usr/local/bin/', b'/usr/bin/'))
+        compare(f'what {name} starts', re.findall(rb'^[^#\n]*(/bin/tetra-switch\S*)', package.bytes(f'{UNITS}/{name}'), re.M), STARTED[name])
+
+
+def says_whose_it_is(package):
+    """The changelog begins with this version; the copyright has an owner and says that no licence is chosen."""
+    told = said(0, 'dpkg-parsechangelog', '-l', TOP / 'packaging/changelog', '-S', 'Version')[0].decode().strip()
+    compare('the version of the changelog', told, package.version)
+    whose = package.bytes(COPYRIGHT).decode()
+    compare('the copyright', re.findall(r'^Copyright: (.*)$', whose, re.M), ['2026 Yabbymatte maintainers'])
+    compare('no licence', 'No licence has been chosen yet' in whose, True)
 
 
 def has_these_fields(package):
@@ -146,7 +161,8 @@ def has_these_fields(package):
     libc = max(map(int, re.findall(rb'GLIBC_2\.(\d+)', package.program.read_bytes())))
     names = 'Package', 'Version', 'Architecture', 'Depends'
     told = said(0, 'dpkg-deb', '--show', '--showformat=' + ''.join(f'${{{name}}}\n' for name in names), package.made)[0]
-    compare('fields', told.decode().splitlines(), ['tetra-switch', package.version, 'amd64', f'libc6 (>= 2.{libc}), systemd | systemd-standalone-sysusers'])
+    needs = f'libc6 (>= 2.{libc}), python3 (>= 3.8), systemd | systemd-standalone-sysusers'
+    compare('fields', told.decode().splitlines(), ['tetra-switch', package.version, 'amd64', needs])
     control = {'.': ('folder', '0o755'), 'control': ('file', '0o644'), 'postinst': ('file', '0o755')}
     compare('control files', package.entries('--ctrl-tarfile'), {name: (*it, 0, 0, TIME) for name, it in control.items()})
 
@@ -184,6 +200,7 @@ def answers(package):
     with place([package.root / PROGRAM]) as there:
         there.gives(['format', package.root / SETTINGS, DISK], 0, f'formatted {SECTORS} sectors\n'.encode())
         there.gives(['serve', DISK], 0, ANSWERS, stdin=subprocess.PIPE, data=EXAMPLE)
+        compare('the desk', said(0, package.root / DESK, '--help')[0].startswith(b'usage: tetra-switch-desk '), True)
 
 
 def page_is_shown(package):
@@ -197,17 +214,22 @@ def page_is_well_formed(package):
     compare('groff', said(0, 'groff', '-man', '-ww', '-z', '-Tutf8', page), (b'', b''))
 
 
-def unit_is_verified(package):
-    compare('systemd-analyze verify', said(0, 'systemd-analyze', 'verify', '--man=no', package.root / UNIT), (b'', b''))
+def units_are_verified(package):
+    """The desk that they start is that of the package."""
+    folder = package.folder / 'units'
+    folder.mkdir()
+    for name in UNIT_NAMES:
+        (folder / name).write_text(package.bytes(f'{UNITS}/{name}').decode().replace(f'/{DESK}', str(package.root / DESK)))
+    compare('systemd-analyze verify', said(0, 'systemd-analyze', 'verify', '--man=no', *(folder / name for name in UNIT_NAMES)), (b'', b''))
 
 
 # All cases, each with the tools that it needs
 
 CASES = [
     (takes_no_other_words,), (needs_dpkg_deb,), (builds, 'dpkg-deb'), (refuses, 'dpkg-deb'), (builds_the_same_again, 'dpkg-deb', 'git'),
-    (needs_the_newest_library, 'dpkg-deb'), (has_these_files, 'dpkg-deb'), (has_these_fields, 'dpkg-deb'),
+    (needs_the_newest_library, 'dpkg-deb'), (has_these_files, 'dpkg-deb'), (says_whose_it_is, 'dpkg-deb', 'dpkg-parsechangelog'), (has_these_fields, 'dpkg-deb'),
     (installs, 'dpkg-deb', 'dpkg', 'systemd-sysusers'), (answers, 'dpkg-deb'), (page_is_shown, 'dpkg-deb', 'man'),
-    (page_is_well_formed, 'dpkg-deb', 'groff'), (unit_is_verified, 'dpkg-deb', 'systemd-analyze'),
+    (page_is_well_formed, 'dpkg-deb', 'groff'), (units_are_verified, 'dpkg-deb', 'systemd-analyze'),
 ]
 
 
@@ -216,11 +238,8 @@ def main():
     with tempfile.TemporaryDirectory() as folder:
         package = Package(words.program[0], folder)
         for case, *needed in CASES:
-            missing = [name for name in needed if not shutil.which(name)]
-            if missing:
-                print(f'{missing[0]} is not installed, so {case.__name__} is left out')
-                continue
-            count.case(case.__name__, case, package)
+            if count.has(case.__name__, *needed):
+                count.case(case.__name__, case, package)
     count.end()
 
 

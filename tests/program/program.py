@@ -1,6 +1,6 @@
 #!/usr/bin/env python3
 """Runs the built program for each of its exit statuses, and over streams that give and take little at a time, and compares
-what it writes with the independent reading beside this file. Prints a line for each case, and last 'N passed, M failed'.
+what it writes with the independent reading (tests/reading/). Prints a line for each case, and last 'N passed, M failed'.
 Usage: tests/run program PROGRAM (the program itself, not a script that starts it)"""
 import contextlib
 import fcntl

@@ -11,13 +11,16 @@ import signal
 import subprocess
 import tempfile
 
+import reading
 import refusing
-from disk_files import DISK, EXISTS, MISSING, NOT_A_FILE, SECTORS, file_fault, run_cases, settings, text, untouched
+from disk_files import DISK, EXISTS, MEMORY, MISSING, NOT_A_FILE, SECTORS, file_fault, run_cases, settings, text, untouched
+from disk_files import place as in_memory
 from file_cases import as_nobody
 from made_disks import FORMS
 from program import TOP
 from reading_disks import figures
 from running import SECONDS, Differs, compare
+from station_lines import apart, data_of
 
 FORMATTED = f'formatted {SECTORS} sectors\n'.encode()
 LINES = b'1 0 rule 234-14-0/24 1 99 1 3600\n2 10 mm 234-14-2001 7 10:260\n'
@@ -93,15 +96,16 @@ def shows_figures(place):
 
 
 def figures_of_a_disk(place):
-    """Of a disk made ready; after two commands; and after ten more, beside which a checkpoint begins and ends."""
+    """Of a disk made ready; after two commands; and after ten more, one after another, beside which a checkpoint begins and ends."""
     place.write('a.txt', LINES)
-    place.write('b.txt', text(f'{sequence} 20 expire' for sequence in range(3, 13)))
+    more = apart([b'%d 20 expire' % sequence for sequence in range(3, 13)])
+    place.write('b.txt', data_of(more))
     for form in FORMS:
         place.begins(form)
         shows_figures(place)
         place.gives(['run', DISK, 'a.txt'], 0, b'station 1 a.txt\n' + FIRST)
         shows_figures(place)
-        place.gives(['run', DISK, 'b.txt'], 0, text(['station 1 b.txt', *(f'{number} ok {number} -' for number in range(3, 13))]))
+        place.gives(['run', DISK, 'b.txt'], 0, text(['station 1 b.txt']) + reading.serve(LINES + data_of(more))[0][len(FIRST):])
         compare('the side that counts', figures(place.image())[:28], 'disk layout 2 side B epoch 2')
         shows_figures(place)
 
@@ -333,34 +337,52 @@ def no_memory(place):
 
 def said_before(out):
     """The answers of a run before the first `no memory`. A command is answered `kept` if it was kept and memory then ran out before
-    the sessions could see it. Here such an answer counts as `ok`."""
+    the sessions could see it. Here such an answer counts as `ok`, and the query after it, which may not see it, is left out."""
     said = re.sub(rb'^[^\n]* no memory\n.*', b'', out, flags=re.M | re.S)
+    said = said.split(b'where ')[0] if b' kept ' in said else said
     return re.sub(rb'^(\d+) kept ', rb'\1 ok ', said, flags=re.M)
 
 
-def memory_that_ends(place, form, title, words):
+def with_one_refused(place, made, words, number):
+    """The program with the allocation of that number refused: how it ends, and how many allocations it asked for."""
+    held = place.path('held')
+    ended = subprocess.run([*place.command, *words], stdin=subprocess.DEVNULL, capture_output=True, timeout=SECONDS, cwd=place.folder,
+                           env=refusing.environment(made, number, held=str(held)))
+    return ended, refusing.held_blocks(held)[1]
+
+
+def memory_that_ends(place, form, good, words):
+    """Another thread may ask for more or less, so the last numbers are past all of them."""
     place.begins(form, 'new.img')
-    good, statuses = title + FIRST + WHERE, []
+    statuses, number, every = set(), 0, 1
     with refusing.library() as made:
-        while statuses[-1:] != [0]:
+        while number < every + 3:
             place.copy('new.img', 'd.img')
-            program = subprocess.run([*place.command, *words], stdin=subprocess.DEVNULL, capture_output=True, timeout=SECONDS,
-                                     cwd=place.folder, env=refusing.environment(made, len(statuses) + 1))
-            statuses.append(program.returncode)
+            program, asked = with_one_refused(place, made, words, number)
+            statuses, number, every = statuses | {program.returncode}, number + 1, max(every, asked)
             compare('standard error', program.stderr, fault('memory') if program.returncode == 5 else b'')
             compare(f'{program.stdout!r} is a prefix of the answers', good.startswith(said_before(program.stdout)), True)
             again = subprocess.run([*place.command, 'run', 'd.img', 'a.txt'], capture_output=True, timeout=SECONDS, cwd=place.folder)
             compare('status of the next run', again.returncode, 0)
+            place.gives(['show', 'd.img', 'count'], 0, b'count 8\n')
             place.gives(['show', 'd.img', 'where', '234-14-2001'], 0, WHERE)
-    compare('statuses', sorted(set(statuses)), [0, 1, 5])
+    compare('statuses', sorted(statuses), [0, 1, 5])
 
 
 def memory_that_ends_between(place):
-    """Each allocation in turn is refused: that is a fault, or the answer to a line; then all is answered as if nothing had been."""
-    place.write('a.txt', LINES + b'where 234-14-2001\n')
+    """Each allocation in turn is refused: that is a fault, or the answer to a line; then all is answered as if nothing had been. The
+    lines come together."""
+    with in_memory(place.command, MEMORY) as there:
+        all_memory_that_ends(there)
+
+
+def all_memory_that_ends(place):
+    more = text(f'{sequence} 20 sds 234-14-2001 234-14-2001 392:8200{sequence:02X}' + '5A' * 46 for sequence in range(3, 9))
+    place.write('a.txt', LINES + more + b'where 234-14-2001\n')
+    good = FIRST + text(f'{number} ok {number} -' for number in range(3, 9)) + WHERE
     for form in FORMS:
-        memory_that_ends(place, form, b'station 1 a.txt\n', ['run', 'd.img', 'a.txt'])
-        memory_that_ends(place, form, b'', ['serve', 'd.img', 'a.txt', '/dev/stdout'])
+        memory_that_ends(place, form, b'station 1 a.txt\n' + good, ['run', 'd.img', 'a.txt'])
+        memory_that_ends(place, form, good, ['serve', 'd.img', 'a.txt', '/dev/stdout'])
 
 
 CASES = [

@@ -1,6 +1,6 @@
 #!/usr/bin/env python3
 """What the built program prints on a terminal while it serves, dumps, loads and checks. Standard error is a pseudo terminal. The lines
-come over a pipe, with a second between them; a read of the disk takes more than a second (slow.c, compiled and preloaded). Prints the
+come over a pipe, with a second between them; reads and syncs of the disk are slow (slow.c, compiled and preloaded). Prints the
 cases that fail, and last 'N passed, M failed'.
 Usage: tests/run progress PROGRAM (the program itself, not a script that starts it)"""
 import contextlib
@@ -21,8 +21,8 @@ from reading_texts import register_in, text_of
 from recorder import recorder
 from running import SECONDS, Differs, compare
 
-# A second, and what a timer may be late
-PAUSE = 1.1
+# A second, and what a timer may be late; and how long hundreds of commands may take on a busy machine
+PAUSE, LONG = 1.1, 3 * SECONDS
 FIRST = b'1 0 rule 234-14-0/24 1 99 1 3600\n2 10 mm 234-14-2001 7 10:260\n'
 FIRST_SAID = b'1 ok 1 -\n2 ok 2 8:56\n'
 # A query, an empty line, a comment, a bad line, and the last command again
@@ -44,7 +44,7 @@ class Terminal:
         modes[3] &= ~termios.ECHO
         termios.tcsetattr(self.slave, termios.TCSANOW, modes)
         self.text = b''
-        self.reading = threading.Thread(target=self.read)
+        self.reading = threading.Thread(target=self.read, daemon=True)
         self.reading.start()
 
     def read(self):
@@ -61,7 +61,7 @@ class Terminal:
 
 
 def judged(text, form, last, err=b''):
-    """The figures never go down, the last ones are these, and their line ends; then comes a fault."""
+    """The figures never go down, the last ones are these, and their line ends; then comes a fault. Returns all figures."""
     err = err.replace(b'\n', b'\r\n')
     if not text.endswith(b'\r\n' + err):
         raise Differs(f'the terminal {text!r}, wanted an end of the line, and {err!r}')
@@ -72,19 +72,20 @@ def judged(text, form, last, err=b''):
     compare('the last figures', figures[-1:], [last])
     if len(figures) < 2:
         raise Differs(f'the figures were told at the end alone: {text!r}')
+    return figures
 
 
-def serving(place, words, pieces, stdin=subprocess.DEVNULL, name='a.txt', **how):
-    """Starts the program, and sends it the pieces with a second between; gives the output and the status."""
+def serving(place, words, pieces, stdin=subprocess.DEVNULL, name='a.txt', pause=PAUSE, **how):
+    """Starts the program, and sends it the pieces with pauses between; gives the output and the status."""
     with subprocess.Popen([*place.command, *words], cwd=place.folder, stdin=stdin, stdout=subprocess.PIPE, **how) as program:
         lines = program.stdin or open(place.path(name), 'wb', buffering=0)
         with contextlib.suppress(BrokenPipeError), lines:
             for piece in pieces:
                 lines.write(piece)
                 lines.flush()
-                time.sleep(PAUSE)
+                time.sleep(pause)
         program.stdin = None
-        out, err = program.communicate(timeout=SECONDS)
+        out, err = program.communicate(timeout=LONG)
         return out, err, program.returncode
 
 
@@ -103,14 +104,43 @@ def over_a_disk(place):
 
 
 def over_two_stations(place):
-    """The figures are those of both."""
+    """The figures are those of both, also between, where each has served its first lines."""
     piped(place)
     place.write('b.txt', b'1 0 expire\n# a remark\n1 0 expire\n')
     terminal = Terminal()
-    out, _, status = serving(place, ['run', 'd.img', 'a.txt', 'b.txt'], [FIRST, REST], stderr=terminal.slave)
+    out, _, status = serving(place, ['run', 'd.img', 'a.txt', 'b.txt'], [FIRST, REST], stderr=terminal.slave, pause=2.5)
     text = terminal.ends()
     compare('lines and status', (len(out.splitlines()), status), (9, 1))
-    judged(text, SERVED, (ALL_LINES + 3, ALL_ACCEPTED + 1))
+    figures = judged(text, SERVED, (ALL_LINES + 3, ALL_ACCEPTED + 1))
+    compare('the first figures', figures[0], (FIRST.count(b'\n') + 3, ALL_ACCEPTED + 1))
+
+
+def within_a_piece(place):
+    """The second station's lines count while its piece is served slowly, though the first one gets another piece meanwhile. No more
+    commands are accepted than lines are served."""
+    piped(place)
+    place.write('b.txt', b''.join(b'%d 0 expire\n' % sequence for sequence in range(1, 101)))
+    terminal = Terminal()
+    with preloading.library(SLOW) as slow:
+        out, _, status = serving(place, ['run', 'd.img', 'a.txt', 'b.txt'], [b'', b'# a remark\n'], stderr=terminal.slave, pause=1.2,
+                                 env=preloading.environment(slow, SYNCS=16))
+    text = terminal.ends()
+    compare('lines and status', (len(out.splitlines()), status), (102, 0))
+    figures = judged(text, SERVED, (101, 100))
+    compare('figures with more commands than lines', [one for one in figures if one[0] < one[1]], [])
+
+
+def once_a_second(place):
+    """Hundreds of lines are served in more than a second."""
+    place.format()
+    place.write('a.txt', b''.join(b'%d 0 expire\n' % sequence for sequence in range(1, 301)))
+    terminal, start = Terminal(), time.monotonic()
+    with preloading.library(SLOW) as slow:
+        program = subprocess.run([*place.command, 'run', 'd.img', 'a.txt'], cwd=place.folder, stdin=subprocess.DEVNULL, stdout=subprocess.DEVNULL,
+                                 stderr=terminal.slave, timeout=LONG, env=preloading.environment(slow, SYNCS=8))
+    compare('status', program.returncode, 0)
+    figures = judged(terminal.ends(), SERVED, (300, 300))
+    compare('reports each second, and at the end', len(figures) <= time.monotonic() - start + 1, True)
 
 
 def over_standard_input(place):
@@ -246,8 +276,8 @@ def slow_without_a_terminal(place):
 
 
 CASES = [
-    over_a_disk, over_two_stations, over_standard_input, no_terminal, less_than_a_second, a_dialogue, a_terminal_that_goes, a_fault_behind_it,
-    a_dump, a_loading, a_check, slow_without_a_terminal,
+    over_a_disk, over_two_stations, within_a_piece, once_a_second, over_standard_input, no_terminal, less_than_a_second, a_dialogue,
+    a_terminal_that_goes, a_fault_behind_it, a_dump, a_loading, a_check, slow_without_a_terminal,
 ]
 
 

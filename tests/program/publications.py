@@ -2,8 +2,7 @@
 """Refuses each allocation of crates/readers in turn (refuse.c, preloaded), one and then two neighbours: it makes a
 publisher with viewers, appends commands and publishes them, each call again while it is refused. Where the publisher is
 made, all has to be published in the end, and no refused publication may change what a viewer reads or what is pending.
-Every run has to give back as many blocks as one in which nothing was refused. The first runs in which nothing is refused
-end the test. Prints 'N passed, M failed' last.
+Every run has to free all its blocks. The first runs in which nothing is refused end the test. Prints 'N passed, M failed' last.
 Usage: tests/run publications PROGRAM (crates/readers, a proved build)"""
 import collections
 import pathlib
@@ -30,12 +29,12 @@ class Runs:
         told = TOLD.fullmatch(ran.stdout)
         return ran.returncode, told and (*map(int, told.groups()[:3]), told[4]), refusing.held_blocks(self.held)[0]
 
-    def kind(self, refused, refusals, unrefused):
+    def kind(self, refused, refusals):
         status, told, held = self.run(refused, refusals)
-        if (status, told, held) == (5, None, unrefused):
+        if (status, told, held) == (5, None, 0):
             return 'no memory for its words'
-        if status != 0 or told is None or told[2] or held != unrefused:
-            print(f'allocation {refused}, {refusals} refused: status {status}, {told}, {held} blocks not given back')
+        if status != 0 or told is None or told[2] or held:
+            print(f'allocation {refused}, {refusals} refused: status {status}, {told}, {held} blocks not freed')
             return 'WRONG'
         appends, publications = told[:2]
         if told[3] == 'not all' and (appends, publications) != (0, 0):
@@ -46,11 +45,9 @@ class Runs:
         return f'publications refused {publications} times' if publications else f'appends refused {appends} times'
 
     def sweep(self, refusals):
-        _, _, unrefused = self.run(0, 1)
-        print(f'{unrefused} blocks are not given back where nothing is refused')
         refused, unchanged = 1, 0
         while unchanged < 3:
-            kind = self.kind(refused, refusals, unrefused)
+            kind = self.kind(refused, refusals)
             self.seen[kind] += 1
             unchanged = unchanged + 1 if kind == 'appends refused 0 times' else 0
             refused += 1

@@ -1,8 +1,12 @@
 /* Preloaded into a program by refusing.py: its allocation of the number REFUSED, counted from 1, gets no
    memory, nor do the next ones up to REFUSALS in all, where that is set, nor that of the number ALSO, where
-   that is set; every other one gets what the C library gives. At the end it writes how many blocks were not
+   that is set; every other one gets what the C library gives. The thread of the number THREAD is not made. At the end it writes how many blocks were not
    given back, and how many allocations it was asked for, into the file named by HELD. */
+#define _GNU_SOURCE
+#include <dlfcn.h>
+#include <errno.h>
 #include <fcntl.h>
+#include <pthread.h>
 #include <stddef.h>
 #include <stdio.h>
 #include <stdlib.h>
@@ -63,6 +67,13 @@ void free(void *block)
     if (block)
         __atomic_fetch_sub(&held, 1, __ATOMIC_SEQ_CST);
     __libc_free(block);
+}
+
+int pthread_create(pthread_t *thread, const pthread_attr_t *how, void *(*call)(void *), void *with)
+{
+    static long made;
+    int (*make)(pthread_t *, const pthread_attr_t *, void *(*)(void *), void *) = dlsym(RTLD_NEXT, "pthread_create");
+    return ++made == number_of("THREAD", 0) ? EAGAIN : make(thread, how, call, with);
 }
 
 static void report(void)

@@ -14,12 +14,12 @@ def library():
     return preloading.library(SOURCE)
 
 
-def environment(made, number, refusals=1, held='', also=0):
+def environment(made, number, refusals=1, held='', also=0, thread=0):
     """The environment in which some of a program's allocations get no memory: `refusals` of them from this number on,
-    counted from 1, and the one of the number `also`. At its end the program writes into the file `held` how many
+    counted from 1, and the one of the number `also`. The thread of the number `thread` is not made. At its end the program writes into the file `held` how many
     blocks it did not free, and how many it asked for."""
     named = {'HELD': held} if held else {}
-    return preloading.environment(made, REFUSED=number, REFUSALS=refusals, ALSO=also, **named)
+    return preloading.environment(made, REFUSED=number, REFUSALS=refusals, ALSO=also, THREAD=thread, **named)
 
 
 def held_blocks(held):

@@ -44,3 +44,11 @@ def gives(command, status, out=b'', err=b'', data=b'', **how):
         got = ends(program, status, err)
         if how['stdout'] == subprocess.PIPE:
             compare('output', got, out)
+
+
+def said(status, *command, **how):
+    """What a command writes to standard output and to standard error. It must end with this status."""
+    how = {'stdin': subprocess.DEVNULL, 'timeout': SECONDS, **how}
+    done = subprocess.run([str(word) for word in command], capture_output=True, **how)
+    compare(f'status of {command} {done.stderr}', done.returncode, status)
+    return done.stdout, done.stderr

@@ -1,8 +1,8 @@
 #!/usr/bin/env python3
 """Runs the scripts of examples/ that serve a disk, with the built program: over named pipes, and by socat over a TCP socket of the
-loopback and over a pseudo terminal as a serial line. Then the commands of the systemd unit in packaging/, in folders of their own. The
-independent reading judges all answers. Where socat or systemd-analyze is not installed it prints so. Prints the first cases that fail,
-and last 'N passed, M failed'.
+loopback and over pseudo terminals as a serial line, each cut off within a line three times. Then the commands of the systemd unit in
+packaging/, in folders of their own. The independent reading judges all answers. Where socat or systemd-analyze is not installed it
+prints so. Prints the first cases that fail, and last 'N passed, M failed'.
 Usage: tests/run serve_scripts PROGRAM (the program itself, not a script that starts it)"""
 import contextlib
 import functools
@@ -10,22 +10,25 @@ import os
 import pty
 import random
 import re
-import shutil
 import signal
 import socket
 import subprocess
 import time
 import tty
 
+import reading
 from base_stations import STATIONS, Station, at_once, ends_by, finish, judge, names_of, on_streams, status_of
 from disk_files import DISK, Place, place
 from many_files import SHORTEST, formats
 from program import TOP, waits
+from reading_orders import Answered
 from running import SECONDS, compare, started
 from station_lines import lines
 from testing import Count, options
 
-UNIT = TOP / 'packaging' / 'tetra-switch.service'
+PACKAGED = [TOP / 'packaging' / f'tetra-switch{name}' for name in ('.service', '-expire.service', '-expire.timer')]
+UNITS = [*PACKAGED, TOP / 'examples' / 'tetra-switch-standby.service']
+DESK = TOP / 'examples' / 'desk.py'
 
 
 def script(place, name, *words):
@@ -46,8 +49,8 @@ def talk(stations, said):
     at_once([functools.partial(station.ask_all, one) for station, one in zip(stations, said)])
 
 
-def some_lines(dice, stations):
-    return [lines(dice, 60) for _ in stations]
+def some_lines(dice, stations, count=60):
+    return [lines(dice, count) for _ in stations]
 
 
 def over_pipes(place, dice):
@@ -59,6 +62,19 @@ def over_pipes(place, dice):
             station.end()
         finish(program, status_of(stations))
     judge(place, stations)
+
+
+def as_serve_sh_shows(place, _):
+    """A shell talks to a base station's pipes as the script's first lines show, twice in a row."""
+    shown = re.findall('^#   (.*)$', (TOP / 'examples' / 'serve.sh').read_text(), re.M)
+    compare('lines that are shown', len(shown), 3)
+    with script(place, 'serve.sh', 'pipes') as program:
+        waits(lambda: place.path('pipes/2.out').exists())
+        said = ['set -e', *shown, *shown[2:]]
+        shell = subprocess.run(['bash', '-c', '\n'.join(said).replace('FOLDER', 'pipes')], cwd=place.folder, capture_output=True, timeout=SECONDS)
+        compare('the answers', (shell.stdout, shell.stderr), (b'1 ok 1 -\ncount 1\ncount 1\n', b''))
+        compare('the mode of a pipe', oct(place.path('pipes/1.in').stat().st_mode & 0o777), '0o600')
+        ends_by(program, signal.SIGTERM)
 
 
 # By socat
@@ -79,77 +95,177 @@ def connect(port):
         time.sleep(0.01)
 
 
+def cut_off(station):
+    """Its link ends within a line, which half of a command would be."""
+    station.send(b'count')
+    os.write(station.to, b'4294967295 0 rule 234-14-0/24 1 99 1 36')
+    station.leave()
+    station.pairs.append(Answered(b'count', None))
+
+
+def is_bad(line):
+    try:
+        reading.answer(reading.Register(), 1, line)
+        return False
+    except reading.BadLine:
+        return True
+
+
+def goes_on(program, desk, dice, links):
+    """The base station's link ends, and it comes back over the next one, while the desk talks. SIGTERM ends the service. A link may lose
+    lines with its end, so no line is bad: its number would be unknown."""
+    station, said = next(links), [[line for line in one if not is_bad(line)] for one in some_lines(dice, range(2), 200)]
+    for first in range(0, 150, 50):
+        talk([station, desk], [one[first:first + 50] for one in said])
+        cut_off(station)
+        station = next(links)
+        station.come_back(dice.randrange(2 ** 24))
+    station.ask(b'count')
+    program.send_signal(signal.SIGTERM)
+    compare('status', program.wait(SECONDS), 128 + signal.SIGTERM)
+    for one in station, desk:
+        one.leave()
+    return [station, desk]
+
+
 def over_a_socket(place, dice):
-    port = free_port()
-    with script(place, 'serve_socat.sh', f'TCP-LISTEN:{port},bind=127.0.0.1,reuseaddr') as program, connect(port) as one:
-        stations = [Station(1).connect(program, *map(os.dup, [one.fileno()] * 2)), on_streams(program, 2)]
-        talk(stations, some_lines(dice, stations))
-        one.shutdown(socket.SHUT_WR)
-        for station in stations:
-            station.end()
-        finish(program, status_of(stations))
-    judge(place, stations)
+    port, station = free_port(), Station(1)
+    with script(place, 'serve_socat.sh', f'TCP-LISTEN:{port},bind=127.0.0.1,reuseaddr') as program:
+        links = (station.connect(program, one.detach(), None) for one in iter(lambda: connect(port), None))
+        judge(place, goes_on(program, on_streams(program, 2), dice, map(both_ways, links)))
+
+
+def both_ways(station):
+    """One descriptor for its lines, and another one for its answers."""
+    station.back = os.dup(station.to)
+    return station
+
+
+def serial_lines(place, program, station):
+    """A serial line of this station, and after its end another one of the same name."""
+    name = place.path('line')
+    while True:
+        master, slave = pty.openpty()
+        tty.setraw(slave)
+        name.unlink(missing_ok=True)
+        name.symlink_to(os.ttyname(slave))
+        yield both_ways(station.connect(program, master, None))
+        os.close(slave)
 
 
 def over_a_serial_line(place, dice):
-    master, slave = pty.openpty()
-    tty.setraw(slave)
-    with script(place, 'serve_socat.sh', f'{os.ttyname(slave)},raw,echo=0,b9600') as program:
-        stations = [Station(1).connect(program, master, os.dup(master)), on_streams(program, 2)]
-        talk(stations, some_lines(dice, stations))
-        os.close(slave)
-        stations[0].leave()
-        stations[1].end()
-        finish(program, status_of(stations))
-    judge(place, stations)
+    station = Station(1)
+    with script(place, 'serve_socat.sh', f"{place.path('line')},raw,echo=0,b9600") as program:
+        judge(place, goes_on(program, on_streams(program, 2), dice, serial_lines(place, program, station)))
 
 
 # The systemd unit
 
-def unit_for(place, run, state):
-    """Its text, with the program and with these folders in place of /run and /var/lib."""
-    text = UNIT.read_text().replace('/usr/local/bin/tetra-switch', place.command[0])
-    compare('the unit starts the program', place.command[0] in text, True)
+def unit_for(unit, place, run, state):
+    """Its text, with the program and the desk, and with these folders in place of /run and /var/lib."""
+    text = unit.read_text().replace('/usr/local/bin/tetra-switch-desk', str(DESK)).replace('/usr/local/bin/tetra-switch', place.command[0])
     return text.replace('%t', str(run)).replace('%S', str(state))
 
 
 def verified(place, _):
-    """systemd finds nothing wrong."""
-    place.write(UNIT.name, unit_for(place, '%t', '%S').encode())
-    done = subprocess.run(['systemd-analyze', 'verify', '--man=no', place.path(UNIT.name)], capture_output=True, timeout=SECONDS)
+    """systemd finds nothing wrong with them, nor with the sample unit for a second node."""
+    for unit in UNITS:
+        place.write(unit.name, unit_for(unit, place, '%t', '%S').encode())
+    done = subprocess.run(['systemd-analyze', 'verify', '--man=no', *(place.path(unit.name) for unit in UNITS)], capture_output=True, timeout=SECONDS)
     compare('systemd-analyze verify', (done.returncode, done.stdout + done.stderr), (0, b''))
 
 
-def command_in(unit, key):
-    """The words of a command in a unit; those in single quotes are one."""
-    line = re.search(rf'^{key}=(.*)$', unit, re.M)[1]
-    return [one or quoted for quoted, one in re.findall(r"'([^']*)'|(\S+)", line)]
+def commands_in(unit, key):
+    """The words of a unit's commands of this key, without systemd's marks before the first; those in single quotes are one."""
+    lines = re.findall(rf'^{key}=[+:]*(.*)$', unit.replace('\\\n', ' '), re.M)
+    return [[one or quoted for quoted, one in re.findall(r"'([^']*)'|(\S+)", line)] for line in lines]
+
+
+class Service:
+    """The commands of the unit, with folders of its own, for so many stations; a disk is there."""
+
+    def __init__(self, place, stations):
+        self.run, self.state = (place.path(name) / 'tetra-switch' for name in ('run', 'state'))
+        for folder in self.run, self.state:
+            folder.mkdir(parents=True)
+        self.disk, self.pipes = Place(place.command, self.state), Place(place.command, self.run)
+        formats(self.disk, stations, SHORTEST)
+        self.disk.path().rename(self.disk.path('switch.disk'))
+        self.unit, self.expiry = (unit_for(unit, place, self.run.parent, self.state.parent) for unit in UNITS[:2])
+        self.env = {**os.environ, 'STATIONS': str(stations)}
+        self.how = {'cwd': self.run, 'env': self.env}
+
+    def makes_pipes(self, **env):
+        for command in commands_in(self.unit, 'ExecStartPre'):
+            subprocess.run(command, check=True, cwd=self.run, env={**self.env, **env}, preexec_fn=lambda: os.umask(0o077))
+
+    def started(self):
+        [command] = commands_in(self.unit, 'ExecStart')
+        return started(command, stdin=subprocess.DEVNULL, stdout=subprocess.PIPE, cwd=self.run, env=self.env)
+
+    def expires(self):
+        """What the timer does."""
+        [command] = commands_in(self.expiry, 'ExecStart')
+        return subprocess.run(command, stdin=subprocess.DEVNULL, capture_output=True, timeout=SECONDS).stdout
+
+    def modes(self, number):
+        return [oct(self.pipes.path(name).stat().st_mode & 0o777) for name in names_of(number)]
 
 
 def its_commands(place, dice):
-    """They serve two stations, which may go and come again, until SIGTERM ends the service."""
-    run, state = (place.path(name) / 'tetra-switch' for name in ('run', 'state'))
-    for folder in run, state:
-        folder.mkdir(parents=True)
-    disk = Place(place.command, state)
-    formats(disk, STATIONS, SHORTEST)
-    disk.path().rename(disk.path('switch.disk'))
-    unit, pipes = unit_for(place, run.parent, state.parent), Place(place.command, run)
-    subprocess.run(command_in(unit, 'ExecStartPre'), check=True, cwd=run)
-    compare('the mode of a pipe', [oct(pipes.path(name).stat().st_mode & 0o777) for name in names_of(1)], ['0o660', '0o660'])
-    with started(command_in(unit, 'ExecStart'), stdin=subprocess.DEVNULL, stdout=subprocess.PIPE, cwd=run) as program:
-        stations = connected(pipes, program, (1, 2))
+    """They serve base stations, which may go and come again, a desk and the timer, until SIGTERM ends the service."""
+    service = Service(place, STATIONS)
+    compare('the unit has a disk for four', f'Environment=STATIONS={STATIONS}\n' in service.unit, True)
+    service.makes_pipes()
+    compare('the modes of pipes', [service.modes(number) for number in (1, 2, 3, 4)], [['0o660'] * 2] * 3 + [['0o600'] * 2])
+    with service.started() as program:
+        stations = connected(service.pipes, program, (1, 2))
         said = some_lines(dice, stations)
         talk(stations, [one[:30] for one in said])
         for station in stations:
             station.leave()
-            station.connect_pipes(pipes, program).ask(b'')
+            station.connect_pipes(service.pipes, program).come_back(dice.randrange(2 ** 24))
         talk(stations, [one[30:] for one in said])
+        count = int(stations[0].ask(b'count')[0].split(' ')[1])
+        for number in 1, 2:
+            compare('the timer', service.expires(), b'%d ok %d -\n' % (number, count + number))
+        asked = subprocess.run([DESK, service.run, '3', 'count'], stdin=subprocess.DEVNULL, capture_output=True, timeout=SECONDS).stdout
+        compare('the desk', asked, b'count %d\n' % (count + 2))
         ends_by(program, signal.SIGTERM)
         for station in stations:
             station.leave()
-    disk.path('switch.disk').rename(disk.path())
-    judge(disk, stations)
+    service.disk.path('switch.disk').rename(service.disk.path())
+    # Each item of this test has a deadline in the past: so the greatest moment removes what the time of now does.
+    expiries = Station(4)
+    expiries.pairs = [Answered(f'{number} {2 ** 32 - 1} expire'.encode(), [f'{number} ok {count + number} -']) for number in (1, 2)]
+    judge(service.disk, [*stations, Station(3), expiries])
+
+
+def sixty_four(place, dice):
+    """By its drop-in of two lines the unit serves 64 stations, each with pipes of its own."""
+    shown = re.search(r'#   (\[Service\])\n#   Environment=STATIONS=(\d+)\n', UNITS[0].read_text())
+    service = Service(place, int(shown[2]))
+    service.makes_pipes()
+    numbers = range(1, int(shown[2]) + 1)
+    with service.started() as program:
+        stations = connected(service.pipes, program, numbers)
+        at_once([functools.partial(station.ask_all, [b'1 0 expire', b'last %d' % station.number]) for station in stations])
+        for station in stations:
+            accepted = station.pairs[0].told[0].split(' ')[2]
+            compare(f'station {station.number}', [pair.told for pair in station.pairs], [[f'1 ok {accepted} -'], [f'last {station.number} 1 {accepted} -']])
+            station.leave()
+        ends_by(program, signal.SIGTERM)
+
+
+def groups_of_their_own(place, _):
+    """Pipes of a station whose group exists are given to it, and no others."""
+    service, tools = Service(place, STATIONS), place.path('tools')
+    tools.mkdir()
+    for name, text in ('getent', '[ "$1 $2" = "group tetra-switch-2" ]'), ('chgrp', 'echo "$@" >>given'):
+        place.write(f'tools/{name}', f'#!/bin/sh\n{text}\n'.encode())
+        place.path(f'tools/{name}').chmod(0o755)
+    service.makes_pipes(PATH=f"{tools}:{os.environ['PATH']}")
+    compare('given', service.pipes.path('given').read_text(), 'tetra-switch-2 2.in 2.out\n')
 
 
 # The whole
@@ -158,13 +274,12 @@ def main():
     words = options(__doc__)
     print(f'seed {words.seed}', flush=True)
     dice, count = random.Random(words.seed), Count()
-    cases = [(over_pipes, None), (over_a_socket, 'socat'), (over_a_serial_line, 'socat'), (verified, 'systemd-analyze'), (its_commands, None)]
-    for case, needed in cases:
-        if needed and not shutil.which(needed):
-            print(f'{needed} is not installed, so {case.__name__} is left out')
-            continue
-        with place(words.program) as there:
-            count.case(case.__name__, case, there, dice)
+    cases = [(over_pipes,), (as_serve_sh_shows,), (over_a_socket, 'socat'), (over_a_serial_line, 'socat'), (verified, 'systemd-analyze'),
+             (its_commands,), (sixty_four,), (groups_of_their_own,)]
+    for case, *needed in cases:
+        if count.has(case.__name__, *needed):
+            with place(words.program) as there:
+                count.case(case.__name__, case, there, dice)
     count.end()
 
 

@@ -1,6 +1,8 @@
 """What the test scripts share. Cases run one after another and are counted, and one last line gives the counts."""
 import argparse
 import random
+import shutil
+import signal
 import subprocess
 import sys
 
@@ -12,7 +14,7 @@ class Count:
     MOST_TOLD = 5
 
     def __init__(self):
-        self.passed, self.failed = 0, 0
+        self.passed = self.failed = self.left_out = 0
 
     def case(self, name, call, *arguments):
         """Runs a case, and gives what it answers; None where it fails."""
@@ -26,9 +28,20 @@ class Count:
                 print(f'{name}: FAILED: {fault}', flush=True)
         return None
 
+    def leaves_out(self, name, why):
+        self.left_out += 1
+        print(f'{why}, so {name} is left out', flush=True)
+
+    def has(self, name, *tools):
+        """Whether the tools are installed that a case needs. If not, prints so, and the case is left out."""
+        missing = [tool for tool in tools if not shutil.which(tool)]
+        if missing:
+            self.leaves_out(name, f'{missing[0]} is not installed')
+        return not missing
+
     def end(self):
         print(f'{self.passed} passed, {self.failed} failed')
-        sys.exit(1 if self.failed or not self.passed else 0)
+        sys.exit(1 if self.failed or not (self.passed or self.left_out) else 0)
 
 
 def options(told, **numbers):
@@ -39,3 +52,9 @@ def options(told, **numbers):
         words.add_argument(f'--{name}', type=int, default=number)
     words.add_argument('--seed', type=int, default=random.randrange(10 ** 9))
     return words.parse_args()
+
+
+def end_on_signals():
+    """SIGTERM and SIGHUP end the test as a failure does, which leaves nothing behind."""
+    for one in signal.SIGTERM, signal.SIGHUP:
+        signal.signal(one, lambda number, _: sys.exit(128 + number))

@@ -1,7 +1,7 @@
 #!/usr/bin/env python3
-"""An independent reading of the written rules (docs/proofs/definitions.md), in another language and by
-another road than the program: texts by regular expressions, bits as strings of 0 and 1, the state
-as dictionaries. It answers command lines as `tetra-switch` has to.
+"""An independent reading of docs/formats/lines.md, docs/formats/pdus.md and docs/decisions.md, from these
+documents alone, in another language and by another road than the program: texts by regular expressions,
+bits as strings of 0 and 1, the state as dictionaries. It answers command lines as `tetra-switch` has to.
 Usage: tests/run reading [STATION] < lines > answers (exit status 1 where an answer was troubled)"""
 import collections
 import sys

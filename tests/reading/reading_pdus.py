@@ -130,6 +130,27 @@ def acknowledgement(results):
     return head + f'11{GROUP_DOWNLINK:04b}{len(inside):011b}' + inside + '0'
 
 
+def read_acknowledged(bits):
+    """An item of an acknowledgement: whether it detaches, its (lifetime, class) or its reason, and its address."""
+    detaches = bits.flag()
+    detail = (bits.number(2),) if detaches else (bits.number(2), bits.number(3))
+    kind = bits.number(2)
+    return detaches, detail, bits.take(24), bits.take(24) if kind == 1 else ''
+
+
+def read_down(bits):
+    """('accept', (type,)), ('reject', (type, cause)) or ('acknowledgement', (one is rejected, items)), as the switch writes them."""
+    left = Bits(bits)
+    kind = left.number(4)
+    if kind == 5:
+        return 'accept', (left.number(3),)
+    if kind == 7:
+        return 'reject', (left.number(3), left.number(5))
+    is_rejected, _ = left.flag(), left.take(1)
+    inside = [Bits(one) for _, one in left.elements()] if left.flag() else []
+    return 'acknowledgement', (is_rejected, [read_acknowledged(one) for one in inside for _ in range(one.number(6))])
+
+
 # The short data transport layer
 
 class Message:

@@ -96,13 +96,15 @@ def ends():
 
 
 def longest():
-    """Registers of one row each, that has the most bytes that a radio's, a copy's, a report's and a station's can have."""
+    """Registers of one row each, that has the most bytes that a radio's, a copy's, a report's and a station's can have. The radio's line in a
+    dump has the most, too."""
     first, second, text = identity(1), identity(2), '01' * 1011 + '1'
     made = [reading.Register({'rules': 1, 'radios': 1, 'mail': 1, 'stations': 2}) for _ in range(4)]
     for register in made:
         register.count = 9
-    made[0].radios[first] = 2, LAST_AREA, True
-    made[0].groups = {(first, identity(7 * k)): (k % 8, k % 4) for k in range(32)}
+    last = identity(LAST_IDENTITY)
+    made[0].radios[last] = 2, LAST_AREA, True
+    made[0].groups = {(last, identity(LAST_IDENTITY - 7 * k)): (k % 8, k % 4) for k in range(32)}
     made[1].mail[first, second, 3, b'm'] = reading.Item(4, LATEST, message(3, text), identity(77))
     made[2].mail[second, first, 3, b'r'] = reading.Item(4, 0, report(3, text[8:]), None)
     made[3].served[1] = 7, 9, '10' * 1024

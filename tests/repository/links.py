@@ -2,8 +2,11 @@
 """Checks the documents against the repository. Each link leads to a file, and to a heading of it. Each path exists. Each name in
 backquotes that looks like an item of the code (snake_case, CamelCase) is one that the code has, and `a::b` is defined in a. Each
 other word in backquotes occurs in code, scripts or tests. No source, script or test names a document that does not exist.
+So it is with files and paths that a head names: the first comment of a source or script, a docstring of Python, a remark of
+crates.txt. What a head says is beside its file is there. The independent reading names no proof or definition as its source.
 Prints what fails, and last 'N passed, M failed'.
 Usage: tests/run links [DOCUMENT..]"""
+import ast
 import functools
 import pathlib
 import re
@@ -21,6 +24,9 @@ DEFINES = re.compile(r'''\b(?:fn|struct|enum|trait|mod|const|type)\s+(\w+) | ^\s
                        | ^\s+(\w+)\s*(?:,|\{|\(.*\),)\s*(?://.*)?$ | \b(?:abbrev|unfoldable|record)\ pub\ (\w+)''', re.M | re.X)
 # Words that no file here has: of the kit and what it makes, of the system, and the forms of a prefix and of what is used of a limit.
 OUTSIDE = re.compile(r'rattle-kit-\w+|out/.*|/.*|man|mcc-mnc-ssi/len|U/L|N/128')
+# A path that begins with a folder of the top; and the name of a file, alone or with folders before it.
+PATH = r'(?<![\w/.])(?:docs|examples|tests|crates|bench|packaging|\.ci)/[\w./-]*\w'
+FILE = r'(?<![\w/.*-])[\w*/-]*[\w*]\.(?:rt|antt|py|md|toml|txt|edit|sh|c|h|cpp|service)\b(?![./*])'
 # How a remark begins.
 REMARK = {'.rt': '//.*', '.antt': r'(?m:^| )--\s.*', '.py': '#.*|(?s:""".*?""")'}
 
@@ -46,7 +52,7 @@ def words():
     found = set()
     for text in CODE.values():
         for word in re.findall(r"[A-Za-z][\w'-]*", text):
-            found |= {word, word.rstrip('-'), *re.split(r'[-_]', word)}
+            found |= {word, word.rstrip("-'"), *re.split(r"[-_']", word)}
     return found
 
 
@@ -59,7 +65,7 @@ def holds(owner, name):
 
 def exists(path, document):
     """Whether there is such a file, or definitions, as `identity/Path`; NAME and CRATE stand for any name."""
-    path = re.sub(r'\b(?:NAME|CRATE)\b', '*', path.removeprefix('./').rstrip('/'))
+    path = re.sub(r'(?<![A-Za-z])(?:NAME|CRATE)(?![A-Za-z])', '*', path.removeprefix('./').rstrip('/'))
     crate, _, module = path.partition('/')
     if (TOP / 'crates' / crate / 'specs' / f'{module}.antt').exists():
         return True
@@ -104,7 +110,7 @@ def judged(document):
     text = document.read_text()
     for link in re.findall(r'\]\((?!https?:)([^)\s]+)\)', text):
         yield link, leads(link, document)
-    for path in re.findall(r'(?<![\w/.])(?:docs|examples|tests|crates|bench|\.ci)/[\w./-]*\w', text):
+    for path in re.findall(PATH, text):
         yield path, exists(path, document) or leads(path, document)
     if document.suffix == '.md':
         for word in spans(text):
@@ -118,10 +124,42 @@ def documents_named():
             yield f'{name} in {path.relative_to(TOP)}', (TOP / name).exists()
 
 
+def heads(path):
+    """What the first comment of a source or script says, each docstring of Python, or the remarks of crates.txt."""
+    text = CODE[path]
+    if path == TOP / 'crates.txt':
+        return re.findall(r'^# (.*)', text, re.M)
+    if path.suffix in ('.rt', '.antt'):
+        return re.findall(r'\A(?:(?://!?|--) ?.*\n)+', text)
+    if path.suffix in ('.c', '.h', '.cpp'):
+        return re.findall(r'\A(?s:/\*.*?\*/)|\A(?://.*\n)+', text)
+    if path.suffix == '.py' or text.startswith('#!/usr/bin/env python3'):
+        documented = (ast.Module, ast.ClassDef, ast.FunctionDef)
+        return [ast.get_docstring(it) or '' for it in ast.walk(ast.parse(text)) if isinstance(it, documented)]
+    return re.findall(r'\A(?:#.*\n)+', text)
+
+
+def named_in_heads():
+    """Each file that a head names, and each thing that it says is beside its own file."""
+    for path in CODE:
+        for text in heads(path):
+            for name in re.findall(f'{PATH}|{FILE}', text):
+                yield f'{name} in {path.relative_to(TOP)}', exists(name, path) or bool(list(path.parent.glob(name)))
+            for name in re.findall(r'(\w+)\s+beside\s+this\s+file', text):
+                yield f'{name} beside {path.relative_to(TOP)}', bool(list(path.parent.glob(f'{name}.*')))
+
+
+def sources_of_reading():
+    """Whether each file of the independent reading names documents alone."""
+    for path, text in CODE.items():
+        if path.parent == TOP / 'tests' / 'reading':
+            yield f'a source of {path.relative_to(TOP)}', not re.search(r'docs/proofs/|\.antt\b|\bspecs/', text)
+
+
 def main():
     chosen = [pathlib.Path(name).resolve() for name in sys.argv[1:]]
     cases = [(f'{document.relative_to(TOP)}: {it}', is_so) for document in chosen or DOCUMENTS for it, is_so in judged(document)]
-    cases += [] if chosen else documents_named()
+    cases += [] if chosen else [*documents_named(), *named_in_heads(), *sources_of_reading()]
     for it in dict.fromkeys(it for it, is_so in cases if not is_so):
         print(it)
     failed = sum(not is_so for _, is_so in cases)

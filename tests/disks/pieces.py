@@ -1,0 +1,220 @@
+#!/usr/bin/env python3
+"""Lines that come together: what the program answers does not depend on how its input is cut into reads (cut.c, preloaded). It reads
+standard input without a disk, and files by `run` and `serve`. A text with every kind of line is cut at each of its bytes; long ones
+are cut at random places, and read whole; and so are the files of four stations at once.
+- A line that comes alone is answered without another one; a program that waits for a second line is found.
+- 64 commands of one station share two syncs, and their answers one write.
+- OUT fails at each byte. What was answered stays done, and of the lines after that at most 64 may be done, in order.
+The independent reading (tests/reading/) judges all answers and disks. Prints the seed, the first cases that fail, and last
+'N passed, M failed'.
+Usage: tests/run pieces PROGRAM [--streams N] [--lines N] [--seed N] (the program itself, not a script that starts it)"""
+import functools
+import pathlib
+import random
+import subprocess
+
+import preloading
+import reading
+from base_stations import finish, on_streams, serving
+from disk_files import DISK, LINES, MEMORY, file_fault, place, register_of, text
+from images import are_same
+from many_files import LONG, by_chance, empty, formats, runs
+from recorder import recorder
+from running import Differs, compare
+from station_lines import Serving, data_of, lines
+from testing import Count, options
+
+SOURCE = pathlib.Path(__file__).resolve().parent / 'cut.c'
+READY, OUT, AT_HAND = 'ready.img', 'a.out', 64
+TEXT = (b'1 0 rule 234-14-0/24 1 99 1 3600\n2 1 mm 234-14-1 7 10:260\n3 1 mm 234-14-2 7 10:260\nwhere 234-14-2\n'
+        b'4 2 sds 234-14-1 234-14-2 48:820405014849\r\n4 2 sds 234-14-1 234-14-2 48:820405014849\n5 3 mm 234-14-3 100 10:260\nmail 234-14-2\n'
+        b'6 4 expire\nno such\n7 4 expire x\n\n# 8\n7 5 expire\n6 5 expire\nradios\n8 6 delete 234-14-2 234-14-1 5 m\nlast 1\n9 7 expire')
+STATIONS = 4
+
+
+# The text, cut
+
+class Cutting:
+    """A folder with a program that reads pieces of its files."""
+
+    def __init__(self, there, made):
+        self.there, self.made = there, made
+
+    def environment(self, cuts=(), files=(LINES,), **others):
+        """That in which reads of these files end at these places."""
+        inputs = ':'.join(str(self.there.path(file)) for file in files)
+        return preloading.environment(self.made, INPUTS=inputs, CUTS=''.join(f'{at}:' for at in cuts), **others)
+
+    def answers(self, way, wanted, cuts):
+        way(self.there, wanted, self.environment(cuts))
+
+
+def without_a_disk(there, wanted, env):
+    with there.path(LINES).open('rb') as given:
+        ended = subprocess.run(there.command, stdin=given, capture_output=True, env=env, timeout=20)
+    compare('status and output', (ended.returncode, ended.stdout), (int(wanted.troubled), text(line for told in wanted.answers for line in told)))
+
+
+def is_kept(there, wanted):
+    compare('the register on the disk is that of all lines', are_same(register_of(there.image()), wanted.registers[-1]), True)
+
+
+def by_run(there, wanted, env):
+    there.copy(READY, DISK)
+    there.gives(['run', DISK, LINES], int(wanted.troubled), wanted.text(), env=env)
+    is_kept(there, wanted)
+
+
+def by_serve(there, wanted, env):
+    there.copy(READY, DISK)
+    there.path(OUT).unlink(missing_ok=True)
+    there.gives(['serve', DISK, LINES, OUT], int(wanted.troubled), env=env)
+    compare('answers', there.path(OUT).read_bytes(), text(line for told in wanted.answers for line in told))
+    is_kept(there, wanted)
+
+
+WAYS = [without_a_disk, by_run, by_serve]
+
+
+def given(there, data):
+    """The text in the station's file, and what a register that is empty answers."""
+    there.write(LINES, data)
+    return Serving(reading.Register(), reading.lines_of(data))
+
+
+def at_each_byte(cutting, count):
+    wanted = given(cutting.there, TEXT)
+    for way in WAYS:
+        for at in range(len(TEXT)):
+            count.case(f'{way.__name__}, cut at {at}', cutting.answers, way, wanted, [at] if at else [])
+
+
+def places(dice, length):
+    """Few places in a text, or many."""
+    return sorted(dice.sample(range(1, length), dice.choice([1, 3, 30, length // 20, length // 3])))
+
+
+def at_random(cutting, dice, count, words):
+    for number in range(1, words.streams + 1):
+        data = data_of(lines(dice, words.lines))
+        wanted = given(cutting.there, data)
+        for way in WAYS:
+            for cuts in [], places(dice, len(data)):
+                count.case(f'{way.__name__}, stream {number} with {len(cuts)} cuts', cutting.answers, way, wanted, cuts)
+
+
+def of_many(cutting, dice, count, words):
+    """The files of stations, each cut at the same places."""
+    for number in range(1, words.streams + 1):
+        formats(cutting.there, STATIONS, LONG)
+        files = by_chance(dice, STATIONS, words.lines // 2)
+        files.write(cutting.there)
+        shortest = min(len(data_of(each)) for each in files.lines)
+        env = cutting.environment(places(dice, shortest) if number % 2 else [], files.names)
+        count.case(f'{STATIONS} stations, streams {number}', functools.partial(runs, cutting.there, files, empty(STATIONS), env=env))
+
+
+# A line alone
+
+def alone(there, env, seconds):
+    """A station sends one command at a time, and no other line while it waits for the answer, which has to come within this time."""
+    there.copy(READY, DISK)
+    with serving(there, ['serve', DISK], stdin=subprocess.PIPE, env=env) as program:
+        station = on_streams(program)
+        for number in range(1, 4):
+            compare('the answer', station.ask(b'%d 0 expire' % number, seconds), [f'{number} ok {number} -'])
+        station.end()
+        finish(program, 0)
+
+
+def one_that_waits_is_found(there, made):
+    """A program that reads until a second line has come."""
+    try:
+        alone(there, preloading.environment(made, WAITS=2, INPUTS='/proc/self/fd/0'), 1)
+    except Differs:
+        return
+    raise Differs('the program that waits passes')
+
+
+# Syncs and writes
+
+def few_syncs(there, made, commands):
+    """Two for each 64 commands, and two of the opening. A busy machine may part a few batches."""
+    formats(there, STATIONS, LONG)
+    there.write(LINES, data_of(b'%d 0 expire' % number for number in range(1, commands + 1)))
+    wanted = given(there, there.path(LINES).read_bytes())
+    record = made.does(['run', DISK, LINES], 0, wanted.text(), files=())
+    batches = -(-commands // AT_HAND)
+    syncs, most = sum(done.kind in 'sa' for done in record), 2 * batches + 2 + batches // 2
+    compare(f'{syncs} syncs for {commands} commands are at most {most}', syncs <= most, True)
+
+
+def few_writes(there, made, commands):
+    """The answers to 64 lines of one read are written at once."""
+    formats(there, STATIONS, LONG)
+    there.write(LINES, data_of(b'%d 0 expire' % number for number in range(1, commands + 1)))
+    there.path(OUT).unlink(missing_ok=True)
+    record = made.does(['serve', DISK, LINES, OUT], 0, files=(), answers=[OUT])
+    writes, most = sum(done.kind == 'o' for done in record), -(-commands // AT_HAND)
+    compare(f'{writes} writes for {commands} answers are at most {most}', 0 < writes <= most, True)
+
+
+# A writer that fails
+
+def done_by(wanted, answered):
+    """The least and the greatest number of commands that may be done when so many bytes of the answers are written."""
+    ends, end = [], 0
+    for told in wanted.answers:
+        end += len(text(told))
+        ends.append(end)
+    whole = sum(end <= answered for end in ends)
+    counts = [0, *wanted.counts]
+    return counts[whole], counts[min(whole + AT_HAND, len(wanted.lines))]
+
+
+def fails_at(cutting, wanted, room, cuts):
+    there, told = cutting.there, text(line for told in wanted.answers for line in told)
+    there.copy(READY, DISK)
+    there.path(OUT).write_bytes(b'')
+    env = cutting.environment(cuts, OUTPUT=there.path(OUT), ROOM=room)
+    there.gives(['serve', DISK, LINES, OUT], 4, err=file_fault(OUT), env=env)
+    compare('what was written', there.path(OUT).read_bytes(), told[:room])
+    register, (least, most) = register_of(there.image()), done_by(wanted, room)
+    compare(f'{register.count} commands are {least} to {most}', least <= register.count <= most, True)
+    compare('the disk has a prefix of the commands', are_same(register, wanted.registers[register.count]), True)
+
+
+def writers(cutting, dice, count, words):
+    """At each byte of the answers to a short text, and at some of a long one that is read whole."""
+    wanted = given(cutting.there, TEXT)
+    every = sum(len(text(told)) for told in wanted.answers)
+    for room in range(every):
+        count.case(f'OUT takes {room} bytes', fails_at, cutting, wanted, room, [])
+    data = data_of(lines(dice, words.lines))
+    wanted = given(cutting.there, data)
+    every = sum(len(text(told)) for told in wanted.answers)
+    for room in dice.sample(range(every), words.streams * 4):
+        count.case(f'OUT takes {room} bytes of a long stream', fails_at, cutting, wanted, room, dice.choice([[], places(dice, len(data))]))
+
+
+def main():
+    words = options(__doc__, streams=8, lines=300)
+    print(f'seed {words.seed}', flush=True)
+    dice, count = random.Random(words.seed), Count()
+    with place(words.program, MEMORY) as there, preloading.library(SOURCE) as made, recorder(there) as recording:
+        there.format(READY)
+        cutting = Cutting(there, made)
+        at_each_byte(cutting, count)
+        at_random(cutting, dice, count, words)
+        of_many(cutting, dice, count, words)
+        count.case('a line alone', alone, there, None, 5)
+        count.case('a program that waits for a second line', one_that_waits_is_found, there, made)
+        for commands in 1, 64, 65, 640:
+            count.case(f'syncs for {commands} commands', few_syncs, there, recording, commands)
+        count.case('writes of answers', few_writes, there, recording, 640)
+        writers(cutting, dice, count, words)
+    count.end()
+
+
+if __name__ == '__main__':
+    main()
