@@ -8,9 +8,9 @@ import time
 TOP = pathlib.Path(__file__).resolve().parent.parent
 
 
-def build(folder, name, *flags):
+def build(folder, name, *flags, libraries=()):
     path = folder / name
-    subprocess.run(['cc', '-O2', *flags, '-o', path, TOP / f'bench/{name}.c'], check=True)
+    subprocess.run(['cc', '-O2', *flags, '-o', path, TOP / f'bench/{name}.c', *libraries], check=True)
     return path
 
 
@@ -41,7 +41,7 @@ def format_disk(program, folder, limits, journal):
 
 
 def attaches(folder, stations, count):
-    """A file for each station with so many location updates of a radio of its own. The file `rule.txt`, which gives all a rule, is served first."""
+    """A file for each station with so many location updates of a radio of its own. One more file, which gives all a rule, is served first."""
     (folder / 'rule.txt').write_text('1 0 rule 234-14-0/24 1 99 1 3600\n')
     names = [folder / f'{station}.txt' for station in range(1, stations + 1)]
     for station, name in enumerate(names, 1):
