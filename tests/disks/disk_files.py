@@ -83,6 +83,10 @@ def place(command, folder=None):
         yield Place(command, made)
 
 
+def is_private(path):
+    compare(f'who may use {path.name}', oct(path.stat().st_mode & 0o777), '0o600')
+
+
 @contextlib.contextmanager
 def untouched(path):
     """A file that is not written, and has the same bytes in the end."""

@@ -3,11 +3,12 @@
 preloaded). The file gets its length and zeros in each sector, both synced, and the folder is synced; then the sides are written and
 synced, and at last the label. Nothing is written after the last sync. A stop between two of these calls leaves a disk without a
 whole label, or one that the independent reading (tests/reading/) opens to an empty register. Each sync fails in a run of its own,
-each write of the disk's parts and some of the zeros, and each allocation gets no memory.
+each write of the disk's parts and some of the zeros, some for want of space, and each allocation gets no memory.
 `show` and `run` sync a disk once and then only read it before they serve, whatever it holds; `show` writes nothing. A read of the
 station's file fails after some lines, whose answers are printed first; and a file is read in 4,500 pieces. Prints the seed, the
 first cases that fail, and last 'N passed, M failed'.
 Usage: tests/run making PROGRAM [--seed N]"""
+import errno
 import itertools
 import os
 import random
@@ -17,7 +18,7 @@ import faulty_disks
 import made_disks
 import reading
 import refusing
-from disk_files import DISK, EXISTS, LINES, MEMORY, SECTORS, SETTINGS, fault_line, file_fault, pieces_of_zeros, place, settings
+from disk_files import DISK, EXISTS, LINES, MEMORY, SECTORS, SETTINGS, fault_line, file_fault, is_private, pieces_of_zeros, place, settings
 from images import fault_of
 from made_disks import FORMS
 from pending import Disk, choices
@@ -75,6 +76,7 @@ def making(made, disk=DISK):
     made.place.write('s.toml', settings().encode())
     record = made.does([*WORDS, disk], 0, FORMATTED, disk=disk)
     is_made(record)
+    is_private(made.place.path(disk))
     compare('the disk stands for', fault_of(made.place.image(disk), [empty()]), None)
     return record
 
@@ -126,6 +128,13 @@ def a_call_fails(made, record, number):
     compare('the last call', failed[-1].kind, 'f')
     compare('the disk has no label', has_no_label(made.place.image()), number < len(KINDS))
     made.place.gives([*WORDS, DISK], 4, err=file_fault(DISK, EXISTS))
+
+
+def no_space(made, number, error):
+    """The call finds no space, as the file gets its sectors."""
+    made.place.path().unlink()
+    failed = made.does([*WORDS, DISK], 4, err=file_fault(DISK, 'no space'), fails=number, ERROR=error)
+    compare('the last call', failed[-1].kind, 'f')
 
 
 def no_memory(made):
@@ -209,6 +218,8 @@ def all_made(made, dice, count):
         count.case('stops', stops, record, dice)
         for number in numbers(dice):
             count.case(f'call {number} fails', a_call_fails, made, record, number)
+        for number, error in itertools.product([1, 2, 3, KINDS.index('s') + 1, KINDS.index('d') + 1], [errno.ENOSPC, errno.EDQUOT]):
+            count.case(f'call {number} finds no space, error {error}', no_space, made, number, error)
     count.case('no memory', no_memory, made)
 
 

@@ -1,12 +1,12 @@
 /* Preloaded into a program by recorder.py. It writes down to the file RECORD what is done with the file DISK, once the call has
    succeeded: `w`, offset and length and the bytes of each write, `p`, offset and 0 of each read, `t`, the length that the file is
    given, and 0, and for each sync `s` (fdatasync) or `a` (fsync); `d` is an fsync of the folder FOLDER. The FAILS-th of these calls,
-   from 1, fails and does nothing, which is `f`; where ALWAYS is set, so does each later one. LINES names files, with a colon between
-   two. It lets a read of such a file have TOGETHER lines at most, and writes down, before the read, `r`, how many whole lines of the
-   file were read so far, 2, and two bytes: the file's place in LINES, from 1, and TOGETHER; where these lines are BREAKS or more, and
-   BREAKS is not 0, the read fails. ANSWERS names files in the same way: of each write to one of them it writes down, before the write, `o`, the file's
-   place in ANSWERS, from 1, and length and the bytes. Numbers have 8 bytes, in this machine's order. Threads may do all this at once,
-   each file read by one of them. */
+   from 1, fails and does nothing, which is `f`; where ALWAYS is set, so does each later one. Its error is EIO, or the one whose number
+   is ERROR. LINES names files, with a colon between two. It lets a read of such a file have TOGETHER lines at most, and writes down,
+   before the read, `r`, how many whole lines of the file were read so far, 2, and two bytes: the file's place in LINES, from 1, and
+   TOGETHER; where these lines are BREAKS or more, and BREAKS is not 0, the read fails. ANSWERS names files in the same way: of each
+   write to one of them it writes down, before the write, `o`, the file's place in ANSWERS, from 1, and length and the bytes. Numbers
+   have 8 bytes, in this machine's order. Threads may do all this at once, each file read by one of them. */
 #define _GNU_SOURCE
 #include <errno.h>
 #include <fcntl.h>
@@ -48,7 +48,7 @@ static int fails(int fd)
         return 0;
     has_failed = 1;
     note('f', 0, 0, "", 0);
-    errno = EIO;
+    errno = getenv("ERROR") ? atoi(getenv("ERROR")) : EIO;
     return 1;
 }
 

@@ -19,7 +19,7 @@ import time
 import refusing
 from base_stations import (STATIONS, Resending, Station, at_once, ends_by, finish, go_on, judge, make_pipes, names_of, on_streams, reader_of,
                            serving, serving_pipes, status_of, stop, with_default, writer_of)
-from disk_files import DISK, HELD, MEMORY, MISSING, file_fault, place, register_of, text, untouched
+from disk_files import DISK, HELD, MEMORY, MISSING, file_fault, is_private, place, register_of, text, untouched
 from many_files import LONG, SHORTEST, WHEN_BROKEN, formats
 from program import queued, receives, waits, without
 from program_disks import peak
@@ -132,13 +132,14 @@ def nobody_at_a_pipe(place, dice):
 # Files and devices
 
 def regular_files(place):
-    """OUT is appended to, or made where it is missing, also where IN is empty."""
+    """OUT is appended to, or made for its owner alone where it is missing, also where IN is empty."""
     place.format()
     for name, data in ('a.txt', FIRST), ('a.out', b'as it was\n'), ('b.txt', b''):
         place.write(name, data)
     words, outs = ['serve', DISK, 'a.txt', 'a.out', 'b.txt', 'b.out'], lambda: [place.path(name).read_bytes() for name in ('a.out', 'b.out')]
     place.gives(words, 0)
     compare('OUT of both', outs(), [b'as it was\n' + FIRST_TOLD, b''])
+    is_private(place.path('b.out'))
     place.write('b.txt', b'count\nx')
     place.gives(words, 1)
     compare('OUT of both', outs(), [b'as it was\n' + FIRST_TOLD + AGAIN_TOLD, b'count 2\nline 2 bad syntax\n'])
@@ -305,11 +306,28 @@ def the_device_fails(place, made, dice, number, **fails):
         raise Differs(f'no order of the commands: {fault}')
 
 
+def is_told_at_once(place, made, number):
+    """The fault is reported once, before the command that met it is answered, while all stations live on."""
+    formats(place, STATIONS, SHORTEST)
+    first, second = some(2)
+    with serving_pipes(place, 2, env=made.environment(fails=number, files=[], ALWAYS=1)) as program:
+        for station in first, second:
+            station.connect_pipes(place, program)
+        compare('the answer', first.ask(b'1 0 expire'), ['1 no device'])
+        receives(program.stderr, WHEN_BROKEN[1])
+        compare('the answer', second.ask(b'1 0 expire'), ['1 no broken'])
+        for station in first, second:
+            station.end()
+        finish(program, WHEN_BROKEN[0])
+
+
 def faults_of_the_device(place, made, dice, count):
     """Some calls after those that open the disk."""
     record, _ = count.case('a run without a fault', while_failing, place, made, dice, 0) or ([], [])
     kinds = [done.kind for done in record]
     opening, every = kinds.index('r') if record else 0, len(kinds) - kinds.count('r')
+    if record:
+        count.case('a failed device is reported at once', is_told_at_once, place, made, opening + 1)
     for number in [opening + 1, opening + 3, *dice.sample(range(opening + 4, every // 2), 2)] if record else ():
         count.case(f'call {number} fails', the_device_fails, place, made, dice, number)
         count.case(f'calls from {number} on fail', functools.partial(the_device_fails, ALWAYS=1), place, made, dice, number)

@@ -22,6 +22,7 @@ from disk_files import DISK, Place, place
 from many_files import SHORTEST, formats
 from program import TOP, waits
 from reading_orders import Answered
+from recorder import recorder
 from running import SECONDS, compare, started
 from station_lines import lines
 from testing import Count, options
@@ -257,6 +258,22 @@ def sixty_four(place, dice):
         ends_by(program, signal.SIGTERM)
 
 
+def a_device_that_fails(place, _):
+    """The unit reports it at once, and fails by the signal after which it is not started again."""
+    service = Service(place, STATIONS)
+    service.makes_pipes()
+    with recorder(service.disk) as made:
+        opening = made.does(['show', 'switch.disk', 'count'], 0, b'count 0\n', disk='switch.disk')
+        service.env.update(made.environment(fails=len(opening) + 1, disk='switch.disk', files=[], ALWAYS=1))
+        with service.started() as program:
+            [station] = connected(service.pipes, program, (1,))
+            station.send(b'1 0 expire')
+            waits(lambda: program.poll() is not None)
+            compare('its end', (program.returncode, program.stderr.read()), (-signal.SIGUSR1, b'fault: device\n'))
+            station.leave()
+    compare('it is not started again', 'SIGUSR1' in re.search('^RestartPreventExitStatus=(.*)$', service.unit, re.M)[1].split(' '), True)
+
+
 def groups_of_their_own(place, _):
     """Pipes of a station whose group exists are given to it, and no others."""
     service, tools = Service(place, STATIONS), place.path('tools')
@@ -275,7 +292,7 @@ def main():
     print(f'seed {words.seed}', flush=True)
     dice, count = random.Random(words.seed), Count()
     cases = [(over_pipes,), (as_serve_sh_shows,), (over_a_socket, 'socat'), (over_a_serial_line, 'socat'), (verified, 'systemd-analyze'),
-             (its_commands,), (sixty_four,), (groups_of_their_own,)]
+             (its_commands,), (sixty_four,), (a_device_that_fails,), (groups_of_their_own,)]
     for case, *needed in cases:
         if count.has(case.__name__, *needed):
             with place(words.program) as there:

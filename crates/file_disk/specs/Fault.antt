@@ -5,11 +5,11 @@ use Rattle.std.specs.declared.fs.TryLockError.{TryLockError}
 use Rattle.std.specs.declared.fs.TryLockError.TheVariants as lock
 use Rattle.std.specs.declared.io.Error.{Error}
 use Rattle.std.specs.declared.io.ErrorKind.{ErrorKind}
-use Rattle.std.specs.declared.io.ErrorKind.TheVariants.{AlreadyExists, IsADirectory, NotADirectory, NotFound, OutOfMemory, PermissionDenied, ReadOnlyFilesystem}
+use Rattle.std.specs.declared.io.ErrorKind.TheVariants.{AlreadyExists, IsADirectory, NotADirectory, NotFound, OutOfMemory, PermissionDenied, QuotaExceeded, ReadOnlyFilesystem, StorageFull}
 use Rattle.file_disk.specs.declared.fault.FileFault.{FileFault}
-use Rattle.file_disk.specs.declared.fault.FileFault.TheVariants.{NoMemory, NotOpened}
+use Rattle.file_disk.specs.declared.fault.FileFault.TheVariants.{DiskFault, NoMemory, NotOpened}
 use Rattle.file_disk.specs.declared.fault.OpenCause.{OpenCause}
-use Rattle.file_disk.specs.declared.fault.OpenCause.TheVariants.{Exists, Held, Missing, NotAFile, NotAllowed, Other}
+use Rattle.file_disk.specs.declared.fault.OpenCause.TheVariants.{Exists, Held, Missing, NoSpace, NotAFile, NotAllowed, Other}
 
 -- whether an error reports out of memory
 abbrev pub is_memory : ErrorKind → Bool
@@ -27,6 +27,8 @@ open_cause NotADirectory = Missing
 open_cause PermissionDenied = NotAllowed
 open_cause ReadOnlyFilesystem = NotAllowed
 open_cause IsADirectory = NotAFile
+open_cause StorageFull = NoSpace
+open_cause QuotaExceeded = NoSpace
 open_cause _ = Other
 
 -- why a call that makes a new file failed with an error of this kind
@@ -37,6 +39,13 @@ make_cause kind = open_cause kind
 -- the fault for an error of a call that opens a file, or makes a new one
 abbrev pub of_opening : Bool → Error → FileFault
 of_opening is_new error = or_memory (NotOpened (if is_new then make_cause (error_kind error) else open_cause (error_kind error))) error
+
+-- the fault for a call of a new file that failed with an error of this kind, as the file got its sectors
+abbrev pub of_making : ErrorKind → FileFault
+of_making StorageFull = NotOpened NoSpace
+of_making QuotaExceeded = NotOpened NoSpace
+of_making OutOfMemory = NoMemory
+of_making _ = DiskFault
 
 -- the fault for a lock that was refused: another process holds it, or the call failed
 abbrev pub of_lock : TryLockError → FileFault

@@ -65,13 +65,25 @@ impl<F: SectorFile> FileDisk<F> {
         ensures refused { (cause : OpenCause) → IsErrOf result (NotOpened cause) → ⊥ }
     {
         let mut disk = FileDisk::over(file)?;
-        let Ok(()) = disk.fill() else {
-            return Err(FileFault::DiskFault);
-        };
-        match disk.sync() {
+        match disk.clear() {
             Ok(()) => Ok(disk),
             Err(_) => Err(FileFault::DiskFault),
         }
+    }
+
+    // Writes zeros into each sector of a new disk, and makes them durable.
+    pub(crate) fn clear(&mut self) -> Result<(), DiskError>
+        requires new { IsNew self.old }
+        ensures blank { (F.view self.old.file).honest → self.old.sectors ≡ (F.view self.old.file).sectors
+            → OnOk result (IsBlank F.view (F.view self.old.file).sectors self.new) }
+        ensures calls { OnOk result (calls_of self.new ≡ blank_calls self.new.sectors) }
+        ensures sectors { self.new.sectors ≡ self.old.sectors }
+        ensures failures { OnOk result (self.new.failures ≡ 0) }
+        ensures kept { OnOk result (is_lost self.new ≡ false) }
+    {
+        self.fill()?;
+        self.sync()?;
+        Ok(())
     }
 
     // Writes zeros into each sector.

@@ -1,6 +1,6 @@
 // Why a file is not taken as a disk.
 ghost use Rattle.std.specs.Prelude.{◌≡◌};
-ghost use Rattle.file_disk.specs.Fault.{make_cause, of_lock, of_opening, open_cause, or_memory};
+ghost use Rattle.file_disk.specs.Fault.{make_cause, of_lock, of_making, of_opening, open_cause, or_memory};
 
 use std::fs::TryLockError;
 use std::io;
@@ -20,6 +20,8 @@ pub enum OpenCause {
     NotAllowed,
     /// It is a folder.
     NotAFile,
+    /// Its file system has no space left for it, or its owner may have no more.
+    NoSpace,
     /// Another cause, as a file system without locks.
     Other,
 }
@@ -33,6 +35,7 @@ impl OpenCause {
             ErrorKind::NotFound | ErrorKind::NotADirectory => OpenCause::Missing,
             ErrorKind::PermissionDenied | ErrorKind::ReadOnlyFilesystem => OpenCause::NotAllowed,
             ErrorKind::IsADirectory => OpenCause::NotAFile,
+            ErrorKind::StorageFull | ErrorKind::QuotaExceeded => OpenCause::NoSpace,
             _ => OpenCause::Other,
         }
     }
@@ -51,7 +54,7 @@ impl OpenCause {
 /// Why a file is not taken as a disk.
 #[derive(Clone, Copy, Debug, PartialEq, Eq, Drop, Error)]
 pub enum FileFault {
-    /// The file can't be made, opened or locked.
+    /// The file can't be made, opened or locked, or has no space.
     #[error("the file can not be opened")]
     NotOpened(OpenCause),
     /// A call of the open file failed. A new file may be left, with any content.
@@ -84,6 +87,19 @@ impl FileFault {
             OpenCause::of(kind)
         };
         FileFault::NotOpened(cause).or_memory(error)
+    }
+
+    /// For a call of a new file that failed with an error of this kind, as the file got its sectors.
+    pub(crate) fn of_making(kind: ErrorKind) -> FileFault
+        ensures { result ≡ of_making kind }
+    {
+        match kind {
+            ErrorKind::StorageFull | ErrorKind::QuotaExceeded => FileFault::NotOpened(
+                OpenCause::NoSpace,
+            ),
+            ErrorKind::OutOfMemory => FileFault::NoMemory,
+            _ => FileFault::DiskFault,
+        }
     }
 
     /// For a lock that was refused.

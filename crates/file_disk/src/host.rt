@@ -1,10 +1,11 @@
 // A file of the operating system.
 ghost use Rattle.std.specs.Prelude.{◌≡◌, ◌^◌, ◌<◌};
 
-use crate::SectorFile;
 use crate::file::moved;
+use crate::{FileFault, SectorFile};
 use std::fs::File;
 use std::io;
+use std::io::ErrorKind;
 use std::os::unix::fs::FileExt;
 
 /// A file of the operating system, whose calls are those of Linux.
@@ -21,6 +22,8 @@ pub struct HostFile {
     file: File,
     turns: u64,
     failures: u64,
+    /// Of what kind the last failure was, if the system told.
+    last: Option<ErrorKind>,
     ghost turned: { turns < 2 ^ 64 },
     ghost failed: { failures < 2 ^ 64 },
 }
@@ -38,6 +41,15 @@ impl HostFile {
             file,
             turns: 0,
             failures: 0,
+            last: None,
+        }
+    }
+
+    // The fault for what the last failure was, as a new file got its sectors.
+    pub(crate) fn fault_of_making(&self) -> FileFault {
+        match self.last {
+            Some(kind) => FileFault::of_making(kind),
+            None => FileFault::DiskFault,
         }
     }
 
@@ -49,7 +61,16 @@ impl HostFile {
         self.turns = self.turns.saturating_add(1);
         if moved(answer).is_err() {
             self.failures = self.failures.saturating_add(1);
+            self.last = kind_of(answer);
         }
+    }
+}
+
+// Of what kind the error is, if there is one.
+fn kind_of<T: Drop>(answer: io::Result<T>) -> Option<ErrorKind> {
+    match answer {
+        Ok(_) => None,
+        Err(error) => Some(error.kind()),
     }
 }
 
@@ -82,6 +103,7 @@ impl SectorFile for HostFile {
         let answer = self.file.sync_data();
         if answer.is_err() {
             self.failures = self.failures.saturating_add(1);
+            self.last = kind_of(answer);
         }
         answer
     }

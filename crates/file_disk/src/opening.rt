@@ -7,7 +7,11 @@ use sector_disk::Disk;
 use std::fs::{File, Files, OpenOptions};
 use std::io;
 use std::os::fd::AsRawFd;
+use std::os::unix::fs::OpenOptionsExt;
 use std::path::Path;
+
+// Who may read and write a file that is made: its owner alone. It holds messages.
+const OF_ITS_OWNER: u32 = 0o600;
 
 impl FileDisk<HostFile> {
     ghost use Rattle.file_disk.specs.Disk.{IsNew, blank_calls, calls_of, file_of, is_lost};
@@ -15,7 +19,8 @@ impl FileDisk<HostFile> {
     ghost use Rattle.file_disk.specs.declared.fault.FileFault.TheVariants.{NotOpened};
     ghost use Rattle.file_disk.specs.declared.fault.OpenCause.TheVariants.{Exists};
 
-    /// Makes a file of that many sectors of zeros, and keeps it locked. A file that exists is `NotOpened(Exists)`.
+    /// Makes a file of that many sectors of zeros for its owner alone (mode 0600), and keeps it locked. A file that exists is
+    /// `NotOpened(Exists)`, and one for which there is no space `NotOpened(NoSpace)`.
     ///
     /// Every sector is written and synced, so that a device without room for them fails now. At `Ok` the file, its length and
     /// its entry in the folder are durable, as far as `fsync` of a file and of its folder on Linux makes them so. The entries
@@ -35,11 +40,14 @@ impl FileDisk<HostFile> {
         };
         let file = open_locked(rt, path, true)?;
         if let Err(error) = set_length(&file, bytes) {
-            return Err(FileFault::DiskFault.or_memory(error));
+            return Err(FileFault::of_making(error.kind()));
         }
-        let disk = FileDisk::blank(HostFile::new(file))?;
+        let mut disk = FileDisk::over(HostFile::new(file))?;
+        if disk.clear().is_err() {
+            return Err(disk.into_file().fault_of_making());
+        }
         if let Err(error) = sync_folder(rt, path) {
-            return Err(FileFault::DiskFault.or_memory(error));
+            return Err(FileFault::of_making(error.kind()));
         }
         if disk.sectors() != sectors {
             return Err(FileFault::DiskFault);
@@ -76,6 +84,7 @@ fn open_file<R: Files<File = File>>(rt: &R, path: &str, is_new: bool) -> Result<
         .read(true)
         .write(true)
         .create_new(is_new)
+        .mode(OF_ITS_OWNER)
         .open(rt, path);
     match opened.and_then(off_the_streams) {
         Ok(file) => Ok(file),

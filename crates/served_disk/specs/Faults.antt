@@ -30,6 +30,7 @@ open_cause_text why.Exists = codes "cause: exists\n"
 open_cause_text why.Missing = codes "cause: no such file\n"
 open_cause_text why.NotAllowed = codes "cause: not allowed\n"
 open_cause_text why.NotAFile = codes "cause: not a file\n"
+open_cause_text why.NoSpace = codes "cause: no space\n"
 open_cause_text why.Other = []
 
 -- what is wrong with a line of a dump

@@ -183,6 +183,7 @@ fn cause_line(cause: OpenCause) -> &'static str
         OpenCause::Missing => "cause: no such file\n",
         OpenCause::NotAllowed => "cause: not allowed\n",
         OpenCause::NotAFile => "cause: not a file\n",
+        OpenCause::NoSpace => "cause: no space\n",
         OpenCause::Other => "",
     }
 }

@@ -9,6 +9,7 @@ use std::alloc::Global;
 use std::fs::{File, OpenOptions};
 use std::io;
 use std::io::{ErrorKind, Read, Write};
+use std::os::unix::fs::OpenOptionsExt;
 use std::sync::{Mutex, Wait};
 
 /// The files of a pair, as far as they are open.
@@ -23,7 +24,8 @@ struct OpenFiles {
 }
 
 impl OpenFiles {
-    /// Opens IN to read, and then OUT to append to it. OUT is made if it is missing. Opening a FIFO waits for its other end.
+    /// Opens IN to read, and then OUT to append to it. OUT is made if it is missing, for its owner alone. Opening a FIFO waits for
+    /// its other end.
     fn open(&mut self, host: HostRuntime, input: &str, output: &str) {
         self.is_begun = true;
         let Ok(input) = File::open(&host, input) else {
@@ -32,6 +34,7 @@ impl OpenFiles {
         match OpenOptions::new()
             .append(true)
             .create(true)
+            .mode(0o600)
             .open(&host, output)
         {
             Ok(output) => {

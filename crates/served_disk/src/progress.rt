@@ -177,6 +177,8 @@ impl<'r, R: Clock + Eprint + Wait> Watch for Progress<'r, R> {
         self.count(station, is_accepted);
     }
 
+    fn failed(&self, _station: Station) {}
+
     /// Faults are reported after all answers.
     fn ended(&self, _station: Station, _ran: &Result<Ran, RunFault>) {}
 }

@@ -1,4 +1,4 @@
-//! What a service does as its stations end.
+//! What a service does as its stations end, and when the device fails.
 ghost use Rattle.std.specs.Prelude.{◌≡◌};
 
 use crate::doorbell::Doorbell;
@@ -10,15 +10,18 @@ use stations::Watch;
 use std::alloc::Global;
 use std::str;
 use std::sync::Wait;
+use std::sync::atomic::{AtomicU64, Ordering};
 
-/// What a service does as its stations end: it closes the files of each, and reports its fault on standard error. Threads may
-/// share it.
+/// What a service does as its stations end: it closes the files of each, and reports its fault on standard error. A device that
+/// fails is reported once, at the first command that this refuses. Threads may share it.
 #[derive(Drop)]
 pub struct ServiceWatch<'r, 'p, 'a, R> {
     rt: &'r R,
     alloc: Global,
     pairs: &'p [Pair<'a>],
     doorbell: Doorbell,
+    /// 1 if it was reported that the device has failed, else 0.
+    told: AtomicU64,
 }
 
 /// Writes the line of a fault to standard error, by one write if it is no longer than 1,024 bytes. `None` if that failed, or if
@@ -40,7 +43,13 @@ impl<'r, 'p, 'a, R: Eprint + Wait> ServiceWatch<'r, 'p, 'a, R> {
             alloc,
             pairs,
             doorbell: Doorbell::new(None),
+            told: AtomicU64::new(0),
         }
+    }
+
+    /// Whether it was reported that the device has failed.
+    pub fn has_told(&self) -> bool {
+        self.told.load(Ordering::SeqCst) == 1
     }
 
     /// Where the memory for the line of a fault comes from.
@@ -78,6 +87,16 @@ impl<'r, 'p, 'a, R: Eprint + Wait> Watch for ServiceWatch<'r, 'p, 'a, R> {
     }
 
     fn answered(&self, _station: Station, _is_accepted: bool) {}
+
+    /// Reports that the device has failed, unless that was reported. If the report fails, the next call tries again.
+    fn failed(&self, _station: Station) {
+        if self.told.swap(1, Ordering::SeqCst) == 1 {
+            return;
+        }
+        if report(self.rt, self.alloc, &Fault::Device).is_none() {
+            self.told.store(0, Ordering::SeqCst);
+        }
+    }
 
     /// Closes the station's files, and reports a fault. A report that fails changes nothing.
     fn ended(&self, station: Station, ran: &Result<Ran, RunFault>) {

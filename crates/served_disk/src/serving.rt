@@ -86,8 +86,8 @@ fn end_status(ended: &Result<bool, Fault<'_>>) -> u8
     }
 }
 
-/// How a service ends, after its stations have reported their faults: with a disk that failed, which is reported last; else with
-/// the exit status of the first fault, in order of station; else with 1 if an answer reported trouble, or 0.
+/// How a service ends, after its stations have reported their faults: with a disk that failed; else with the exit status of the
+/// first fault, in order of station; else with 1 if an answer reported trouble, or 0.
 pub fn service_outcome<'a, O: Drop>(
     names: &[PortNames<'a>],
     served: &Served<O>,

@@ -73,6 +73,16 @@ impl<'r, 'w, K: Began, J: Centre, R: Wait, V: Watch> SessionDesk<'r, 'w, K, J, R
         }
     }
 
+    // Shows what a command is answered.
+    fn show(&self, replied: &Result<Reply<Global>, Outage>) {
+        let station = self.session.station();
+        if matches!(replied, Err(Outage::Device | Outage::Broken)) {
+            self.watch.failed(station);
+        }
+        let accepted = matches!(replied, Ok(reply) if reply.is_acceptance());
+        self.watch.answered(station, accepted);
+    }
+
     /// The session.
     pub(crate) fn into_session(self) -> Session<J>
         ensures same { result ≡ self.entry }
@@ -262,8 +272,7 @@ impl<'r, 'w, K: Began, J: Centre, R: Wait, V: Watch> Desk<Global>
         self.watch.before_entry(station);
         let replied = submit(self.rt, &mut self.session, alloc, command);
         self.watch.after_entry(station);
-        let accepted = matches!(&replied, Ok(reply) if reply.is_acceptance());
-        self.watch.answered(station, accepted);
+        self.show(&replied);
         replied
     }
 
@@ -278,8 +287,7 @@ impl<'r, 'w, K: Began, J: Centre, R: Wait, V: Watch> Desk<Global>
         submit_all(self.rt, &mut self.session, alloc, commands, replies);
         self.watch.after_entry(station);
         for k in 0..replies.len() {
-            let accepted = matches!(&replies[k], Ok(reply) if reply.is_acceptance());
-            self.watch.answered(station, accepted);
+            self.show(&replies[k]);
         }
     }
 

@@ -19,6 +19,9 @@ pub trait Watch: Gate {
     /// A command, query or listing of this station was answered. `is_accepted`: the answer accepted a command.
     fn answered(&self, station: Station, is_accepted: bool);
 
+    /// A command of this station is about to be answered `device` or `broken`, since the device has failed.
+    fn failed(&self, station: Station);
+
     /// The run of this station has ended with this result. Its session ends next.
     fn ended(&self, station: Station, ran: &Result<Ran, RunFault>);
 }

@@ -58,6 +58,8 @@ impl Watch for Stages {
         self.shown.fetch_add(1, Ordering::SeqCst);
     }
 
+    fn failed(&self, _station: Station) {}
+
     fn ended(&self, _station: Station, _ran: &Result<Ran, RunFault>) {}
 }
 

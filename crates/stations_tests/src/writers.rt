@@ -131,6 +131,8 @@ impl Watch for Shown {
         }
     }
 
+    fn failed(&self, _station: Station) {}
+
     fn ended(&self, station: Station, _ran: &Result<Ran, RunFault>) {
         self.of(station).add(4);
     }

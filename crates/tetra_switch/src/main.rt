@@ -372,7 +372,10 @@ fn serve_watched<
     };
     let served = serve_ports(rt, watch.alloc(), store, ports, watch)?;
     name_ended(rt, &mut names, watch.pairs());
-    service_outcome(&names, &served)
+    match service_outcome(&names, &served) {
+        Err(Fault::Device) if watch.has_told() => Ok(Fault::Device.status()),
+        outcome => outcome,
+    }
 }
 
 /// Prints the answer to a query, given by these words, of the register on a disk.
