@@ -6,6 +6,7 @@ import struct
 import threading
 
 from reading_rows import SECTOR
+from tools import SECONDS
 
 # The oldest form of the handshake; the flags state that there are flags, and flushes
 MAGIC, OLDEST, FLAGS = b'NBDMAGIC', 0x00420281861253, 1 | 4
@@ -19,7 +20,7 @@ PIECE = 1 << 16
 def sectors(data):
     """The sectors that hold anything, with their places."""
     for start in range(0, len(data), PIECE):
-        if data[start:start + PIECE].strip(b'\0'):
+        if not data.startswith(bytes(PIECE), start):
             yield from ((at // SECTOR, data[at:at + SECTOR]) for at in range(start, min(start + PIECE, len(data)), SECTOR))
 
 
@@ -27,8 +28,8 @@ class Device:
     """Its sectors as they last, and the values that each pending one got since the last flush. A false device reports flushes and keeps
     nothing safe by them."""
 
-    def __init__(self, data, is_false=False):
-        self.size, self.is_false = len(data), is_false
+    def __init__(self, data):
+        self.size, self.is_false = len(data), False
         self.lasting, self.pending = dict(sectors(data)), {}
         self.requests, self.left, self.is_dark = 0, None, threading.Event()
         self.kept = self.lost = self.flushes = 0
@@ -114,4 +115,4 @@ def device_at(path, device):
             yield
         finally:
             listener.shutdown(socket.SHUT_RDWR)
-            thread.join()
+            thread.join(SECONDS)

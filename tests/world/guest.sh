@@ -1,6 +1,6 @@
 #!/bin/busybox sh
 # The first process of the machines of tests/run power. It is told a file system and a job over console 0. It mounts its disk, reports on
-# the serial line what the program finds there, and does its job until the power goes.
+# the serial line what the program finds there, and does its job until the power goes. The machine ends when `serve` does.
 /bin/busybox mkdir -p /dev /disk
 /bin/busybox --install -s /bin
 mount -t devtmpfs dev /dev
@@ -11,11 +11,13 @@ for console in 0 1 2 3; do stty raw -echo </dev/hvc$console; done
 echo '== booted'
 read -r fs job <&3
 
-# Reports what the program prints and its status.
+# Reports what the program prints and its status. It prints into a file, since it shows its progress on a terminal.
 report() {
   echo "== $1"
-  /program "$@"
-  echo "== status $?"
+  /program "$@" >/printed 2>&1
+  status=$?
+  cat /printed
+  echo "== status $status"
 }
 
 mount -t "$fs" /dev/vda /disk && echo '== mounted'
@@ -29,6 +31,7 @@ serve)
   [ -e switch.disk ] || report format /settings.toml switch.disk
   echo '== ready'
   report serve switch.disk /dev/hvc0 /dev/hvc0 /dev/hvc1 /dev/hvc1 /dev/hvc2 /dev/hvc2 /dev/hvc3 /dev/hvc3
+  poweroff -nf
   ;;
 format | load)
   rm -f switch.disk

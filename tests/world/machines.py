@@ -10,12 +10,13 @@ import shutil
 import socket
 import subprocess
 import tempfile
+import threading
 import time
 
 from base_stations import STATIONS, Gone, Resending
 from block_device import Device, device_at
-from disk_files import MEMORY
-from running import Differs
+from running import Differs, compare
+from station_faults import outage
 from tools import SECONDS, ran
 
 FOLDER = pathlib.Path(__file__).resolve().parent
@@ -84,10 +85,24 @@ def image(room, program, files):
 # A machine
 
 class Machine:
-    """A machine that runs; `poll` is as a process has it."""
+    """A machine that runs; `poll` is as a process has it. It is killed when it is late, so that each wait for it ends."""
 
     def __init__(self, room, process):
         self.room, self.process, self.poll, self.links = room, process, process.poll, {}
+        self.is_late = threading.Event()
+
+    @contextlib.contextmanager
+    def ended_in_time(self):
+        def end():
+            self.is_late.set()
+            self.process.kill()
+        timer = threading.Timer(SECONDS, end)
+        timer.start()
+        try:
+            yield
+        finally:
+            timer.cancel()
+            self.kill()
 
     def said(self):
         """All that it has reported so far."""
@@ -99,10 +114,10 @@ class Machine:
                 re.findall(rb'^== ([a-z]+)\n((?:(?!== ).*\n)*)== status (\d+)\n', self.said(), re.M)}
 
     def waits(self, is_there):
-        until = time.monotonic() + SECONDS
         while not is_there():
-            if self.poll() is not None or time.monotonic() > until:
-                raise Differs(f'the machine says {self.said()[-500:]!r}')
+            if self.poll() is not None:
+                how = f'was killed after {SECONDS} seconds' if self.is_late.is_set() else 'has ended'
+                raise Differs(f'the machine {how}; it said {self.said()[-500:]!r}, and QEMU {(self.room / "errors").read_bytes()!r}')
             time.sleep(0.02)
 
     def waits_for(self, word):
@@ -126,7 +141,7 @@ class Machine:
             link.sendall(f'migrate "exec:cat >{path}"\nquit\n'.encode())
             while link.recv(65536):
                 pass
-        self.process.wait()
+        compare('the status of a machine that was saved', self.process.wait(), 0)
 
     def kill(self):
         self.process.kill()
@@ -156,20 +171,18 @@ class Machines:
                        '-drive', f'file=nbd:unix:{room}/disk,format=raw,if=virtio,cache=writeback']
             for number in range(STATIONS):
                 command += ['-chardev', f'socket,id=c{number},path={room}/console.{number},server=on,wait=off', '-device', f'virtconsole,chardev=c{number}']
-            how = {'stdin': subprocess.DEVNULL, 'stdout': subprocess.DEVNULL, 'stderr': subprocess.DEVNULL}
             (room / 'serial').touch()
-            with device_at(room / 'disk', device), subprocess.Popen(command, **how) as process:
+            with (room / 'errors').open('wb') as errors, device_at(room / 'disk', device), \
+                    subprocess.Popen(command, stdin=subprocess.DEVNULL, stdout=errors, stderr=errors) as process:
                 machine = Machine(room, process)
-                try:
+                with machine.ended_in_time():
                     machine.waits(lambda: (room / 'monitor').exists() and (room / f'console.{STATIONS - 1}').exists())
                     yield machine
-                finally:
-                    machine.kill()
 
 
 @contextlib.contextmanager
 def machines(program, files):
-    with tempfile.TemporaryDirectory(dir=MEMORY) as made:
+    with tempfile.TemporaryDirectory() as made:
         yield Machines(pathlib.Path(made), program, files)
 
 
@@ -187,21 +200,25 @@ class AtConsole(Resending):
             raise Gone
 
     def talk_to(self, machine, count=None):
-        """Sends so many more lines, or lines until the power goes."""
+        """Sends so many more lines, or lines until the power goes. A fault ends the machine, and so the talk of all stations."""
         until = len(self.pairs) + count if count else len(self.lines)
         try:
             for line in self.lines[len(self.pairs):until]:
                 self.ask(line, SECONDS)
+                compare(f'of station {self.number} an outage', outage(self.pairs[-1]), None)
         except Gone:
             if count:
                 raise
+        except Differs:
+            machine.kill()
+            raise
         finally:
             self.leave()
 
 
 def blank(fs):
     """A device's bytes with an empty file system."""
-    with tempfile.NamedTemporaryFile(dir=MEMORY) as made:
+    with tempfile.NamedTemporaryFile() as made:
         os.truncate(made.name, SIZE)
         ran(f'mkfs.{fs}', '-q', made.name)
         return pathlib.Path(made.name).read_bytes()

@@ -6,9 +6,10 @@ written since the last flush the device keeps some and loses others when the pow
 - Within `format` and `load`.
 After each start `check` must find no damage, and `dump` must print a prefix of the accepted commands that contains every answered one;
 no number comes twice. What `format` or `load` reported must be there, and else no disk or a whole one. The independent reading
-(tests/reading/) judges all of this. A device that reports flushes too early must be found out. What is not installed is named. Prints
-the seed, what was found, and last 'N passed, M failed'.
+(tests/reading/) judges all of this. A device that reports flushes too early must be found out. A machine that hangs is killed after 10
+minutes, and its case fails. What is not installed is named. Prints the seed, what was found, and last 'N passed, M failed'.
 Usage: tests/run power PROGRAM [--cuts N] [--seed N] (the program itself, not a script that starts it)"""
+import collections
 import contextlib
 import functools
 import random
@@ -29,10 +30,12 @@ from testing import Count, end_on_signals, options
 
 SAID = {'format': f'formatted {SECTORS} sectors\n'.encode(), 'load': loaded_line(LIMITS)}
 # What was reported before a start, and whether a disk is found
-FOUND = {(True, True): 'reported', (False, True): 'made and not reported', (False, False): 'not made'}
+MADE = {(True, True): 'reported', (False, True): 'made and not reported', (False, False): 'not made'}
+# What a start finds: the text of the register, None where there is no whole disk, and whether a checkpoint had begun
+Found = collections.namedtuple('Found', 'text within')
 FILE_SYSTEMS = 'ext4', 'xfs', 'btrfs'
 # Cuts on one disk; requests until a cut; the most lines that a station sends by then; cuts within which a false device is found out
-ROUND, REQUESTS, MOST, SOON = 20, 400, 400, 8
+ROUND, REQUESTS, MOST, SOON = 20, 400, 400, 15
 UNFORMATTED = b'fault: unformatted\n', 5
 
 
@@ -46,18 +49,18 @@ def register_of_dump(text):
 
 
 def found(machine, fs, job):
-    """Gives a machine its job. The text of the register that it finds on its disk, and the epoch; None where it finds no whole disk."""
+    """Gives a machine its job; what it finds on its disk."""
     machine.send(f'{fs} {job}'.encode())
     machine.waits_for(b'ready')
     compare('the file system is mounted', b'== mounted\n' in machine.said(), True)
     reports = machine.reports()
     if reports.get('check') in (None, UNFORMATTED):
-        return None, 0
+        return Found(None, False)
     said, status = reports['check']
-    line = said.decode().split('\n')[-2]
-    compare('check', (status, line.split(' ')[0]), (0, 'ok'))
+    line = said.decode(errors='replace').rstrip('\n').split('\n')[-1]
+    compare(f'check, with {line!r}', (status, line.split(' ')[0]), (0, 'ok'))
     compare('the status of dump', reports['dump'][1], 0)
-    return reports['dump'][0], int(line.split(' epoch ')[1].split(' ')[0])
+    return Found(reports['dump'][0], ' epoch 1 ' not in line and b' unused\n' in said)
 
 
 # Stations served
@@ -73,7 +76,7 @@ def talk_until_dark(machine, device, stations, requests):
     def cut():
         machine.waits(device.is_dark.is_set)
         machine.kill()
-    at_once([cut, *(functools.partial(station.talk_to, machine) for station in stations)])
+    at_once([*(functools.partial(station.talk_to, machine) for station in stations), cut])
 
 
 class Served:
@@ -82,15 +85,16 @@ class Served:
     def __init__(self, machines, fs, device, dice, cuts):
         self.machines, self.fs, self.device, self.dice = machines, fs, device, dice
         self.stations = [AtConsole(number, lines(dice, cuts * MOST + LAST)) for number in range(1, STATIONS + 1)]
-        self.registers, self.epoch = [], 0
+        self.registers, self.found = [], []
 
     def start(self, call):
         """One machine. Its disk has every answered command; then the stations are connected, and this is called."""
         with self.machines.started(self.device) as machine:
-            text, self.epoch = found(machine, self.fs, 'serve')
-            compare('a disk is there', text is not None, bool(self.registers))
-            register = register_of_dump(text) if text else reading.Register(LIMITS)
+            one = found(machine, self.fs, 'serve')
+            compare('a disk is there', one.text is not None, bool(self.found))
+            register = register_of_dump(one.text) if one.text else reading.Register(LIMITS)
             compare('every answered command is there', register.count >= most_answered(self.stations), True)
+            self.found.append(one)
             self.registers.append(register)
             for station in self.stations:
                 station.connect_console(machine)
@@ -110,6 +114,10 @@ class Served:
             is_prefix(order, register)
         return len(order.commands)
 
+    def within(self):
+        """How many cuts came within a checkpoint."""
+        return sum(one.within for one in self.found)
+
 
 def serves(machines, fs, dice, cuts):
     device = Device(blank(fs))
@@ -118,7 +126,8 @@ def serves(machines, fs, dice, cuts):
         served.cut()
     served.go_on()
     accepted, kept = served.judge(), sum(station.kept() for station in served.stations)
-    print(f'{fs}: {cuts} cuts while serving, {accepted} commands, {kept} of them kept and sent again, epoch {served.epoch}; {told_of(device)}', flush=True)
+    print(f'{fs}: {cuts} cuts while serving, {served.within()} of them within a checkpoint; {accepted} commands, {kept} of them kept and '
+          f'sent again; {told_of(device)}', flush=True)
     return served
 
 
@@ -127,8 +136,10 @@ def told_of(device):
 
 
 def finds_out(machines, dice):
-    """A device that reports flushes too early leaves what no order of the commands gives."""
-    served = Served(machines, 'ext4', Device(blank('ext4'), is_false=True), dice, SOON)
+    """Once a disk is made, the device reports flushes too early. That leaves what no order of the commands gives."""
+    served = Served(machines, 'ext4', Device(blank('ext4')), dice, SOON)
+    served.cut()
+    served.device.is_false = True
     served.cut()
     for cut in range(1, SOON):
         try:
@@ -144,42 +155,39 @@ def finds_out(machines, dice):
 class Made:
     """A device on which `format` or `load` makes a disk again and again, each time cut."""
 
-    def __init__(self, machines, job, fs, dice):
-        self.machines, self.job, self.fs, self.device, self.dice = machines, job, fs, Device(blank(fs)), dice
+    def __init__(self, machines, job, text, fs, dice):
+        self.machines, self.job, self.text, self.fs, self.device, self.dice = machines, job, text, fs, Device(blank(fs)), dice
         self.reported, self.requests, self.found = False, 0, []
 
     def start(self, call):
         """One machine. Its disk is that of the last one, if that reported it, and else a whole one or none."""
         with self.machines.started(self.device) as machine:
-            text, _ = found(machine, self.fs, self.job)
+            text = found(machine, self.fs, self.job).text
             if self.reported or text is not None:
-                compare(f'the disk after {self.job}', text, self.machines.texts[self.job])
+                compare(f'the disk after {self.job}', text, self.text)
             self.found.append((self.reported, text is not None))
             call(machine)
         self.device.lose_power(self.dice)
 
-    def cut(self):
-        """The first cut comes when all is done, which shows how many requests that takes."""
-        self.device.goes_dark_after(self.dice.randrange(self.requests) if self.requests else None)
-        self.start(self.make)
-
     def make(self, machine):
+        """Cuts the power at a request, but the first time when all is done, which shows how many requests that takes."""
         before = self.device.requests
+        self.device.goes_dark_after(self.dice.randrange(self.requests + 1) if self.requests else None)
         machine.send(b'now')
         machine.waits(lambda: self.device.is_dark.is_set() or self.job in machine.reports())
         machine.kill()
-        self.requests = self.requests or self.device.requests - before
+        self.requests = max(self.requests, self.device.requests - before)
         self.reported = self.job in machine.reports()
         if self.reported:
             compare(self.job, machine.reports()[self.job], (SAID[self.job], 0))
 
 
-def makes(machines, job, fs, dice, cuts):
-    made = Made(machines, job, fs, dice)
+def makes(machines, job, text, fs, dice, cuts):
+    made = Made(machines, job, text, fs, dice)
     for _ in range(cuts):
-        made.cut()
+        made.start(made.make)
     made.start(lambda machine: None)
-    told = [f'{sum(one == it for one in made.found[1:])} {name}' for it, name in FOUND.items()]
+    told = [f'{sum(one == it for one in made.found[1:])} {name}' for it, name in MADE.items()]
     print(f'{fs}: {cuts} cuts within {job}, {", ".join(told)}; {told_of(made.device)}', flush=True)
 
 
@@ -190,7 +198,7 @@ def rounds(cuts):
     return [min(ROUND, cuts - done) for done in range(0, cuts, ROUND)]
 
 
-def tried(machines, dice, cuts, count):
+def tried(machines, texts, dice, cuts, count):
     """As many cuts while serving on each file system, within `format` and within `load`."""
     there, told = [fs for fs in FILE_SYSTEMS if count.has(f'serving on {fs}', f'mkfs.{fs}')], []
     for number in rounds(cuts // 5):
@@ -198,8 +206,8 @@ def tried(machines, dice, cuts, count):
             told.append(count.case(f'serving on {fs}', serves, machines, fs, dice, number))
         for job in SAID:
             fs = dice.choice(there)
-            count.case(f'{job} on {fs}', makes, machines, job, fs, dice, number)
-    count.case('a checkpoint has ended', compare, 'any', any(one and one.epoch > 1 for one in told), True)
+            count.case(f'{job} on {fs}', makes, machines, job, texts[job], fs, dice, number)
+    count.case('a cut came within a checkpoint', compare, 'any', any(one and one.within() for one in told), True)
     count.case('a cut has lost a sector', compare, 'any', any(one and one.device.lost for one in told), True)
     count.case('a false device', finds_out, machines, dice)
 
@@ -218,8 +226,7 @@ def main():
         with contextlib.ExitStack() as stack:
             made = count.case('a machine that has booted', stack.enter_context, machines(words.program[0], files))
             if made:
-                made.texts = texts
-                tried(made, dice, words.cuts, count)
+                tried(made, texts, dice, words.cuts, count)
     count.end()
 
 
