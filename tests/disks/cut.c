@@ -1,6 +1,7 @@
 /* Preloaded into a program by pieces.py. INPUTS names files, with a colon between two. A read of one of them ends at the next of the
-   places CUTS, rising numbers with a colon after each; it goes on until WAITS lines have come, or the end, where WAITS is set. OUTPUT
-   names a file that takes ROOM bytes: a write takes those for which there is room, and fails where there is none. */
+   places CUTS, rising numbers with a colon after each, and after MOST bytes, where MOST is set; it goes on until WAITS lines have come,
+   or the end, where WAITS is set. OUTPUT names files in the same way, which take ROOM bytes in all: a write takes those for which there
+   is room, and fails where there is none. Where INTERRUPTED is set, a signal interrupts every second read and write of all these. */
 #define _GNU_SOURCE
 #include <errno.h>
 #include <sys/syscall.h>
@@ -28,9 +29,26 @@ static size_t before_cut(struct file *file)
     return (size_t)-1;
 }
 
+static size_t most_bytes(struct file *file)
+{
+    size_t cut = before_cut(file), most = getenv("MOST") ? strtoul(getenv("MOST"), NULL, 10) : cut;
+    return most < cut ? most : cut;
+}
+
+static int is_interrupted(void)
+{
+    static unsigned long calls;
+    if (!getenv("INTERRUPTED") || __atomic_add_fetch(&calls, 1, __ATOMIC_RELAXED) % 2 == 0)
+        return 0;
+    errno = EINTR;
+    return 1;
+}
+
 static ssize_t read_piece(int fd, struct file *file, char *bytes, size_t length)
 {
-    size_t most = before_cut(file), have = 0;
+    size_t most = most_bytes(file), have = 0;
+    if (is_interrupted())
+        return -1;
     long waits = getenv("WAITS") ? atol(getenv("WAITS")) : 0;
     do {
         ssize_t got = syscall(SYS_read, fd, bytes + have, length - have < most ? length - have : most);
@@ -56,6 +74,8 @@ ssize_t write(int fd, const void *bytes, size_t length)
     static size_t taken;
     if (length == 0 || !place_of(fd, "OUTPUT"))
         return syscall(SYS_write, fd, bytes, length);
+    if (is_interrupted())
+        return -1;
     size_t room = strtoul(getenv("ROOM"), NULL, 10) - taken;
     if (room == 0) {
         errno = ENOSPC;

@@ -3,7 +3,9 @@
 standard input without a disk, and files by `run` and `serve`. A text with every kind of line is cut at each of its bytes; long ones
 are cut at random places, and read whole; and so are the files of four stations at once.
 - A line that comes alone is answered without another one; a program that waits for a second line is found.
-- 64 commands of one station share two syncs, and their answers one write.
+- 64 commands of one station share two syncs, and their answers one write; also commands that come to the flusher slowly share their
+  syncs. A long text is read in large pieces.
+- A text of more reads than 16 bits count is read to its end. A signal interrupts every second read and write.
 - OUT fails at each byte. What was answered stays done, and of the lines after that at most 64 may be done, in order.
 The independent reading (tests/reading/) judges all answers and disks. Prints the seed, the first cases that fail, and last
 'N passed, M failed'.
@@ -24,7 +26,7 @@ from running import Differs, compare
 from station_lines import Serving, data_of, lines
 from testing import Count, options
 
-SOURCE = pathlib.Path(__file__).resolve().parent / 'cut.c'
+SOURCE, APART = (pathlib.Path(__file__).resolve().parent / name for name in ('cut.c', 'apart.c'))
 READY, OUT, AT_HAND = 'ready.img', 'a.out', 64
 TEXT = (b'1 0 rule 234-14-0/24 1 99 1 3600\n2 1 mm 234-14-1 7 10:260\n3 1 mm 234-14-2 7 10:260\nwhere 234-14-2\n'
         b'4 2 sds 234-14-1 234-14-2 48:820405014849\r\n4 2 sds 234-14-1 234-14-2 48:820405014849\n5 3 mm 234-14-3 100 10:260\nmail 234-14-2\n'
@@ -52,7 +54,8 @@ class Cutting:
 def without_a_disk(there, wanted, env):
     with there.path(LINES).open('rb') as given:
         ended = subprocess.run(there.command, stdin=given, capture_output=True, env=env, timeout=20)
-    compare('status and output', (ended.returncode, ended.stdout), (int(wanted.troubled), text(line for told in wanted.answers for line in told)))
+    compare('output', ended.stdout, text(line for told in wanted.answers for line in told))
+    compare('status', ended.returncode, int(wanted.troubled))
 
 
 def is_kept(there, wanted):
@@ -87,6 +90,24 @@ def at_each_byte(cutting, count):
     for way in WAYS:
         for at in range(len(TEXT)):
             count.case(f'{way.__name__}, cut at {at}', cutting.answers, way, wanted, [at] if at else [])
+
+
+def through_interruptions(cutting, way, wanted):
+    outputs = f'/proc/self/fd/1:{cutting.there.path(OUT)}'
+    way(cutting.there, wanted, cutting.environment(INTERRUPTED=1, OUTPUT=outputs, ROOM=2 ** 30))
+
+
+def interrupted(cutting, count):
+    wanted = given(cutting.there, TEXT)
+    for way in WAYS:
+        count.case(f'{way.__name__}, interrupted', through_interruptions, cutting, way, wanted)
+
+
+def many_reads(cutting, count):
+    """Each gets one byte."""
+    wanted = given(cutting.there, b'\n' * 70_000 + b'no such\ncount')
+    for way in WAYS:
+        count.case(f'{way.__name__}, 70,000 reads', way, cutting.there, wanted, cutting.environment(MOST=1))
 
 
 def places(dice, length):
@@ -138,15 +159,22 @@ def one_that_waits_is_found(there, made):
 
 # Syncs and writes
 
-def few_syncs(there, made, commands):
-    """Two for each 64 commands, and two of the opening. A busy machine may part a few batches."""
+def few_syncs(there, made, commands, *beside):
+    """Two for each 64 commands, and two of the opening. A busy machine may part a few batches, the more the slower commands come."""
     formats(there, STATIONS, LONG)
     there.write(LINES, data_of(b'%d 0 expire' % number for number in range(1, commands + 1)))
-    wanted = given(there, there.path(LINES).read_bytes())
-    record = made.does(['run', DISK, LINES], 0, wanted.text(), files=())
+    wanted, env = given(there, there.path(LINES).read_bytes()), made.environment(files=())
+    env['LD_PRELOAD'] = ':'.join([env['LD_PRELOAD'], *beside])
+    there.gives(['run', DISK, LINES], 0, wanted.text(), env=env)
     batches = -(-commands // AT_HAND)
-    syncs, most = sum(done.kind in 'sa' for done in record), 2 * batches + 2 + batches // 2
+    syncs, most = sum(done.kind in 'sa' for done in made.record()), 2 * batches + 2 + batches // 2 * (1 + 3 * len(beside))
     compare(f'{syncs} syncs for {commands} commands are at most {most}', syncs <= most, True)
+
+
+def few_syncs_apart(there, made, commands):
+    """The flusher waits for commands that were submitted together, also where they come to it slowly (apart.c, preloaded)."""
+    with preloading.library(APART) as slow:
+        few_syncs(there, made, commands, slow)
 
 
 def few_writes(there, made, commands):
@@ -157,6 +185,14 @@ def few_writes(there, made, commands):
     record = made.does(['serve', DISK, LINES, OUT], 0, files=(), answers=[OUT])
     writes, most = sum(done.kind == 'o' for done in record), -(-commands // AT_HAND)
     compare(f'{writes} writes for {commands} answers are at most {most}', 0 < writes <= most, True)
+
+
+def few_reads(there, made, way):
+    """A text of remarks is read in pieces of some pages."""
+    data = (b'#' * 1000 + b'\n') * 260 + b'count'
+    way(there, given(there, data), made.environment(together=100))
+    reads, most = sum(done.kind == 'r' for done in made.record()), len(data) // 4096
+    compare(f'{reads} reads of {len(data)} bytes are at most {most}', 0 < reads <= most, True)
 
 
 # A writer that fails
@@ -205,13 +241,18 @@ def main():
         there.format(READY)
         cutting = Cutting(there, made)
         at_each_byte(cutting, count)
+        interrupted(cutting, count)
+        many_reads(cutting, count)
         at_random(cutting, dice, count, words)
         of_many(cutting, dice, count, words)
         count.case('a line alone', alone, there, None, 5)
         count.case('a program that waits for a second line', one_that_waits_is_found, there, made)
         for commands in 1, 64, 65, 640:
             count.case(f'syncs for {commands} commands', few_syncs, there, recording, commands)
+        count.case('syncs for commands that come slowly', few_syncs_apart, there, recording, 256)
         count.case('writes of answers', few_writes, there, recording, 640)
+        for way in WAYS:
+            count.case(f'{way.__name__}, reads of a long text', few_reads, there, recording, way)
         writers(cutting, dice, count, words)
     count.end()
 

@@ -1,7 +1,7 @@
 #!/usr/bin/env python3
-"""Sizes that the other tests do not reach: a checkpoint beside commits of a register with 4,000 items; records with the longest group PDU,
-read again; a side with a thousand damaged sectors; `serve` with more than half as many pairs as there may be. The independent reading
-(tests/reading/) judges answers and disks. Prints the cases that fail, and last 'N passed, M failed'.
+"""Sizes that the other tests do not reach: a checkpoint beside commits of a register with 4,000 items; the longest PDUs by `run`, by `serve`
+and without a disk; records with long group PDUs, read again; a side with a thousand damaged sectors; `serve` with more than half as many
+pairs as there may be. The independent reading (tests/reading/) judges answers and disks. Prints the cases that fail, and last 'N passed, M failed'.
 Usage: tests/run sizes PROGRAM (the program itself, not a script that starts it)"""
 import random
 import subprocess
@@ -12,12 +12,13 @@ from disk_files import DISK, LINES, MEMORY, place, register_of, settings, shows_
 from full_disks import disk_of, full, served_beside
 from loaded import layout_of
 from many_files import LONG, empty, formats, stands_for
+from pieces import READY, WAYS, given
 from reading_disks import layout_on
 from reading_orders import NoOrder, answered, order_that_answers
 from reading_rows import SECTOR
 from running import Differs, compare
 from station_lines import data_of, lines
-from streams import RULE_BODY, U, demand, groups
+from streams import RULE_BODY, U, demand, group_messages, groups, messages, mobility_body
 from testing import Count, options
 
 ITEMS = 4000
@@ -35,6 +36,25 @@ def is_made_beside(place):
 def attaching_all(itsi, network, count):
     """A group PDU with so many groups of another network."""
     return groups.grouping([groups.attaching(f'235-{network}-{1000 + k}', k % 8) for k in range(count)], itsi)
+
+
+def longest_bodies():
+    """A group PDU of 2,048 bits, and messages of 2,047 to a radio and to a group."""
+    joined = groups.uplink([groups.attaching(f'235-14-{1000 + k}') for k in range(31)])
+    fill = '1' * (2048 - len(groups.group_pdu(groups.element('', 3), joined)))
+    yield mobility_body(groups.group_pdu(groups.element(fill, 3), joined))
+    yield messages.sds(U, messages.V, messages.message(1, 1, '10' * 1011 + '1'))
+    yield group_messages.gsds(U, group_messages.G, messages.message(2, 1, '01' * 1011 + '0'))
+
+
+def longest_pdus(place, way):
+    """They are accepted, and read again."""
+    place.format(READY)
+    said = ['rule 0-0-0/0 0 16383 1 3600', demand(3), demand(3, messages.V)]
+    said += [groups.grouping([groups.attaching(1000)], radio) for radio in (U, messages.V)] + list(longest_bodies())
+    wanted = given(place, text([*(f'{sequence} 10 {body}' for sequence, body in enumerate(said, 1)), f'groups {U}', 'items', 'last 1']))
+    compare('the longest PDUs are accepted', [told[0].split(' ')[1] for told in wanted.answers[:len(said)]], ['ok'] * len(said))
+    way(place, wanted, None)
 
 
 def long_records(place):
@@ -90,7 +110,8 @@ def many_pairs(place, dice):
 def main():
     words, count = options(__doc__), Count()
     print(f'seed {words.seed}', flush=True)
-    for case, *arguments in (is_made_beside,), (long_records,), (many_damaged,), (many_pairs, random.Random(words.seed)):
+    cases = [(longest_pdus, way) for way in WAYS]
+    for case, *arguments in (is_made_beside,), *cases, (long_records,), (many_damaged,), (many_pairs, random.Random(words.seed)):
         with place(words.program, MEMORY) as there:
             count.case(case.__name__, case, there, *arguments)
     count.end()
