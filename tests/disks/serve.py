@@ -306,19 +306,21 @@ def the_device_fails(place, made, dice, number, **fails):
         raise Differs(f'no order of the commands: {fault}')
 
 
-def is_told_at_once(place, made, number):
+def is_told_at_once(place):
     """The fault is reported once, before the command that met it is answered, while all stations live on."""
     formats(place, STATIONS, SHORTEST)
     first, second = some(2)
-    with serving_pipes(place, 2, env=made.environment(fails=number, files=[], ALWAYS=1)) as program:
-        for station in first, second:
-            station.connect_pipes(place, program)
-        compare('the answer', first.ask(b'1 0 expire'), ['1 no device'])
-        receives(program.stderr, WHEN_BROKEN[1])
-        compare('the answer', second.ask(b'1 0 expire'), ['1 no broken'])
-        for station in first, second:
-            station.end()
-        finish(program, WHEN_BROKEN[0])
+    with recorder(place) as made:
+        opening = made.does(['show', DISK, 'count'], 0, b'count 0\n')
+        with serving_pipes(place, 2, env=made.environment(fails=len(opening) + 1, files=[], ALWAYS=1)) as program:
+            for station in first, second:
+                station.connect_pipes(place, program)
+            compare('the answer', first.ask(b'1 0 expire'), ['1 no device'])
+            receives(program.stderr, WHEN_BROKEN[1])
+            compare('the answer', second.ask(b'1 0 expire'), ['1 no broken'])
+            for station in first, second:
+                station.end()
+            finish(program, WHEN_BROKEN[0])
 
 
 def faults_of_the_device(place, made, dice, count):
@@ -326,8 +328,6 @@ def faults_of_the_device(place, made, dice, count):
     record, _ = count.case('a run without a fault', while_failing, place, made, dice, 0) or ([], [])
     kinds = [done.kind for done in record]
     opening, every = kinds.index('r') if record else 0, len(kinds) - kinds.count('r')
-    if record:
-        count.case('a failed device is reported at once', is_told_at_once, place, made, opening + 1)
     for number in [opening + 1, opening + 3, *dice.sample(range(opening + 4, every // 2), 2)] if record else ():
         count.case(f'call {number} fails', the_device_fails, place, made, dice, number)
         count.case(f'calls from {number} on fail', functools.partial(the_device_fails, ALWAYS=1), place, made, dice, number)
@@ -544,6 +544,7 @@ def faulty(count, words, dice):
     in_a_place(count, words, 'files_that_can_not_be_opened', files_that_can_not_be_opened, dice)
     for restore in True, False:
         in_a_place(count, words, f'a reader goes, SIGPIPE at its default: {restore}', a_reader_goes, dice, restore)
+    in_a_place(count, words, 'a failed device is reported at once', is_told_at_once)
     with place(words.program, MEMORY) as there, recorder(there) as made:
         count.case('as_they_come', as_they_come, there, made)
         faults_of_the_device(there, made, dice, count)
