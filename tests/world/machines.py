@@ -21,6 +21,8 @@ from tools import SECONDS, ran
 
 FOLDER = pathlib.Path(__file__).resolve().parent
 TOOLS = 'qemu-system-x86_64', 'busybox', 'cpio', 'ldd'
+# What mends file systems, where it is installed
+MENDING = 'e2fsck', 'btrfs'
 DRIVERS = 'virtio_pci', 'virtio_blk', 'virtio_console', 'crc32c_generic', 'xfs', 'btrfs'
 QEMU = 'qemu-system-x86_64 -accel tcg -cpu qemu64 -m 192 -nographic -nodefaults -no-reboot -device virtio-serial'.split()
 # Nothing on the console, no search for what a trial doesn't need, and an end at once where the kernel fails
@@ -65,10 +67,11 @@ def libraries(program):
 
 
 def image(room, program, files):
-    """The first file system: busybox, the program, their libraries, the modules and these files."""
-    tree, busybox = room / 'tree', shutil.which('busybox')
-    for path in [busybox, program, *libraries(busybox), *libraries(program)]:
-        name = {busybox: '/bin/busybox', program: '/program'}.get(path, path)
+    """The first file system: busybox, the program, what mends file systems, their libraries, the modules and these files."""
+    tree, tools = room / 'tree', [name for name in ('busybox', *MENDING) if shutil.which(name)]
+    copied = {program: '/program', **{shutil.which(name): f'/bin/{name}' for name in tools}}
+    for path in [*copied, *(one for path in copied for one in libraries(path))]:
+        name = copied.get(path, path)
         (tree / name[1:]).parent.mkdir(parents=True, exist_ok=True)
         shutil.copy(os.path.realpath(path), tree / name[1:])
     shutil.copy(FOLDER / 'guest.sh', tree / 'init')
