@@ -243,6 +243,17 @@ def files_that_can_not_be_opened(place, dice):
     judge(place, [*some(3), last])
 
 
+def by_one_write(place):
+    """A station's fault, so that those of two stations do not mix: a read of such a pipe gets what one write wrote."""
+    place.format()
+    read, write = os.pipe2(os.O_DIRECT)
+    words, streams = ['serve', DISK, 'no.in', 'no.out'], {'stdin': subprocess.DEVNULL, 'stdout': subprocess.DEVNULL, 'stderr': write}
+    with subprocess.Popen([*place.command, *words], cwd=place.folder, **streams) as program, open(read, 'rb', buffering=0) as said:
+        os.close(write)
+        compare('what one write wrote', said.read(4096), file_fault('no.in'))
+        compare('status', program.wait(SECONDS), 4)
+
+
 def is_refused(station):
     """Whether nobody reads its lines any more."""
     try:
@@ -542,6 +553,7 @@ def answered(count, words, dice):
 
 def faulty(count, words, dice):
     in_a_place(count, words, 'files_that_can_not_be_opened', files_that_can_not_be_opened, dice)
+    in_a_place(count, words, 'by_one_write', by_one_write)
     for restore in True, False:
         in_a_place(count, words, f'a reader goes, SIGPIPE at its default: {restore}', a_reader_goes, dice, restore)
     in_a_place(count, words, 'a failed device is reported at once', is_told_at_once)
