@@ -274,7 +274,7 @@ def formatted_in_a_full_file_system(place):
     place.write('s.toml', settings().encode())
     with small_file_system(place) as made:
         if made:
-            place.gives(['format', 's.toml', f'small/{DISK}'], 5, err=DEVICE)
+            place.gives(['format', 's.toml', f'small/{DISK}'], 4, err=file_fault(f'small/{DISK}', 'no space'))
 
 
 def run_in_a_full_file_system(place):
