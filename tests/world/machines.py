@@ -24,7 +24,7 @@ TOOLS = 'qemu-system-x86_64', 'busybox', 'cpio', 'ldd'
 # What mends file systems, where it is installed
 MENDING = 'e2fsck', 'btrfs'
 DRIVERS = 'virtio_pci', 'virtio_blk', 'virtio_console', 'crc32c_generic', 'xfs', 'btrfs'
-QEMU = 'qemu-system-x86_64 -accel tcg -cpu qemu64 -m 192 -nographic -nodefaults -no-reboot -device virtio-serial'.split()
+QEMU = 'qemu-system-x86_64 -accel tcg -cpu max -m 192 -nographic -nodefaults -no-reboot -device virtio-serial'.split()
 # Nothing on the console, no search for what a trial doesn't need, and an end at once where the kernel fails
 BOOT = 'console=ttyS0 quiet loglevel=0 panic=-1 nokaslr mitigations=off cryptomgr.notests tsc=reliable lpj=4000000 no_timer_check'
 # The bytes of a disk, of which xfs takes no fewer
