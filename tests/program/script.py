@@ -1,7 +1,7 @@
 #!/usr/bin/env python3
 """Tests the script ./tetra-switch in a copy of the repository without sources. A stand-in for `rt` writes down each call of it. The
 script must build the program and all crates below it once, in as many lanes as there are processors. If that fails, the script must
-end with the last messages. The test also tries words that the script does not take, and `install`. Prints 'N passed, M failed' last.
+end with the last messages. The test also tries words that the script does not take, `--unproved`, and `install`. Prints 'N passed, M failed' last.
 Usage: tests/run script"""
 import os
 import pathlib
@@ -16,6 +16,7 @@ TOP = pathlib.Path(__file__).resolve().parents[2]
 RT = """#!/usr/bin/env bash
 echo "${PWD##*/} $*" >>"$LOG"
 [ "$1" != "${FAILS:-}" ] || { echo 'this one fails'; exit 1; }
+[ "$1" != try ] || { echo tried; echo 'fault: settings' >&2; echo 'run=ended status=3 proved=no' >&2; exit 3; }
 [ "$1" != run ] || { printf '#!/bin/sh\\necho "${PWD##*/}: $*"\\n' >out/tetra_switch; chmod +x out/tetra_switch; }
 """
 PROGRAM, PAGE = 'crates/tetra_switch/out/tetra_switch', 'docs/tetra-switch.1'
@@ -65,10 +66,19 @@ def fails(copy):
 
 
 def words(copy):
-    said = 'tetra-switch: --unproved takes no other word: it answers lines on standard input alone'
-    compare('a word after --unproved', copy.run('--unproved', 'run', 'disk'), (2, '', [said], []))
     status, out, said, calls = copy.run('--help')
     compare('the help', (status, out.startswith('usage: ./tetra-switch'), said, calls), (0, True, [], []))
+
+
+def tries(copy):
+    """Without a proof, by a trial with these words, in which names of files are whole. Its status is the program's."""
+    desk, said = copy.folder / 'desk', ['tetra-switch: this build is not proved', 'fault: settings']
+    tried = {(): '', ('run', 'd.img', '/a b'): f' -- run {desk}/d.img /a b', ('show', 'd.img', 'last', '1'): f' -- show {desk}/d.img last 1',
+             ('--version',): ' -- --version'}
+    for words, call in tried.items():
+        calls = [f'tetra_switch try --steps 1 --seconds 600{call}']
+        compare(f'--unproved {words}', copy.run('--unproved', *words), (3, 'tried\n', said, calls))
+    compare('no build', copy.run('--unproved', FAILS='try')[0], 70)
 
 
 def below(folder):
@@ -112,7 +122,7 @@ def main():
     count = Count()
     with tempfile.TemporaryDirectory() as folder:
         copy = Copy(folder)
-        for case in (builds, builds_anew, fails, words, installs, does_not_install):
+        for case in (builds, builds_anew, fails, words, tries, installs, does_not_install):
             count.case(case.__name__, case, copy)
     count.end()
 
